@@ -14,11 +14,11 @@ use Rattle.dds_base.specs.Places.{Match, Position, coming, Comes, Passes, GoesTo
 use Rattle.dds_base.proofs.PlaceLaws.{EndBelow, end_below_on, end_below_more, come_more, pass_more}
 use Rattle.rtps_reader.specs.declared.step.HeartbeatSeen.{HeartbeatSeen}
 use Rattle.rtps_reader.specs.declared.step.Step.{Step}
-use Rattle.rtps_reader.specs.Answer.{AnswersHeartbeat, HeartbeatMoves, answered, heard_after}
+use Rattle.rtps_reader.specs.Answer.{AnswersHeartbeat, answered, heard_after}
+use Rattle.rtps_reader.specs.Moving.{HeartbeatMoves, ArePassable, PassesOver, HandsOn, Moves, passed_from, match_of, stamped}
 use Rattle.rtps_reader.specs.Tracked.{Tracked, Held, is_passable, with_heartbeat, SameTracked}
-use Rattle.rtps_reader.specs.Advance.{known, Stays, Advances, ArePassable, PassesOver, HandsOn, Moves, passed_from}
+use Rattle.rtps_reader.specs.Advance.{known, Stays, Advances}
 use Rattle.rtps_reader.specs.declared.writer_proxy.Source.{Source}
-use Rattle.rtps_reader.specs.Proxy.{match_of, stamped}
 
 -- the same is known
 pub same_is : (old new : Tracked) → SameTracked old new → new ≡ old

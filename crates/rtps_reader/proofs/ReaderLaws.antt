@@ -14,11 +14,13 @@ use Rattle.rtps_reader.specs.declared.step.HeartbeatSeen.{HeartbeatSeen}
 use Rattle.rtps_reader.specs.declared.step.Step.{Step}
 use Rattle.rtps_reader.specs.declared.writer_proxy.WriterProxy.{WriterProxy}
 use Rattle.rtps_reader.specs.Tracked.{Tracked, SameTracked}
-use Rattle.rtps_reader.specs.Advance.{Advances, Moves}
-use Rattle.rtps_reader.specs.Answer.{HeartbeatMoves, IsIdle, Accepts}
+use Rattle.rtps_reader.specs.Advance.{Advances}
+use Rattle.rtps_reader.specs.Moving.{HeartbeatMoves, Moves, match_of}
+use Rattle.rtps_reader.specs.Answer.{IsIdle, Accepts}
 use Rattle.rtps_reader.specs.declared.writer_proxy.Source.{Source}
-use Rattle.rtps_reader.specs.Proxy.{match_of, tracked, IsSound, IsProxyReady, ProxyKeepsRest}
-use Rattle.rtps_reader.specs.Reader.{Proxies, Tracks, count_of, IsReady, AreSound, AllStay, OthersStay, match_at}
+use Rattle.rtps_reader.specs.Proxy.{tracked, IsProxyReady}
+use Rattle.rtps_reader.specs.Sound.{AreSound, IsSound, ProxyKeepsRest}
+use Rattle.rtps_reader.specs.Reader.{Proxies, Tracks, count_of, IsReady, AllStay, OthersStay, match_at}
 use Rattle.rtps_reader.specs.Reader.{MovesOn, TakesHeartbeat, KeepsRest}
 use Rattle.rtps_reader.proofs.MoveLaws.{same_is}
 

@@ -11,7 +11,8 @@ use Rattle.rtps_sets.specs.declared.window.Mark.{Mark}
 use Rattle.rtps_sets.specs.declared.window.Mark.TheVariants as mark
 use Rattle.rtps_reader.specs.Tracked.{is_named}
 use Rattle.rtps_reader.specs.declared.writer_proxy.Source.{Source}
-use Rattle.rtps_reader.specs.Proxy.{held_change, mark_named, stamped}
+use Rattle.rtps_reader.specs.Proxy.{held_change}
+use Rattle.rtps_reader.specs.Moving.{mark_named, stamped}
 
 -- without one arrival the changes of the other numbers are found as before
 held_change-parts : (xs : List Arrival) (at : ℕ) (a : Arrival) (n : ℕ) → at < length xs → a ≡ get_or xs at a

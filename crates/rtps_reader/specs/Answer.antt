@@ -71,9 +71,3 @@ pub record IsIdle (place : ℕ) (step : Step) : Type 0 where
   pub passed : step.passed ≡ []
   pub heard : step.heard ≡ false
   pub acknack : step.acknack ≡ None
-
--- what an accepted HEARTBEAT did: for all that the sink stood for, it stands for what was entered
-abbrev pub HeartbeatMoves : Match → (List Happening → Type 0) → (List Happening → Type 0) → Tracked → HeartbeatSeen
-    → Step → Tracked → Type 0
-HeartbeatMoves match before after t heartbeat step new = (h : List Happening) → before h
-    → (happened : List Happening) × Accepts match t h heartbeat step new happened × after happened

@@ -4,3 +4,5 @@ pub mod Proxy
 pub mod Answer
 pub mod Reader
 pub mod Entering
+pub mod Moving
+pub mod Sound

@@ -14,7 +14,7 @@ use Rattle.rtps_reader.specs.declared.step.Step.{Step}
 use Rattle.rtps_reader.specs.Tracked.{Tracked, SameTracked}
 use Rattle.rtps_reader.specs.Advance.{Advances}
 use Rattle.rtps_reader.specs.Answer.{Accepts, IsSayable}
-use Rattle.rtps_reader.specs.Proxy.{tracked, IsSound, IsProxyReady}
+use Rattle.rtps_reader.specs.Proxy.{tracked, IsProxyReady}
 
 -- what a reader keeps; callers see it through Tracks, count_of and IsReady
 pub record Proxies : Type 0 where
@@ -31,10 +31,6 @@ count_of reader = length reader.proxies
 -- with a sink of so much spare memory the next submessage, of any of the writers, can't fail
 abbrev pub IsReady : Proxies → ℕ → Type 0
 IsReady reader spare = (index : ℕ) (p : WriterProxy) → slice_get reader.proxies index ≡ Some p → IsProxyReady p spare
-
--- each proxy is sound
-abbrev pub AreSound : List WriterProxy → Type 0
-AreSound proxies = (index : ℕ) (p : WriterProxy) → slice_get proxies index ≡ Some p → IsSound p
 
 -- of all writers the same is known
 abbrev pub AllStay : Proxies → Proxies → Type 0

@@ -28,7 +28,8 @@ pub struct StatefulReader {
 }
 
 impl Model for StatefulReader {
-    ghost use Rattle.rtps_reader.specs.Reader.{Proxies, AreSound};
+    ghost use Rattle.rtps_reader.specs.Reader.{Proxies};
+    ghost use Rattle.rtps_reader.specs.Sound.{AreSound};
 
     ghost Value = { Proxies };
 

@@ -14,9 +14,10 @@ ghost use Rattle.dds_base.specs.Counts.{is_later};
 ghost use Rattle.rtps_sets.specs.Window.{mark_of, window_place, room_of, can_mark};
 ghost use Rattle.rtps_sets.specs.declared.window.Mark.TheVariants as mark;
 ghost use Rattle.rtps_reader.specs.Tracked.{Tracked, Held, fresh, is_named, is_passable, with_data, with_gap, with_heartbeat, SameTracked};
-ghost use Rattle.rtps_reader.specs.Advance.{ArePassable, PassesOver, HandsOn, Moves, run_of, passed_from};
-ghost use Rattle.rtps_reader.specs.Proxy.{match_of, held_change, stamped, tracked, mark_named, IsSound, CanMove, IsProxyReady, ProxyKeepsRest};
-ghost use Rattle.rtps_reader.specs.Answer.{AnswersHeartbeat, HeartbeatMoves, IsIdle, IsSayable, answered, heard_after};
+ghost use Rattle.rtps_reader.specs.Moving.{ArePassable, PassesOver, HandsOn, Moves, run_of, passed_from, HeartbeatMoves, match_of, stamped, mark_named, CanMove};
+ghost use Rattle.rtps_reader.specs.Proxy.{held_change, tracked, IsProxyReady};
+ghost use Rattle.rtps_reader.specs.Sound.{IsSound, ProxyKeepsRest};
+ghost use Rattle.rtps_reader.specs.Answer.{AnswersHeartbeat, IsIdle, IsSayable, answered, heard_after};
 
 use crate::sink::Sink;
 use crate::step::{AckNackDue, HeartbeatSeen, Step};

@@ -1,7 +1,7 @@
 use Rattle.std.proofs.Common.{◌≡◌, ◌≤◌, ◌+◌, ◌^◌, ℕ}
 use Rattle.std.specs.Prelude.{None}
 use Rattle.rtps_sets.specs.Window.{mark_of, window_place, room_of}
-use Rattle.rtps_reader.specs.Proxy.{mark_named}
+use Rattle.rtps_reader.specs.Moving.{mark_named}
 use Rattle.rtps_reader.proofs.writer_proxy.mark_named.Given as goal
 
 abbrev pub invariant-loop-number : goal.invariant-loop-number

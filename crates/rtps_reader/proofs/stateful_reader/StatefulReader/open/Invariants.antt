@@ -1,6 +1,7 @@
 use Rattle.std.proofs.Common.{◌≡◌, ◌<◌, ℕ, length}
 use Rattle.rtps_reader.specs.Tracked.{fresh}
-use Rattle.rtps_reader.specs.Reader.{AreSound, Tracks}
+use Rattle.rtps_reader.specs.Reader.{Tracks}
+use Rattle.rtps_reader.specs.Sound.{AreSound}
 use Rattle.rtps_reader.proofs.stateful_reader.StatefulReader.open.Given as goal
 
 abbrev pub invariant-loop : goal.invariant-loop

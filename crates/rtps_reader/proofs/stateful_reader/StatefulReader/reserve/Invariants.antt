@@ -3,7 +3,8 @@ use Rattle.std.specs.Prelude.{slice_get, Some}
 use Rattle.dds_base.specs.declared.happening.Happening.{Happening}
 use Rattle.rtps_reader.specs.declared.writer_proxy.WriterProxy.{WriterProxy}
 use Rattle.rtps_reader.specs.Proxy.{IsProxyReady}
-use Rattle.rtps_reader.specs.Reader.{AllStay, AreSound, count_of}
+use Rattle.rtps_reader.specs.Reader.{AllStay, count_of}
+use Rattle.rtps_reader.specs.Sound.{AreSound}
 use Rattle.rtps_reader.proofs.stateful_reader.StatefulReader.reserve.Given as goal
 
 abbrev pub invariant-loop-at : goal.invariant-loop-at

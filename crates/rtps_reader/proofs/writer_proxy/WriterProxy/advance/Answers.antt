@@ -8,8 +8,8 @@ use Rattle.dds_base.specs.Places.{coming}
 use Rattle.rtps_sets.specs.Window.{mark_of, window_place}
 use Rattle.rtps_sets.specs.declared.window.Mark.TheVariants as mark
 use Rattle.rtps_reader.specs.Tracked.{Held}
-use Rattle.rtps_reader.specs.Advance.{HandsOn}
-use Rattle.rtps_reader.specs.Proxy.{match_of, tracked}
+use Rattle.rtps_reader.specs.Moving.{HandsOn, match_of}
+use Rattle.rtps_reader.specs.Proxy.{tracked}
 use Rattle.rtps_reader.proofs.MoveLaws.{Progress, over, not_passable_after, handed, stopped, begun}
 use Rattle.rtps_reader.proofs.writer_proxy.WriterProxy.advance.Goals as goal
 

@@ -2,7 +2,9 @@ use Rattle.std.proofs.Common.{◌≡◌, ◌≤◌, ◌<◌, ◌+◌, ◌*◌, �
 use Rattle.std.specs.Prelude.{None}
 use Rattle.dds_base.specs.declared.happening.Happening.{Happening}
 use Rattle.rtps_sets.specs.Window.{mark_of, window_place}
-use Rattle.rtps_reader.specs.Proxy.{match_of, tracked, IsSound}
+use Rattle.rtps_reader.specs.Proxy.{tracked}
+use Rattle.rtps_reader.specs.Sound.{IsSound}
+use Rattle.rtps_reader.specs.Moving.{match_of}
 use Rattle.rtps_reader.proofs.MoveLaws.{Progress}
 use Rattle.rtps_reader.proofs.writer_proxy.WriterProxy.advance.Given as goal
 

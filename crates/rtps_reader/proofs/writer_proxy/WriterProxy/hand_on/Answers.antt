@@ -7,7 +7,8 @@ use Rattle.dds_base.specs.Presence.{has_room}
 use Rattle.dds_base.specs.Places.{coming}
 use Rattle.rtps_sets.specs.Window.{mark_of, window_place}
 use Rattle.rtps_sets.specs.declared.window.Mark.TheVariants as mark
-use Rattle.rtps_reader.specs.Proxy.{match_of, held_change, stamped}
+use Rattle.rtps_reader.specs.Proxy.{held_change}
+use Rattle.rtps_reader.specs.Moving.{match_of, stamped}
 use Rattle.rtps_reader.proofs.MoveLaws.{comes_now}
 use Rattle.rtps_reader.proofs.writer_proxy.WriterProxy.hand_on.Goals as goal
 

@@ -1,5 +1,5 @@
 use Rattle.std.proofs.Common.{◌≤◌, ◌+◌, ◌^◌}
-use Rattle.rtps_reader.specs.Advance.{ArePassable}
+use Rattle.rtps_reader.specs.Moving.{ArePassable}
 use Rattle.rtps_reader.specs.Proxy.{tracked}
 use Rattle.rtps_reader.proofs.writer_proxy.WriterProxy.run_end.Given as goal
 

@@ -1,0 +1,40 @@
+-- What is so of each proxy, and what a submessage leaves alone there. Inner functions alone cite this: nothing here has
+-- to be believed.
+--
+-- RTPS 2.5, 8.4.10 (WriterProxy, ChangeFromWriter).
+use Rattle.std.specs.Prelude.{◌≡◌, ℕ, ◌+◌, ◌≤◌, ◌^◌, List, true, None, Some, is_some, Result, OnErr, IsOk, IfOk, IfErr, IfSome, slice_get}
+use Rattle.dds_base.specs.declared.code.Code.{Code}
+use Rattle.dds_base.specs.declared.code.Code.TheVariants.{Memory}
+use Rattle.dds_base.specs.declared.happening.Happening.{Happening}
+use Rattle.dds_base.specs.declared.qos.ReaderQos.{ReaderQos}
+use Rattle.rtps_sets.specs.Window.{mark_of, window_place}
+use Rattle.rtps_sets.specs.declared.window.Mark.TheVariants as mark
+use Rattle.rtps_reader.specs.declared.step.Step.{Step}
+use Rattle.rtps_reader.specs.declared.writer_proxy.WriterProxy.{WriterProxy}
+use Rattle.rtps_reader.specs.Tracked.{SameTracked}
+use Rattle.rtps_reader.specs.Answer.{IsSayable}
+use Rattle.rtps_reader.specs.Proxy.{tracked, IsProxyReady, held_change}
+
+-- a number that is marked as held has its change, the place is a number, and none is so great that a sum overflows
+pub record IsSound (p : WriterProxy) : Type 0 where
+  pub kept : (n : ℕ) → mark_of p.window n ≡ Some mark.Held → is_some (held_change p.held.items n) ≡ true
+  pub from : 1 ≤ window_place p.window
+  pub unmarked : (n : ℕ) → 2 ^ 62 + 256 ≤ n → mark_of p.window n ≡ None
+  pub place_is_small : window_place p.window ≤ 2 ^ 62 + 256
+  pub first_is_small : p.first ≤ 2 ^ 62
+
+-- each proxy is sound
+abbrev pub AreSound : List WriterProxy → Type 0
+AreSound proxies = (index : ℕ) (p : WriterProxy) → slice_get proxies index ≡ Some p → IsSound p
+
+-- what any submessage leaves alone, and how it may be refused: at the proxy, and at the sink, as KeepsRest has it of a
+-- reader
+pub record ProxyKeepsRest {S : Type 0} (Stands : S → List Happening → Type 0) (policies : S → ReaderQos) (spare : S → ℕ)
+    (old new : WriterProxy) (before after : S) (answer : Result Step Code) : Type 0 where
+  pub sound : IsSound new
+  pub sayable : IfOk answer (λ step. IfSome step.acknack IsSayable)
+  pub qos : policies after ≡ policies before
+  pub err : OnErr answer (SameTracked (tracked old) (tracked new))
+  pub err_sink : OnErr answer ((h : List Happening) → Stands before h → Stands after h)
+  pub memory : IfErr answer (λ code. code ≡ Memory)
+  pub succeeds : IsProxyReady old (spare before) → IsOk answer
