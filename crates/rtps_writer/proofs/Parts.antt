@@ -8,7 +8,7 @@ use Rattle.dds_base.specs.Kept.{appended}
 use Rattle.dds_base.specs.Written.{Changed}
 use Rattle.dds_history.specs.Standing.{Held, StandsFor as HistoryStandsFor}
 use Rattle.rtps_writer.specs.declared.liveliness.Liveliness.{Liveliness}
-use Rattle.rtps_writer.specs.Liveliness.{IsLiveliness}
+use Rattle.rtps_writer.specs.LivelinessKept.{IsLiveliness}
 use Rattle.rtps_writer.specs.Registered.{is_among}
 use Rattle.rtps_writer.specs.Standing.{Kept, StandsFor}
 use Rattle.rtps_writer.specs.WriterState.{WriterState, entering, history_of}

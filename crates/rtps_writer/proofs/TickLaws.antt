@@ -7,7 +7,8 @@ use Rattle.dds_base.specs.Kept.{first_kept}
 use Rattle.dds_base.specs.Written.{Ticked, counts_of}
 use Rattle.rtps_writer.specs.declared.heartbeat.HeartbeatDue.{HeartbeatDue}
 use Rattle.rtps_writer.specs.declared.liveliness.Liveliness.{Liveliness}
-use Rattle.rtps_writer.specs.Liveliness.{IsLiveliness, assert_refusal, asserted, heartbeat_asserted}
+use Rattle.rtps_writer.specs.Liveliness.{assert_refusal, asserted, heartbeat_asserted}
+use Rattle.rtps_writer.specs.LivelinessKept.{IsLiveliness}
 use Rattle.rtps_writer.specs.Standing.{Kept, StandsFor}
 use Rattle.rtps_writer.specs.WriterState.{WriterState, counts_due, heartbeat_due, history_of, is_behind, last_of, ticked}
 

@@ -1,5 +1,5 @@
 -- What a reader that asks for changes is answered (RTPS 2.5, 8.4.7: ReaderProxy, requested_changes; 8.3.8: Data, Gap).
-use Rattle.std.specs.Prelude.{◌≡◌, ◌≤◌, ℕ, ◌+◌, ◌==◌, ◌&&◌, Bool, true, false, List, [], ◌∷◌, filter, nat_le, Option, None, Some, if◌then◌else◌}
+use Rattle.std.specs.Prelude.{◌≡◌, ◌≤◌, ℕ, ◌+◌, ◌==◌, ◌&&◌, Bool, true, false, List, [], ◌∷◌, filter, nat_le, if◌then◌else◌}
 use Rattle.dds_base.specs.Kept.{numbers_from}
 use Rattle.rtps_sets.specs.NumberSet.{NumberSet, has_number}
 use Rattle.rtps_writer.specs.declared.answer.Answer.{Answer}
@@ -17,11 +17,6 @@ requested set from to = filter (is_requested set from to) (numbers_from set.base
 abbrev pub gap_before : ℕ → List Answer → List Answer
 gap_before n (Gap first last ∷ rest) = if first == n + 1 then Gap n last ∷ rest else Gap n n ∷ Gap first last ∷ rest
 gap_before n rest = Gap n n ∷ rest
-
--- the last number of the first answer, where that is a GAP that begins with the next number
-abbrev pub gap_after : ℕ → List Answer → Option ℕ
-gap_after n (Gap first last ∷ rest) = if first == n + 1 then Some last else None
-gap_after n rest = None
 
 -- the answers with the answer for this number before them
 abbrev pub answer_before : Bool → ℕ → List Answer → List Answer

@@ -1,20 +1,11 @@
--- A writer's assertion and its HEARTBEAT, and when what is kept of its liveliness stands for what happened
--- (DDS 1.4, 2.2.2.4: assert_liveliness; 2.2.3: LIVELINESS; 2.2.4.1: LIVELINESS_LOST).
-use Rattle.std.specs.Prelude.{◌≡◌, ℕ, ◌-◌, ◌^◌, List, length, nat_le, nat_lt, Option, None, Some, pos, if◌then◌else◌}
+-- A writer's assertion and its HEARTBEAT (DDS 1.4, 2.2.2.4: assert_liveliness; 2.2.3: LIVELINESS).
+use Rattle.std.specs.Prelude.{ℕ, ◌-◌, ◌^◌, length, nat_le, nat_lt, Option, None, Some, pos, if◌then◌else◌}
 use Rattle.dds_base.specs.declared.code.Code.{Code}
 use Rattle.dds_base.specs.declared.code.Code.TheVariants.{OutOfResources}
 use Rattle.dds_base.specs.Kept.{first_kept}
-use Rattle.dds_base.specs.Written.{Written, Asserted, live_since, loss_count, losses_seen, told_losses}
+use Rattle.dds_base.specs.Written.{Asserted}
 use Rattle.rtps_writer.specs.declared.heartbeat.HeartbeatDue.{HeartbeatDue}
-use Rattle.rtps_writer.specs.declared.liveliness.Liveliness.{Liveliness}
 use Rattle.rtps_writer.specs.WriterState.{WriterState, counts_due, entering, history_of, last_of}
-
--- what is kept of the liveliness of a writer with this lease stands for what happened there
-pub record IsLiveliness (kept : Liveliness) (lease : Option ℕ) (written : List Written) : Type 0 where
-  pub lease_is : kept.lease ≡ lease
-  pub since_is : kept.since ≡ live_since lease written
-  pub losses_are : kept.losses ≡ loss_count lease written
-  pub seen_are : kept.losses_seen ≡ told_losses (losses_seen lease written)
 
 -- the writer once the application asserted its liveliness besides
 abbrev pub asserted : WriterState → ℕ → WriterState

@@ -6,7 +6,7 @@ use Rattle.dds_base.specs.declared.key.Key.{Key}
 use Rattle.dds_base.specs.Written.{is_key_registered}
 use Rattle.dds_history.specs.Standing.{Held, StandsFor as HistoryStandsFor}
 use Rattle.rtps_writer.specs.declared.liveliness.Liveliness.{Liveliness}
-use Rattle.rtps_writer.specs.Liveliness.{IsLiveliness}
+use Rattle.rtps_writer.specs.LivelinessKept.{IsLiveliness}
 use Rattle.rtps_writer.specs.Registered.{is_among}
 use Rattle.rtps_writer.specs.WriterState.{WriterState, counts_due, history_of}
 

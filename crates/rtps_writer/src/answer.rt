@@ -6,7 +6,8 @@ ghost use Rattle.std.specs.Prelude.{◌≡◌, ◌≤◌, ◌<◌, ◌+◌, ℕ,
 ghost use Rattle.dds_base.specs.Kept.{WriterHistory, is_kept};
 ghost use Rattle.dds_history.specs.Standing.{StandsFor as HistoryStandsFor};
 ghost use Rattle.rtps_sets.specs.NumberSet.{span};
-ghost use Rattle.rtps_writer.specs.Answers.{answer_before, answers_to, gap_after, is_requested, requested};
+ghost use Rattle.rtps_writer.specs.Answers.{answer_before, answers_to, is_requested, requested};
+ghost use Rattle.rtps_writer.specs.Gaps.{gap_after};
 
 use dds_base::Sn;
 use dds_history::History;
