@@ -9,7 +9,7 @@ use Rattle.dds_base.specs.declared.key.Key.{Key}
 use Rattle.dds_base.specs.Happening.{same_key}
 use Rattle.dds_base.specs.Access.{number_from}
 use Rattle.dds_base.proofs.KeyLaws.{key-same, same_key-refl, same_key-comm}
-use Rattle.dds_instances.specs.Table.{IsPlaceOf}
+use Rattle.dds_instances.specs.Following.{IsPlaceOf}
 
 pub place-of : (ks : List Key) (i : Key) (at : ℕ) → IsDistinct same_key ks → position (same_key i) ks ≡ Some at
     → IsPlaceOf ks i at

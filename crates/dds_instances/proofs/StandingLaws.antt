@@ -26,7 +26,8 @@ use Rattle.dds_instances.specs.declared.track.InstanceTrack.{InstanceTrack}
 use Rattle.dds_instances.specs.declared.known.KnownInstance.{KnownInstance}
 use Rattle.dds_owner.specs.Standing.{Kept, StandsFor, has_writers}
 use Rattle.dds_instances.specs.Track.{Tracks, Advances, Fits, fresh, one_if, seen_at, state_of_track}
-use Rattle.dds_instances.specs.Table.{Table, Stands, key_of, Each, Follows, IsLawful, IsPlaceOf, track_with}
+use Rattle.dds_instances.specs.Table.{Table, Stands, track_with}
+use Rattle.dds_instances.specs.Following.{key_of, Each, Follows, IsLawful, IsPlaceOf}
 use Rattle.dds_instances.specs.Known.{IsKnown, IsReturnable}
 use Rattle.dds_instances.proofs.TrackLaws.{state-tracked, tracks-next, tracks-other, tracks-stranger, tracks-read, tracks-took, one-rebirth, one_if-bound}
 use Rattle.dds_instances.proofs.PlaceLaws.{number-at, number-none}

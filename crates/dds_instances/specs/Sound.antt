@@ -6,7 +6,8 @@ use Rattle.std.specs.Prelude.{◌≡◌, ◌+◌, ◌<◌, ◌≤◌, ◌^◌, m
 use Rattle.indexmap.specs.IndexSet.{spare}
 use Rattle.dds_instances.specs.declared.instances.Instances.TheInside.{Inside}
 use Rattle.dds_instances.specs.Track.{Fits, is_alive_track}
-use Rattle.dds_instances.specs.Table.{Table, key_of, AreBlank}
+use Rattle.dds_instances.specs.Table.{Table}
+use Rattle.dds_instances.specs.Following.{key_of, AreBlank}
 
 -- what a contract sees of the instances
 abbrev pub table_of : Inside → Table

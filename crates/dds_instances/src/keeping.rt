@@ -15,7 +15,8 @@ ghost use Rattle.dds_base.specs.Presence.{is_at};
 ghost use Rattle.dds_owner.specs.Standing.{StandsFor};
 ghost use Rattle.dds_base.specs.Instance.{last_accepted};
 ghost use Rattle.dds_instances.specs.Track.{Fits, Tracks, is_alive_track};
-ghost use Rattle.dds_instances.specs.Table.{key_of, Each, Follows, IsLawful, IsPlaceOf, AreBlank, track_with};
+ghost use Rattle.dds_instances.specs.Table.{track_with};
+ghost use Rattle.dds_instances.specs.Following.{key_of, Each, Follows, IsLawful, IsPlaceOf, AreBlank};
 
 use crate::place::{find, put_last};
 use crate::track::InstanceTrack;

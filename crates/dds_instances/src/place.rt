@@ -6,7 +6,7 @@ ghost use Rattle.std.specs.Prelude.{◌≡◌, ◌+◌, ◌<◌, ◌≤◌, ◌+
 ghost use Rattle.std.specs.List.{list_any};
 ghost use Rattle.indexmap.specs.IndexSet.{spare};
 ghost use Rattle.dds_base.specs.Happening.{same_key};
-ghost use Rattle.dds_instances.specs.Table.{IsPlaceOf};
+ghost use Rattle.dds_instances.specs.Following.{IsPlaceOf};
 
 use crate::track::InstanceTrack;
 use dds_base::Key;

@@ -1,7 +1,7 @@
 -- so many blanks were added as the loop went round
 use Rattle.std.proofs.Common.{◌≤◌}
 use Rattle.std.specs.Prelude.{vec_len}
-use Rattle.dds_instances.specs.Table.{AreBlank}
+use Rattle.dds_instances.specs.Following.{AreBlank}
 use Rattle.dds_instances.proofs.keeping.add_blanks.Given as goal
 
 abbrev pub invariant-loop : goal.invariant-loop

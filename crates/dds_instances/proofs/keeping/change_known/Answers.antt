@@ -2,7 +2,7 @@ use Rattle.std.proofs.Common.{◌<◌, List, length, subst, sym, ap, ◌∙◌, 
 use Rattle.std.proofs.lemmas.List.{length-map, get_or_default}
 use Rattle.dds_instances.specs.declared.track.InstanceTrack.{InstanceTrack}
 use Rattle.dds_instances.specs.Track.{Fits}
-use Rattle.dds_instances.specs.Table.{key_of}
+use Rattle.dds_instances.specs.Following.{key_of}
 use Rattle.dds_instances.proofs.StandingLaws.{fits-advanced, fits-set, keys-set, follows-known}
 use Rattle.dds_instances.proofs.keeping.change_known.Goals as goal
 

@@ -5,7 +5,7 @@ use Rattle.dds_base.specs.declared.happening.Happening.TheVariants.{Came}
 use Rattle.dds_base.specs.Happening.{same_key}
 use Rattle.dds_instances.specs.declared.track.InstanceTrack.{InstanceTrack}
 use Rattle.dds_instances.specs.Track.{fresh}
-use Rattle.dds_instances.specs.Table.{key_of, Follows}
+use Rattle.dds_instances.specs.Following.{key_of, Follows}
 use Rattle.dds_instances.proofs.StandingLaws.{Changes, follows-new}
 use Rattle.dds_instances.proofs.keeping.introduce.Goals as goal
 

@@ -1,6 +1,6 @@
 use Rattle.std.proofs.Common.{List, subst}
 use Rattle.dds_base.specs.declared.key.Key.{Key}
-use Rattle.dds_instances.specs.Table.{IsPlaceOf}
+use Rattle.dds_instances.specs.Following.{IsPlaceOf}
 use Rattle.dds_instances.proofs.StandingLaws.{track-at, nothing-at, known-at}
 use Rattle.dds_instances.proofs.keeping.look_up.Goals as goal
 

@@ -2,7 +2,7 @@ use Rattle.std.proofs.Common.{List, ◌∷◌, take, subst, sym, ◌∙◌}
 use Rattle.std.proofs.lemmas.List.{take_more, take_all}
 use Rattle.dds_base.specs.declared.happening.SamplePosition.{SamplePosition}
 use Rattle.dds_base.specs.declared.happening.Happening.TheVariants.{Read}
-use Rattle.dds_instances.specs.Table.{Each}
+use Rattle.dds_instances.specs.Following.{Each}
 use Rattle.dds_instances.proofs.keeping.see_all.Goals as goal
 
 pub loop-sample-preserved : goal.loop-sample-preserved

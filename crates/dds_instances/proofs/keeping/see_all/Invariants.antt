@@ -6,7 +6,7 @@ use Rattle.dds_base.specs.declared.happening.Happening.{Happening}
 use Rattle.dds_base.specs.declared.happening.Happening.TheVariants.{Read}
 use Rattle.dds_base.specs.declared.qos.ReaderQos.{ReaderQos}
 use Rattle.dds_instances.specs.Track.{Fits}
-use Rattle.dds_instances.specs.Table.{key_of, Each}
+use Rattle.dds_instances.specs.Following.{key_of, Each}
 use Rattle.dds_instances.proofs.keeping.see_all.Given as goal
 
 abbrev pub invariant-loop-sample : goal.invariant-loop-sample

@@ -4,7 +4,7 @@ use Rattle.std.proofs.lemmas.List.{length-map, get_or_default}
 use Rattle.dds_base.specs.declared.key.Key.{Key}
 use Rattle.dds_base.specs.Happening.{same_key}
 use Rattle.dds_instances.specs.declared.track.InstanceTrack.{InstanceTrack}
-use Rattle.dds_instances.specs.Table.{key_of, IsPlaceOf}
+use Rattle.dds_instances.specs.Following.{key_of, IsPlaceOf}
 use Rattle.dds_instances.proofs.StandingLaws.{keys-set, each-saw, each-passed, fits-saw}
 use Rattle.dds_instances.proofs.keeping.see_sample.Goals as goal
 

@@ -5,7 +5,7 @@ use Rattle.std.proofs.lemmas.List.Elements.{All-pop}
 use Rattle.dds_base.specs.declared.key.Key.{Key}
 use Rattle.dds_base.specs.Happening.{same_key}
 use Rattle.dds_owner.specs.Standing.{Kept}
-use Rattle.dds_instances.specs.Table.{IsBlank, key_of}
+use Rattle.dds_instances.specs.Following.{IsBlank, key_of}
 use Rattle.dds_instances.proofs.StandingLaws.{follows-nothing}
 use Rattle.dds_instances.proofs.keeping.take_up.Goals as goal
 

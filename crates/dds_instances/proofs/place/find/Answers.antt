@@ -3,7 +3,7 @@ use Rattle.std.specs.Prelude.{is_some}
 use Rattle.std.specs.List.{list_any, position, IsDistinct}
 use Rattle.dds_base.specs.declared.key.Key.{Key}
 use Rattle.dds_base.specs.Happening.{same_key}
-use Rattle.dds_instances.specs.Table.{IsPlaceOf}
+use Rattle.dds_instances.specs.Following.{IsPlaceOf}
 use Rattle.dds_instances.proofs.PlaceLaws.{place-of}
 use Rattle.dds_instances.proofs.place.find.Goals as goal
 

@@ -1,8 +1,9 @@
 use Rattle.std.proofs.Common.{◌+◌, List, sym, ap, ◌∙◌, arith, Option}
 use Rattle.dds_instances.specs.declared.track.InstanceTrack.{InstanceTrack}
-use Rattle.dds_instances.specs.Table.{Table, key_of}
+use Rattle.dds_instances.specs.Table.{Table}
+use Rattle.dds_instances.specs.Following.{Follows, key_of}
 use Rattle.std.specs.Option.{option_map}
-use Rattle.dds_instances.specs.Table.{track_with, Follows}
+use Rattle.dds_instances.specs.Table.{track_with}
 use Rattle.dds_instances.specs.Track.{Fits, Tracks}
 use Rattle.dds_instances.proofs.StandingLaws.{follows-of, told-tracked, known-with, instance-with, with-handle}
 use Rattle.dds_instances.proofs.instances.Instances.at.Goals as goal
