@@ -17,7 +17,11 @@ use Rattle.dds_base.specs.Selection.{picked_by, selection_refusal}
 use Rattle.dds_cache.specs.declared.access.Candidate.{Candidate}
 use Rattle.dds_cache.specs.declared.kept.Kept.{Kept}
 use Rattle.dds_cache.specs.Finding.{IsCandidate, Finds, sample_in, handle_in}
-use Rattle.dds_cache.specs.Picking.{limit_in, masks_in, test_in, of_handle, of_selection, has_handle, first_above, Picks}
+use Rattle.dds_cache.specs.Picking.{limit_in, masks_in, test_in, of_selection, has_handle, first_above, Picks}
+
+-- those of one instance
+abbrev pub of_handle : ReaderQos → List Happening → ℕ → List SamplePosition → List SamplePosition
+of_handle q h n ss = filter (λ (s : SamplePosition). handle_of q h s.key == n) ss
 
 -- those of the matching samples that are of an instance that the access asks for
 abbrev pub of_form : ReaderQos → List Happening → Selection → List SamplePosition → List SamplePosition

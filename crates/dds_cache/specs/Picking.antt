@@ -14,7 +14,7 @@ use Rattle.dds_base.specs.declared.selection.Selection.{Selection}
 use Rattle.dds_base.specs.declared.selection.Selection.TheVariants.{Any, Instance, NextInstance, NextSample}
 use Rattle.dds_base.specs.Checked.{is_maximum, limit_of}
 use Rattle.dds_base.specs.Selection.{picked_by, selection_refusal}
-use Rattle.dds_base.specs.Access.{handle_of, no_filter, not_read, collection_of}
+use Rattle.dds_base.specs.Access.{no_filter, not_read, collection_of}
 use Rattle.dds_base.specs.declared.sample.Sample.{Sample}
 use Rattle.dds_instances.specs.Known.{IsReturnable}
 use Rattle.dds_cache.specs.declared.access.Candidate.{Candidate}
@@ -43,10 +43,6 @@ test_in (Any max masks) test = test
 test_in (Instance handle max masks) test = test
 test_in (NextInstance previous max masks) test = test
 test_in NextSample test = no_filter
-
--- those of one instance
-abbrev pub of_handle : ReaderQos → List Happening → ℕ → List SamplePosition → List SamplePosition
-of_handle q h n ss = filter (λ (s : SamplePosition). handle_of q h s.key == n) ss
 
 -- the candidate is of this instance
 abbrev pub has_handle : ℕ → Candidate → Bool
