@@ -2,14 +2,15 @@
 use Rattle.std.proofs.Common.{◌≡◌, ℕ, zero, suc, ◌+◌, ◌-◌, ◌<◌, true, List, [], ◌∷◌, ◌++◌, Some, None, map, set, length, slice_get, refl, ap, sym, ◌∙◌, subst, arith, get_or, get_or-set_same}
 use Rattle.std.specs.Prelude.{nat_lt, if◌then◌else◌, Option, ℤ}
 use Rattle.std.proofs.lemmas.Bool.Decides.{nat_tests}
-use Rattle.std.proofs.lemmas.Option.{same_Some, slice_get-get_or}
+use Rattle.std.proofs.lemmas.Option.{slice_get-get_or}
 use Rattle.dds_base.specs.declared.change.Change.{Change}
 use Rattle.dds_base.specs.declared.change.ChangeKind.{ChangeKind}
 use Rattle.dds_base.specs.declared.code.Code.{Code}
 use Rattle.dds_base.specs.declared.config.Config.{Config}
 use Rattle.dds_base.specs.declared.config.WriterConfig.{WriterConfig}
+use Rattle.dds_base.specs.declared.guid.EntityId.{EntityId}
 use Rattle.dds_base.specs.declared.key.Key.{Key}
-use Rattle.dds_base.specs.Kept.{WriterHistory, change_at, kept_change, append_refusal}
+use Rattle.dds_base.specs.Kept.{change_at, append_refusal}
 use Rattle.dds_base.specs.Refusal.{Refuses}
 use Rattle.dds_base.specs.Written.{Changed, changes_of}
 use Rattle.rtps_wire.specs.Content.{content_of, change_in}
@@ -29,7 +30,7 @@ use Rattle.dds_core.specs.declared.matching.Destination.{Destination}
 use Rattle.dds_core.specs.declared.sending.Sender.{Sender}
 use Rattle.dds_core.specs.Kept.{WriterKept, PeerKept, WriterIdentity, writer_identity, configured_writer, identity_of, IsPeerOf}
 use Rattle.dds_core.specs.Making.{IsMade, IsNotMade, IsValueOf, entered}
-use Rattle.dds_core.specs.Sending.{AreAnnouncements, AnnouncesAll, AnnouncesKept, AnnouncesOf, SendsChange}
+use Rattle.dds_core.specs.Sending.{AreAnnouncements, SendsChange}
 use Rattle.dds_core.specs.Standing.{WriterStands, StandsFor, Enters}
 use Rattle.dds_core.specs.declared.matching.ReaderName.{ReaderName}
 use Rattle.dds_core.proofs.BeatsDue.{IsNamed, named, named_again}
@@ -38,7 +39,6 @@ use Rattle.dds_core.proofs.Destinations.{ends_of_names, reader_ends}
 use Rattle.dds_core.proofs.Ends.{with_writer, own_writer_stepped, unchanged_with}
 use Rattle.dds_core.proofs.Tellable.{tellable_entered}
 use Rattle.dds_core.proofs.Lists.{get-map, map-get, get-within}
-use Rattle.dds_core.proofs.Replies.{kept_there}
 use Rattle.dds_core.proofs.Sent.{IsOnly, IsThere, IsMatched, sends_change, sent_true}
 
 -- the writer of this index, as the peer that is open has it
@@ -94,19 +94,14 @@ own_writer_is config number kept is i k at =
       same_topic = refl;
     }
 
--- what is kept of the change that was made last is that change
-kept_last : (w : WriterHistory) (number : ℕ) (change : Change) → change_at w.changes number ≡ Some change
-    → (o : Option Change) → kept_change w number ≡ o
-    → (sender : Sender) (ds : List Destination) (packets : List Packet) → AnnouncesKept sender number o ds packets
-    → AreAnnouncements sender number (content_of change) ds packets
-kept_last w number change last None is sender ds packets none =
-    subst (λ (ps : List Packet). AreAnnouncements sender number (content_of change) ds ps) (sym none) tt
-kept_last w number change last (Some x) is sender ds packets h =
-    let same : x ≡ change = same_Some x change (sym (kept_there w number x is) ∙ last) in
-    subst (λ (y : Change). AreAnnouncements sender number (content_of y) ds packets) same h
-
 abbrev pub made_by : ChangeKind → Key → List ℕ → ℕ → Change
 made_by kind key value moment = record { kind = kind; key = key; value = value; source_timestamp = moment }
+
+-- the packets announce the change of this number, as this writer of the peer sends it, to its destinations
+abbrev pub Announces : PeerKept → WriterKept → Change → ℕ → List Packet → Type 0
+Announces old k change number packets =
+    AreAnnouncements (record { prefix = old.prefix; entity = k.entity; moment = old.moment }) number (content_of change)
+    k.destinations packets
 
 -- the change is made
 made_there : (old : PeerKept) (i : ℕ) (k k' : WriterKept) (kind : ChangeKind) (key : Key) (value : List ℕ) (number : ℕ)
@@ -115,9 +110,10 @@ made_there : (old : PeerKept) (i : ℕ) (k k' : WriterKept) (kind : ChangeKind) 
     → ((w : Writer) (answered : Endpoint → Option ℤ) → WriterStands k w answered
     → (append_refusal (history_of w) (made_by kind key value old.moment) ≡ None)
     × (number ≡ length (writer_changes w) + 1)) → IsValueOf kind value
-    → output.reply ≡ Done → AnnouncesAll (with_writer old i k') i number output
+    → output.reply ≡ Done → length output.packets + output.unsent ≡ length k.destinations
+    → Announces old k (made_by kind key value old.moment) number output.packets
     → IsMade config peer (suc i) (made_by kind key value old.moment) output (with_writer old i k')
-made_there old i k k' kind key value number output config peer s at enters accepts valued reply all =
+made_there old i k k' kind key value number output config peer s at enters accepts valued reply counts announces =
     let change : Change = made_by kind key value old.moment in
     let w : Writer = own_writer peer.part (suc i) in
     let ws : WriterStands k w (peer.known.answered (suc i)) = s.writers.each i k at in
@@ -128,20 +124,15 @@ made_there old i k k' kind key value number output config peer s at enters accep
     own_writer_stepped old i k k' (Changed change) config peer s at enters
     (tellable_entered peer (suc i) (Changed change) s.tellable (record { empty = valued; early = s.early })) in
     let at_new : slice_get new.writers i ≡ Some k' = set_get old.writers i k k' at in
-    let is_k : all.writer ≡ k' = same_Some all.writer k' (sym all.at ∙ at_new) in
+    let ends : k'.destinations ≡ k.destinations = ap (λ (x : WriterIdentity). x.destinations) enters.same in
     let sender : Sender = record { prefix = old.prefix; entity = k'.entity; moment = old.moment } in
-    let counted =
-    subst (λ (x : WriterKept). length output.packets + output.unsent ≡ length x.destinations) is_k all.counted in
-    let of_k : AnnouncesOf old.prefix old.moment k' number output.packets =
-    subst (λ (x : WriterKept). AnnouncesOf old.prefix old.moment x number output.packets) is_k all.packets in
-    let now : Writer = with_written w (Changed change) in
-    let last : change_at (changes_of now.written) number ≡ Some change =
-    ap (λ (n : ℕ). change_at (changes_of w.written ++ change ∷ []) n) a.1 ∙ change_at-last (changes_of w.written) change
-    in
+    let counted : length output.packets + output.unsent ≡ length k'.destinations =
+    counts ∙ ap (λ (ds : List Destination). length ds) (sym ends) in
     let are : AreAnnouncements sender number (content_of change) k'.destinations output.packets =
-    kept_last (history_of now) number change last
-    (kept_change (history_of now) number) refl sender k'.destinations output.packets
-    (of_k now (peer.known.answered (suc i)) (enters.stands w (peer.known.answered (suc i)) ws)) in
+    subst (λ (ds : List Destination). AreAnnouncements sender number (content_of change) ds output.packets) (sym ends)
+    (subst (λ (e : EntityId). AreAnnouncements (record { prefix = old.prefix; entity = e; moment = old.moment }) number
+    (content_of change) k.destinations output.packets)
+    (sym (ap (λ (x : WriterIdentity). x.entity) enters.same)) announces) in
     let own : IsOwnWriter config new peer.number i k' =
     own_writer_is config peer.number new stands.is_peer i k' at_new in
     let endpoint : Endpoint = record { peer = peer.number; number = suc i } in
@@ -193,25 +184,25 @@ pub made : (old : PeerKept) (i : ℕ) (k k' : WriterKept) (kind : ChangeKind) (k
     → ((w : Writer) (answered : Endpoint → Option ℤ) → WriterStands k w answered
     → (append_refusal (history_of w) (made_by kind key value old.moment) ≡ None)
     × (number ≡ length (writer_changes w) + 1)) → IsValueOf kind value
-    → output.reply ≡ Done → AnnouncesAll (with_writer old i k') i number output
+    → output.reply ≡ Done → length output.packets + output.unsent ≡ length k.destinations
+    → Announces old k (made_by kind key value old.moment) number output.packets
     → IsMade config peer (i + 1) (change_made peer.part kind key value) output (with_writer old i k')
-made old i k k' kind key value number output config peer s at enters accepts valued reply all =
+made old i k k' kind key value number output config peer s at enters accepts valued reply counts announces =
     let index : i + 1 ≡ suc i = omega arith in
     subst (λ (n : ℕ). IsMade config peer n (change_made peer.part kind key value) output (with_writer old i k'))
     (sym index)
     (subst (λ (m : ℕ). IsMade config peer (suc i) (made_by kind key value m) output (with_writer old i k'))
     (sym s.moment)
-    (made_there old i k k' kind key value number output config peer s at enters accepts valued reply all))
+    (made_there old i k k' kind key value number output config peer s at enters accepts valued reply counts announces))
 
--- the change is refused
-pub not_made : (old : PeerKept) (i : ℕ) (k k' : WriterKept) (kind : ChangeKind) (key : Key) (value : List ℕ)
-    (code : Code) (output : Output) (config : Config) (peer : Peer) → StandsFor old config peer
-    → slice_get old.writers i ≡ Some k → k' ≡ k
+-- the change is refused before anything is done
+pub not_begun : (old : PeerKept) (i : ℕ) (k : WriterKept) (kind : ChangeKind) (key : Key) (value : List ℕ) (code : Code)
+    (output : Output) (config : Config) (peer : Peer) → StandsFor old config peer → slice_get old.writers i ≡ Some k
     → ((w : Writer) (answered : Endpoint → Option ℤ) → WriterStands k w answered
     → Refuses (append_refusal (history_of w) (made_by kind key value old.moment)) code)
     → output ≡ record { reply = Refused code; packets = []; unsent = 0 }
-    → IsNotMade config peer (i + 1) (change_made peer.part kind key value) output (with_writer old i k')
-not_made old i k k' kind key value code output config peer s at same refuses is =
+    → IsNotMade config peer (i + 1) (change_made peer.part kind key value) output old
+not_begun old i k kind key value code output config peer s at refuses is =
     let index : i + 1 ≡ suc i = omega arith in
     record {
       code = code;
@@ -223,5 +214,18 @@ not_made old i k k' kind key value code output config peer s at same refuses is 
           (sym s.moment) (refuses (own_writer peer.part (suc i)) (peer.known.answered (suc i))
           (s.writers.each i k at)));
       output_is = is;
-      stands = subst (λ (x : PeerKept). StandsFor x config peer) (sym (unchanged_with old i k k' at same)) s;
+      stands = s;
     }
+
+-- the same once the history refused it, and left the writer as it was
+pub not_made : (old : PeerKept) (i : ℕ) (k k' : WriterKept) (kind : ChangeKind) (key : Key) (value : List ℕ)
+    (code : Code) (output : Output) (config : Config) (peer : Peer) → StandsFor old config peer
+    → slice_get old.writers i ≡ Some k → k' ≡ k
+    → ((w : Writer) (answered : Endpoint → Option ℤ) → WriterStands k w answered
+    → Refuses (append_refusal (history_of w) (made_by kind key value old.moment)) code)
+    → output ≡ record { reply = Refused code; packets = []; unsent = 0 }
+    → IsNotMade config peer (i + 1) (change_made peer.part kind key value) output (with_writer old i k')
+not_made old i k k' kind key value code output config peer s at same refuses is =
+    subst (λ (x : PeerKept). IsNotMade config peer (i + 1) (change_made peer.part kind key value) output x)
+    (sym (unchanged_with old i k k' at same))
+    (not_begun old i k kind key value code output config peer s at refuses is)

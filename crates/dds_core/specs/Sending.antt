@@ -2,13 +2,11 @@
 -- rest.
 --
 -- RTPS 2.5, 8.4.9 (the behaviour of a reliable StatefulWriter), 8.3.7 (what stands in a message).
-use Rattle.std.specs.Prelude.{◌≡◌, ◌≢◌, ◌⊎◌, ℕ, ◌+◌, ◌++◌, ℤ, length, Contains, AllPairs, IsSome, List, [], ◌∷◌, Option, Some, None, set, slice_get}
+use Rattle.std.specs.Prelude.{◌≡◌, ◌≢◌, ◌⊎◌, ℕ, ◌+◌, ◌++◌, length, Contains, AllPairs, IsSome, List, [], ◌∷◌, Some, set}
 use Rattle.dds_base.specs.declared.change.Change.{Change}
 use Rattle.dds_base.specs.declared.config.Config.{Config}
 use Rattle.dds_base.specs.declared.guid.GuidPrefix.{GuidPrefix}
-use Rattle.dds_base.specs.Kept.{kept_change}
 use Rattle.dds_base.specs.Written.{Changed, Asserted}
-use Rattle.rtps_wire.specs.Content.{content_of}
 use Rattle.rtps_wire.specs.declared.data.DataContent.{DataContent}
 use Rattle.rtps_wire.specs.declared.message.Message.{Message}
 use Rattle.rtps_wire.specs.declared.submessage.Submessage.TheVariants.{InfoDst, InfoTs, Data}
@@ -18,7 +16,7 @@ use Rattle.dds_protocol.specs.declared.event.Event.{Event}
 use Rattle.dds_protocol.specs.declared.event.Event.TheVariants as event
 use Rattle.dds_protocol.specs.declared.event.Output.{Output}
 use Rattle.dds_protocol.specs.declared.event.Packet.{Packet}
-use Rattle.dds_machine.specs.Part.{ReaderProxy, Writer, history_of, own_writer, acknowledged_of, writer_changes}
+use Rattle.dds_machine.specs.Part.{ReaderProxy, own_writer, acknowledged_of, writer_changes}
 use Rattle.dds_machine.specs.Calls.{Effect, writes, effect_of}
 use Rattle.dds_protocol.specs.Claims.{ChangeIs, Claims, every_reader}
 use Rattle.dds_protocol.specs.Peer.{Peer}
@@ -28,8 +26,8 @@ use Rattle.dds_machine.specs.declared.reply.Reply.TheVariants.{Done}
 use Rattle.dds_protocol.specs.DueMessages.{Due, AreSent, changes_due, heartbeats_due, assertions_due}
 use Rattle.dds_core.specs.declared.matching.Destination.{Destination}
 use Rattle.dds_core.specs.declared.sending.Sender.{Sender}
-use Rattle.dds_core.specs.Kept.{PeerKept, WriterKept}
-use Rattle.dds_core.specs.Standing.{StandsFor, WriterStands}
+use Rattle.dds_core.specs.Kept.{PeerKept}
+use Rattle.dds_core.specs.Standing.{StandsFor}
 
 -- nothing is sent, and nothing found no memory
 pub record SendsNothing (output : Output) : Type 0 where
@@ -109,11 +107,6 @@ AreAnnouncements sender number content (d ∷ ds) (packet ∷ packets) =
 abbrev pub Announces : Sender → ℕ → DataContent → Message → Type 0
 Announces sender number content message = (to : Destination) × (message ≡ announcement sender to number content)
 
--- the packets announce the change that is kept, if one is, to some of these destinations
-abbrev pub AnnouncesKept : Sender → ℕ → Option Change → List Destination → List Packet → Type 0
-AnnouncesKept sender number (Some change) ds packets = AreAnnouncements sender number (content_of change) ds packets
-AnnouncesKept sender number None ds packets = packets ≡ []
-
 -- the message can be written, whichever peer of a name of twelve octets it is for
 abbrev pub IsAddressable : Message → Type 0
 IsAddressable message = (to : GuidPrefix) → length to.0 ≡ 12
@@ -122,17 +115,3 @@ IsAddressable message = (to : GuidPrefix) → length to.0 ≡ 12
 -- the packet of a message was added, or found no memory
 abbrev pub AddsPacket : List Packet → Message → ℕ → List Packet → Type 0
 AddsPacket old message to new = (new ≡ old) ⊎ (new ≡ old ++ record { to = to; bytes = spelling_of message } ∷ [])
-
--- a writer announces the change of this number, as its history keeps it, to each of its destinations
-abbrev pub AnnouncesOf : GuidPrefix → ℕ → WriterKept → ℕ → List Packet → Type 0
-AnnouncesOf prefix moment kept number packets =
-    (w : Writer) (answered : Endpoint → Option ℤ) → WriterStands kept w answered
-    → AnnouncesKept (record { prefix = prefix; entity = kept.entity; moment = moment }) number
-    (kept_change (history_of w) number) kept.destinations packets
-
--- so it is of the peer's writer of this index
-pub record AnnouncesAll (kept : PeerKept) (index number : ℕ) (output : Output) : Type 0 where
-  pub writer : WriterKept
-  pub at : slice_get kept.writers index ≡ Some writer
-  pub counted : length output.packets + output.unsent ≡ length writer.destinations
-  pub packets : AnnouncesOf kept.prefix kept.moment writer number output.packets

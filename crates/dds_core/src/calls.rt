@@ -8,12 +8,12 @@ ghost use Rattle.dds_machine.specs.declared.call.Call.TheVariants as call;
 ghost use Rattle.dds_protocol.specs.declared.event.Event.TheVariants as event;
 ghost use Rattle.dds_core.specs.Standing.{Steps, StepsBy};
 ghost use Rattle.dds_core.specs.Making.{Makes, IsValueOf};
-ghost use Rattle.dds_core.specs.Sending.{Sends, SendsNothing, AnnouncesAll, AreMessages};
+ghost use Rattle.dds_core.specs.Sending.{Sends, SendsNothing, AreMessages};
 
 use crate::output::answered;
 use crate::peer::Peer;
 use crate::sending::Announced;
-use dds_base::{Change, ChangeKind, Code, Key, MAX_VALUE, Octets, Sequence, Sn, index_of};
+use dds_base::{Change, ChangeKind, Code, Key, MAX_VALUE, Octets, Sequence, index_of};
 use dds_cache::AccessKind;
 use dds_conditions::Filters;
 use dds_machine::{Call, Reply};
@@ -170,7 +170,8 @@ impl Peer {
         self.make(index, kind, key, none)
     }
 
-    /// Makes a change of the writer of this index at the peer's moment, and announces it; or answers why not.
+    /// Makes a change of the writer of this index at the peer's moment, and announces it; or answers why not. The packets
+    /// are there before the history takes the change; where that finds no memory, none of them goes out.
     fn make(&mut self, index: usize, kind: ChangeKind, key: Key, value: Octets) -> Output
         requires within { index < length self.old.writers }
         requires short { length value ≤ 1024 }
@@ -186,28 +187,16 @@ impl Peer {
         };
         // This shows the prover how many octets there are.
         let _key = key.as_slice();
-        match self.writers[index].append(change) {
-            Ok(number) => self.announced(index, number),
-            Err(code) => self.refused(code),
-        }
-    }
-
-    /// The answer to a call that made the change of this number, with the packets that announce it.
-    fn announced(&self, index: usize, number: Sn) -> Output
-        requires within { index < length self.now.writers }
-        requires first { 1 ≤ number }
-        requires small { number ≤ 2 ^ 48 }
-        ensures reply { result.reply ≡ Done }
-        ensures sends { AnnouncesAll self.now index number result }
-        ensures messages { AreMessages result.packets }
-    {
         let writer = &self.writers[index];
-        let Announced { packets, unsent } = writer.announce(
-            self.alloc,
-            self.prefix,
-            self.moment,
-            number,
-        );
+        let number = match writer.next(&change) {
+            Ok(number) => number,
+            Err(code) => return self.refused(code),
+        };
+        let announced = writer.announce(self.alloc, self.prefix, self.moment, number, &change);
+        let Announced { packets, unsent } = announced;
+        if let Err(code) = self.writers[index].append(change) {
+            return self.refused(code);
+        }
         Output {
             reply: Reply::Done,
             packets: Sequence::from_vec(packets),

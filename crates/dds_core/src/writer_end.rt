@@ -8,6 +8,7 @@ ghost use Rattle.dds_base.specs.declared.code.Code.TheVariants.{Memory, OutOfRes
 ghost use Rattle.dds_base.specs.Kept.{append_refusal};
 ghost use Rattle.dds_base.specs.Refusal.{Refuses};
 ghost use Rattle.dds_base.specs.Written.{Asserted, Registered, Changed, LookedAt, is_key_registered, liveliness_lost_status};
+ghost use Rattle.rtps_wire.specs.Content.{content_of};
 ghost use Rattle.dds_machine.specs.declared.endpoint.Endpoint.{Endpoint as EndpointOf};
 ghost use Rattle.dds_machine.specs.Watching.{writer_statuses};
 ghost use Rattle.dds_machine.specs.Refusals.{unregister_kind};
@@ -19,7 +20,7 @@ ghost use Rattle.dds_core.specs.Kept.{writer_identity};
 ghost use Rattle.dds_core.specs.Noticing.{MarksWriter};
 ghost use Rattle.dds_core.specs.Opening.{OpensWriter};
 ghost use Rattle.dds_core.specs.Readiness.{receiver_at};
-ghost use Rattle.dds_core.specs.Sending.{AnnouncesOf, AreMessages};
+ghost use Rattle.dds_core.specs.Sending.{AreAnnouncements, AreMessages};
 ghost use Rattle.dds_core.specs.Standing.{WriterStands, Enters, Ticks, AllTick};
 
 use crate::answering::{Answering, Room, is_from, rooms, send_answers};
@@ -216,6 +217,67 @@ impl WriterEnd {
         self.writer.register(key)
     }
 
+    /// The number that this change would get, or why it would be refused, but for want of memory.
+    ///
+    /// # Errors
+    ///
+    /// `OutOfResources` after 2^48 changes, `Timeout` where more than `max_samples` numbers would be kept.
+    pub fn next(&self, change: &Change) -> Result<Sn, Code>
+        ensures accepted { IfOk result
+            (λ number. (w : Writer) (answered : EndpointOf → Option ℤ)
+            → WriterStands self.now w answered →
+            (append_refusal (history_of w) change.now ≡ None)
+            × (number ≡ length (writer_changes w) + 1)) }
+        ensures refused { IfErr result
+            (λ code. (w : Writer) (answered : EndpointOf → Option ℤ)
+            → WriterStands self.now w answered
+            → Refuses (append_refusal (history_of w) change.now) code) }
+        ensures number { IfOk result (λ number. (1 ≤ number) × (number ≤ 2 ^ 48)) }
+    {
+        if let Some(code) = self.writer.refusal(change) {
+            return Err(code);
+        }
+        Ok(Sn::new(self.writer.last().number() + 1))
+    }
+
+    /// Announces a change, which is to get this number, to each peer with a matched reader, at the moment of its peer, of
+    /// this prefix. The change is lent before the history takes it: so it is announced whatever the history keeps, and a
+    /// packet is counted as unsent for want of memory alone.
+    pub fn announce(
+        &self,
+        alloc: Global,
+        prefix: GuidPrefix,
+        moment: Moment,
+        number: Sn,
+        change: &Change,
+    ) -> Announced
+        requires first { 1 ≤ number }
+        requires small { number ≤ 2 ^ 48 }
+        requires short { length change.now.value ≤ 1024 }
+        ensures counted { length result.packets.items + result.unsent
+            ≡ length self.now.destinations }
+        ensures announces { AreAnnouncements
+            (record { prefix = prefix; entity = self.now.entity; moment = moment }) number
+            (content_of change.now) self.now.destinations result.packets.items }
+        ensures messages { AreMessages result.packets.items }
+    {
+        // This shows the prover how many octets a key has.
+        let _key = change.key.as_slice();
+        let sender = Sender {
+            prefix,
+            entity: self.entity,
+            moment,
+        };
+        let content = DataContent::of_change(change);
+        announce(
+            alloc,
+            &sender,
+            self.destinations.as_slice(),
+            number,
+            content,
+        )
+    }
+
     /// Makes a change, and gives its number. A write or a dispose registers its instance, the others end its
     /// registration.
     ///
@@ -239,40 +301,6 @@ impl WriterEnd {
         ensures err { OnErr result (self.new ≡ self.old) }
     {
         self.writer.write(change)
-    }
-
-    /// Announces the change of this number to each peer with a matched reader, at the moment of its peer, of this
-    /// prefix. The history lends the change. A change that is not kept is one that nobody awaits.
-    pub fn announce(
-        &self,
-        alloc: Global,
-        prefix: GuidPrefix,
-        moment: Moment,
-        number: Sn,
-    ) -> Announced
-        requires first { 1 ≤ number }
-        requires small { number ≤ 2 ^ 48 }
-        ensures counted { length result.packets.items + result.unsent
-            ≡ length self.now.destinations }
-        ensures announces { AnnouncesOf prefix moment self.now number result.packets.items }
-        ensures messages { AreMessages result.packets.items }
-    {
-        let destinations = self.destinations.as_slice();
-        let Some(change) = self.writer.get(number) else {
-            return Announced {
-                packets: Vec::new(alloc),
-                unsent: destinations.len() as u64,
-            };
-        };
-        // This shows the prover how many octets a key has.
-        let _key = change.key.as_slice();
-        let sender = Sender {
-            prefix,
-            entity: self.entity,
-            moment,
-        };
-        let content = DataContent::of_change(change);
-        announce(alloc, &sender, destinations, number, content)
     }
 
     /// The reader of this row.

@@ -1,19 +1,48 @@
-use Rattle.std.proofs.Common.{inl, inr}
-use Rattle.dds_core.proofs.Makes.{made, not_made, writer_at}
+use Rattle.std.proofs.Common.{◌≡◌, ◌+◌, List, length, inl, inr, refl, sym, subst, ◌∙◌}
+use Rattle.std.proofs.lemmas.Option.{same_Some}
+use Rattle.dds_base.specs.declared.change.Change.{Change}
+use Rattle.dds_base.specs.Written.{Changed}
+use Rattle.rtps_wire.specs.Content.{content_of}
+use Rattle.dds_machine.specs.Refusals.{change_made}
+use Rattle.dds_protocol.specs.declared.event.Packet.{Packet}
+use Rattle.dds_core.specs.Kept.{PeerKept, WriterKept}
+use Rattle.dds_core.specs.Making.{IsNotMade}
+use Rattle.dds_core.specs.Sending.{AreAnnouncements}
+use Rattle.dds_core.specs.Standing.{Enters}
+use Rattle.dds_core.proofs.Makes.{made, made_by, not_begun, not_made, writer_at}
 use Rattle.dds_core.proofs.CallSteps.{still_stands}
 use Rattle.dds_core.proofs.peer.Peer.make.Goals as goal
 
-pub returns-in-Ok-clause-makes : goal.returns-in-Ok-clause-makes
-returns-in-Ok-clause-makes c = λ config peer given.
-    inl (made _ c.args.index c.index_mut.result.now c.append.new.self c.args.kind c.args.key c.args.value c.in-Ok.number
-    c.announced.result config peer (still_stands c.self.view_is given)
-    (writer_at c.self.view_is c.requires.within c.index_mut.ensures.value) c.in-Ok.ensures.ok c.in-Ok.ensures.accepted
-    c.requires.empty c.announced.ensures.reply c.announced.ensures.sends)
-
 pub returns-in-Err-clause-makes : goal.returns-in-Err-clause-makes
 returns-in-Err-clause-makes c = λ config peer given.
+    inr (subst (λ (x : PeerKept). IsNotMade config peer (c.args.index + 1)
+    (change_made peer.part c.args.kind c.args.key c.args.value) c.refused.result x) c.self.view_is
+    (not_begun _ c.args.index c.index-writer.result.now c.args.kind c.args.key c.args.value c.in-Err.code
+    c.refused.result config peer (still_stands c.self.view_is given)
+    (writer_at c.self.view_is c.requires.within c.index-writer.ensures) c.in-Err.ensures.refused c.refused.ensures))
+
+pub returns-in-Err-append-clause-makes : goal.returns-in-Err-append-clause-makes
+returns-in-Err-append-clause-makes c = λ config peer given.
     inr (not_made _ c.args.index c.index_mut.result.now c.append.new.self c.args.kind c.args.key c.args.value
-    c.in-Err.code c.refused.result config peer
+    c.in-Err-append.code c.refused-in-Err-append.result config peer
     (still_stands c.self.view_is given)
-    (writer_at c.self.view_is c.requires.within c.index_mut.ensures.value) c.in-Err.ensures.err
-    c.in-Err.ensures.refused c.refused.ensures)
+    (writer_at c.self.view_is c.requires.within c.index_mut.ensures.value) c.in-Err-append.ensures.err
+    c.in-Err-append.ensures.refused c.refused-in-Err-append.ensures)
+
+pub returns-clause-makes : goal.returns-clause-makes
+returns-clause-makes c = λ config peer given.
+    let k : WriterKept = c.index-writer.result.now in
+    let change : Change = made_by c.args.kind c.args.key c.args.value c.self.inside.moment in
+    let at = writer_at c.self.view_is c.requires.within c.index-writer.ensures in
+    let same : c.index_mut.result.now ≡ k =
+    same_Some c.index_mut.result.now k
+    (sym (writer_at c.self.view_is c.requires.within c.index_mut.ensures.value) ∙ at) in
+    inl (made _ c.args.index k c.append.new.self c.args.kind c.args.key c.args.value c.in-Ok.number _ config peer
+    (still_stands c.self.view_is given) at
+    (subst (λ (x : WriterKept). Enters x (Changed change) c.append.new.self) same c.in_default.ensures.ok)
+    c.in-Ok.ensures.accepted c.requires.empty refl
+    (subst (λ (ps : List Packet). length ps + c.announce-announced.result.unsent ≡ length k.destinations)
+    (sym c.from_vec.ensures.elements) c.announce-announced.ensures.counted)
+    (subst (λ (ps : List Packet). AreAnnouncements
+    (record { prefix = c.self.inside.prefix; entity = k.entity; moment = c.self.inside.moment }) c.in-Ok.number
+    (content_of change) k.destinations ps) (sym c.from_vec.ensures.elements) c.announce-announced.ensures.announces))
