@@ -28,6 +28,7 @@ pub mod WriterEnds
 pub mod Named
 pub mod Rows
 pub mod Takes
+pub mod TakenSoFar
 pub mod Turns
 pub mod Ready
 pub mod ReaderEnds

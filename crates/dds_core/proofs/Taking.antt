@@ -39,7 +39,8 @@ use Rattle.dds_core.specs.declared.sending.Announced.{Announced}
 use Rattle.dds_core.specs.Beating.{AddsTo}
 use Rattle.dds_core.specs.Kept.{PeerKept}
 use Rattle.dds_core.specs.Readiness.{IsBounded, AreBounded}
-use Rattle.dds_core.specs.Receiving.{with_state, StandsAsWell, ReadersTook, TookSubmessage, NeedsMemory, TellsReaders, TakesOneMore, TookMessage, TakesMessage, TakenTo, TakesTo, ReceivesPacket}
+use Rattle.dds_core.specs.Receiving.{with_state, StandsAsWell, ReadersTook, TookSubmessage, NeedsMemory, TellsReaders, TakesOneMore, TookMessage, TakesMessage, ReceivesPacket}
+use Rattle.dds_core.proofs.TakenSoFar.{TakenTo, TakesTo}
 use Rattle.dds_core.specs.Sending.{AreMessages}
 use Rattle.dds_core.specs.Standing.{StandsFor, IsSound, Steps, StepsBy, SoundSteps, SoundStepsBy}
 use Rattle.dds_machine.specs.Watching.{Tests}

@@ -32,7 +32,8 @@ use Rattle.dds_core.specs.declared.reader_end.Told.{Told}
 use Rattle.dds_core.specs.declared.reader_end.Told.TheVariants as told
 use Rattle.dds_core.specs.Kept.{ReaderKept, PeerKept}
 use Rattle.dds_core.specs.Readiness.{IsReadyWith, IsReadyFor, AreReady, IsNamedReader, NamesNone, NamedBy, IsToldBy, SameReader, TellsSo, moves_of, writer_guid}
-use Rattle.dds_core.specs.Receiving.{TookAt, with_state, NeedsMemory, ReadersTook, TakesSome, TakesAll, TellsReaders, StandsAsWell}
+use Rattle.dds_core.specs.Receiving.{TookAt, with_state, NeedsMemory, ReadersTook, TakesAll, TellsReaders, StandsAsWell}
+use Rattle.dds_core.proofs.TakenSoFar.{TakesSome}
 use Rattle.dds_core.specs.Beating.{AddsTo}
 use Rattle.dds_core.specs.Standing.{IsFirstRow, StandsFor}
 use Rattle.dds_core.proofs.Beating.{adds_none, adds_on}

@@ -3,7 +3,7 @@
 -- nothing here has to be believed.
 --
 -- RTPS 2.5, 8.3.4 (the message receiver), 8.4.12 (the behaviour of a reliable StatefulReader).
-use Rattle.std.specs.Prelude.{◌≡◌, ◌+◌, ◌≤◌, ℕ, List, ◌++◌, drop, set, length, slice_get, Option, Some, Result, OnErr, IfErr}
+use Rattle.std.specs.Prelude.{◌≡◌, ◌+◌, ◌≤◌, ℕ, List, ◌++◌, set, length, slice_get, Option, Some, Result, OnErr, IfErr}
 use Rattle.dds_base.specs.declared.code.Code.{Code}
 use Rattle.dds_base.specs.declared.code.Code.TheVariants.{Memory}
 use Rattle.dds_base.specs.declared.config.Config.{Config}
@@ -86,16 +86,6 @@ pub record TakesAll (old : PeerKept) (ready : List (Option Ready)) (moves : List
   pub takes : (at : Receiver) (submessage : Submessage) → AreReady old.prefix at submessage old.readers ready
       → ReadersTake old at submessage (length old.readers) made sent new gone
 
--- the same of the readers before this index; the others are as they were
-pub record TakesSome (old : PeerKept) (ready : List (Option Ready)) (index : ℕ) (moves : List Move) (sent : Announced)
-    (now : PeerKept) (after : List Move) (gone : Announced) : Type 0 where
-  pub made : List Move
-  pub after_is : after ≡ moves ++ made
-  pub takes : (at : Receiver) (submessage : Submessage) → AreReady old.prefix at submessage old.readers ready
-      → ReadersTake old at submessage index made sent now gone
-  pub left : drop index now.readers ≡ drop index old.readers
-  pub prefix : now.prefix ≡ old.prefix
-
 -- the readers are told what a submessage says, after other moves
 pub record TellsReaders (old : PeerKept) (at : Receiver) (submessage : Submessage) (moves : List Move)
     (sent : Announced) (new : PeerKept) (after : List Move) (gone : Announced) : Type 0 where
@@ -160,25 +150,6 @@ abbrev pub TakesMessage : PeerKept → Message → Report → PeerKept → Annou
 TakesMessage old message report new gone =
     (config : Config) (peer : Peer) → StandsFor old config peer
     → TookMessage config peer old.prefix message report new gone
-
--- the same, up to the submessage of this index
-pub record TakenTo (old : PeerKept) (message : Message) (index : ℕ) (at : Receiver) (moves : List Move) (now : PeerKept)
-    (gone : Announced) (config : Config) (peer : Peer) : Type 0 where
-  pub state : State
-  pub dues : List Due
-  pub stands : StandsFor now config (with_state peer state)
-  pub sent : AreSent dues gone.packets.items gone.unsent
-  pub on : (later : List Move) (refused : Option ℕ) (last : List Due) (after : State)
-      → FollowsMessage config old.prefix peer.number index at (drop index message.submessages) state later refused last
-      after
-      → FollowsMessage config old.prefix peer.number 0 (receiver_of message.prefix) message.submessages (state_of peer)
-      (moves ++ later) refused (dues ++ last) after
-
--- the same, said of each state that the old values stand for
-abbrev pub TakesTo : PeerKept → Message → ℕ → Receiver → List Move → PeerKept → Announced → Type 0
-TakesTo old message index at moves now gone =
-    (config : Config) (peer : Peer) → StandsFor old config peer
-    → TakenTo old message index at moves now gone config peer
 
 -- for each state that the old values stand for, this is what is done with a packet
 pub record ReceivedPacket (config : Config) (peer : Peer) (bytes : List ℕ) (report : Report) (new : PeerKept)

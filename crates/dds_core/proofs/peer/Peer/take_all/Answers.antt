@@ -4,7 +4,7 @@ use Rattle.dds_machine.specs.declared.reply.Move.{Move}
 use Rattle.dds_core.specs.declared.reader_end.Ready.{Ready}
 use Rattle.dds_core.specs.Kept.{PeerKept}
 use Rattle.dds_core.specs.declared.sending.Announced.{Announced}
-use Rattle.dds_core.specs.Receiving.{TakesSome}
+use Rattle.dds_core.proofs.TakenSoFar.{TakesSome}
 use Rattle.dds_core.specs.Sending.{AreMessages}
 use Rattle.dds_core.proofs.Turns.{takes_none, takes_skip, takes_more}
 use Rattle.dds_core.proofs.Ready.{takes_all, still_ready, rest_more}

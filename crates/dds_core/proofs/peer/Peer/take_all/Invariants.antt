@@ -1,6 +1,6 @@
 use Rattle.std.proofs.Common.{◌≡◌, ◌+◌, ◌*◌, ◌≤◌, length, drop, vec_len}
 use Rattle.std.specs.Prelude.{vec_capacity}
-use Rattle.dds_core.specs.Receiving.{TakesSome}
+use Rattle.dds_core.proofs.TakenSoFar.{TakesSome}
 use Rattle.dds_core.specs.Sending.{AreMessages}
 use Rattle.dds_core.proofs.peer.Peer.take_all.Given as goal
 

@@ -8,7 +8,7 @@ use Rattle.dds_machine.specs.declared.reply.Report.{Report}
 use Rattle.dds_protocol.specs.Claims.{Receiver, after_submessage}
 use Rattle.dds_core.specs.Kept.{PeerKept}
 use Rattle.dds_core.specs.Readiness.{receiver_at}
-use Rattle.dds_core.specs.Receiving.{TakesTo}
+use Rattle.dds_core.proofs.TakenSoFar.{TakesTo}
 use Rattle.dds_core.proofs.Taking.{no_messages, takes_none, takes_more, takes_all, takes_some}
 use Rattle.dds_core.proofs.Lists.{drop_at, drop_all}
 use Rattle.dds_core.proofs.peer.Peer.take_message.Goals as goal

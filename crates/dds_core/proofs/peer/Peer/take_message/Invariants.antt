@@ -1,6 +1,6 @@
 use Rattle.std.proofs.Common.{◌≡◌, ◌≤◌, ◌*◌, ◌^◌}
 use Rattle.dds_core.specs.Readiness.{receiver_at}
-use Rattle.dds_core.specs.Receiving.{TakesTo}
+use Rattle.dds_core.proofs.TakenSoFar.{TakesTo}
 use Rattle.dds_core.specs.Sending.{AreMessages}
 use Rattle.dds_core.proofs.peer.Peer.take_message.Given as goal
 
