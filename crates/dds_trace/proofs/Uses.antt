@@ -1,0 +1,342 @@
+-- An event adds at most one WaitSet in which somebody waits; the end of a wait ends one.
+use Rattle.std.proofs.Common.{◌≡◌, ℕ, zero, suc, ◌+◌, ◌-◌, ◌≤◌, ◌==◌, Bool, true, false, List, [], ◌∷◌, ◌++◌, get_or, map, refl, ap, sym, ◌∙◌, subst, inl, inr, arith}
+use Rattle.std.specs.Prelude.{Option, Some, None, is_some, set, if◌then◌else◌}
+use Rattle.std.specs.Option.{option_map}
+use Rattle.rtps_wire.specs.declared.submessage.Submessage.{Submessage}
+use Rattle.dds_base.specs.declared.code.Code.{Code}
+use Rattle.dds_base.specs.declared.code.Code.TheVariants as code
+use Rattle.dds_base.specs.declared.config.Config.{Config}
+use Rattle.dds_base.specs.declared.entity.Entity.{Entity}
+use Rattle.dds_base.specs.declared.entity.Entity.TheVariants.{Participant, Writer, Reader}
+use Rattle.dds_base.specs.declared.guid.GuidPrefix.{GuidPrefix}
+use Rattle.dds_base.specs.declared.happening.Happening.{Happening}
+use Rattle.dds_base.specs.declared.happening.Happening.TheVariants.{Read as HasRead, Took}
+use Rattle.dds_base.specs.declared.happening.SamplePosition.{SamplePosition}
+use Rattle.dds_base.specs.declared.selection.Selection.{Selection}
+use Rattle.dds_base.specs.Number.{at_number}
+use Rattle.dds_notices.specs.declared.mask.StatusMask.{StatusMask}
+use Rattle.dds_conditions.specs.declared.condition.Cond.{Cond}
+use Rattle.dds_conditions.specs.declared.condition.Cond.TheVariants.{Made}
+use Rattle.dds_conditions.specs.declared.waiting.Waiting.{Waiting}
+use Rattle.dds_conditions.specs.Watched.{Watched, use_refusal, with_deadline, with_enabled, with_wait_set_at, without, without_condition}
+use Rattle.dds_machine.specs.declared.call.Call.{Call}
+use Rattle.dds_machine.specs.declared.call.Call.TheVariants.{Register, Write, Dispose, Unregister, AssertLiveliness, Read, Take, GetKeyValue, LookupInstance, GetSampleLost, GetLivelinessChanged, GetLivelinessLost, ReadByCondition, TakeByCondition, CreateReadCondition, CreateQueryCondition, CreateGuardCondition, SetTriggerValue, DeleteCondition, GetTriggerValue, CreateWaitSet, DeleteWaitSet, AttachCondition, DetachCondition, GetConditions, WaitBegin, WaitLook, WaitEnd, SetEnabledStatuses, GetStatusChanges}
+use Rattle.dds_protocol.specs.declared.event.Event.{Event}
+use Rattle.dds_protocol.specs.declared.event.Event.TheVariants as event
+use Rattle.dds_protocol.specs.declared.event.Output.{Output}
+use Rattle.dds_machine.specs.declared.reply.Move.{Move}
+use Rattle.dds_machine.specs.declared.reply.Move.TheVariants.{Place, Acknowledged, Heard}
+use Rattle.dds_machine.specs.declared.reply.Reply.{Reply}
+use Rattle.dds_machine.specs.declared.reply.Reply.TheVariants.{Done, Samples, KeyValue, Reported, Refused}
+use Rattle.dds_machine.specs.Part.{Part, Dds}
+use Rattle.dds_machine.specs.Moves.{Grounds, IsMove, AreMoves}
+use Rattle.dds_protocol.specs.Claims.{Receiver, after_submessage}
+use Rattle.dds_protocol.specs.Receipt.{TakesUp}
+use Rattle.dds_machine.specs.Refusals.{write_refusal, dispose_refusal, unregister_refusal}
+use Rattle.dds_machine.specs.Calls.{IsDoneUnless, IsAnswered, IsAnsweredWatching, IsAnsweredInMemory, AnswersLook, AnswersAccess, AnswersByCondition, Answers}
+use Rattle.dds_protocol.specs.Noticing.{peer_at_end}
+use Rattle.dds_protocol.specs.Peer.{Peer, EventStep}
+use Rattle.dds_machine.specs.Watching.{Test, Tests}
+use Rattle.dds_protocol.proofs.AtEnds.{end_watch}
+use Rattle.dds_core.specs.Listening.{CoreKept, StandsFor, Steps}
+use Rattle.dds_core.specs.Standing.{IsSound}
+use Rattle.dds_notices.specs.declared.notice.Notice.{Notice}
+use Rattle.dds_trace.specs.Uses.{is_used, uses_in, in_use_of, IsInUse}
+
+-- ---- lists
+
+one_at_most : (b : Bool) → (if b then 1 else 0) ≤ 1
+one_at_most true = omega arith
+one_at_most false = omega arith
+
+set_uses : (ws : List (Option Waiting)) (k : ℕ) (v : Option Waiting) → uses_in (set ws k v) ≤ uses_in ws + 1
+set_uses [] k v = omega arith
+set_uses (w ∷ ws) zero v = omega (arith, one_at_most (is_used v))
+set_uses (w ∷ ws) (suc k) v = omega (arith, set_uses ws k v)
+
+more_uses : (ws : List (Option Waiting)) (v : Option Waiting) → uses_in (ws ++ v ∷ []) ≤ uses_in ws + 1
+more_uses [] v = omega (arith, one_at_most (is_used v))
+more_uses (w ∷ ws) v = omega (arith, more_uses ws v)
+
+used_without : (c : Cond) (w : Option Waiting) → is_used (without c w) ≡ is_used w
+used_without c None = refl
+used_without c (Some s) = refl
+
+without_uses : (c : Cond) (ws : List (Option Waiting)) → uses_in (map (without c) ws) ≡ uses_in ws
+without_uses c [] = refl
+without_uses c (w ∷ ws) =
+    ap (λ (b : Bool). (if b then 1 else 0) + uses_in (map (without c) ws)) (used_without c w)
+    ∙ ap (λ (n : ℕ). (if is_used w then 1 else 0) + n) (without_uses c ws)
+
+-- ---- events
+
+abbrev OneMore : Dds → Dds → Type 0
+OneMore old new = uses_in new.watch.wait_sets ≤ uses_in old.watch.wait_sets + 1
+
+abbrev OneMoreWatched : Watched → Watched → Type 0
+OneMoreWatched old new = uses_in new.wait_sets ≤ uses_in old.wait_sets + 1
+
+as_it_was : (old new : Dds) → new.watch.wait_sets ≡ old.watch.wait_sets → OneMore old new
+as_it_was old new e = omega (arith, ap uses_in e)
+
+of_watch : (old : Dds) (new : Dds) (after : Watched) → new.watch ≡ after → OneMoreWatched old.watch after → OneMore old new
+of_watch old new after e more = omega (arith, ap (λ (w : Watched). uses_in w.wait_sets) e, more)
+
+same_dds : (old new : Dds) → new ≡ old → OneMore old new
+same_dds old new e = as_it_was old new (ap (λ (d : Dds). d.watch.wait_sets) e)
+
+done_or_not : (refusal : Option Code) (reply : Reply) (old new : Dds) → IsDoneUnless refusal reply old old new
+    → OneMore old new
+done_or_not refusal Done old new a = same_dds old new a.1
+done_or_not refusal (Refused code) old new a = same_dds old new a.1
+done_or_not refusal reply old new a = absurd a
+
+answered : (refusal : Option Code) (answer : Reply) (after : Dds) (old : Part) (reply : Reply) (new : Dds)
+    → OneMore old.dds after → IsAnswered refusal answer after old reply new → OneMore old.dds new
+answered (Some code) answer after old reply new more a = same_dds old.dds new a.1
+answered None answer after old reply new more a =
+    of_watch old.dds new after.watch (ap (λ (d : Dds). d.watch) a.1) more
+
+watching : (refusal : Option Code) (answer : Reply) (after : Watched) (old : Part) (reply : Reply) (new : Dds)
+    → OneMoreWatched old.dds.watch after → IsAnsweredWatching refusal answer after old reply new → OneMore old.dds new
+watching refusal answer after old reply new more a =
+    answered refusal answer (record old.dds { watch = after }) old reply new more a
+
+in_memory : (needs : Bool) (refusal : Option Code) (answer : Reply) (after : Watched) (old : Part) (reply : Reply)
+    (new : Dds)
+    → OneMoreWatched old.dds.watch after → IsAnsweredInMemory needs refusal answer after old reply new
+    → OneMore old.dds new
+in_memory needs refusal answer after old reply new more (inl a) = watching refusal answer after old reply new more a
+in_memory needs refusal answer after old reply new more (inr a) = same_dds old.dds new a.3
+
+same_uses : (w : Watched) → OneMoreWatched w w
+same_uses w = omega arith
+
+enabled_uses : (w : Watched) (e : Entity) (mask : StatusMask) → OneMoreWatched w (with_enabled w e mask)
+enabled_uses w Participant mask = omega arith
+enabled_uses w (Writer n) mask = omega arith
+enabled_uses w (Reader n) mask = omega arith
+
+looked : (active : List Cond) (timed_out : Bool) (old : Part) (wait_set : ℕ) (reply : Reply) (new : Dds)
+    → AnswersLook active timed_out old wait_set reply new → OneMore old.dds new
+looked [] true old wait_set reply new a =
+    watching _ _ _ old reply new (set_uses old.dds.watch.wait_sets (wait_set - 1) _) a
+looked [] false old wait_set reply new a = watching _ _ _ old reply new (same_uses old.dds.watch) a
+looked (c ∷ cs) timed_out old wait_set reply new a =
+    in_memory _ _ _ _ old reply new (set_uses old.dds.watch.wait_sets (wait_set - 1) _) a
+
+accessed : (entry : List SamplePosition → Happening) (test : Test) (old : Part) (k : ℕ) (selection : Selection)
+    (reply : Reply) (new : Dds)
+    → AnswersAccess entry test old k selection reply new → OneMore old.dds new
+accessed entry test old k selection (Samples samples) new a =
+    as_it_was old.dds new (ap (λ (d : Dds). d.watch.wait_sets) a.3)
+accessed entry test old k selection (Refused code.NoData) new a =
+    as_it_was old.dds new (ap (λ (d : Dds). d.watch.wait_sets) a.2)
+accessed entry test old k selection (Refused code) new a = same_dds old.dds new a.1
+accessed entry test old k selection reply new a = absurd a
+
+by_condition : (entry : List SamplePosition → Happening) (refusal : Option Code) (test : Test) (old : Part) (k : ℕ)
+    (selection : Selection) (reply : Reply) (new : Dds)
+    → AnswersByCondition entry refusal test old k selection reply new → OneMore old.dds new
+by_condition entry (Some code) test old k selection reply new a = same_dds old.dds new a.1
+by_condition entry None test old k selection reply new a = accessed entry test old k selection reply new a
+
+answers_use : (tests : Tests) (old : Part) (c : Call) (reply : Reply) (new : Dds) → Answers tests old c reply new
+    → OneMore old.dds new
+answers_use tests old (Register v key) reply new a = in_memory _ _ _ _ old reply new (same_uses old.dds.watch) a
+answers_use tests old (Write v key value) reply new a = done_or_not (write_refusal old v key value) reply old.dds new a
+answers_use tests old (Dispose v key) reply new a = done_or_not (dispose_refusal old v key) reply old.dds new a
+answers_use tests old (Unregister v key) reply new a = done_or_not (unregister_refusal old v key) reply old.dds new a
+answers_use tests old (AssertLiveliness v) reply new a = answered _ Done old.dds old reply new (same_uses old.dds.watch) a
+answers_use tests old (Read v selection) reply new a = accessed HasRead _ old v selection reply new a
+answers_use tests old (Take v selection) reply new a = accessed Took _ old v selection reply new a
+answers_use tests old (GetKeyValue v instance) (KeyValue key) new a = same_dds old.dds new a.2
+answers_use tests old (GetKeyValue v instance) (Refused code) new a = same_dds old.dds new a.1
+answers_use tests old (GetKeyValue v instance) reply new a = absurd a
+answers_use tests old (LookupInstance v key) reply new a = answered _ _ old.dds old reply new (same_uses old.dds.watch) a
+answers_use tests old (GetSampleLost v) reply new a = answered _ _ _ old reply new (same_uses old.dds.watch) a
+answers_use tests old (GetLivelinessChanged v) reply new a = answered _ _ _ old reply new (same_uses old.dds.watch) a
+answers_use tests old (GetLivelinessLost v) reply new a = answered _ _ old.dds old reply new (same_uses old.dds.watch) a
+answers_use tests old (ReadByCondition v scope c) reply new a = by_condition HasRead _ _ old v _ reply new a
+answers_use tests old (TakeByCondition v scope c) reply new a = by_condition Took _ _ old v _ reply new a
+answers_use tests old (CreateReadCondition v masks) reply new a = in_memory _ _ _ _ old reply new (same_uses old.dds.watch) a
+answers_use tests old (CreateQueryCondition v masks filter) reply new a =
+    in_memory _ _ _ _ old reply new (same_uses old.dds.watch) a
+answers_use tests old CreateGuardCondition reply new a = in_memory _ _ _ _ old reply new (same_uses old.dds.watch) a
+answers_use tests old (SetTriggerValue c value) reply new a = watching _ _ _ old reply new (same_uses old.dds.watch) a
+answers_use tests old (DeleteCondition c) reply new a =
+    watching _ _ (without_condition old.dds.watch c) old reply new
+    (omega (arith, without_uses (Made c) old.dds.watch.wait_sets)) a
+answers_use tests old (GetTriggerValue c) reply new a = watching _ _ _ old reply new (same_uses old.dds.watch) a
+answers_use tests old CreateWaitSet reply new a =
+    in_memory _ _ _ _ old reply new (more_uses old.dds.watch.wait_sets _) a
+answers_use tests old (DeleteWaitSet s) reply new a =
+    watching _ _ _ old reply new (set_uses old.dds.watch.wait_sets (s - 1) _) a
+answers_use tests old (AttachCondition s c) reply new a =
+    in_memory _ _ _ _ old reply new (set_uses old.dds.watch.wait_sets (s - 1) _) a
+answers_use tests old (DetachCondition s c) reply new a =
+    watching _ _ _ old reply new (set_uses old.dds.watch.wait_sets (s - 1) _) a
+answers_use tests old (GetConditions s) reply new a = in_memory _ _ _ _ old reply new (same_uses old.dds.watch) a
+answers_use tests old (WaitBegin s deadline) reply new a =
+    watching _ _ _ old reply new (set_uses old.dds.watch.wait_sets (s - 1) _) a
+answers_use tests old (WaitLook s) reply new a = looked _ _ old s reply new a
+answers_use tests old (WaitEnd s) reply new a =
+    watching _ _ _ old reply new (set_uses old.dds.watch.wait_sets (s - 1) _) a
+answers_use tests old (SetEnabledStatuses e mask) reply new a =
+    watching _ _ _ old reply new (enabled_uses old.dds.watch e mask) a
+answers_use tests old (GetStatusChanges e) reply new a = watching _ _ _ old reply new (same_uses old.dds.watch) a
+
+abbrev SameSets : Part → Part → Type 0
+SameSets old new = new.dds.watch.wait_sets ≡ old.dds.watch.wait_sets
+
+move_keeps : (g : Grounds) (old : Part) (m : Move) (new : Part) → IsMove g old m new → SameSets old new
+move_keeps g old (Place w r to passed) new h = ap (λ (p : Part). p.dds.watch.wait_sets) h.after
+move_keeps g old (Acknowledged w r to) new h = ap (λ (p : Part). p.dds.watch.wait_sets) h.after
+move_keeps g old (Heard w r) new h = ap (λ (p : Part). p.dds.watch.wait_sets) h.after
+
+moves_keep : (g : Grounds) (old : Part) (ms : List Move) (new : Part) → AreMoves g old ms new → SameSets old new
+moves_keep g old [] new h = ap (λ (p : Part). p.dds.watch.wait_sets) h
+moves_keep g old (m ∷ ms) new h = moves_keep g h.0 ms new h.2 ∙ move_keeps g old m h.0 h.1
+
+taken_keeps : (config : Config) (grounds : ℕ → Grounds) (peer : ℕ) (own : GuidPrefix) (index : ℕ) (at : Receiver)
+    (submessages : List Submessage) (old : Part) (moves : List Move) (refused : Option ℕ) (new : Part)
+    → TakesUp config grounds peer own index at submessages old moves refused new → SameSets old new
+taken_keeps config grounds peer own index at [] old moves refused new h =
+    ap (λ (p : Part). p.dds.watch.wait_sets) h.2
+taken_keeps config grounds peer own index at (s ∷ rest) old moves refused new (inl h) =
+    ap (λ (p : Part). p.dds.watch.wait_sets) h.2
+taken_keeps config grounds peer own index at (s ∷ rest) old moves refused new (inr h) =
+    taken_keeps config grounds peer own (index + 1) (after_submessage own at s) rest h.2 h.1 refused new h.6
+    ∙ moves_keep (grounds index) old h.0 h.2 h.4
+
+event_uses : (config : Config) (tests : Tests) (old : Peer) (ev : Event) (reply : Reply) (new : Peer)
+    → EventStep config tests old ev reply new → OneMore old.part.dds new.part.dds
+event_uses config tests old (event.Call call) reply new h =
+    answers_use tests old.part call reply new.part.dds h.0.answers
+event_uses config tests old (event.Tick now) Done new h =
+    as_it_was old.part.dds new.part.dds (ap (λ (p : Part). p.dds.watch.wait_sets) h.0.1)
+event_uses config tests old (event.Tick now) (Refused code) new h =
+    as_it_was old.part.dds new.part.dds (ap (λ (p : Part). p.dds.watch.wait_sets) h.0.1)
+event_uses config tests old (event.Tick now) reply new h = absurd h.0
+event_uses config tests old (event.Deliver packet) (Reported report) new (inl t, delivered) =
+    as_it_was old.part.dds new.part.dds
+    (taken_keeps config _ old.number _ 0 _ t.message.submessages old.part report.moves report.refused new.part t.taken)
+event_uses config tests old (event.Deliver packet) (Reported report) new (inr t, delivered) =
+    as_it_was old.part.dds new.part.dds (ap (λ (p : Part). p.dds.watch.wait_sets) t.after)
+event_uses config tests old (event.Deliver packet) reply new h = absurd h
+
+-- ---- the end of a wait
+
+none_left : (b : Bool) (ws : List (Option Waiting)) (k : ℕ) (s : Waiting) → is_some s.deadline ≡ true
+    → get_or ws k None ≡ Some s
+    → uses_in (set ws k (Some (record s { deadline = None }))) + 1 ≡ uses_in ws
+none_left b [] k s used at = absurd cc
+none_left b (w ∷ ws) zero s used at =
+    let one : ℕ = 1 in
+    let here : (if is_used w then 1 else 0) ≡ one =
+    ap (λ (x : Option Waiting). let n : ℕ = if is_used x then 1 else 0 in n) at
+    ∙ ap (λ (c : Bool). let n : ℕ = if c then 1 else 0 in n) used in
+    omega (arith, here)
+none_left b (w ∷ ws) (suc k) s used at = omega (arith, none_left b ws k s used at)
+
+-- the number is that of one in which somebody waits
+used_at : (ws : List (Option Waiting)) (n : ℕ) (b : Bool) → (n == 0) ≡ b → is_used (at_number ws n) ≡ true
+    → at_number ws n ≡ get_or ws (n - 1) None
+used_at ws n true is used =
+    let none : at_number ws n ≡ None = ap (λ (c : Bool). if c then None else get_or ws (n - 1) None) is in
+    let not : is_used (at_number ws n) ≡ false = ap is_used none in
+    absurd cc
+used_at ws n false is used = ap (λ (c : Bool). if c then None else get_or ws (n - 1) None) is
+
+not_at : (ws : List (Option Waiting)) (k : ℕ) (s : Waiting)
+    → is_used (get_or (set ws k (Some (record s { deadline = None }))) k None) ≡ false
+not_at [] k s = refl
+not_at (w ∷ ws) zero s = refl
+not_at (w ∷ ws) (suc k) s = not_at ws k s
+
+not_used : (ws : List (Option Waiting)) (n : ℕ) (s : Waiting) (b : Bool) → (n == 0) ≡ b
+    → is_used (at_number (set ws (n - 1) (Some (record s { deadline = None }))) n) ≡ true → ⊥
+not_used ws n s true is used =
+    let none : at_number (set ws (n - 1) (Some (record s { deadline = None }))) n ≡ None =
+    ap (λ (c : Bool). if c then None else get_or (set ws (n - 1) (Some (record s { deadline = None }))) (n - 1) None) is in
+    let not : is_used (at_number (set ws (n - 1) (Some (record s { deadline = None }))) n) ≡ false = ap is_used none in
+    absurd cc
+not_used ws n s false is used =
+    let there : at_number (set ws (n - 1) (Some (record s { deadline = None }))) n
+    ≡ get_or (set ws (n - 1) (Some (record s { deadline = None }))) (n - 1) None =
+    ap (λ (c : Bool). if c then None else get_or (set ws (n - 1) (Some (record s { deadline = None }))) (n - 1) None) is in
+    let not = ap is_used there ∙ not_at ws (n - 1) s in
+    absurd cc
+
+abbrev Ended : List (Option Waiting) → ℕ → Dds → Type 0
+Ended ws n new = (uses_in new.watch.wait_sets + 1 ≡ uses_in ws) × (is_used (at_number new.watch.wait_sets n) ≡ true → ⊥)
+
+ended_at : (found : Option Waiting) (ws : List (Option Waiting)) (n : ℕ) (old : Part) (reply : Reply) (new : Dds)
+    → ws ≡ old.dds.watch.wait_sets → at_number ws n ≡ found → is_used found ≡ true
+    → IsAnsweredWatching (use_refusal found) Done
+    (with_wait_set_at old.dds.watch n (option_map (λ (s : Waiting). record s { deadline = None }) found)) old reply new
+    → Ended ws n new
+ended_at None ws n old reply new same at used a = absurd cc
+ended_at (Some s) ws n old reply new same at used a =
+    let none : use_refusal (Some s) ≡ None = ap (λ (b : Bool). if b then None else Some code.PreconditionNotMet) used in
+    let P : Option Code → Type 0 = λ r. IsAnsweredWatching r Done
+    (with_wait_set_at old.dds.watch n (Some (record s { deadline = None }))) old reply new in
+    let done : P None = subst P none a in
+    let sets : new.watch.wait_sets ≡ set ws (n - 1) (Some (record s { deadline = None })) =
+    ap (λ (d : Dds). d.watch.wait_sets) done.1
+    ∙ ap (λ (xs : List (Option Waiting)). set xs (n - 1) (Some (record s { deadline = None }))) (sym same) in
+    let is_there : get_or ws (n - 1) None ≡ Some s =
+    sym (used_at ws n (n == 0) refl (ap is_used at ∙ used)) ∙ at in (
+      omega (arith, ap uses_in sets, none_left true ws (n - 1) s used is_there),
+      λ still. not_used ws n s (n == 0) refl
+          (ap (λ (xs : List (Option Waiting)). is_used (at_number xs n)) (sym sets) ∙ still),
+    )
+
+ends_sets : (ws : List (Option Waiting)) (n : ℕ) (old : Part) (reply : Reply) (new : Dds) → ws ≡ old.dds.watch.wait_sets
+    → is_used (at_number ws n) ≡ true
+    → IsAnsweredWatching (use_refusal (at_number old.dds.watch.wait_sets n)) Done (with_deadline old.dds.watch n None) old
+    reply new
+    → Ended ws n new
+ends_sets ws n old reply new same used a =
+    ended_at (at_number ws n) ws n old reply new same refl used
+    (subst (λ (xs : List (Option Waiting)). IsAnsweredWatching (use_refusal (at_number xs n)) Done
+    (with_wait_set_at old.dds.watch n (option_map (λ (s : Waiting). record s { deadline = None }) (at_number xs n)))
+    old reply new) (sym same) a)
+
+-- ---- a core
+
+module _ {F L : Type 0} (notices : L → List Notice) (capacity : L → ℕ) where
+  -- an event adds at most one wait
+  pub one_more : (tests : Tests) (config : Config) (peer : Peer) (old new : CoreKept F L) (ev : Event) (o : Output)
+      → StandsFor notices capacity old config peer → IsSound config peer
+      → Steps notices capacity tests old ev o new → in_use_of new ≤ in_use_of old + 1
+  one_more tests config peer old new ev o stands sound h =
+      let r = h.step config peer stands sound in
+      let stepped : Peer = r.0 in
+      let step : OneMore peer.part.dds stepped.part.dds =
+      event_uses config tests peer ev o.reply stepped r.1.step in
+      let before = ap (λ (w : Watched). uses_in w.wait_sets) stands.stands.stands.watch in
+      let after = ap (λ (w : Watched). uses_in w.wait_sets) (r.3.stands.stands.watch) in
+      let ended = ap (λ (w : Watched). uses_in w.wait_sets) (end_watch peer.part stepped.part) in
+      omega (arith, step, before, after, ended)
+
+  -- the end of a wait ends that one
+  pub ends_one : (tests : Tests) (config : Config) (peer : Peer) (old new : CoreKept F L) (s : ℕ) (o : Output)
+      → StandsFor notices capacity old config peer → IsSound config peer → IsInUse old s
+      → Steps notices capacity tests old (event.Call (WaitEnd s)) o new
+      → (in_use_of new + 1 ≡ in_use_of old) × (IsInUse new s → ⊥)
+  ends_one tests config peer old new s o stands sound used h =
+      let r = h.step config peer stands sound in
+      let stepped : Peer = r.0 in
+      let before : peer.part.dds.watch ≡ old.filtered.peer.watch = stands.stands.stands.watch in
+      let after : (peer_at_end peer stepped).part.dds.watch ≡ new.filtered.peer.watch = r.3.stands.stands.watch in
+      let ended : (peer_at_end peer stepped).part.dds.watch ≡ stepped.part.dds.watch =
+      end_watch peer.part stepped.part in
+      let here : is_used (at_number peer.part.dds.watch.wait_sets s) ≡ true =
+      ap (λ (w : Watched). is_used (at_number w.wait_sets s)) before ∙ used in
+      let e = ends_sets peer.part.dds.watch.wait_sets s peer.part o.reply stepped.part.dds refl here r.1.step.0.answers in
+      let sets : new.filtered.peer.watch.wait_sets ≡ stepped.part.dds.watch.wait_sets =
+      ap (λ (w : Watched). w.wait_sets) (sym after ∙ ended) in (
+        omega (arith, ap uses_in sets, e.0, ap (λ (w : Watched). uses_in w.wait_sets) before),
+        λ still. e.1 (ap (λ (ws : List (Option Waiting)). is_used (at_number ws s)) (sym sets) ∙ still),
+      )

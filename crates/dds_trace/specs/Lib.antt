@@ -1,0 +1,3 @@
+pub mod Entries
+pub mod History
+pub mod Uses
