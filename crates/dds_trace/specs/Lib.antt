@@ -1,3 +1,6 @@
 pub mod Entries
 pub mod History
 pub mod Uses
+pub mod Weaving
+pub mod Faults
+pub mod Woven
