@@ -5,3 +5,4 @@ pub mod Octets
 pub mod Orders
 pub mod HonestRuns
 pub mod Interleaved
+pub mod Cores

@@ -1,9 +1,13 @@
 -- The run of the machine without packets that an order of the entries of several peers is.
 --
 -- Such orders are this project's own.
-use Rattle.std.specs.Prelude.{◌≡◌, ℕ, ◌-◌, ◌≤◌, Some, List, [], ◌∷◌, ◌++◌, length, slice_get, slice_index}
+use Rattle.std.specs.Prelude.{◌≡◌, ℕ, ◌-◌, ◌≤◌, Bool, Some, List, [], ◌∷◌, ◌++◌, length, slice_get, slice_index}
 use Rattle.dds_base.specs.declared.config.Config.{Config}
+use Rattle.dds_base.specs.declared.key.Key.{Key}
+use Rattle.dds_conditions.specs.Filtered.{tests_of}
+use Rattle.dds_notices.specs.declared.notice.Notice.{Notice}
 use Rattle.dds_notices.specs.Listeners.{Places}
+use Rattle.dds_core.specs.Listening.{CoreKept, StandsFor}
 use Rattle.dds_machine.specs.declared.event.WorldEvent.{WorldEvent}
 use Rattle.dds_machine.specs.declared.event.WorldEvent.TheVariants as world
 use Rattle.dds_machine.specs.declared.reply.Reply.{Reply}
@@ -18,8 +22,8 @@ use Rattle.dds_protocol.specs.Peer.{Peer}
 use Rattle.dds_protocol.specs.World.{WorldState, machine_of, peer_at}
 use Rattle.dds_trace.specs.declared.trace.Entry.{Entry}
 use Rattle.dds_trace.specs.Entries.{Traced}
-use Rattle.dds_trace.specs.History.{IsHistory, opened}
-use Rattle.dds_trace.specs.Weaving.{none_placed, one_more}
+use Rattle.dds_trace.specs.History.{IsHistory, IsHistoryOf, emptied, opened}
+use Rattle.dds_trace.specs.Weaving.{IsHonest, none_placed, one_more}
 
 -- an entry of the peer of this number
 pub record PeerEntry : Type 0 where
@@ -88,3 +92,34 @@ RunsHistories ts order =
     (config : Config) (tests : AllTests) (start : WorldState) → IsOpening config start → AreApart ts
     → AreHistories config tests start ts
     → (es : List PeerEntry) × AreWoven ts (none_placed ts) order es × IsRun tests start es
+
+-- ---- cores
+
+module _ {F L : Type 0} (meaning : F → Key → List ℕ → Bool) (notices : L → List Notice) (capacity : L → ℕ)
+    (config : Config) (cores : ℕ → CoreKept F L) (ts : List Traced) where
+  -- each trace is a history of the core of its peer
+  abbrev pub AreHistoriesOf : Type 0
+  AreHistoriesOf = (t : ℕ) (trace : Traced) → slice_get ts t ≡ Some trace
+      → HasNumber (opening_world config).peers trace.peer
+      × IsHistoryOf meaning notices capacity config trace.peer trace.entries (cores trace.peer)
+
+  -- the peer begins with the filters of its core, and with the places of the listeners that it has at the end, to which
+  -- nothing was told yet
+  abbrev pub BeginsAs : WorldState → ℕ → Type 0
+  BeginsAs start number = (last : Peer) × StandsFor notices capacity (cores number) config last
+      × (peer_at start number
+      ≡ opened config number (length (cores number).filtered.filters) (emptied last.part.dds.listeners))
+
+  -- The order of their entries is a run of the machine by what the filters of the cores mean, from the opening with the
+  -- filters and the places of listeners of the cores.
+  pub record IsRunOf (order : List ℕ) : Type 0 where
+    pub start : WorldState
+    pub opens : IsOpening config start
+    pub begins : (t : ℕ) (trace : Traced) → slice_get ts t ≡ Some trace → BeginsAs start trace.peer
+    pub es : List PeerEntry
+    pub are_woven : AreWoven ts (none_placed ts) order es
+    pub run : IsRun (λ peer. tests_of meaning (cores peer).filtered.filters) start es
+
+  -- so is each honest order of their entries, where they are of different peers
+  abbrev pub HonestOrdersRun : Type 0
+  HonestOrdersRun = (order : List ℕ) → AreApart ts → AreHistoriesOf → IsHonest ts order → IsRunOf order

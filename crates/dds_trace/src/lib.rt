@@ -24,6 +24,7 @@
 //! ```
 #![tactic(auto)]
 
+pub mod laws;
 mod sent_octets;
 mod trace;
 mod weaving;

@@ -1,0 +1,18 @@
+//! The law of the traces of cores.
+
+ghost use Rattle.std.specs.Prelude.{ℕ, List};
+ghost use Rattle.dds_base.specs.declared.config.Config.{Config};
+ghost use Rattle.dds_core.specs.Listening.{CoreKept};
+ghost use Rattle.dds_trace.specs.Entries.{Traced};
+ghost use Rattle.dds_trace.specs.Woven.{HonestOrdersRun};
+
+use dds_conditions::Filter;
+use dds_notices::Listener;
+
+/// For all cores of which traces of different peers are histories, each honest order of the entries is a run of the
+/// machine without packets, from the opening with the filters and the listeners' places of the cores.
+pub fn honest_orders_run<F: Filter, L: Listener>()
+    // By what the filters of the cores mean.
+    ensures run { (config : Config) (cores : ℕ → CoreKept F L) (ts : List Traced)
+        → HonestOrdersRun F.meaning L.notices L.capacity config cores ts }
+{}
