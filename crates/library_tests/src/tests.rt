@@ -12,6 +12,7 @@ mod owner;
 mod readme;
 mod rows;
 mod sets;
+mod trace;
 mod wire;
 mod world;
 mod writer;
