@@ -1,24 +1,22 @@
 -- A history of one step more, and the one of no step.
-use Rattle.std.proofs.Common.{◌≡◌, ℕ, zero, suc, Bool, List, [], ◌∷◌, ◌++◌, ◌+◌, length, length-append, Option, get_or, refl, sym, ap, ◌∙◌, subst}
+use Rattle.std.proofs.Common.{◌≡◌, ℕ, Bool, List, [], ◌∷◌, ◌++◌, ◌+◌, length, length-append, Option, refl, sym, ap, ◌∙◌, subst}
 use Rattle.dds_base.specs.declared.config.Config.{Config}
 use Rattle.dds_base.specs.declared.key.Key.{Key}
 use Rattle.dds_conditions.specs.Filtered.{tests_of}
 use Rattle.dds_notices.specs.declared.notice.Notice.{Notice}
-use Rattle.dds_notices.specs.Listeners.{Places, listener_place, with_entity}
+use Rattle.dds_notices.specs.Listeners.{ByEntity, Places, listener_place, with_entity}
 use Rattle.dds_protocol.specs.declared.event.Event.{Event}
 use Rattle.dds_protocol.specs.declared.event.Output.{Output}
 use Rattle.dds_protocol.specs.Noticing.{peer_at_end, peer_with_place}
 use Rattle.dds_protocol.specs.Filters.{peer_with_filter}
 use Rattle.dds_base.specs.declared.entity.Entity.{Entity}
 use Rattle.dds_notices.specs.declared.mask.StatusMask.{StatusMask}
-use Rattle.dds_protocol.specs.Peer.{Peer, no_peer}
+use Rattle.dds_protocol.specs.Peer.{Peer}
 use Rattle.dds_machine.specs.Watching.{Tests}
-use Rattle.dds_protocol.specs.Opening.{opening_peers}
 use Rattle.dds_protocol.proofs.FiltersKept.{keeps_listeners, opens_no_filters, opens_nobody}
-use Rattle.dds_protocol.proofs.OpenedPeers.{opens_backed, opens_known}
 use Rattle.dds_core.specs.Listening.{Adds, CoreKept, Sets, StandsFor, Steps}
 use Rattle.dds_core.specs.Opening.{opening_peer}
-use Rattle.dds_core.specs.Standing.{IsSound}
+use Rattle.dds_core.proofs.Ended.{opens_sound}
 use Rattle.dds_trace.specs.declared.trace.Entry.{Entry}
 use Rattle.dds_trace.specs.History.{Happens, IsHistory, IsHistoryOf, emptied, entry_of, opened}
 use Rattle.dds_trace.proofs.Places.{end_places, nobody_emptied, set_places}
@@ -32,16 +30,16 @@ IsHistory-push config tests m (x ∷ es) n e k h step =
     (h.0, h.1, IsHistory-push config tests h.0 es n e k h.2 step)
 
 module _ {F L : Type 0} (meaning : F → Key → List ℕ → Bool) (notices : L → List Notice) (capacity : L → ℕ)
-    (config : Config) (number : ℕ) where
+    (becomes : L → Notice → L → Type 0) (given : ByEntity L) (config : Config) (number : ℕ) where
   -- an event of the core is entered
   pub extends : (es : List Entry) (old new : CoreKept F L) (seat : ℕ) (event : Event) (o : Output)
-      → IsHistoryOf meaning notices capacity config number es old
-      → Steps notices capacity (tests_of meaning old.filtered.filters) old event o new
-      → IsHistoryOf meaning notices capacity config number (es ++ entry_of seat event o ∷ []) new
+      → IsHistoryOf meaning notices capacity becomes given config number es old
+      → Steps notices capacity becomes (tests_of meaning old.filtered.filters) old event o new
+      → IsHistoryOf meaning notices capacity becomes given config number (es ++ entry_of seat event o ∷ []) new
   extends es old new seat event o h s =
       let m : Peer = h.peer in
       let tests : Tests = tests_of meaning old.filtered.filters in
-      let r = s.step config m h.stands h.sound in
+      let r = s.step given config m h.stands h.sound in
       let stepped : Peer = r.0 in
       let n : Peer = peer_at_end m stepped in
       let happens : Happens config tests m event o n =
@@ -63,13 +61,9 @@ module _ {F L : Type 0} (meaning : F → Key → List ℕ → Bool) (notices : L
         sound = r.4;
       }
 
-  known_at : (n : ℕ) → IsSound config (opening_peer config n)
-  known_at zero = opens_backed config zero
-  known_at (suc n) = opens_known config n (get_or (opening_peers config.peers 1 config.peers) n no_peer).number
-
   -- a core that was opened has done nothing
-  pub begins : (core : CoreKept F L) → StandsFor notices capacity core config (opening_peer config number)
-      → core.filtered.filters ≡ [] → IsHistoryOf meaning notices capacity config number [] core
+  pub begins : (core : CoreKept F L) → StandsFor notices capacity becomes given core config (opening_peer config number)
+      → core.filtered.filters ≡ [] → IsHistoryOf meaning notices capacity becomes given config number [] core
   begins core stands none =
       let p : Peer = opening_peer config number in
       let filters : length core.filtered.filters ≡ p.part.dds.watch.filters =
@@ -84,16 +78,16 @@ module _ {F L : Type 0} (meaning : F → Key → List ℕ → Bool) (notices : L
             ap (λ (k : ℕ). opened config number k (emptied p.part.dds.listeners)) filters
             ∙ ap (λ (ps : Places). opened config number p.part.dds.watch.filters ps) nobody_told;
         stands = stands;
-        sound = known_at number;
+        sound = opens_sound config number;
       }
 
   -- a filter that is added before anything happened
   pub filtered : (old new : CoreKept F L) (filter : F) (k : ℕ)
-      → IsHistoryOf meaning notices capacity config number [] old → Adds notices capacity old filter k new
-      → IsHistoryOf meaning notices capacity config number [] new
+      → IsHistoryOf meaning notices capacity becomes given config number [] old → Adds notices capacity becomes old filter k new
+      → IsHistoryOf meaning notices capacity becomes given config number [] new
   filtered old new filter k h a =
       let m : Peer = h.peer in
-      let r = a.adds config m h.stands in
+      let r = a.adds given config m h.stands in
       let more : length new.filtered.filters ≡ length old.filtered.filters + 1 =
       ap (λ (fs : List F). length fs) a.filters ∙ length-append old.filtered.filters (filter ∷ []) in
       record {
@@ -107,12 +101,12 @@ module _ {F L : Type 0} (meaning : F → Key → List ℕ → Bool) (notices : L
 
   -- a listener that is set, or taken away, before anything happened
   pub listened : (old new : CoreKept F L) (e : Entity) (mask : StatusMask) (listener handed : Option L)
-      → IsHistoryOf meaning notices capacity config number [] old
-      → Sets notices capacity old e mask listener handed new
-      → IsHistoryOf meaning notices capacity config number [] new
+      → IsHistoryOf meaning notices capacity becomes given config number [] old
+      → Sets notices capacity becomes old e mask listener handed new
+      → IsHistoryOf meaning notices capacity becomes (with_entity given e listener) config number [] new
   listened old new e mask listener handed h s =
       let m : Peer = h.peer in
-      let r = s.sets config m h.stands in
+      let r = s.sets given config m h.stands in
       record {
         peer = peer_with_place m e (listener_place capacity mask listener);
         history =

@@ -5,7 +5,7 @@ use Rattle.dds_base.specs.declared.config.Config.{Config}
 use Rattle.dds_base.specs.declared.key.Key.{Key}
 use Rattle.dds_conditions.specs.Filtered.{tests_of}
 use Rattle.dds_notices.specs.declared.notice.Notice.{Notice}
-use Rattle.dds_notices.specs.Listeners.{Places}
+use Rattle.dds_notices.specs.Listeners.{ByEntity, Places}
 use Rattle.dds_machine.specs.Machine.{AllTests}
 use Rattle.dds_machine.specs.Numbered.{HasNumber}
 use Rattle.dds_protocol.specs.Opening.{opening_world}
@@ -68,59 +68,62 @@ is_opening config f = record {
 -- ---- the cores
 
 module _ {F L : Type 0} (meaning : F → Key → List ℕ → Bool) (notices : L → List Notice) (capacity : L → ℕ)
-    (config : Config) (cores : ℕ → CoreKept F L) (ts : List Traced) where
+    (becomes : L → Notice → L → Type 0) (given : ℕ → ByEntity L) (config : Config) (cores : ℕ → CoreKept F L) (ts : List Traced) where
   abbrev Found : ℕ → Type 0
   Found n = ((t : ℕ) × (trace : Traced) × (slice_get ts t ≡ Some trace) × (trace.peer ≡ n))
       ⊎ ((t : ℕ) (trace : Traced) → slice_get ts t ≡ Some trace → trace.peer ≡ n → ⊥)
 
   abbrev Given : Type 0
-  Given = AreHistoriesOf meaning notices capacity config cores ts
+  Given = AreHistoriesOf meaning notices capacity becomes given config cores ts
 
   abbrev beside_of : Given → (n : ℕ) → Found n → ℕ × Places
-  beside_of given n (inl f) =
-      (length (cores n).filtered.filters, emptied (given f.0 f.1 f.2).1.peer.part.dds.listeners)
-  beside_of given n (inr none) = (0, (opening_peer config n).part.dds.listeners)
+  beside_of known n (inl f) =
+      (length (cores n).filtered.filters, emptied (known f.0 f.1 f.2).1.peer.part.dds.listeners)
+  beside_of known n (inr none) = (0, (opening_peer config n).part.dds.listeners)
 
   abbrev start_of : Given → WorldState
-  start_of given = world_with config (λ n. beside_of given n (trace_of ts n))
+  start_of known = world_with config (λ n. beside_of known n (trace_of ts n))
 
   -- where a trace is found it is the one
-  begins_so : (given : Given) (apart : AreApart ts) (t : ℕ) (trace : Traced) → slice_get ts t ≡ Some trace
+  begins_so : (known : Given) (apart : AreApart ts) (t : ℕ) (trace : Traced) → slice_get ts t ≡ Some trace
       → (found : Found trace.peer)
-      → (h : IsHistoryOf meaning notices capacity config trace.peer trace.entries (cores trace.peer))
-      × (beside_of given trace.peer found
+      → (h : IsHistoryOf meaning notices capacity becomes (given trace.peer) config trace.peer trace.entries
+      (cores trace.peer))
+      × (beside_of known trace.peer found
       ≡ (length (cores trace.peer).filtered.filters, emptied h.peer.part.dds.listeners))
-  begins_so given apart t trace got (inr none) = absurd (none t trace got refl)
-  begins_so given apart t trace got (inl f) =
+  begins_so known apart t trace got (inr none) = absurd (none t trace got refl)
+  begins_so known apart t trace got (inl f) =
       let at : f.0 ≡ t = apart f.0 t f.1 trace f.2 got f.3 in
       let there : slice_get ts t ≡ Some f.1 = ap (slice_get ts) (sym at) ∙ f.2 in
       let same : f.1 ≡ trace = let g = got in cc in
-      let b : ℕ × Places = beside_of given trace.peer (inl f) in
-      let P : Traced → Type 0 = λ x. (h : IsHistoryOf meaning notices capacity config x.peer x.entries (cores x.peer))
+      let b : ℕ × Places = beside_of known trace.peer (inl f) in
+      let P : Traced → Type 0 = λ x. (h : IsHistoryOf meaning notices capacity becomes (given x.peer) config x.peer x.entries
+      (cores x.peer))
       × (b ≡ (length (cores trace.peer).filtered.filters, emptied h.peer.part.dds.listeners)) in
-      let here : P f.1 = ((given f.0 f.1 f.2).1, refl) in
+      let here : P f.1 = ((known f.0 f.1 f.2).1, refl) in
       subst P same here
 
-  pub honest_orders_run : HonestOrdersRun meaning notices capacity config cores ts
-  honest_orders_run order apart given honest =
-      let f : Beside = λ n. beside_of given n (trace_of ts n) in
-      let start : WorldState = start_of given in
+  pub honest_orders_run : HonestOrdersRun meaning notices capacity becomes given config cores ts
+  honest_orders_run order apart known honest =
+      let f : Beside = λ n. beside_of known n (trace_of ts n) in
+      let start : WorldState = start_of known in
       let tests : AllTests = λ n. tests_of meaning (cores n).filtered.filters in
       let begin : (t : ℕ) (trace : Traced) → slice_get ts t ≡ Some trace
-      → (h : IsHistoryOf meaning notices capacity config trace.peer trace.entries (cores trace.peer))
+      → (h : IsHistoryOf meaning notices capacity becomes (given trace.peer) config trace.peer trace.entries
+      (cores trace.peer))
       × (peer_at start trace.peer
       ≡ opened config trace.peer (length (cores trace.peer).filtered.filters) (emptied h.peer.part.dds.listeners)) =
       λ t trace got.
-      let b = begins_so given apart t trace got (trace_of ts trace.peer) in (
+      let b = begins_so known apart t trace got (trace_of ts trace.peer) in (
         b.0,
-        opens_at config f trace.peer (given t trace got).0
+        opens_at config f trace.peer (known t trace got).0
             ∙ ap (λ (x : ℕ × Places). opened config trace.peer x.0 x.1) b.1,
       ) in
       let many : length start.peers ≡ length (opening_world config).peers =
       as_many f 0 (opening_world config).peers in
       let histories : AreHistories config tests start ts = λ t trace got.
       let b = begin t trace got in
-      let within = (given t trace got).0 in
+      let within = (known t trace got).0 in
       let low = within.0 in
       let high = within.1 in (
         (omega (arith, low), omega (arith, high, many)),

@@ -1,6 +1,7 @@
 -- An event adds at most one WaitSet in which somebody waits; the end of a wait ends one.
 use Rattle.std.proofs.Common.{◌≡◌, ℕ, zero, suc, ◌+◌, ◌-◌, ◌≤◌, ◌==◌, Bool, true, false, List, [], ◌∷◌, ◌++◌, get_or, map, refl, ap, sym, ◌∙◌, subst, inl, inr, arith}
-use Rattle.std.specs.Prelude.{Option, Some, None, is_some, set, if◌then◌else◌}
+use Rattle.std.specs.Prelude.{Option, Some, None, is_some, set, length, if◌then◌else◌}
+use Rattle.std.specs.List.{filter}
 use Rattle.std.specs.Option.{option_map}
 use Rattle.rtps_wire.specs.declared.submessage.Submessage.{Submessage}
 use Rattle.dds_base.specs.declared.code.Code.{Code}
@@ -41,7 +42,9 @@ use Rattle.dds_protocol.proofs.AtEnds.{end_watch}
 use Rattle.dds_core.specs.Listening.{CoreKept, StandsFor, Steps}
 use Rattle.dds_core.specs.Standing.{IsSound}
 use Rattle.dds_notices.specs.declared.notice.Notice.{Notice}
-use Rattle.dds_trace.specs.Uses.{is_used, uses_in, in_use_of, IsInUse}
+use Rattle.dds_notices.specs.Listeners.{ByEntity}
+use Rattle.dds_conditions.specs.Watched.{is_used, uses_in}
+use Rattle.dds_trace.specs.Uses.{in_use_of, IsInUse}
 
 -- ---- lists
 
@@ -49,12 +52,26 @@ one_at_most : (b : Bool) → (if b then 1 else 0) ≤ 1
 one_at_most true = omega arith
 one_at_most false = omega arith
 
-set_uses : (ws : List (Option Waiting)) (k : ℕ) (v : Option Waiting) → uses_in (set ws k v) ≤ uses_in ws + 1
+-- in how many of these somebody waits, one after the other
+abbrev uses_of : List (Option Waiting) → ℕ
+uses_of [] = 0
+uses_of (w ∷ ws) = (if is_used w then 1 else 0) + uses_of ws
+
+one_counted : (b : Bool) (w : Option Waiting) (used : List (Option Waiting)) (n : ℕ) → length used ≡ n
+    → length (if b then w ∷ used else used) ≡ (if b then 1 else 0) + n
+one_counted true w used n h = omega (arith, h)
+one_counted false w used n h = omega (arith, h)
+
+uses_are : (ws : List (Option Waiting)) → uses_in ws ≡ uses_of ws
+uses_are [] = refl
+uses_are (w ∷ ws) = one_counted (is_used w) w (filter is_used ws) (uses_of ws) (uses_are ws)
+
+set_uses : (ws : List (Option Waiting)) (k : ℕ) (v : Option Waiting) → uses_of (set ws k v) ≤ uses_of ws + 1
 set_uses [] k v = omega arith
 set_uses (w ∷ ws) zero v = omega (arith, one_at_most (is_used v))
 set_uses (w ∷ ws) (suc k) v = omega (arith, set_uses ws k v)
 
-more_uses : (ws : List (Option Waiting)) (v : Option Waiting) → uses_in (ws ++ v ∷ []) ≤ uses_in ws + 1
+more_uses : (ws : List (Option Waiting)) (v : Option Waiting) → uses_of (ws ++ v ∷ []) ≤ uses_of ws + 1
 more_uses [] v = omega (arith, one_at_most (is_used v))
 more_uses (w ∷ ws) v = omega (arith, more_uses ws v)
 
@@ -62,25 +79,25 @@ used_without : (c : Cond) (w : Option Waiting) → is_used (without c w) ≡ is_
 used_without c None = refl
 used_without c (Some s) = refl
 
-without_uses : (c : Cond) (ws : List (Option Waiting)) → uses_in (map (without c) ws) ≡ uses_in ws
+without_uses : (c : Cond) (ws : List (Option Waiting)) → uses_of (map (without c) ws) ≡ uses_of ws
 without_uses c [] = refl
 without_uses c (w ∷ ws) =
-    ap (λ (b : Bool). (if b then 1 else 0) + uses_in (map (without c) ws)) (used_without c w)
+    ap (λ (b : Bool). (if b then 1 else 0) + uses_of (map (without c) ws)) (used_without c w)
     ∙ ap (λ (n : ℕ). (if is_used w then 1 else 0) + n) (without_uses c ws)
 
 -- ---- events
 
 abbrev OneMore : Dds → Dds → Type 0
-OneMore old new = uses_in new.watch.wait_sets ≤ uses_in old.watch.wait_sets + 1
+OneMore old new = uses_of new.watch.wait_sets ≤ uses_of old.watch.wait_sets + 1
 
 abbrev OneMoreWatched : Watched → Watched → Type 0
-OneMoreWatched old new = uses_in new.wait_sets ≤ uses_in old.wait_sets + 1
+OneMoreWatched old new = uses_of new.wait_sets ≤ uses_of old.wait_sets + 1
 
 as_it_was : (old new : Dds) → new.watch.wait_sets ≡ old.watch.wait_sets → OneMore old new
-as_it_was old new e = omega (arith, ap uses_in e)
+as_it_was old new e = omega (arith, ap uses_of e)
 
 of_watch : (old : Dds) (new : Dds) (after : Watched) → new.watch ≡ after → OneMoreWatched old.watch after → OneMore old new
-of_watch old new after e more = omega (arith, ap (λ (w : Watched). uses_in w.wait_sets) e, more)
+of_watch old new after e more = omega (arith, ap (λ (w : Watched). uses_of w.wait_sets) e, more)
 
 same_dds : (old new : Dds) → new ≡ old → OneMore old new
 same_dds old new e = as_it_was old new (ap (λ (d : Dds). d.watch.wait_sets) e)
@@ -229,7 +246,7 @@ event_uses config tests old (event.Deliver packet) reply new h = absurd h
 
 none_left : (b : Bool) (ws : List (Option Waiting)) (k : ℕ) (s : Waiting) → is_some s.deadline ≡ true
     → get_or ws k None ≡ Some s
-    → uses_in (set ws k (Some (record s { deadline = None }))) + 1 ≡ uses_in ws
+    → uses_of (set ws k (Some (record s { deadline = None }))) + 1 ≡ uses_of ws
 none_left b [] k s used at = absurd cc
 none_left b (w ∷ ws) zero s used at =
     let one : ℕ = 1 in
@@ -269,7 +286,7 @@ not_used ws n s false is used =
     absurd cc
 
 abbrev Ended : List (Option Waiting) → ℕ → Dds → Type 0
-Ended ws n new = (uses_in new.watch.wait_sets + 1 ≡ uses_in ws) × (is_used (at_number new.watch.wait_sets n) ≡ true → ⊥)
+Ended ws n new = (uses_of new.watch.wait_sets + 1 ≡ uses_of ws) × (is_used (at_number new.watch.wait_sets n) ≡ true → ⊥)
 
 ended_at : (found : Option Waiting) (ws : List (Option Waiting)) (n : ℕ) (old : Part) (reply : Reply) (new : Dds)
     → ws ≡ old.dds.watch.wait_sets → at_number ws n ≡ found → is_used found ≡ true
@@ -287,7 +304,7 @@ ended_at (Some s) ws n old reply new same at used a =
     ∙ ap (λ (xs : List (Option Waiting)). set xs (n - 1) (Some (record s { deadline = None }))) (sym same) in
     let is_there : get_or ws (n - 1) None ≡ Some s =
     sym (used_at ws n (n == 0) refl (ap is_used at ∙ used)) ∙ at in (
-      omega (arith, ap uses_in sets, none_left true ws (n - 1) s used is_there),
+      omega (arith, ap uses_of sets, none_left true ws (n - 1) s used is_there),
       λ still. not_used ws n s (n == 0) refl
           (ap (λ (xs : List (Option Waiting)). is_used (at_number xs n)) (sym sets) ∙ still),
     )
@@ -305,38 +322,43 @@ ends_sets ws n old reply new same used a =
 
 -- ---- a core
 
-module _ {F L : Type 0} (notices : L → List Notice) (capacity : L → ℕ) where
+module _ {F L : Type 0} (notices : L → List Notice) (capacity : L → ℕ)
+    (becomes : L → Notice → L → Type 0) (given : ByEntity L) where
   -- an event adds at most one wait
   pub one_more : (tests : Tests) (config : Config) (peer : Peer) (old new : CoreKept F L) (ev : Event) (o : Output)
-      → StandsFor notices capacity old config peer → IsSound config peer
-      → Steps notices capacity tests old ev o new → in_use_of new ≤ in_use_of old + 1
+      → StandsFor notices capacity becomes given old config peer → IsSound config peer
+      → Steps notices capacity becomes tests old ev o new → in_use_of new ≤ in_use_of old + 1
   one_more tests config peer old new ev o stands sound h =
-      let r = h.step config peer stands sound in
+      let r = h.step given config peer stands sound in
       let stepped : Peer = r.0 in
       let step : OneMore peer.part.dds stepped.part.dds =
       event_uses config tests peer ev o.reply stepped r.1.step in
+      let earlier = uses_are peer.part.dds.watch.wait_sets in
+      let later = uses_are stepped.part.dds.watch.wait_sets in
       let before = ap (λ (w : Watched). uses_in w.wait_sets) stands.stands.stands.watch in
       let after = ap (λ (w : Watched). uses_in w.wait_sets) (r.3.stands.stands.watch) in
       let ended = ap (λ (w : Watched). uses_in w.wait_sets) (end_watch peer.part stepped.part) in
-      omega (arith, step, before, after, ended)
+      omega (arith, step, before, after, ended, earlier, later)
 
   -- the end of a wait ends that one
   pub ends_one : (tests : Tests) (config : Config) (peer : Peer) (old new : CoreKept F L) (s : ℕ) (o : Output)
-      → StandsFor notices capacity old config peer → IsSound config peer → IsInUse old s
-      → Steps notices capacity tests old (event.Call (WaitEnd s)) o new
+      → StandsFor notices capacity becomes given old config peer → IsSound config peer → IsInUse old s
+      → Steps notices capacity becomes tests old (event.Call (WaitEnd s)) o new
       → (in_use_of new + 1 ≡ in_use_of old) × (IsInUse new s → ⊥)
   ends_one tests config peer old new s o stands sound used h =
-      let r = h.step config peer stands sound in
+      let r = h.step given config peer stands sound in
       let stepped : Peer = r.0 in
       let before : peer.part.dds.watch ≡ old.filtered.peer.watch = stands.stands.stands.watch in
       let after : (peer_at_end peer stepped).part.dds.watch ≡ new.filtered.peer.watch = r.3.stands.stands.watch in
       let ended : (peer_at_end peer stepped).part.dds.watch ≡ stepped.part.dds.watch =
       end_watch peer.part stepped.part in
+      let earlier = uses_are peer.part.dds.watch.wait_sets in
+      let later = uses_are stepped.part.dds.watch.wait_sets in
       let here : is_used (at_number peer.part.dds.watch.wait_sets s) ≡ true =
       ap (λ (w : Watched). is_used (at_number w.wait_sets s)) before ∙ used in
       let e = ends_sets peer.part.dds.watch.wait_sets s peer.part o.reply stepped.part.dds refl here r.1.step.0.answers in
       let sets : new.filtered.peer.watch.wait_sets ≡ stepped.part.dds.watch.wait_sets =
       ap (λ (w : Watched). w.wait_sets) (sym after ∙ ended) in (
-        omega (arith, ap uses_in sets, e.0, ap (λ (w : Watched). uses_in w.wait_sets) before),
+        omega (arith, ap uses_in sets, e.0, ap (λ (w : Watched). uses_in w.wait_sets) before, earlier, later),
         λ still. e.1 (ap (λ (ws : List (Option Waiting)). is_used (at_number ws s)) (sym sets) ∙ still),
       )

@@ -6,7 +6,7 @@ use Rattle.dds_base.specs.declared.config.Config.{Config}
 use Rattle.dds_base.specs.declared.key.Key.{Key}
 use Rattle.dds_conditions.specs.Filtered.{tests_of}
 use Rattle.dds_notices.specs.declared.notice.Notice.{Notice}
-use Rattle.dds_notices.specs.Listeners.{Place, Places}
+use Rattle.dds_notices.specs.Listeners.{ByEntity, Place, Places}
 use Rattle.dds_protocol.specs.declared.event.Event.{Event}
 use Rattle.dds_protocol.specs.declared.event.Output.{Output}
 use Rattle.dds_protocol.specs.Noticing.{peer_at_end}
@@ -55,14 +55,14 @@ opened config number filters places = record (opening_peer config number) {
   };
 }
 
--- The entries are a history of the core: they lead from its opening, with its filters and its listeners, to a state
--- that it stands for, of which all that is known was claimed.
+-- The entries are a history of the core: they lead from its opening, with its filters and the listeners that it was
+-- given, to a state that it stands for, of which all that is known was claimed.
 pub record IsHistoryOf {F L : Type 0} (meaning : F → Key → List ℕ → Bool) (notices : L → List Notice)
-    (capacity : L → ℕ) (config : Config) (number : ℕ) (entries : List Entry) (core : CoreKept F L) : Type 0 where
+    (capacity : L → ℕ) (becomes : L → Notice → L → Type 0) (given : ByEntity L) (config : Config) (number : ℕ) (entries : List Entry) (core : CoreKept F L) : Type 0 where
   pub peer : Peer
   pub history : IsHistory config (tests_of meaning core.filtered.filters)
       (opened config number (length core.filtered.filters) (emptied peer.part.dds.listeners)) entries peer
-  pub stands : StandsFor notices capacity core config peer
+  pub stands : StandsFor notices capacity becomes given core config peer
   pub sound : IsSound config peer
 
 -- an entry of these parts

@@ -6,7 +6,7 @@ use Rattle.dds_base.specs.declared.config.Config.{Config}
 use Rattle.dds_base.specs.declared.key.Key.{Key}
 use Rattle.dds_conditions.specs.Filtered.{tests_of}
 use Rattle.dds_notices.specs.declared.notice.Notice.{Notice}
-use Rattle.dds_notices.specs.Listeners.{Places}
+use Rattle.dds_notices.specs.Listeners.{ByEntity, Places}
 use Rattle.dds_core.specs.Listening.{CoreKept, StandsFor}
 use Rattle.dds_machine.specs.declared.event.WorldEvent.{WorldEvent}
 use Rattle.dds_machine.specs.declared.event.WorldEvent.TheVariants as world
@@ -96,17 +96,18 @@ RunsHistories ts order =
 -- ---- cores
 
 module _ {F L : Type 0} (meaning : F → Key → List ℕ → Bool) (notices : L → List Notice) (capacity : L → ℕ)
-    (config : Config) (cores : ℕ → CoreKept F L) (ts : List Traced) where
+    (becomes : L → Notice → L → Type 0) (given : ℕ → ByEntity L) (config : Config) (cores : ℕ → CoreKept F L) (ts : List Traced) where
   -- each trace is a history of the core of its peer
   abbrev pub AreHistoriesOf : Type 0
   AreHistoriesOf = (t : ℕ) (trace : Traced) → slice_get ts t ≡ Some trace
       → HasNumber (opening_world config).peers trace.peer
-      × IsHistoryOf meaning notices capacity config trace.peer trace.entries (cores trace.peer)
+      × IsHistoryOf meaning notices capacity becomes (given trace.peer) config trace.peer trace.entries
+      (cores trace.peer)
 
   -- the peer begins with the filters of its core, and with the places of the listeners that it has at the end, to which
   -- nothing was told yet
   abbrev pub BeginsAs : WorldState → ℕ → Type 0
-  BeginsAs start number = (last : Peer) × StandsFor notices capacity (cores number) config last
+  BeginsAs start number = (last : Peer) × StandsFor notices capacity becomes (given number) (cores number) config last
       × (peer_at start number
       ≡ opened config number (length (cores number).filtered.filters) (emptied last.part.dds.listeners))
 

@@ -2,6 +2,7 @@
 
 ghost use Rattle.std.specs.Prelude.{ℕ, List};
 ghost use Rattle.dds_base.specs.declared.config.Config.{Config};
+ghost use Rattle.dds_notices.specs.Listeners.{ByEntity};
 ghost use Rattle.dds_core.specs.Listening.{CoreKept};
 ghost use Rattle.dds_trace.specs.Entries.{Traced};
 ghost use Rattle.dds_trace.specs.Woven.{HonestOrdersRun};
@@ -13,6 +14,7 @@ use dds_notices::Listener;
 /// machine without packets, from the opening with the filters and the listeners' places of the cores.
 pub fn honest_orders_run<F: Filter, L: Listener>()
     // By what the filters of the cores mean.
-    ensures run { (config : Config) (cores : ℕ → CoreKept F L) (ts : List Traced)
-        → HonestOrdersRun F.meaning L.notices L.capacity config cores ts }
+    ensures run { (given : ℕ → ByEntity L) (config : Config) (cores : ℕ → CoreKept F L)
+        (ts : List Traced)
+        → HonestOrdersRun F.meaning L.notices L.capacity L.becomes given config cores ts }
 {}
