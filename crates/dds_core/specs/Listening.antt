@@ -62,7 +62,8 @@ pub record Adds {F L : Type 0} (notices : L → List Notice) (capacity : L → �
       × (IsSound config peer → IsSound config (peer_with_filter peer))
 
 -- for each state that the old values stand for, a filter is refused so: for want of a number, or else of memory
-abbrev pub RefusesFilter : {F L : Type 0} → (L → List Notice) → (L → ℕ) → (L → Notice → L → Type 0) → CoreKept F L → Code → Type 0
+abbrev pub RefusesFilter : {F L : Type 0} → (L → List Notice) → (L → ℕ) → (L → Notice → L → Type 0) → CoreKept F L
+    → Code → Type 0
 RefusesFilter {F} {L} notices capacity becomes old code =
     (given : ByEntity L) (config : Config) (peer : Peer) → StandsFor notices capacity becomes given old config peer
     → Refuses (filter_refusal peer.part.dds.watch) code
@@ -97,7 +98,8 @@ RefusesEntity {F} {L} notices capacity becomes kept entity code =
     → Refuses (unknown_entity peer.part.dds.listeners entity) code
 
 -- for each state that the old values stand for, a listener is refused so
-abbrev pub RefusesListener : {F L : Type 0} → (L → List Notice) → (L → ℕ) → (L → Notice → L → Type 0) → CoreKept F L → Entity → Option L → Code
+abbrev pub RefusesListener : {F L : Type 0} → (L → List Notice) → (L → ℕ) → (L → Notice → L → Type 0) → CoreKept F L
+    → Entity → Option L → Code
     → Type 0
 RefusesListener {F} {L} notices capacity becomes old entity listener code =
     (given : ByEntity L) (config : Config) (peer : Peer) → StandsFor notices capacity becomes given old config peer

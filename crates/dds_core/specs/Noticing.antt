@@ -68,7 +68,8 @@ SeesStatus old status new =
 
 -- for each state that a peer stands for, with the places that its listeners stand for, both stand for what the change
 -- makes of it
-abbrev pub Tells : {L : Type 0} → (L → List Notice) → (L → ℕ) → (L → Notice → L → Type 0) → (Part → Part) → PeerKept → Slotted L → PeerKept
+abbrev pub Tells : {L : Type 0} → (L → List Notice) → (L → ℕ) → (L → Notice → L → Type 0) → (Part → Part) → PeerKept
+    → Slotted L → PeerKept
     → Slotted L → Type 0
 Tells {L} notices capacity becomes change old slots new after =
     (given : ByEntity L) (config : Config) (peer : Peer) → StandsFor old config peer

@@ -56,7 +56,8 @@ use Rattle.dds_world.proofs.RunSteps.{Went}
 
 -- Of the packets that were sent since so many had been, the first such one is delivered at this peer. Memory was found
 -- for it, and nothing was lost: before it no fewer than so many are counted as unsent, and after it no more.
-record Delivered {hearing : Hearing} (tests : AllTests) (Is : Packet → Type 0) (from peer unsent : ℕ) (old : WorldKept hearing) : Type 0 where
+record Delivered {hearing : Hearing} (tests : AllTests) (Is : Packet → Type 0) (from peer unsent : ℕ)
+    (old : WorldKept hearing) : Type 0 where
   k : ℕ
   reply : RoundReply
   mid : WorldKept hearing
@@ -98,7 +99,8 @@ stage_delivers {tests} config network Is from peer unsent Next old events replie
     goes d later rest w.rest w.more next)
 
 -- it is a delivery by the rules
-delivered : {hearing : Hearing} → {tests : AllTests} {Is : Packet → Type 0} {from peer unsent : ℕ} {old : WorldKept hearing}
+delivered : {hearing : Hearing} → {tests : AllTests} {Is : Packet
+    → Type 0} {from peer unsent : ℕ} {old : WorldKept hearing}
     (d : Delivered tests Is from peer unsent old) {config : Config} {network : WorldState}
     → StandsFor old config network
     → (w : Went tests config network old (world.Deliver peer d.k) d.reply.reply d.mid)
@@ -107,7 +109,8 @@ delivered {peer = peer} {old = old} d {config} {network} s w =
     delivers config network old peer d.k d.first.packet d.reply.reply d.mid s d.first.at.1 d.whole w
 
 -- nothing was lost at it
-nothing_lost : {hearing : Hearing} → {tests : AllTests} {Is : Packet → Type 0} {from peer unsent : ℕ} {old : WorldKept hearing}
+nothing_lost : {hearing : Hearing} → {tests : AllTests} {Is : Packet
+    → Type 0} {from peer unsent : ℕ} {old : WorldKept hearing}
     (d : Delivered tests Is from peer unsent old) {config : Config} {network : WorldState}
     (w : Went tests config network old (world.Deliver peer d.k) d.reply.reply d.mid) → old.unsent ≤ unsent
     → unsent < 2 ^ 64 - 1 → w.step.lost ≡ 0
@@ -162,7 +165,8 @@ record Tick (hearing : Hearing) : Type 0 where
   same : mid.unsent ≤ old.unsent
   below : old.unsent < 2 ^ 64 - 1
 
-w0 : {hearing : Hearing} → (t : Tick hearing) → Went t.tests t.config t.network t.old (world.Tick t.m.writer.peer t.m.moment) t.ticked.reply t.mid
+w0 : {hearing : Hearing} → (t : Tick hearing)
+    → Went t.tests t.config t.network t.old (world.Tick t.m.writer.peer t.m.moment) t.ticked.reply t.mid
 w0 t = went t.config t.network t.old (world.Tick t.m.writer.peer t.m.moment) t.ticked t.mid t.step t.s
 
 abbrev after_tick : {hearing : Hearing} → Tick hearing → WorldState
@@ -172,7 +176,8 @@ after_tick t = (w0 t).after
 abbrev noted_tick : {hearing : Hearing} → Tick hearing → WorldState
 noted_tick t = world_ended t.network (world.Tick t.m.writer.peer t.m.moment) (after_tick t)
 
-ruled0 : {hearing : Hearing} → (t : Tick hearing) → RuledStep t.config t.tests t.network (world.Tick t.m.writer.peer t.m.moment) Done 0 (after_tick t)
+ruled0 : {hearing : Hearing} → (t : Tick hearing)
+    → RuledStep t.config t.tests t.network (world.Tick t.m.writer.peer t.m.moment) Done 0 (after_tick t)
 ruled0 t =
     subst (λ (n : ℕ). RuledStep t.config t.tests t.network (world.Tick t.m.writer.peer t.m.moment) Done n
     (after_tick t)) (none_lost t.old.unsent (w0 t).step.lost t.mid.unsent (w0 t).step.counted t.same t.below)
@@ -205,12 +210,14 @@ acknowledged t =
 abbrev the_last : {hearing : Hearing} → Tick hearing → ℕ
 the_last t = length (writer_changes (writer_at (machine_of t.network) t.m.writer))
 
-row : {hearing : Hearing} → (t : Tick hearing) → acknowledged_of (writer_at (machine_of t.network) t.m.writer).readers t.m.reader
+row : {hearing : Hearing} → (t : Tick hearing)
+    → acknowledged_of (writer_at (machine_of t.network) t.m.writer).readers t.m.reader
     ≡ Some (acknowledged t)
 unfolding acknowledged
 row t = (some_is (acknowledged_of (writer_at (machine_of t.network) t.m.writer).readers t.m.reader) t.known.matched).1
 
-own_row : {hearing : Hearing} → (t : Tick hearing) → acknowledged_of (own_writer (part t) t.m.writer.number).readers t.m.reader
+own_row : {hearing : Hearing} → (t : Tick hearing)
+    → acknowledged_of (own_writer (part t) t.m.writer.number).readers t.m.reader
     ≡ Some (acknowledged t)
 own_row t =
     subst (λ (w : Writer). acknowledged_of w.readers t.m.reader ≡ Some (acknowledged t))
@@ -246,7 +253,8 @@ answer_of old m from to replies = record {
 }
 
 -- what hindered it is shown without the place after it
-abbrev EndsSo : {hearing : Hearing} → AllTests → Config → WorldState → WorldKept hearing → Matched → ℕ → List WorldEvent → List RoundReply → WorldKept hearing
+abbrev EndsSo : {hearing : Hearing} → AllTests → Config → WorldState → WorldKept hearing → Matched → ℕ
+    → List WorldEvent → List RoundReply → WorldKept hearing
     → Type 0
 EndsSo tests config network old m place events replies new =
     (after : WorldState) × RuledRun config tests network old.unsent events (replies_of replies) after new.unsent
@@ -304,7 +312,8 @@ not_behind t past =
     high = t.s.bounded t.m.reader t.m.writer t.place t.at
 
 -- a HEARTBEAT that was sent is found
-beat_is_found : {hearing : Hearing} → (t : Tick hearing) → acknowledged t ≤ the_last t → heartbeats_used_at t.network t.m.writer < 2 ^ 31 - 1
+beat_is_found : {hearing : Hearing} → (t : Tick hearing) → acknowledged t ≤ the_last t
+    → heartbeats_used_at t.network t.m.writer < 2 ^ 31 - 1
     → HasNone (IsTo t.m.reader.peer (sought.Heartbeat t.m.pair.writer)) t.mid.sent (length t.old.sent)
     (length t.mid.sent) → ⊥
 beat_is_found t behind left none =
@@ -329,7 +338,8 @@ told_behind t behind =
     is_le : (a b : ℕ) → a ≤ b → nat_le a b ≡ true
     is_le a b le = grind (arith, nat_tests, le)
 
-no_beat : {hearing : Hearing} → (t : Tick hearing) → HasNone (IsTo t.m.reader.peer (sought.Heartbeat t.m.pair.writer)) t.mid.sent (length t.old.sent)
+no_beat : {hearing : Hearing} → (t : Tick hearing)
+    → HasNone (IsTo t.m.reader.peer (sought.Heartbeat t.m.pair.writer)) t.mid.sent (length t.old.sent)
     (length t.mid.sent)
     → Ends t (world.Tick t.m.writer.peer t.m.moment ∷ []) (t.ticked ∷ []) t.mid
 no_beat t none = (
@@ -365,20 +375,23 @@ after_beat h = (w1 h).after
 abbrev noted_beat : {hearing : Hearing} → Hear hearing → WorldState
 noted_beat h = world_ended (noted_tick h.t) (world.Deliver h.t.m.reader.peer h.beat.k) (after_beat h)
 
-hears : {hearing : Hearing} → (h : Hear hearing) → Delivers h.t.config h.t.tests (noted_tick h.t) h.t.m.reader.peer h.beat.first.packet
+hears : {hearing : Hearing} → (h : Hear hearing)
+    → Delivers h.t.config h.t.tests (noted_tick h.t) h.t.m.reader.peer h.beat.first.packet
     (w1 h).step.lost (after_beat h)
 hears h = delivered h.beat (w0 h.t).stands (w1 h)
 
 among1 : {hearing : Hearing} → (h : Hear hearing) → Contains (ruled0 h.t).packets h.beat.first.packet
 among1 h = sent_since h.t.old.sent (ruled0 h.t).packets h.beat (sent0 h.t)
 
-beat_has : {hearing : Hearing} → (h : Hear hearing) → (count : ℤ) × HasHeartbeat h.t.config h.beat.first.packet.bytes h.t.m.writer count
+beat_has : {hearing : Hearing} → (h : Hear hearing)
+    → (count : ℤ) × HasHeartbeat h.t.config h.beat.first.packet.bytes h.t.m.writer count
 beat_has h =
     beat_found h.t.config h.t.tests h.t.network h.t.m.moment 0 (after_tick h.t) h.t.m.writer h.beat.first.packet
     (of h.t) (here h.t) (ruled0 h.t) (among1 h)
     (subst (λ (e : EntityId). Has h.beat.first.packet.bytes (sought.Heartbeat e)) h.t.known.writer h.beat.first.is.1)
 
-begins : {hearing : Hearing} → (h : Hear hearing) → BeginsRound h.t.config h.t.tests h.t.m.writer h.t.m.reader h.t.network (after_beat h)
+begins : {hearing : Hearing} → (h : Hear hearing)
+    → BeginsRound h.t.config h.t.tests h.t.m.writer h.t.m.reader h.t.network (after_beat h)
 begins h = record {
   now = h.t.m.moment;
   ticked = after_tick h.t;
@@ -418,7 +431,8 @@ ask_is h =
     let w = h.t.known.writer in cc
 
 -- one that was sent is found
-ask_is_found : {hearing : Hearing} → (h : Hear hearing) → acknacks_used_at h.t.network h.t.m.writer h.t.m.reader < 2 ^ 31 - 1
+ask_is_found : {hearing : Hearing} → (h : Hear hearing)
+    → acknacks_used_at h.t.network h.t.m.writer h.t.m.reader < 2 ^ 31 - 1
     → HasNone (IsTo h.t.m.writer.peer (ask_of h)) h.beat.mid.sent (length h.t.mid.sent) (length h.beat.mid.sent) → ⊥
 unfolding begun begins w1 hears
 ask_is_found h left none =
@@ -463,7 +477,8 @@ after_ask a = (w2 a).after
 abbrev noted_ask : {hearing : Hearing} → Ask hearing → WorldState
 noted_ask a = world_ended (noted_beat a.h) (world.Deliver a.h.t.m.writer.peer a.ask.k) (after_ask a)
 
-takes : {hearing : Hearing} → (a : Ask hearing) → Delivers a.h.t.config a.h.t.tests (noted_beat a.h) a.h.t.m.writer.peer a.ask.first.packet 0
+takes : {hearing : Hearing} → (a : Ask hearing)
+    → Delivers a.h.t.config a.h.t.tests (noted_beat a.h) a.h.t.m.writer.peer a.ask.first.packet 0
     (after_ask a)
 takes a =
     subst (λ (n : ℕ). Delivers a.h.t.config a.h.t.tests (noted_beat a.h) a.h.t.m.writer.peer a.ask.first.packet n
@@ -472,13 +487,15 @@ takes a =
 among2 : {hearing : Hearing} → (a : Ask hearing) → Contains (hears a.h).step.packets a.ask.first.packet
 among2 a = sent_since a.h.t.mid.sent (hears a.h).step.packets a.ask (sent1 a.h)
 
-ask_has : {hearing : Hearing} → (a : Ask hearing) → (count : ℤ) × HasAckNack a.h.t.config a.ask.first.packet.bytes a.h.t.m.writer a.h.t.m.reader count
+ask_has : {hearing : Hearing} → (a : Ask hearing)
+    → (count : ℤ) × HasAckNack a.h.t.config a.ask.first.packet.bytes a.h.t.m.writer a.h.t.m.reader count
 unfolding begun begins hears
 ask_has a =
     ask_found_among (begun a.h) a.ask.first.packet (among2 a)
     (subst (λ (x : Sought). Has a.ask.first.packet.bytes x) (sym (ask_is a.h)) a.ask.first.is.1)
 
-asks : {hearing : Hearing} → (a : Ask hearing) → AsksInRound a.h.t.config a.h.t.tests a.h.t.m.writer a.h.t.m.reader a.h.t.network (after_ask a)
+asks : {hearing : Hearing} → (a : Ask hearing)
+    → AsksInRound a.h.t.config a.h.t.tests a.h.t.m.writer a.h.t.m.reader a.h.t.network (after_ask a)
 unfolding begins hears
 asks a = record {
   heard = after_beat a.h;
@@ -504,7 +521,8 @@ deliveries a =
     map (λ k. world.Deliver a.h.t.m.reader.peer k) (numbers_from (length a.h.beat.mid.sent + 1) (length (answers a)))
 
 -- the events after the ACKNACK are those
-all_answers : {hearing : Hearing} → (a : Ask hearing) → answers_at a.h.t.m.reader.peer (length a.h.beat.mid.sent) (length a.ask.mid.sent)
+all_answers : {hearing : Hearing} → (a : Ask hearing) → answers_at a.h.t.m.reader.peer (length a.h.beat.mid.sent)
+    (length a.ask.mid.sent)
     ≡ deliveries a
 unfolding asks
 all_answers a =
@@ -518,7 +536,8 @@ all_answers a =
     omega (arith, most, size, parts) in
     ap (λ (n : ℕ). map (λ k. world.Deliver c.m.reader.peer k) (numbers_from (length a.h.beat.mid.sent + 1) n)) count
 
-answered : {hearing : Hearing} → (a : Ask hearing) (later : List WorldEvent) (rest : List RoundReply) (new : WorldKept hearing) → are_whole rest ≡ true
+answered : {hearing : Hearing} → (a : Ask hearing) (later : List WorldEvent) (rest : List RoundReply)
+    (new : WorldKept hearing) → are_whole rest ≡ true
     → Answering a.h.t.tests a.h.t.m (length a.h.beat.mid.sent) a.ask.mid later rest new
     → Ends a.h.t (world.Tick a.h.t.m.writer.peer a.h.t.m.moment ∷ world.Deliver a.h.t.m.reader.peer a.h.beat.k
     ∷ world.Deliver a.h.t.m.writer.peer a.ask.k ∷ later) (a.h.t.ticked ∷ a.h.beat.reply ∷ a.ask.reply ∷ rest) new
@@ -567,7 +586,8 @@ answered {hearing} a later rest new whole next = (
 -- ---- the stages
 
 -- a round whose HEARTBEAT was heard ends so
-after_hearing : {hearing : Hearing} → (h : Hear hearing) (events : List WorldEvent) (replies : List RoundReply) (new : WorldKept hearing)
+after_hearing : {hearing : Hearing} → (h : Hear hearing) (events : List WorldEvent) (replies : List RoundReply)
+    (new : WorldKept hearing)
     → are_whole replies ≡ true → new.unsent ≤ h.t.old.unsent → h.t.old.unsent ≤ h.beat.mid.unsent
     → Acknowledging h.t.tests h.t.m (length h.t.mid.sent) h.beat.mid events replies new
     → Ends h.t (world.Tick h.t.m.writer.peer h.t.m.moment ∷ world.Deliver h.t.m.reader.peer h.beat.k ∷ events)
@@ -580,7 +600,8 @@ after_hearing h events replies new whole same more next =
     (λ ask later rest all above a. answered (record { h = h; ask = ask }) later rest new all a) next whole
 
 -- a round after such a tick ends so
-after_ticking : {hearing : Hearing} → (t : Tick hearing) (events : List WorldEvent) (replies : List RoundReply) (new : WorldKept hearing)
+after_ticking : {hearing : Hearing} → (t : Tick hearing) (events : List WorldEvent) (replies : List RoundReply)
+    (new : WorldKept hearing)
     → are_whole replies ≡ true → new.unsent ≤ t.old.unsent → t.old.unsent ≤ t.mid.unsent
     → Beating t.tests t.m (length t.old.sent) t.mid events replies new
     → Ends t (world.Tick t.m.writer.peer t.m.moment ∷ events) (t.ticked ∷ replies) new
@@ -594,7 +615,8 @@ after_ticking t events replies new whole same more next =
 
 -- ---- the round
 
-ends : {hearing : Hearing} → {tests : AllTests} → (old : WorldKept hearing) (m : Matched) (ticked : RoundReply) (mid : WorldKept hearing)
+ends : {hearing : Hearing} → {tests : AllTests} → (old : WorldKept hearing) (m : Matched) (ticked : RoundReply)
+    (mid : WorldKept hearing)
     (events : List WorldEvent) (replies : List RoundReply) (new : WorldKept hearing) → IsKnown old m
     → IsStep tests old (world.Tick m.writer.peer m.moment) ticked mid
     → Beating tests m (length old.sent) mid events replies new
@@ -659,7 +681,8 @@ still_there : (o : Option ℕ) (from : ℕ) → IsAtMost from o → o ≡ Some (
 still_there (Some to) from h = refl
 still_there None from h = absurd h
 
-rounds_of : {hearing : Hearing} → {tests : AllTests} → (old : WorldKept hearing) (m : Matched) (ticked : RoundReply) (mid : WorldKept hearing)
+rounds_of : {hearing : Hearing} → {tests : AllTests} → (old : WorldKept hearing) (m : Matched) (ticked : RoundReply)
+    (mid : WorldKept hearing)
     (events : List WorldEvent) (replies : List RoundReply) (new : WorldKept hearing)
     (from : ℕ) (to : Option ℕ) → IsKnown old m → IsStep tests old (world.Tick m.writer.peer m.moment) ticked mid
     → Beating tests m (length old.sent) mid events replies new

@@ -45,7 +45,8 @@ pub record CoreAt (config : Config) (network : WorldState) (n : ℕ) : Type 0 wh
   pub stands : CoreStandsFor core config (peer_at network n)
   pub known : IsSound config (peer_at network n)
 
-pub core_at : {hearing : Hearing} → (kept : WorldKept hearing) (config : Config) (network : WorldState) (n : ℕ) → StandsFor kept config network
+pub core_at : {hearing : Hearing} → (kept : WorldKept hearing) (config : Config) (network : WorldState) (n : ℕ)
+    → StandsFor kept config network
     → HasNumber network.peers n → CoreAt config network n
 core_at kept config network zero s has = let low = has.0 in absurd (omega (arith, low))
 core_at kept config network (suc i) s has =
@@ -70,7 +71,8 @@ pub record PlaceKnown (network : WorldState) (writer reader : Endpoint) (place :
   pub here : HasNumber (peer_at network reader.peer).part.dds.readers reader.number
   pub known : (tracked_at network writer reader).place ≡ place
 
-pub place_known : {hearing : Hearing} → (kept : WorldKept hearing) (config : Config) (network : WorldState) (writer reader : Endpoint) (place : ℕ)
+pub place_known : {hearing : Hearing} → (kept : WorldKept hearing) (config : Config) (network : WorldState)
+    (writer reader : Endpoint) (place : ℕ)
     → StandsFor kept config network
     → place_at (machine_of network) reader writer ≡ Some place → PlaceKnown network writer reader place
 place_known kept config network writer reader place s at =
@@ -103,7 +105,8 @@ few_changes core config peer (suc i) s has =
 
 -- ---- one step
 
-pub went : {hearing : Hearing} → {tests : AllTests} → (config : Config) (network : WorldState) (old : WorldKept hearing) (ev : WorldEvent)
+pub went : {hearing : Hearing} → {tests : AllTests} → (config : Config) (network : WorldState)
+    (old : WorldKept hearing) (ev : WorldEvent)
     (reply : RoundReply) (new : WorldKept hearing) → IsStep tests old ev reply new → StandsFor old config network
     → Went tests config network old ev reply.reply new
 went config network old ev reply new step s = went_by config network old ev reply.reply new step.rules s
@@ -172,7 +175,8 @@ both_are true b h = (refl, h)
 both_are false b h = absurd cc
 
 -- a run by the rules, and what is so after it
-pub record Ran {hearing : Hearing} (tests : AllTests) (config : Config) (network : WorldState) (old : WorldKept hearing) (events : List WorldEvent)
+pub record Ran {hearing : Hearing} (tests : AllTests) (config : Config) (network : WorldState)
+    (old : WorldKept hearing) (events : List WorldEvent)
     (replies : List RoundReply) (new : WorldKept hearing) (Then : WorldState → Type 0) : Type 0 where
   pub after : WorldState
   pub run : RuledRun config tests network old.unsent events (replies_of replies) after new.unsent
@@ -180,7 +184,8 @@ pub record Ran {hearing : Hearing} (tests : AllTests) (config : Config) (network
   pub then : Then after
 
 -- a run of no step
-ran_none : {hearing : Hearing} → {tests : AllTests} → (config : Config) (network : WorldState) (old new : WorldKept hearing)
+ran_none : {hearing : Hearing} → {tests : AllTests} → (config : Config) (network : WorldState)
+    (old new : WorldKept hearing)
     {Then : WorldState → Type 0} → new ≡ old → StandsFor old config network → Then network
     → Ran tests config network old [] [] new Then
 ran_none {hearing} config network old new same s so = record {
@@ -190,7 +195,8 @@ ran_none {hearing} config network old new same s so = record {
   then = so;
 }
 
-pub ran : {hearing : Hearing} → {tests : AllTests} → (config : Config) (network : WorldState) (old : WorldKept hearing) (events : List WorldEvent)
+pub ran : {hearing : Hearing} → {tests : AllTests} → (config : Config) (network : WorldState)
+    (old : WorldKept hearing) (events : List WorldEvent)
     (replies : List RoundReply) (new : WorldKept hearing) → AreSteps tests old events replies new → StandsFor old config network
     → Ran tests config network old events replies new (λ x. Unit {0})
 ran config network old [] [] new same s = ran_none config network old new same s tt
@@ -219,7 +225,8 @@ unsent_on tests config network old [] (r ∷ rs) new h s = absurd h
 unsent_on tests config network old (e ∷ es) [] new h s = absurd h
 
 -- memory was found for this step, and for those after it, and after it as many are counted as unsent as these
-pub record FirstWhole {hearing : Hearing} (unsent : ℕ) (reply : RoundReply) (mid : WorldKept hearing) (replies : List RoundReply) : Type 0 where
+pub record FirstWhole {hearing : Hearing} (unsent : ℕ) (reply : RoundReply) (mid : WorldKept hearing)
+    (replies : List RoundReply) : Type 0 where
   pub whole : is_whole reply.reply ≡ true
   pub rest : are_whole replies ≡ true
   pub same : mid.unsent ≤ unsent

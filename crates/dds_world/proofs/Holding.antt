@@ -485,7 +485,8 @@ outside {F} {L} notices capacity becomes given old peer count number is none sam
     (is ∙ sym (length-map old.cores (λ (c : CoreKept F L). c.filtered.peer))) none)
 
 -- what is refused, and what finds no memory
-pub no_peer_in : {F L : Type 0} (meaning : F → Key → List ℕ → Bool) (notices : L → List Notice) (capacity : L → ℕ) (becomes : L → Notice → L → Type 0)
+pub no_peer_in : {F L : Type 0} (meaning : F → Key → List ℕ → Bool) (notices : L → List Notice) (capacity : L → ℕ)
+    (becomes : L → Notice → L → Type 0)
     (old : Held F L) (peer count : ℕ) (ev : Event) (whole : WorldEvent) → count ≡ length old.cores
     → (nat_lt 0 peer && nat_le peer count) ≡ false
     → IsOfPeer whole peer ev → StepsIn meaning notices capacity becomes old whole (Refused BadParameter) old
@@ -507,7 +508,8 @@ no_peer_in meaning notices capacity becomes old peer count ev (world.Tick number
     }
 no_peer_in meaning notices capacity becomes old peer count ev (world.Deliver number packet) is none of = absurd of
 
-pub no_delivery_in : {F L : Type 0} (meaning : F → Key → List ℕ → Bool) (notices : L → List Notice) (capacity : L → ℕ) (becomes : L → Notice → L → Type 0)
+pub no_delivery_in : {F L : Type 0} (meaning : F → Key → List ℕ → Bool) (notices : L → List Notice) (capacity : L → ℕ)
+    (becomes : L → Notice → L → Type 0)
     (old : Held F L) (peer count number : ℕ) → count ≡ length old.cores → (nat_lt 0 peer && nat_le peer count) ≡ false
     → StepsIn meaning notices capacity becomes old (world.Deliver peer number) (Refused BadParameter) old
 no_delivery_in meaning notices capacity becomes old peer count number is none =
@@ -519,7 +521,8 @@ no_delivery_in meaning notices capacity becomes old peer count number is none =
           (kept_of notices capacity becomes given old) peer number (Refused BadParameter);
     }
 
-pub no_packet_in : {F L : Type 0} (meaning : F → Key → List ℕ → Bool) (notices : L → List Notice) (capacity : L → ℕ) (becomes : L → Notice → L → Type 0)
+pub no_packet_in : {F L : Type 0} (meaning : F → Key → List ℕ → Bool) (notices : L → List Notice) (capacity : L → ℕ)
+    (becomes : L → Notice → L → Type 0)
     (old : Held F L) (peer count number : ℕ) → count ≡ length old.sent
     → (nat_lt 0 number && nat_le number count) ≡ false
     → StepsIn meaning notices capacity becomes old (world.Deliver peer number) (Refused BadParameter) old
@@ -531,7 +534,8 @@ no_packet_in meaning notices capacity becomes old peer count number is none =
       sends = λ given. quiet_delivery_sends (kept_of notices capacity becomes given old) peer number (Refused BadParameter);
     }
 
-pub not_delivered_in : {F L : Type 0} (meaning : F → Key → List ℕ → Bool) (notices : L → List Notice) (capacity : L → ℕ) (becomes : L → Notice → L → Type 0)
+pub not_delivered_in : {F L : Type 0} (meaning : F → Key → List ℕ → Bool) (notices : L → List Notice)
+    (capacity : L → ℕ) (becomes : L → Notice → L → Type 0)
     (old : Held F L) (i j : ℕ) → i < length old.cores → j < length old.sent
     → StepsIn meaning notices capacity becomes old (world.Deliver (i + 1) (j + 1))
     (Reported (record { moves = []; refused = Some 0 })) old

@@ -42,7 +42,8 @@ posted_count (p ∷ ps) posted lost (inr g) =
     let fewer = g.1 in let later = posted_count ps posted g.0 g.2 in omega (arith, fewer, later)
 
 -- of what is lost on the way all is counted
-pub lost_is : {hearing : Hearing} → (kept new : WorldKept hearing) (output : Output) (posts : Posts kept.sent output.packets new.sent)
+pub lost_is : {hearing : Hearing} → (kept new : WorldKept hearing) (output : Output)
+    (posts : Posts kept.sent output.packets new.sent)
     (counts : Counts kept output new) → new.unsent ≡ min (kept.unsent + (output.unsent + posts.lost)) (2 ^ 64 - 1)
 lost_is kept new output posts counts =
     let count = ap (λ (ps : List Packet). length ps) posts.sent in

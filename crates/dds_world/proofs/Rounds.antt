@@ -61,7 +61,8 @@ record GoesOn {hearing : Hearing} (config : Config) (old new : WorldKept hearing
   stands : StandsFor new config after
   grows : Grows old.sent new.sent
 
-step_on : {hearing : Hearing} → (tests : AllTests) → (config : Config) (network : WorldState) (old : WorldKept hearing) (ev : WorldEvent)
+step_on : {hearing : Hearing} → (tests : AllTests) → (config : Config) (network : WorldState)
+    (old : WorldKept hearing) (ev : WorldEvent)
     (reply : Reply) (new : WorldKept hearing) → KeepsRules tests old ev reply new → StandsFor old config network
     → GoesOn config old new
 step_on tests config network old ev reply new steps s =
@@ -73,7 +74,8 @@ step_on tests config network old ev reply new steps s =
       grows = (g.0, sym t.2.sent ∙ (g.1 ∙ ap (λ (ps : List Packet). ps ++ g.0) s.sent));
     }
 
-steps_on : {hearing : Hearing} → (tests : AllTests) → (config : Config) (network : WorldState) (old : WorldKept hearing) (events : List WorldEvent)
+steps_on : {hearing : Hearing} → (tests : AllTests) → (config : Config) (network : WorldState)
+    (old : WorldKept hearing) (events : List WorldEvent)
     (replies : List RoundReply) (new : WorldKept hearing) → AreSteps tests old events replies new → StandsFor old config network
     → GoesOn config old new
 steps_on {hearing} tests config network old [] [] new same s = record {
@@ -138,7 +140,8 @@ steps_more old [] (r ∷ rs) mid ev reply new h step = absurd h
 steps_more old (e ∷ es) [] mid ev reply new h step = absurd h
 
 -- what is said of these events, replies and states is said of those that they are
-said_of : {hearing : Hearing} → (P : List WorldEvent → List RoundReply → WorldKept hearing → Type 0) (events later : List WorldEvent)
+said_of : {hearing : Hearing} → (P : List WorldEvent → List RoundReply → WorldKept hearing → Type 0)
+    (events later : List WorldEvent)
     (replies rest : List RoundReply) (new last : WorldKept hearing)
     → events ≡ later → replies ≡ rest → new ≡ last → P later rest last → P events replies new
 said_of {hearing} P events later replies rest new last e r n h =
@@ -161,7 +164,8 @@ stage_is Is from peer Next old events replies new P none goes h =
     (goes f.0 f.1 f.2 f.3 f.4 f.5 f.6 f.9)) h
 
 -- what goes on so goes by steps
-abbrev pub BySteps : {hearing : Hearing} → AllTests → (WorldKept hearing → List WorldEvent → List RoundReply → WorldKept hearing → Type 0) → WorldKept hearing
+abbrev pub BySteps : {hearing : Hearing} → AllTests
+    → (WorldKept hearing → List WorldEvent → List RoundReply → WorldKept hearing → Type 0) → WorldKept hearing
     → Type 0
 BySteps {hearing} tests Next new =
     (mid : WorldKept hearing) (events : List WorldEvent) (replies : List RoundReply) → Next mid events replies new
@@ -273,7 +277,8 @@ after_heartbeat {tests} config network known m from old events replies new k s h
     (refl, first, subst (λ (n : ℕ). later ≡ answers_at m.reader.peer (length old.sent) n) (sym sent) a.0)) h
 
 -- the stage after the tick is that of a round
-after_tick : {hearing : Hearing} → {tests : AllTests} → (config : Config) (network known : WorldState) (m : Matched) (from : ℕ)
+after_tick : {hearing : Hearing} → {tests : AllTests} → (config : Config) (network known : WorldState) (m : Matched)
+    (from : ℕ)
     (old : WorldKept hearing) (events : List WorldEvent) (replies : List RoundReply) (new : WorldKept hearing) → Knows config known m
     → StandsFor old config network
     → Beating tests m from old events replies new
@@ -318,7 +323,8 @@ record IsPeerAt (config : Config) (network : WorldState) (kept : PeerKept) (numb
   numbered : peer.number ≡ number
   part : part_at (machine_of network) number ≡ peer.part
 
-peer_is : {hearing : Hearing} → (kept : WorldKept hearing) (i number : ℕ) (core : PeerKept) (config : Config) (network : WorldState)
+peer_is : {hearing : Hearing} → (kept : WorldKept hearing) (i number : ℕ) (core : PeerKept) (config : Config)
+    (network : WorldState)
     → StandsFor kept config network → number ≡ i + 1 → slice_get kept.peers i ≡ Some core
     → IsPeerAt config network core number
 peer_is kept i number core config network s is at =
@@ -331,7 +337,8 @@ peer_is kept i number core config network s is at =
     } in
     subst (λ (n : ℕ). IsPeerAt config network core n) next here
 
-pub no_pair_matched : {hearing : Hearing} → (kept : WorldKept hearing) (i : ℕ) (core : PeerKept) (writer reader : Endpoint) → writer.peer ≡ i + 1
+pub no_pair_matched : {hearing : Hearing} → (kept : WorldKept hearing) (i : ℕ) (core : PeerKept)
+    (writer reader : Endpoint) → writer.peer ≡ i + 1
     → slice_get kept.peers i ≡ Some core
     → ((config : Config) (peer : Peer) → CoreStandsFor core config peer → IsPair config peer writer.number reader None)
     → NotMatched kept writer reader
@@ -340,7 +347,8 @@ no_pair_matched kept i core writer reader is at none = λ config network s.
     subst (λ (part : Part). acknowledged_of (own_writer part writer.number).readers reader ≡ None) (sym p.part)
     (none config p.peer p.stands)
 
-pub pair_matched : {hearing : Hearing} → (kept : WorldKept hearing) (i : ℕ) (core : PeerKept) (writer reader : Endpoint) (pair : Pair) (now : ℕ)
+pub pair_matched : {hearing : Hearing} → (kept : WorldKept hearing) (i : ℕ) (core : PeerKept)
+    (writer reader : Endpoint) (pair : Pair) (now : ℕ)
     → writer.peer ≡ i + 1 → slice_get kept.peers i ≡ Some core
     → ((config : Config) (peer : Peer) → CoreStandsFor core config peer
     → IsPair config peer writer.number reader (Some pair))
@@ -368,7 +376,8 @@ IsPlace kept reader writer place =
     (config : Config) (network : WorldState) → StandsFor kept config network
     → place ≡ place_at (machine_of network) reader writer
 
-pub place_kept : {hearing : Hearing} → (kept : WorldKept hearing) (i : ℕ) (core : PeerKept) (reader writer : Endpoint) (place : Option ℕ)
+pub place_kept : {hearing : Hearing} → (kept : WorldKept hearing) (i : ℕ) (core : PeerKept) (reader writer : Endpoint)
+    (place : Option ℕ)
     → reader.peer ≡ i + 1
     → slice_get kept.peers i ≡ Some core
     → ((config : Config) (peer : Peer) → CoreStandsFor core config peer
@@ -384,12 +393,14 @@ no_cause : (o : Option ℕ) → IsSome o → (if is_some o then None else Some B
 no_cause None h = cc
 no_cause (Some x) h = refl
 
-pub are_matched : {hearing : Hearing} → (kept : WorldKept hearing) (m : Matched) → IsKnown kept m → AreMatched kept m.writer m.reader
+pub are_matched : {hearing : Hearing} → (kept : WorldKept hearing) (m : Matched) → IsKnown kept m
+    → AreMatched kept m.writer m.reader
 are_matched kept m known config network s =
     no_cause (acknowledged_of (writer_at (machine_of network) m.writer).readers m.reader)
     (known config network s).matched
 
-pub not_matched : {hearing : Hearing} → (kept : WorldKept hearing) (writer reader : Endpoint) → NotMatched kept writer reader
+pub not_matched : {hearing : Hearing} → (kept : WorldKept hearing) (writer reader : Endpoint)
+    → NotMatched kept writer reader
     → RefusesRound kept writer reader BadParameter
 not_matched kept writer reader none config network s =
     subst (λ (o : Option ℕ). Refuses (if is_some o then None else Some BadParameter) BadParameter)
@@ -401,7 +412,8 @@ nothing_less (Some x) None h is = absurd h
 nothing_less (Some x) (Some y) h is = cc
 
 -- so it is of each machine for which the network stands
-pub place_in : {hearing : Hearing} → (kept : WorldKept hearing) (reader writer : Endpoint) (place : Option ℕ) → IsPlace kept reader writer place
+pub place_in : {hearing : Hearing} → (kept : WorldKept hearing) (reader writer : Endpoint) (place : Option ℕ)
+    → IsPlace kept reader writer place
     → (config : Config) (m : Machine) → MachineStands kept config m → place ≡ place_at m reader writer
 place_in kept reader writer place is config m stands =
     is config stands.0 stands.2 ∙ ap (λ (x : Machine). place_at x reader writer) stands.1
@@ -413,7 +425,8 @@ pub place_of_machine : {hearing : Hearing} → (kept : WorldKept hearing) (reade
 place_of_machine kept reader writer place is config network s = is config (machine_of network) (network, refl, s)
 
 -- without a place they are not matched
-pub not_placed : {hearing : Hearing} → (kept : WorldKept hearing) (writer reader : Endpoint) → IsPlace kept reader writer None
+pub not_placed : {hearing : Hearing} → (kept : WorldKept hearing) (writer reader : Endpoint)
+    → IsPlace kept reader writer None
     → NotMatched kept writer reader
 not_placed kept writer reader none config network s =
     nothing_less (acknowledged_of (writer_at (machine_of network) writer).readers reader)
@@ -480,6 +493,7 @@ lacks_memory kept m writer reader is_writer is_reader known config network s =
     subst (λ (o : Option Code). Refuses o Memory) (sym matched) refl
 
 -- what holds of want of memory holds of each refusal that is one
-pub if_memory : {X : Type 0} (P : Code → Type 0) (r : Result X Code) → IsErrAnd r (λ e. e ≡ Memory) → P Memory → IfErr r P
+pub if_memory : {X : Type 0} (P : Code → Type 0) (r : Result X Code) → IsErrAnd r (λ e. e ≡ Memory) → P Memory
+    → IfErr r P
 if_memory P (Ok x) h p = tt
 if_memory P (Err e) h p = subst P (sym h) p

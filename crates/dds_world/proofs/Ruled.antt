@@ -35,7 +35,8 @@ use Rattle.dds_world.proofs.WorldSteps.{SendsItsDues, acts_ruled, calls_at, come
 use Rattle.dds_machine.specs.Machine.{AllTests, Machine, Step}
 
 -- what was sent is that of the state
-pub sent_is : {hearing : Hearing} → (kept : WorldKept hearing) (config : Config) (network : WorldState) (s : StandsFor kept config network)
+pub sent_is : {hearing : Hearing} → (kept : WorldKept hearing) (config : Config) (network : WorldState)
+    (s : StandsFor kept config network)
     → traffic_of network kept.unsent ≡ traffic kept
 sent_is kept config network s =
     ap (λ (ps : List Packet). let t : Traffic = record { sent = ps; unsent = kept.unsent } in t) s.sent
@@ -62,7 +63,8 @@ rules_at {tests} old new ev reply steps announces config network s =
     (t.0, counted, t.5)
 
 -- it is a step of the machine that the peers are the parts of
-pub machine_steps : {hearing : Hearing} → {tests : AllTests} (old new : WorldKept hearing) (ev : WorldEvent) (reply : Reply)
+pub machine_steps : {hearing : Hearing} → {tests : AllTests} (old new : WorldKept hearing) (ev : WorldEvent)
+    (reply : Reply)
     → RuledSteps tests old ev reply new → Steps MachineStands tests (length old.sent) old ev reply new
 machine_steps {tests} old new ev reply steps config m stands =
     let network = stands.0 in
@@ -87,7 +89,8 @@ effect_due config peer (writes w LookedAt) output none = (none.packets, none.uns
 effect_due config peer (writes w (Ticked now behind)) output none = (none.packets, none.unsent)
 effect_due config peer nothing output none = (none.packets, none.unsent)
 
-call_dues : {hearing : Hearing} → {tests : AllTests} → (kept new : WorldKept hearing) (i : ℕ) (call : Call) (reply : Reply)
+call_dues : {hearing : Hearing} → {tests : AllTests} → (kept new : WorldKept hearing) (i : ℕ) (call : Call)
+    (reply : Reply)
     (a : Acts tests kept i (event.Call call) reply new)
     → SendsItsDues tests kept i (event.Call call) (world.Call (suc i) call) reply new a
 call_dues kept new i call reply a config network next s rules =
@@ -107,7 +110,8 @@ call_dues kept new i call reply a config network next s rules =
           (numbered_so kept config network i a.acts.core s a.acts.at) replied,
     )
 
-pub called : {hearing : Hearing} → {tests : AllTests} → (kept new : WorldKept hearing) (i peer : ℕ) (call : Call) (reply : Reply) → peer ≡ i + 1
+pub called : {hearing : Hearing} → {tests : AllTests} → (kept new : WorldKept hearing) (i peer : ℕ) (call : Call)
+    (reply : Reply) → peer ≡ i + 1
     → Acts tests kept i (event.Call call) reply new → RuledSteps tests kept (world.Call peer call) reply new
 called {tests} kept new i peer call reply is a =
     subst (λ (n : ℕ). RuledSteps tests kept (world.Call n call) reply new) (number_is peer i is)
@@ -151,7 +155,8 @@ tick_dues kept new i now reply a config network next s rules =
           (numbered_so kept config network i a.acts.core s a.acts.at) replied,
     )
 
-pub ticked : {hearing : Hearing} → {tests : AllTests} → (kept new : WorldKept hearing) (i peer now : ℕ) (reply : Reply) → peer ≡ i + 1
+pub ticked : {hearing : Hearing} → {tests : AllTests} → (kept new : WorldKept hearing) (i peer now : ℕ)
+    (reply : Reply) → peer ≡ i + 1
     → Acts tests kept i (event.Tick now) reply new → RuledSteps tests kept (world.Tick peer now) reply new
 ticked {tests} kept new i peer now reply is a =
     subst (λ (n : ℕ). RuledSteps tests kept (world.Tick n now) reply new) (number_is peer i is)
@@ -168,7 +173,8 @@ reported_due : (config : Config) (network next : WorldState) (peer number : ℕ)
 reported_due config network next peer number packet reply report dues is at takes =
     subst (λ (r : Reply). AreDue config network (world.Deliver peer number) r next dues) (sym is) (packet, at, takes)
 
-delivery_dues : {hearing : Hearing} → {tests : AllTests} → (kept new : WorldKept hearing) (i j : ℕ) (packet : Packet) (reply : Reply)
+delivery_dues : {hearing : Hearing} → {tests : AllTests} → (kept new : WorldKept hearing) (i j : ℕ) (packet : Packet)
+    (reply : Reply)
     → slice_get kept.sent j ≡ Some packet → (a : Acts tests kept i (event.Deliver packet.bytes) reply new)
     → SendsItsDues tests kept i (event.Deliver packet.bytes) (world.Deliver (suc i) (j + 1)) reply new a
 delivery_dues kept new i j packet reply at a config network next s rules =
@@ -186,7 +192,8 @@ delivery_dues kept new i j packet reply at a config network next s rules =
     )
 
 -- a packet that was sent is taken up by the rules
-taken_up : {hearing : Hearing} → {tests : AllTests} → (kept new : WorldKept hearing) (i j : ℕ) (packet : Packet) (reply : Reply)
+taken_up : {hearing : Hearing} → {tests : AllTests} → (kept new : WorldKept hearing) (i j : ℕ) (packet : Packet)
+    (reply : Reply)
     → slice_get kept.sent j ≡ Some packet → Acts tests kept i (event.Deliver packet.bytes) reply new
     → RuledSteps tests kept (world.Deliver (suc i) (j + 1)) reply new
 taken_up {tests} kept new i j packet reply at a =
@@ -195,7 +202,8 @@ taken_up {tests} kept new i j packet reply at a =
     (found_at kept.sent j packet at)) a
     (delivery_dues kept new i j packet reply at a)
 
-pub delivered : {hearing : Hearing} → {tests : AllTests} → (kept new : WorldKept hearing) (i j : ℕ) (bytes : List ℕ) (reply : Reply)
+pub delivered : {hearing : Hearing} → {tests : AllTests} → (kept new : WorldKept hearing) (i j : ℕ) (bytes : List ℕ)
+    (reply : Reply)
     → IsCopy kept.sent j bytes → Acts tests kept i (event.Deliver bytes) reply new
     → RuledSteps tests kept (world.Deliver (i + 1) (j + 1)) reply new
 delivered {tests} kept new i j bytes reply copy a =
@@ -207,7 +215,8 @@ delivered {tests} kept new i j bytes reply copy a =
     (taken_up kept new i j packet reply copy.at own)
 
 -- a packet that finds no memory
-pub not_delivered : {hearing : Hearing} → {tests : AllTests} → (kept : WorldKept hearing) (i j : ℕ) → i < length kept.peers → j < length kept.sent
+pub not_delivered : {hearing : Hearing} → {tests : AllTests} → (kept : WorldKept hearing) (i j : ℕ)
+    → i < length kept.peers → j < length kept.sent
     → RuledSteps tests kept (world.Deliver (i + 1) (j + 1)) (Reported (record { moves = []; refused = Some 0 })) kept
 not_delivered {hearing} {tests} kept i j low high config network s =
     let few = s.few in

@@ -34,14 +34,16 @@ run_more config tests a b c k m n [] (r ∷ rs) ev reply run step = absurd run
 run_more config tests a b c k m n (e ∷ es) [] ev reply run step = absurd run
 
 -- a step by the rules, of a network that stands for this state
-pub record Went {hearing : Hearing} (tests : AllTests) (config : Config) (network : WorldState) (old : WorldKept hearing) (ev : WorldEvent)
+pub record Went {hearing : Hearing} (tests : AllTests) (config : Config) (network : WorldState)
+    (old : WorldKept hearing) (ev : WorldEvent)
     (reply : Reply) (new : WorldKept hearing) : Type 0 where
   pub after : WorldState
   pub step : CountedStep config tests network old.unsent ev reply after new.unsent
   pub stands : StandsFor new config (world_ended network ev after)
 
 -- the network at its end
-abbrev pub ended : {hearing : Hearing} → {tests : AllTests} {config : Config} {network : WorldState} {old : WorldKept hearing} {ev : WorldEvent}
+abbrev pub ended : {hearing : Hearing}
+    → {tests : AllTests} {config : Config} {network : WorldState} {old : WorldKept hearing} {ev : WorldEvent}
     {reply : Reply} {new : WorldKept hearing}
     → Went tests config network old ev reply new → WorldState
 ended {network = network} {ev = ev} w = world_ended network ev w.after
@@ -54,7 +56,8 @@ went_by config network old ev reply new rules s =
     let t = rules config network s in
     record { after = t.0; step = t.1; stands = t.2 }
 
-pub runs_none : {hearing : Hearing} → {tests : AllTests} → (kept : WorldKept hearing) → RunsByRules tests kept [] [] kept
+pub runs_none : {hearing : Hearing} → {tests : AllTests} → (kept : WorldKept hearing)
+    → RunsByRules tests kept [] [] kept
 runs_none kept = record { run = λ config network s. (network, (refl, refl), s) }
 
 pub runs_more : {hearing : Hearing} → {tests : AllTests}
@@ -83,7 +86,8 @@ run_as tests sent last before after m begun end events replies first then is run
     (subst (λ (x : Machine). Run tests sent x events replies last end) is run))
 
 -- a run by the rules is one of the machine that the peers are the parts of
-pub machine_run : {hearing : Hearing} → (tests : AllTests) (old new : WorldKept hearing) (events : List WorldEvent) (replies : List Reply)
+pub machine_run : {hearing : Hearing} → (tests : AllTests) (old new : WorldKept hearing) (events : List WorldEvent)
+    (replies : List Reply)
     (config : Config) (m : Machine) (network after : WorldState) → machine_of network ≡ m
     → StandsFor old config network → StandsFor new config after
     → RuledRun config tests network old.unsent events replies after new.unsent
@@ -94,7 +98,8 @@ machine_run tests old new events replies config m network after is s t run =
     (ap (λ (ps : List Packet). length ps) t.sent) is
     (machine_runs config tests network after old.unsent new.unsent events replies run)
 
-pub runs_of_machine : {hearing : Hearing} → {tests : AllTests} → (old new : WorldKept hearing) (events : List WorldEvent) (replies : List Reply)
+pub runs_of_machine : {hearing : Hearing} → {tests : AllTests} → (old new : WorldKept hearing)
+    (events : List WorldEvent) (replies : List Reply)
     → RunsByRules tests old events replies new
     → Runs MachineStands tests (length old.sent) old events replies (length new.sent) new
 runs_of_machine {tests} old new events replies runs config m stands =
@@ -105,7 +110,8 @@ runs_of_machine {tests} old new events replies runs config m stands =
     )
 
 -- the replies of a round are a run of the machine, of which the answer tells the reader's places
-pub round_runs : {hearing : Hearing} → (tests : AllTests) (old new : WorldKept hearing) (writer reader : Endpoint) (answer : Round)
+pub round_runs : {hearing : Hearing} → (tests : AllTests) (old new : WorldKept hearing) (writer reader : Endpoint)
+    (answer : Round)
     → Rounds tests old writer reader answer new
     → RoundRuns MachineStands tests (length old.sent) old writer reader answer (length new.sent) new
 round_runs tests old new writer reader answer rounds = record {

@@ -30,7 +30,8 @@ use Rattle.dds_world.specs.Acting.{Acts, Counts, IsQuiet}
 use Rattle.dds_world.proofs.Posted.{lost_in_all, lost_is, posted_count, posted_on}
 
 -- a change that a peer announces is announced in the network
-announced : {hearing : Hearing} → (kept new : WorldKept hearing) (config : Config) (writer : Endpoint) (readers : List ReaderProxy) (number : ℕ)
+announced : {hearing : Hearing} → (kept new : WorldKept hearing) (config : Config) (writer : Endpoint)
+    (readers : List ReaderProxy) (number : ℕ)
     (change : Change) (output : Output) → Posts kept.sent output.packets new.sent → Counts kept output new
     → SendsChange config writer readers number change output
     → Announced config (traffic kept) writer readers number change (traffic new)
@@ -53,7 +54,8 @@ announced kept new config writer readers number change output posts counts one =
     }
 
 -- what a peer sends of its dues is sent in the network
-pub dues_sent : {hearing : Hearing} → (kept new : WorldKept hearing) (dues : List Due) (output : Output) → Posts kept.sent output.packets new.sent
+pub dues_sent : {hearing : Hearing} → (kept new : WorldKept hearing) (dues : List Due) (output : Output)
+    → Posts kept.sent output.packets new.sent
     → Counts kept output new → AreSent dues output.packets output.unsent → SendsDues dues (traffic kept) (traffic new)
 dues_sent kept new dues output posts counts are = record {
   packets = posts.posted;
@@ -67,7 +69,8 @@ traffic_as : (a b : List Packet) (m n : ℕ) → a ≡ b → m ≡ n
     → ◌≡◌ {A = Traffic} (record { sent = a; unsent = m }) (record { sent = b; unsent = n })
 traffic_as a b m n e f = cc
 
-same_traffic : {hearing : Hearing} → (kept new : WorldKept hearing) (output : Output) → IsQuiet kept output new → SendsNothing output
+same_traffic : {hearing : Hearing} → (kept new : WorldKept hearing) (output : Output) → IsQuiet kept output new
+    → SendsNothing output
     → traffic new ≡ traffic kept
 same_traffic kept new output quiet none =
     let q = quiet none in traffic_as new.sent kept.sent new.unsent kept.unsent q.0 q.1
@@ -81,7 +84,8 @@ SendsAt config old peer part (writes writer (Asserted moment)) new =
     SendsDues (assertions_due config (record { peer = peer; number = writer }) (own_writer part writer)) old new
 SendsAt config old peer part other new = new ≡ old
 
-effect_sends : {hearing : Hearing} → (kept new : WorldKept hearing) (config : Config) (peer : Peer) (effect : Effect) (output : Output)
+effect_sends : {hearing : Hearing} → (kept new : WorldKept hearing) (config : Config) (peer : Peer) (effect : Effect)
+    (output : Output)
     → Posts kept.sent output.packets new.sent → Counts kept output new → IsQuiet kept output new
     → SendsFor config peer effect output → SendsAt config (traffic kept) peer.number peer.part effect (traffic new)
 effect_sends kept new config peer (writes w (Changed change)) output posts counts quiet one =
@@ -110,7 +114,8 @@ machine_sends config old new network peer (writes w (Ticked now behind)) h = h
 machine_sends config old new network peer nothing h = h
 
 -- the number of the peer of this index
-pub numbered_so : {hearing : Hearing} → (kept : WorldKept hearing) (config : Config) (network : WorldState) (i : ℕ) (core : PeerKept)
+pub numbered_so : {hearing : Hearing} → (kept : WorldKept hearing) (config : Config) (network : WorldState) (i : ℕ)
+    (core : PeerKept)
     → StandsFor kept config network → slice_get kept.peers i ≡ Some core
     → (get_or network.peers i no_peer).number ≡ suc i
 numbered_so kept config network i core s at =
@@ -118,7 +123,8 @@ numbered_so kept config network i core s at =
     let low = get-within kept.peers i core at in s.sound.number (suc i) (omega arith, omega (arith, count, low))
 
 -- what is sent at a call of the peer of this index
-call_sends : {hearing : Hearing} → {tests : AllTests} → (kept new : WorldKept hearing) (i : ℕ) (c : Call) (reply : Reply)
+call_sends : {hearing : Hearing} → {tests : AllTests} → (kept new : WorldKept hearing) (i : ℕ) (c : Call)
+    (reply : Reply)
     → Acts tests kept i (event.Call c) reply new → Announces kept (world.Call (suc i) c) reply new
 call_sends kept new i c reply a config network s =
     let acts = a.acts in
@@ -143,7 +149,8 @@ call_sends kept new i c reply a config network s =
     machine_sends config old (traffic new) network (suc i)
     (effect_of (part_at (machine_of network) (suc i)) c reply) parted
 
-pub called_sends : {hearing : Hearing} → {tests : AllTests} → (kept new : WorldKept hearing) (i peer : ℕ) (c : Call) (reply : Reply) → peer ≡ i + 1
+pub called_sends : {hearing : Hearing} → {tests : AllTests} → (kept new : WorldKept hearing) (i peer : ℕ) (c : Call)
+    (reply : Reply) → peer ≡ i + 1
     → Acts tests kept i (event.Call c) reply new → Announces kept (world.Call peer c) reply new
 called_sends kept new i peer c reply is a =
     subst (λ (n : ℕ). Announces kept (world.Call n c) reply new) (number_is peer i is) (call_sends kept new i c reply a)
@@ -155,7 +162,8 @@ abbrev TicksAt : Config → Traffic → ℕ → Part → Reply → Traffic → T
 TicksAt config old peer part Done new = SendsDues (heartbeats_due config peer part) old new
 TicksAt config old peer part reply new = new ≡ old
 
-tick_sends : {hearing : Hearing} → (kept new : WorldKept hearing) (config : Config) (peer : Peer) (reply : Reply) (output : Output)
+tick_sends : {hearing : Hearing} → (kept new : WorldKept hearing) (config : Config) (peer : Peer) (reply : Reply)
+    (output : Output)
     → Posts kept.sent output.packets new.sent → Counts kept output new → IsQuiet kept output new
     → AreSent (due_at_tick config peer reply) output.packets output.unsent
     → TicksAt config (traffic kept) peer.number peer.part reply (traffic new)
@@ -188,7 +196,8 @@ ticks_sent kept new i now reply a config network s =
     (subst (λ (p : Part). TicksAt config old (suc i) p reply (traffic new)) (sym part)
     (subst (λ (n : ℕ). TicksAt config old n peer.part reply (traffic new)) number replied))
 
-pub ticked_sends : {hearing : Hearing} → {tests : AllTests} → (kept new : WorldKept hearing) (i peer now : ℕ) (reply : Reply) → peer ≡ i + 1
+pub ticked_sends : {hearing : Hearing} → {tests : AllTests} → (kept new : WorldKept hearing) (i peer now : ℕ)
+    (reply : Reply) → peer ≡ i + 1
     → Acts tests kept i (event.Tick now) reply new → Announces kept (world.Tick peer now) reply new
 ticked_sends kept new i peer now reply is a =
     subst (λ (n : ℕ). Announces kept (world.Tick n now) reply new) (number_is peer i is)
@@ -202,7 +211,8 @@ reported : (config : Config) (old new : Traffic) (network : WorldState) (peer nu
 reported config old new network peer number (Reported r) report is dues h = inl (dues, h)
 reported config old new network peer number reply report is dues h = absurd cc
 
-pub delivered_sends : {hearing : Hearing} → {tests : AllTests} → (kept new : WorldKept hearing) (i peer number : ℕ) (bytes : List ℕ) (reply : Reply)
+pub delivered_sends : {hearing : Hearing} → {tests : AllTests} → (kept new : WorldKept hearing) (i peer number : ℕ)
+    (bytes : List ℕ) (reply : Reply)
     → Acts tests kept i (event.Deliver bytes) reply new → Announces kept (world.Deliver peer number) reply new
 delivered_sends kept new i peer number bytes reply a config network s =
     let acts = a.acts in

@@ -179,7 +179,8 @@ SendsItsDues tests kept i ev whole reply new a =
     × AreSent dues a.acts.output.packets a.acts.output.unsent
 
 -- an event of the peer of this index is one of the network by the rules of the protocol
-pub acts_ruled : {hearing : Hearing} → {tests : AllTests} → (kept new : WorldKept hearing) (i : ℕ) (ev : Event) (whole : WorldEvent) (reply : Reply)
+pub acts_ruled : {hearing : Hearing} → {tests : AllTests} → (kept new : WorldKept hearing) (i : ℕ) (ev : Event)
+    (whole : WorldEvent) (reply : Reply)
     → peer_of whole ≡ suc i → IsEventOf tests kept.sent ev (suc i) whole → (a : Acts tests kept i ev reply new)
     → SendsItsDues tests kept i ev whole reply new a
     → RuledSteps tests kept whole reply new
@@ -305,7 +306,8 @@ no_such : (n count : ℕ) → (nat_lt 0 n && nat_le n count) ≡ false → (n �
 no_such zero count h = inl refl
 no_such (suc n) count h = inr (grind (arith, nat_tests, h))
 
-nobody : {hearing : Hearing} → (kept : WorldKept hearing) (config : Config) (network : WorldState) (peer : ℕ) → StandsFor kept config network
+nobody : {hearing : Hearing} → (kept : WorldKept hearing) (config : Config) (network : WorldState) (peer : ℕ)
+    → StandsFor kept config network
     → (nat_lt 0 peer && nat_le peer (length kept.peers)) ≡ false → HasNumber network.peers peer → ⊥
 nobody kept config network peer s none has =
     let count = s.count in
@@ -315,7 +317,8 @@ nobody kept config network peer s none has =
     (no_such peer (length kept.peers) none)
 
 -- what is refused changes nothing, and nothing is due
-stays : {hearing : Hearing} → {tests : AllTests} → (kept : WorldKept hearing) (config : Config) (network : WorldState) (ev : WorldEvent)
+stays : {hearing : Hearing} → {tests : AllTests} → (kept : WorldKept hearing) (config : Config) (network : WorldState)
+    (ev : WorldEvent)
     → StandsFor kept config network → WorldStep config tests network ev (Refused BadParameter) network
     → AreDue config network ev (Refused BadParameter) network []
     → (after : WorldState) × (lost : ℕ) × RuledStep config tests network ev (Refused BadParameter) lost after

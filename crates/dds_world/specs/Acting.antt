@@ -48,7 +48,8 @@ StepsAt tests core filters AreTold event output after TheyAreTold =
     × TheyAreTold (peer_at_end peer stepped).part.dds.listeners × IsSound config (peer_at_end peer stepped)
 
 -- the peer of this index has the event, and the other peers are as they were; of its packets some are sent
-pub record ActsAt {hearing : Hearing} (tests : AllTests) (old : WorldKept hearing) (index : ℕ) (event : Event) (reply : Reply)
+pub record ActsAt {hearing : Hearing} (tests : AllTests) (old : WorldKept hearing) (index : ℕ) (event : Event)
+    (reply : Reply)
     (new : WorldKept hearing) : Type 0 where
   pub core : PeerKept
   pub at : slice_get old.peers index ≡ Some core
@@ -67,7 +68,8 @@ pub record ActsAt {hearing : Hearing} (tests : AllTests) (old : WorldKept hearin
   pub posts : Posts old.sent output.packets new.sent
 
 -- so it is, and what it sends is said, and counted
-pub record Acts {hearing : Hearing} (tests : AllTests) (old : WorldKept hearing) (index : ℕ) (event : Event) (reply : Reply)
+pub record Acts {hearing : Hearing} (tests : AllTests) (old : WorldKept hearing) (index : ℕ) (event : Event)
+    (reply : Reply)
     (new : WorldKept hearing) : Type 0 where
   pub acts : ActsAt tests old index event reply new
   pub sends : CoreSends acts.core event acts.output
@@ -90,7 +92,8 @@ pub record OpensFirst {F L : Type 0} (notices : L → List Notice) (capacity : L
   pub taken : 1 ≤ count → check_refusal config.peers ≡ None
 
 -- a step of the network's peers by the rules of the protocol, and of its machine, to one state
-abbrev pub RuledSteps : {hearing : Hearing} → AllTests → WorldKept hearing → WorldEvent → Reply → WorldKept hearing → Type 0
+abbrev pub RuledSteps : {hearing : Hearing} → AllTests → WorldKept hearing → WorldEvent → Reply → WorldKept hearing
+    → Type 0
 RuledSteps tests old event reply new = (config : Config) (network : WorldState) → StandsFor old config network
     → (after : WorldState) × (lost : ℕ) × RuledStep config tests network event reply lost after
     × (new.unsent ≡ min (old.unsent + lost) (2 ^ 64 - 1))

@@ -105,7 +105,8 @@ pub record Adds {F L : Type 0} (notices : L → List Notice) (capacity : L → �
 
 -- For each machine that the network stands for, a filter is refused so: there is no such peer, or no number is left
 -- there, or it is for want of memory.
-abbrev pub RefusesFilter : {F L : Type 0} → (L → List Notice) → (L → ℕ) → (L → Notice → L → Type 0) → Held F L → ℕ → Code → Type 0
+abbrev pub RefusesFilter : {F L : Type 0} → (L → List Notice) → (L → ℕ) → (L → Notice → L → Type 0) → Held F L → ℕ
+    → Code → Type 0
 RefusesFilter {F} {L} notices capacity becomes held peer code =
     ((HasNumber held.cores peer → ⊥) × (code ≡ BadParameter))
     ⊎ (HasNumber held.cores peer
@@ -140,7 +141,8 @@ pub record Sets {F L : Type 0} (notices : L → List Notice) (capacity : L → �
 
 -- For each machine that the network stands for, a listener is refused so: there is no such peer, or by the first cause
 -- that there is at it.
-abbrev pub RefusesListener : {F L : Type 0} → (L → List Notice) → (L → ℕ) → (L → Notice → L → Type 0) → Held F L → ℕ → Entity → Option L → Code
+abbrev pub RefusesListener : {F L : Type 0} → (L → List Notice) → (L → ℕ) → (L → Notice → L → Type 0) → Held F L → ℕ
+    → Entity → Option L → Code
     → Type 0
 RefusesListener {F} {L} notices capacity becomes held peer entity listener code =
     ((HasNumber held.cores peer → ⊥) × (code ≡ BadParameter))

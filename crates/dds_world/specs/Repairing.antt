@@ -49,24 +49,29 @@ Stage {hearing} tests Is from peer Next old events replies new =
     × (events ≡ Deliver peer k ∷ later) × (replies ≡ reply ∷ rest) × Next mid later rest new)
 
 -- the answers of the ACKNACK that was delivered when so many packets had been sent
-abbrev pub Answering : {hearing : Hearing} → AllTests → Matched → ℕ → WorldKept hearing → List WorldEvent → List RoundReply → WorldKept hearing → Type 0
+abbrev pub Answering : {hearing : Hearing} → AllTests → Matched → ℕ → WorldKept hearing → List WorldEvent
+    → List RoundReply → WorldKept hearing → Type 0
 Answering tests m from old events replies new =
     (events ≡ answers_at m.reader.peer from (length old.sent)) × AreSteps tests old events replies new
 
 -- the ACKNACK, if one was sent since so many packets had been, and its answers
-abbrev pub Acknowledging : {hearing : Hearing} → AllTests → Matched → ℕ → WorldKept hearing → List WorldEvent → List RoundReply → WorldKept hearing → Type 0
+abbrev pub Acknowledging : {hearing : Hearing} → AllTests → Matched → ℕ → WorldKept hearing → List WorldEvent
+    → List RoundReply → WorldKept hearing → Type 0
 Acknowledging tests m from old events replies new =
     Stage tests (IsTo m.writer.peer (sought.AckNack m.pair.reader m.pair.writer)) from m.writer.peer
     (Answering tests m (length old.sent)) old events replies new
 
 -- the HEARTBEAT, if one was sent since so many packets had been, and what follows
-abbrev pub Beating : {hearing : Hearing} → AllTests → Matched → ℕ → WorldKept hearing → List WorldEvent → List RoundReply → WorldKept hearing → Type 0
+abbrev pub Beating : {hearing : Hearing} → AllTests → Matched → ℕ → WorldKept hearing → List WorldEvent
+    → List RoundReply → WorldKept hearing → Type 0
 Beating tests m from old events replies new =
     Stage tests (IsTo m.reader.peer (sought.Heartbeat m.pair.writer)) from m.reader.peer
     (Acknowledging tests m (length old.sent)) old events replies new
 
 -- so it is with the replies that are added to these
-abbrev pub Adds : {hearing : Hearing} → (WorldKept hearing → List WorldEvent → List RoundReply → WorldKept hearing → Type 0) → WorldKept hearing → List RoundReply
+abbrev pub Adds : {hearing : Hearing}
+    → (WorldKept hearing → List WorldEvent → List RoundReply → WorldKept hearing → Type 0) → WorldKept hearing
+    → List RoundReply
     → WorldKept hearing → List RoundReply → Type 0
 Adds Does old before new after =
     (events : List WorldEvent) × (added : List RoundReply) × (after ≡ before ++ added) × Does old events added new

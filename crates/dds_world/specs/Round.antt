@@ -50,14 +50,16 @@ AreMatched kept writer reader =
     → round_refusal (machine_of network) writer reader ≡ None
 
 -- one event, as a step of the network answers it, with the counts of packets sent and not sent after it
-pub record IsStep {hearing : Hearing} (tests : AllTests) (old : WorldKept hearing) (event : WorldEvent) (reply : RoundReply)
+pub record IsStep {hearing : Hearing} (tests : AllTests) (old : WorldKept hearing) (event : WorldEvent)
+    (reply : RoundReply)
     (new : WorldKept hearing) : Type 0 where
   pub rules : KeepsRules tests old event reply.reply new
   pub sent : reply.sent ≡ length new.sent
   pub unsent : reply.unsent ≡ new.unsent
 
 -- the same of events one after the other
-abbrev pub AreSteps : {hearing : Hearing} → AllTests → WorldKept hearing → List WorldEvent → List RoundReply → WorldKept hearing → Type 0
+abbrev pub AreSteps : {hearing : Hearing} → AllTests → WorldKept hearing → List WorldEvent → List RoundReply
+    → WorldKept hearing → Type 0
 AreSteps tests old [] [] new = new ≡ old
 AreSteps {hearing} tests old (event ∷ events) (reply ∷ replies) new =
     (mid : WorldKept hearing) × IsStep tests old event reply mid × AreSteps tests mid events replies new
@@ -155,7 +157,8 @@ replies_of replies = map (λ (r : RoundReply). r.reply) replies
 -- how the pair stood before it, and the reader's place after it. There the reader has gone on by 256 numbers, or to the
 -- end of the writer's list, or to a change that has no room, and the writer knows of all that the reader had before,
 -- unless something hindered the round.
-pub record RoundFrom {hearing : Hearing} (tests : AllTests) (config : Config) (network : WorldState) (old : WorldKept hearing)
+pub record RoundFrom {hearing : Hearing} (tests : AllTests) (config : Config) (network : WorldState)
+    (old : WorldKept hearing)
     (writer reader : Endpoint)
     (events : List WorldEvent) (answer : Round) (new : WorldKept hearing) : Type 0 where
   pub is_round : IsRound config network writer reader new.sent events answer.replies
@@ -171,7 +174,8 @@ pub record RoundFrom {hearing : Hearing} (tests : AllTests) (config : Config) (n
 
 -- One round: each reply is that of a step of the network, with the counts as they stood after it; and from each state
 -- that the old network stands for it is a round.
-pub record Rounds {hearing : Hearing} (tests : AllTests) (old : WorldKept hearing) (writer reader : Endpoint) (answer : Round)
+pub record Rounds {hearing : Hearing} (tests : AllTests) (old : WorldKept hearing) (writer reader : Endpoint)
+    (answer : Round)
     (new : WorldKept hearing) : Type 0 where
   pub events : List WorldEvent
   pub steps : AreSteps tests old events answer.replies new

@@ -39,7 +39,8 @@ pub record WorldKept (hearing : Hearing) : Type 0 where
 -- stand for what they were told, and know what was claimed to them alone; all that packets claim is
 -- true, and each packet is a message; what is counted as unsent keeps to its bound; the counts that were sent or taken
 -- were used by their senders; and no reader's place is past the end of a list.
-pub record StandsFor {hearing : Hearing} (kept : WorldKept hearing) (config : Config) (network : WorldState) : Type 0 where
+pub record StandsFor {hearing : Hearing} (kept : WorldKept hearing) (config : Config) (network : WorldState)
+    : Type 0 where
   pub count : length network.peers ≡ length kept.peers
   pub each : (i : ℕ) (k : PeerKept) → slice_get kept.peers i ≡ Some k
       → CoreStandsFor k config (peer_at network (suc i))
@@ -90,14 +91,16 @@ Announces old event reply new =
 -- For each state that the old network stood for, the event is a step of its peers by the rules of the protocol, which
 -- say which messages are due, and of these each is sent, in their order, or counted; it is a step of the machine that
 -- the peers are the parts of; and the new network stands for the state at its end, once listeners were told.
-abbrev pub KeepsRules : {hearing : Hearing} → AllTests → WorldKept hearing → WorldEvent → Reply → WorldKept hearing → Type 0
+abbrev pub KeepsRules : {hearing : Hearing} → AllTests → WorldKept hearing → WorldEvent → Reply → WorldKept hearing
+    → Type 0
 KeepsRules tests old event reply new = (config : Config) (network : WorldState) → StandsFor old config network
     → (after : WorldState) × CountedStep config tests network old.unsent event reply after new.unsent
     × StandsFor new config (world_ended network event after)
 
 -- For each state that the old network stood for, these replies to the events are a run of its peers by the rules of the
 -- protocol, and the new network stands for the state afterwards.
-pub record RunsByRules {hearing : Hearing} (tests : AllTests) (old : WorldKept hearing) (events : List WorldEvent) (replies : List Reply)
+pub record RunsByRules {hearing : Hearing} (tests : AllTests) (old : WorldKept hearing) (events : List WorldEvent)
+    (replies : List Reply)
     (new : WorldKept hearing) : Type 0 where
   pub run : (config : Config) (network : WorldState) → StandsFor old config network
       → (after : WorldState) × RuledRun config tests network old.unsent events replies after new.unsent

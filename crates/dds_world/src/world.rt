@@ -166,9 +166,9 @@ impl<F: Filter, L: Listener> World<F, L> {
     /// `Timeout` of a look at a WaitSet, which ends the wait. At the end of an event the listeners of its peer are told
     /// what it raised, as `Core::step` says.
     pub fn step(&mut self, event: WorldEvent) -> Reply
-        // For each machine that the network stands for, the reply is one that the machine without packets gives, by
-        // what the filters mean, and the network stands for the machine at the event's end, once listeners were told:
-        // this is the theorem.
+        // Whatever listeners the peers were given: for each machine that the network stands for, the reply is one that
+        // the machine without packets gives, by what the filters mean, and the network stands for the machine at the
+        // event's end, once listeners were told: this is the theorem.
         ensures step { (given : ℕ → ByEntity L) → Steps (MachineStandsFor L.notices L.capacity L.becomes given)
             (tests_in F.meaning self.old) (length self.old.sent) self.old event result self.new }
         // The event is one by the rules of the protocol, by which that is so: each message that they make due is sent,
