@@ -12,7 +12,7 @@ use Rattle.rtps_wire.proofs.LengthLaws.{short_writable}
 use Rattle.dds_protocol.specs.declared.event.Packet.{Packet}
 use Rattle.dds_core.specs.declared.matching.Destination.{Destination}
 use Rattle.dds_core.specs.declared.sending.Sender.{Sender}
-use Rattle.dds_core.specs.Sending.{announcement, IsAnnouncement, AreAnnouncements, Announces, IsAddressable, AddsPacket}
+use Rattle.dds_core.specs.Announcing.{announcement, IsAnnouncement, AreAnnouncements, Announces, IsAddressable, AddsPacket}
 
 abbrev message_with : GuidPrefix → List Submessage → Message
 message_with prefix submessages = record { prefix = prefix; submessages = submessages }

@@ -13,7 +13,7 @@ use Rattle.dds_machine.specs.Part.{Dds, Part}
 use Rattle.dds_protocol.specs.Peer.{EventStep, Peer}
 use Rattle.dds_machine.specs.Watching.{Tests}
 use Rattle.dds_core.specs.Kept.{PeerKept}
-use Rattle.dds_core.specs.Standing.{SoundSteps, SoundStepsBy, Steps, StepsBy}
+use Rattle.dds_core.specs.Stepping.{SoundSteps, SoundStepsBy, Steps, StepsBy}
 
 -- no filter has a say in the call
 abbrev pub is_plain : Call → Bool

@@ -24,7 +24,8 @@ use Rattle.dds_protocol.proofs.DuesAssertions.{assertions_true}
 use Rattle.dds_core.specs.declared.matching.Destination.{Destination}
 use Rattle.dds_core.specs.Beating.{HasNoCount, TellsOf, assertions_of, due_to}
 use Rattle.dds_core.specs.Kept.{WriterKept, PeerKept}
-use Rattle.dds_core.specs.Standing.{StandsFor, Enters}
+use Rattle.dds_core.specs.Standing.{StandsFor}
+use Rattle.dds_core.specs.Stepping.{Enters}
 use Rattle.dds_core.proofs.BeatsDue.{IsNamed, all_named, by_number, named, part_of, sent_true}
 use Rattle.dds_core.proofs.CallSteps.{Follows, answered_as, number_is, refused_as, refused_call, there_is}
 use Rattle.dds_core.proofs.Destinations.{sends_to}

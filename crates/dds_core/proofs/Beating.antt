@@ -26,7 +26,8 @@ use Rattle.dds_core.specs.declared.matching.ReaderName.{ReaderName}
 use Rattle.dds_core.specs.declared.sending.Announced.{Announced}
 use Rattle.dds_core.specs.Beating.{IsValid, BeatsOfAll, Adds, Beats, BeatsOf, beats_of, beats_of_all, beats_to, due_to, message_to, is_peer_behind, peers_behind}
 use Rattle.dds_core.specs.Kept.{WriterKept}
-use Rattle.dds_core.specs.Sending.{AddsPacket, AreMessages}
+use Rattle.dds_core.specs.Sending.{AreMessages}
+use Rattle.dds_core.specs.Announcing.{AddsPacket}
 use Rattle.dds_core.specs.Standing.{WriterStands, WritersStand, state_of}
 use Rattle.dds_core.proofs.Ticking.{TickedTo, untouched}
 

@@ -27,8 +27,10 @@ use Rattle.dds_machine.proofs.Tables.{no_less_same}
 use Rattle.dds_core.specs.declared.matching.Destination.{Destination}
 use Rattle.dds_core.specs.declared.matching.ReaderName.{ReaderName}
 use Rattle.dds_core.specs.Beating.{BeatsOfAll, beats_of, beats_of_all, due_to, peers_behind}
-use Rattle.dds_core.specs.Kept.{WriterKept, PeerKept, WriterIdentity, writer_identity, configured_writer}
-use Rattle.dds_core.specs.Matching.{destinations, reader_names}
+use Rattle.dds_core.specs.Kept.{WriterKept, PeerKept}
+use Rattle.dds_core.specs.Identity.{WriterIdentity, writer_identity, configured_writer}
+use Rattle.dds_core.specs.Matching.{destinations}
+use Rattle.dds_core.specs.EndNames.{reader_names}
 use Rattle.dds_core.specs.Standing.{WriterStands, StandsFor}
 use Rattle.dds_core.proofs.Destinations.{ends_of_names, is_peer, reader_ends}
 use Rattle.dds_core.proofs.Lists.{element, get-map, get-within, map-get}

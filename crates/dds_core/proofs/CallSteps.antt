@@ -28,12 +28,14 @@ use Rattle.dds_conditions.specs.Watched.{no_filters}
 use Rattle.dds_machine.specs.Part.{Part, Dds, Writer, own_writer}
 use Rattle.dds_protocol.specs.Peer.{Peer, PeerStep}
 use Rattle.dds_machine.specs.Watching.{Tests}
-use Rattle.dds_core.specs.Kept.{WriterKept, ReaderKept, PeerKept, WriterIdentity, ReaderIdentity, identity_of, reader_identity, writer_identity, IsPeerOf}
+use Rattle.dds_core.specs.Kept.{WriterKept, ReaderKept, PeerKept}
+use Rattle.dds_core.specs.Identity.{WriterIdentity, ReaderIdentity, identity_of, reader_identity, writer_identity, IsPeerOf}
 use Rattle.dds_core.specs.Expiring.{AllExpire, HasDeadly}
 use Rattle.dds_core.specs.Readiness.{AreAlike}
 use Rattle.dds_core.specs.Making.{IsMade, IsNotMade, entered}
 use Rattle.dds_core.specs.Sending.{SendsFor, SendsNothing}
-use Rattle.dds_core.specs.Standing.{WriterStands, StandsFor, Enters, AllTick}
+use Rattle.dds_core.specs.Standing.{WriterStands, StandsFor}
+use Rattle.dds_core.specs.Stepping.{Enters, AllTick}
 use Rattle.dds_core.specs.Beating.{BeatsOfAll}
 use Rattle.dds_core.proofs.BeatsDue.{due_true}
 use Rattle.dds_core.proofs.Dying.{expired_names, peer_deadly, readers_expired}

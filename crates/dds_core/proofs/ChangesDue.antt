@@ -15,7 +15,7 @@ use Rattle.dds_core.specs.declared.matching.Destination.{Destination}
 use Rattle.dds_core.specs.declared.sending.Sender.{Sender}
 use Rattle.dds_core.specs.Beating.{due_to}
 use Rattle.dds_core.specs.Kept.{WriterKept}
-use Rattle.dds_core.specs.Sending.{announcement, AreAnnouncements}
+use Rattle.dds_core.specs.Announcing.{announcement, AreAnnouncements}
 use Rattle.dds_core.proofs.BeatsDue.{IsNamed, all_named, by_number}
 use Rattle.dds_core.proofs.Destinations.{sends_to}
 

@@ -10,7 +10,7 @@ use Rattle.dds_protocol.proofs.RuledPackets.{takes_packet}
 use Rattle.dds_core.specs.declared.sending.Announced.{Announced}
 use Rattle.dds_core.specs.Kept.{PeerKept}
 use Rattle.dds_core.specs.Receiving.{with_state, ReceivedPacket, ReceivesPacket}
-use Rattle.dds_core.specs.Standing.{SoundSteps}
+use Rattle.dds_core.specs.Stepping.{SoundSteps}
 use Rattle.dds_core.proofs.BeatsDue.{sent_true}
 use Rattle.dds_core.proofs.Taking.{stands_again}
 

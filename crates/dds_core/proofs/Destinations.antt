@@ -14,7 +14,8 @@ use Rattle.dds_machine.specs.Part.{peers_of}
 use Rattle.dds_machine.proofs.Tables.{same_is}
 use Rattle.dds_core.specs.declared.matching.Destination.{Destination}
 use Rattle.dds_core.specs.declared.matching.ReaderName.{ReaderName}
-use Rattle.dds_core.specs.Matching.{has_reader, destinations, reader_name, reader_names}
+use Rattle.dds_core.specs.Matching.{has_reader, destinations}
+use Rattle.dds_core.specs.EndNames.{reader_name, reader_names}
 use Rattle.dds_core.proofs.Tables.{map-matched_readers}
 use Rattle.dds_core.proofs.Numbered.{IsRest, rest_whole, rest_first, rest_later, cond_get, is_told}
 

@@ -21,7 +21,8 @@ use Rattle.dds_machine.specs.Part.{Part, Reader, WriterProxy, no_reader}
 use Rattle.dds_protocol.specs.Protocol.{Known}
 use Rattle.dds_machine.proofs.Tables.{numbered-map}
 use Rattle.dds_core.specs.Expiring.{AllExpire, Expires, HasDeadly, HasRoomForDeaths, HaveRoomForDeaths, IsDeadly}
-use Rattle.dds_core.specs.Kept.{ReaderIdentity, ReaderKept, reader_identity}
+use Rattle.dds_core.specs.Kept.{ReaderKept}
+use Rattle.dds_core.specs.Identity.{ReaderIdentity, reader_identity}
 use Rattle.dds_core.specs.Readiness.{AreAlike}
 use Rattle.dds_core.specs.Standing.{ReaderStands, ReadersStand}
 use Rattle.dds_core.specs.Stored.{StoreKept, Holds}

@@ -25,7 +25,8 @@ use Rattle.dds_protocol.proofs.OpenedPeers.{opens_known}
 use Rattle.dds_protocol.proofs.AtEnds.{end_rows, end_untold, end_watch}
 use Rattle.dds_protocol.proofs.FiltersKept.{keeps_listeners, opens_nobody}
 use Rattle.dds_core.specs.declared.marks.Marks.{Marks}
-use Rattle.dds_core.specs.Filtering.{Adds as FilteredAdds, FilteredKept, RefusesFilter as FilteredRefuses, StandsFor as FilteredStandsFor, Steps as FilteredSteps}
+use Rattle.dds_core.specs.Filtering.{FilteredKept, StandsFor as FilteredStandsFor}
+use Rattle.dds_core.specs.FilteredSteps.{Adds as FilteredAdds, RefusesFilter as FilteredRefuses, Steps as FilteredSteps}
 use Rattle.dds_core.specs.Kept.{PeerKept}
 use Rattle.dds_core.specs.Listening.{Adds, CoreKept, RefusesFilter, RefusesListener, Sets, StandsFor, Steps, no_listeners}
 use Rattle.dds_core.specs.Noticing.{AreMarksOf, MarksPeer, Tells}

@@ -13,9 +13,11 @@ use Rattle.dds_protocol.specs.Protocol.{Known}
 use Rattle.rtps_reader.specs.Tracked.{Tracked}
 use Rattle.rtps_reader.specs.Reader.{Tracks}
 use Rattle.rtps_writer.specs.Standing.{StandsFor as RtpsStandsFor}
-use Rattle.dds_core.specs.Kept.{WriterKept, ReaderKept, PeerKept, Identity, WriterIdentity, ReaderIdentity, writer_identity, reader_identity, identity_of, IsPeerOf}
+use Rattle.dds_core.specs.Kept.{WriterKept, ReaderKept, PeerKept}
+use Rattle.dds_core.specs.Identity.{Identity, WriterIdentity, ReaderIdentity, writer_identity, reader_identity, identity_of, IsPeerOf}
 use Rattle.dds_core.specs.Receiving.{with_state}
-use Rattle.dds_core.specs.Standing.{WriterStands, WritersStand, ReaderStands, StandsFor, Enters, state_of}
+use Rattle.dds_core.specs.Standing.{WriterStands, WritersStand, ReaderStands, StandsFor, state_of}
+use Rattle.dds_core.specs.Stepping.{Enters}
 use Rattle.dds_core.proofs.Lists.{each_set_at, map-set_same, set_back}
 
 -- what is kept, with another writer or reader of this index

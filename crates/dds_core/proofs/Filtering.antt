@@ -12,9 +12,11 @@ use Rattle.dds_protocol.specs.Filters.{peer_with_filter}
 use Rattle.dds_machine.specs.Watching.{Tests}
 use Rattle.dds_protocol.proofs.FiltersKept.{keeps_filters, opens_no_filters}
 use Rattle.dds_core.specs.Kept.{PeerKept}
-use Rattle.dds_core.specs.Filtering.{Adds, FilteredKept, RefusesFilter, StandsFor, Steps}
+use Rattle.dds_core.specs.Filtering.{FilteredKept, StandsFor}
+use Rattle.dds_core.specs.FilteredSteps.{Adds, RefusesFilter, Steps}
 use Rattle.dds_core.specs.Opening.{opening_peer}
-use Rattle.dds_core.specs.Standing.{SoundStepsBy, StandsFor as PeerStandsFor}
+use Rattle.dds_core.specs.Standing.{StandsFor as PeerStandsFor}
+use Rattle.dds_core.specs.Stepping.{SoundStepsBy}
 use Rattle.dds_core.proofs.Watched.{watches}
 
 -- a peer without filters, at its opening

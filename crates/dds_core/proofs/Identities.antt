@@ -2,7 +2,8 @@
 use Rattle.std.proofs.Common.{◌≡◌, List}
 use Rattle.dds_base.specs.declared.guid.EntityId.{EntityId}
 use Rattle.dds_core.specs.declared.matching.WriterName.{WriterName}
-use Rattle.dds_core.specs.Kept.{ReaderIdentity, ReaderKept, reader_identity}
+use Rattle.dds_core.specs.Kept.{ReaderKept}
+use Rattle.dds_core.specs.Identity.{ReaderIdentity, reader_identity}
 
 -- a reader's identity is its entity and the names of its writers
 pub identity_as : (a b : EntityId) (x y : List WriterName) → a ≡ b → x ≡ y

@@ -28,10 +28,13 @@ use Rattle.dds_protocol.specs.DueMessages.{AreSent, changes_due}
 use Rattle.dds_protocol.proofs.OwnGuids.{one_writer}
 use Rattle.dds_core.specs.declared.matching.Destination.{Destination}
 use Rattle.dds_core.specs.declared.sending.Sender.{Sender}
-use Rattle.dds_core.specs.Kept.{WriterKept, PeerKept, WriterIdentity, writer_identity, configured_writer, identity_of, IsPeerOf}
+use Rattle.dds_core.specs.Kept.{WriterKept, PeerKept}
+use Rattle.dds_core.specs.Identity.{WriterIdentity, writer_identity, configured_writer, identity_of, IsPeerOf}
 use Rattle.dds_core.specs.Making.{IsMade, IsNotMade, IsValueOf, entered}
-use Rattle.dds_core.specs.Sending.{AreAnnouncements, SendsChange}
-use Rattle.dds_core.specs.Standing.{WriterStands, StandsFor, Enters}
+use Rattle.dds_core.specs.Sending.{SendsChange}
+use Rattle.dds_core.specs.Announcing.{AreAnnouncements}
+use Rattle.dds_core.specs.Standing.{WriterStands, StandsFor}
+use Rattle.dds_core.specs.Stepping.{Enters}
 use Rattle.dds_core.specs.declared.matching.ReaderName.{ReaderName}
 use Rattle.dds_core.proofs.BeatsDue.{IsNamed, named, named_again}
 use Rattle.dds_core.proofs.ChangesDue.{change_sent}

@@ -17,7 +17,7 @@ use Rattle.dds_protocol.specs.Claims.{Receiver, IsWriter, IsReader, IsToReader}
 use Rattle.dds_protocol.specs.Peer.{Peer}
 use Rattle.dds_core.specs.declared.matching.WriterName.{WriterName}
 use Rattle.dds_core.specs.Kept.{ReaderKept, PeerKept}
-use Rattle.dds_core.specs.Matching.{writer_name}
+use Rattle.dds_core.specs.EndNames.{writer_name}
 use Rattle.dds_core.specs.Readiness.{IsFirstName, IsNamedFor, NamedBy, writer_guid}
 use Rattle.dds_core.specs.Standing.{IsFirstRow, StandsFor}
 use Rattle.dds_core.proofs.Names.{IsWriterNamed, one_guid, guid_as, IsOwnReader, own_reader_is}

@@ -12,8 +12,9 @@ use Rattle.dds_machine.specs.declared.endpoint.Endpoint.{Endpoint}
 use Rattle.dds_protocol.specs.Claims.{IsNumbered}
 use Rattle.dds_core.specs.declared.matching.ReaderName.{ReaderName}
 use Rattle.dds_core.specs.declared.matching.WriterName.{WriterName}
-use Rattle.dds_core.specs.Kept.{ReaderKept, PeerKept, ReaderIdentity, reader_identity, configured_reader, identity_of, IsPeerOf}
-use Rattle.dds_core.specs.Matching.{writer_name, writer_names}
+use Rattle.dds_core.specs.Kept.{ReaderKept, PeerKept}
+use Rattle.dds_core.specs.Identity.{ReaderIdentity, reader_identity, configured_reader, identity_of, IsPeerOf}
+use Rattle.dds_core.specs.EndNames.{writer_name, writer_names}
 use Rattle.dds_core.proofs.Lists.{get-map, map-get}
 use Rattle.dds_core.proofs.Numbered.{is_told, same_end}
 

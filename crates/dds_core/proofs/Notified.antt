@@ -25,10 +25,12 @@ use Rattle.dds_machine.specs.Noticing.{each_told, looked_at, loss_raised, losses
 use Rattle.dds_machine.specs.Part.{Part, Reader, Seen, Writer, no_reader, no_writer, own_proxies, own_reader, own_writer}
 use Rattle.dds_protocol.specs.Peer.{Peer}
 use Rattle.dds_core.specs.declared.marks.ReaderMark.{ReaderMark}
-use Rattle.dds_core.specs.Kept.{PeerKept, ReaderKept, WriterKept, reader_identity}
+use Rattle.dds_core.specs.Kept.{PeerKept, ReaderKept, WriterKept}
+use Rattle.dds_core.specs.Identity.{reader_identity}
 use Rattle.dds_core.specs.Noticing.{IsMarkOf, MarksPeer, MarksReaders, MarksWriters, RaisesSo, SeesStatus, Tells}
 use Rattle.dds_core.specs.Looking.{TellsLiveliness, TellsLost}
-use Rattle.dds_core.specs.Standing.{Enters, ReaderStands, StandsFor, WriterStands}
+use Rattle.dds_core.specs.Standing.{ReaderStands, StandsFor, WriterStands}
+use Rattle.dds_core.specs.Stepping.{Enters}
 use Rattle.dds_core.specs.Stored.{Holds}
 use Rattle.dds_core.proofs.Ends.{own_reader_changed, own_writer_stepped, with_reader, with_writer}
 use Rattle.dds_core.proofs.Lists.{past_end}

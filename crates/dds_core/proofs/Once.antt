@@ -6,7 +6,7 @@ use Rattle.dds_base.specs.declared.config.ReaderConfig.{ReaderConfig}
 use Rattle.dds_base.specs.Matched.{same_topic, of_ends_in, of_matched_ends}
 use Rattle.dds_machine.specs.declared.endpoint.Endpoint.{Endpoint}
 use Rattle.dds_core.specs.declared.matching.ReaderName.{ReaderName}
-use Rattle.dds_core.specs.Matching.{reader_name, reader_names}
+use Rattle.dds_core.specs.EndNames.{reader_name, reader_names}
 use Rattle.dds_core.proofs.Numbered.{append_get, cond_get}
 
 -- no two of these have the same value

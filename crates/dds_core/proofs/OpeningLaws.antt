@@ -13,8 +13,10 @@ use Rattle.dds_machine.specs.Part.{Writer, Reader, WriterProxy, no_writer, no_re
 use Rattle.rtps_reader.specs.Tracked.{fresh}
 use Rattle.dds_protocol.specs.Protocol.{knows_nothing}
 use Rattle.dds_protocol.specs.Peer.{Peer, no_peer}
-use Rattle.dds_core.specs.Kept.{WriterKept, ReaderKept, writer_identity, reader_identity, configured_writer, configured_reader}
-use Rattle.dds_core.specs.Opening.{OpensWriter, OpensReader, OpensEach, OpensCore, opening_peer}
+use Rattle.dds_core.specs.Kept.{WriterKept, ReaderKept}
+use Rattle.dds_core.specs.Identity.{writer_identity, reader_identity, configured_writer, configured_reader}
+use Rattle.dds_core.specs.Opening.{opening_peer}
+use Rattle.dds_core.specs.OpeningEnds.{OpensWriter, OpensReader, OpensEach, OpensCore}
 use Rattle.dds_core.specs.Standing.{WriterStands, ReaderStands, WritersStand, ReadersStand, StandsFor}
 use Rattle.dds_core.proofs.Ready.{last-cases, partner}
 use Rattle.dds_core.proofs.Tellable.{tellable_opening}

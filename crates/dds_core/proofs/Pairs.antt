@@ -20,7 +20,7 @@ use Rattle.dds_core.specs.declared.matching.ReaderName.{ReaderName}
 use Rattle.dds_core.specs.declared.matching.WriterName.{WriterName}
 use Rattle.dds_core.specs.declared.pairing.Pair.{Pair}
 use Rattle.dds_core.specs.Kept.{PeerKept, ReaderKept, WriterKept}
-use Rattle.dds_core.specs.Matching.{reader_name, reader_names}
+use Rattle.dds_core.specs.EndNames.{reader_name, reader_names}
 use Rattle.dds_core.specs.Pairs.{IsPair, reader_entity}
 use Rattle.dds_core.specs.Readiness.{IsPlaceAt}
 use Rattle.dds_core.specs.Standing.{StandsFor, WriterStands, IsFirstReader, IsFirstRow}

@@ -17,9 +17,9 @@ use Rattle.dds_machine.specs.Opening.{matched_writers}
 use Rattle.dds_machine.specs.Part.{WriterProxy, same_endpoint, row_of, place_of, nothing_seen}
 use Rattle.dds_protocol.proofs.OwnGuids.{as_many}
 use Rattle.dds_core.specs.declared.matching.WriterName.{WriterName}
-use Rattle.dds_core.specs.Kept.{FitsWriters}
-use Rattle.dds_core.specs.Matching.{writer_name, matched_writer}
-use Rattle.dds_core.specs.Opening.{OpensReader}
+use Rattle.dds_core.specs.Identity.{FitsWriters}
+use Rattle.dds_core.specs.EndNames.{writer_name, matched_writer}
+use Rattle.dds_core.specs.OpeningEnds.{OpensReader}
 use Rattle.dds_core.specs.Stored.{StoreKept, Holds}
 use Rattle.dds_core.proofs.Identities.{identity_as}
 use Rattle.dds_core.proofs.Lists.{get-within}

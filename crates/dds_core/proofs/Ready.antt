@@ -20,7 +20,8 @@ use Rattle.dds_core.specs.declared.matching.WriterName.{WriterName}
 use Rattle.dds_core.specs.declared.reader_end.Ready.{Ready}
 use Rattle.dds_core.specs.declared.reader_end.Told.{Told}
 use Rattle.dds_core.specs.declared.reader_end.Told.TheVariants as told
-use Rattle.dds_core.specs.Kept.{ReaderKept, PeerKept, ReaderIdentity, Identity, reader_identity, writer_identity, IsPeerOf}
+use Rattle.dds_core.specs.Kept.{ReaderKept, PeerKept}
+use Rattle.dds_core.specs.Identity.{ReaderIdentity, Identity, reader_identity, writer_identity, IsPeerOf}
 use Rattle.dds_core.specs.Readiness.{IsReadyFor, IsReadyWith, AreReady, IsAlike, AreAlike, CanTake, TakesTold, SameReader, moves_of, IsBounded, IsToldBounded, IsToldBy}
 use Rattle.dds_core.specs.Receiving.{AllCanTake, TookAt, TakesAll, ReadersTake, StandsAsWell}
 use Rattle.dds_core.proofs.TakenSoFar.{TakesSome}

@@ -21,7 +21,8 @@ use Rattle.dds_core.specs.declared.answering.Room.{Room}
 use Rattle.dds_core.specs.declared.matching.ReaderName.{ReaderName}
 use Rattle.dds_core.specs.declared.sending.Announced.{Announced}
 use Rattle.dds_core.specs.Answering.{AsksNone, IsRoom, AreRooms, TakesAckNack, HaveRoom, RowTook, RowsTook, TakesRow, TakesRows, acknowledged_moves}
-use Rattle.dds_core.specs.Kept.{WriterKept, PeerKept, WriterIdentity, writer_identity}
+use Rattle.dds_core.specs.Kept.{WriterKept, PeerKept}
+use Rattle.dds_core.specs.Identity.{WriterIdentity, writer_identity}
 use Rattle.dds_core.specs.Receiving.{with_state, TakesOneMore}
 use Rattle.dds_core.specs.Standing.{StandsFor}
 use Rattle.dds_core.proofs.Beating.{adds_none, adds_on}

@@ -32,8 +32,9 @@ use Rattle.dds_core.specs.declared.matching.ReaderName.{ReaderName}
 use Rattle.dds_core.specs.declared.sending.Announced.{Announced}
 use Rattle.dds_core.specs.Answering.{IsFrom, IsAskedWriter, IsUnaskedAt, RowTook, SendsAnswers, TookAckNack, acknowledged_moves, answer_due}
 use Rattle.dds_core.specs.Beating.{AddsTo, due_to}
-use Rattle.dds_core.specs.Kept.{WriterKept, PeerKept, WriterIdentity}
-use Rattle.dds_core.specs.Matching.{reader_name, reader_names}
+use Rattle.dds_core.specs.Kept.{WriterKept, PeerKept}
+use Rattle.dds_core.specs.Identity.{WriterIdentity}
+use Rattle.dds_core.specs.EndNames.{reader_name, reader_names}
 use Rattle.dds_core.specs.Receiving.{with_state, NeedsMemory}
 use Rattle.dds_core.specs.Standing.{StandsFor, WriterStands, state_of}
 use Rattle.dds_core.proofs.Acknowledging.{IsOnly, IsCounted, only_row, acknowledged_is, acknowledged_then, applied_is, low_of, moves_then, not_same, readers_same, state_applied, still_begun}

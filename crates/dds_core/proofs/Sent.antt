@@ -32,7 +32,8 @@ use Rattle.dds_protocol.specs.DueMessages.{AreSent, changes_due}
 use Rattle.dds_core.specs.declared.matching.Destination.{Destination}
 use Rattle.dds_core.specs.declared.sending.Sender.{Sender}
 use Rattle.dds_core.specs.Matching.{has_reader, destinations}
-use Rattle.dds_core.specs.Sending.{announcement, IsAnnouncement, AreAnnouncements, AreMessages, SendsChange}
+use Rattle.dds_core.specs.Sending.{AreMessages, SendsChange}
+use Rattle.dds_core.specs.Announcing.{announcement, IsAnnouncement, AreAnnouncements}
 use Rattle.dds_core.proofs.Destinations.{IsPeer, is_peer, IsReaderOf, is_reader, reader_ends, sends_to}
 
 abbrev data_of : Sender → ℕ → DataContent → Submessage

@@ -32,7 +32,8 @@ use Rattle.dds_protocol.specs.Protocol.{Known, State, Goes, Asserting, TakesHear
 use Rattle.dds_protocol.proofs.Framing.{tracked_here, tracked_elsewhere, pair_or_not}
 use Rattle.dds_machine.proofs.Tables.{numbered-same, place-cases, place-hits, place-heard}
 use Rattle.dds_core.specs.declared.matching.WriterName.{WriterName}
-use Rattle.dds_core.specs.Kept.{ReaderKept, PeerKept, reader_identity}
+use Rattle.dds_core.specs.Kept.{ReaderKept, PeerKept}
+use Rattle.dds_core.specs.Identity.{reader_identity}
 use Rattle.dds_core.specs.Readiness.{SameReader, moves_of}
 use Rattle.dds_core.specs.Receiving.{with_state}
 use Rattle.dds_core.specs.Standing.{IsFirstRow, ReaderStands, StandsFor}

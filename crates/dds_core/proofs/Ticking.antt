@@ -6,8 +6,10 @@ use Rattle.std.proofs.lemmas.Option.{same_Some}
 use Rattle.dds_machine.specs.declared.endpoint.Endpoint.{Endpoint}
 use Rattle.dds_machine.specs.Part.{Writer, no_writer}
 use Rattle.dds_machine.specs.Ticks.{ticked}
-use Rattle.dds_core.specs.Kept.{WriterKept, WriterIdentity, writer_identity}
-use Rattle.dds_core.specs.Standing.{WriterStands, WritersStand, Ticks, AllTick}
+use Rattle.dds_core.specs.Kept.{WriterKept}
+use Rattle.dds_core.specs.Identity.{WriterIdentity, writer_identity}
+use Rattle.dds_core.specs.Standing.{WriterStands, WritersStand}
+use Rattle.dds_core.specs.Stepping.{Ticks, AllTick}
 
 -- the first of these writers have ticked, and the others are as they were
 abbrev pub TickedTo : ℕ → ℕ → List WriterKept → List WriterKept → Type 0

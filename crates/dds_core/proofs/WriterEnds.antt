@@ -19,10 +19,13 @@ use Rattle.dds_machine.specs.Part.{Writer, ReaderProxy, writer_changes, history_
 use Rattle.dds_base.specs.Checked.{limit_of}
 use Rattle.dds_core.specs.declared.matching.Destination.{Destination}
 use Rattle.dds_core.specs.declared.matching.ReaderName.{ReaderName}
-use Rattle.dds_core.specs.Kept.{WriterKept, WriterIdentity, writer_identity}
-use Rattle.dds_core.specs.Matching.{destinations, reader_name, reader_names}
-use Rattle.dds_core.specs.Opening.{OpensWriter}
-use Rattle.dds_core.specs.Standing.{Enters, Ticks, WriterStands, state_of}
+use Rattle.dds_core.specs.Kept.{WriterKept}
+use Rattle.dds_core.specs.Identity.{WriterIdentity, writer_identity}
+use Rattle.dds_core.specs.Matching.{destinations}
+use Rattle.dds_core.specs.EndNames.{reader_name, reader_names}
+use Rattle.dds_core.specs.OpeningEnds.{OpensWriter}
+use Rattle.dds_core.specs.Standing.{WriterStands, state_of}
+use Rattle.dds_core.specs.Stepping.{Enters, Ticks}
 use Rattle.dds_core.proofs.Acknowledging.{state_as}
 use Rattle.dds_core.proofs.Tables.{map-matched_readers, told_alike}
 

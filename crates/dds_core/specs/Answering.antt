@@ -31,7 +31,8 @@ use Rattle.dds_core.specs.declared.answering.Room.{Room}
 use Rattle.dds_core.specs.declared.matching.ReaderName.{ReaderName}
 use Rattle.dds_core.specs.declared.sending.Announced.{Announced}
 use Rattle.dds_core.specs.Beating.{AddsTo, due_to}
-use Rattle.dds_core.specs.Kept.{WriterKept, PeerKept, writer_identity}
+use Rattle.dds_core.specs.Kept.{WriterKept, PeerKept}
+use Rattle.dds_core.specs.Identity.{writer_identity}
 use Rattle.dds_core.specs.Receiving.{with_state}
 use Rattle.dds_core.specs.Standing.{StandsFor}
 

@@ -10,7 +10,8 @@ use Rattle.dds_machine.specs.declared.endpoint.Endpoint.{Endpoint}
 use Rattle.dds_machine.specs.Ticks.{reader_ticked}
 use Rattle.dds_machine.specs.Part.{Reader, WriterProxy}
 use Rattle.rtps_reader.specs.Tracked.{Tracked}
-use Rattle.dds_core.specs.Kept.{ReaderKept, reader_identity}
+use Rattle.dds_core.specs.Kept.{ReaderKept}
+use Rattle.dds_core.specs.Identity.{reader_identity}
 use Rattle.dds_core.specs.Standing.{ReaderStands}
 use Rattle.dds_core.specs.Stored.{StoreKept}
 

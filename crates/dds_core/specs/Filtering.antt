@@ -1,19 +1,11 @@
--- A peer with the filters of its application. What `tools/believed --names` lists of it has to be believed; inner
--- functions alone cite the rest.
+-- A peer with the filters of its application, and what it stands for.
 --
 -- DDS 1.4, 2.2.2.5 (QueryCondition).
-use Rattle.std.specs.Prelude.{◌≡◌, ℕ, ◌+◌, List, [], ◌∷◌, ◌++◌, length, None}
-use Rattle.dds_base.specs.declared.code.Code.{Code}
+use Rattle.std.specs.Prelude.{◌≡◌, List, length}
 use Rattle.dds_base.specs.declared.config.Config.{Config}
-use Rattle.dds_base.specs.Refusal.{Refuses}
-use Rattle.dds_conditions.specs.Watched.{filter_refusal}
-use Rattle.dds_protocol.specs.declared.event.Event.{Event}
-use Rattle.dds_protocol.specs.declared.event.Output.{Output}
-use Rattle.dds_protocol.specs.Filters.{peer_with_filter}
-use Rattle.dds_protocol.specs.Peer.{Peer, PeerStep}
-use Rattle.dds_machine.specs.Watching.{Tests}
+use Rattle.dds_protocol.specs.Peer.{Peer}
 use Rattle.dds_core.specs.Kept.{PeerKept}
-use Rattle.dds_core.specs.Standing.{IsSound, KeepsRules, StandsFor as PeerStandsFor}
+use Rattle.dds_core.specs.Standing.{StandsFor as PeerStandsFor}
 
 -- what a peer keeps, and the filters that were added to it, in their order
 pub record FilteredKept (F : Type 0) : Type 0 where
@@ -24,29 +16,3 @@ pub record FilteredKept (F : Type 0) : Type 0 where
 pub record StandsFor {F : Type 0} (kept : FilteredKept F) (config : Config) (peer : Peer) : Type 0 where
   pub stands : PeerStandsFor kept.peer config peer
   pub filters : peer.part.dds.watch.filters ≡ length kept.filters
-
--- For each state that the old values stand for, and of which all that is known was claimed, the event is a step by what
--- the filters mean to one that the new values stand for, and of which all that is known was claimed; a delivery follows
--- the rules of the protocol. The filters stay.
-pub record Steps {F : Type 0} (tests : Tests) (old : FilteredKept F) (event : Event) (output : Output)
-    (new : FilteredKept F) : Type 0 where
-  pub step : (config : Config) (peer : Peer) → StandsFor old config peer → IsSound config peer
-      → (after : Peer) × PeerStep config tests peer event output after × StandsFor new config after
-      × IsSound config after
-      × KeepsRules config peer event output after
-  pub filters : new.filters ≡ old.filters
-
--- The filter is the last one. For each state that the old values stand for there is a number for it, and it is this
--- one; the new values stand for that state with one filter more, and nothing else; and what it knows was claimed, if it
--- was before.
-pub record Adds {F : Type 0} (old : FilteredKept F) (filter : F) (number : ℕ) (new : FilteredKept F) : Type 0 where
-  pub filters : new.filters ≡ old.filters ++ filter ∷ []
-  pub adds : (config : Config) (peer : Peer) → StandsFor old config peer
-      → (filter_refusal peer.part.dds.watch ≡ None) × (number ≡ length old.filters + 1)
-      × StandsFor new config (peer_with_filter peer)
-      × (IsSound config peer → IsSound config (peer_with_filter peer))
-
--- for each state that the old values stand for, a filter is refused so: for want of a number, or else of memory
-abbrev pub RefusesFilter : {F : Type 0} → FilteredKept F → Code → Type 0
-RefusesFilter old code =
-    (config : Config) (peer : Peer) → StandsFor old config peer → Refuses (filter_refusal peer.part.dds.watch) code

@@ -1,27 +1,18 @@
--- What a peer keeps: what never changes, which the configuration says, and what events change. What `tools/believed
--- --names` lists of it has to be believed; inner functions alone cite the rest.
+-- What a peer keeps: what never changes, and what events change.
 --
 -- RTPS 2.5, 8.2 (Participant, Endpoint), 8.4.7 (StatefulWriter, ReaderProxy), 8.4.10 (StatefulReader,
 -- WriterProxy).
-use Rattle.std.specs.Prelude.{◌≡◌, ◌≤◌, ℕ, Bool, List, length, map, None}
-use Rattle.dds_base.specs.declared.config.Config.{Config}
-use Rattle.dds_base.specs.declared.config.PeerConfig.{PeerConfig}
-use Rattle.dds_base.specs.declared.config.WriterConfig.{WriterConfig}
-use Rattle.dds_base.specs.declared.config.ReaderConfig.{ReaderConfig}
+use Rattle.std.specs.Prelude.{ℕ, Bool, List}
 use Rattle.dds_base.specs.declared.guid.GuidPrefix.{GuidPrefix}
 use Rattle.dds_base.specs.declared.guid.EntityId.{EntityId}
-use Rattle.dds_base.specs.Checked.{check_refusal}
-use Rattle.dds_cache.specs.Standing.{qos_of}
 use Rattle.dds_conditions.specs.Watched.{Watched}
-use Rattle.rtps_reader.specs.Reader.{Proxies, count_of}
+use Rattle.rtps_reader.specs.Reader.{Proxies}
 use Rattle.rtps_writer.specs.Standing.{Kept}
 use Rattle.dds_core.specs.Stored.{StoreKept}
-use Rattle.dds_protocol.specs.Claims.{IsNumbered}
 use Rattle.dds_machine.specs.Part.{Seen}
 use Rattle.dds_core.specs.declared.matching.Destination.{Destination}
 use Rattle.dds_core.specs.declared.matching.ReaderName.{ReaderName}
 use Rattle.dds_core.specs.declared.matching.WriterName.{WriterName}
-use Rattle.dds_core.specs.Matching.{destinations, reader_names, writer_names}
 
 -- a writer: whom it sends to, its matched readers by their names, and what it keeps of its changes and of those readers
 pub record WriterKept : Type 0 where
@@ -39,12 +30,6 @@ pub record ReaderKept : Type 0 where
   pub store : StoreKept
   pub seen : Seen
 
--- each matched writer is known, and is among those of the policies, of which there are 256 at most
-pub record FitsWriters (names : List WriterName) (reader : Proxies) (store : StoreKept) : Type 0 where
-  pub count : count_of reader ≡ length names
-  pub fits : length names ≤ length (qos_of store.cache).writers
-  pub many : length (qos_of store.cache).writers ≤ 256
-
 -- a peer: its name, its moment in units of 2^-32 second, its writers and readers, and what its application watches
 pub record PeerKept : Type 0 where
   pub prefix : GuidPrefix
@@ -52,59 +37,3 @@ pub record PeerKept : Type 0 where
   pub writers : List WriterKept
   pub readers : List ReaderKept
   pub watch : Watched
-
--- what never changes of a writer: its name, whether an unregister disposes too, to which peers it sends, and the names
--- of its matched readers
-pub record WriterIdentity : Type 0 where
-  pub entity : EntityId
-  pub autodispose : Bool
-  pub destinations : List Destination
-  pub readers : List ReaderName
-
--- what never changes of a reader: its name, and those of its matched writers
-pub record ReaderIdentity : Type 0 where
-  pub entity : EntityId
-  pub writers : List WriterName
-
--- what never changes of a peer: its name, and that of its writers and its readers
-pub record Identity : Type 0 where
-  pub prefix : GuidPrefix
-  pub writers : List WriterIdentity
-  pub readers : List ReaderIdentity
-
--- what never changes of this writer
-abbrev pub writer_identity : WriterKept → WriterIdentity
-writer_identity w = record
-    { entity = w.entity; autodispose = w.autodispose; destinations = w.destinations; readers = w.readers }
-
--- what never changes of this reader
-abbrev pub reader_identity : ReaderKept → ReaderIdentity
-reader_identity r = record { entity = r.entity; writers = r.writers }
-
--- what never changes of this peer
-abbrev pub identity_of : PeerKept → Identity
-identity_of kept = record
-    { prefix = kept.prefix; writers = map writer_identity kept.writers; readers = map reader_identity kept.readers }
-
--- what never changes of a writer, as the configuration says it
-abbrev pub configured_writer : List PeerConfig → WriterConfig → WriterIdentity
-configured_writer peers w =
-    record {
-      entity = w.entity;
-      autodispose = w.autodispose;
-      destinations = destinations w.topic 1 peers;
-      readers = reader_names w.topic peers;
-    }
-
--- what never changes of a reader, as the configuration says it
-abbrev pub configured_reader : List PeerConfig → ReaderConfig → ReaderIdentity
-configured_reader peers r = record { entity = r.entity; writers = writer_names r.topic peers }
-
--- the peer of this number has this identity, in a configuration that is not refused
-pub record IsPeerOf (config : Config) (number : ℕ) (identity : Identity) : Type 0 where
-  pub checked : check_refusal config.peers ≡ None
-  pub own : PeerConfig
-  pub at : IsNumbered config.peers number own
-  pub prefix : identity.prefix ≡ own.prefix
-  pub writers : identity.writers ≡ map (configured_writer config.peers) own.writers
-  pub readers : identity.readers ≡ map (configured_reader config.peers) own.readers

@@ -1,8 +1,13 @@
 pub mod Matching
+pub mod EndNames
 pub mod Kept
+pub mod Identity
 pub mod Standing
+pub mod Stepping
 pub mod Opening
+pub mod OpeningEnds
 pub mod Sending
+pub mod Announcing
 pub mod Making
 pub mod Readiness
 pub mod Receiving
@@ -15,5 +20,6 @@ pub mod Accesses
 pub mod Expiring
 pub mod Watching
 pub mod Filtering
+pub mod FilteredSteps
 pub mod Noticing
 pub mod Listening

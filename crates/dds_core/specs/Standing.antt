@@ -1,15 +1,14 @@
 -- What a peer stands for: each of its writers for a writer of the machine, each of its readers for a reader, and what
--- never changes for what the configuration says of it. What `tools/believed --names` lists of it has to be believed;
--- inner functions alone cite the rest.
+-- never changes for what the configuration says of it; that what it knows was claimed, and that an event keeps to the rules
+-- of the protocol. What a value stands for need not be believed: the contracts say all that matters of it.
 --
 -- RTPS 2.5, 8.4.7 (StatefulWriter, ReaderProxy), 8.4.10 (StatefulReader, WriterProxy): the machine has them
 -- without packets.
 use Rattle.std.specs.Prelude.{◌≡◌, ℕ, suc, ◌^◌, ◌<◌, ◌≤◌, List, [], map, length, get_or, slice_get, Option, Some, ℤ, All}
-use Rattle.std.specs.List.{AllZip}
 use Rattle.dds_base.specs.declared.config.Config.{Config}
 use Rattle.dds_base.specs.declared.change.Change.{Change}
 use Rattle.dds_base.specs.Kept.{change_at}
-use Rattle.dds_base.specs.Written.{Written, changes_of}
+use Rattle.dds_base.specs.Written.{changes_of}
 use Rattle.dds_cache.specs.Standing.{qos_of}
 use Rattle.rtps_reader.specs.Tracked.{Tracked}
 use Rattle.rtps_reader.specs.Reader.{Tracks}
@@ -24,18 +23,15 @@ use Rattle.dds_machine.specs.declared.reply.Report.{Report}
 use Rattle.dds_protocol.specs.Backed.{IsBacked}
 use Rattle.dds_protocol.specs.Dues.{AreTellable}
 use Rattle.dds_machine.specs.Part.{Writer, Reader, ReaderProxy, WriterProxy, no_writer, no_reader, place_of}
-use Rattle.dds_machine.specs.Ticks.{ticked}
-use Rattle.dds_machine.specs.Calls.{with_written}
-use Rattle.dds_machine.specs.Watching.{Tests}
-use Rattle.dds_conditions.specs.Watched.{no_filters}
-use Rattle.dds_protocol.specs.Peer.{Peer, PeerStep, packets_of, state_of as network_of}
+use Rattle.dds_protocol.specs.Peer.{Peer, packets_of, state_of as network_of}
 use Rattle.dds_protocol.specs.DueMessages.{Due, AreSent}
 use Rattle.dds_protocol.specs.Protocol.{Known, TakesPacket}
 use Rattle.dds_core.specs.declared.matching.Destination.{Destination}
 use Rattle.dds_core.specs.declared.matching.ReaderName.{ReaderName}
 use Rattle.dds_core.specs.declared.matching.WriterName.{WriterName}
 use Rattle.dds_core.specs.Stored.{Holds}
-use Rattle.dds_core.specs.Kept.{WriterKept, ReaderKept, PeerKept, writer_identity, identity_of, IsPeerOf}
+use Rattle.dds_core.specs.Kept.{WriterKept, ReaderKept, PeerKept}
+use Rattle.dds_core.specs.Identity.{identity_of, IsPeerOf}
 
 -- the state of a writer of the machine, with the count of the last ACKNACK that it took of each matched reader
 abbrev pub state_of : Writer → (Endpoint → Option ℤ) → WriterState
@@ -118,16 +114,6 @@ pub record StandsFor (kept : PeerKept) (config : Config) (peer : Peer) : Type 0 
   pub tellable : AreTellable peer.part
   pub watch : peer.part.dds.watch ≡ kept.watch
 
--- for each state that the old values stand for, the event is a step by these filters to one that the new values stand
--- for
-abbrev pub StepsBy : Tests → PeerKept → Event → Output → PeerKept → Type 0
-StepsBy tests old event output new = (config : Config) (peer : Peer) → StandsFor old config peer
-    → (after : Peer) × PeerStep config tests peer event output after × StandsFor new config after
-
--- the same of an event in which no filter has a say
-abbrev pub Steps : PeerKept → Event → Output → PeerKept → Type 0
-Steps old event output new = StepsBy no_filters old event output new
-
 -- all that the peer knows is claimed by what was delivered to it
 abbrev pub IsSound : Config → Peer → Type 0
 IsSound config peer = IsBacked config peer.number (packets_of peer.delivered) peer.delivered (network_of peer)
@@ -145,32 +131,3 @@ pub record IsTakenByRules (config : Config) (old : Peer) (packet : List ℕ) (ou
 abbrev pub KeepsRules : Config → Peer → Event → Output → Peer → Type 0
 KeepsRules config old (event.Deliver packet) output new = IsTakenByRules config old packet output new
 KeepsRules config old other output new = Unit {0}
-
--- For each state that the old values stand for, and of which all that is known was claimed, the event is a step to one
--- that the new values stand for, and of which all that is known was claimed; a delivery follows the rules of the
--- protocol.
-abbrev pub SoundStepsBy : Tests → PeerKept → Event → Output → PeerKept → Type 0
-SoundStepsBy tests old event output new =
-    (config : Config) (peer : Peer) → StandsFor old config peer → IsSound config peer
-    → (after : Peer) × PeerStep config tests peer event output after × StandsFor new config after × IsSound config after
-    × KeepsRules config peer event output after
-
--- the same without filters
-abbrev pub SoundSteps : PeerKept → Event → Output → PeerKept → Type 0
-SoundSteps old event output new = SoundStepsBy no_filters old event output new
-
--- a writer whose peer's time went on to this moment, and nothing else
-pub record Ticks (old : WriterKept) (now : ℕ) (new : WriterKept) : Type 0 where
-  pub same : writer_identity new ≡ writer_identity old
-  pub stands : (w : Writer) (answered : Endpoint → Option ℤ) → WriterStands old w answered
-      → WriterStands new (ticked now w) answered
-
--- the same of each of these writers
-abbrev pub AllTick : List WriterKept → ℕ → List WriterKept → Type 0
-AllTick old now new = AllZip (λ (k : WriterKept) (x : WriterKept). Ticks k now x) old new
-
--- a writer to which this has happened besides, and nothing else
-pub record Enters (old : WriterKept) (entry : Written) (new : WriterKept) : Type 0 where
-  pub same : writer_identity new ≡ writer_identity old
-  pub stands : (w : Writer) (answered : Endpoint → Option ℤ) → WriterStands old w answered
-      → WriterStands new (with_written w entry) answered

@@ -6,7 +6,7 @@ ghost use Rattle.std.specs.Prelude.{◌≡◌};
 ghost use Rattle.dds_machine.specs.declared.call.Call.TheVariants as call;
 ghost use Rattle.dds_protocol.specs.declared.event.Event.TheVariants as event;
 ghost use Rattle.dds_core.specs.Accesses.{access_call};
-ghost use Rattle.dds_core.specs.Standing.{Steps};
+ghost use Rattle.dds_core.specs.Stepping.{Steps};
 ghost use Rattle.dds_core.specs.Sending.{SendsNothing};
 
 use crate::output::{answered, reply_to_access};

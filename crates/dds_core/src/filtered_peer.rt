@@ -11,12 +11,14 @@ ghost use Rattle.dds_machine.specs.Noticing.{at_end};
 ghost use Rattle.dds_machine.specs.Part.{Part, own_proxies, place_of};
 ghost use Rattle.dds_protocol.specs.Peer.{Peer as PeerState};
 ghost use Rattle.dds_base.specs.declared.config.Config.{Config as ConfigOf};
-ghost use Rattle.dds_core.specs.Filtering.{Adds, RefusesFilter, StandsFor, Steps};
+ghost use Rattle.dds_core.specs.Filtering.{StandsFor};
+ghost use Rattle.dds_core.specs.FilteredSteps.{Adds, RefusesFilter, Steps};
 ghost use Rattle.dds_core.specs.Noticing.{AreMarksOf, MarksPeer, Tells};
 ghost use Rattle.dds_core.specs.Opening.{core_refusal, opening_peer};
 ghost use Rattle.dds_core.specs.Pairs.{IsPair};
 ghost use Rattle.dds_core.specs.Sending.{AreMessages, Sends};
-ghost use Rattle.dds_core.specs.Standing.{SoundStepsBy, StandsFor as PeerStandsFor};
+ghost use Rattle.dds_core.specs.Standing.{StandsFor as PeerStandsFor};
+ghost use Rattle.dds_core.specs.Stepping.{SoundStepsBy};
 
 use crate::marks::Marks;
 use crate::pairing::Pair;

@@ -6,7 +6,8 @@ ghost use Rattle.std.specs.Prelude.{◌≡◌, ◌<◌, length, None, Ok, IfOk, 
 ghost use Rattle.std.specs.Fn.{FnReturnsAt};
 ghost use Rattle.dds_base.specs.Checked.{check_refusal};
 ghost use Rattle.dds_base.specs.Refusal.{Refuses};
-ghost use Rattle.dds_core.specs.Opening.{core_refusal, opening_peer, OpensEach, OpensCore};
+ghost use Rattle.dds_core.specs.Opening.{core_refusal, opening_peer};
+ghost use Rattle.dds_core.specs.OpeningEnds.{OpensEach, OpensCore};
 ghost use Rattle.dds_core.specs.Standing.{StandsFor};
 
 use crate::peer::Peer;

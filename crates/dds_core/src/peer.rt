@@ -4,7 +4,7 @@
 
 ghost use Rattle.std.specs.Prelude.{◌≡◌};
 ghost use Rattle.dds_protocol.specs.declared.event.Event.TheVariants as event;
-ghost use Rattle.dds_core.specs.Standing.{Steps, SoundStepsBy};
+ghost use Rattle.dds_core.specs.Stepping.{Steps, SoundStepsBy};
 ghost use Rattle.dds_core.specs.Sending.{Sends, AreMessages};
 
 use crate::expiring::expire_all;

@@ -13,9 +13,9 @@ ghost use Rattle.rtps_wire.specs.declared.submessage.Submessage.TheVariants as s
 ghost use Rattle.rtps_reader.specs.Answer.{IsSayable};
 ghost use Rattle.rtps_reader.specs.Tracked.{Tracked};
 ghost use Rattle.dds_core.specs.Expiring.{Expires, HasRoomForDeaths, IsDeadly};
-ghost use Rattle.dds_core.specs.Kept.{reader_identity};
+ghost use Rattle.dds_core.specs.Identity.{reader_identity};
 ghost use Rattle.dds_core.specs.Noticing.{MarksReader, RaisesSo, SeesStatus};
-ghost use Rattle.dds_core.specs.Opening.{OpensReader};
+ghost use Rattle.dds_core.specs.OpeningEnds.{OpensReader};
 ghost use Rattle.dds_core.specs.Readiness.{receiver_at, IsFirstName, IsNamedFor, IsNamedAt, NamedBy, NamesNobody, IsToldBy, HasMemory, IsReadyFor, IsAlike, CanTake, TakesTold, SameReader, IsPlaceAt};
 ghost use Rattle.dds_core.specs.Looking.{TakesOnly, TellsFlags, TellsLost, TellsLiveliness, TellsMatch};
 ghost use Rattle.dds_core.specs.Stored.{Holds};
@@ -70,7 +70,8 @@ pub struct ReaderEnd {
 }
 
 impl Model for ReaderEnd {
-    ghost use Rattle.dds_core.specs.Kept.{ReaderKept, FitsWriters};
+    ghost use Rattle.dds_core.specs.Kept.{ReaderKept};
+    ghost use Rattle.dds_core.specs.Identity.{FitsWriters};
 
     ghost Value = { ReaderKept };
 

@@ -9,7 +9,8 @@ ghost use Rattle.rtps_wire.specs.declared.message.Message.{Message as MessageOf}
 ghost use Rattle.rtps_wire.specs.Messages.{IsWritable};
 ghost use Rattle.rtps_wire.specs.declared.submessage.Submessage.TheVariants.{InfoDst};
 ghost use Rattle.dds_core.specs.Beating.{AddsTo, due_to};
-ghost use Rattle.dds_core.specs.Sending.{Announces, AreAnnouncements, AddsPacket, AreMessages, IsAddressable};
+ghost use Rattle.dds_core.specs.Sending.{AreMessages};
+ghost use Rattle.dds_core.specs.Announcing.{Announces, AreAnnouncements, AddsPacket, IsAddressable};
 
 use crate::matching::Destination;
 use dds_base::{EntityId, GuidPrefix, Moment, Octets, Sn};

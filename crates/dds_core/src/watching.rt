@@ -11,7 +11,7 @@ ghost use Rattle.dds_conditions.specs.Watched.{filter_refusal, use_refusal, with
 ghost use Rattle.dds_machine.specs.declared.call.Call.TheVariants as call;
 ghost use Rattle.dds_protocol.specs.declared.event.Event.TheVariants as event;
 ghost use Rattle.dds_core.specs.Accesses.{condition_call};
-ghost use Rattle.dds_core.specs.Standing.{Steps, StepsBy};
+ghost use Rattle.dds_core.specs.Stepping.{Steps, StepsBy};
 ghost use Rattle.dds_core.specs.Sending.{SendsNothing};
 ghost use Rattle.dds_core.specs.Watching.{AreActive, AsksBy, Tells, TellsActive, TellsStatuses, TellsTrigger, TellsValue, asked_of, conditions_reply, done_reply, made_reply};
 

@@ -16,12 +16,14 @@ ghost use Rattle.dds_machine.specs.Part.{ReaderProxy, Writer, history_of, writer
 ghost use Rattle.dds_core.specs.declared.matching.ReaderName.{ReaderName as NameOf};
 ghost use Rattle.dds_core.specs.Answering.{HasRoom, AreRooms, IsAskedAt, IsUnaskedAt, IsUnasked, TakesAckNack};
 ghost use Rattle.dds_core.specs.Beating.{BeatsOf, BeatsOfAll, HasNoCount, TellsOf};
-ghost use Rattle.dds_core.specs.Kept.{writer_identity};
+ghost use Rattle.dds_core.specs.Identity.{writer_identity};
 ghost use Rattle.dds_core.specs.Noticing.{MarksWriter};
-ghost use Rattle.dds_core.specs.Opening.{OpensWriter};
+ghost use Rattle.dds_core.specs.OpeningEnds.{OpensWriter};
 ghost use Rattle.dds_core.specs.Readiness.{receiver_at};
-ghost use Rattle.dds_core.specs.Sending.{AreAnnouncements, AreMessages};
-ghost use Rattle.dds_core.specs.Standing.{WriterStands, Enters, Ticks, AllTick};
+ghost use Rattle.dds_core.specs.Sending.{AreMessages};
+ghost use Rattle.dds_core.specs.Announcing.{AreAnnouncements};
+ghost use Rattle.dds_core.specs.Standing.{WriterStands};
+ghost use Rattle.dds_core.specs.Stepping.{Enters, Ticks, AllTick};
 
 use crate::answering::{Answering, Room, is_from, rooms, send_answers};
 use crate::heartbeat::{Beat, send_beats, send_to_all};

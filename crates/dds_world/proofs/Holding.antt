@@ -43,8 +43,10 @@ use Rattle.dds_core.specs.Standing.{IsSound}
 use Rattle.dds_core.proofs.Lists.{map-get, map-set_same}
 use Rattle.dds_core.proofs.Results.{err_as, ok_as}
 use Rattle.dds_world.specs.Acting.{Acts, Counts, IsCopy, IsQuiet, RuledSteps, StepsAt}
-use Rattle.dds_world.specs.Holding.{ActsIn, Adds, Held, IsOfPeer, RefusesFilter, RefusesListener, Sets, StepsIn, filters_of, given_at, heard, kept_of, tests_by, tests_in}
-use Rattle.dds_world.specs.WorldStanding.{Announces, Posts, StandsFor}
+use Rattle.dds_world.specs.Holding.{Adds, Held, RefusesFilter, RefusesListener, Sets, filters_of, given_at, heard, kept_of, tests_by, tests_in}
+use Rattle.dds_world.specs.HeldSteps.{ActsIn, IsOfPeer, StepsIn}
+use Rattle.dds_world.specs.WorldStanding.{StandsFor}
+use Rattle.dds_world.specs.Posting.{Announces, Posts}
 use Rattle.dds_world.proofs.Replaced.{peer_stands, with_peer}
 use Rattle.dds_world.proofs.Ruled.{called, delivered, not_delivered, ticked}
 use Rattle.dds_world.proofs.Sends.{called_sends, delivered_sends, quiet_delivery_sends, refused_call_sends, refused_tick_sends, ticked_sends}

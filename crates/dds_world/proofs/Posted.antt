@@ -3,7 +3,8 @@ use Rattle.std.proofs.Common.{◌≡◌, ℕ, ◌+◌, ◌-◌, ◌^◌, min, Li
 use Rattle.dds_protocol.specs.declared.event.Output.{Output}
 use Rattle.dds_protocol.specs.declared.event.Packet.{Packet}
 use Rattle.dds_protocol.specs.DueMessages.{Due, AreSent}
-use Rattle.dds_world.specs.WorldStanding.{Hearing, WorldKept, ArePosted, Posts}
+use Rattle.dds_world.specs.WorldStanding.{Hearing, WorldKept}
+use Rattle.dds_world.specs.Posting.{ArePosted, Posts}
 use Rattle.dds_world.specs.Acting.{Counts}
 
 -- how many packets found no memory, at the peer or on the way

@@ -28,7 +28,8 @@ use Rattle.dds_protocol.specs.Traffic.{Traffic, Sends}
 use Rattle.dds_protocol.proofs.EndsBeside.{machine_ends}
 use Rattle.dds_machine.specs.Noticing.{machine_ended}
 use Rattle.dds_machine.specs.Runs.{Steps}
-use Rattle.dds_world.specs.WorldStanding.{Hearing, WorldKept, StandsFor, MachineStands, Announces, KeepsRules, traffic}
+use Rattle.dds_world.specs.WorldStanding.{Hearing, WorldKept, StandsFor, MachineStands, KeepsRules, traffic}
+use Rattle.dds_world.specs.Posting.{Announces}
 use Rattle.dds_world.specs.Acting.{Acts, IsCopy, RuledSteps}
 use Rattle.dds_world.proofs.Sends.{numbered_so}
 use Rattle.dds_world.proofs.WorldSteps.{SendsItsDues, acts_ruled, calls_at, comes_to_nothing, delivers_at, found_at, nothing_moved, posts_none, set_same, ticks_at}

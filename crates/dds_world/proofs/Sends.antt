@@ -25,7 +25,8 @@ use Rattle.dds_core.specs.Kept.{PeerKept}
 use Rattle.dds_core.specs.Sending.{SendsNothing, SendsChange, SendsFor, due_at_tick}
 use Rattle.dds_core.proofs.CallSteps.{number_is, refused_nothing}
 use Rattle.dds_core.proofs.Lists.{get-within}
-use Rattle.dds_world.specs.WorldStanding.{Hearing, WorldKept, StandsFor, Posts, Announces, traffic}
+use Rattle.dds_world.specs.WorldStanding.{Hearing, WorldKept, StandsFor, traffic}
+use Rattle.dds_world.specs.Posting.{Posts, Announces}
 use Rattle.dds_world.specs.Acting.{Acts, Counts, IsQuiet}
 use Rattle.dds_world.proofs.Posted.{lost_in_all, lost_is, posted_count, posted_on}
 

@@ -45,7 +45,8 @@ use Rattle.dds_core.specs.Standing.{StandsFor as CoreStandsFor, IsSound, KeepsRu
 use Rattle.dds_core.proofs.CallSteps.{refused_nothing}
 use Rattle.dds_core.proofs.Lists.{get-within}
 use Rattle.dds_core.proofs.Taking.{stands_again}
-use Rattle.dds_world.specs.WorldStanding.{Hearing, WorldKept, StandsFor, ArePosted, Posts}
+use Rattle.dds_world.specs.WorldStanding.{Hearing, WorldKept, StandsFor}
+use Rattle.dds_world.specs.Posting.{ArePosted, Posts}
 use Rattle.dds_world.specs.Acting.{Acts, RuledSteps, StepsAt}
 use Rattle.dds_world.proofs.Posted.{lost_is, posted_on}
 use Rattle.dds_world.proofs.Replaced.{ended_at, peer_stands, same_at, with_peer}

@@ -23,7 +23,8 @@ use Rattle.dds_core.specs.Opening.{opening_peer}
 use Rattle.dds_core.specs.Sending.{Sends as CoreSends, SendsNothing, AreMessages}
 use Rattle.dds_core.specs.Listening.{CoreKept, StandsFor as CoreStands, no_listeners}
 use Rattle.dds_core.specs.Standing.{IsSound, KeepsRules as CoreKeepsRules, StandsFor as CoreStandsFor}
-use Rattle.dds_world.specs.WorldStanding.{Hearing, WorldKept, StandsFor, Posts}
+use Rattle.dds_world.specs.WorldStanding.{Hearing, WorldKept, StandsFor}
+use Rattle.dds_world.specs.Posting.{Posts}
 
 -- how many packets were counted as unsent: those of the peer, and those that found no memory in the network
 abbrev pub Counts : {hearing : Hearing} → WorldKept hearing → Output → WorldKept hearing → Type 0

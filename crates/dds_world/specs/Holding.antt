@@ -13,12 +13,7 @@ use Rattle.dds_conditions.specs.Watched.{filter_refusal}
 use Rattle.dds_notices.specs.declared.mask.StatusMask.{StatusMask}
 use Rattle.dds_notices.specs.declared.notice.Notice.{Notice}
 use Rattle.dds_notices.specs.Listeners.{ByEntity, HandedBack, Slotted, StandsFor as SlotsStandFor, at_entity, listener_refusal, listener_place, with_entity}
-use Rattle.dds_protocol.specs.declared.event.Event.{Event}
-use Rattle.dds_protocol.specs.declared.event.Event.TheVariants.{Call, Tick}
 use Rattle.dds_protocol.specs.declared.event.Packet.{Packet}
-use Rattle.dds_machine.specs.declared.event.WorldEvent.{WorldEvent}
-use Rattle.dds_machine.specs.declared.event.WorldEvent.TheVariants as world
-use Rattle.dds_machine.specs.declared.reply.Reply.{Reply}
 use Rattle.dds_protocol.specs.Filters.{world_with_filter}
 use Rattle.dds_machine.specs.Filters.{machine_with_filter}
 use Rattle.dds_machine.specs.Machine.{AllTests, Machine, part_at}
@@ -27,8 +22,7 @@ use Rattle.dds_protocol.specs.Noticing.{world_with_place}
 use Rattle.dds_machine.specs.Numbered.{numbered, with_numbered, HasNumber}
 use Rattle.dds_protocol.specs.World.{WorldState}
 use Rattle.dds_core.specs.Listening.{CoreKept, no_listeners}
-use Rattle.dds_world.specs.Acting.{Acts, RuledSteps}
-use Rattle.dds_world.specs.WorldStanding.{Hearing, Announces, WorldKept, MachineStands, StandsFor}
+use Rattle.dds_world.specs.WorldStanding.{Hearing, WorldKept, MachineStands, StandsFor}
 
 -- the peers with their filters and listeners, every packet that was sent, and how many found no memory
 pub record Held (F L : Type 0) : Type 0 where
@@ -150,29 +144,3 @@ RefusesListener {F} {L} notices capacity becomes held peer entity listener code 
     × ((given : ℕ → ByEntity L) (config : Config) (m : Machine)
     → MachineStandsFor notices capacity becomes given held config m
     → listener_refusal notices (part_at m peer).dds.listeners entity listener ≡ Some code))
-
--- ---- inner functions alone cite what follows
-
--- the network's event is this one of the peer of this number; a packet comes by its own number instead
-abbrev pub IsOfPeer : WorldEvent → ℕ → Event → Type 0
-IsOfPeer (world.Call number call) peer event = (number ≡ peer) × (Call call ≡ event)
-IsOfPeer (world.Tick number now) peer event = (number ≡ peer) × (Tick now ≡ event)
-IsOfPeer (world.Deliver number packet) peer event = ⊥
-
--- an event of the peer of this index, which adds no filter
-pub record ActsIn {F L : Type 0} (meaning : F → Key → List ℕ → Bool) (notices : L → List Notice) (capacity : L → ℕ)
-    (becomes : L → Notice → L → Type 0) (old : Held F L) (index : ℕ) (event : Event)
-    (reply : Reply) (new : Held F L) : Type 0 where
-  pub acts : (given : ℕ → ByEntity L) → Acts (tests_in meaning old) (kept_of notices capacity becomes given old) index
-      event reply (kept_of notices capacity becomes given new)
-  pub filters : filters_of new ≡ filters_of old
-
--- a step by the rules, which adds no filter, and what is sent at it
-pub record StepsIn {F L : Type 0} (meaning : F → Key → List ℕ → Bool) (notices : L → List Notice) (capacity : L → ℕ)
-    (becomes : L → Notice → L → Type 0) (old : Held F L) (event : WorldEvent)
-    (reply : Reply) (new : Held F L) : Type 0 where
-  pub steps : (given : ℕ → ByEntity L) → RuledSteps (tests_in meaning old) (kept_of notices capacity becomes given old)
-      event reply (kept_of notices capacity becomes given new)
-  pub filters : filters_of new ≡ filters_of old
-  pub sends : (given : ℕ → ByEntity L) → Announces (kept_of notices capacity becomes given old) event reply
-      (kept_of notices capacity becomes given new)

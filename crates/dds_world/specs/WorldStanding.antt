@@ -1,10 +1,8 @@
--- What a network stands for, and what its steps and runs promise of packets.
---
--- To be believed are `KeepsRules`, `RunsByRules`, and `WorldKept`, `Hearing` and `traffic`, which they name. What a network stands
--- for is not, since they are said of all of it; and inner functions alone cite `Announces`, `Posts` and `ArePosted`.
+-- What a network stands for, and what its steps and runs promise of packets. What a value stands for need not be believed:
+-- the contracts say all that matters of it.
 --
 -- The network is this project's own; its peers behave by RTPS 2.5, 8.4, and their listeners by DDS 1.4, 2.2.4.3.
-use Rattle.std.specs.Prelude.{◌≡◌, ◌≢◌, ◌⊎◌, ℕ, suc, ◌+◌, ◌-◌, ◌^◌, ◌≤◌, List, [], ◌∷◌, ◌++◌, length, get_or, slice_get, Some, Contains, AllPairs}
+use Rattle.std.specs.Prelude.{◌≡◌, ℕ, suc, ◌-◌, ◌^◌, ◌≤◌, List, length, get_or, slice_get, Some}
 use Rattle.dds_base.specs.declared.config.Config.{Config}
 use Rattle.dds_notices.specs.Listeners.{Places}
 use Rattle.dds_protocol.specs.Noticing.{world_ended}
@@ -15,7 +13,7 @@ use Rattle.dds_machine.specs.Machine.{AllTests, Machine}
 use Rattle.dds_protocol.specs.Bounds.{IsBounded}
 use Rattle.dds_protocol.specs.Fresh.{HasUsedCounts}
 use Rattle.dds_protocol.specs.Rules.{CountedStep, RuledRun}
-use Rattle.dds_protocol.specs.Traffic.{Traffic, Sends}
+use Rattle.dds_protocol.specs.Traffic.{Traffic}
 use Rattle.dds_protocol.specs.World.{WorldState, machine_of, peer_at, Sound}
 use Rattle.dds_core.specs.Kept.{PeerKept}
 use Rattle.dds_core.specs.Sending.{AreMessages}
@@ -56,23 +54,6 @@ pub record StandsFor {hearing : Hearing} (kept : WorldKept hearing) (config : Co
   pub used : HasUsedCounts config network
   pub bounded : IsBounded (machine_of network)
 
--- of these packets, in their order, these were sent, and so many were not
-abbrev pub ArePosted : List Packet → List Packet → ℕ → Type 0
-ArePosted [] posted lost = (posted ≡ []) × (lost ≡ 0)
-ArePosted (packet ∷ packets) posted lost =
-    ((rest : List Packet) × (posted ≡ packet ∷ rest) × ArePosted packets rest lost)
-    ⊎ ((fewer : ℕ) × (lost ≡ fewer + 1) × ArePosted packets posted fewer)
-
--- of these packets some were sent, in their order, and the others were lost; those to different peers stay so
-pub record Posts (old : List Packet) (packets : List Packet) (new : List Packet) : Type 0 where
-  pub posted : List Packet
-  pub sent : new ≡ old ++ posted
-  pub lost : ℕ
-  pub are_posted : ArePosted packets posted lost
-  pub of_packets : (packet : Packet) → Contains posted packet → Contains packets packet
-  pub fewer : length posted ≤ length packets
-  pub different : AllPairs (λ (a b : Packet). a.to ≢ b.to) packets → AllPairs (λ (a b : Packet). a.to ≢ b.to) posted
-
 -- A machine for which what a network keeps stands: its parts are those of the peers in a state for which it stands.
 abbrev pub MachineStands : {hearing : Hearing} → WorldKept hearing → Config → Machine → Type 0
 MachineStands kept config m =
@@ -81,12 +62,6 @@ MachineStands kept config m =
 -- the packets that were sent, and how many were not
 abbrev pub traffic : {hearing : Hearing} → WorldKept hearing → Traffic
 traffic kept = record { sent = kept.sent; unsent = kept.unsent }
-
--- For each state that the old network stands for, this is what is sent at the event.
-abbrev pub Announces : {hearing : Hearing} → WorldKept hearing → WorldEvent → Reply → WorldKept hearing → Type 0
-Announces old event reply new =
-    (config : Config) (network : WorldState) → StandsFor old config network
-    → Sends config (traffic old) (machine_of network) event reply (traffic new)
 
 -- For each state that the old network stood for, the event is a step of its peers by the rules of the protocol, which
 -- say which messages are due, and of these each is sent, in their order, or counted; it is a step of the machine that

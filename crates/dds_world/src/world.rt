@@ -18,9 +18,11 @@ ghost use Rattle.dds_machine.specs.Numbered.{numbered};
 ghost use Rattle.dds_protocol.specs.Opening.{opening_world};
 ghost use Rattle.dds_core.specs.Opening.{opening_peer};
 ghost use Rattle.dds_core.specs.Listening.{StandsFor as CoreStandsFor, no_listeners};
-ghost use Rattle.dds_world.specs.WorldStanding.{traffic, KeepsRules, Posts, RunsByRules, StandsFor};
+ghost use Rattle.dds_world.specs.WorldStanding.{traffic, KeepsRules, RunsByRules, StandsFor};
+ghost use Rattle.dds_world.specs.Posting.{Posts};
 ghost use Rattle.dds_world.specs.Acting.{Counts, IsCopy, IsQuiet, OpensFirst};
-ghost use Rattle.dds_world.specs.Holding.{ActsIn, Adds, IsOfPeer, RefusesFilter, RefusesListener, Sets, StepsIn, MachineStandsFor, filters_of, kept_of, none_given, tests_in};
+ghost use Rattle.dds_world.specs.Holding.{Adds, RefusesFilter, RefusesListener, Sets, MachineStandsFor, filters_of, kept_of, none_given, tests_in};
+ghost use Rattle.dds_world.specs.HeldSteps.{ActsIn, IsOfPeer, StepsIn};
 
 use dds_base::{Code, Config, Entity, Octets, Sequence, Sn, index_of};
 use dds_conditions::Filter;

@@ -1,6 +1,6 @@
 use Rattle.std.proofs.Common.{◌≡◌, ◌+◌, ◌*◌, ◌≤◌, ◌++◌, drop, length}
 use Rattle.dds_base.specs.Matched.{of_matched_readers}
-use Rattle.dds_core.specs.Matching.{reader_name, reader_names}
+use Rattle.dds_core.specs.EndNames.{reader_name, reader_names}
 use Rattle.dds_core.proofs.matching.matched_readers.Given as goal
 
 abbrev pub invariant-loop-index : goal.invariant-loop-index

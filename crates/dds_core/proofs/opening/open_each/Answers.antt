@@ -1,7 +1,7 @@
 use Rattle.std.proofs.Common.{List, Ok, rules, subst}
 use Rattle.std.proofs.lemmas.List.{take_all}
 use Rattle.std.specs.Fn.{FnReturnsAt}
-use Rattle.dds_core.specs.Opening.{OpensEach}
+use Rattle.dds_core.specs.OpeningEnds.{OpensEach}
 use Rattle.dds_core.proofs.OpeningLaws.{opens_more}
 use Rattle.dds_core.proofs.opening.open_each.Goals as goal
 

@@ -1,6 +1,6 @@
 use Rattle.std.proofs.Common.{take, Ok}
 use Rattle.std.specs.Fn.{FnReturnsAt}
-use Rattle.dds_core.specs.Opening.{OpensEach}
+use Rattle.dds_core.specs.OpeningEnds.{OpensEach}
 use Rattle.dds_core.proofs.opening.open_each.Given as goal
 
 abbrev pub invariant-loop-config : goal.invariant-loop-config

@@ -1,7 +1,7 @@
 use Rattle.std.proofs.Common.{sym, subst}
 use Rattle.rtps_wire.specs.declared.message.Message.{Message}
 use Rattle.rtps_wire.specs.Messages.{IsWritable}
-use Rattle.dds_core.specs.Sending.{Announces, IsAddressable}
+use Rattle.dds_core.specs.Announcing.{Announces, IsAddressable}
 use Rattle.dds_core.proofs.Announcing.{addressable_again, says_again, announces_more, few_more, some_again}
 use Rattle.dds_core.proofs.sending.announce.Goals as goal
 

@@ -1,5 +1,5 @@
 use Rattle.std.proofs.Common.{◌≤◌, length, take}
-use Rattle.dds_core.specs.Sending.{Announces, AreAnnouncements, IsAddressable}
+use Rattle.dds_core.specs.Announcing.{Announces, AreAnnouncements, IsAddressable}
 use Rattle.dds_core.proofs.sending.announce.Given as goal
 
 abbrev pub invariant-loop-destination : goal.invariant-loop-destination

@@ -1,4 +1,4 @@
-use Rattle.dds_world.specs.WorldStanding.{Posts}
+use Rattle.dds_world.specs.Posting.{Posts}
 use Rattle.dds_world.proofs.world.post.Given as goal
 
 abbrev pub invariant-loop-packet : goal.invariant-loop-packet

@@ -1,6 +1,7 @@
 use Rattle.std.proofs.Common.{subst}
 use Rattle.dds_conditions.specs.Filtered.{tests_of}
-use Rattle.dds_core.specs.Filtering.{FilteredKept, Steps}
+use Rattle.dds_core.specs.Filtering.{FilteredKept}
+use Rattle.dds_core.specs.FilteredSteps.{Steps}
 use Rattle.dds_core.proofs.Filtering.{steps}
 use Rattle.dds_core.proofs.filtered_peer.FilteredPeer.step.Goals as goal
 

@@ -5,7 +5,8 @@ use Rattle.dds_machine.specs.declared.reply.Move.{Move}
 use Rattle.dds_core.specs.declared.answering.Room.{Room}
 use Rattle.dds_core.specs.declared.sending.Announced.{Announced}
 use Rattle.dds_core.specs.Answering.{TakesRows}
-use Rattle.dds_core.specs.Kept.{PeerKept, WriterKept, WriterIdentity}
+use Rattle.dds_core.specs.Kept.{PeerKept, WriterKept}
+use Rattle.dds_core.specs.Identity.{WriterIdentity}
 use Rattle.dds_core.specs.Sending.{AreMessages}
 use Rattle.dds_core.proofs.Ready.{still_ready, rest_more}
 use Rattle.dds_core.proofs.Requesting.{rows_none, rows_skip, rows_more}

@@ -2,7 +2,7 @@ use Rattle.std.proofs.Common.{List, sym, subst}
 use Rattle.dds_protocol.specs.declared.event.Event.TheVariants as event
 use Rattle.dds_protocol.specs.declared.event.Packet.{Packet}
 use Rattle.dds_machine.specs.declared.reply.Reply.TheVariants.{Reported}
-use Rattle.dds_core.specs.Standing.{SoundSteps}
+use Rattle.dds_core.specs.Stepping.{SoundSteps}
 use Rattle.dds_core.proofs.Delivering.{delivers}
 use Rattle.dds_core.proofs.peer.Peer.deliver.Goals as goal
 

@@ -7,8 +7,8 @@ use Rattle.dds_machine.specs.Refusals.{change_made}
 use Rattle.dds_protocol.specs.declared.event.Packet.{Packet}
 use Rattle.dds_core.specs.Kept.{PeerKept, WriterKept}
 use Rattle.dds_core.specs.Making.{IsNotMade}
-use Rattle.dds_core.specs.Sending.{AreAnnouncements}
-use Rattle.dds_core.specs.Standing.{Enters}
+use Rattle.dds_core.specs.Announcing.{AreAnnouncements}
+use Rattle.dds_core.specs.Stepping.{Enters}
 use Rattle.dds_core.proofs.Makes.{made, made_by, not_begun, not_made, writer_at}
 use Rattle.dds_core.proofs.CallSteps.{still_stands}
 use Rattle.dds_core.proofs.peer.Peer.make.Goals as goal

@@ -1,6 +1,6 @@
 use Rattle.std.proofs.Common.{sym, subst}
 use Rattle.dds_protocol.specs.declared.event.Event.{Event}
-use Rattle.dds_core.specs.Standing.{SoundStepsBy}
+use Rattle.dds_core.specs.Stepping.{SoundStepsBy}
 use Rattle.dds_core.proofs.AnyTests.{any_delivery, any_tick}
 use Rattle.dds_core.proofs.Taking.{sound_call, sound_tick}
 use Rattle.dds_core.proofs.peer.Peer.step_by.Goals as goal

@@ -5,7 +5,7 @@ use Rattle.dds_core.specs.Beating.{BeatsOfAll}
 use Rattle.dds_core.specs.Expiring.{AllExpire, HasDeadly}
 use Rattle.dds_core.specs.Kept.{ReaderKept, WriterKept}
 use Rattle.dds_core.specs.Readiness.{AreAlike}
-use Rattle.dds_core.specs.Standing.{AllTick}
+use Rattle.dds_core.specs.Stepping.{AllTick}
 use Rattle.dds_core.proofs.BeatsDue.{due_sent}
 use Rattle.dds_core.proofs.CallSteps.{follows_as, tick_without_memory, ticks, still_stands}
 use Rattle.dds_core.proofs.Lists.{written_back}

@@ -2,7 +2,7 @@ use Rattle.std.proofs.Common.{◌+◌, sym, subst}
 use Rattle.dds_machine.specs.declared.event.WorldEvent.TheVariants as world
 use Rattle.dds_machine.specs.declared.reply.Reply.TheVariants.{Reported}
 use Rattle.dds_machine.specs.declared.reply.Report.{Report}
-use Rattle.dds_world.specs.Holding.{StepsIn}
+use Rattle.dds_world.specs.HeldSteps.{StepsIn}
 use Rattle.dds_world.proofs.Holding.{delivered_in, not_delivered_in}
 use Rattle.dds_world.proofs.world.World.deliver_at.Goals as goal
 

@@ -1,6 +1,6 @@
 use Rattle.std.proofs.Common.{ℕ, ◌+◌, sym, subst}
 use Rattle.dds_machine.specs.declared.event.WorldEvent.TheVariants as world
-use Rattle.dds_world.specs.Holding.{StepsIn}
+use Rattle.dds_world.specs.HeldSteps.{StepsIn}
 use Rattle.dds_world.proofs.Holding.{no_delivery_in}
 use Rattle.dds_world.proofs.world.World.deliver_sent.Goals as goal
 

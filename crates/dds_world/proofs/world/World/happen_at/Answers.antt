@@ -1,6 +1,7 @@
 use Rattle.std.proofs.Common.{◌<◌, length, subst, ap, arith}
 use Rattle.dds_core.specs.Listening.{CoreKept}
-use Rattle.dds_world.specs.Holding.{ActsIn, Held}
+use Rattle.dds_world.specs.Holding.{Held}
+use Rattle.dds_world.specs.HeldSteps.{ActsIn}
 use Rattle.dds_world.proofs.Holding.{acts_in}
 use Rattle.dds_world.proofs.world.World.happen_at.Goals as goal
 
