@@ -1,6 +1,6 @@
 #!/usr/bin/env python3
 """Datagrams as docs/WIRE.md has them, written and read apart from the crates, and the dialogue with the built `dds_pipe`:
-tools/fuzz asks here. Run alone, it tests itself on the packets that docs/WIRE.md draws."""
+tools/fuzz and tools/damaged ask here. Run alone, it tests itself on the packets that docs/WIRE.md draws."""
 from __future__ import annotations
 
 import os
