@@ -1,6 +1,7 @@
 #!/usr/bin/env python3
 """Datagrams as docs/WIRE.md has them, written and read apart from the crates, and the dialogue with the built `dds_pipe`:
-tools/fuzz and tools/damaged ask here. Run alone, it tests itself on the packets that docs/WIRE.md draws."""
+tools/fuzz and tools/damaged ask here. Run alone, it tests itself on the packets that docs/WIRE.md draws, and on the rows of
+`library_tests` that say what is read of a packet."""
 from __future__ import annotations
 
 import os
@@ -10,7 +11,7 @@ import select
 import struct
 import subprocess
 import sys
-from typing import FrozenSet, List, NamedTuple, Optional, Tuple
+from typing import FrozenSet, Iterator, List, NamedTuple, Optional, Tuple
 
 TOP = pathlib.Path(__file__).resolve().parent.parent
 PROGRAM = TOP / "crates/dds_pipe/out/dds_pipe"
@@ -317,6 +318,52 @@ def drawn(text: str) -> bytes:
     return b"".join(bytes.fromhex(re.match(r"\s*((?:[0-9a-f]{2}\b *)*)", row)[1]) for row in text.split("\n"))  # type: ignore[index]
 
 
+def text_of_members(members: FrozenSet[int]) -> str:
+    ends = [it for it in sorted(members) if not (it - 1 in members and it + 1 in members)]
+    return "members" + "".join(f"-{it}" if it - 1 in members else f" {it}" for it in ends)
+
+
+def text_of(said: Said) -> str:
+    """A submessage in the words of a row, but for what does not count here."""
+    ids, rest = f"writer {said.writer.hex()} reader {said.reader.hex()}", said.rest
+    if said.kind == "data":
+        value = f" {rest[2].hex()}" if rest[0] == "write" else ""
+        return f"DATA {ids} sn {said.first} {rest[0]} {rest[1].hex()}{value}".rstrip()
+    if said.kind == "heartbeat":
+        final, liveliness = (str(it).lower() for it in rest[1:])
+        return f"HEARTBEAT {ids} first {said.first} last {said.last} count {rest[0]} final {final} liveliness {liveliness}"
+    if said.kind == "gap":
+        return f"GAP {ids} start {said.first} base {rest[0]} {text_of_members(rest[1])}"
+    return f"ACKNACK {ids} count {rest[0]} base {said.first} {text_of_members(rest[1])}"
+
+
+def rows() -> Iterator[Tuple[str, bytes, List[str]]]:
+    """The rows of `library_tests` that say of a packet what is read: the row, its octets, and each submessage."""
+    for path in sorted((TOP / "crates/library_tests/src/tests/wire").rglob("*.rt")):
+        for table in re.findall(r'"\\\n(.*?)"', path.read_text(), re.S):
+            for row in re.sub(r"\\\n\s*", "", table).split("\n"):
+                shown = re.match(r"(whole|read) (.*?) => (.*)", row)
+                if shown:
+                    words = [it.partition("x") for it in shown[2].split()]
+                    octets = b"".join(bytes.fromhex(digits) * int(count or 1) for digits, _, count in words)
+                    parts = re.sub(r"; written.*", "", shown[3]).split("; ")[1:]
+                    yield row, octets if shown[1] == "whole" else header(bytes(11) + b"\x01") + octets, parts
+
+
+def test_rows() -> int:
+    """How many rows say what is read here: those of which all is for one peer."""
+    passed = 0
+    for row, octets, parts in rows():
+        owns = {it[9:33] for it in parts if it.startswith("INFO_DST ")} or {NO_PREFIX.hex()}
+        if len(owns) == 1:
+            named = [it for it in parts if it.split(" ")[0] in ("DATA", "HEARTBEAT", "GAP", "ACKNACK")]
+            wanted = [re.sub(r" bits \d+| final \w+(?= base)", "", it).rstrip() for it in named]
+            found = [text_of(it) for it in statements(octets, bytes.fromhex(owns.pop()))[1]]
+            assert found == wanted, f"{row}: {found} for {wanted}"
+            passed += 1
+    return passed
+
+
 def test() -> int:
     page = (TOP / "docs/WIRE.md").read_text()
     first, second = [drawn(it) for it in re.findall(r"```text\n(52 54 50 53.*?)```", page, re.S)]
@@ -329,7 +376,7 @@ def test() -> int:
     assert statements(first, two) == (one, [Said("data", UNKNOWN, writer, 2, 2, ("dispose", key, b"", 0))])
     assert statements(second, one) == (two, [Said("acknack", reader, writer, 2, 2, (1, frozenset([2])))])
     assert statements(second, two)[1] == statements(second[:-1], one)[1] == []
-    print("datagrams: 2 drawings passed")
+    print(f"datagrams: 2 drawings and {test_rows()} rows passed")
     return 0
 
 
