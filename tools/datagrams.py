@@ -143,6 +143,7 @@ def take_payload(payload: bytes, has_value: bool) -> Tuple[bytes, Optional[bytes
 
 
 def read_data(order: str, flags: int, body: bytes, moment: int) -> Said:
+    """A DATA; ValueError where it is not valid, as where any is read."""
     (skip,) = take(order, "H", body, 2)
     reader, writer, at = body[4:8], body[8:12], 4 + skip
     sequence = take_number(order, body, 12)
