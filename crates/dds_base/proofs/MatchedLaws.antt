@@ -4,9 +4,7 @@ use Rattle.std.specs.List.{list_any}
 use Rattle.std.proofs.lemmas.List.Folds.{list_any-append}
 use Rattle.dds_base.specs.declared.config.PeerConfig.{PeerConfig}
 use Rattle.dds_base.specs.declared.config.WriterConfig.{WriterConfig}
-use Rattle.dds_base.specs.declared.qos.ReliabilityQos.{ReliabilityQos}
-use Rattle.dds_base.specs.declared.qos.ReliabilityQos.TheVariants.{Reliable}
-use Rattle.dds_base.specs.Matched.{same_topic, is_reliable, of_writers_in, of_matched_writers}
+use Rattle.dds_base.specs.Matched.{same_topic, of_writers_in, of_matched_writers}
 
 if_matched : (test : WriterConfig → Bool) (w : WriterConfig) (found : List WriterConfig) (later matched : Bool)
     → list_any test found ≡ later → list_any test (cond matched (w ∷ found) found) ≡ ((matched && test w) || later)
@@ -33,7 +31,3 @@ any_matched test topic peer (p ∷ ps) =
     ∙ (ap (λ (b : Bool). b || list_any test (of_matched_writers (λ i q n w. w) topic (peer + 1) ps))
     (any_in test topic 1 p.writers)
     ∙ ap (λ (b : Bool). any_of test topic p || b) (any_matched test topic (peer + 1) ps))
-
--- every reader is reliable, so a writer's matched readers are its matched reliable readers
-pub every_reliable : (r : ReliabilityQos) → is_reliable r ≡ true
-every_reliable Reliable = refl

@@ -22,10 +22,15 @@ abbrev pub or_else : {X : Type 0} → Option X → Option X → Option X
 or_else None b = b
 or_else (Some x) b = Some x
 
--- the kind of the last accepted write or dispose of i
+-- the entry ends the life of i: what came of i up to it counts no more, and i is unknown again. None does: an instance
+-- that is known stays known
+abbrev pub ends_life : ReaderQos → Key → List Happening → Happening → Bool
+ends_life q i h e = false
+
+-- the kind of the last accepted write or dispose of i in its life
 abbrev pub last_accepted : ReaderQos → Key → List Happening → Option ChangeKind
 last_accepted q i [] = None
-last_accepted q i (e ∷ h) = or_else (accepted_kind q i h e) (last_accepted q i h)
+last_accepted q i (e ∷ h) = if ends_life q i h e then None else or_else (accepted_kind q i h e) (last_accepted q i h)
 
 -- nobody is in the list
 abbrev pub is_nobody : List ℕ → Bool
@@ -65,15 +70,17 @@ revives_disposed q i h e = is_write (accepted_kind q i h e) && is_disposed (inst
 abbrev pub revives_without_writers : ReaderQos → Key → List Happening → Happening → Bool
 revives_without_writers q i h e = is_write (accepted_kind q i h e) && is_without_writers (instance_state_of q i h)
 
--- how often i became alive again after a dispose (2.2.2.5, disposed_generation_count)
+-- how often i became alive again after a dispose, in its life (2.2.2.5, disposed_generation_count)
 abbrev pub disposed_generations : ReaderQos → Key → List Happening → ℕ
 disposed_generations q i [] = 0
-disposed_generations q i (e ∷ h) = disposed_generations q i h + (if revives_disposed q i h e then 1 else 0)
+disposed_generations q i (e ∷ h) =
+    if ends_life q i h e then 0 else disposed_generations q i h + (if revives_disposed q i h e then 1 else 0)
 
--- how often i became alive again after it had no writers (2.2.2.5, no_writers_generation_count)
+-- how often i became alive again after it had no writers, in its life (2.2.2.5, no_writers_generation_count)
 abbrev pub no_writers_generations : ReaderQos → Key → List Happening → ℕ
 no_writers_generations q i [] = 0
-no_writers_generations q i (e ∷ h) = no_writers_generations q i h + (if revives_without_writers q i h e then 1 else 0)
+no_writers_generations q i (e ∷ h) =
+    if ends_life q i h e then 0 else no_writers_generations q i h + (if revives_without_writers q i h e then 1 else 0)
 
 -- both counts together
 abbrev pub generations_of : ReaderQos → Key → List Happening → ℕ
@@ -83,10 +90,10 @@ generations_of q i h = disposed_generations q i h + no_writers_generations q i h
 abbrev pub is_rebirth : ReaderQos → Key → List Happening → Happening → Bool
 is_rebirth q i h e = revives_disposed q i h e || revives_without_writers q i h e
 
--- the position of i's latest rebirth, or the start
+-- the position of i's latest rebirth, or else that where its life began
 abbrev pub latest_rebirth : ReaderQos → Key → List Happening → ℕ
 latest_rebirth q i [] = 0
-latest_rebirth q i (e ∷ h) = if is_rebirth q i h e then length h + 1 else latest_rebirth q i h
+latest_rebirth q i (e ∷ h) = if ends_life q i h e || is_rebirth q i h e then length h + 1 else latest_rebirth q i h
 
 -- a sample of i at this position or a later one
 abbrev pub is_since : Key → ℕ → SamplePosition → Bool
@@ -100,7 +107,7 @@ accesses i j e = list_any (is_since i j) (read_by e) || list_any (is_since i j) 
 abbrev pub view_state_of : ReaderQos → Key → List Happening → ViewState
 view_state_of q i h = if list_any (accesses i (latest_rebirth q i h)) h then NotNew else New
 
--- the entry makes i known: its first accepted write or dispose
+-- the entry makes i known: the first accepted write or dispose of its life
 abbrev pub introduces : ReaderQos → Key → List Happening → Happening → Bool
 introduces q i h e = not (is_some (last_accepted q i h)) && is_some (accepted_kind q i h e)
 
