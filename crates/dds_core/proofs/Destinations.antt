@@ -6,7 +6,7 @@ use Rattle.std.specs.Option.{option_map}
 use Rattle.dds_base.specs.declared.config.Config.{Config}
 use Rattle.dds_base.specs.declared.config.PeerConfig.{PeerConfig}
 use Rattle.dds_base.specs.declared.config.ReaderConfig.{ReaderConfig}
-use Rattle.dds_base.specs.Matched.{same_topic, of_readers_in, of_matched_readers}
+use Rattle.dds_base.specs.Matched.{is_reliable_reader, same_topic, of_readers_in, of_matched_readers}
 use Rattle.dds_machine.specs.declared.endpoint.Endpoint.{Endpoint}
 use Rattle.dds_protocol.specs.Claims.{IsNumbered}
 use Rattle.dds_machine.specs.Part.{ReaderProxy, same_endpoint, row_of, acknowledged_of}
@@ -185,7 +185,7 @@ is_reader config topic rows reader names some =
     let there : slice_get (reader_ends topic config.peers) f.0 ≡ Some reader =
     subst (λ (es : List Endpoint). slice_get es f.0 ≡ Some reader) names f.1 in
     let t =
-    is_told config.peers (λ (p : PeerConfig). p.readers) (λ (r : ReaderConfig). r.topic)
+    is_told config.peers (λ (p : PeerConfig). p.readers) is_reliable_reader (λ (r : ReaderConfig). r.topic)
     (λ i p n r. name_at i n r) topic f.0 reader there in
     subst (λ (e : Endpoint). IsReaderOf config topic e) t.told
     (record { peer = t.peer; at_peer = t.at_peer; end = t.end; at_reader = t.at_end; same_topic = t.same_topic })

@@ -2,8 +2,9 @@
 use Rattle.std.specs.Prelude.{IfNone}
 use Rattle.rtps_wire.specs.declared.submessage.Submessage.{Submessage}
 use Rattle.rtps_wire.specs.declared.submessage.Submessage.TheVariants.{Data, Heartbeat, Gap}
-use Rattle.std.proofs.Common.{◌≡◌, Option, ℕ, zero, suc, ◌+◌, ◌-◌, ◌<◌, Bool, true, false, cond, List, [], ◌∷◌, ◌++◌, Some, None, slice_get, refl, ap, sym, ◌∙◌, arith, inl, inr, ⊎_elim, eq-eqb}
+use Rattle.std.proofs.Common.{◌≡◌, Option, ℕ, zero, suc, ◌+◌, ◌-◌, ◌<◌, Bool, true, false, cond, ◌&&◌, List, [], ◌∷◌, ◌++◌, Some, None, slice_get, refl, ap, sym, ◌∙◌, arith, inl, inr, ⊎_elim, eq-eqb}
 use Rattle.std.proofs.lemmas.Option.{same_Some}
+use Rattle.std.proofs.lemmas.Bool.{and_from}
 use Rattle.dds_base.specs.declared.config.Config.{Config}
 use Rattle.dds_base.specs.declared.config.PeerConfig.{PeerConfig}
 use Rattle.dds_base.specs.declared.config.WriterConfig.{WriterConfig}
@@ -11,7 +12,7 @@ use Rattle.dds_base.specs.declared.config.ReaderConfig.{ReaderConfig}
 use Rattle.dds_base.specs.declared.guid.EntityId.{EntityId}
 use Rattle.dds_base.specs.declared.guid.Guid.{Guid}
 use Rattle.dds_base.specs.declared.guid.GuidPrefix.{GuidPrefix}
-use Rattle.dds_base.specs.Matched.{same_topic, of_ends_in, of_matched_ends}
+use Rattle.dds_base.specs.Matched.{same_topic, any_writer, of_ends_in, of_matched_ends}
 use Rattle.dds_machine.specs.declared.endpoint.Endpoint.{Endpoint}
 use Rattle.dds_protocol.specs.Claims.{Receiver, IsWriter, IsReader, IsToReader}
 use Rattle.dds_protocol.specs.Peer.{Peer}
@@ -100,44 +101,45 @@ in_here true a xs h = (zero, refl)
 in_here false a xs h = cc
 
 -- each end of the topic is told of
-told_end : {E X : Type 0} (topic_of : E → ℕ) (tell : ℕ → E → X) (topic n : ℕ) (es : List E) (j : ℕ) (e : E)
-    → slice_get es j ≡ Some e → topic_of e ≡ topic
-    → (k : ℕ) × (slice_get (of_ends_in topic_of tell topic n es) k ≡ Some (tell (n + j) e))
-told_end topic_of tell topic n [] j e at is = absurd cc
-told_end {X = X} topic_of tell topic n (a ∷ as') zero e at is =
+told_end : {E X : Type 0} (is_wanted : E → Bool) (topic_of : E → ℕ) (tell : ℕ → E → X) (topic n : ℕ) (es : List E)
+    (j : ℕ) (e : E) → slice_get es j ≡ Some e → is_wanted e ≡ true → topic_of e ≡ topic
+    → (k : ℕ) × (slice_get (of_ends_in is_wanted topic_of tell topic n es) k ≡ Some (tell (n + j) e))
+told_end is_wanted topic_of tell topic n [] j e at wanted is = absurd cc
+told_end {X = X} is_wanted topic_of tell topic n (a ∷ as') zero e at wanted is =
     let same = same_Some a e at in
     let there =
-    in_here (same_topic (topic_of a) topic) (tell n a) (of_ends_in topic_of tell topic (n + 1) as')
-    (eq-eqb (topic_of a) topic (ap topic_of same ∙ is)) in
+    in_here (is_wanted a && same_topic (topic_of a) topic) (tell n a) (of_ends_in is_wanted topic_of tell topic (n + 1) as')
+    (and_from (is_wanted a) (same_topic (topic_of a) topic) (ap is_wanted same ∙ wanted)
+    (eq-eqb (topic_of a) topic (ap topic_of same ∙ is))) in
     let number : n ≡ n + 0 = omega arith in
     (there.0, there.1 ∙ (ap (λ x. Some (tell n x)) same ∙ ap (λ m. Some (tell m e)) number))
-told_end topic_of tell topic n (a ∷ as') (suc j) e at is =
-    let rest = told_end topic_of tell topic (n + 1) as' j e at is in
+told_end is_wanted topic_of tell topic n (a ∷ as') (suc j) e at wanted is =
+    let rest = told_end is_wanted topic_of tell topic (n + 1) as' j e at wanted is in
     let more =
-    in_more (same_topic (topic_of a) topic) (tell n a) (of_ends_in topic_of tell topic (n + 1) as') rest.0 _ rest.1
+    in_more (is_wanted a && same_topic (topic_of a) topic) (tell n a) (of_ends_in is_wanted topic_of tell topic (n + 1) as') rest.0 _ rest.1
     in
     let number : n + 1 + j ≡ n + suc j = omega arith in
     (more.0, more.1 ∙ ap (λ m. Some (tell m e)) number)
 
-pub told : {E X : Type 0} (ends : PeerConfig → List E) (topic_of : E → ℕ) (tell : ℕ → PeerConfig → ℕ → E → X)
+pub told : {E X : Type 0} (ends : PeerConfig → List E) (is_wanted : E → Bool) (topic_of : E → ℕ) (tell : ℕ → PeerConfig → ℕ → E → X)
     (topic i : ℕ) (ps : List PeerConfig) (h : ℕ) (p : PeerConfig) (j : ℕ) (e : E) → slice_get ps h ≡ Some p
     → slice_get (ends p) j ≡ Some e
-    → topic_of e ≡ topic → (k : ℕ)
-    × (slice_get (of_matched_ends ends topic_of tell topic i ps) k ≡ Some (tell (i + h) p (1 + j) e))
-told ends topic_of tell topic i [] h p j e at_p at_e is = absurd cc
-told ends topic_of tell topic i (q ∷ qs) zero p j e at_p at_e is =
+    → is_wanted e ≡ true → topic_of e ≡ topic → (k : ℕ)
+    × (slice_get (of_matched_ends ends is_wanted topic_of tell topic i ps) k ≡ Some (tell (i + h) p (1 + j) e))
+told ends is_wanted topic_of tell topic i [] h p j e at_p at_e wanted is = absurd cc
+told ends is_wanted topic_of tell topic i (q ∷ qs) zero p j e at_p at_e wanted is =
     let same = same_Some q p at_p in
-    let here = told_end topic_of (tell i q) topic 1 (ends q) j e (ap (λ x. slice_get (ends x) j) same ∙ at_e) is in
+    let here = told_end is_wanted topic_of (tell i q) topic 1 (ends q) j e (ap (λ x. slice_get (ends x) j) same ∙ at_e) wanted is in
     let first =
-    in_first (of_ends_in topic_of (tell i q) topic 1 (ends q))
-    (of_matched_ends ends topic_of tell topic (i + 1) qs) here.0 _ here.1 in
+    in_first (of_ends_in is_wanted topic_of (tell i q) topic 1 (ends q))
+    (of_matched_ends ends is_wanted topic_of tell topic (i + 1) qs) here.0 _ here.1 in
     let number : i ≡ i + 0 = omega arith in
     (first.0, first.1 ∙ (ap (λ x. Some (tell i x (1 + j) e)) same ∙ ap (λ m. Some (tell m p (1 + j) e)) number))
-told ends topic_of tell topic i (q ∷ qs) (suc h) p j e at_p at_e is =
-    let rest = told ends topic_of tell topic (i + 1) qs h p j e at_p at_e is in
+told ends is_wanted topic_of tell topic i (q ∷ qs) (suc h) p j e at_p at_e wanted is =
+    let rest = told ends is_wanted topic_of tell topic (i + 1) qs h p j e at_p at_e wanted is in
     let last =
-    in_last (of_ends_in topic_of (tell i q) topic 1 (ends q))
-    (of_matched_ends ends topic_of tell topic (i + 1) qs) rest.0 _ rest.1 in
+    in_last (of_ends_in is_wanted topic_of (tell i q) topic 1 (ends q))
+    (of_matched_ends ends is_wanted topic_of tell topic (i + 1) qs) rest.0 _ rest.1 in
     let number : i + 1 + h ≡ i + suc h = omega arith in
     (last.0, last.1 ∙ ap (λ m. Some (tell m p (1 + j) e)) number)
 
@@ -183,8 +185,8 @@ row_of_writer config peer kept s i k at_k at reader_id writer_id w to none =
     sym to.to.same_entity ∙ (ap (λ (x : ReaderConfig). x.entity) same.1 ∙ own.entity) in
     let topic : to.from.end.topic ≡ own.end.topic = to.matched ∙ ap (λ (x : ReaderConfig). x.topic) same.1 in
     let there =
-    told (λ (p : PeerConfig). p.writers) (λ (x : WriterConfig). x.topic) writer_name own.end.topic 1 config.peers
-    (w.peer - 1) to.from.peer (w.number - 1) to.from.end to.from.at_peer.1 to.from.at_writer.1 topic in
+    told (λ (p : PeerConfig). p.writers) any_writer (λ (x : WriterConfig). x.topic) writer_name own.end.topic 1 config.peers
+    (w.peer - 1) to.from.peer (w.number - 1) to.from.end to.from.at_peer.1 to.from.at_writer.1 refl topic in
     let here : slice_get k.writers there.0 ≡ Some _ =
     ap (λ (xs : List WriterName). slice_get xs there.0) own.all ∙ there.1 in
     first_name k.writers (writer_guid at writer_id) there.0 _ here

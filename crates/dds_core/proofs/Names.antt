@@ -7,7 +7,7 @@ use Rattle.dds_base.specs.declared.config.ReaderConfig.{ReaderConfig}
 use Rattle.dds_base.specs.declared.guid.EntityId.{EntityId}
 use Rattle.dds_base.specs.declared.guid.Guid.{Guid}
 use Rattle.dds_base.specs.declared.guid.GuidPrefix.{GuidPrefix}
-use Rattle.dds_base.specs.Matched.{of_matched_ends}
+use Rattle.dds_base.specs.Matched.{any_writer, of_matched_ends}
 use Rattle.dds_machine.specs.declared.endpoint.Endpoint.{Endpoint}
 use Rattle.dds_protocol.specs.Claims.{IsNumbered}
 use Rattle.dds_core.specs.declared.matching.ReaderName.{ReaderName}
@@ -42,14 +42,14 @@ IsReaderNamed config topic name =
     config.peers topic name.reader name.guid
 
 -- what is so of the name that tells of an end of the topic is so of each name among those of the topic
-pub of_named : {E X : Type 0} (ends : PeerConfig → List E) (topic_of : E → ℕ) (entity_of : E → EntityId)
-    (tell : ℕ → PeerConfig → ℕ → E → X) (IsSo : X → Type 0) (all : List PeerConfig) (topic k : ℕ) (name : X)
+pub of_named : {E X : Type 0} (ends : PeerConfig → List E) (is_wanted : E → Bool) (topic_of : E → ℕ)
+    (entity_of : E → EntityId) (tell : ℕ → PeerConfig → ℕ → E → X) (IsSo : X → Type 0) (all : List PeerConfig) (topic k : ℕ) (name : X)
     → ((peer : ℕ) (p : PeerConfig) (number : ℕ) (e : E)
     → IsEndNamed ends topic_of entity_of all topic (record { peer = peer; number = number })
     (record { prefix = p.prefix; entity = entity_of e }) → IsSo (tell peer p number e))
-    → slice_get (of_matched_ends ends topic_of tell topic 1 all) k ≡ Some name → IsSo name
-of_named ends topic_of entity_of tell IsSo all topic k name so at =
-    let f = is_told all ends topic_of tell topic k name at in
+    → slice_get (of_matched_ends ends is_wanted topic_of tell topic 1 all) k ≡ Some name → IsSo name
+of_named ends is_wanted topic_of entity_of tell IsSo all topic k name so at =
+    let f = is_told all ends is_wanted topic_of tell topic k name at in
     subst IsSo f.told
     (so f.number f.peer f.end_number f.end
     (record {
@@ -105,7 +105,7 @@ own_reader_is config number kept is i k at =
       at = (omega arith, subst (λ (m : ℕ). slice_get is.own.readers m ≡ Some f.0) index f.1);
       entity = ap (λ (x : ReaderIdentity). x.entity) f.2;
       names =
-          λ j name in_names. of_named (λ (p : PeerConfig). p.writers) (λ (w : WriterConfig). w.topic)
+          λ j name in_names. of_named (λ (p : PeerConfig). p.writers) any_writer (λ (w : WriterConfig). w.topic)
           (λ (w : WriterConfig). w.entity) writer_name (λ (x : WriterName). IsWriterNamed config f.0.topic x)
           config.peers f.0.topic j name (λ peer p number w is. is)
           (subst (λ (xs : List WriterName). slice_get xs j ≡ Some name)

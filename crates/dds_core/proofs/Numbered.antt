@@ -1,5 +1,5 @@
 -- Lists whose elements are numbered from 1, walked from the front.
-use Rattle.std.proofs.Common.{◌≡◌, ◌⊎◌, ℕ, zero, suc, ◌+◌, ◌-◌, ◌≤◌, Bool, true, false, cond, List, [], ◌∷◌, ◌++◌, Some, slice_get, refl, sym, ◌∙◌, subst, arith, inl, inr, ⊎_elim, eqb-true}
+use Rattle.std.proofs.Common.{◌≡◌, ◌⊎◌, ℕ, zero, suc, ◌+◌, ◌-◌, ◌≤◌, Bool, true, false, cond, ◌&&◌, List, [], ◌∷◌, ◌++◌, Some, slice_get, refl, sym, ◌∙◌, subst, arith, inl, inr, ⊎_elim, eqb-true}
 use Rattle.std.proofs.lemmas.Option.{same_Some}
 use Rattle.dds_base.specs.declared.config.PeerConfig.{PeerConfig}
 use Rattle.dds_base.specs.Matched.{same_topic, of_ends_in, of_matched_ends}
@@ -47,6 +47,10 @@ append_get [] ys k y at = inr (k, at)
 append_get (x ∷ xs) ys zero y at = inl (zero, at)
 append_get (x ∷ xs) ys (suc k) y at = ⊎_elim (λ f. inl (suc f.0, f.1)) (λ f. inr f) (append_get xs ys k y at)
 
+second_true : (a b : Bool) → (a && b) ≡ true → b ≡ true
+second_true true b both = both
+second_true false b both = absurd cc
+
 -- what is told of matched ends is told of one of the topic
 pub record IsTold {E X : Type 0} (all : List PeerConfig) (ends : PeerConfig → List E) (topic_of : E → ℕ)
     (tell : ℕ → PeerConfig → ℕ → E → X) (topic : ℕ) (x : X) : Type 0 where
@@ -59,13 +63,13 @@ pub record IsTold {E X : Type 0} (all : List PeerConfig) (ends : PeerConfig → 
   pub same_topic : topic_of end ≡ topic
   pub told : tell number peer end_number end ≡ x
 
-told_in : {E X : Type 0} (all : List PeerConfig) (ends : PeerConfig → List E) (topic_of : E → ℕ)
-    (tell : ℕ → PeerConfig → ℕ → E → X) (topic i : ℕ) (p : PeerConfig) (n : ℕ) (es : List E) → IsNumbered all i p
+told_in : {E X : Type 0} (all : List PeerConfig) (ends : PeerConfig → List E) (is_wanted : E → Bool)
+    (topic_of : E → ℕ) (tell : ℕ → PeerConfig → ℕ → E → X) (topic i : ℕ) (p : PeerConfig) (n : ℕ) (es : List E) → IsNumbered all i p
     → IsRest (ends p) n es
-    → (k : ℕ) (x : X) → slice_get (of_ends_in topic_of (tell i p) topic n es) k ≡ Some x
+    → (k : ℕ) (x : X) → slice_get (of_ends_in is_wanted topic_of (tell i p) topic n es) k ≡ Some x
     → IsTold all ends topic_of tell topic x
-told_in all ends topic_of tell topic i p n [] here rest k x at = absurd cc
-told_in all ends topic_of tell topic i p n (e ∷ es) here rest k x at =
+told_in all ends is_wanted topic_of tell topic i p n [] here rest k x at = absurd cc
+told_in all ends is_wanted topic_of tell topic i p n (e ∷ es) here rest k x at =
     ⊎_elim (λ f. record {
       number = i;
       peer = p;
@@ -74,30 +78,30 @@ told_in all ends topic_of tell topic i p n (e ∷ es) here rest k x at =
       end = e;
       at_end = rest_first
           (ends p) n e es rest;
-      same_topic = eqb-true (topic_of e) topic f.0;
+      same_topic = eqb-true (topic_of e) topic (second_true (is_wanted e) (same_topic (topic_of e) topic) f.0);
       told = f.1;
     })
-    (λ f. told_in all ends topic_of tell topic i p (n + 1) es here (rest_later (ends p) n e es rest) f.0 x f.1)
-    (cond_get (same_topic (topic_of e) topic) (tell i p n e)
-    (of_ends_in topic_of (tell i p) topic (n + 1) es) k x at)
+    (λ f. told_in all ends is_wanted topic_of tell topic i p (n + 1) es here (rest_later (ends p) n e es rest) f.0 x f.1)
+    (cond_get (is_wanted e && same_topic (topic_of e) topic) (tell i p n e)
+    (of_ends_in is_wanted topic_of (tell i p) topic (n + 1) es) k x at)
 
-told_from : {E X : Type 0} (all : List PeerConfig) (ends : PeerConfig → List E) (topic_of : E → ℕ)
-    (tell : ℕ → PeerConfig → ℕ → E → X) (topic i : ℕ) (ps : List PeerConfig) → IsRest all i ps
-    → (k : ℕ) (x : X) → slice_get (of_matched_ends ends topic_of tell topic i ps) k ≡ Some x
+told_from : {E X : Type 0} (all : List PeerConfig) (ends : PeerConfig → List E) (is_wanted : E → Bool)
+    (topic_of : E → ℕ) (tell : ℕ → PeerConfig → ℕ → E → X) (topic i : ℕ) (ps : List PeerConfig) → IsRest all i ps
+    → (k : ℕ) (x : X) → slice_get (of_matched_ends ends is_wanted topic_of tell topic i ps) k ≡ Some x
     → IsTold all ends topic_of tell topic x
-told_from all ends topic_of tell topic i [] rest k x at = absurd cc
-told_from all ends topic_of tell topic i (p ∷ ps) rest k x at =
-    ⊎_elim (λ f. told_in all ends topic_of tell topic i p 1 (ends p) (rest_first all i p ps rest)
+told_from all ends is_wanted topic_of tell topic i [] rest k x at = absurd cc
+told_from all ends is_wanted topic_of tell topic i (p ∷ ps) rest k x at =
+    ⊎_elim (λ f. told_in all ends is_wanted topic_of tell topic i p 1 (ends p) (rest_first all i p ps rest)
     (rest_whole (ends p)) f.0 x f.1)
-    (λ f. told_from all ends topic_of tell topic (i + 1) ps (rest_later all i p ps rest) f.0 x f.1)
-    (append_get (of_ends_in topic_of (tell i p) topic 1 (ends p))
-    (of_matched_ends ends topic_of tell topic (i + 1) ps) k x at)
+    (λ f. told_from all ends is_wanted topic_of tell topic (i + 1) ps (rest_later all i p ps rest) f.0 x f.1)
+    (append_get (of_ends_in is_wanted topic_of (tell i p) topic 1 (ends p))
+    (of_matched_ends ends is_wanted topic_of tell topic (i + 1) ps) k x at)
 
-pub is_told : {E X : Type 0} (all : List PeerConfig) (ends : PeerConfig → List E) (topic_of : E → ℕ)
-    (tell : ℕ → PeerConfig → ℕ → E → X) (topic k : ℕ) (x : X)
-    → slice_get (of_matched_ends ends topic_of tell topic 1 all) k ≡ Some x
+pub is_told : {E X : Type 0} (all : List PeerConfig) (ends : PeerConfig → List E) (is_wanted : E → Bool)
+    (topic_of : E → ℕ) (tell : ℕ → PeerConfig → ℕ → E → X) (topic k : ℕ) (x : X)
+    → slice_get (of_matched_ends ends is_wanted topic_of tell topic 1 all) k ≡ Some x
     → IsTold all ends topic_of tell topic x
-is_told all ends topic_of tell topic k x at = told_from all ends topic_of tell topic 1 all (rest_whole all) k x at
+is_told all ends is_wanted topic_of tell topic k x at = told_from all ends is_wanted topic_of tell topic 1 all (rest_whole all) k x at
 
 -- two ends of one number are one
 pub same_end : {E : Type 0} (ends : PeerConfig → List E) (all : List PeerConfig) (e : Endpoint) (p q : PeerConfig)

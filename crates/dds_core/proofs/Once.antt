@@ -3,7 +3,7 @@ use Rattle.std.proofs.Common.{◌≡◌, ℕ, zero, suc, ◌+◌, ◌≤◌, Boo
 use Rattle.std.proofs.lemmas.Option.{same_Some}
 use Rattle.dds_base.specs.declared.config.PeerConfig.{PeerConfig}
 use Rattle.dds_base.specs.declared.config.ReaderConfig.{ReaderConfig}
-use Rattle.dds_base.specs.Matched.{same_topic, of_ends_in, of_matched_ends}
+use Rattle.dds_base.specs.Matched.{same_topic, is_reliable_reader, of_ends_in, of_matched_ends}
 use Rattle.dds_machine.specs.declared.endpoint.Endpoint.{Endpoint}
 use Rattle.dds_core.specs.declared.matching.ReaderName.{ReaderName}
 use Rattle.dds_core.specs.EndNames.{reader_name, reader_names}
@@ -35,7 +35,7 @@ once_append f (x ∷ xs) ys first second apart =
     (λ r. apart zero r.0 x y refl r.1 same) (append_get xs ys k y at))
 
 abbrev ends_of : ℕ → PeerConfig → ℕ → ℕ → List ReaderConfig → List ReaderName
-ends_of i p topic n rs = of_ends_in (λ (r : ReaderConfig). r.topic) (reader_name i p) topic n rs
+ends_of i p topic n rs = of_ends_in is_reliable_reader (λ (r : ReaderConfig). r.topic) (reader_name i p) topic n rs
 
 -- the readers of a peer have its number, and numbers from this one on
 named_from : (i : ℕ) (p : PeerConfig) (topic n : ℕ) (rs : List ReaderConfig) (k : ℕ) (x : ReaderName)
@@ -69,7 +69,7 @@ once_in i p topic n (r ∷ rs) =
 
 abbrev names_of : ℕ → ℕ → List PeerConfig → List ReaderName
 names_of topic i ps =
-    of_matched_ends (λ (p : PeerConfig). p.readers) (λ (r : ReaderConfig). r.topic) reader_name topic i ps
+    of_matched_ends (λ (p : PeerConfig). p.readers) is_reliable_reader (λ (r : ReaderConfig). r.topic) reader_name topic i ps
 
 peers_from : (topic i : ℕ) (ps : List PeerConfig) (k : ℕ) (x : ReaderName) → slice_get (names_of topic i ps) k ≡ Some x
     → i ≤ x.reader.peer

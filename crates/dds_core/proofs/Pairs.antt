@@ -4,6 +4,7 @@ use Rattle.std.specs.Prelude.{◌&&◌, nat_lt, nat_le, IsSome, slice_index}
 use Rattle.std.specs.Option.{option_map, option_map_or}
 use Rattle.std.proofs.lemmas.Bool.Decides.{nat_tests}
 use Rattle.std.proofs.lemmas.Option.{same_Some}
+use Rattle.dds_base.specs.Matched.{is_reliable_reader}
 use Rattle.dds_base.specs.declared.config.Config.{Config}
 use Rattle.dds_base.specs.declared.config.PeerConfig.{PeerConfig}
 use Rattle.dds_base.specs.declared.config.ReaderConfig.{ReaderConfig}
@@ -129,7 +130,7 @@ named_reader : (config : Config) (topic j : ℕ) (n : ReaderName) → slice_get 
     → n.guid.entity ≡ reader_entity config n.reader.peer n.reader.number
 named_reader config topic j n at =
     let t =
-    is_told config.peers (λ (p : PeerConfig). p.readers) (λ (r : ReaderConfig). r.topic) reader_name topic j n at in
+    is_told config.peers (λ (p : PeerConfig). p.readers) is_reliable_reader (λ (r : ReaderConfig). r.topic) reader_name topic j n at in
     let configured : reader_entity config t.number t.end_number ≡ t.end.entity =
     ap (λ (o : Option PeerConfig). option_map_or
     (λ (p : PeerConfig). option_map_or (λ (r : ReaderConfig). r.entity)

@@ -2,6 +2,7 @@
 use Rattle.std.proofs.Common.{◌≡◌, ℕ, suc, ◌+◌, ◌≤◌, ◌==◌, Bool, true, false, cond, ◌&&◌, List, [], ◌∷◌, ◌++◌, Option, Some, None, map, max, take, length, get_or, slice_get, refl, ap, sym, ◌∙◌, subst, arith, inl, inr, length-append, nat_lt, eq-eqb, eqb-true}
 use Rattle.std.specs.Prelude.{ℤ, if◌then◌else◌}
 use Rattle.std.proofs.lemmas.Bool.Decides.{nat_tests}
+use Rattle.dds_base.specs.Matched.{is_reliable_reader}
 use Rattle.dds_base.specs.declared.config.Config.{Config}
 use Rattle.dds_base.specs.declared.config.PeerConfig.{PeerConfig}
 use Rattle.dds_base.specs.declared.config.ReaderConfig.{ReaderConfig}
@@ -64,7 +65,7 @@ own_is config peer kept s i k at =
     record {
       own = own;
       all = all;
-      named = λ row name there. of_named (λ (p : PeerConfig). p.readers) (λ (r : ReaderConfig). r.topic)
+      named = λ row name there. of_named (λ (p : PeerConfig). p.readers) is_reliable_reader (λ (r : ReaderConfig). r.topic)
           (λ (r : ReaderConfig). r.entity) reader_name (λ (x : ReaderName). IsReaderNamed config own.end.topic x)
           config.peers own.end.topic row name (λ peer p number r is. is)
           (subst (λ (ns : List ReaderName). slice_get ns row ≡ Some name) all there);
