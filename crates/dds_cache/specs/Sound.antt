@@ -2,11 +2,11 @@
 --
 -- What it is a cache for is in DDS 1.4, 2.2.2.5 (read, take), and RTPS 2.5, 8.2 (HistoryCache of a reader); memory
 -- and its room are this project's own.
-use Rattle.std.specs.Prelude.{◌≤◌, ◌<◌, ◌+◌, ◌^◌, All, vec_len, vec_capacity}
+use Rattle.std.specs.Prelude.{◌≤◌, ◌+◌, ◌*◌, All, vec_len, vec_capacity}
 use Rattle.dds_cache.specs.declared.reader_cache.ReaderCache.TheInside.{Inside}
 use Rattle.dds_cache.specs.Standing.{Stored}
 use Rattle.dds_cache.specs.Finding.{IsSmall}
-use Rattle.dds_instances.specs.Table.{alive_of, happened_of, room_of}
+use Rattle.dds_instances.specs.Table.{alive_of, room_of}
 
 -- what a contract sees of a cache
 abbrev pub stored_of : Inside → Stored
@@ -16,15 +16,12 @@ stored_of a = record {
   samples = a.samples.items;
   arrivals = a.arrivals;
   room = a.room;
-  deaths = a.deaths;
   data_at = a.data_at;
 }
 
--- there is memory for so many more entries, and the counts of each kept sample can be added; where there is room for
--- deaths they can be counted, and each instance that is alive may leave a sample
+-- there is memory for so many more entries, each of which may leave a sample and make an instance alive; each instance
+-- that is alive has a place for the sample that its end leaves; and the counts of each kept sample can be added
 pub record IsSound (a : Inside) : Type 0 where
   pub instances : a.room ≤ room_of a.instances
-  pub samples : vec_len a.samples + a.room ≤ vec_capacity a.samples
+  pub samples : vec_len a.samples + 2 * a.room + alive_of a.instances ≤ vec_capacity a.samples
   pub small : All IsSmall a.samples.items
-  pub counted : 1 ≤ a.deaths → a.deaths + happened_of a.instances < 2 ^ 64
-  pub places : 1 ≤ a.deaths → vec_len a.samples + a.room + alive_of a.instances ≤ vec_capacity a.samples

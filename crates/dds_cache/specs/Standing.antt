@@ -23,17 +23,16 @@ use Rattle.dds_cache.specs.declared.access_kind.AccessKind.{AccessKind}
 use Rattle.dds_cache.specs.declared.access_kind.AccessKind.TheVariants.{Read, Take}
 use Rattle.dds_cache.specs.declared.kept.Kept.{Kept}
 use Rattle.dds_cache.specs.Kept.{IsKept, positions_in, sample_at}
-use Rattle.dds_instances.specs.Table.{Table, Stands}
+use Rattle.dds_instances.specs.Table.{Table, Stands, happened_of}
 
 -- what is kept: the instances, the samples in the order in which they came, how many changes came, for how many more
--- entries, and how many deaths in a row, it has memory, and where the newest entry stands that brought a sample
+-- entries it has memory, and where the newest entry stands that brought a sample
 pub record Stored : Type 0 where
   pub qos : ReaderQos
   pub instances : Table
   pub samples : List Kept
   pub arrivals : ℕ
   pub room : ℕ
-  pub deaths : ℕ
   pub data_at : Option ℕ
 
 -- the policies and the matched writers that it was opened with
@@ -44,9 +43,9 @@ qos_of stored = stored.qos
 abbrev pub room_of : Stored → ℕ
 room_of stored = stored.room
 
--- how many deaths find memory that follow with nothing between
+-- how many more deaths can be counted: as many as entries, which are 2^64 - 1 at most
 abbrev pub deaths_of : Stored → ℕ
-deaths_of stored = stored.deaths
+deaths_of stored = 2 ^ 64 - 1 - happened_of stored.instances
 
 -- what is kept stands for what happened: so do its instances; each kept sample is what it was; the present samples of
 -- each instance are kept in their order; no access returned what had not happened; the changes are counted, up to a
@@ -61,7 +60,7 @@ pub record StandsFor (stored : Stored) (h : List Happening) : Type 0 where
   pub arrivals_are : stored.arrivals ≡ min (arrivals h) (2 ^ 31 - 1)
   pub data_is : stored.data_at ≡ data_available_at stored.qos h
 
--- how room is made for so many more, or refused, by how many of their kind find memory
+-- how room is made for so many more, or refused, by how many of their kind find it
 pub record MakesRoom (spare : Stored → ℕ) (additional : ℕ) (old new : Stored) (answer : Result (Unit {0}) Code)
     : Type 0 where
   -- nothing happens
@@ -79,7 +78,7 @@ pub record MakesRoom (spare : Stored → ℕ) (additional : ℕ) (old new : Stor
   -- it is refused for want of memory alone
   pub memory : IfErr answer (λ e. e ≡ Memory)
 
--- how an entry more is taken up, or refused, by how many of its kind find memory
+-- how an entry more is taken up, or refused, by how many of its kind find room
 pub record TakesEntry (spare : Stored → ℕ) (old new : Stored) (answer : Result (Unit {0}) Code) : Type 0 where
   -- the policies stay
   pub qos : qos_of new ≡ qos_of old

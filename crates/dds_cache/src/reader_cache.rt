@@ -2,7 +2,7 @@
 //!
 //! DDS 1.4, 2.2.2.5 (read, take, SampleInfo); RTPS 2.5, 8.2 (HistoryCache of a reader).
 
-ghost use Rattle.std.specs.Prelude.{◌≡◌, ◌≢◌, ◌==◌, ℕ, ◌+◌, ◌≤◌, ◌<◌, ◌^◌, ◌∷◌, [], if◌then◌else◌, nat_lt, List, Some, length, All, IsOk, OnOk, OnErr, IfOk, IfErr};
+ghost use Rattle.std.specs.Prelude.{◌≡◌, ◌≢◌, ◌==◌, ℕ, ◌+◌, ◌-◌, ◌≤◌, ◌<◌, ◌^◌, ◌∷◌, [], if◌then◌else◌, nat_le, nat_lt, List, Some, length, All, IsOk, OnOk, OnErr, IfOk, IfErr};
 ghost use Rattle.dds_base.specs.declared.happening.Happening.{Happening};
 ghost use Rattle.dds_base.specs.declared.happening.Happening.TheVariants.{Came, Passed, Heard, Died};
 ghost use Rattle.dds_base.specs.declared.code.Code.TheVariants.{Memory, NoData};
@@ -55,8 +55,6 @@ pub struct ReaderCache {
     sweep_at: usize,
     /// For how many more entries there is memory.
     room: usize,
-    /// For how many deaths there is memory, where nothing comes between.
-    deaths: usize,
     /// The position of the newest entry that brought a sample, if there is one and no read or take has followed it.
     data_at: Option<u64>,
 }
@@ -90,13 +88,12 @@ impl ReaderCache {
             arrivals: 0,
             sweep_at: next_sweep(0),
             room: 0,
-            deaths: 0,
             data_at: None,
         }
     }
 
-    /// Makes room for so many more entries: as many that follow find it, but for deaths, for which `reserve_deaths`
-    /// makes room. Room for deaths may be given up.
+    /// Makes room for so many more entries: as many that follow find it. Each of them then has a place for the sample that
+    /// it brings, and one for the sample that the end of its instance leaves, so a death wants no memory.
     ///
     /// # Errors
     ///
@@ -109,46 +106,29 @@ impl ReaderCache {
         if additional <= self.room {
             return Ok(());
         }
-        self.samples.reserve(additional)?;
+        let entries = additional.checked_mul(2).ok_or(Code::Memory)?;
+        let places = entries.checked_add(self.instances.len()).ok_or(Code::Memory)?;
+        self.samples.reserve(places)?;
         self.instances.reserve(additional)?;
         self.room = additional;
-        self.deaths = 0;
         Ok(())
     }
 
-    /// Makes room for so many deaths: as many find it that follow with nothing between.
-    ///
-    /// All of them together leave one sample at most of each instance, as one that is not alive any more leaves none.
-    ///
-    /// # Errors
-    ///
-    /// `Memory` where a growth was refused, or where more than 2^64 - 1 entries would be counted; the cache is then as
-    /// it was.
-    ///
-    /// DDS 1.4, 2.2.3 (LIVELINESS).
-    pub fn reserve_deaths(&mut self, count: usize) -> Result<(), Code>
-        // Nothing happens, and the policies stay. There is room for so many deaths, and no less than before; where
-        // there is enough it succeeds, and it is refused for want of memory alone, and then changes nothing.
-        ensures makes { MakesRoom deaths_of count self.old self.new result }
-        // There is no less room for entries than before.
-        ensures room { room_of self.old ≤ room_of self.new }
+    /// Whether so many deaths more can be counted, that is, whether with them no more than 2^64 - 1 entries happened.
+    /// Nothing else is in the way of a death.
+    pub fn counts_deaths(&self, count: usize) -> bool
+        // It is so where as many entries can be counted.
+        ensures counts { result ≡ nat_le count (deaths_of self.now) }
+        // It is so by the number of what happened.
+        ensures happened { (h : List Happening) → StandsFor self.now h
+            → result ≡ nat_le (length h + count) (2 ^ 64 - 1) }
     {
-        if count <= self.deaths {
-            return Ok(());
-        }
-        if u64::MAX - self.instances.happened() < count as u64 {
-            return Err(Code::Memory);
-        }
-        let instances = self.instances.len();
-        let places = instances.checked_add(self.room).ok_or(Code::Memory)?;
-        self.samples.reserve(places)?;
-        self.deaths = count;
-        Ok(())
+        count as u64 <= u64::MAX - self.instances.happened()
     }
 
-    /// Takes up a death, in the room that there is for it.
+    /// Takes up a death, which can be counted.
     fn bury(&mut self, writer: Handle, moment: Moment)
-        requires reserved { 1 ≤ deaths_of self.old }
+        requires counted { 1 ≤ deaths_of self.old }
         ensures stands { (h : List Happening) → StandsFor self.old h
             → StandsFor self.new (Died writer moment ∷ h) }
         ensures qos { qos_of self.new ≡ qos_of self.old }
@@ -169,7 +149,6 @@ impl ReaderCache {
         let newest = self.instances.happened();
         self.data_at = data_after(self.data_at, before, self.samples.len(), newest);
         self.room = self.room.saturating_sub(1);
-        self.deaths -= 1;
     }
 
     /// Takes up a change, in the room that there is.
@@ -195,7 +174,6 @@ impl ReaderCache {
         self.data_at = data_after(self.data_at, before, self.samples.len(), newest);
         self.arrivals = count_arrival(self.arrivals);
         self.room -= 1;
-        self.deaths = 0;
     }
 
     /// Lets the samples go that are no longer present, where there are twice as many as the sweep before left.
@@ -222,7 +200,6 @@ impl ReaderCache {
     {
         self.instances.skip()?;
         self.room = self.room.saturating_sub(1);
-        self.deaths = 0;
         Ok(())
     }
 
@@ -296,12 +273,11 @@ impl ReaderCache {
         Ok(())
     }
 
-    /// Takes up that the lease of a matched writer ran out, at a moment of the reader's peer.
+    /// Takes up that the lease of a matched writer ran out, at a moment of the reader's peer. It takes no memory.
     ///
     /// # Errors
     ///
-    /// `Memory` as `reserve_deaths` answers it, and never where room for a death was reserved; the cache is then as it
-    /// was.
+    /// `Memory` after 2^64 - 1 entries; the cache is then as it was.
     ///
     /// DDS 1.4, 2.2.3 (LIVELINESS).
     pub fn died(&mut self, writer: Handle, moment: Moment) -> Result<(), Code>
@@ -311,14 +287,15 @@ impl ReaderCache {
         ensures ok { OnOk result
             ((h : List Happening) → StandsFor self.old h
             → StandsFor self.new (Died writer moment ∷ h)) }
-        // It is an entry as each is, by the room for deaths: the policies stay, where there is room for a death it is
-        // taken up, it takes the room of one at most, and it is refused for want of memory alone, and then changes
-        // nothing.
+        // It is an entry as each is, by the deaths that can be counted: the policies stay, where one can be counted it
+        // is taken up, it is counted once at most, and where it is refused nothing changes.
         ensures entry { TakesEntry deaths_of self.old self.new result }
         // It takes the room of one entry at most.
         ensures room { room_of self.old ≤ room_of self.new + 1 }
     {
-        self.reserve_deaths(1)?;
+        if !self.counts_deaths(1) {
+            return Err(Code::Memory);
+        }
         self.bury(writer, moment);
         Ok(())
     }
@@ -415,7 +392,6 @@ impl ReaderCache {
         self.instances.returned(&access.positions)?;
         settle(kind, &mut self.samples, &access.returned);
         self.room = self.room.saturating_sub(1);
-        self.deaths = 0;
         self.data_at = None;
         Ok(())
     }

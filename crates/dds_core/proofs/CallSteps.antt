@@ -20,7 +20,7 @@ use Rattle.dds_protocol.specs.declared.event.Output.{Output}
 use Rattle.dds_machine.specs.declared.reply.Reply.{Reply}
 use Rattle.dds_machine.specs.declared.reply.Reply.TheVariants.{Done, LivelinessLost, Refused}
 use Rattle.dds_machine.specs.declared.endpoint.Endpoint.{Endpoint}
-use Rattle.dds_machine.specs.Ticks.{tick_refusal, after_tick, is_deadly, RefusesTick, TickStep}
+use Rattle.dds_machine.specs.Ticks.{tick_refusal, after_tick, is_past_counting, RefusesTick, TickStep}
 use Rattle.dds_machine.specs.Refusals.{writer_refusal, write_refusal, dispose_refusal, unregister_refusal, change_refusal, change_made, unregister_kind}
 use Rattle.dds_machine.specs.Calls.{Effect, nothing, writes, effect, effect_of, liveliness_lost_at, IsAnswered, IsAnsweredWatching, IsDoneUnless, Answers, CallStep}
 use Rattle.dds_machine.specs.Numbered.{has_element}
@@ -30,7 +30,7 @@ use Rattle.dds_protocol.specs.Peer.{Peer, PeerStep}
 use Rattle.dds_machine.specs.Watching.{Tests}
 use Rattle.dds_core.specs.Kept.{WriterKept, ReaderKept, PeerKept}
 use Rattle.dds_core.specs.Identity.{WriterIdentity, ReaderIdentity, identity_of, reader_identity, writer_identity, IsPeerOf}
-use Rattle.dds_core.specs.Expiring.{AllExpire, HasDeadly}
+use Rattle.dds_core.specs.Expiring.{AllExpire, HasPastCounting}
 use Rattle.dds_core.specs.Readiness.{AreAlike}
 use Rattle.dds_core.specs.Making.{IsMade, IsNotMade, entered}
 use Rattle.dds_core.specs.Sending.{SendsFor, SendsNothing}
@@ -38,7 +38,7 @@ use Rattle.dds_core.specs.Standing.{WriterStands, StandsFor}
 use Rattle.dds_core.specs.Stepping.{Enters, AllTick}
 use Rattle.dds_core.specs.Beating.{BeatsOfAll}
 use Rattle.dds_core.proofs.BeatsDue.{due_true}
-use Rattle.dds_core.proofs.Dying.{expired_names, peer_deadly, readers_expired}
+use Rattle.dds_core.proofs.Dying.{expired_names, peer_past_counting, readers_expired}
 use Rattle.dds_core.proofs.Lists.{get-within}
 use Rattle.dds_core.proofs.Ready.{alike_core}
 use Rattle.dds_core.proofs.Ends.{with_writer, entered_at, own_writer_stepped, unchanged_with}
@@ -435,21 +435,21 @@ ticks kept writers readers config peer s now on early all expired output done be
       },
     )
 
--- one whose deaths find no memory
-pub tick_without_memory : (kept : PeerKept) (readers : List ReaderKept) (code : Code) (config : Config) (peer : Peer)
-    → StandsFor kept config peer → (now : ℕ) → kept.moment ≤ now → now < 2 ^ 63 → AreAlike kept.readers readers
-    → (code ≡ Memory) × HasDeadly kept.readers now
-    → Follows (record kept { readers = readers }) config peer (event.Tick now) (silent (Refused code))
-tick_without_memory kept readers code config peer s now on early alike dies =
+-- one whose deaths can't be counted
+pub tick_past_counting : (kept : PeerKept) (code : Code) (config : Config) (peer : Peer)
+    → StandsFor kept config peer → (now : ℕ) → kept.moment ≤ now → now < 2 ^ 63
+    → (code ≡ Memory) × HasPastCounting kept.readers now
+    → Follows kept config peer (event.Tick now) (silent (Refused code))
+tick_past_counting kept code config peer s now on early past =
     let accepted : tick_refusal peer.part now ≡ None = good_moment kept config peer s now on early in
-    let d = dies.1 in
+    let d = past.1 in
     let within = get-within kept.readers d.index d.reader d.at in
     let count = s.readers.count in
-    let deadly : is_deadly peer.part now ≡ true =
-    peer_deadly peer.part now d.index (omega (arith, within, count))
-    (d.deadly _ _ _ (s.readers.each d.index d.reader d.at)) in
+    let over : is_past_counting peer.part now ≡ true =
+    peer_past_counting peer.part now d.index (omega (arith, within, count))
+    (d.past _ _ _ (s.readers.each d.index d.reader d.at)) in
     let refused : RefusesTick peer.part now code =
-    (subst (λ (o : Option Code). Refuses o code) (sym accepted) dies.0, λ memory. deadly) in (
+    (subst (λ (o : Option Code). Refuses o code) (sym accepted) past.0, λ memory. over) in (
       peer,
       record {
         same_number = refl;
@@ -457,8 +457,7 @@ tick_without_memory kept readers code config peer s now on early alike dies =
         step = ((refused, refl), refl);
         sent = λ p x m h. absurd (omega (arith, m.1));
       },
-      alike_core kept readers alike config
-          peer s,
+      s,
     )
 
 pub refused_tick : (kept : PeerKept) (config : Config) (peer : Peer) → StandsFor kept config peer → (now : ℕ)

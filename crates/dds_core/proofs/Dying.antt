@@ -1,5 +1,5 @@
 -- A tick's deaths at a reader, one after the other.
-use Rattle.std.proofs.Common.{◌≡◌, ℕ, zero, suc, ◌+◌, ◌<◌, ◌≤◌, List, [], ◌∷◌, Some, length, map, ◌||◌, get_or, set, slice_get, refl, ap, sym, ◌∙◌, subst, arith, ⊎_elim, length-set, Bool, true, false, not, ◌&&◌, cond, nat_lt}
+use Rattle.std.proofs.Common.{◌≡◌, ℕ, zero, suc, ◌+◌, ◌-◌, ◌^◌, ◌<◌, ◌≤◌, List, [], ◌∷◌, Some, length, map, ◌||◌, get_or, set, slice_get, refl, ap, sym, ◌∙◌, subst, arith, ⊎_elim, length-set, Bool, true, false, not, ◌&&◌, cond, nat_lt}
 use Rattle.std.specs.Prelude.{filter, find, if◌then◌else◌}
 use Rattle.std.specs.List.{list_any}
 use Rattle.std.proofs.lemmas.Bool.{cases_Bool}
@@ -15,20 +15,18 @@ use Rattle.dds_base.specs.StatusFlags.{turned_at}
 use Rattle.dds_cache.specs.Standing.{qos_of, StandsFor as CacheStandsFor}
 use Rattle.dds_lease.specs.Standing.{after_deaths_above, writer_count, StandsFor as LeasesStandFor}
 use Rattle.dds_lease.proofs.DeathLaws.{above_none}
-use Rattle.dds_machine.specs.Ticks.{is_deadly, reader_ticked}
+use Rattle.dds_machine.specs.Ticks.{is_past_counting, reader_ticked}
 use Rattle.dds_lease.proofs.StandingLaws.{over-live}
 use Rattle.dds_machine.specs.Part.{Part, Reader, WriterProxy, no_reader}
 use Rattle.dds_protocol.specs.Protocol.{Known}
 use Rattle.dds_machine.proofs.Tables.{numbered-map}
-use Rattle.dds_core.specs.Expiring.{AllExpire, Expires, HasDeadly, HasRoomForDeaths, HaveRoomForDeaths, IsDeadly}
+use Rattle.dds_core.specs.Expiring.{AllExpire, Expires, HasRoomForDeaths, HaveRoomForDeaths, IsPastCounting}
 use Rattle.dds_core.specs.Kept.{ReaderKept}
 use Rattle.dds_core.specs.Identity.{ReaderIdentity, reader_identity}
-use Rattle.dds_core.specs.Readiness.{AreAlike}
 use Rattle.dds_core.specs.Standing.{ReaderStands, ReadersStand}
 use Rattle.dds_core.specs.Stored.{StoreKept, Holds}
-use Rattle.dds_core.proofs.Identities.{same_identity}
 use Rattle.dds_core.proofs.Lists.{get-within}
-use Rattle.dds_core.proofs.Ready.{alike_stands, partner, set-cases}
+use Rattle.dds_core.proofs.Ready.{partner, set-cases}
 
 -- something happened by which the store stands as it does, and after which the deaths that are left lead to the tick's
 -- end
@@ -125,26 +123,14 @@ expires kept now store qos died = record {
   };
 }
 
--- somebody dies at a reader where somebody dies at what it stores
-pub deadly : (kept : ReaderKept) (now : ℕ)
-    → ((h : List Happening) → Holds kept.store h → 1 ≤ length (dead_at (qos_of kept.store.cache) now h))
-    → IsDeadly kept now
-deadly kept now dies proxies r tracked s =
-    subst (λ (q : ReaderQos). 1 ≤ length (dead_at q now r.happened)) (sym s.qos_is) (dies r.happened s.holds)
-
--- so it is at one that had less memory
-pub deadly_before : (olds news : List ReaderKept) (now i : ℕ) (k : ReaderKept) → AreAlike olds news
-    → slice_get news i ≡ Some k → IsDeadly k now → HasDeadly olds now
-deadly_before olds news now i k alike at dies =
-    let old = partner olds news i k alike.count at in
-    record {
-      index = i;
-      reader = old.0;
-      at = old.1;
-      deadly =
-          λ proxies r tracked s. dies proxies r tracked
-          (alike_stands old.0 k proxies r tracked (alike.each i old.0 k old.1 at) s);
-    }
+-- more would have happened at a reader where it would have at what it stores
+pub past_counting : (kept : ReaderKept) (now : ℕ)
+    → ((h : List Happening) → Holds kept.store h
+    → 2 ^ 64 - 1 < length h + length (dead_at (qos_of kept.store.cache) now h))
+    → IsPastCounting kept now
+past_counting kept now past proxies r tracked s =
+    subst (λ (q : ReaderQos). 2 ^ 64 - 1 < length r.happened + length (dead_at q now r.happened)) (sym s.qos_is)
+    (past r.happened s.holds)
 
 -- what lies before the next index, and is not this one, lies before it
 pub below : (i index : ℕ) → i < index + 1 → (i ≡ index → ⊥) → i < index
@@ -154,21 +140,23 @@ below i index lt other = by (nat_lt i index) refl
     by true e = grind (arith, nat_tests, e)
     by false e = absurd (other (grind (arith, nat_tests, e, lt)))
 
--- room was made at one more
-pub room_more : (now : ℕ) (readers : List ReaderKept) (index : ℕ) (x : ReaderKept)
-    → ((i : ℕ) (k : ReaderKept) → i < index → slice_get readers i ≡ Some k → HasRoomForDeaths now k.store)
-    → HasRoomForDeaths now x.store → (i : ℕ) (k : ReaderKept) → i < index + 1
-    → slice_get (set readers index x) i ≡ Some k
-    → HasRoomForDeaths now k.store
-room_more now readers index x before here i k lt at =
-    ⊎_elim (λ s. subst (λ (y : ReaderKept). HasRoomForDeaths now y.store) s.1 here)
-    (λ o. before i k (below i index lt o.0) o.1) (set-cases readers index x i k at)
+-- at one more reader the deaths can be counted
+pub counted_more : (now : ℕ) (readers : List ReaderKept) (index : ℕ) (k : ReaderKept)
+    → ((i : ℕ) (x : ReaderKept) → i < index → slice_get readers i ≡ Some x → HasRoomForDeaths now x.store)
+    → slice_get readers index ≡ Some k → HasRoomForDeaths now k.store → (i : ℕ) (x : ReaderKept) → i < index + 1
+    → slice_get readers i ≡ Some x
+    → HasRoomForDeaths now x.store
+counted_more now readers index k before at_k here i x lt at =
+    ⊎_elim
+    (λ same. subst (λ (y : ReaderKept). HasRoomForDeaths now y.store)
+    (same_Some k x (sym at_k ∙ (ap (λ (n : ℕ). slice_get readers n) (sym same) ∙ at))) here)
+    (λ other. before i x (below i index lt other) at) (cases_eq i index)
 
--- there is room at all
-pub room_all : (now : ℕ) (readers : List ReaderKept) (index : ℕ) → length readers ≤ index
+-- at all of them
+pub counted_all : (now : ℕ) (readers : List ReaderKept) (index : ℕ) → length readers ≤ index
     → ((i : ℕ) (k : ReaderKept) → i < index → slice_get readers i ≡ Some k → HasRoomForDeaths now k.store)
     → HaveRoomForDeaths now readers
-room_all now readers index all each i d lt =
+counted_all now readers index all each i d lt =
     each i (get_or readers i d) (omega (arith, lt, all)) (slice_get-get_or readers i d lt)
 
 -- the readers before this index have come so far, and the others are as they were
@@ -215,20 +203,6 @@ room_next now index old new k room h at =
     subst (λ (x : ReaderKept). HasRoomForDeaths now x.store) (get_or_from_slice_get old index k k there)
     (room index k (get-within old index k there))
 
--- after more memory was found
-pub expire_on : (now : ℕ) (a b c : List ReaderKept) → AreAlike a b → AllExpire b now c → AllExpire a now c
-expire_on now as' bs cs alike h = record {
-  count = h.count ∙ alike.count;
-  each = λ i a c at_a at_c.
-      let mid = partner bs cs i c h.count at_c in
-      let one = alike.each i a mid.0 at_a mid.1 in
-      let dies = h.each i mid.0 c mid.1 at_c in
-      record {
-        same = dies.same ∙ same_identity mid.0 a one.entity one.writers;
-        stands = λ proxies r tracked s. dies.stands proxies r tracked (alike_stands a mid.0 proxies r tracked one s);
-      };
-}
-
 -- the peer's readers stand as before, each with its deaths
 
 pub expired_names : (now : ℕ) (old new : List ReaderKept) → AllExpire old now new
@@ -261,7 +235,7 @@ readers_expired now old new proxies rs known h s = record {
       (sym (numbered-map (reader_ticked now) rs (suc i) no_reader)) one;
 }
 
--- somebody dies at the peer
+-- so it is at the peer
 any_at : {X : Type 0} (test : X → Bool) (xs : List X) (i : ℕ) (d : X) → i < length xs
     → test (get_or xs i d) ≡ true → list_any test xs ≡ true
 any_at test [] i d lt is = absurd (omega (arith, lt))
@@ -272,9 +246,11 @@ any_at {X = X} test (x ∷ xs) (suc i) d lt is = by (test x) (any_at test xs i d
     by true e = refl
     by false e = e
 
-pub peer_deadly : (part : Part) (now i : ℕ) → i < length part.dds.readers
-    → 1 ≤ length (dead_at (get_or part.dds.readers i no_reader).qos now (get_or part.dds.readers i no_reader).happened)
-    → is_deadly part now ≡ true
-peer_deadly part now i lt dies =
-    any_at (λ (r : Reader). nat_lt 0 (length (dead_at r.qos now r.happened))) part.dds.readers i no_reader lt
-    (grind (arith, nat_tests, dies))
+pub peer_past_counting : (part : Part) (now i : ℕ) → i < length part.dds.readers
+    → 2 ^ 64 - 1 < length (get_or part.dds.readers i no_reader).happened
+    + length (dead_at (get_or part.dds.readers i no_reader).qos now (get_or part.dds.readers i no_reader).happened)
+    → is_past_counting part now ≡ true
+peer_past_counting part now i lt past =
+    any_at (λ (r : Reader). nat_lt (2 ^ 64 - 1) (length r.happened + length (dead_at r.qos now r.happened)))
+    part.dds.readers i no_reader lt
+    (grind (arith, nat_tests, past))

@@ -2,7 +2,7 @@
 -- to be believed.
 --
 -- DDS 1.4, 2.2.3 (LIVELINESS: lease_duration).
-use Rattle.std.specs.Prelude.{◌≡◌, ℕ, ◌≤◌, List, All, length, slice_get, Some}
+use Rattle.std.specs.Prelude.{◌≡◌, ℕ, ◌+◌, ◌-◌, ◌^◌, ◌<◌, ◌≤◌, List, All, length, slice_get, Some}
 use Rattle.dds_base.specs.Liveliness.{dead_at}
 use Rattle.dds_cache.specs.Standing.{deaths_of}
 use Rattle.dds_lease.specs.Standing.{overdue_of}
@@ -15,7 +15,7 @@ use Rattle.dds_core.specs.Identity.{reader_identity}
 use Rattle.dds_core.specs.Standing.{ReaderStands}
 use Rattle.dds_core.specs.Stored.{StoreKept}
 
--- there is room for all that die at this moment
+-- all that die at this moment can be counted
 abbrev pub HasRoomForDeaths : ℕ → StoreKept → Type 0
 HasRoomForDeaths now store = overdue_of store.leases now ≤ deaths_of store.cache
 
@@ -35,14 +35,14 @@ pub record AllExpire (old : List ReaderKept) (now : ℕ) (new : List ReaderKept)
   pub count : length new ≡ length old
   pub each : (i : ℕ) (a b : ReaderKept) → slice_get old i ≡ Some a → slice_get new i ≡ Some b → Expires a now b
 
--- somebody dies at the reader at this moment
-abbrev pub IsDeadly : ReaderKept → ℕ → Type 0
-IsDeadly kept now = (proxies : List WriterProxy) (r : Reader) (tracked : Endpoint → Tracked)
-    → ReaderStands kept proxies r tracked → 1 ≤ length (dead_at r.qos now r.happened)
+-- more would have happened at the reader by the deaths of this moment than can be counted
+abbrev pub IsPastCounting : ReaderKept → ℕ → Type 0
+IsPastCounting kept now = (proxies : List WriterProxy) (r : Reader) (tracked : Endpoint → Tracked)
+    → ReaderStands kept proxies r tracked → 2 ^ 64 - 1 < length r.happened + length (dead_at r.qos now r.happened)
 
--- at one of these readers somebody dies
-pub record HasDeadly (readers : List ReaderKept) (now : ℕ) : Type 0 where
+-- so it is at one of these readers
+pub record HasPastCounting (readers : List ReaderKept) (now : ℕ) : Type 0 where
   pub index : ℕ
   pub reader : ReaderKept
   pub at : slice_get readers index ≡ Some reader
-  pub deadly : IsDeadly reader now
+  pub past : IsPastCounting reader now

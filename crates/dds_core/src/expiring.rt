@@ -2,47 +2,32 @@
 //!
 //! DDS 1.4, 2.2.3 (LIVELINESS: lease_duration).
 
-ghost use Rattle.std.specs.Prelude.{◌≡◌, IfErr, OnErr, OnOk};
-ghost use Rattle.dds_base.specs.declared.code.Code.TheVariants.{Memory};
-ghost use Rattle.dds_core.specs.Expiring.{AllExpire, HasDeadly, HaveRoomForDeaths};
-ghost use Rattle.dds_core.specs.Readiness.{AreAlike};
+ghost use Rattle.std.specs.Prelude.{◌≡◌, true, false};
+ghost use Rattle.dds_core.specs.Expiring.{AllExpire, HasPastCounting, HaveRoomForDeaths};
 
 use crate::reader_end::ReaderEnd;
-use dds_base::{Code, Moment};
+use dds_base::Moment;
 
-/// Makes room at each of these readers for all that die there at this moment.
-fn reserve_all(readers: &mut [ReaderEnd], now: Moment) -> Result<(), Code>
-    ensures alike { AreAlike readers.old readers.new }
-    ensures room { OnOk result (HaveRoomForDeaths now readers.new) }
-    ensures refused { IfErr result (λ code. (code ≡ Memory) × HasDeadly readers.old now) }
+/// Whether all that die at each of these readers at this moment can be counted there: no more than 2^64 - 1 entries
+/// happened at it with them.
+pub fn counts_deaths(readers: &[ReaderEnd], now: Moment) -> bool
+    ensures room { result ≡ true → HaveRoomForDeaths now readers.now }
+    ensures past { result ≡ false → HasPastCounting readers.now now }
 {
-    for index in 0..readers.len() {
-        readers[index].reserve_deaths(now)?;
+    for reader in readers {
+        if !reader.counts_deaths(now) {
+            return false;
+        }
     }
-    Ok(())
+    true
 }
 
-/// At each of these readers those die whose lease is over at this moment.
-fn expire_each(readers: &mut [ReaderEnd], now: Moment)
+/// At each of these readers those die whose lease is over at this moment. It takes no memory.
+pub fn expire_all(readers: &mut [ReaderEnd], now: Moment)
     requires room { HaveRoomForDeaths now readers.old }
     ensures expires { AllExpire readers.old now readers.new }
 {
     for index in 0..readers.len() {
         readers[index].expire(now);
     }
-}
-
-/// At each of these readers those die whose lease is over at this moment, reader by reader, if there is room for all.
-///
-/// # Errors
-///
-/// `Memory` where a growth was refused, and only where somebody dies; then nobody has died.
-pub fn expire_all(readers: &mut [ReaderEnd], now: Moment) -> Result<(), Code>
-    ensures expires { OnOk result (AllExpire readers.old now readers.new) }
-    ensures alike { OnErr result (AreAlike readers.old readers.new) }
-    ensures refused { IfErr result (λ code. (code ≡ Memory) × HasDeadly readers.old now) }
-{
-    reserve_all(readers, now)?;
-    expire_each(readers, now);
-    Ok(())
 }

@@ -7,7 +7,7 @@ ghost use Rattle.dds_protocol.specs.declared.event.Event.TheVariants as event;
 ghost use Rattle.dds_core.specs.Stepping.{Steps, SoundStepsBy};
 ghost use Rattle.dds_core.specs.Sending.{Sends, AreMessages};
 
-use crate::expiring::expire_all;
+use crate::expiring::{counts_deaths, expire_all};
 use crate::output::answered;
 use crate::reader_end::ReaderEnd;
 use crate::receiver::NO_MOMENT;
@@ -72,7 +72,7 @@ impl Peer {
     }
 
     /// The time of the peer goes on: not back, and not to 2^63 or beyond. Those whose lease is over die at its readers,
-    /// if there is memory for that; then the HEARTBEATs that are due are sent.
+    /// then the HEARTBEATs that are due are sent.
     fn tick(&mut self, now: Moment) -> Output
         ensures step { Steps self.old (event.Tick now) result self.new }
         ensures sends { Sends self.old (event.Tick now) result }
@@ -81,9 +81,10 @@ impl Peer {
         if now.units() < self.moment.units() || NO_MOMENT <= now.units() {
             return answered(self.alloc, Reply::Refused(Code::BadParameter));
         }
-        if let Err(code) = expire_all(self.readers.as_mut_slice(), now) {
-            return answered(self.alloc, Reply::Refused(code));
+        if !counts_deaths(self.readers.as_slice(), now) {
+            return answered(self.alloc, Reply::Refused(Code::Memory));
         }
+        expire_all(self.readers.as_mut_slice(), now);
         let Announced { packets, unsent } = tick_all(
             self.alloc,
             self.prefix,

@@ -12,7 +12,7 @@ ghost use Rattle.dds_base.specs.declared.happening.Happening.{Happening};
 ghost use Rattle.rtps_wire.specs.declared.submessage.Submessage.TheVariants as submessage;
 ghost use Rattle.rtps_reader.specs.Answer.{IsSayable};
 ghost use Rattle.rtps_reader.specs.Tracked.{Tracked};
-ghost use Rattle.dds_core.specs.Expiring.{Expires, HasRoomForDeaths, IsDeadly};
+ghost use Rattle.dds_core.specs.Expiring.{Expires, HasRoomForDeaths, IsPastCounting};
 ghost use Rattle.dds_core.specs.Identity.{reader_identity};
 ghost use Rattle.dds_core.specs.Noticing.{MarksReader, RaisesSo, SeesStatus};
 ghost use Rattle.dds_core.specs.OpeningEnds.{OpensReader};
@@ -389,17 +389,12 @@ impl ReaderEnd {
         }
     }
 
-    /// Makes room for all that die at this moment.
-    ///
-    /// # Errors
-    ///
-    /// `Memory` where a growth was refused, and only where somebody dies.
-    pub fn reserve_deaths(&mut self, now: Moment) -> Result<(), Code>
-        ensures alike { IsAlike self.old self.new }
-        ensures room { OnOk result (HasRoomForDeaths now self.new.store) }
-        ensures refused { IfErr result (λ code. (code ≡ Memory) × IsDeadly self.old now) }
+    /// Whether all that die at this moment can be counted: no more than 2^64 - 1 entries happened with them.
+    pub fn counts_deaths(&self, now: Moment) -> bool
+        ensures room { result ≡ true → HasRoomForDeaths now self.now.store }
+        ensures past { result ≡ false → IsPastCounting self.now now }
     {
-        self.store.reserve_deaths(now)
+        self.store.counts_deaths(now)
     }
 
     /// Those whose lease is over at this moment die.

@@ -160,24 +160,13 @@ impl Store {
         &self.leases
     }
 
-    /// Makes room for all that die at this moment.
-    ///
-    /// # Errors
-    ///
-    /// `Memory` where a growth was refused, and only where somebody dies; the store is then as it was.
-    pub fn reserve_deaths(&mut self, now: Moment) -> Result<(), Code>
-        ensures same { (h : List Happening) → Holds self.old h → Holds self.new h }
-        ensures qos { qos_of self.new.cache ≡ qos_of self.old.cache }
-        ensures room { OnOk result (HasRoomForDeaths now self.new) }
-        ensures refused { IfErr result (λ code. (code ≡ Memory)
-            × ((h : List Happening) → Holds self.old h
-            → 1 ≤ length (dead_at (qos_of self.old.cache) now h))) }
+    /// Whether all that die at this moment can be counted: no more than 2^64 - 1 entries happened with them.
+    pub fn counts_deaths(&self, now: Moment) -> bool
+        ensures room { result ≡ true → HasRoomForDeaths now self.now }
+        ensures past { result ≡ false → (h : List Happening) → Holds self.now h
+            → 2 ^ 64 - 1 < length h + length (dead_at (qos_of self.now.cache) now h) }
     {
-        let count = self.leases.overdue(now);
-        if count == 0 {
-            return Ok(());
-        }
-        self.cache.reserve_deaths(count)
+        self.cache.counts_deaths(self.leases.overdue(now))
     }
 
     /// Those whose lease is over at this moment die, in the order of their handles.

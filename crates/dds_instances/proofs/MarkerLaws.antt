@@ -1,10 +1,10 @@
 -- Of how many instances a death leaves a marker.
-use Rattle.std.proofs.Common.{◌≡◌, ℕ, suc, ◌+◌, ◌<◌, ◌≤◌, List, [], ◌∷◌, length, get_or, Bool, true, false, not, ◌==◌, ap, ◌∙◌, refl, cond, Option, Some, None, arith, ⊎_elim}
+use Rattle.std.proofs.Common.{◌≡◌, ℕ, suc, ◌+◌, ◌<◌, ◌≤◌, List, [], ◌∷◌, ◌++◌, zero, length, get_or, set, Bool, true, false, not, ◌==◌, ap, sym, ◌∙◌, refl, cond, Option, Some, None, arith, ⊎_elim}
 use Rattle.std.specs.Prelude.{if◌then◌else◌, count_by, IfSome}
 use Rattle.std.specs.List.{All}
 use Rattle.std.proofs.lemmas.Bool.{cases_Bool, eqb-true}
 use Rattle.std.proofs.lemmas.List.Elements.{All-head, All-tail}
-use Rattle.std.proofs.lemmas.List.Sums.{sum_by-cons}
+use Rattle.std.proofs.lemmas.List.Sums.{sum_by-cons, sum_by-append}
 use Rattle.dds_base.specs.declared.change.ChangeKind.{ChangeKind}
 use Rattle.dds_base.specs.declared.change.ChangeKind.TheVariants.{Write}
 use Rattle.dds_base.specs.declared.sample.InstanceState.{InstanceState}
@@ -84,3 +84,45 @@ marked-buried n w (t ∷ ts) (x ∷ xs) same fits steps =
     let marked_now = sum_by-cons (λ (y : InstanceTrack). cond (is_at y.last_marker n) 1 0) x xs in
     let alive_before = sum_by-cons (λ (y : InstanceTrack). cond (is_alive_track y) 1 0) t ts in
     omega (arith, one, rest, alive_now, marked_now, alive_before)
+
+-- ---- who is alive after a change
+
+-- 1 where the instance of a track is alive
+abbrev alive_in : InstanceTrack → ℕ
+alive_in t = cond (is_alive_track t) 1 0
+
+-- one more at most is alive where one track was changed
+pub alive-changed : (ts : List InstanceTrack) (at : ℕ) (x : InstanceTrack)
+    → count_by is_alive_track (set ts at x) ≤ count_by is_alive_track ts + 1
+alive-changed [] at x = omega arith
+alive-changed (t ∷ ts) zero x =
+    let after = sum_by-cons alive_in x ts in
+    let before = sum_by-cons alive_in t ts in
+    let one = one_if-bound (is_alive_track x) in
+    omega (arith, after, before, one)
+alive-changed (t ∷ ts) (suc at) x =
+    let after = sum_by-cons alive_in t (set ts at x) in
+    let before = sum_by-cons alive_in t ts in
+    let rest = alive-changed ts at x in
+    omega (arith, after, before, rest)
+
+-- as many are where that is alive as it was
+pub alive-kept : (ts : List InstanceTrack) (at : ℕ) (x d : InstanceTrack)
+    → is_alive_track x ≡ is_alive_track (get_or ts at d)
+    → count_by is_alive_track (set ts at x) ≡ count_by is_alive_track ts
+alive-kept [] at x d same = refl
+alive-kept (t ∷ ts) zero x d same =
+    sum_by-cons alive_in x ts
+    ∙ (ap (λ (b : Bool). cond b 1 0 + count_by is_alive_track ts) same ∙ sym (sum_by-cons alive_in t ts))
+alive-kept (t ∷ ts) (suc at) x d same =
+    sum_by-cons alive_in t (set ts at x)
+    ∙ (ap (λ (n : ℕ). alive_in t + n) (alive-kept ts at x d same) ∙ sym (sum_by-cons alive_in t ts))
+
+-- one more at most is where one became known
+pub alive-added : (ts : List InstanceTrack) (x : InstanceTrack)
+    → count_by is_alive_track (ts ++ x ∷ []) ≤ count_by is_alive_track ts + 1
+alive-added ts x =
+    let whole = sum_by-append alive_in ts (x ∷ []) in
+    let last = sum_by-cons alive_in x [] in
+    let one = one_if-bound (is_alive_track x) in
+    omega (arith, whole, last, one)

@@ -80,6 +80,8 @@ impl Instances {
     pub fn open(alloc: Global, qos: &ReaderQos) -> Self
         // Nothing has happened.
         ensures opening { Stands qos.now result [] }
+        // None is alive.
+        ensures alive { alive_of result ≡ 0 }
     {
         Instances {
             alloc,
@@ -106,6 +108,8 @@ impl Instances {
         ensures room { OnOk result (additional ≤ room_of self.new) }
         // There is no less room than before.
         ensures more { room_of self.old ≤ room_of self.new }
+        // As many are alive as before.
+        ensures alive { alive_of self.new ≡ alive_of self.old }
         // Where there is room enough it succeeds.
         ensures succeeds { additional ≤ room_of self.old → IsOk result }
         // A refusal leaves it as it was.
@@ -132,6 +136,7 @@ impl Instances {
         ensures stands { (h : List Happening) → Stands qos.now self.old h
             → Stands qos.now self.new (Came arrival.now ∷ h) }
         ensures room { room_of self.new + 1 ≡ room_of self.old }
+        ensures alive { alive_of self.new ≤ alive_of self.old + 1 }
     {
         let position = self.happened + 1;
         take_up(
@@ -158,6 +163,8 @@ impl Instances {
         ensures ok { OnOk result
             ((h : List Happening) → Stands qos.now self.old h
             → Stands qos.now self.new (Came arrival.now ∷ h)) }
+        // One more is alive at most.
+        ensures alive { alive_of self.new ≤ alive_of self.old + 1 }
         // It is an entry as each is: where there is room it is taken up, it takes the room of one at most, and it is
         // refused for want of memory alone, and then changes nothing.
         ensures entry { TakesEntry self.old self.new result }
@@ -216,6 +223,8 @@ impl Instances {
         ensures looked { OnOk result
             ((q : ReaderQos) (h : List Happening) (kind : StatusKind) → Stands q self.old h
             → Stands q self.new (Looked kind ∷ h)) }
+        // As many are alive as before.
+        ensures alive { alive_of self.new ≡ alive_of self.old }
         // It is an entry as each is: where there is room it is taken up, it takes the room of one at most, and it is
         // refused for want of memory alone, and then changes nothing.
         ensures entry { TakesEntry self.old self.new result }
@@ -243,6 +252,8 @@ impl Instances {
             ((q : ReaderQos) (h : List Happening) → Stands q self.old h
             → All (IsReturnable q h) samples.now
             → Stands q self.new (Took samples.now ∷ h)) }
+        // As many are alive as before.
+        ensures alive { alive_of self.new ≡ alive_of self.old }
         // It is taken up before 2^64 - 1 entries were.
         ensures counted { happened_of self.old + 1 < 2 ^ 64 → IsOk result }
         // It is an entry as each is: where there is room it is taken up, it takes the room of one at most, and it is

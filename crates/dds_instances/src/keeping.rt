@@ -39,6 +39,8 @@ pub fn change_known(
     ensures keys { map key_of tracks.new.items ≡ map key_of tracks.old.items }
     ensures len { vec_len tracks.new ≡ vec_len tracks.old }
     ensures capacity { vec_capacity tracks.new ≡ vec_capacity tracks.old }
+    ensures alive { count_by is_alive_track tracks.new.items
+        ≤ count_by is_alive_track tracks.old.items + 1 }
     ensures follows { (h : List Happening) → length h + 1 ≡ position → IsLawful qos.now h
         → Follows qos.now h tracks.old.items
         → Follows qos.now (Came arrival.now ∷ h) tracks.new.items }
@@ -67,6 +69,8 @@ pub fn introduce(
     ensures spare { spare index.old ≤ spare index.new + 1 }
     ensures len { vec_len tracks.new ≡ vec_len tracks.old + 1 }
     ensures capacity { vec_capacity tracks.old ≤ vec_capacity tracks.new }
+    ensures alive { count_by is_alive_track tracks.new.items
+        ≤ count_by is_alive_track tracks.old.items + 1 }
     ensures follows { (h : List Happening) → length h + 1 ≡ position
         → ((i : Key) → StandsFor blank qos.now i [])
         → IsLawful qos.now h → Follows qos.now h tracks.old.items
@@ -103,6 +107,8 @@ fn see_sample(index: &IndexSet<Key>, tracks: &mut Vec<InstanceTrack>, sample: Sa
     ensures keys { map key_of tracks.new.items ≡ map key_of tracks.old.items }
     ensures len { vec_len tracks.new ≡ vec_len tracks.old }
     ensures capacity { vec_capacity tracks.new ≡ vec_capacity tracks.old }
+    ensures alive { count_by is_alive_track tracks.new.items
+        ≡ count_by is_alive_track tracks.old.items }
     ensures sees { (q : ReaderQos) (h : List Happening) (samples : List SamplePosition)
         → Each q (Read samples ∷ h) tracks.old.items
         → Each q (Read (samples ++ sample ∷ []) ∷ h) tracks.new.items }
@@ -119,6 +125,8 @@ pub fn see_all(index: &IndexSet<Key>, tracks: &mut Vec<InstanceTrack>, samples: 
     ensures keys { map key_of tracks.new.items ≡ map key_of tracks.old.items }
     ensures len { vec_len tracks.new ≡ vec_len tracks.old }
     ensures capacity { vec_capacity tracks.new ≡ vec_capacity tracks.old }
+    ensures alive { count_by is_alive_track tracks.new.items
+        ≡ count_by is_alive_track tracks.old.items }
     ensures sees { (q : ReaderQos) (h : List Happening) → Each q (Read [] ∷ h) tracks.old.items
         → Each q (Read samples.now ∷ h) tracks.new.items }
 {
@@ -147,6 +155,8 @@ pub fn take_up(
     ensures spare { spare index.old ≤ spare index.new + 1 }
     ensures len { vec_len tracks.new ≤ vec_len tracks.old + 1 }
     ensures capacity { vec_capacity tracks.old ≤ vec_capacity tracks.new }
+    ensures alive { count_by is_alive_track tracks.new.items
+        ≤ count_by is_alive_track tracks.old.items + 1 }
     ensures blanks_len { vec_len blanks.old ≤ vec_len blanks.new + 1 }
     ensures blanks { (n : ℕ) → AreBlank n blanks.old.items → AreBlank n blanks.new.items }
     ensures follows { (h : List Happening) → length h + 1 ≡ position

@@ -2,7 +2,7 @@
 -- readers.
 --
 -- DDS 1.4, 2.2.3 (LIVELINESS: lease_duration).
-use Rattle.std.specs.Prelude.{◌≡◌, ℕ, ◌^◌, ◌||◌, Bool, true, map, length, Option, Some, None, nat_le, nat_lt, if◌then◌else◌}
+use Rattle.std.specs.Prelude.{◌≡◌, ℕ, ◌+◌, ◌-◌, ◌^◌, ◌||◌, Bool, true, map, length, Option, Some, None, nat_le, nat_lt, if◌then◌else◌}
 use Rattle.std.specs.List.{list_any}
 use Rattle.dds_base.specs.declared.code.Code.{Code}
 use Rattle.dds_base.specs.declared.code.Code.TheVariants.{BadParameter, Memory}
@@ -34,13 +34,15 @@ after_tick old now = record {
   dds = record old.dds { moment = now; readers = map (reader_ticked now) old.dds.readers };
 }
 
--- at some reader of the peer a writer dies at this moment
-abbrev pub is_deadly : Part → ℕ → Bool
-is_deadly part now = list_any (λ (r : Reader). nat_lt 0 (length (dead_at r.qos now r.happened))) part.dds.readers
+-- at some reader of the peer more would have happened by its deaths than can be counted
+abbrev pub is_past_counting : Part → ℕ → Bool
+is_past_counting part now =
+    list_any (λ (r : Reader). nat_lt (2 ^ 64 - 1) (length r.happened + length (dead_at r.qos now r.happened)))
+    part.dds.readers
 
--- why a tick is refused: for its moment, or for want of memory, where somebody dies: a death may leave markers
+-- why a tick is refused: for its moment; or for want of memory, which no death needs, but where one can't be counted
 abbrev pub RefusesTick : Part → ℕ → Code → Type 0
-RefusesTick old now code = Refuses (tick_refusal old now) code × (code ≡ Memory → is_deadly old now ≡ true)
+RefusesTick old now code = Refuses (tick_refusal old now) code × (code ≡ Memory → is_past_counting old now ≡ true)
 
 -- the time of a peer goes on to this moment, exactly unless that is refused
 abbrev pub TickStep : Part → ℕ → Reply → Part → Type 0

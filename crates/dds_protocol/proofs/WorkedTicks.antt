@@ -9,7 +9,7 @@ use Rattle.dds_base.specs.declared.qos.OwnershipQos.TheVariants.{Shared}
 use Rattle.dds_base.specs.declared.qos.ReliabilityQos.TheVariants.{Reliable}
 use Rattle.dds_base.specs.Written.{Asserted, Ticked}
 use Rattle.rtps_wire.specs.declared.submessage.Submessage.TheVariants.{InfoDst, Heartbeat}
-use Rattle.dds_machine.specs.Ticks.{RefusesTick, after_tick, is_deadly, tick_refusal}
+use Rattle.dds_machine.specs.Ticks.{RefusesTick, after_tick, is_past_counting, tick_refusal}
 use Rattle.dds_machine.specs.Calls.{with_written}
 use Rattle.dds_protocol.specs.Claims.{every_reader}
 use Rattle.dds_machine.specs.Part.{Part, Writer, heartbeats_used, is_assertion, no_part, no_writer, nothing_seen, own_reader}
@@ -62,12 +62,9 @@ tick-once : (own_reader (after_tick (after_tick part 12) 15) 1).happened
     ≡ Died 2 15 ∷ Died 1 12 ∷ Heard 2 5 ∷ Heard 1 2 ∷ []
 tick-once = refl
 
-tick-deadly : is_deadly part 12 ≡ true
-tick-deadly = refl
-
--- where nobody dies, no tick lacks memory
-tick-wants_none : RefusesTick part 11 Memory → ⊥
-tick-wants_none h = let dies : is_deadly part 11 ≡ true = h.1 refl in absurd cc
+-- no tick lacks memory, also where somebody dies
+tick-wants_none : RefusesTick part 15 Memory → ⊥
+tick-wants_none h = let over : is_past_counting part 15 ≡ true = h.1 refl in absurd cc
 
 tick-back : tick_refusal part 4 ≡ Some BadParameter
 tick-back = refl

@@ -4,6 +4,7 @@ use Rattle.dds_instances.specs.declared.track.InstanceTrack.{InstanceTrack}
 use Rattle.dds_instances.specs.Track.{Fits}
 use Rattle.dds_instances.specs.Following.{key_of}
 use Rattle.dds_instances.proofs.StandingLaws.{fits-advanced, fits-set, keys-set, follows-known}
+use Rattle.dds_instances.proofs.MarkerLaws.{alive-changed}
 use Rattle.dds_instances.proofs.keeping.change_known.Goals as goal
 
 pub returns-clause-fits : goal.returns-clause-fits
@@ -38,3 +39,6 @@ returns-clause-follows c =
           c.change.ensures.came;
     })
     lawful follows
+
+pub returns-clause-alive : goal.returns-clause-alive
+returns-clause-alive c = alive-changed c.args.tracks.now.items c.args.at c.change.new.self

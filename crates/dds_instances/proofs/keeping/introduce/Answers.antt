@@ -1,12 +1,14 @@
-use Rattle.std.proofs.Common.{◌≡◌, List, ◌∷◌, map, subst, sym, ap, ◌∙◌, false}
+use Rattle.std.proofs.Common.{◌≡◌, ◌+◌, ◌≤◌, List, ◌∷◌, map, subst, sym, ap, ◌∙◌, false}
+use Rattle.std.specs.Prelude.{count_by}
 use Rattle.std.specs.List.{list_any}
 use Rattle.dds_base.specs.declared.key.Key.{Key}
 use Rattle.dds_base.specs.declared.happening.Happening.TheVariants.{Came}
 use Rattle.dds_base.specs.Happening.{same_key}
 use Rattle.dds_instances.specs.declared.track.InstanceTrack.{InstanceTrack}
-use Rattle.dds_instances.specs.Track.{fresh}
+use Rattle.dds_instances.specs.Track.{fresh, is_alive_track}
 use Rattle.dds_instances.specs.Following.{key_of, Follows}
 use Rattle.dds_instances.proofs.StandingLaws.{Changes, follows-new}
+use Rattle.dds_instances.proofs.MarkerLaws.{alive-added}
 use Rattle.dds_instances.proofs.keeping.introduce.Goals as goal
 
 pub returns-clause-follows : goal.returns-clause-follows
@@ -28,3 +30,9 @@ returns-clause-follows c = λ h len blank lawful follows.
     (sym c.put_last.ensures.tracks)
     (follows-new c.args.qos.now h c.args.arrival.now c.args.tracks.now.items c.args.position c.args.blank
     c.change.new.self c.change.result len blank absent c.requires.kind step lawful follows)
+
+pub returns-clause-alive : goal.returns-clause-alive
+returns-clause-alive c =
+    let ts : List InstanceTrack = c.args.tracks.now.items in
+    subst (λ (xs : List InstanceTrack). count_by is_alive_track xs ≤ count_by is_alive_track ts + 1)
+    (sym c.put_last.ensures.tracks) (alive-added ts c.change.new.self)

@@ -11,6 +11,7 @@ loop-sample-preserved c = record {
   keys = c.see_sample.ensures.keys ∙ c.loop-sample.invariant.keys;
   len = c.see_sample.ensures.len ∙ c.loop-sample.invariant.len;
   capacity = c.see_sample.ensures.capacity ∙ c.loop-sample.invariant.capacity;
+  alive = c.see_sample.ensures.alive ∙ c.loop-sample.invariant.alive;
   sees =
       λ q h each. let s = c.see_sample.ensures.sees q h (take c.loop-sample.sample-index c.args.samples.now)
       (c.loop-sample.invariant.sees q h each) in subst

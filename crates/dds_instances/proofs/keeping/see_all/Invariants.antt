@@ -1,11 +1,11 @@
 -- the instances were told of the samples so far
 use Rattle.std.proofs.Common.{◌≡◌, ℕ, List, [], ◌∷◌, map, take}
 use Rattle.std.specs.List.{All}
-use Rattle.std.specs.Prelude.{vec_len, vec_capacity}
+use Rattle.std.specs.Prelude.{count_by, vec_len, vec_capacity}
 use Rattle.dds_base.specs.declared.happening.Happening.{Happening}
 use Rattle.dds_base.specs.declared.happening.Happening.TheVariants.{Read}
 use Rattle.dds_base.specs.declared.qos.ReaderQos.{ReaderQos}
-use Rattle.dds_instances.specs.Track.{Fits}
+use Rattle.dds_instances.specs.Track.{Fits, is_alive_track}
 use Rattle.dds_instances.specs.Following.{key_of, Each}
 use Rattle.dds_instances.proofs.keeping.see_all.Given as goal
 
@@ -15,6 +15,7 @@ invariant-loop-sample l = record {
   keys : map key_of l.tracks.items ≡ map key_of l.fn.tracks.items;
   len : vec_len l.tracks ≡ vec_len l.fn.tracks;
   capacity : vec_capacity l.tracks ≡ vec_capacity l.fn.tracks;
+  alive : count_by is_alive_track l.tracks.items ≡ count_by is_alive_track l.fn.tracks.items;
   sees : (q : ReaderQos) (h : List Happening) → Each q (Read [] ∷ h) l.fn.tracks.items
       → Each q (Read (take l.sample-index l.samples) ∷ h) l.tracks.items;
 }

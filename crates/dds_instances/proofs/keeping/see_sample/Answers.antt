@@ -4,8 +4,10 @@ use Rattle.std.proofs.lemmas.List.{length-map, get_or_default}
 use Rattle.dds_base.specs.declared.key.Key.{Key}
 use Rattle.dds_base.specs.Happening.{same_key}
 use Rattle.dds_instances.specs.declared.track.InstanceTrack.{InstanceTrack}
+use Rattle.dds_instances.specs.Track.{is_alive_track}
 use Rattle.dds_instances.specs.Following.{key_of, IsPlaceOf}
 use Rattle.dds_instances.proofs.StandingLaws.{keys-set, each-saw, each-passed, fits-saw}
+use Rattle.dds_instances.proofs.MarkerLaws.{alive-kept}
 use Rattle.dds_instances.proofs.keeping.see_sample.Goals as goal
 
 pub returns-in-Some-clause-fits : goal.returns-in-Some-clause-fits
@@ -41,3 +43,9 @@ returns-in_default-clause-sees c = λ q h samples each.
     ap (λ (ks : List Key). list_any (same_key c.args.sample.key) ks) (sym c.requires.indexed) ∙ c.in_default.ensures
     in
     each-passed q h samples c.args.sample c.args.tracks.now.items absent each
+
+pub returns-in-Some-clause-alive : goal.returns-in-Some-clause-alive
+returns-in-Some-clause-alive c =
+    alive-kept c.args.tracks.now.items c.in-Some.at c.see.new.self c.index_mut.result.now
+    (ap (λ (t : InstanceTrack). is_alive_track t) c.see.ensures
+    ∙ ap (λ (t : InstanceTrack). is_alive_track t) c.index_mut.ensures.value)

@@ -21,12 +21,11 @@ invariant_of-self-2 c = record {
       omega (
         arith,
         c.self.invariant.samples,
+        c.in_ok-returned.ensures.alive,
         c.settle.ensures.len,
         c.settle.ensures.capacity,
         c.saturating_sub-self-inside.ensures,
       );
-  counted = λ some. absurd (omega (arith, some));
-  places = λ some. absurd (omega (arith, some));
   small = subst (λ (ks : List Kept). All IsSmall ks) (sym c.settle.ensures.items)
       (small-settled c.args.kind c.args.access.now.returned.keys c.self.inside.samples.items c.self.invariant.small);
 }
