@@ -1,8 +1,9 @@
 -- A peer with the filters and the listeners of its application.
 --
 -- DDS 1.4, 2.2.2.1 (Entity, set_listener), 2.2.4.3 (access through listeners).
-use Rattle.std.specs.Prelude.{◌≡◌, ℕ, ◌+◌, List, [], ◌∷◌, ◌++◌, length, Option, None, Some}
+use Rattle.std.specs.Prelude.{◌≡◌, ◌≢◌, ℕ, ◌+◌, List, [], ◌∷◌, ◌++◌, length, Option, None, Some}
 use Rattle.dds_base.specs.declared.code.Code.{Code}
+use Rattle.dds_base.specs.declared.code.Code.TheVariants.{Memory}
 use Rattle.dds_base.specs.declared.config.Config.{Config}
 use Rattle.dds_base.specs.declared.entity.Entity.{Entity}
 use Rattle.dds_notices.specs.declared.mask.StatusMask.{StatusMask}
@@ -90,12 +91,14 @@ AreKept {F} {L} notices capacity becomes kept entity told =
     → (unknown_entity peer.part.dds.listeners entity ≡ None)
     × (told ≡ kept_in (at_entity peer.part.dds.listeners entity))
 
--- for each state that the values stand for, a question about an entity is refused so
+-- for each state that the values stand for, the question which notices the listener of an entity keeps is refused so:
+-- for want of memory where it keeps one
 abbrev pub RefusesEntity : {F L : Type 0} → (L → List Notice) → (L → ℕ) → (L → Notice → L → Type 0) → CoreKept F L
     → Entity → Code → Type 0
 RefusesEntity {F} {L} notices capacity becomes kept entity code =
     (given : ByEntity L) (config : Config) (peer : Peer) → StandsFor notices capacity becomes given kept config peer
     → Refuses (unknown_entity peer.part.dds.listeners entity) code
+    × (code ≡ Memory → kept_in (at_entity peer.part.dds.listeners entity) ≢ [])
 
 -- for each state that the old values stand for, a listener is refused so
 abbrev pub RefusesListener : {F L : Type 0} → (L → List Notice) → (L → ℕ) → (L → Notice → L → Type 0) → CoreKept F L

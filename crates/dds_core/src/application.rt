@@ -166,14 +166,15 @@ impl<F: Filter, L: Listener> Core<F, L> {
     ///
     /// # Errors
     ///
-    /// `BadParameter` where there is no such entity, else `Memory` where a growth was refused.
+    /// `BadParameter` where there is no such entity, else `Memory` where a growth was refused, which only a listener that
+    /// keeps a notice needs.
     ///
     /// DDS 1.4, 2.2.4.3 (access through listeners).
     pub fn notices(&self, entity: Entity) -> Result<Vec<Notice>, Code>
         // They are the last ones of all that was told there, as many as there is room for.
         ensures ok { IfOk result
             (λ kept. AreKept L.notices L.capacity L.becomes self.now entity kept.items) }
-        // A refusal is for its cause, or for want of memory.
+        // A refusal is for its cause, or for want of memory, where a notice is kept.
         ensures refused { IfErr result (RefusesEntity L.notices L.capacity L.becomes self.now entity) }
     {
         self.listeners.notices(self.filtered.memory(), entity)

@@ -1,5 +1,5 @@
 -- What stands at an entity once another one was put somewhere.
-use Rattle.std.proofs.Common.{◌≡◌, ◌≢◌, ℕ, zero, suc, ◌+◌, ◌-◌, ◌≤◌, ⊎_elim, Bool, true, false, is_some, List, [], ◌∷◌, ◌++◌, take, slice_get, Option, Some, None, refl, ap, sym, ◌∙◌, set, drop, length, subst, if◌then◌else◌, arith, length-set}
+use Rattle.std.proofs.Common.{◌≡◌, ◌≢◌, ℕ, zero, suc, ◌+◌, ◌-◌, ◌<◌, ◌≤◌, ⊎_elim, Bool, true, false, is_some, List, [], ◌∷◌, ◌++◌, take, slice_get, Option, Some, None, refl, ap, sym, ◌∙◌, set, drop, length, subst, if◌then◌else◌, arith, length-set}
 use Rattle.std.specs.List.{FoldsTo}
 use Rattle.std.proofs.lemmas.Grind.{common_steps}
 use Rattle.std.proofs.lemmas.Option.{same_Some}
@@ -98,6 +98,12 @@ taken_all {X} xs i n is at = let next : n ≡ suc i = omega (arith, is) in rw ne
     all [] (suc j) h = refl
     all (y ∷ ys) zero h = absurd cc
     all (y ∷ ys) (suc j) h = ap (λ zs. y ∷ zs) (all ys j h)
+
+-- where an element stands, some are taken
+pub some_taken : {X : Type 0} (xs : List X) (n at : ℕ) (x : X) → slice_get xs at ≡ Some x → at < n → take n xs ≢ []
+some_taken [] n at x there within none = absurd cc
+some_taken (y ∷ ys) zero at x there within none = absurd (omega (arith, within))
+some_taken (y ∷ ys) (suc n) at x there within none = absurd cc
 
 -- the last ones fit
 all_fit : {X : Type 0} (room : ℕ) (xs : List X) → take room (keep_last room xs) ≡ keep_last room xs

@@ -2,7 +2,7 @@
 //!
 //! DDS 1.4, 2.2.2.1 (Entity: set_listener), 2.2.4.3 (access through listeners).
 
-ghost use Rattle.std.specs.Prelude.{◌≡◌, true, Option, is_some, take, IfOk};
+ghost use Rattle.std.specs.Prelude.{◌≡◌, ◌≢◌, [], true, Option, is_some, take, IfOk, IfErr};
 ghost use Rattle.std.specs.Option.{option_copied};
 ghost use Rattle.dds_notices.specs.Listeners.{Place, StandsAt, is_fresh, kept_in, shown, slot_of, takes, with_notice};
 ghost use Rattle.dds_notices.specs.Slotted.{listener_of};
@@ -77,8 +77,9 @@ pub(crate) fn shown<L: Listener>(slot: Option<&Slot<L>>) -> Option<(StatusMask, 
 
 /// The notices that a listener keeps, as far as it has room.
 fn kept_by<L: Listener>(alloc: Global, listener: &L) -> Result<Vec<Notice>, AllocError>
-    ensures { IfOk result (λ kept. kept.items
+    ensures kept { IfOk result (λ kept. kept.items
         ≡ take (L.capacity listener.now) (L.notices listener.now)) }
+    ensures some { IfErr result (λ _. take (L.capacity listener.now) (L.notices listener.now) ≢ []) }
 {
     let mut kept = Vec::new(alloc);
     for at in 0..listener.room() {
@@ -94,9 +95,12 @@ pub(crate) fn kept<L: Listener>(
     alloc: Global,
     slot: Option<&Slot<L>>,
 ) -> Result<Vec<Notice>, AllocError>
-    ensures { IfOk result (λ kept. (given : Option L) (place : Option Place)
+    ensures kept { IfOk result (λ kept. (given : Option L) (place : Option Place)
         → StandsAt L.notices L.capacity L.becomes given (option_copied slot.entry) place
         → kept.items ≡ kept_in place) }
+    ensures some { IfErr result (λ _. (given : Option L) (place : Option Place)
+        → StandsAt L.notices L.capacity L.becomes given (option_copied slot.entry) place
+        → kept_in place ≢ []) }
 {
     match slot {
         Some(slot) => kept_by(alloc, &slot.listener),

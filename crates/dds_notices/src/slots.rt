@@ -3,9 +3,10 @@
 //! DDS 1.4, 2.2.2.1 (Entity: set_listener), 2.2.4.3 (listeners: the one of the entity, or else of what contains
 //! it).
 
-ghost use Rattle.std.specs.Prelude.{◌≡◌, ◌-◌, true, Option, set, replicate, length, is_some, None, Some, IfOk, IfErr, OnErr, OnOk};
+ghost use Rattle.std.specs.Prelude.{◌≡◌, ◌≢◌, [], ◌-◌, true, Option, set, replicate, length, is_some, None, Some, IfOk, IfErr, OnErr, OnOk};
 ghost use Rattle.std.specs.List.{list_any};
 ghost use Rattle.std.specs.Option.{option_copied};
+ghost use Rattle.dds_base.specs.declared.code.Code.TheVariants.{Memory};
 ghost use Rattle.dds_base.specs.Refusal.{Refuses};
 ghost use Rattle.dds_base.specs.Number.{at_number, is_number};
 ghost use Rattle.dds_notices.specs.Listeners.{ByEntity, Place, Places, Sets, StandsAt, StandsFor, after_notice, at_entity, has_entity, is_any, kept_in, listener_refusal, nobody, shown, unknown_entity, taker_of, with_entity, with_notice};
@@ -173,7 +174,8 @@ impl<L: Listener> Slots<L> {
     ///
     /// # Errors
     ///
-    /// `BadParameter` for an entity that there isn't, else `Memory` where a growth was refused.
+    /// `BadParameter` for an entity that there isn't, else `Memory` where a growth was refused, which only one that keeps a
+    /// notice needs.
     pub fn notices(&self, alloc: Global, entity: Entity) -> Result<Vec<Notice>, Code>
         // They are the last ones of all that was told there, as many as there is room for.
         ensures ok { IfOk result (λ kept. (given : ByEntity L) (places : Places)
@@ -183,6 +185,10 @@ impl<L: Listener> Slots<L> {
         ensures taken { OnOk result (unknown_entity self.now entity ≡ None) }
         // A refusal is for its cause, or for want of memory.
         ensures refused { IfErr result (Refuses (unknown_entity self.now entity)) }
+        // Memory is wanted where a notice is kept.
+        ensures some { IfErr result (λ code. code ≡ Memory → (given : ByEntity L) (places : Places)
+            → StandsFor L.notices L.capacity L.becomes given self.now places
+            → kept_in (at_entity places entity) ≢ []) }
     {
         if !self.has(entity) {
             return Err(Code::BadParameter);
