@@ -4,7 +4,8 @@ use Rattle.std.specs.List.{list_any}
 use Rattle.std.proofs.lemmas.List.Folds.{list_any-append}
 use Rattle.dds_base.specs.declared.config.PeerConfig.{PeerConfig}
 use Rattle.dds_base.specs.declared.config.WriterConfig.{WriterConfig}
-use Rattle.dds_base.specs.Matched.{same_topic, of_writers_in, of_matched_writers}
+use Rattle.dds_base.specs.Matched.{same_topic, of_matched_writers}
+use Rattle.dds_base.specs.MatchedAt.{of_writers_in}
 
 if_matched : (test : WriterConfig → Bool) (w : WriterConfig) (found : List WriterConfig) (later matched : Bool)
     → list_any test found ≡ later → list_any test (cond matched (w ∷ found) found) ≡ ((matched && test w) || later)

@@ -1,5 +1,6 @@
 pub mod Code
 pub mod Fields
+pub mod FieldPairs
 pub mod DatumText
 pub mod DatumAt
 pub mod Written
@@ -14,6 +15,7 @@ pub mod Presence
 pub mod Liveliness
 pub mod Access
 pub mod Matched
+pub mod MatchedAt
 pub mod Number
 pub mod Checked
 pub mod Faults

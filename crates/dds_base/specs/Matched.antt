@@ -3,7 +3,7 @@
 --
 -- DDS 1.4, 2.2.2.3 (a Topic is what publications and subscriptions have in common), 2.2.3 (RELIABILITY); RTPS 2.5, 8.4
 -- (matched_writers, matched_readers).
-use Rattle.std.specs.Prelude.{ℕ, ◌+◌, ◌==◌, Bool, true, ◌&&◌, if◌then◌else◌, List, [], ◌∷◌, ◌++◌}
+use Rattle.std.specs.Prelude.{ℕ, ◌+◌, ◌==◌, Bool, true, ◌&&◌, if◌then◌else◌, List, ◌∷◌, ◌++◌}
 use Rattle.dds_base.specs.declared.config.PeerConfig.{PeerConfig}
 use Rattle.dds_base.specs.declared.config.WriterConfig.{WriterConfig}
 use Rattle.dds_base.specs.declared.config.ReaderConfig.{ReaderConfig}
@@ -34,13 +34,9 @@ of_matched_ends ends is_wanted topic_of tell topic peer (p ∷ ps) =
 abbrev pub any_writer : WriterConfig → Bool
 any_writer w = true
 
--- what is told of each writer of the topic among these, by its number, which counts on from this one; so a reader's
--- matched writers come in the order of its publication handles (DDS 1.4, 2.2.2.5, publication_handle)
-abbrev pub of_writers_in : {X : Type 0} → (ℕ → WriterConfig → X) → ℕ → ℕ → List WriterConfig → List X
-of_writers_in = of_ends_in any_writer (λ (w : WriterConfig). w.topic)
-
 -- what is told of each matched writer of a reader of the topic, at all of these peers; the first of them has this
--- number
+-- number; so a reader's matched writers come in the order of its publication handles (DDS 1.4, 2.2.2.5,
+-- publication_handle)
 abbrev pub of_matched_writers : {X : Type 0} → (ℕ → PeerConfig → ℕ → WriterConfig → X) → ℕ → ℕ → List PeerConfig
     → List X
 of_matched_writers = of_matched_ends (λ (p : PeerConfig). p.writers) any_writer (λ (w : WriterConfig). w.topic)
@@ -53,10 +49,6 @@ is_reliable policy = true
 -- a reader is reliable
 abbrev pub is_reliable_reader : ReaderConfig → Bool
 is_reliable_reader r = is_reliable r.reliability
-
--- what is told of each reliable reader of the topic among these, by its number, which counts on from this one
-abbrev pub of_readers_in : {X : Type 0} → (ℕ → ReaderConfig → X) → ℕ → ℕ → List ReaderConfig → List X
-of_readers_in = of_ends_in is_reliable_reader (λ (r : ReaderConfig). r.topic)
 
 -- what is told of each matched reliable reader of a writer of the topic, at all of these peers; the first of them has
 -- this number

@@ -1,4 +1,5 @@
 pub mod Attached
 pub mod Watched
+pub mod NoFilters
 pub mod Filtered
 pub mod Lent

@@ -1,13 +1,12 @@
 -- What the application of a peer watches: the conditions that it made, its WaitSets, and the statuses that are enabled.
 --
 -- DDS 1.4, 2.2.2.1 (Condition, GuardCondition, StatusCondition, WaitSet), 2.2.2.5 (ReadCondition).
-use Rattle.std.specs.Prelude.{ℕ, ◌+◌, ◌-◌, ◌^◌, List, [], ◌∷◌, ◌++◌, get_or, set, map, replicate, length, nat_le, ◌&&◌, Bool, true, false, Option, None, Some, is_some, if◌then◌else◌}
+use Rattle.std.specs.Prelude.{ℕ, ◌+◌, ◌-◌, ◌^◌, List, ◌∷◌, ◌++◌, get_or, set, map, replicate, length, nat_le, ◌&&◌, Bool, true, false, Option, None, Some, is_some, if◌then◌else◌}
 use Rattle.std.specs.List.{filter}
 use Rattle.std.specs.Option.{option_map}
 use Rattle.dds_base.specs.declared.code.Code.{Code}
 use Rattle.dds_base.specs.declared.code.Code.TheVariants.{BadParameter, OutOfResources, PreconditionNotMet}
 use Rattle.dds_base.specs.declared.entity.Entity.{Entity}
-use Rattle.dds_base.specs.declared.key.Key.{Key}
 use Rattle.dds_base.specs.declared.entity.Entity.TheVariants.{Participant, Writer, Reader}
 use Rattle.dds_base.specs.Number.{at_number, is_number}
 use Rattle.dds_notices.specs.declared.mask.StatusMask.{StatusMask}
@@ -92,10 +91,6 @@ filter_refusal w = if nat_le (2 ^ 32 - 1) w.filters then Some OutOfResources els
 -- a filter more, the last one
 abbrev pub with_filter : Watched → Watched
 with_filter w = record w { filters = w.filters + 1 }
-
--- where there are none, no sample passes
-abbrev pub no_filters : ℕ → Key → List ℕ → Bool
-no_filters filter key value = false
 
 -- there is a filter of this number
 abbrev pub has_filter : Watched → ℕ → Bool

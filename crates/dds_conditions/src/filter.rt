@@ -54,7 +54,7 @@ pub trait Filters {
 pub struct NoFilters;
 
 impl Filters for NoFilters {
-    ghost use Rattle.dds_conditions.specs.Watched.{no_filters};
+    ghost use Rattle.dds_conditions.specs.NoFilters.{no_filters};
 
     ghost meaning = { λ _. no_filters };
 

@@ -31,7 +31,7 @@ use Rattle.dds_machine.specs.declared.reply.Reply.TheVariants.{Samples, Refused}
 use Rattle.dds_machine.specs.Refusals.{access_refusal}
 use Rattle.dds_machine.specs.Calls.{Answers as CallAnswers, AnswersAccess, AnswersByCondition, CallStep, Effect, MayWantMemory, nothing, effect, effect_of, picked_at, with_happening}
 use Rattle.dds_machine.specs.Numbered.{has_element}
-use Rattle.dds_conditions.specs.Watched.{no_filters}
+use Rattle.dds_conditions.specs.NoFilters.{no_filters}
 use Rattle.dds_machine.specs.Part.{Part, Dds, Reader, WriterProxy, own_reader, own_proxies, Seen}
 use Rattle.dds_protocol.specs.Peer.{Peer}
 use Rattle.dds_machine.specs.Watching.{Test, Tests, condition_refusal, condition_selection, filter_of, test_of}

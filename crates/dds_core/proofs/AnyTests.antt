@@ -1,7 +1,7 @@
 -- Events in which no filter has a say: they are the same by any filters.
 use Rattle.std.proofs.Common.{◌≡◌, ℕ, Bool, true, false, List, sym, subst}
 use Rattle.dds_base.specs.declared.config.Config.{Config}
-use Rattle.dds_conditions.specs.Watched.{no_filters}
+use Rattle.dds_conditions.specs.NoFilters.{no_filters}
 use Rattle.dds_machine.specs.declared.call.Call.{Call}
 use Rattle.dds_machine.specs.declared.call.Call.TheVariants as call
 use Rattle.dds_protocol.specs.declared.event.Event.TheVariants as event

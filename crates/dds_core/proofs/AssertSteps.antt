@@ -15,7 +15,7 @@ use Rattle.dds_machine.specs.declared.reply.Reply.TheVariants.{Done, Refused}
 use Rattle.dds_machine.specs.Refusals.{assert_refusal}
 use Rattle.dds_machine.specs.Calls.{CallStep}
 use Rattle.dds_machine.specs.Numbered.{has_element}
-use Rattle.dds_conditions.specs.Watched.{no_filters}
+use Rattle.dds_conditions.specs.NoFilters.{no_filters}
 use Rattle.dds_machine.specs.Part.{ReaderProxy, Writer, has_readers, heartbeats_used, own_writer, peers_of}
 use Rattle.dds_protocol.specs.Peer.{Peer}
 use Rattle.dds_protocol.specs.DueMessages.{Due, AreSent, assertion_message, assertions_due, writer_entity}

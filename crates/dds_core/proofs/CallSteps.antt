@@ -24,7 +24,7 @@ use Rattle.dds_machine.specs.Ticks.{tick_refusal, after_tick, is_past_counting, 
 use Rattle.dds_machine.specs.Refusals.{writer_refusal, write_refusal, dispose_refusal, unregister_refusal, change_refusal, change_made, unregister_kind}
 use Rattle.dds_machine.specs.Calls.{Effect, nothing, writes, effect, effect_of, liveliness_lost_at, IsAnswered, IsAnsweredWatching, IsDoneUnless, Answers, CallStep}
 use Rattle.dds_machine.specs.Numbered.{has_element}
-use Rattle.dds_conditions.specs.Watched.{no_filters}
+use Rattle.dds_conditions.specs.NoFilters.{no_filters}
 use Rattle.dds_machine.specs.Part.{Part, Dds, Writer, own_writer}
 use Rattle.dds_protocol.specs.Peer.{Peer, PeerStep}
 use Rattle.dds_machine.specs.Watching.{Tests}

@@ -6,7 +6,8 @@ use Rattle.std.specs.Option.{option_map}
 use Rattle.dds_base.specs.declared.config.Config.{Config}
 use Rattle.dds_base.specs.declared.config.PeerConfig.{PeerConfig}
 use Rattle.dds_base.specs.declared.config.ReaderConfig.{ReaderConfig}
-use Rattle.dds_base.specs.Matched.{is_reliable_reader, same_topic, of_readers_in, of_matched_readers}
+use Rattle.dds_base.specs.Matched.{is_reliable_reader, same_topic, of_matched_readers}
+use Rattle.dds_base.specs.MatchedAt.{of_readers_in}
 use Rattle.dds_machine.specs.declared.endpoint.Endpoint.{Endpoint}
 use Rattle.dds_protocol.specs.Claims.{IsNumbered}
 use Rattle.dds_machine.specs.Part.{ReaderProxy, same_endpoint, row_of, acknowledged_of}

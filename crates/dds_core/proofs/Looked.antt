@@ -15,7 +15,7 @@ use Rattle.dds_machine.specs.declared.reply.Reply.{Reply}
 use Rattle.dds_machine.specs.declared.reply.Reply.TheVariants.{SampleLost, LivelinessChanged}
 use Rattle.dds_machine.specs.Refusals.{reader_refusal}
 use Rattle.dds_machine.specs.Calls.{Answers, after_look, effect, effect_of, liveliness_at, lost_at, nothing, seen_lost, seen_liveliness}
-use Rattle.dds_conditions.specs.Watched.{no_filters}
+use Rattle.dds_conditions.specs.NoFilters.{no_filters}
 use Rattle.dds_machine.specs.Part.{Reader, Seen, own_reader}
 use Rattle.dds_protocol.specs.Peer.{Peer}
 use Rattle.dds_core.specs.Kept.{ReaderKept, PeerKept}

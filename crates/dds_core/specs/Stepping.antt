@@ -13,7 +13,7 @@ use Rattle.dds_machine.specs.Part.{Writer}
 use Rattle.dds_machine.specs.Ticks.{ticked}
 use Rattle.dds_machine.specs.Calls.{with_written}
 use Rattle.dds_machine.specs.Watching.{Tests}
-use Rattle.dds_conditions.specs.Watched.{no_filters}
+use Rattle.dds_conditions.specs.NoFilters.{no_filters}
 use Rattle.dds_protocol.specs.Peer.{Peer, PeerStep}
 use Rattle.dds_core.specs.Kept.{WriterKept, PeerKept}
 use Rattle.dds_core.specs.Identity.{writer_identity}

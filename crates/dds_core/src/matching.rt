@@ -4,7 +4,8 @@
 
 ghost use Rattle.std.specs.Prelude.{◌≡◌, ◌+◌, ◌++◌, ◌≤◌, length, IfOk, OnOk, None};
 ghost use Rattle.dds_base.specs.Checked.{check_refusal};
-ghost use Rattle.dds_base.specs.Matched.{of_readers_in, of_writers_in, of_matched_writers};
+ghost use Rattle.dds_base.specs.Matched.{of_matched_writers};
+ghost use Rattle.dds_base.specs.MatchedAt.{of_readers_in, of_writers_in};
 ghost use Rattle.dds_core.specs.Matching.{has_reader, destinations};
 ghost use Rattle.dds_core.specs.EndNames.{reader_name, reader_names, writer_name, matched_writer};
 

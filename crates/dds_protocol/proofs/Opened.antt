@@ -11,7 +11,7 @@ use Rattle.dds_machine.specs.Part.{row_of, NoLess, IsAtMost, same_endpoint, Read
 use Rattle.dds_protocol.specs.Peer.{Peer, Delivery, no_peer}
 use Rattle.dds_machine.specs.Machine.{Machine, part_at, place_at}
 use Rattle.dds_protocol.specs.World.{machine_of, Sound}
-use Rattle.dds_base.specs.Matched.{of_readers_in, of_writers_in}
+use Rattle.dds_base.specs.MatchedAt.{of_readers_in, of_writers_in}
 use Rattle.dds_machine.specs.Opening.{matched_readers, matched_writers, opening, opening_part, opening_writer}
 use Rattle.dds_protocol.specs.Opening.{opening_peers, opening_world}
 use Rattle.dds_machine.proofs.Tables.{same_is}

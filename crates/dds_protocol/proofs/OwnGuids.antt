@@ -18,7 +18,8 @@ use Rattle.dds_base.specs.declared.guid.GuidPrefix.{GuidPrefix}
 use Rattle.dds_base.specs.declared.guid.EntityId.{EntityId}
 use Rattle.dds_base.specs.declared.qos.MatchedWriter.{MatchedWriter}
 use Rattle.dds_base.specs.Checked.{unknown_prefix, same_prefix, same_entity, has_kind, prefix_count, entity_count, is_bad_writer, is_bad_reader, is_bad_peer, has_bad_parameter, has_inconsistent_policy, check_refusal}
-use Rattle.dds_base.specs.Matched.{same_topic, of_writers_in, of_matched_writers}
+use Rattle.dds_base.specs.Matched.{same_topic, of_matched_writers}
+use Rattle.dds_base.specs.MatchedAt.{of_writers_in}
 use Rattle.dds_base.specs.Ownership.{HaveOwnGuids}
 use Rattle.dds_machine.specs.declared.endpoint.Endpoint.{Endpoint}
 use Rattle.dds_base.specs.declared.config.Config.{Config}

@@ -4,7 +4,8 @@ use Rattle.std.proofs.lemmas.Option.{get_or_from_slice_get, slice_get_within, sl
 use Rattle.std.specs.Prelude.{MatchBool, slice_get, slice_index, slice_set, replicate}
 use Rattle.dds_trace.specs.declared.trace.Entry.{Entry}
 use Rattle.dds_trace.specs.Entries.{Traced}
-use Rattle.dds_trace.specs.Weaving.{IsBlocked, IsHonest, IsNext, IsStuck, Knows, AllPlaced, MayStand, Reaches, Sends, Sent, one_more, none_placed}
+use Rattle.dds_trace.specs.Weaving.{IsBlocked, IsHonest, IsNext, IsStuck, AllPlaced, MayStand, Reaches, Sends, Sent, one_more, none_placed}
+use Rattle.dds_trace.specs.Knowing.{Knows}
 
 -- what may stand, and what is blocked, where the same was sent
 pub stands_so : (S T : List ℕ → Type 0) (e : Entry) → ((q : List ℕ) → S q → T q) → MayStand S e → MayStand T e

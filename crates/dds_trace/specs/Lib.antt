@@ -2,5 +2,6 @@ pub mod Entries
 pub mod History
 pub mod Uses
 pub mod Weaving
+pub mod Knowing
 pub mod Faults
 pub mod Woven

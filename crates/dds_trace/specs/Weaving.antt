@@ -2,7 +2,7 @@
 -- its index; counts say how many of the first entries of each trace are placed.
 --
 -- Such orders are this project's own.
-use Rattle.std.specs.Prelude.{◌≡◌, ℕ, ◌+◌, ◌<◌, ◌≤◌, List, [], ◌∷◌, length, Some, Any, Contains, ◌↔◌, replicate, slice_get, slice_index, slice_set}
+use Rattle.std.specs.Prelude.{◌≡◌, ℕ, ◌+◌, ◌<◌, ◌≤◌, List, ◌∷◌, length, Some, Any, replicate, slice_get, slice_index, slice_set}
 use Rattle.dds_protocol.specs.declared.event.Event.TheVariants.{Deliver}
 use Rattle.dds_trace.specs.declared.trace.Entry.{Entry}
 use Rattle.dds_trace.specs.Entries.{Traced}
@@ -64,7 +64,3 @@ pub record IsStuck (ts : List Traced) (placed : List ℕ) : Type 0 where
   pub reached : (order : List ℕ) × Reaches ts (none_placed ts) order placed
   pub more : (t : ℕ) × (e : Entry) × IsNext ts placed t e
   pub blocked : (t : ℕ) (e : Entry) → IsNext ts placed t e → IsBlocked (Sent ts placed) e
-
--- these octets are those that the placed entries sent; inner functions alone cite this
-abbrev pub Knows : List Traced → List ℕ → List (List ℕ) → Type 0
-Knows ts placed sent = (octets : List ℕ) → Contains sent octets ↔ Sent ts placed octets

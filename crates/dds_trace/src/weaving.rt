@@ -6,7 +6,8 @@
 ghost use Rattle.std.specs.Prelude.{◌≡◌, ℕ, List, ◌+◌, ◌<◌, ◌^◌, length, slice_index, Contains, IfOk, IfErr, MatchBool, MatchOption};
 ghost use Rattle.dds_trace.specs.declared.trace.Entry.{Entry};
 ghost use Rattle.dds_trace.specs.Faults.{IsCause};
-ghost use Rattle.dds_trace.specs.Weaving.{AllPlaced, IsBlocked, IsHonest, IsNext, Knows, MayStand, Reaches, Sent, none_placed};
+ghost use Rattle.dds_trace.specs.Weaving.{AllPlaced, IsBlocked, IsHonest, IsNext, MayStand, Reaches, Sent, none_placed};
+ghost use Rattle.dds_trace.specs.Knowing.{Knows};
 ghost use Rattle.dds_trace.specs.Woven.{RunsHistories};
 
 use crate::sent_octets::SentOctets;

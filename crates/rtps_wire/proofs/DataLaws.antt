@@ -8,7 +8,8 @@ use Rattle.std.proofs.lemmas.Option.{option_and_then_some}
 use Rattle.dds_base.specs.declared.endianness.Endianness.{Endianness}
 use Rattle.dds_base.specs.declared.guid.EntityId.{EntityId}
 use Rattle.dds_base.specs.declared.key.Key.{Key}
-use Rattle.dds_base.specs.Fields.{number, number_at, octets_at, both, ◌>>=◌}
+use Rattle.dds_base.specs.Fields.{number, number_at, octets_at, ◌>>=◌}
+use Rattle.dds_base.specs.FieldPairs.{both}
 use Rattle.dds_base.specs.DatumText.{ReadsDatum}
 use Rattle.dds_base.specs.DatumAt.{datum_at}
 use Rattle.dds_base.proofs.FieldLaws.{AreOctets, guard_some, some_is, cond_is, field_u16, field_octets, field_both}

@@ -8,7 +8,8 @@ use Rattle.std.proofs.lemmas.Option.{option_and_then_some}
 use Rattle.dds_base.specs.declared.endianness.Endianness.{Endianness}
 use Rattle.dds_base.specs.declared.guid.EntityId.{EntityId}
 use Rattle.dds_base.specs.declared.guid.GuidPrefix.{GuidPrefix}
-use Rattle.dds_base.specs.Fields.{number_at, both, ◌>>=◌}
+use Rattle.dds_base.specs.Fields.{number_at, ◌>>=◌}
+use Rattle.dds_base.specs.FieldPairs.{both}
 use Rattle.dds_base.proofs.FieldLaws.{AreOctets, cond_is, guard_some, some_is, field_u32, field_both}
 use Rattle.rtps_sets.specs.NumberSet.{NumberSet}
 use Rattle.rtps_wire.specs.declared.acknack.AckNack.{AckNack}

@@ -8,7 +8,8 @@ use Rattle.std.specs.Int.{w16}
 use Rattle.dds_base.specs.declared.endianness.Endianness.{Endianness}
 use Rattle.dds_base.specs.declared.guid.EntityId.{EntityId}
 use Rattle.dds_base.specs.declared.key.Key.{Key}
-use Rattle.dds_base.specs.Fields.{number_at, both, octets_at, ◌>>=◌}
+use Rattle.dds_base.specs.Fields.{number_at, octets_at, ◌>>=◌}
+use Rattle.dds_base.specs.FieldPairs.{both}
 use Rattle.dds_base.specs.DatumAt.{datum_at, key_form_at}
 use Rattle.rtps_wire.specs.declared.data.DataContent.{DataContent}
 use Rattle.rtps_wire.specs.declared.data.DataContent.TheVariants.{Write, Dispose, Unregister, DisposeUnregister}

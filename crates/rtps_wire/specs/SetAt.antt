@@ -5,7 +5,8 @@
 use Rattle.std.specs.Prelude.{ℕ, zero, suc, ◌||◌, List, [], ◌∷◌, Option, Some, None, nat_lt, if◌then◌else◌}
 use Rattle.std.specs.Int.{w32}
 use Rattle.dds_base.specs.declared.endianness.Endianness.{Endianness}
-use Rattle.dds_base.specs.Fields.{number_at, mapped, ◌>>=◌}
+use Rattle.dds_base.specs.Fields.{number_at, ◌>>=◌}
+use Rattle.dds_base.specs.FieldPairs.{mapped}
 use Rattle.rtps_sets.specs.NumberSet.{NumberSet}
 use Rattle.rtps_wire.specs.FieldAt.{sn_at}
 use Rattle.rtps_wire.specs.Names.{max_bits}

@@ -5,7 +5,8 @@
 use Rattle.std.specs.Prelude.{ℕ, ◌+◌, ◌*◌, ◌^◌, ◌==◌, ◌||◌, List, Option, Some, None, nat_lt, if◌then◌else◌}
 use Rattle.std.specs.Option.{option_map}
 use Rattle.std.specs.Int.{w32}
-use Rattle.dds_base.specs.Fields.{number_at, both, ◌>>=◌}
+use Rattle.dds_base.specs.Fields.{number_at, ◌>>=◌}
+use Rattle.dds_base.specs.FieldPairs.{both}
 use Rattle.dds_base.specs.declared.guid.GuidPrefix.{GuidPrefix}
 use Rattle.rtps_wire.specs.declared.acknack.AckNack.{AckNack}
 use Rattle.rtps_wire.specs.declared.gap.Gap.{Gap}

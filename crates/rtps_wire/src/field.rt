@@ -5,7 +5,8 @@
 ghost use Rattle.std.specs.Prelude.{◌≡◌, ◌≤◌, ◌++◌, length, IfSome, OnOk, IfErr};
 ghost use Rattle.std.specs.Option.{option_map};
 ghost use Rattle.std.specs.Int.{w16};
-ghost use Rattle.dds_base.specs.Fields.{both, number};
+ghost use Rattle.dds_base.specs.Fields.{number};
+ghost use Rattle.dds_base.specs.FieldPairs.{both};
 ghost use Rattle.dds_base.specs.declared.endianness.Endianness.TheVariants.{Little};
 ghost use Rattle.rtps_wire.specs.Fields.{has_flag, order_of, sn_text, count_text};
 ghost use Rattle.rtps_wire.specs.FieldAt.{entity_id_at, prefix_at, sn_at, count_at};

@@ -1,5 +1,5 @@
 use Rattle.std.proofs.Common.{◌≡◌, ◌+◌, ◌≤◌, ◌++◌, drop, length}
-use Rattle.dds_base.specs.Matched.{of_readers_in}
+use Rattle.dds_base.specs.MatchedAt.{of_readers_in}
 use Rattle.dds_core.specs.EndNames.{reader_name}
 use Rattle.dds_core.proofs.matching.push_readers.Given as goal
 

@@ -1,5 +1,5 @@
 use Rattle.std.proofs.Common.{◌≡◌, ◌+◌, ◌≤◌, ◌++◌, drop, length}
-use Rattle.dds_base.specs.Matched.{of_writers_in}
+use Rattle.dds_base.specs.MatchedAt.{of_writers_in}
 use Rattle.dds_core.specs.EndNames.{writer_name, matched_writer}
 use Rattle.dds_core.proofs.matching.push_writers.Given as goal
 

@@ -4,7 +4,8 @@ use Rattle.std.proofs.lemmas.List.{get_or_default}
 use Rattle.std.proofs.lemmas.Option.{slice_get_within}
 use Rattle.dds_protocol.specs.declared.event.Packet.{Packet}
 use Rattle.dds_trace.specs.declared.trace.Entry.{Entry}
-use Rattle.dds_trace.specs.Weaving.{IsBlocked, IsNext, Knows, MayStand, Reaches, Sent, none_placed, one_more}
+use Rattle.dds_trace.specs.Weaving.{IsBlocked, IsNext, MayStand, Reaches, Sent, none_placed, one_more}
+use Rattle.dds_trace.specs.Knowing.{Knows}
 use Rattle.dds_trace.proofs.Orders.{Reaches-push, is_next, knows_more, left, left_falls, next_within}
 use Rattle.dds_trace.proofs.weaving.place_all.Goals as goal
 

@@ -1,5 +1,6 @@
 use Rattle.std.proofs.Common.{◌≡◌, length}
-use Rattle.dds_trace.specs.Weaving.{Knows, Reaches, none_placed}
+use Rattle.dds_trace.specs.Weaving.{Reaches, none_placed}
+use Rattle.dds_trace.specs.Knowing.{Knows}
 use Rattle.dds_trace.proofs.Orders.{left}
 use Rattle.dds_trace.proofs.weaving.place_all.Given as goal
 
