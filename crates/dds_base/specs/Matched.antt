@@ -3,7 +3,7 @@
 --
 -- DDS 1.4, 2.2.2.3 (a Topic is what publications and subscriptions have in common), 2.2.3 (RELIABILITY); RTPS 2.5, 8.4
 -- (matched_writers, matched_readers).
-use Rattle.std.specs.Prelude.{ℕ, ◌+◌, ◌==◌, Bool, true, ◌&&◌, if◌then◌else◌, List, ◌∷◌, ◌++◌}
+use Rattle.std.specs.Prelude.{ℕ, ◌+◌, ◌==◌, Bool, true, ◌&&◌, if◌then◌else◌, List, [], ◌∷◌, ◌++◌}
 use Rattle.dds_base.specs.declared.config.PeerConfig.{PeerConfig}
 use Rattle.dds_base.specs.declared.config.WriterConfig.{WriterConfig}
 use Rattle.dds_base.specs.declared.config.ReaderConfig.{ReaderConfig}

@@ -1,7 +1,7 @@
 -- What the application of a peer watches: the conditions that it made, its WaitSets, and the statuses that are enabled.
 --
 -- DDS 1.4, 2.2.2.1 (Condition, GuardCondition, StatusCondition, WaitSet), 2.2.2.5 (ReadCondition).
-use Rattle.std.specs.Prelude.{ℕ, ◌+◌, ◌-◌, ◌^◌, List, ◌∷◌, ◌++◌, get_or, set, map, replicate, length, nat_le, ◌&&◌, Bool, true, false, Option, None, Some, is_some, if◌then◌else◌}
+use Rattle.std.specs.Prelude.{ℕ, ◌+◌, ◌-◌, ◌^◌, List, [], ◌∷◌, ◌++◌, get_or, set, map, replicate, length, nat_le, ◌&&◌, Bool, true, false, Option, None, Some, is_some, if◌then◌else◌}
 use Rattle.std.specs.List.{filter}
 use Rattle.std.specs.Option.{option_map}
 use Rattle.dds_base.specs.declared.code.Code.{Code}

@@ -2,7 +2,7 @@
 -- its index; counts say how many of the first entries of each trace are placed.
 --
 -- Such orders are this project's own.
-use Rattle.std.specs.Prelude.{◌≡◌, ℕ, ◌+◌, ◌<◌, ◌≤◌, List, ◌∷◌, length, Some, Any, replicate, slice_get, slice_index, slice_set}
+use Rattle.std.specs.Prelude.{◌≡◌, ℕ, ◌+◌, ◌<◌, ◌≤◌, List, [], ◌∷◌, length, Some, Any, replicate, slice_get, slice_index, slice_set}
 use Rattle.dds_protocol.specs.declared.event.Event.TheVariants.{Deliver}
 use Rattle.dds_trace.specs.declared.trace.Entry.{Entry}
 use Rattle.dds_trace.specs.Entries.{Traced}
