@@ -31,7 +31,6 @@ use Rattle.dds_machine.specs.Watching.{Tests}
 use Rattle.dds_core.specs.Kept.{WriterKept, ReaderKept, PeerKept}
 use Rattle.dds_core.specs.Identity.{WriterIdentity, ReaderIdentity, identity_of, reader_identity, writer_identity, IsPeerOf}
 use Rattle.dds_core.specs.Expiring.{AllExpire, HasPastCounting}
-use Rattle.dds_core.specs.Readiness.{AreAlike}
 use Rattle.dds_core.specs.Making.{IsMade, IsNotMade, entered}
 use Rattle.dds_core.specs.Sending.{SendsFor, SendsNothing}
 use Rattle.dds_core.specs.Standing.{WriterStands, StandsFor}
@@ -40,7 +39,6 @@ use Rattle.dds_core.specs.Beating.{BeatsOfAll}
 use Rattle.dds_core.proofs.BeatsDue.{due_true}
 use Rattle.dds_core.proofs.Dying.{expired_names, peer_past_counting, readers_expired}
 use Rattle.dds_core.proofs.Lists.{get-within}
-use Rattle.dds_core.proofs.Ready.{alike_core}
 use Rattle.dds_core.proofs.Ends.{with_writer, entered_at, own_writer_stepped, unchanged_with}
 use Rattle.dds_core.proofs.Taking.{silent}
 use Rattle.dds_core.proofs.Tellable.{tellable_entered, tellable_ticked}

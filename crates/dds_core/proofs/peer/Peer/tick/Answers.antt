@@ -1,32 +1,25 @@
 use Rattle.std.proofs.Common.{◌∙◌, List, refl, sym, subst, rules}
 use Rattle.std.proofs.lemmas.List.{with_items_is}
+use Rattle.dds_base.specs.declared.code.Code.TheVariants.{Memory}
 use Rattle.dds_protocol.specs.declared.event.Packet.{Packet}
 use Rattle.dds_core.specs.Beating.{BeatsOfAll}
-use Rattle.dds_core.specs.Expiring.{AllExpire, HasDeadly}
+use Rattle.dds_core.specs.Expiring.{AllExpire, HasPastCounting}
 use Rattle.dds_core.specs.Kept.{ReaderKept, WriterKept}
-use Rattle.dds_core.specs.Readiness.{AreAlike}
 use Rattle.dds_core.specs.Stepping.{AllTick}
 use Rattle.dds_core.proofs.BeatsDue.{due_sent}
-use Rattle.dds_core.proofs.CallSteps.{follows_as, tick_without_memory, ticks, still_stands}
+use Rattle.dds_core.proofs.CallSteps.{follows_as, tick_past_counting, ticks, still_stands}
 use Rattle.dds_core.proofs.Lists.{written_back}
 use Rattle.dds_core.proofs.peer.Peer.tick.Goals as goal
 
 -- nobody has died, and all stands as before
-pub returns-in-Err-clause-step : goal.returns-in-Err-clause-step
-returns-in-Err-clause-step c = λ config peer given.
+pub returns-then-not-counts_deaths-clause-step : goal.returns-then-not-counts_deaths-clause-step
+returns-then-not-counts_deaths-clause-step c = λ config peer given.
     let s = still_stands c.self.view_is given in
-    let alike : AreAlike c.self.inside.readers.items c.expire_all.new.readers =
-    subst (λ (ks : List ReaderKept). AreAlike ks c.expire_all.new.readers) c.as_mut_slice.ensures.value
-    c.in-Err.ensures.alike in
-    let same =
-    with_items_is c.self.inside.readers c.expire_all.new.readers
-    (c.in-Err.ensures.alike.count ∙ c.as_mut_slice.ensures.len) in
-    let refused = c.in-Err.ensures.refused in
-    let deadly : HasDeadly c.self.inside.readers.items c.args.now =
-    subst (λ (ks : List ReaderKept). HasDeadly ks c.args.now) c.as_mut_slice.ensures.value refused.1 in
-    follows_as _ config peer _ _ _ c.answered-in-Err.ensures
-    (tick_without_memory _ _ c.in-Err.code config peer s c.args.now (search rules) (search rules)
-    (subst (λ (ks : List ReaderKept). AreAlike c.self.inside.readers.items ks) (sym same) alike) (refused.0, deadly))
+    let past : HasPastCounting c.self.inside.readers.items c.args.now =
+    subst (λ (ks : List ReaderKept). HasPastCounting ks c.args.now) c.as_slice.ensures.value
+    (c.counts_deaths.ensures.past (search rules)) in
+    follows_as _ config peer _ _ _ c.answered.ensures
+    (tick_past_counting _ Memory config peer s c.args.now (search rules) (search rules) (refl, past))
 
 -- what goes out, by what the peer keeps
 beats : (c : goal.After-from_vec)
@@ -45,10 +38,10 @@ returns-clause-step c = λ config peer given.
     c.as_mut_slice-2.ensures.value c.tick_all-packets.ensures.ticks in
     let expired : AllExpire c.self.inside.readers.items c.args.now c.expire_all.new.readers =
     subst (λ (ks : List ReaderKept). AllExpire ks c.args.now c.expire_all.new.readers) c.as_mut_slice.ensures.value
-    c.in_default.ensures.expires in
+    c.expire_all.ensures.expires in
     let same =
     with_items_is c.self.inside.readers c.expire_all.new.readers
-    (c.in_default.ensures.expires.count ∙ c.as_mut_slice.ensures.len) in
+    (c.expire_all.ensures.expires.count ∙ c.as_mut_slice.ensures.len) in
     ticks _ _ _ config peer s c.args.now (search rules) (search rules)
     (subst (λ (ks : List WriterKept). AllTick c.self.inside.writers.items c.args.now ks)
     (sym (written_back c.tick_all-packets.new.writers c.self.inside.writers.items c.self.inside.writers.len
