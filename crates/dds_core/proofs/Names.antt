@@ -1,5 +1,5 @@
 -- What the configuration says of the names that a peer keeps.
-use Rattle.std.proofs.Common.{◌≡◌, ℕ, suc, ◌-◌, List, Some, slice_get, refl, ap, sym, ◌∙◌, subst, arith}
+use Rattle.std.proofs.Common.{◌≡◌, Bool, ℕ, suc, ◌-◌, List, Some, slice_get, refl, ap, sym, ◌∙◌, subst, arith}
 use Rattle.dds_base.specs.declared.config.Config.{Config}
 use Rattle.dds_base.specs.declared.config.PeerConfig.{PeerConfig}
 use Rattle.dds_base.specs.declared.config.WriterConfig.{WriterConfig}

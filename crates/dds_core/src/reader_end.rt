@@ -2,7 +2,7 @@
 //!
 //! RTPS 2.5, 8.4.10 (StatefulReader, WriterProxy); DDS 1.4, 2.2.2.5 (DataReader).
 
-ghost use Rattle.std.specs.Prelude.{◌≡◌, ◌↔◌, ◌<◌, ◌≤◌, ℕ, List, length, slice_get, None, Some, true, IsTrue, IfSome, IfNone, IfOk, IfErr, OnOk, IsOk, Ok, MatchOption};
+ghost use Rattle.std.specs.Prelude.{◌≡◌, ◌↔◌, ◌<◌, ◌≤◌, ℕ, List, length, slice_get, None, Some, true, false, IsTrue, IfSome, IfNone, IfOk, IfErr, OnOk, IsOk, Ok, MatchOption};
 ghost use Rattle.dds_base.specs.Access.{instance_of, handle_of};
 ghost use Rattle.dds_base.specs.Checked.{check_refusal};
 ghost use Rattle.dds_base.specs.Liveliness.{liveliness_changed_status};

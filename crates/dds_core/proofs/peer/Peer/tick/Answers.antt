@@ -1,13 +1,14 @@
 use Rattle.std.proofs.Common.{◌∙◌, List, refl, sym, subst, rules}
 use Rattle.std.proofs.lemmas.List.{with_items_is}
 use Rattle.dds_base.specs.declared.code.Code.TheVariants.{Memory}
+use Rattle.dds_protocol.specs.declared.event.Event.TheVariants as event
 use Rattle.dds_protocol.specs.declared.event.Packet.{Packet}
 use Rattle.dds_core.specs.Beating.{BeatsOfAll}
 use Rattle.dds_core.specs.Expiring.{AllExpire, HasPastCounting}
-use Rattle.dds_core.specs.Kept.{ReaderKept, WriterKept}
+use Rattle.dds_core.specs.Kept.{PeerKept, ReaderKept, WriterKept}
 use Rattle.dds_core.specs.Stepping.{AllTick}
 use Rattle.dds_core.proofs.BeatsDue.{due_sent}
-use Rattle.dds_core.proofs.CallSteps.{follows_as, tick_past_counting, ticks, still_stands}
+use Rattle.dds_core.proofs.CallSteps.{Follows, follows_as, tick_past_counting, ticks, still_stands}
 use Rattle.dds_core.proofs.Lists.{written_back}
 use Rattle.dds_core.proofs.peer.Peer.tick.Goals as goal
 
@@ -18,8 +19,9 @@ returns-then-not-counts_deaths-clause-step c = λ config peer given.
     let past : HasPastCounting c.self.inside.readers.items c.args.now =
     subst (λ (ks : List ReaderKept). HasPastCounting ks c.args.now) c.as_slice.ensures.value
     (c.counts_deaths.ensures.past (search rules)) in
-    follows_as _ config peer _ _ _ c.answered.ensures
-    (tick_past_counting _ Memory config peer s c.args.now (search rules) (search rules) (refl, past))
+    subst (λ (k : PeerKept). Follows k config peer (event.Tick c.args.now) c.answered-then-not-counts_deaths.result)
+    c.self.view_is (follows_as _ config peer _ _ _ c.answered-then-not-counts_deaths.ensures
+    (tick_past_counting _ Memory config peer s c.args.now (search rules) (search rules) (refl, past)))
 
 -- what goes out, by what the peer keeps
 beats : (c : goal.After-from_vec)
