@@ -142,6 +142,8 @@ impl StatefulReader {
             → Tracks self.old writer t → S.stands sink.old h
             → MovesOn (match_at (S.qos sink.old) writer moment) (with_data number change t) h step
             (Tracks self.new writer) (S.stands sink.new)) }
+        // It passes over 257 runs at most.
+        ensures few { IfOk result (λ step. length step.passed ≤ 257) }
         // Nothing else changes; a refusal, for want of memory alone, changes nothing at all.
         ensures keeps { KeepsRest S.stands S.qos S.spare writer
             self.old self.new sink.old sink.new result }
@@ -181,6 +183,8 @@ impl StatefulReader {
             → Tracks self.old writer t → S.stands sink.old h
             → MovesOn (match_at (S.qos sink.old) writer moment) (with_gap start list.now t) h step
             (Tracks self.new writer) (S.stands sink.new)) }
+        // It passes over 257 runs at most.
+        ensures few { IfOk result (λ step. length step.passed ≤ 257) }
         // Nothing else changes; a refusal, for want of memory alone, changes nothing at all.
         ensures keeps { KeepsRest S.stands S.qos S.spare writer
             self.old self.new sink.old sink.new result }
@@ -228,6 +232,8 @@ impl StatefulReader {
             → IsOk result
             × IfOk result
             (λ step. IsIdle t.place step × Tracks self.new writer t × S.stands sink.new h) }
+        // It passes over 257 runs at most.
+        ensures few { IfOk result (λ step. length step.passed ≤ 257) }
         // Nothing else changes; a refusal, for want of memory alone, changes nothing at all.
         ensures keeps { KeepsRest S.stands S.qos S.spare writer
             self.old self.new sink.old sink.new result }

@@ -349,6 +349,7 @@ impl WriterProxy {
         ensures moves { Moves (match_of (S.qos sink.old) source.now) (S.stands sink.old)
             (S.stands sink.new)
             (tracked self.old) (window_place self.new.window) runs.new.items (tracked self.new) }
+        ensures few { vec_len runs.new ≤ 257 }
     {
         // Nothing is known of numbers past the window: the proof has it from here.
         let _tells_the_window = self.window.place();
@@ -449,6 +450,7 @@ impl WriterProxy {
         ensures moves { Moves (match_of (S.qos sink.old) source.now) (S.stands sink.old)
             (S.stands sink.new)
             (tracked self.old) result.to result.passed (tracked self.new) }
+        ensures few { length result.passed ≤ 257 }
     {
         let mut runs = mem::replace(&mut self.runs, Vec::new(self.alloc));
         runs.clear();
@@ -477,6 +479,7 @@ impl WriterProxy {
             (S.stands sink.new)
             (with_data number change (tracked self.old)) step.to step.passed (tracked self.new)) }
         ensures quiet { IfOk result (λ step. (step.heard ≡ false) × (step.acknack ≡ None)) }
+        ensures few { IfOk result (λ step. length step.passed ≤ 257) }
         ensures keeps { ProxyKeepsRest S.stands S.qos S.spare
             self.old self.new sink.old sink.new result }
     {
@@ -506,6 +509,7 @@ impl WriterProxy {
             (S.stands sink.new)
             (with_gap start list.now (tracked self.old)) step.to step.passed (tracked self.new)) }
         ensures quiet { IfOk result (λ step. (step.heard ≡ false) × (step.acknack ≡ None)) }
+        ensures few { IfOk result (λ step. length step.passed ≤ 257) }
         ensures keeps { ProxyKeepsRest S.stands S.qos S.spare
             self.old self.new sink.old sink.new result }
     {
@@ -532,6 +536,7 @@ impl WriterProxy {
             → (self.new ≡ self.old)
             × (sink.new ≡ sink.old) × IsOk result
             × IfOk result (λ step. IsIdle (tracked self.old).place step) }
+        ensures few { IfOk result (λ step. length step.passed ≤ 257) }
         ensures keeps { ProxyKeepsRest S.stands S.qos S.spare
             self.old self.new sink.old sink.new result }
     {

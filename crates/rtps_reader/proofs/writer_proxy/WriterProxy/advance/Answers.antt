@@ -23,6 +23,7 @@ moving-init g c =
       qos = search rules;
       outside = λ n le. c.place-tells_the_window.ensures.window n (search rules);
       runs = omega (arith, runs, len);
+      short = omega (arith, len);
       spare = omega (arith, spare);
       progress = λ h st. begun _ (tracked c.args.self.now) h c.args.runs.now.items
           (g.S.Sink.stands c.args.sink.now) c.requires.none st;
@@ -63,6 +64,7 @@ moving-preserved g c =
       qos = c.hand_on.ensures.qos ∙ qos;
       outside = λ n le. c.hand_on.ensures.outside n (outside n le);
       runs = omega (arith, runs, more_runs, capacity, lens, fewer, forward, next, within);
+      short = (let short = it.short in omega (arith, short, more_runs, lens, fewer, forward, next, within));
       spare = omega (arith, spare, spare_then, spare_now, lens, fewer, forward, next, within);
       progress = λ h st.
           handed (match_of (g.S.Sink.qos c.args.sink.now) c.args.source.now)

@@ -15,6 +15,8 @@ invariant-moving g l = record {
   outside : (n : ℕ) → window_place l.fn.self.window + 256 ≤ n → mark_of l.self.window n ≡ None;
   runs : vec_len l.runs + min (vec_len l.self.held)
       (window_place l.fn.self.window + 256 - window_place l.self.window) < vec_capacity l.runs;
+  short : vec_len l.runs + min (vec_len l.self.held)
+      (window_place l.fn.self.window + 256 - window_place l.self.window) ≤ 256;
   spare : 2 * min (vec_len l.self.held)
       (window_place l.fn.self.window + 256 - window_place l.self.window) + 2 ≤ g.S.Sink.spare l.sink;
   progress : (h : List Happening) → g.S.Sink.stands l.fn.sink h
