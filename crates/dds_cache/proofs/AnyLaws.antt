@@ -28,6 +28,7 @@ use Rattle.dds_cache.specs.Kept.{IsKept}
 use Rattle.dds_cache.specs.Finding.{Holds, asks_for, is_asked_for, is_sought, passes}
 use Rattle.dds_cache.specs.Picking.{IsAccess, TellsAny, masks_in, test_in}
 use Rattle.dds_cache.specs.Standing.{AccessAnswers, Stored, picked, qos_of, refusal}
+use Rattle.dds_cache.specs.Twice.{first_of}
 use Rattle.dds_cache.proofs.CountLaws.{present-any}
 use Rattle.dds_cache.proofs.FindingLaws.{handle-bounds}
 use Rattle.dds_cache.proofs.GroupLaws.{unequal}
@@ -249,6 +250,18 @@ pub refused-so : (stored : Stored) (h : List Happening) (selection : Selection) 
     → AccessAnswers stored h selection test answer
 refused-so stored h selection test (Ok samples) code err same is memory = absurd (let clash : false ≡ true = err in cc)
 refused-so stored h selection test (Err e) code err same is memory =
+    refused-answers stored h selection test e
+    (subst (λ (x : Code). Refuses (refusal stored h selection) x) (sym same) is) (λ want. memory (sym same ∙ want))
+
+-- so does one that is handed on, where two were asked for
+pub refused-twice : (stored : Stored) (h : List Happening) (selection : Selection) (test : Key → List ℕ → Bool)
+    (answer : Result (List Sample × List Sample) Code) (code : Code) → IsErr answer → IfErr answer (λ e. e ≡ code)
+    → Refuses (refusal stored h selection) code
+    → (code ≡ Memory → (picked stored h selection test ≢ []) ⊎ (2 ^ 64 - 1 ≤ length h))
+    → AccessAnswers stored h selection test (first_of answer)
+refused-twice stored h selection test (Ok samples) code err same is memory =
+    absurd (let clash : false ≡ true = err in cc)
+refused-twice stored h selection test (Err e) code err same is memory =
     refused-answers stored h selection test e
     (subst (λ (x : Code). Refuses (refusal stored h selection) x) (sym same) is) (λ want. memory (sym same ∙ want))
 

@@ -7,3 +7,4 @@ pub mod Room
 pub mod Settling
 pub mod Dying
 pub mod Sweeping
+pub mod Twice

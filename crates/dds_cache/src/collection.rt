@@ -2,7 +2,7 @@
 //!
 //! DDS 1.4, 2.2.2.5 (SampleInfo: ranks).
 
-ghost use Rattle.std.specs.Prelude.{◌≡◌, [], length, map, All, IfOk, IfErr};
+ghost use Rattle.std.specs.Prelude.{◌≡◌, ◌≢◌, [], length, map, All, IfOk, IfErr, OnErr};
 ghost use Rattle.dds_base.specs.declared.code.Code.TheVariants.{Memory};
 ghost use Rattle.dds_base.specs.Access.{infos_of};
 ghost use Rattle.dds_cache.specs.Kept.{HaveSame};
@@ -74,6 +74,18 @@ impl Access {
             returned: IndexSet::new(alloc),
             samples: Vec::new(alloc),
         }
+    }
+
+    /// Its samples once more. Where there are none it takes no memory.
+    pub fn samples_again(&self, alloc: Global) -> Result<Vec<Sample>, Code>
+        ensures same { IfOk result (λ again. again.items ≡ self.now.samples.items) }
+        ensures memory { IfErr result (λ e. e ≡ Memory) }
+        ensures some { OnErr result (self.now.samples.items ≢ []) }
+    {
+        if self.samples.is_empty() {
+            return Ok(Vec::new(alloc));
+        }
+        Ok(self.samples.clone()?)
     }
 }
 

@@ -17,6 +17,7 @@ ghost use Rattle.dds_cache.specs.Kept.{HaveSame};
 ghost use Rattle.dds_cache.specs.Picking.{IsAccess};
 ghost use Rattle.dds_cache.specs.Standing.{deaths_of, picked, qos_of, room_of, StandsFor, entry_of};
 ghost use Rattle.dds_cache.specs.Standing.{AccessAnswers, AfterAccess, MakesRoom, TakesEntry};
+ghost use Rattle.dds_cache.specs.Twice.{first_of};
 
 use crate::access::is_any_match;
 use crate::access_kind::AccessKind;
@@ -431,6 +432,40 @@ impl ReaderCache {
         let access = self.find(selection, test)?;
         self.enter(kind, &access)?;
         answer_of(access)
+    }
+
+    /// The same as `access`, and the samples once more: two equal collections. All memory is asked for before the cache
+    /// changes.
+    ///
+    /// # Errors
+    ///
+    /// Those of `access`: `Memory` also where the second collection found none.
+    ///
+    /// DDS 1.4, 2.2.2.5 (read, take, and their other forms).
+    pub fn access_twice<T: Test>(
+        &mut self,
+        kind: AccessKind,
+        selection: Selection,
+        test: &T,
+    ) -> Result<(Sequence<Sample>, Sequence<Sample>), Code>
+        // The first collection answers as that of `access` does.
+        ensures answer { (h : List Happening) → StandsFor self.old h
+            → AccessAnswers self.old h selection (T.meaning test.now) (first_of result) }
+        // The read or take is entered once, and nothing else; one that is refused is not.
+        ensures after { (h : List Happening) → StandsFor self.old h
+            → AfterAccess kind self.old h selection (T.meaning test.now) (first_of result) self.new }
+        // The second collection is the first one.
+        ensures equal { IfOk result (λ twice. twice.1 ≡ twice.0) }
+        // The policies stay.
+        ensures qos { qos_of self.new ≡ qos_of self.old }
+        // It takes the room of one entry at most.
+        ensures room { room_of self.old ≤ room_of self.new + 1 }
+    {
+        let access = self.find(selection, test)?;
+        let again = access.samples_again(self.alloc)?;
+        self.enter(kind, &access)?;
+        let samples = answer_of(access)?;
+        Ok((samples, Sequence::from_vec(again)))
     }
 
     /// The key of a known instance, by its handle; `None` where no known instance has it. It needs no memory.

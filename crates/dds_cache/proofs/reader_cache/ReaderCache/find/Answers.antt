@@ -1,4 +1,4 @@
-use Rattle.std.proofs.Common.{◌≡◌, ◌≢◌, List, [], sym, subst, rules, true, false, None, Bool}
+use Rattle.std.proofs.Common.{◌≡◌, ◌≢◌, List, [], sym, subst, rules, None, Bool}
 use Rattle.dds_base.specs.declared.code.Code.{Code}
 use Rattle.dds_base.specs.declared.code.Code.TheVariants.{Memory}
 use Rattle.dds_base.specs.Refusal.{Refuses}
