@@ -461,10 +461,10 @@ impl ReaderCache {
         // It takes the room of one entry at most.
         ensures room { room_of self.old ≤ room_of self.new + 1 }
     {
-        let access = self.find(selection, test)?;
-        let again = access.samples_again(self.alloc)?;
-        self.enter(kind, &access)?;
-        let samples = answer_of(access)?;
+        let found = self.find(selection, test)?;
+        let again = found.samples_again(self.alloc)?;
+        self.enter(kind, &found)?;
+        let samples = answer_of(found)?;
         Ok((samples, Sequence::from_vec(again)))
     }
 
