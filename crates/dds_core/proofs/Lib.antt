@@ -1,4 +1,5 @@
 pub mod AnyTests
+pub mod Twice
 pub mod Announcing
 pub mod Beating
 pub mod Asserting

@@ -23,3 +23,5 @@ pub mod Filtering
 pub mod FilteredSteps
 pub mod Noticing
 pub mod Listening
+pub mod Twins
+pub mod Moved

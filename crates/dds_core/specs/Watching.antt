@@ -18,7 +18,7 @@ use Rattle.std.specs.List.{list_any}
 use Rattle.dds_conditions.specs.Attached.{active_of}
 use Rattle.dds_conditions.specs.Watched.{conditions_of}
 use Rattle.dds_machine.specs.declared.reply.Reply.{Reply}
-use Rattle.dds_machine.specs.declared.reply.Reply.TheVariants.{Done, Created, Conditions, Refused}
+use Rattle.dds_machine.specs.declared.reply.Reply.TheVariants.{Done, Created, Conditions, Active, Refused}
 use Rattle.dds_protocol.specs.Peer.{Peer}
 use Rattle.dds_machine.specs.Watching.{Tests, condition_refusal, condition_selection, filter_of, status_changes, trigger_value, condition_value}
 use Rattle.dds_core.specs.declared.watching.Asked.{Asked}
@@ -40,6 +40,11 @@ made_reply (Err code) = Refused code
 abbrev pub conditions_reply : Result (List Cond) Code → Reply
 conditions_reply (Ok conditions) = Conditions conditions
 conditions_reply (Err code) = Refused code
+
+-- the reply to a look at a WaitSet that gives those that are true
+abbrev pub active_reply : Result (List Cond) Code → Reply
+active_reply (Ok active) = Active active
+active_reply (Err code) = Refused code
 
 -- so it is of the part of each state that stands for what is kept
 abbrev pub Tells : PeerKept → (Part → Type 0) → Type 0

@@ -8,24 +8,33 @@ ghost use Rattle.dds_protocol.specs.declared.event.Event.TheVariants as event;
 ghost use Rattle.dds_core.specs.Accesses.{access_call};
 ghost use Rattle.dds_core.specs.Stepping.{Steps};
 ghost use Rattle.dds_core.specs.Sending.{SendsNothing};
+ghost use Rattle.dds_core.specs.Twins.{IsPlain, Twins};
 
 use crate::output::{answered, reply_to_access};
 use crate::peer::Peer;
+use crate::twin::Twin;
 use dds_base::{Code, Handle, Key, Selection, index_of};
 use dds_cache::{AccessKind, Everything};
 use dds_machine::Reply;
 use dds_protocol::Output;
 
 impl Peer {
-    pub(crate) fn access(&mut self, kind: AccessKind, reader: u8, selection: Selection) -> Output
+    pub(crate) fn access(
+        &mut self,
+        kind: AccessKind,
+        reader: u8,
+        selection: Selection,
+        twin: &mut Twin,
+    ) -> Output
         ensures step { Steps self.old (event.Call (access_call kind reader selection))
             result self.new }
         ensures sends { SendsNothing result }
+        ensures twin { Twins twin.old result.reply twin.new }
     {
         let Some(index) = index_of(reader, self.readers.len()) else {
             return self.refused(Code::BadParameter);
         };
-        let samples = self.readers[index].access(kind, selection, &Everything);
+        let samples = self.readers[index].access(kind, selection, &Everything, twin);
         answered(self.alloc, reply_to_access(samples))
     }
 
@@ -33,6 +42,7 @@ impl Peer {
         ensures step { Steps self.now
             (event.Call (call.GetKeyValue reader instance)) result self.now }
         ensures sends { SendsNothing result }
+        ensures plain { IsPlain result.reply }
     {
         let Some(index) = index_of(reader, self.readers.len()) else {
             return self.refused(Code::BadParameter);
@@ -47,6 +57,7 @@ impl Peer {
         ensures step { Steps self.now
             (event.Call (call.LookupInstance reader key)) result self.now }
         ensures sends { SendsNothing result }
+        ensures plain { IsPlain result.reply }
     {
         let Some(index) = index_of(reader, self.readers.len()) else {
             return self.refused(Code::BadParameter);
@@ -58,6 +69,7 @@ impl Peer {
     pub(crate) fn get_sample_lost(&mut self, reader: u8) -> Output
         ensures step { Steps self.old (event.Call (call.GetSampleLost reader)) result self.new }
         ensures sends { SendsNothing result }
+        ensures plain { IsPlain result.reply }
     {
         let Some(index) = index_of(reader, self.readers.len()) else {
             return self.refused(Code::BadParameter);
@@ -70,6 +82,7 @@ impl Peer {
         ensures step { Steps self.old
             (event.Call (call.GetLivelinessChanged reader)) result self.new }
         ensures sends { SendsNothing result }
+        ensures plain { IsPlain result.reply }
     {
         let Some(index) = index_of(reader, self.readers.len()) else {
             return self.refused(Code::BadParameter);

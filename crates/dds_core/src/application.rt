@@ -2,7 +2,7 @@
 //!
 //! DDS 1.4, 2.2.2.1 (Entity, set_listener), 2.2.2.5 (QueryCondition), 2.2.4.3 (access through listeners).
 
-ghost use Rattle.std.specs.Prelude.{◌≡◌, [], None, IfErr, IfOk, OnErr, OnOk};
+ghost use Rattle.std.specs.Prelude.{◌≡◌, ◌<◌, ◌^◌, [], None, IfErr, IfOk, OnErr, OnOk};
 ghost use Rattle.dds_base.specs.Refusal.{Refuses};
 ghost use Rattle.dds_conditions.specs.Filtered.{tests_of};
 ghost use Rattle.dds_base.specs.Number.{at_number};
@@ -13,12 +13,14 @@ ghost use Rattle.dds_core.specs.Opening.{core_refusal, opening_peer};
 ghost use Rattle.dds_core.specs.Pairs.{IsPair};
 ghost use Rattle.dds_core.specs.Sending.{AreMessages, Sends};
 ghost use Rattle.dds_core.specs.Standing.{IsSound, StandsFor as PeerStandsFor};
+ghost use Rattle.dds_core.specs.Twins.{Twins};
 ghost use Rattle.dds_machine.specs.Part.{own_proxies, place_of};
 ghost use Rattle.dds_protocol.specs.Peer.{Peer as PeerState};
 ghost use Rattle.dds_base.specs.declared.config.Config.{Config as ConfigOf};
 
 use crate::filtered_peer::FilteredPeer;
 use crate::pairing::Pair;
+use crate::twin::{Twin, pair_of};
 use dds_base::{Code, Config, Entity, Moment, Sn};
 use dds_conditions::Filter;
 use dds_machine::Endpoint;
@@ -100,11 +102,49 @@ impl<F: Filter, L: Listener> Core<F, L> {
         // What goes out is the written form of a message.
         ensures messages { AreMessages result.packets }
     {
+        self.step_with(event, &mut Twin::Unasked)
+    }
+
+    /// One event, as `step` has it, and two equal outputs. All memory for both is asked for before anything changes, but
+    /// for that of the packets: a reply whose copy finds none is refused for want of memory, or a packet's report ends at
+    /// the submessage that found none, as in `step`; a packet to be sent whose copy finds none is in neither output, and
+    /// counted in `unsent` of both.
+    ///
+    /// DDS 1.4, 2.2.2.4 and 2.2.2.5 (DataWriter, DataReader), 2.2.4.3 (access through listeners); RTPS 2.5, 8.4
+    /// (behaviour).
+    pub fn step_pair(&mut self, event: Event) -> (Output, Output)
+        // For each state that the peer stands for, the event is a step, by what its filters mean, whose end listeners
+        // are told of, to one that it stands for afterwards; a delivered packet is taken up by the rules of the
+        // protocol, and what is due by them is sent.
+        ensures step { Steps L.notices L.capacity L.becomes
+            (tests_of F.meaning self.old.filtered.filters) self.old event result.0 self.new }
+        // What goes out at a call or a tick, and what is counted as unsent.
+        ensures sends { Sends self.old.filtered.peer event result.0 }
+        // What goes out is the written form of a message.
+        ensures messages { AreMessages result.0.packets }
+        // The second output is the first one.
+        ensures equal { result.0 ≡ result.1 }
+    {
+        let alloc = self.filtered.memory();
+        let mut twin = Twin::Asked;
+        let output = self.step_with(event, &mut twin);
+        pair_of(alloc, output, twin)
+    }
+
+    /// One event, and where two replies are asked for, the reply once more.
+    fn step_with(&mut self, event: Event, twin: &mut Twin) -> Output
+        ensures step { Steps L.notices L.capacity L.becomes
+            (tests_of F.meaning self.old.filtered.filters) self.old event result self.new }
+        ensures sends { Sends self.old.filtered.peer event result }
+        ensures messages { AreMessages result.packets }
+        ensures few { result.unsent < 2 ^ 62 }
+        ensures twin { Twins twin.old result.reply twin.new }
+    {
         if !self.listeners.has_listeners() {
-            return self.filtered.step(event);
+            return self.filtered.step(event, twin);
         }
         let marks = self.filtered.marks();
-        let output = self.filtered.step(event);
+        let output = self.filtered.step(event, twin);
         self.filtered.end(&mut self.listeners, &marks);
         output
     }

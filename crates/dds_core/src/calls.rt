@@ -9,10 +9,12 @@ ghost use Rattle.dds_protocol.specs.declared.event.Event.TheVariants as event;
 ghost use Rattle.dds_core.specs.Stepping.{Steps, StepsBy};
 ghost use Rattle.dds_core.specs.Making.{Makes, IsValueOf};
 ghost use Rattle.dds_core.specs.Sending.{Sends, SendsNothing, AreMessages};
+ghost use Rattle.dds_core.specs.Twins.{IsPlain, Twins};
 
 use crate::output::answered;
 use crate::peer::Peer;
 use crate::sending::Announced;
+use crate::twin::Twin;
 use dds_base::{Change, ChangeKind, Code, Key, MAX_VALUE, Octets, Sequence, index_of};
 use dds_cache::AccessKind;
 use dds_conditions::Filters;
@@ -20,10 +22,12 @@ use dds_machine::{Call, Reply};
 use dds_protocol::Output;
 
 impl Peer {
-    pub(crate) fn call<T: Filters>(&mut self, filters: &T, call: Call) -> Output
+    pub(crate) fn call<T: Filters>(&mut self, filters: &T, call: Call, twin: &mut Twin) -> Output
         ensures step { StepsBy (T.meaning filters.now) self.old (event.Call call) result self.new }
         ensures sends { Sends self.old (event.Call call) result }
         ensures messages { AreMessages result.packets }
+        ensures few { result.unsent ≤ 16 }
+        ensures twin { Twins twin.old result.reply twin.new }
     {
         match call {
             Call::Register { writer, key } => self.register(writer, key),
@@ -31,8 +35,18 @@ impl Peer {
             Call::Dispose { writer, key } => self.dispose(writer, key),
             Call::Unregister { writer, key } => self.unregister(writer, key),
             Call::AssertLiveliness { writer } => self.assert_liveliness(writer),
-            Call::Read { reader, selection } => self.access(AccessKind::Read, reader, selection),
-            Call::Take { reader, selection } => self.access(AccessKind::Take, reader, selection),
+            Call::Read { reader, selection } => self.access(
+                AccessKind::Read,
+                reader,
+                selection,
+                twin,
+            ),
+            Call::Take { reader, selection } => self.access(
+                AccessKind::Take,
+                reader,
+                selection,
+                twin,
+            ),
             Call::GetKeyValue { reader, instance } => self.get_key_value(reader, instance),
             Call::LookupInstance { reader, key } => self.lookup_instance(reader, key),
             Call::GetSampleLost { reader } => self.get_sample_lost(reader),
@@ -42,12 +56,26 @@ impl Peer {
                 reader,
                 scope,
                 condition,
-            } => self.access_by_condition(filters, AccessKind::Read, reader, scope, condition),
+            } => self.access_by_condition(
+                filters,
+                AccessKind::Read,
+                reader,
+                scope,
+                condition,
+                twin,
+            ),
             Call::TakeByCondition {
                 reader,
                 scope,
                 condition,
-            } => self.access_by_condition(filters, AccessKind::Take, reader, scope, condition),
+            } => self.access_by_condition(
+                filters,
+                AccessKind::Take,
+                reader,
+                scope,
+                condition,
+                twin,
+            ),
             Call::CreateReadCondition { reader, masks } => {
                 self.create_read_condition(reader, masks)
             }
@@ -70,9 +98,9 @@ impl Peer {
                 wait_set,
                 condition,
             } => self.detach_condition(wait_set, condition),
-            Call::GetConditions { wait_set } => self.get_conditions(wait_set),
+            Call::GetConditions { wait_set } => self.get_conditions(wait_set, twin),
             Call::WaitBegin { wait_set, deadline } => self.wait_begin(wait_set, deadline),
-            Call::WaitLook { wait_set } => self.wait_look(filters, wait_set),
+            Call::WaitLook { wait_set } => self.wait_look(filters, wait_set, twin),
             Call::WaitEnd { wait_set } => self.wait_end(wait_set),
             Call::SetEnabledStatuses { entity, mask } => self.set_enabled_statuses(entity, mask),
             Call::GetStatusChanges { entity } => self.get_status_changes(entity),
@@ -88,6 +116,7 @@ impl Peer {
     fn register(&mut self, writer: u8, key: Key) -> Output
         ensures step { Steps self.old (event.Call (call.Register writer key)) result self.new }
         ensures sends { SendsNothing result }
+        ensures plain { IsPlain result.reply }
     {
         let Some(index) = index_of(writer, self.writers.len()) else {
             return self.refused(Code::BadParameter);
@@ -102,6 +131,8 @@ impl Peer {
         ensures step { Steps self.old (event.Call (call.AssertLiveliness writer)) result self.new }
         ensures sends { Sends self.old (event.Call (call.AssertLiveliness writer)) result }
         ensures messages { AreMessages result.packets }
+        ensures few { result.unsent ≤ 16 }
+        ensures plain { IsPlain result.reply }
     {
         let Some(index) = index_of(writer, self.writers.len()) else {
             return self.refused(Code::BadParameter);
@@ -120,6 +151,7 @@ impl Peer {
     fn get_liveliness_lost(&mut self, writer: u8) -> Output
         ensures step { Steps self.old (event.Call (call.GetLivelinessLost writer)) result self.new }
         ensures sends { SendsNothing result }
+        ensures plain { IsPlain result.reply }
     {
         let Some(index) = index_of(writer, self.writers.len()) else {
             return self.refused(Code::BadParameter);
@@ -132,6 +164,8 @@ impl Peer {
         ensures step { Steps self.old (event.Call (call.Write writer key value)) result self.new }
         ensures sends { Sends self.old (event.Call (call.Write writer key value)) result }
         ensures messages { AreMessages result.packets }
+        ensures few { result.unsent ≤ 16 }
+        ensures plain { IsPlain result.reply }
     {
         let Some(index) = index_of(writer, self.writers.len()) else {
             return self.refused(Code::BadParameter);
@@ -146,6 +180,8 @@ impl Peer {
         ensures step { Steps self.old (event.Call (call.Dispose writer key)) result self.new }
         ensures sends { Sends self.old (event.Call (call.Dispose writer key)) result }
         ensures messages { AreMessages result.packets }
+        ensures few { result.unsent ≤ 16 }
+        ensures plain { IsPlain result.reply }
     {
         let Some(index) = index_of(writer, self.writers.len()) else {
             return self.refused(Code::BadParameter);
@@ -158,6 +194,8 @@ impl Peer {
         ensures step { Steps self.old (event.Call (call.Unregister writer key)) result self.new }
         ensures sends { Sends self.old (event.Call (call.Unregister writer key)) result }
         ensures messages { AreMessages result.packets }
+        ensures few { result.unsent ≤ 16 }
+        ensures plain { IsPlain result.reply }
     {
         let Some(index) = index_of(writer, self.writers.len()) else {
             return self.refused(Code::BadParameter);
@@ -178,6 +216,8 @@ impl Peer {
         requires empty { IsValueOf kind value }
         ensures makes { Makes self.old index kind key value result self.new }
         ensures messages { AreMessages result.packets }
+        ensures few { result.unsent ≤ 16 }
+        ensures plain { IsPlain result.reply }
     {
         let change = Change {
             kind,

@@ -3,20 +3,24 @@
 //! RTPS 2.5, 8.3.4 (the message receiver), 8.4.12 (the behaviour of a reliable StatefulReader). What the peer's writers
 //! do with an ACKNACK is in `requests`.
 
-ghost use Rattle.std.specs.Prelude.{◌≡◌, ◌++◌, ◌+◌, ◌*◌, ◌^◌, ◌<◌, ◌≤◌, [], length, vec_len, vec_capacity, IfSome, IfNone, IfOk, IfErr, OnOk, OnErr};
+ghost use Rattle.std.specs.Prelude.{◌≡◌, ◌++◌, ◌+◌, ◌*◌, ◌^◌, ◌<◌, ◌≤◌, [], length, IfSome, IfNone, IfOk, IfErr, OnOk, OnErr};
 ghost use Rattle.dds_base.specs.declared.code.Code.TheVariants.{Memory};
+ghost use Rattle.dds_machine.specs.declared.reply.Reply.TheVariants.{Reported};
 ghost use Rattle.dds_protocol.specs.declared.event.Event.TheVariants as event;
 ghost use Rattle.dds_core.specs.Stepping.{SoundSteps};
 ghost use Rattle.dds_core.specs.Sending.{AreMessages};
 ghost use Rattle.dds_core.specs.Readiness.{receiver_at, IsBounded, AreBounded, AreReady, AreAlike, IsNamedReader, NamesNone, moves_of};
 ghost use Rattle.dds_core.specs.Receiving.{CanTakeAt, TakesAt, AllCanTake, TakesAll, TellsReaders, TakesOneMore, KeepsPeer, NeedsMemory, TakesMessage, StandsAsWell, ReceivesPacket};
+ghost use Rattle.dds_core.specs.Twins.{Twins};
 
 use crate::acknack::send_acknack;
+use crate::moves::Moves;
 use crate::output::unmoved;
 use crate::peer::Peer;
 use crate::reader_end::{ReaderEnd, Ready};
 use crate::receiver::{MessageReceiver, receiver_after, receiver_for};
 use crate::sending::Announced;
+use crate::twin::Twin;
 use dds_base::{Code, GuidPrefix, Octets, Sequence, Sn};
 use dds_machine::{Endpoint, Move, Reply, Report};
 use dds_protocol::Output;
@@ -66,11 +70,12 @@ fn prepare(
 }
 
 /// Adds what a reader's step moved, for which there is room: the place in a writer's list goes on from this number.
-fn push_moves(moves: &mut Vec<Move>, writer: Endpoint, reader: u8, from: Sn, step: Step)
-    requires room { vec_len moves.old + 2 ≤ vec_capacity moves.old }
+fn push_moves(moves: &mut Moves, writer: Endpoint, reader: u8, from: Sn, step: Step)
+    requires few { length step.passed ≤ 257 }
+    requires room { 2 ≤ moves.old.room }
     ensures moved { moves.new.items ≡ moves.old.items ++ moves_of writer reader from step }
-    ensures len { vec_len moves.new ≤ vec_len moves.old + 2 }
-    ensures capacity { vec_capacity moves.new ≡ vec_capacity moves.old }
+    ensures twice { moves.new.twice ≡ moves.old.twice }
+    ensures room { moves.old.room ≤ moves.new.room + 2 }
 {
     let Step {
         to,
@@ -94,14 +99,14 @@ fn push_moves(moves: &mut Vec<Move>, writer: Endpoint, reader: u8, from: Sn, ste
 impl Peer {
     /// The reader of this index is told what is ready for it, and sends the ACKNACK that is then due. Adds the moves,
     /// for which there is room.
-    fn take_at(&mut self, moves: &mut Vec<Move>, sent: &mut Announced, index: usize, ready: Ready)
+    fn take_at(&mut self, moves: &mut Moves, sent: &mut Announced, index: usize, ready: Ready)
         requires can { CanTakeAt self.old.readers index ready }
-        requires room { vec_len moves.old + 2 ≤ vec_capacity moves.old }
+        requires room { 2 ≤ moves.old.room }
         requires low { sent.old.unsent < 2 ^ 62 }
         ensures takes { TakesAt self.old index ready moves.old.items sent.old self.new
             moves.new.items sent.new }
-        ensures len { vec_len moves.new ≤ vec_len moves.old + 2 }
-        ensures capacity { vec_capacity moves.new ≡ vec_capacity moves.old }
+        ensures twice { moves.new.twice ≡ moves.old.twice }
+        ensures room { moves.old.room ≤ moves.new.room + 2 }
         ensures few { sent.new.unsent ≤ sent.old.unsent + 1 }
         ensures messages { AreMessages sent.old.packets.items → AreMessages sent.new.packets.items }
     {
@@ -115,15 +120,16 @@ impl Peer {
     }
 
     /// Each reader is told what is ready for it, one after the other. Adds the moves, for which there is room.
-    fn take_all(&mut self, moves: &mut Vec<Move>, sent: &mut Announced, ready: Vec<Option<Ready>>)
+    fn take_all(&mut self, moves: &mut Moves, sent: &mut Announced, ready: Vec<Option<Ready>>)
         requires can { AllCanTake self.old.readers ready.items }
         requires count { length ready.items ≡ length self.old.readers }
-        requires room { vec_len moves.old + 2 * length ready.items ≤ vec_capacity moves.old }
+        requires room { 2 * length ready.items ≤ moves.old.room }
         requires few { length ready.items ≤ 16 }
         requires low { sent.old.unsent < 2 ^ 60 }
         ensures takes { TakesAll self.old ready.items moves.old.items sent.old self.new
             moves.new.items sent.new }
         ensures prefix { self.new.prefix ≡ self.old.prefix }
+        ensures twice { moves.new.twice ≡ moves.old.twice }
         ensures few { sent.new.unsent ≤ sent.old.unsent + length ready.items }
         ensures messages { AreMessages sent.old.packets.items → AreMessages sent.new.packets.items }
     {
@@ -172,7 +178,7 @@ impl Peer {
     /// Each reader that a submessage names is told what it says. Adds what moved. One that names none needs no memory.
     fn tell_readers(
         &mut self,
-        moves: &mut Vec<Move>,
+        moves: &mut Moves,
         sent: &mut Announced,
         receiver: &MessageReceiver,
         submessage: &Submessage,
@@ -183,6 +189,7 @@ impl Peer {
             (TellsReaders self.old
             (receiver_at receiver.now) submessage.now moves.old.items sent.old self.new
             moves.new.items sent.new) }
+        ensures twice { moves.new.twice ≡ moves.old.twice }
         ensures keeps { KeepsPeer 16 self.old moves.old.items sent.old self.new moves.new.items
             sent.new result }
         ensures needs { OnErr result
@@ -200,7 +207,7 @@ impl Peer {
     /// Takes up a submessage: an ACKNACK is for the peer's writers, any other one for its readers. Adds what moved.
     fn take_submessage(
         &mut self,
-        moves: &mut Vec<Move>,
+        moves: &mut Moves,
         sent: &mut Announced,
         receiver: &MessageReceiver,
         submessage: &Submessage,
@@ -211,6 +218,7 @@ impl Peer {
             (TakesOneMore self.old
             (receiver_at receiver.now) submessage.now moves.old.items sent.old self.new
             moves.new.items sent.new) }
+        ensures twice { moves.new.twice ≡ moves.old.twice }
         ensures keeps { KeepsPeer (2 ^ 16) self.old moves.old.items sent.old self.new
             moves.new.items sent.new result }
         ensures needs { OnErr result
@@ -223,57 +231,55 @@ impl Peer {
     }
 
     /// Takes up the submessages of a message, up to one for which there is no memory.
-    fn take_message(&mut self, message: &Message, sent: &mut Announced) -> Report
+    fn take_message(&mut self, message: &Message, sent: &mut Announced, twin: &mut Twin) -> Report
         requires few { length message.now.submessages ≤ 65535 }
         requires bounded { AreBounded message.now.submessages }
         requires none { sent.old.packets.items ≡ [] }
         requires zero { sent.old.unsent ≡ 0 }
         ensures takes { TakesMessage self.old message.now result self.new sent.new }
         ensures messages { AreMessages sent.new.packets.items }
+        ensures few { sent.new.unsent < 2 ^ 62 }
+        ensures twin { Twins twin.old (Reported result) twin.new }
     {
-        let mut moves = Vec::new(self.alloc);
+        let mut moves = Moves::new(self.alloc, twin.is_asked());
         let mut receiver = receiver_for(message.prefix);
         for (index, submessage) in message.submessages.as_slice().iter().enumerate() {
             match self.take_submessage(&mut moves, sent, &receiver, submessage) {
                 Ok(()) => receiver = receiver_after(&self.prefix, receiver, submessage),
-                Err(_) => {
-                    return Report {
-                        moves: Sequence::from_vec(moves),
-                        refused: Some(index as u32),
-                    };
-                }
+                Err(_) => return moves.into_report(Some(index as u32), twin),
             }
         }
-        Report {
-            moves: Sequence::from_vec(moves),
-            refused: None,
-        }
+        moves.into_report(None, twin)
     }
 
     /// What is done with the bytes of a packet.
-    fn receive(&mut self, packet: &Octets, sent: &mut Announced) -> Report
+    fn receive(&mut self, packet: &Octets, sent: &mut Announced, twin: &mut Twin) -> Report
         requires none { sent.old.packets.items ≡ [] }
         requires zero { sent.old.unsent ≡ 0 }
         ensures receives { ReceivesPacket self.old packet.now result self.new sent.new }
         ensures messages { AreMessages sent.new.packets.items }
+        ensures few { sent.new.unsent < 2 ^ 62 }
+        ensures twin { Twins twin.old (Reported result) twin.new }
     {
         match read_message(self.alloc, packet.as_slice()) {
-            Ok(Some(read)) => self.take_message(&read.message, sent),
+            Ok(Some(read)) => self.take_message(&read.message, sent, twin),
             Ok(None) => unmoved(self.alloc, None),
             Err(_) => unmoved(self.alloc, Some(0)),
         }
     }
 
     /// The bytes of a packet come.
-    pub(crate) fn deliver(&mut self, packet: &Octets) -> Output
+    pub(crate) fn deliver(&mut self, packet: &Octets, twin: &mut Twin) -> Output
         ensures step { SoundSteps self.old (event.Deliver packet.now) result self.new }
         ensures messages { AreMessages result.packets }
+        ensures few { result.unsent < 2 ^ 62 }
+        ensures twin { Twins twin.old result.reply twin.new }
     {
         let mut sent = Announced {
             packets: Vec::new(self.alloc),
             unsent: 0,
         };
-        let report = self.receive(packet, &mut sent);
+        let report = self.receive(packet, &mut sent, twin);
         let Announced { packets, unsent } = sent;
         Output {
             reply: Reply::Reported(report),

@@ -2,7 +2,7 @@
 //!
 //! DDS 1.4, 2.2.2.5 (QueryCondition).
 
-ghost use Rattle.std.specs.Prelude.{◌≡◌, [], None, IfErr, IfOk, OnErr, length};
+ghost use Rattle.std.specs.Prelude.{◌≡◌, ◌<◌, ◌^◌, [], None, IfErr, IfOk, OnErr, length};
 ghost use Rattle.dds_base.specs.Refusal.{Refuses};
 ghost use Rattle.dds_base.specs.Number.{at_number};
 ghost use Rattle.dds_conditions.specs.Filtered.{tests_of};
@@ -19,10 +19,12 @@ ghost use Rattle.dds_core.specs.Pairs.{IsPair};
 ghost use Rattle.dds_core.specs.Sending.{AreMessages, Sends};
 ghost use Rattle.dds_core.specs.Standing.{StandsFor as PeerStandsFor};
 ghost use Rattle.dds_core.specs.Stepping.{SoundStepsBy};
+ghost use Rattle.dds_core.specs.Twins.{Twins};
 
 use crate::marks::Marks;
 use crate::pairing::Pair;
 use crate::peer::Peer;
+use crate::twin::Twin;
 use dds_base::{Code, Config, Moment, Sn};
 use dds_conditions::{Filter, FilterList};
 use dds_machine::Endpoint;
@@ -81,10 +83,10 @@ impl<F: Filter> FilteredPeer<F> {
     /// Packets go out for a change that was made and for an assertion, one for each peer with a matched reader; at a
     /// tick for each writer, a HEARTBEAT for each peer with a reader that is behind; and at a delivery the ACKNACKs
     /// that its HEARTBEATs ask for, and the changes and GAPs that its ACKNACKs do. Those for which there is no memory
-    /// are counted in `unsent`.
+    /// are counted in `unsent`. Where two replies are asked for, all memory for both is asked for before anything changes.
     ///
     /// DDS 1.4, 2.2.2.4 and 2.2.2.5 (DataWriter, DataReader); RTPS 2.5, 8.4 (behaviour).
-    pub fn step(&mut self, event: Event) -> Output
+    pub fn step(&mut self, event: Event, twin: &mut Twin) -> Output
         // For each state that the peer stands for, the event is a step, by what its filters mean, to one that it stands
         // for afterwards; a delivered packet is taken up by the rules of the protocol, and what is due by them is sent.
         ensures step { Steps (tests_of F.meaning self.old.filters) self.old event result self.new }
@@ -95,8 +97,12 @@ impl<F: Filter> FilteredPeer<F> {
         ensures sends { Sends self.old.peer event result }
         // What goes out is the written form of a message.
         ensures messages { AreMessages result.packets }
+        // Few packets find no memory.
+        ensures few { result.unsent < 2 ^ 62 }
+        // Where two replies are asked for, there is the reply once more.
+        ensures twin { Twins twin.old result.reply twin.new }
     {
-        self.peer.step_by(&self.filters, event)
+        self.peer.step_by(&self.filters, event, twin)
     }
 
     /// Adds a filter, by the next number, from 1: query conditions can name it from then on. What it answers is what it

@@ -110,6 +110,7 @@ pub fn send_to_all(alloc: Global, beat: &Beat, destinations: &[Destination]) -> 
     requires valid { IsValid beat.now.due }
     requires few { length destinations.now ≤ 16 }
     ensures sent { AreSent (told_to beat.now destinations.now) result.packets.items result.unsent }
+    ensures few { result.unsent ≤ 16 }
     ensures messages { AreMessages result.packets.items }
 {
     let mut sent = Announced {

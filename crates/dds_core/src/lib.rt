@@ -49,6 +49,7 @@ mod heartbeat;
 mod limits;
 mod marks;
 mod matching;
+mod moves;
 mod noticing;
 mod opening;
 mod output;
@@ -61,6 +62,7 @@ mod seen;
 mod sending;
 mod status_bits;
 mod store;
+mod twin;
 mod watching;
 mod writer_end;
 

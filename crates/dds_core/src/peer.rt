@@ -2,16 +2,18 @@
 //!
 //! DDS 1.4, 2.2.2.4 and 2.2.2.5 (DataWriter, DataReader); RTPS 2.5, 8.4 (behaviour).
 
-ghost use Rattle.std.specs.Prelude.{◌≡◌};
+ghost use Rattle.std.specs.Prelude.{◌≡◌, ◌<◌, ◌≤◌, ◌^◌};
 ghost use Rattle.dds_protocol.specs.declared.event.Event.TheVariants as event;
 ghost use Rattle.dds_core.specs.Stepping.{Steps, SoundStepsBy};
 ghost use Rattle.dds_core.specs.Sending.{Sends, AreMessages};
+ghost use Rattle.dds_core.specs.Twins.{IsPlain, Twins};
 
 use crate::expiring::{counts_deaths, expire_all};
 use crate::output::answered;
 use crate::reader_end::ReaderEnd;
 use crate::receiver::NO_MOMENT;
 use crate::sending::Announced;
+use crate::twin::Twin;
 use crate::writer_end::{WriterEnd, tick_all};
 use dds_base::{Code, GuidPrefix, Moment, Sequence};
 use dds_conditions::{Filters, Watch};
@@ -55,19 +57,24 @@ impl Model for Peer {
 
 impl Peer {
     /// One event: a call, the peer's time that goes on, or the bytes of a packet that come. The filters tell which
-    /// samples its query conditions match, by their numbers.
-    pub fn step_by<T: Filters>(&mut self, filters: &T, event: Event) -> Output
+    /// samples its query conditions match, by their numbers. Where two replies are asked for, all memory for both is asked
+    /// for before anything changes.
+    pub fn step_by<T: Filters>(&mut self, filters: &T, event: Event, twin: &mut Twin) -> Output
         // For each state that the peer stands for, the event is a step by what the filters mean.
         ensures step { SoundStepsBy (T.meaning filters.now) self.old event result self.new }
         // What goes out at a call or a tick, and what is counted as unsent.
         ensures sends { Sends self.old event result }
         // What goes out is the written form of a message.
         ensures messages { AreMessages result.packets }
+        // Few packets find no memory.
+        ensures few { result.unsent < 2 ^ 62 }
+        // Where two replies are asked for, there is the reply once more.
+        ensures twin { Twins twin.old result.reply twin.new }
     {
         match event {
-            Event::Call(call) => self.call(filters, call),
+            Event::Call(call) => self.call(filters, call, twin),
             Event::Tick(now) => self.tick(now),
-            Event::Deliver(packet) => self.deliver(&packet),
+            Event::Deliver(packet) => self.deliver(&packet, twin),
         }
     }
 
@@ -77,6 +84,8 @@ impl Peer {
         ensures step { Steps self.old (event.Tick now) result self.new }
         ensures sends { Sends self.old (event.Tick now) result }
         ensures messages { AreMessages result.packets }
+        ensures few { result.unsent ≤ 256 }
+        ensures plain { IsPlain result.reply }
     {
         if now.units() < self.moment.units() || NO_MOMENT <= now.units() {
             return answered(self.alloc, Reply::Refused(Code::BadParameter));

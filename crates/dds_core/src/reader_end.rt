@@ -17,7 +17,8 @@ ghost use Rattle.dds_core.specs.Identity.{reader_identity};
 ghost use Rattle.dds_core.specs.Noticing.{MarksReader, RaisesSo, SeesStatus};
 ghost use Rattle.dds_core.specs.OpeningEnds.{OpensReader};
 ghost use Rattle.dds_core.specs.Readiness.{receiver_at, IsFirstName, IsNamedFor, IsNamedAt, NamedBy, NamesNobody, IsToldBy, HasMemory, IsReadyFor, IsAlike, CanTake, TakesTold, SameReader, IsPlaceAt};
-ghost use Rattle.dds_core.specs.Looking.{TakesOnly, TellsFlags, TellsLost, TellsLiveliness, TellsMatch};
+ghost use Rattle.dds_core.specs.Looking.{access_reply, TakesOnly, TellsFlags, TellsLost, TellsLiveliness, TellsMatch};
+ghost use Rattle.dds_core.specs.Twins.{Twins};
 ghost use Rattle.dds_core.specs.Stored.{Holds};
 ghost use Rattle.dds_cache.specs.Standing.{qos_of, AccessAnswers, AfterAccess};
 ghost use Rattle.dds_protocol.specs.Claims.{is_for, Names};
@@ -30,6 +31,7 @@ use crate::receiver::{MessageReceiver, is_for};
 use crate::seen::{Seen, is_after};
 use crate::status_bits::{DATA_AVAILABLE, LIVELINESS_CHANGED, SAMPLE_LOST, bit_if};
 use crate::store::Store;
+use crate::twin::Twin;
 use bitflags::Flags;
 use dds_base::{
     Change, Code, EntityId, Guid, GuidPrefix, Handle, Key, LivelinessChangedStatus, Masks, Moment,
@@ -365,6 +367,7 @@ impl ReaderEnd {
     pub fn take_up(&mut self, ready: Ready, moment: Moment) -> Step
         requires can { CanTake self.old ready }
         ensures told { TakesTold self.old ready moment result self.new }
+        ensures few { length result.passed ≤ 257 }
         ensures sayable { IfSome result.acknack IsSayable }
         ensures same { SameReader self.old self.new }
     {
@@ -407,7 +410,8 @@ impl ReaderEnd {
         self.store.expire(now);
     }
 
-    /// Reads or takes samples that pass the test, as the reader's cache does.
+    /// Reads or takes samples that pass the test, as the reader's cache does, and gives them once more where two replies
+    /// are asked for.
     ///
     /// # Errors
     ///
@@ -420,6 +424,7 @@ impl ReaderEnd {
         kind: AccessKind,
         selection: Selection,
         test: &T,
+        twin: &mut Twin,
     ) -> Result<Sequence<Sample>, Code>
         ensures answer { (h : List Happening) → Holds self.old.store h
             → AccessAnswers self.old.store.cache h selection (T.meaning test.now) result }
@@ -427,8 +432,9 @@ impl ReaderEnd {
             → AfterAccess kind self.old.store.cache h selection
             (T.meaning test.now) result self.new.store.cache }
         ensures same { TakesOnly self.old self.new }
+        ensures twin { Twins twin.old (access_reply result) twin.new }
     {
-        self.store.access(kind, selection, test)
+        self.store.access(kind, selection, test, twin)
     }
 
     /// The key of a known instance, by its handle.

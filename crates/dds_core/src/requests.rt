@@ -2,7 +2,7 @@
 //!
 //! RTPS 2.5, 8.4.9 (the behaviour of a reliable StatefulWriter).
 
-ghost use Rattle.std.specs.Prelude.{◌≡◌, ◌+◌, ◌^◌, ◌<◌, ◌≤◌, ℕ, Some, length, slice_get, vec_len, vec_capacity, IfSome, IfNone, OnOk, OnErr};
+ghost use Rattle.std.specs.Prelude.{◌≡◌, ◌+◌, ◌^◌, ◌<◌, ◌≤◌, ℕ, Some, length, slice_get, IfSome, IfNone, OnOk, OnErr};
 ghost use Rattle.rtps_wire.specs.declared.submessage.Submessage.TheVariants as submessage;
 ghost use Rattle.dds_core.specs.Answering.{HasRoom, HaveRoom, AsksNone, IsAskedWriter, TakesRow, TakesAllRows};
 ghost use Rattle.dds_core.specs.Kept.{WriterKept};
@@ -11,6 +11,7 @@ ghost use Rattle.dds_core.specs.Receiving.{TakesOneMore, KeepsPeer, NeedsMemory}
 ghost use Rattle.dds_core.specs.Sending.{AreMessages};
 
 use crate::answering::Room;
+use crate::moves::Moves;
 use crate::peer::Peer;
 use crate::receiver::MessageReceiver;
 use crate::sending::Announced;
@@ -55,7 +56,7 @@ impl Peer {
     /// Adds what moved, for which there is room.
     fn answer_row(
         &mut self,
-        moves: &mut Vec<Move>,
+        moves: &mut Moves,
         sent: &mut Announced,
         index: usize,
         row: usize,
@@ -66,12 +67,12 @@ impl Peer {
             × (row < length k.readers) }
         requires base { 1 ≤ body.now.reader_sn_state.base }
         requires room { HasRoom body.now.reader_sn_state room }
-        requires moves { vec_len moves.old + 1 ≤ vec_capacity moves.old }
+        requires moves { 1 ≤ moves.old.room }
         requires low { sent.old.unsent < 2 ^ 60 }
         ensures takes { TakesRow self.old index row body.now moves.old.items sent.old self.new
             moves.new.items sent.new }
-        ensures len { vec_len moves.new ≤ vec_len moves.old + 1 }
-        ensures capacity { vec_capacity moves.new ≡ vec_capacity moves.old }
+        ensures twice { moves.new.twice ≡ moves.old.twice }
+        ensures room { moves.old.room ≤ moves.new.room + 1 }
         ensures few { sent.new.unsent ≤ sent.old.unsent + 256 }
         ensures messages { AreMessages sent.old.packets.items → AreMessages sent.new.packets.items }
     {
@@ -91,7 +92,7 @@ impl Peer {
     /// for which there is room.
     fn answer_rows(
         &mut self,
-        moves: &mut Vec<Move>,
+        moves: &mut Moves,
         sent: &mut Announced,
         index: usize,
         body: &AckNack,
@@ -102,10 +103,11 @@ impl Peer {
         requires base { 1 ≤ body.now.reader_sn_state.base }
         requires few { length rooms.items ≤ 256 }
         requires rooms { HaveRoom body.now.reader_sn_state rooms.items }
-        requires moves { vec_len moves.old + length rooms.items ≤ vec_capacity moves.old }
+        requires moves { length rooms.items ≤ moves.old.room }
         requires low { sent.old.unsent < 2 ^ 59 }
         ensures takes { TakesAllRows self.old index body.now rooms.items moves.old.items sent.old
             self.new moves.new.items sent.new }
+        ensures twice { moves.new.twice ≡ moves.old.twice }
         ensures few { sent.new.unsent ≤ sent.old.unsent + 2 ^ 16 }
         ensures messages { AreMessages sent.old.packets.items → AreMessages sent.new.packets.items }
     {
@@ -121,7 +123,7 @@ impl Peer {
     /// that is applied by nobody needs no memory.
     pub(crate) fn take_acknack(
         &mut self,
-        moves: &mut Vec<Move>,
+        moves: &mut Moves,
         sent: &mut Announced,
         receiver: &MessageReceiver,
         body: &AckNack,
@@ -132,6 +134,7 @@ impl Peer {
             (TakesOneMore self.old (receiver_at receiver.now)
             (submessage.AckNack body.now) moves.old.items sent.old self.new moves.new.items
             sent.new) }
+        ensures twice { moves.new.twice ≡ moves.old.twice }
         ensures keeps { KeepsPeer (2 ^ 16) self.old moves.old.items sent.old self.new
             moves.new.items sent.new result }
         ensures needs { OnErr result

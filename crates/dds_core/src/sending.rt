@@ -130,6 +130,7 @@ pub fn announce(
     requires small { number ≤ 2 ^ 48 }
     requires valid { IsContent content }
     ensures counted { length result.packets.items + result.unsent ≡ length destinations.now }
+    ensures few { result.unsent ≤ length destinations.now }
     ensures packets { AreAnnouncements sender.now number content.entry destinations.now
         result.packets.items }
 {

@@ -13,13 +13,17 @@ ghost use Rattle.dds_cache.specs.Standing.{qos_of, AccessAnswers, AfterAccess, S
 ghost use Rattle.dds_lease.specs.Standing.{writer_count};
 ghost use Rattle.dds_machine.specs.Passing.{passed_at};
 ghost use Rattle.dds_core.specs.Expiring.{HasRoomForDeaths};
+ghost use Rattle.dds_core.specs.Looking.{access_reply};
 ghost use Rattle.dds_core.specs.Stored.{StoreKept, Holds, Loses};
+ghost use Rattle.dds_core.specs.Twins.{Twins};
 
+use crate::twin::Twin;
 use dds_base::{
     Arrival, Code, Handle, Key, Masks, Moment, ReaderQos, Sample, Selection, Sequence, Sn,
 };
 use dds_cache::{AccessKind, ReaderCache, Test};
 use dds_lease::Leases;
+use dds_machine::Reply;
 use rtps_reader::Sink;
 use std::alloc::Global;
 use std::marker::Model;
@@ -186,12 +190,14 @@ impl Store {
         }
     }
 
-    /// Reads or takes samples that pass the test, as the cache does.
+    /// Reads or takes samples that pass the test, as the cache does, and gives them once more where two replies are asked
+    /// for.
     pub fn access<T: Test>(
         &mut self,
         kind: AccessKind,
         selection: Selection,
         test: &T,
+        twin: &mut Twin,
     ) -> Result<Sequence<Sample>, Code>
         ensures answer { (h : List Happening) → Holds self.old h
             → AccessAnswers self.old.cache h selection (T.meaning test.now) result }
@@ -203,8 +209,18 @@ impl Store {
         ensures lost { self.new.lost ≡ self.old.lost }
         ensures passed { self.new.passed ≡ self.old.passed }
         ensures turned { self.new.turned ≡ self.old.turned }
+        ensures twin { Twins twin.old (access_reply result) twin.new }
     {
-        self.cache.access(kind, selection, test)
+        if !twin.is_asked() {
+            return self.cache.access(kind, selection, test);
+        }
+        match self.cache.access_twice(kind, selection, test) {
+            Ok((samples, again)) => {
+                *twin = Twin::Kept(Reply::Samples(again));
+                Ok(samples)
+            }
+            Err(code) => Err(code),
+        }
     }
 
     /// The key of a known instance, by its handle.

@@ -2,22 +2,25 @@
 //!
 //! DDS 1.4, 2.2.2.1 (Condition, WaitSet), 2.2.2.5 (ReadCondition).
 
-ghost use Rattle.std.specs.Prelude.{◌≡◌, ◌+◌, true, None, Some, IfOk, IfErr, OnErr, OnOk};
+ghost use Rattle.std.specs.Prelude.{◌≡◌, ◌+◌, [], true, None, Some, is_some, IfOk, IfErr, OnErr, OnOk};
 ghost use Rattle.dds_base.specs.declared.code.Code.TheVariants.{Memory};
 ghost use Rattle.dds_base.specs.Checked.{is_maximum};
 ghost use Rattle.dds_base.specs.Selection.{max_in};
 ghost use Rattle.dds_base.specs.Number.{at_number};
-ghost use Rattle.dds_conditions.specs.Watched.{filter_refusal, use_refusal, with_filter};
+ghost use Rattle.dds_base.specs.Refusal.{Refuses};
+ghost use Rattle.dds_conditions.specs.Watched.{conditions_of, filter_refusal, unless_there, use_refusal, with_filter};
 ghost use Rattle.dds_machine.specs.declared.call.Call.TheVariants as call;
 ghost use Rattle.dds_protocol.specs.declared.event.Event.TheVariants as event;
 ghost use Rattle.dds_core.specs.Accesses.{condition_call};
 ghost use Rattle.dds_core.specs.Stepping.{Steps, StepsBy};
 ghost use Rattle.dds_core.specs.Sending.{SendsNothing};
-ghost use Rattle.dds_core.specs.Watching.{AreActive, AsksBy, Tells, TellsActive, TellsStatuses, TellsTrigger, TellsValue, asked_of, conditions_reply, done_reply, made_reply};
+ghost use Rattle.dds_core.specs.Twins.{IsPlain, Twins};
+ghost use Rattle.dds_core.specs.Watching.{AreActive, AsksBy, Tells, TellsActive, TellsStatuses, TellsTrigger, TellsValue, active_reply, asked_of, conditions_reply, done_reply, made_reply};
 
 use crate::by_filter::ByFilter;
 use crate::output::{answered, reply_to_access};
 use crate::peer::Peer;
+use crate::twin::Twin;
 use bitflags::Flags;
 use dds_base::{Code, Entity, Masks, Moment, Scope, Selection, Sequence, index_of};
 use dds_cache::AccessKind;
@@ -102,6 +105,7 @@ impl Peer {
         ensures step { Steps self.old
             (event.Call (call.CreateReadCondition reader masks)) result self.new }
         ensures sends { SendsNothing result }
+        ensures plain { IsPlain result.reply }
     {
         let Some(_index) = index_of(reader, self.readers.len()) else {
             return self.refused(Code::BadParameter);
@@ -118,6 +122,7 @@ impl Peer {
         ensures step { Steps self.old
             (event.Call (call.CreateQueryCondition reader masks filter)) result self.new }
         ensures sends { SendsNothing result }
+        ensures plain { IsPlain result.reply }
     {
         let Some(_reader) = index_of(reader, self.readers.len()) else {
             return self.refused(Code::BadParameter);
@@ -156,6 +161,7 @@ impl Peer {
     pub(crate) fn create_guard_condition(&mut self) -> Output
         ensures step { Steps self.old (event.Call call.CreateGuardCondition) result self.new }
         ensures sends { SendsNothing result }
+        ensures plain { IsPlain result.reply }
     {
         let made = self.watch.create(Condition::Guard(false));
         answered(self.alloc, reply_to_made(made))
@@ -165,6 +171,7 @@ impl Peer {
         ensures step { Steps self.old
             (event.Call (call.SetTriggerValue condition value)) result self.new }
         ensures sends { SendsNothing result }
+        ensures plain { IsPlain result.reply }
     {
         let done = self.watch.set_guard(condition, value);
         answered(self.alloc, reply_to(done))
@@ -174,6 +181,7 @@ impl Peer {
         ensures step { Steps self.old
             (event.Call (call.DeleteCondition condition)) result self.new }
         ensures sends { SendsNothing result }
+        ensures plain { IsPlain result.reply }
     {
         let done = self.watch.delete(condition);
         answered(self.alloc, reply_to(done))
@@ -182,6 +190,7 @@ impl Peer {
     pub(crate) fn create_wait_set(&mut self) -> Output
         ensures step { Steps self.old (event.Call call.CreateWaitSet) result self.new }
         ensures sends { SendsNothing result }
+        ensures plain { IsPlain result.reply }
     {
         let made = self.watch.create_wait_set();
         answered(self.alloc, reply_to_made(made))
@@ -190,6 +199,7 @@ impl Peer {
     pub(crate) fn delete_wait_set(&mut self, wait_set: u32) -> Output
         ensures step { Steps self.old (event.Call (call.DeleteWaitSet wait_set)) result self.new }
         ensures sends { SendsNothing result }
+        ensures plain { IsPlain result.reply }
     {
         let done = self.watch.delete_wait_set(wait_set);
         answered(self.alloc, reply_to(done))
@@ -199,6 +209,7 @@ impl Peer {
         ensures step { Steps self.old
             (event.Call (call.AttachCondition wait_set condition)) result self.new }
         ensures sends { SendsNothing result }
+        ensures plain { IsPlain result.reply }
     {
         let done = self.watch.attach(wait_set, condition);
         answered(self.alloc, reply_to(done))
@@ -208,6 +219,7 @@ impl Peer {
         ensures step { Steps self.old
             (event.Call (call.DetachCondition wait_set condition)) result self.new }
         ensures sends { SendsNothing result }
+        ensures plain { IsPlain result.reply }
     {
         let done = self.watch.detach(wait_set, condition);
         answered(self.alloc, reply_to(done))
@@ -217,6 +229,7 @@ impl Peer {
         ensures step { Steps self.old
             (event.Call (call.WaitBegin wait_set deadline)) result self.new }
         ensures sends { SendsNothing result }
+        ensures plain { IsPlain result.reply }
     {
         let done = self.watch.begin(wait_set, deadline);
         answered(self.alloc, reply_to(done))
@@ -225,6 +238,7 @@ impl Peer {
     pub(crate) fn wait_end(&mut self, wait_set: u32) -> Output
         ensures step { Steps self.old (event.Call (call.WaitEnd wait_set)) result self.new }
         ensures sends { SendsNothing result }
+        ensures plain { IsPlain result.reply }
     {
         let done = self.watch.end(wait_set);
         answered(self.alloc, reply_to(done))
@@ -234,16 +248,38 @@ impl Peer {
         ensures step { Steps self.old
             (event.Call (call.SetEnabledStatuses entity mask)) result self.new }
         ensures sends { SendsNothing result }
+        ensures plain { IsPlain result.reply }
     {
         let done = self.watch.enable(entity, mask);
         answered(self.alloc, reply_to(done))
     }
 
-    pub(crate) fn get_conditions(&self, wait_set: u32) -> Output
+    /// The conditions of a WaitSet, and once more where two replies are asked for.
+    fn conditions(&self, wait_set: u32, twin: &mut Twin) -> Result<Sequence<Cond>, Code>
+        ensures ok { IfOk result (λ conditions. conditions ≡ conditions_of self.now.watch wait_set) }
+        ensures taken { OnOk result (unless_there (is_some (at_number self.now.watch.wait_sets wait_set))
+            ≡ None) }
+        ensures refused { IfErr result
+            (λ code. Refuses (unless_there (is_some (at_number self.now.watch.wait_sets wait_set))) code) }
+        ensures none { conditions_of self.now.watch wait_set ≡ []
+            → IfErr result
+            (λ code. unless_there (is_some (at_number self.now.watch.wait_sets wait_set)) ≡ Some code) }
+        ensures twin { Twins twin.old (conditions_reply result) twin.new }
+    {
+        let conditions = self.watch.conditions(wait_set)?;
+        if twin.is_asked() {
+            let again = self.watch.conditions(wait_set)?;
+            *twin = Twin::Kept(Reply::Conditions(again));
+        }
+        Ok(conditions)
+    }
+
+    pub(crate) fn get_conditions(&self, wait_set: u32, twin: &mut Twin) -> Output
         ensures step { Steps self.now (event.Call (call.GetConditions wait_set)) result self.now }
         ensures sends { SendsNothing result }
+        ensures twin { Twins twin.old result.reply twin.new }
     {
-        let conditions = self.watch.conditions(wait_set);
+        let conditions = self.conditions(wait_set, twin);
         answered(self.alloc, reply_to_conditions(conditions))
     }
 
@@ -304,6 +340,7 @@ impl Peer {
         ensures step { StepsBy (T.meaning filters.now) self.now
             (event.Call (call.GetTriggerValue condition)) result self.now }
         ensures sends { SendsNothing result }
+        ensures plain { IsPlain result.reply }
     {
         if !self.watch.knows(condition) {
             return self.refused(Code::BadParameter);
@@ -315,6 +352,7 @@ impl Peer {
     pub(crate) fn get_status_changes(&self, entity: Entity) -> Output
         ensures step { Steps self.now (event.Call (call.GetStatusChanges entity)) result self.now }
         ensures sends { SendsNothing result }
+        ensures plain { IsPlain result.reply }
     {
         if !self.watch.knows_entity(entity) {
             return self.refused(Code::BadParameter);
@@ -340,10 +378,12 @@ impl Peer {
         reader: u8,
         scope: Scope,
         condition: u32,
+        twin: &mut Twin,
     ) -> Output
         ensures step { StepsBy (T.meaning filters.now) self.old
             (event.Call (condition_call kind reader scope condition)) result self.new }
         ensures sends { SendsNothing result }
+        ensures twin { Twins twin.old result.reply twin.new }
     {
         let Asked { selection, filter } = match self.asked_by(reader, scope, condition) {
             Ok(asked) => asked,
@@ -353,7 +393,7 @@ impl Peer {
             return self.refused(Code::BadParameter);
         };
         let test = ByFilter { filters, filter };
-        let samples = self.readers[index].access(kind, selection, &test);
+        let samples = self.readers[index].access(kind, selection, &test, twin);
         answered(self.alloc, reply_to_access(samples))
     }
 
@@ -382,15 +422,35 @@ impl Peer {
         self.watch.active(wait_set, is_true)
     }
 
+    /// The conditions of a WaitSet that are true, and once more where two replies are asked for.
+    fn active_with<T: Filters>(
+        &self,
+        filters: &T,
+        wait_set: u32,
+        twin: &mut Twin,
+    ) -> Result<Sequence<Cond>, Code>
+        ensures ok { IfOk result (AreActive (T.meaning filters.now) self.now wait_set) }
+        ensures memory { IfErr result (λ code. code ≡ Memory) }
+        ensures twin { Twins twin.old (active_reply result) twin.new }
+    {
+        let active = self.active(filters, wait_set)?;
+        if twin.is_asked() {
+            let again = active.copied()?;
+            *twin = Twin::Kept(Reply::Active(again));
+        }
+        Ok(active)
+    }
+
     /// The true conditions of a WaitSet, of which there is one: the wait is over.
-    fn end_active<T: Filters>(&mut self, filters: &T, wait_set: u32) -> Output
+    fn end_active<T: Filters>(&mut self, filters: &T, wait_set: u32, twin: &mut Twin) -> Output
         requires used { use_refusal (at_number self.old.watch.wait_sets wait_set) ≡ None }
         requires active { TellsActive (T.meaning filters.now) self.old wait_set true }
         ensures step { StepsBy (T.meaning filters.now) self.old
             (event.Call (call.WaitLook wait_set)) result self.new }
         ensures sends { SendsNothing result }
+        ensures twin { Twins twin.old result.reply twin.new }
     {
-        match self.active(filters, wait_set) {
+        match self.active_with(filters, wait_set, twin) {
             Ok(active) => {
                 let _ = self.watch.end(wait_set);
                 answered(self.alloc, Reply::Active(active))
@@ -399,17 +459,23 @@ impl Peer {
         }
     }
 
-    pub(crate) fn wait_look<T: Filters>(&mut self, filters: &T, wait_set: u32) -> Output
+    pub(crate) fn wait_look<T: Filters>(
+        &mut self,
+        filters: &T,
+        wait_set: u32,
+        twin: &mut Twin,
+    ) -> Output
         ensures step { StepsBy (T.meaning filters.now) self.old
             (event.Call (call.WaitLook wait_set)) result self.new }
         ensures sends { SendsNothing result }
+        ensures twin { Twins twin.old result.reply twin.new }
     {
         let deadline = match self.watch.deadline(wait_set) {
             Ok(deadline) => deadline,
             Err(code) => return self.refused(code),
         };
         if self.is_active(filters, wait_set) {
-            return self.end_active(filters, wait_set);
+            return self.end_active(filters, wait_set, twin);
         }
         if self.moment.units() < deadline.units() {
             return answered(self.alloc, Reply::Waiting);

@@ -258,6 +258,7 @@ impl WriterEnd {
         requires short { length change.now.value ≤ 1024 }
         ensures counted { length result.packets.items + result.unsent
             ≡ length self.now.destinations }
+        ensures few { result.unsent ≤ 16 }
         ensures announces { AreAnnouncements
             (record { prefix = prefix; entity = self.now.entity; moment = moment }) number
             (content_of change.now) self.now.destinations result.packets.items }
@@ -432,6 +433,7 @@ impl WriterEnd {
         ensures ok { OnOk result (Enters self.old (Asserted now) self.new) }
         ensures tells { IfOk result
             (λ sent. TellsOf prefix self.old sent.packets.items sent.unsent) }
+        ensures few { IfOk result (λ sent. sent.unsent ≤ 16) }
         ensures refused { IfErr result (λ code. (code ≡ OutOfResources) × HasNoCount self.old) }
         ensures messages { IfOk result (λ sent. AreMessages sent.packets.items) }
         ensures err { OnErr result (self.new ≡ self.old) }
@@ -486,6 +488,7 @@ pub fn tick_all(
     requires few { length writers.old ≤ 16 }
     ensures ticks { AllTick writers.old now writers.new }
     ensures beats { BeatsOfAll prefix writers.old result.packets.items result.unsent }
+    ensures few { result.unsent ≤ 256 }
     ensures messages { AreMessages result.packets.items }
 {
     let mut sent = Announced {

@@ -2,7 +2,7 @@ use Rattle.std.proofs.Common.{sym, subst}
 use Rattle.dds_conditions.specs.Filtered.{tests_of}
 use Rattle.dds_core.specs.Listening.{CoreKept, Steps}
 use Rattle.dds_core.proofs.Ended.{steps_told, steps_untold}
-use Rattle.dds_core.proofs.application.Core.step.Goals as goal
+use Rattle.dds_core.proofs.application.Core.step_with.Goals as goal
 
 pub returns-then-not-has_listeners-clause-step : goal.returns-then-not-has_listeners-clause-step
 returns-then-not-has_listeners-clause-step g c =

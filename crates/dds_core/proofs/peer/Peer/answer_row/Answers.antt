@@ -3,6 +3,7 @@ use Rattle.std.proofs.lemmas.Option.{get_or_from_slice_get}
 use Rattle.dds_machine.specs.declared.reply.Move.{Move}
 use Rattle.dds_core.specs.Answering.{acknowledged_moves}
 use Rattle.dds_core.specs.Kept.{PeerKept}
+use Rattle.dds_core.specs.Moved.{MovesKept}
 use Rattle.dds_core.proofs.Ends.{with_writer}
 use Rattle.dds_core.proofs.Requesting.{row_took}
 use Rattle.dds_core.proofs.peer.Peer.answer_row.Goals.{in-Some, in_default}
@@ -19,11 +20,11 @@ returns-clause-takes c = λ k name at at_name.
     ++ acknowledged_moves writer c.reader-reader.result c.take_acknack.result =
     elim c.match-take_acknack.branch [
       | in-Some w ↦
-          ap (λ (m : Vec Move _). m.items) w.moves-is ∙ (w.push_reserved.ensures.items
+          ap (λ (m : MovesKept). m.items) w.moves-is ∙ (w.push_reserved.ensures.items
           ∙ ap (λ (o : Option ℕ). c.args.moves.now.items ++ acknowledged_moves writer c.reader-reader.result o)
           (sym w.in-Some.is))
       | in_default w ↦
-          ap (λ (m : Vec Move _). m.items) w.moves-is
+          ap (λ (m : MovesKept). m.items) w.moves-is
           ∙ (sym (append-nil c.args.moves.now.items)
           ∙ ap (λ (o : Option ℕ). c.args.moves.now.items ++ acknowledged_moves writer c.reader-reader.result o)
           (sym w.in_default.is))

@@ -7,6 +7,7 @@ use Rattle.dds_core.specs.declared.sending.Announced.{Announced}
 use Rattle.dds_core.specs.Answering.{TakesRows}
 use Rattle.dds_core.specs.Kept.{PeerKept, WriterKept}
 use Rattle.dds_core.specs.Identity.{WriterIdentity}
+use Rattle.dds_core.specs.Moved.{MovesKept}
 use Rattle.dds_core.specs.Sending.{AreMessages}
 use Rattle.dds_core.proofs.Ready.{still_ready, rest_more}
 use Rattle.dds_core.proofs.Requesting.{rows_none, rows_skip, rows_more}
@@ -24,6 +25,7 @@ loop-row-init c = record {
   few = omega arith;
   messages = λ h. h;
   room = omega (arith, c.requires.moves);
+  twice = refl;
 }
 
 pub answer_row-requires-clause-within : goal.answer_row-requires-clause-within
@@ -69,15 +71,13 @@ loop-row-preserved c =
       | in-Some w ↦
           let is : slice_get rooms i ≡ Some (Some w.in-Some.room) =
           there ∙ ap (λ (x : Option Room). Some x) (sym w.in-Some.ensures.value) in
-          let len = w.answer_row.ensures.len in
-          let capacity = w.answer_row.ensures.capacity in
+          let left = w.answer_row.ensures.room in
           let more = w.answer_row.ensures.few in
-          let long = ap (λ (m : Vec Move _). vec_len m) w.moves-is in
-          let wide = ap (λ (m : Vec Move _). vec_capacity m) w.moves-is in
+          let long = ap (λ (m : MovesKept). m.room) w.moves-is in
           record {
             takes = λ x at.
                 let same : k ≡ x = same_Some k x (sym c.requires.within.1 ∙ at) in
-                of_three (λ (q : PeerKept) (m : Vec Move _) (y : Announced). TakesRows old c.args.index c.args.body.now
+                of_three (λ (q : PeerKept) (m : MovesKept) (y : Announced). TakesRows old c.args.index c.args.body.now
                 x rooms (i + 1) moves sent q m.items y) w.self-is w.moves-is w.sent-is
                 (rows_more old c.loop-row.self w.answer_row.new.self c.args.index c.args.body.now x rooms i
                 w.in-Some.room moves c.loop-row.moves.items w.answer_row.new.moves.items sent c.loop-row.sent
@@ -91,17 +91,18 @@ loop-row-preserved c =
             messages =
                 λ h. subst (λ (y : Announced). AreMessages y.packets.items) (sym w.sent-is)
                 (w.answer_row.ensures.messages (c.loop-row.invariant.messages h));
-            room = omega (arith, room, len, capacity, long, wide);
+            room = omega (arith, room, left, long);
+            twice = ap (λ (m : MovesKept). m.twice) w.moves-is
+                ∙ (w.answer_row.ensures.twice ∙ c.loop-row.invariant.twice);
           }
       | in_default w ↦
           let none : slice_get rooms i ≡ Some None =
           there ∙ ap (λ (x : Option Room). Some x) (sym c.take.ensures.value ∙ w.in_default.is) in
-          let long = ap (λ (m : Vec Move _). vec_len m) w.moves-is in
-          let wide = ap (λ (m : Vec Move _). vec_capacity m) w.moves-is in
+          let long = ap (λ (m : MovesKept). m.room) w.moves-is in
           record {
             takes = λ x at.
                 let same : k ≡ x = same_Some k x (sym c.requires.within.1 ∙ at) in
-                of_three (λ (q : PeerKept) (m : Vec Move _) (y : Announced). TakesRows old c.args.index c.args.body.now
+                of_three (λ (q : PeerKept) (m : MovesKept) (y : Announced). TakesRows old c.args.index c.args.body.now
                 x rooms (i + 1) moves sent q m.items y) w.self-is w.moves-is w.sent-is
                 (rows_skip old c.loop-row.self c.args.index c.args.body.now x rooms i moves c.loop-row.moves.items sent
                 c.loop-row.sent (c.loop-row.invariant.takes x at)
@@ -113,7 +114,8 @@ loop-row-preserved c =
             messages =
                 λ h. subst (λ (y : Announced). AreMessages y.packets.items) (sym w.sent-is)
                 (c.loop-row.invariant.messages h);
-            room = omega (arith, room, long, wide);
+            room = omega (arith, room, long);
+            twice = ap (λ (m : MovesKept). m.twice) w.moves-is ∙ c.loop-row.invariant.twice;
           }
     ]
 

@@ -1,5 +1,4 @@
-use Rattle.std.proofs.Common.{◌≡◌, ◌+◌, ◌*◌, ◌≤◌, Some, length, drop, slice_get, vec_len}
-use Rattle.std.specs.Prelude.{vec_capacity}
+use Rattle.std.proofs.Common.{◌≡◌, ◌+◌, ◌*◌, ◌≤◌, Some, length, drop, slice_get}
 use Rattle.dds_core.specs.Answering.{TakesRows}
 use Rattle.dds_core.specs.Kept.{WriterKept}
 use Rattle.dds_core.specs.Sending.{AreMessages}
@@ -15,5 +14,6 @@ invariant-loop-row l = record {
   count : length l.rooms.items ≡ length l.fn.rooms.items;
   few : l.sent.unsent ≤ l.initial.sent.unsent + 256 * l.row;
   messages : AreMessages l.initial.sent.packets.items → AreMessages l.sent.packets.items;
-  room : vec_len l.moves + length l.fn.rooms.items ≤ vec_capacity l.moves + l.row;
+  room : length l.fn.rooms.items ≤ l.moves.room + l.row;
+  twice : l.moves.twice ≡ l.initial.moves.twice;
 }

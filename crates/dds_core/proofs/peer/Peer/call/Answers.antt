@@ -1,5 +1,6 @@
 use Rattle.std.proofs.Common.{refl}
 use Rattle.dds_core.proofs.AnyTests.{called, plainly_called}
+use Rattle.dds_core.proofs.Twice.{plain_twin}
 use Rattle.dds_core.proofs.peer.Peer.call.Goals as goal
 
 pub returns-in-Register-clause-step : goal.returns-in-Register-clause-step
@@ -111,3 +112,75 @@ returns-in-SetEnabledStatuses-clause-step g c =
 pub returns-in-GetStatusChanges-clause-step : goal.returns-in-GetStatusChanges-clause-step
 returns-in-GetStatusChanges-clause-step g c =
     plainly_called _ _ _ _ _ _ c.in-GetStatusChanges.is c.get_status_changes.ensures.step refl
+
+pub returns-in-Register-clause-twin : goal.returns-in-Register-clause-twin
+returns-in-Register-clause-twin g c = plain_twin c.args.twin.now c.register.result.reply c.register.ensures.plain
+
+pub returns-in-Write-clause-twin : goal.returns-in-Write-clause-twin
+returns-in-Write-clause-twin g c = plain_twin c.args.twin.now c.write.result.reply c.write.ensures.plain
+
+pub returns-in-Dispose-clause-twin : goal.returns-in-Dispose-clause-twin
+returns-in-Dispose-clause-twin g c = plain_twin c.args.twin.now c.dispose.result.reply c.dispose.ensures.plain
+
+pub returns-in-Unregister-clause-twin : goal.returns-in-Unregister-clause-twin
+returns-in-Unregister-clause-twin g c = plain_twin c.args.twin.now c.unregister.result.reply c.unregister.ensures.plain
+
+pub returns-in-AssertLiveliness-clause-twin : goal.returns-in-AssertLiveliness-clause-twin
+returns-in-AssertLiveliness-clause-twin g c = plain_twin c.args.twin.now c.assert_liveliness.result.reply c.assert_liveliness.ensures.plain
+
+pub returns-in-GetKeyValue-clause-twin : goal.returns-in-GetKeyValue-clause-twin
+returns-in-GetKeyValue-clause-twin g c = plain_twin c.args.twin.now c.get_key_value.result.reply c.get_key_value.ensures.plain
+
+pub returns-in-LookupInstance-clause-twin : goal.returns-in-LookupInstance-clause-twin
+returns-in-LookupInstance-clause-twin g c = plain_twin c.args.twin.now c.lookup_instance.result.reply c.lookup_instance.ensures.plain
+
+pub returns-in-GetSampleLost-clause-twin : goal.returns-in-GetSampleLost-clause-twin
+returns-in-GetSampleLost-clause-twin g c = plain_twin c.args.twin.now c.get_sample_lost.result.reply c.get_sample_lost.ensures.plain
+
+pub returns-in-GetLivelinessChanged-clause-twin : goal.returns-in-GetLivelinessChanged-clause-twin
+returns-in-GetLivelinessChanged-clause-twin g c = plain_twin c.args.twin.now c.get_liveliness_changed.result.reply c.get_liveliness_changed.ensures.plain
+
+pub returns-in-GetLivelinessLost-clause-twin : goal.returns-in-GetLivelinessLost-clause-twin
+returns-in-GetLivelinessLost-clause-twin g c = plain_twin c.args.twin.now c.get_liveliness_lost.result.reply c.get_liveliness_lost.ensures.plain
+
+pub returns-in-CreateReadCondition-clause-twin : goal.returns-in-CreateReadCondition-clause-twin
+returns-in-CreateReadCondition-clause-twin g c = plain_twin c.args.twin.now c.create_read_condition.result.reply c.create_read_condition.ensures.plain
+
+pub returns-in-CreateQueryCondition-clause-twin : goal.returns-in-CreateQueryCondition-clause-twin
+returns-in-CreateQueryCondition-clause-twin g c = plain_twin c.args.twin.now c.create_query_condition.result.reply c.create_query_condition.ensures.plain
+
+pub returns-in-CreateGuardCondition-clause-twin : goal.returns-in-CreateGuardCondition-clause-twin
+returns-in-CreateGuardCondition-clause-twin g c = plain_twin c.args.twin.now c.create_guard_condition.result.reply c.create_guard_condition.ensures.plain
+
+pub returns-in-SetTriggerValue-clause-twin : goal.returns-in-SetTriggerValue-clause-twin
+returns-in-SetTriggerValue-clause-twin g c = plain_twin c.args.twin.now c.set_trigger_value.result.reply c.set_trigger_value.ensures.plain
+
+pub returns-in-DeleteCondition-clause-twin : goal.returns-in-DeleteCondition-clause-twin
+returns-in-DeleteCondition-clause-twin g c = plain_twin c.args.twin.now c.delete_condition.result.reply c.delete_condition.ensures.plain
+
+pub returns-in-GetTriggerValue-clause-twin : goal.returns-in-GetTriggerValue-clause-twin
+returns-in-GetTriggerValue-clause-twin g c = plain_twin c.args.twin.now c.get_trigger_value.result.reply c.get_trigger_value.ensures.plain
+
+pub returns-in-CreateWaitSet-clause-twin : goal.returns-in-CreateWaitSet-clause-twin
+returns-in-CreateWaitSet-clause-twin g c = plain_twin c.args.twin.now c.create_wait_set.result.reply c.create_wait_set.ensures.plain
+
+pub returns-in-DeleteWaitSet-clause-twin : goal.returns-in-DeleteWaitSet-clause-twin
+returns-in-DeleteWaitSet-clause-twin g c = plain_twin c.args.twin.now c.delete_wait_set.result.reply c.delete_wait_set.ensures.plain
+
+pub returns-in-AttachCondition-clause-twin : goal.returns-in-AttachCondition-clause-twin
+returns-in-AttachCondition-clause-twin g c = plain_twin c.args.twin.now c.attach_condition.result.reply c.attach_condition.ensures.plain
+
+pub returns-in-DetachCondition-clause-twin : goal.returns-in-DetachCondition-clause-twin
+returns-in-DetachCondition-clause-twin g c = plain_twin c.args.twin.now c.detach_condition.result.reply c.detach_condition.ensures.plain
+
+pub returns-in-WaitBegin-clause-twin : goal.returns-in-WaitBegin-clause-twin
+returns-in-WaitBegin-clause-twin g c = plain_twin c.args.twin.now c.wait_begin.result.reply c.wait_begin.ensures.plain
+
+pub returns-in-WaitEnd-clause-twin : goal.returns-in-WaitEnd-clause-twin
+returns-in-WaitEnd-clause-twin g c = plain_twin c.args.twin.now c.wait_end.result.reply c.wait_end.ensures.plain
+
+pub returns-in-SetEnabledStatuses-clause-twin : goal.returns-in-SetEnabledStatuses-clause-twin
+returns-in-SetEnabledStatuses-clause-twin g c = plain_twin c.args.twin.now c.set_enabled_statuses.result.reply c.set_enabled_statuses.ensures.plain
+
+pub returns-in-GetStatusChanges-clause-twin : goal.returns-in-GetStatusChanges-clause-twin
+returns-in-GetStatusChanges-clause-twin g c = plain_twin c.args.twin.now c.get_status_changes.result.reply c.get_status_changes.ensures.plain

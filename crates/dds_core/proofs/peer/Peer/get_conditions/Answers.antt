@@ -1,9 +1,8 @@
-use Rattle.std.proofs.Common.{◌≡◌, List, [], ◌∷◌, length, suc, true, false, arith, refl, subst}
+use Rattle.std.proofs.Common.{◌≡◌, List, [], ◌∷◌, length, suc, true, false, arith, refl}
 use Rattle.std.proofs.lemmas.Bool.{lt-ltb}
 use Rattle.dds_machine.specs.declared.call.Call.TheVariants as call
 use Rattle.dds_protocol.specs.declared.event.Event.TheVariants as event
-use Rattle.dds_core.specs.Kept.{PeerKept}
-use Rattle.dds_core.proofs.CallSteps.{Follows, follows_as, still_stands}
+use Rattle.dds_core.proofs.CallSteps.{follows_as}
 use Rattle.std.specs.Prelude.{is_some, nat_lt}
 use Rattle.dds_base.specs.Number.{at_number}
 use Rattle.dds_conditions.specs.Watched.{conditions_of, unless_there}
@@ -20,17 +19,14 @@ none-there (x ∷ xs) e =
 
 pub returns-clause-step : goal.returns-clause-step
 returns-clause-step c = λ config peer given.
-    let s = still_stands c.self.view_is given in
-    subst (λ (k : PeerKept). Follows k config peer (event.Call (call.GetConditions c.args.wait_set)) c.answered.result)
-    c.self.view_is
-    (follows_as _ config peer _ _ _ c.answered.ensures
+    follows_as _ config peer _ _ _ c.answered.ensures
     (given_in_memory (λ cs. Conditions cs) conditions_reply (λ cs. refl) (λ code. refl)
     (λ w. nat_lt 0 (length (conditions_of w c.args.wait_set)))
     (λ w. unless_there (is_some (at_number w.wait_sets c.args.wait_set)))
     (λ w. conditions_of w c.args.wait_set)
-    (λ w. w) _ _ c.conditions-conditions.result c.reply_to_conditions.result config peer s
+    (λ w. w) _ _ c.conditions-conditions.result c.reply_to_conditions.result config peer given
     (call.GetConditions c.args.wait_set) (λ dds h. h) refl c.reply_to_conditions.ensures
     (on_ok c.conditions-conditions.result refl) c.conditions-conditions.ensures.ok c.conditions-conditions.ensures.taken
     c.conditions-conditions.ensures.refused
     (λ needless. c.conditions-conditions.ensures.none (none-there _ needless))
-    (on_err c.conditions-conditions.result refl)))
+    (on_err c.conditions-conditions.result refl))

@@ -3,6 +3,7 @@ use Rattle.std.specs.Prelude.{Option, vec_capacity}
 use Rattle.dds_machine.specs.declared.reply.Move.{Move}
 use Rattle.dds_core.specs.declared.reader_end.Ready.{Ready}
 use Rattle.dds_core.specs.Kept.{PeerKept}
+use Rattle.dds_core.specs.Moved.{MovesKept}
 use Rattle.dds_core.specs.declared.sending.Announced.{Announced}
 use Rattle.dds_core.proofs.TakenSoFar.{TakesSome}
 use Rattle.dds_core.specs.Sending.{AreMessages}
@@ -22,6 +23,7 @@ loop-index-init c =
       few = omega arith;
       messages = λ h. h;
       room = omega (arith, c.requires.room);
+      twice = refl;
     }
 
 pub take_at-requires-clause-can : goal.take_at-requires-clause-can
@@ -65,13 +67,11 @@ loop-index-preserved c =
           let is : slice_get c.args.ready.items i ≡ Some (Some w.in-Some.one) =
           there ∙ ap (λ (x : Option Ready). Some x) (sym w.in-Some.ensures.value) in
           let more = w.take_at.ensures.few in
-          let len = w.take_at.ensures.len in
-          let capacity = w.take_at.ensures.capacity in
-          let long = ap (λ (m : Vec Move _). vec_len m) w.moves-is in
-          let wide = ap (λ (m : Vec Move _). vec_capacity m) w.moves-is in
+          let left = w.take_at.ensures.room in
+          let long = ap (λ (m : MovesKept). m.room) w.moves-is in
           record {
             takes =
-                of_three (λ (k : PeerKept) (m : Vec Move _) (x : Announced). TakesSome c.args.self.now
+                of_three (λ (k : PeerKept) (m : MovesKept) (x : Announced). TakesSome c.args.self.now
                 c.args.ready.items (i + 1) c.args.moves.now.items c.args.sent.now k m.items x) w.self-is w.moves-is w.sent-is
                 (takes_more c.args.self.now c.loop-index.self w.take_at.new.self c.args.ready.items i w.in-Some.one
                 c.args.moves.now.items c.loop-index.moves.items w.take_at.new.moves.items c.args.sent.now
@@ -85,16 +85,17 @@ loop-index-preserved c =
                 (w.take_at.ensures.messages (c.loop-index.invariant.messages h));
             rest = rest;
             count = count;
-            room = omega (arith, room, len, capacity, long, wide);
+            room = omega (arith, room, left, long);
+            twice = ap (λ (m : MovesKept). m.twice) w.moves-is
+                ∙ (w.take_at.ensures.twice ∙ c.loop-index.invariant.twice);
           }
       | in_default w ↦
           let none : slice_get c.args.ready.items i ≡ Some None =
           there ∙ ap (λ (x : Option Ready). Some x) (sym c.take.ensures.value ∙ w.in_default.is) in
-          let long = ap (λ (m : Vec Move _). vec_len m) w.moves-is in
-          let wide = ap (λ (m : Vec Move _). vec_capacity m) w.moves-is in
+          let long = ap (λ (m : MovesKept). m.room) w.moves-is in
           record {
             takes =
-                of_three (λ (k : PeerKept) (m : Vec Move _) (x : Announced). TakesSome c.args.self.now
+                of_three (λ (k : PeerKept) (m : MovesKept) (x : Announced). TakesSome c.args.self.now
                 c.args.ready.items (i + 1) c.args.moves.now.items c.args.sent.now k m.items x) w.self-is w.moves-is w.sent-is
                 (takes_skip c.args.self.now c.loop-index.self c.args.ready.items i c.args.moves.now.items
                 c.loop-index.moves.items c.args.sent.now c.loop-index.sent c.loop-index.invariant.takes known none);
@@ -106,7 +107,8 @@ loop-index-preserved c =
                 (c.loop-index.invariant.messages h);
             rest = rest;
             count = count;
-            room = omega (arith, room, long, wide);
+            room = omega (arith, room, long);
+            twice = ap (λ (m : MovesKept). m.twice) w.moves-is ∙ c.loop-index.invariant.twice;
           }
     ]
   where

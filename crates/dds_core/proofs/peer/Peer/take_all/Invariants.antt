@@ -1,5 +1,4 @@
-use Rattle.std.proofs.Common.{◌≡◌, ◌+◌, ◌*◌, ◌≤◌, length, drop, vec_len}
-use Rattle.std.specs.Prelude.{vec_capacity}
+use Rattle.std.proofs.Common.{◌≡◌, ◌+◌, ◌*◌, ◌≤◌, length, drop}
 use Rattle.dds_core.proofs.TakenSoFar.{TakesSome}
 use Rattle.dds_core.specs.Sending.{AreMessages}
 use Rattle.dds_core.proofs.peer.Peer.take_all.Given as goal
@@ -13,5 +12,6 @@ invariant-loop-index l = record {
   count : length l.ready.items ≡ length l.fn.ready.items;
   few : l.sent.unsent ≤ l.initial.sent.unsent + l.index;
   messages : AreMessages l.initial.sent.packets.items → AreMessages l.sent.packets.items;
-  room : vec_len l.moves + 2 * length l.fn.ready.items ≤ vec_capacity l.moves + 2 * l.index;
+  room : 2 * length l.fn.ready.items ≤ l.moves.room + 2 * l.index;
+  twice : l.moves.twice ≡ l.initial.moves.twice;
 }

@@ -19,3 +19,6 @@ returns-clause-takes c = λ k at.
     (ap (λ (q : PeerKept). with_reader q c.args.index c.take_up-step.new.self) c.self.view_is)
     c.push_moves.ensures.moved (ap (λ (q : PeerKept). q.prefix) c.self.view_is)
     (c.entity.ensures ∙ c.take_up-step.ensures.same.entity) c.send_acknack.ensures.adds
+
+pub push_moves-requires-clause-few : goal.push_moves-requires-clause-few
+push_moves-requires-clause-few c = c.take_up-step.ensures.few

@@ -10,6 +10,7 @@ returns-in_default c = record {
       (receiver_at c.args.receiver.now) c.args.submessage.now c.args.moves.now.items c.tell_readers.new.moves.items
       c.args.sent.now c.tell_readers.new.sent (λ a is. c.in_default.not-AckNack a is)
       c.tell_readers.ensures.takes;
+  twice = c.tell_readers.ensures.twice;
   keeps =
       let k = c.tell_readers.ensures.keeps in
       let few = k.few in

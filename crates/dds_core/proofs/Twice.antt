@@ -1,0 +1,285 @@
+-- What a peer answers twice: replies without lists, and packets that are left out.
+use Rattle.std.proofs.Common.{◌≡◌, ◌≢◌, ◌⊎◌, ℕ, zero, suc, ◌+◌, ◌<◌, ◌≤◌, Bool, true, false, Result, Ok, Err, List, [], ◌∷◌, ◌++◌, length, get_or, subst, ap, sym, ◌∙◌, refl, inl, inr, ⊎_elim, arith, length-append}
+use Rattle.std.specs.Prelude.{if◌then◌else◌, Contains, AllPairs}
+use Rattle.std.specs.List.{All}
+use Rattle.std.proofs.lemmas.List.{get_or_append_left, get_or_at}
+use Rattle.std.proofs.lemmas.List.Elements.{All-push, Contains-append_left, Contains-append_right, Contains-append_cases}
+use Rattle.std.proofs.lemmas.List.Kept.{AllPairs-cons}
+use Rattle.dds_base.specs.declared.change.Change.{Change}
+use Rattle.dds_base.specs.declared.code.Code.{Code}
+use Rattle.dds_base.specs.declared.config.Config.{Config}
+use Rattle.dds_base.specs.Written.{Registered, Changed, Asserted, LookedAt, Ticked}
+use Rattle.dds_machine.specs.declared.endpoint.Endpoint.{Endpoint}
+use Rattle.dds_machine.specs.declared.reply.Reply.{Reply}
+use Rattle.dds_machine.specs.declared.reply.Reply.TheVariants.{Refused, Created, Done}
+use Rattle.dds_machine.specs.Calls.{Effect, nothing, writes, effect_of}
+use Rattle.dds_machine.specs.Part.{ReaderProxy, own_writer, writer_changes, peers_of}
+use Rattle.dds_machine.specs.Watching.{Tests}
+use Rattle.dds_notices.specs.declared.notice.Notice.{Notice}
+use Rattle.dds_protocol.specs.declared.event.Event.{Event}
+use Rattle.dds_protocol.specs.declared.event.Event.TheVariants as event
+use Rattle.dds_protocol.specs.declared.event.Output.{Output}
+use Rattle.dds_protocol.specs.declared.event.Packet.{Packet}
+use Rattle.dds_protocol.specs.DueMessages.{Due, AreSent, assertions_due, changes_due}
+use Rattle.dds_protocol.specs.Noticing.{peer_at_end}
+use Rattle.dds_protocol.specs.Peer.{Peer, PeerStep, EventStep}
+use Rattle.dds_core.specs.declared.twin.Twin.{Twin}
+use Rattle.dds_core.specs.declared.twin.Twin.TheVariants.{Unasked, Asked, Kept}
+use Rattle.dds_core.specs.Kept.{PeerKept}
+use Rattle.dds_core.specs.Listening.{CoreKept, Steps}
+use Rattle.dds_core.specs.Sending.{AreMessages, Sends, SendsChange, SendsFor, SendsNothing, due_at_tick}
+use Rattle.dds_core.specs.Standing.{KeepsRules, StandsFor}
+use Rattle.dds_core.specs.Twins.{AreLeft, IsPlain, IsTwin, Leaves, Loses, is_asked}
+use Rattle.dds_core.specs.Watching.{done_reply, made_reply}
+
+-- ---- replies without lists
+
+-- a reply without a list needs nothing once more
+pub plain_twin : (twin : Twin) (reply : Reply) → IsPlain reply → is_asked twin ≡ true → IsTwin twin reply
+plain_twin Unasked reply plain asked = absurd (let clash : false ≡ true = asked in cc)
+plain_twin Asked reply plain asked = plain
+plain_twin (Kept again) reply plain asked = absurd (let clash : false ≡ true = asked in cc)
+
+-- an answer of such a reply
+pub answered_plain : (output : Output) (reply : Reply) → output ≡ record { reply = reply; packets = []; unsent = 0 }
+    → IsPlain reply → IsPlain output.reply
+answered_plain output reply is plain = subst (λ (r : Reply). IsPlain r) (sym (ap (λ (o : Output). o.reply) is)) plain
+
+pub done_plain : (done : Result (Unit {0}) Code) → IsPlain (done_reply done)
+done_plain (Ok done) = tt
+done_plain (Err code) = tt
+
+pub made_plain : (made : Result ℕ Code) → IsPlain (made_reply made)
+made_plain (Ok number) = tt
+made_plain (Err code) = tt
+
+-- ---- lists of which any two elements differ
+
+last_apart : (R : Packet → Packet → Type 0) (qs : List Packet) (p : Packet) → AllPairs R (qs ++ p ∷ []) → (x : Packet)
+    → Contains qs x → R x p
+last_apart R qs p all x c =
+    let total = length-append qs (p ∷ []) in
+    let within : length qs < length (qs ++ p ∷ []) = omega (arith, total) in
+    let here : get_or (qs ++ p ∷ []) c.0 x ≡ x = get_or_append_left qs (p ∷ []) x c.0 c.1 ∙ c.2 in
+    let last : get_or (qs ++ p ∷ []) (length qs) x ≡ p = get_or_at qs p [] x (length qs) refl in
+    subst (λ (y : Packet). R y p) here
+    (subst (λ (y : Packet). R (get_or (qs ++ p ∷ []) c.0 x) y) last (all c.0 (length qs) x c.1 within))
+
+front_apart : (R : Packet → Packet → Type 0) (qs : List Packet) (p : Packet) → AllPairs R (qs ++ p ∷ []) → AllPairs R qs
+front_apart R qs p all i j d lt within =
+    let total = length-append qs (p ∷ []) in
+    let low : i < length qs = omega (arith, lt, within) in
+    let here : get_or (qs ++ p ∷ []) i d ≡ get_or qs i d = get_or_append_left qs (p ∷ []) d i low in
+    let there : get_or (qs ++ p ∷ []) j d ≡ get_or qs j d = get_or_append_left qs (p ∷ []) d j within in
+    subst (λ (y : Packet). R y (get_or qs j d)) here
+    (subst (λ (y : Packet). R (get_or (qs ++ p ∷ []) i d) y) there (all i j d lt (omega (arith, within, total))))
+
+more_apart : (R : Packet → Packet → Type 0) (ps : List Packet) (p : Packet) → AllPairs R ps
+    → ((x : Packet) → Contains ps x → R x p) → AllPairs R (ps ++ p ∷ [])
+more_apart R [] p all each = λ i j d lt within. absurd (omega (arith, lt, within))
+more_apart R (x ∷ ps) p all each =
+    let first : All (R x) ps = λ k d lt. all 0 (suc k) d (omega arith) (omega (arith, lt)) in
+    let rest : AllPairs R ps = λ i j d lt within. all (suc i) (suc j) d (omega (arith, lt)) (omega (arith, within)) in
+    AllPairs-cons R x (ps ++ p ∷ []) (All-push (R x) ps p first (each x (0, omega arith, refl)))
+    (more_apart R ps p rest (λ y c. each y (suc c.0, omega (arith, c.1), c.2)))
+
+-- ---- packets that are left
+
+-- of no packets none are left out
+pub leaves_none : Leaves [] []
+leaves_none = record { lost = 0; are_left = (refl, refl); of_packets = λ p c. c; fewer = omega arith; different = λ d. d }
+
+one_left : (packets left : List Packet) (packet : Packet) (lost : ℕ) → AreLeft packets left lost
+    → AreLeft (packets ++ packet ∷ []) (left ++ packet ∷ []) lost
+one_left [] left packet lost h = inl ([], ap (λ (ps : List Packet). ps ++ packet ∷ []) h.0, (refl, h.1))
+one_left (p ∷ ps) left packet lost (inl f) =
+    inl (f.0 ++ packet ∷ [], ap (λ (xs : List Packet). xs ++ packet ∷ []) f.1, one_left ps f.0 packet lost f.2)
+one_left (p ∷ ps) left packet lost (inr g) = inr (g.0, g.1, one_left ps left packet g.0 g.2)
+
+one_lost : (packets left : List Packet) (packet : Packet) (lost : ℕ) → AreLeft packets left lost
+    → AreLeft (packets ++ packet ∷ []) left (lost + 1)
+one_lost [] left packet lost h = inr (lost, refl, h)
+one_lost (p ∷ ps) left packet lost (inl f) = inl (f.0, f.1, one_lost ps f.0 packet lost f.2)
+one_lost (p ∷ ps) left packet lost (inr g) =
+    inr (
+      lost,
+      refl,
+      subst (λ (n : ℕ). AreLeft (ps ++ packet ∷ []) left n) (sym g.1) (one_lost ps left packet g.0 g.2),
+    )
+
+-- one more packet is left, or lost
+pub leaves_more : (packets left new : List Packet) (packet : Packet) (b : Bool) → Leaves packets left
+    → new ≡ (if b then left ++ packet ∷ [] else left) → Leaves (packets ++ packet ∷ []) new
+leaves_more packets left new packet true h is =
+    let count = length-append left (packet ∷ []) in
+    let total = length-append packets (packet ∷ []) in
+    let fewer = h.fewer in
+    subst (λ (ps : List Packet). Leaves (packets ++ packet ∷ []) ps) (sym is) (record {
+      lost = h.lost;
+      are_left = one_left packets left packet h.lost h.are_left;
+      of_packets =
+          λ p c. ⊎_elim (λ o. Contains-append_left packets (packet ∷ []) p (h.of_packets p o))
+          (λ o. Contains-append_right packets (packet ∷ []) p o) (Contains-append_cases left (packet ∷ []) p c);
+      fewer = omega (arith, count, total, fewer);
+      different = λ d.
+          more_apart (λ (a b : Packet). a.to ≢ b.to) left packet
+          (h.different (front_apart (λ (a b : Packet). a.to ≢ b.to) packets packet d))
+          (λ x c. last_apart (λ (a b : Packet). a.to ≢ b.to) packets packet d x (h.of_packets x c));
+    })
+leaves_more packets left new packet false h is =
+    let total = length-append packets (packet ∷ []) in
+    let fewer = h.fewer in
+    subst (λ (ps : List Packet). Leaves (packets ++ packet ∷ []) ps) (sym is) (record {
+      lost = h.lost + 1;
+      are_left = one_lost packets left packet h.lost h.are_left;
+      of_packets = λ p c. Contains-append_left packets (packet ∷ []) p (h.of_packets p c);
+      fewer = omega (arith, total, fewer);
+      different = λ d. h.different (front_apart (λ (a b : Packet). a.to ≢ b.to) packets packet d);
+    })
+
+pub left_count : (packets left : List Packet) (lost : ℕ) → AreLeft packets left lost → length left + lost ≡ length packets
+left_count [] left lost h =
+    let first = ap (λ (ps : List Packet). length ps) h.0 in let second = h.1 in omega (arith, first, second)
+left_count (p ∷ ps) left lost (inl f) =
+    let first = ap (λ (xs : List Packet). length xs) f.1 in let later = left_count ps f.0 lost f.2 in
+    omega (arith, first, later)
+left_count (p ∷ ps) left lost (inr g) =
+    let fewer = g.1 in let later = left_count ps left g.0 g.2 in omega (arith, fewer, later)
+
+-- how many were lost
+lost_is : (packets left : List Packet) (lost : ℕ) (leaves : Leaves packets left)
+    → length left + lost ≡ length packets → lost ≡ leaves.lost
+lost_is packets left lost leaves counted =
+    let all = left_count packets left leaves.lost leaves.are_left in omega (arith, all, counted)
+
+-- an output with what is left
+pub loses : (output : Output) (packets left given : List Packet) (lost : ℕ) → given ≡ output.packets → packets ≡ left
+    → Leaves given left → length left + lost ≡ length given
+    → Loses output (record { reply = output.reply; packets = packets; unsent = output.unsent + lost })
+loses output packets left given lost same is leaves counted =
+    let here : Leaves output.packets packets =
+    subst (λ (ps : List Packet). Leaves ps packets) same
+    (subst (λ (ps : List Packet). Leaves given ps) (sym is) leaves) in
+    let count : length packets + lost ≡ length output.packets =
+    ap (λ (ps : List Packet). length ps + lost) is ∙ (counted ∙ ap (λ (ps : List Packet). length ps) same) in
+    record {
+      reply = refl;
+      leaves = here;
+      unsent = ap (λ (n : ℕ). output.unsent + n) (lost_is output.packets packets lost here count);
+    }
+
+-- what of no packets is left
+left_none : (packets left : List Packet) (lost : ℕ) → packets ≡ [] → AreLeft packets left lost
+    → (left ≡ []) × (lost ≡ 0)
+left_none packets left lost none h = subst (λ (ps : List Packet). AreLeft ps left lost) none h
+
+-- of what is sent for these messages, some are left
+left_sent : (dues : List Due) (packets left : List Packet) (unsent lost : ℕ) → AreSent dues packets unsent
+    → AreLeft packets left lost → AreSent dues left (unsent + lost)
+left_sent [] packets left unsent lost h p =
+    let none = left_none packets left lost h.0 p in
+    let first = h.1 in
+    let second = none.1 in
+    (none.0, omega (arith, first, second))
+left_sent (due ∷ dues) packets left unsent lost (inl f) p =
+    ⊎_elim (λ k. inl (k.0, k.1, f.2, left_sent dues f.0 k.0 unsent lost f.3 k.2))
+    (λ k. let fewer = k.1 in inr (unsent + k.0, omega (arith, fewer), left_sent dues f.0 left unsent k.0 f.3 k.2))
+    (subst (λ (ps : List Packet). AreLeft ps left lost) f.1 p)
+left_sent (due ∷ dues) packets left unsent lost (inr g) p =
+    let fewer = g.1 in inr (g.0 + lost, omega (arith, fewer), left_sent dues packets left g.0 lost g.2 p)
+
+-- ---- outputs of whose packets some are lost
+
+-- what is sent for these messages is sent, but for what is lost
+dues_sent : (dues : List Due) (output less : Output) → Loses output less
+    → AreSent dues output.packets output.unsent → AreSent dues less.packets less.unsent
+dues_sent dues output less l are =
+    subst (λ (n : ℕ). AreSent dues less.packets n) (sym l.unsent)
+    (left_sent dues output.packets less.packets output.unsent l.leaves.lost are l.leaves.are_left)
+
+nothing_sent : (output less : Output) → Loses output less → SendsNothing output → SendsNothing less
+nothing_sent output less l none =
+    let left = left_none output.packets less.packets l.leaves.lost none.packets l.leaves.are_left in
+    let first = l.unsent in
+    let second = none.unsent in
+    let third = left.1 in
+    record { packets = left.0; unsent = omega (arith, first, second, third) }
+
+change_sent : (config : Config) (writer : Endpoint) (readers : List ReaderProxy) (number : ℕ) (change : Change)
+    (output less : Output) → Loses output less → SendsChange config writer readers number change output
+    → SendsChange config writer readers number change less
+change_sent config writer readers number change output less l one =
+    let count = left_count output.packets less.packets l.leaves.lost l.leaves.are_left in
+    let unsent = l.unsent in
+    let all = one.counted in
+    record {
+      counted = omega (arith, count, unsent, all);
+      are_sent = dues_sent (changes_due config writer readers number change) output less l one.are_sent;
+      to_peers = λ packet m. one.to_peers packet (l.leaves.of_packets packet m);
+      says = λ packet reader m same matched. one.says packet reader (l.leaves.of_packets packet m) same matched;
+      different = l.leaves.different one.different;
+    }
+
+effect_sent : (config : Config) (peer : Peer) (effect : Effect) (output less : Output) → Loses output less
+    → SendsFor config peer effect output → SendsFor config peer effect less
+effect_sent config peer (writes w (Changed change)) output less l one =
+    change_sent config (record { peer = peer.number; number = w }) (own_writer peer.part w).readers
+    (length (writer_changes (own_writer peer.part w)) + 1) change output less l one
+effect_sent config peer (writes w (Registered key)) output less l none = nothing_sent output less l none
+effect_sent config peer (writes w (Asserted moment)) output less l are =
+    dues_sent (assertions_due config (record { peer = peer.number; number = w }) (own_writer peer.part w))
+    output less l are
+effect_sent config peer (writes w LookedAt) output less l none = nothing_sent output less l none
+effect_sent config peer (writes w (Ticked now behind)) output less l none = nothing_sent output less l none
+effect_sent config peer nothing output less l none = nothing_sent output less l none
+
+-- what goes out at an event
+pub loses_sends : (old : PeerKept) (e : Event) (output less : Output) → Loses output less → Sends old e output
+    → Sends old e less
+loses_sends old (event.Call call) output less l sends = λ config peer given.
+    subst (λ (r : Reply). SendsFor config peer (effect_of peer.part call r) less) (sym l.reply)
+    (effect_sent config peer (effect_of peer.part call output.reply) output less l (sends config peer given))
+loses_sends old (event.Tick now) output less l sends = λ config peer given.
+    subst (λ (r : Reply). AreSent (due_at_tick config peer r) less.packets less.unsent) (sym l.reply)
+    (dues_sent (due_at_tick config peer output.reply) output less l (sends config peer given))
+loses_sends old (event.Deliver packet) output less l sends = tt
+
+pub loses_messages : (output less : Output) → Loses output less → AreMessages output.packets → AreMessages less.packets
+loses_messages output less l messages = λ packet m. messages packet (l.leaves.of_packets packet m)
+
+loses_step : (config : Config) (tests : Tests) (old : Peer) (e : Event) (output less : Output) (new : Peer)
+    → Loses output less → PeerStep config tests old e output new → PeerStep config tests old e less new
+loses_step config tests old e output less new l s = record {
+  same_number = s.same_number;
+  knows = s.knows;
+  step = subst (λ (r : Reply). EventStep config tests old e r new) (sym l.reply) s.step;
+  sent = λ packet claim m claims. s.sent packet claim (l.leaves.of_packets packet m) claims;
+}
+
+loses_rules : (config : Config) (old : Peer) (e : Event) (output less : Output) (new : Peer) → Loses output less
+    → KeepsRules config old e output new → KeepsRules config old e less new
+loses_rules config old (event.Call call) output less new l k = tt
+loses_rules config old (event.Tick now) output less new l k = tt
+loses_rules config old (event.Deliver packet) output less new l k = record {
+  report = k.report;
+  reply = l.reply ∙ k.reply;
+  dues = k.dues;
+  takes = k.takes;
+  sent = dues_sent k.dues output less l k.sent;
+}
+
+-- the step is one with what is left
+pub loses_steps : {F L : Type 0} (notices : L → List Notice) (capacity : L → ℕ) (becomes : L → Notice → L → Type 0)
+    (tests : Tests) (old : CoreKept F L) (e : Event) (output less : Output) (new : CoreKept F L) → Loses output less
+    → Steps notices capacity becomes tests old e output new → Steps notices capacity becomes tests old e less new
+loses_steps notices capacity becomes tests old e output less new l s = record {
+  step = λ given config peer stands sound.
+      let k = s.step given config peer stands sound in (
+        k.0,
+        loses_step config tests peer e output less k.0 l k.1,
+        loses_rules config peer e output less k.0 l k.2,
+        k.3,
+        k.4,
+      );
+  filters = s.filters;
+}
