@@ -1,19 +1,17 @@
 -- What a peer answers twice: replies without lists, and packets that are left out.
-use Rattle.std.proofs.Common.{◌≡◌, ◌≢◌, ◌⊎◌, ℕ, zero, suc, ◌+◌, ◌<◌, ◌≤◌, Bool, true, false, Result, Ok, Err, List, [], ◌∷◌, ◌++◌, length, get_or, subst, ap, sym, ◌∙◌, refl, inl, inr, ⊎_elim, arith, length-append}
+use Rattle.std.proofs.Common.{◌≡◌, ◌≢◌, ℕ, suc, ◌+◌, ◌<◌, Bool, true, false, List, [], ◌∷◌, ◌++◌, length, get_or, subst, ap, sym, ◌∙◌, refl, inl, inr, ⊎_elim, arith, length-append}
 use Rattle.std.specs.Prelude.{if◌then◌else◌, Contains, AllPairs}
 use Rattle.std.specs.List.{All}
 use Rattle.std.proofs.lemmas.List.{get_or_append_left, get_or_at}
 use Rattle.std.proofs.lemmas.List.Elements.{All-push, Contains-append_left, Contains-append_right, Contains-append_cases}
 use Rattle.std.proofs.lemmas.List.Kept.{AllPairs-cons}
 use Rattle.dds_base.specs.declared.change.Change.{Change}
-use Rattle.dds_base.specs.declared.code.Code.{Code}
 use Rattle.dds_base.specs.declared.config.Config.{Config}
 use Rattle.dds_base.specs.Written.{Registered, Changed, Asserted, LookedAt, Ticked}
 use Rattle.dds_machine.specs.declared.endpoint.Endpoint.{Endpoint}
 use Rattle.dds_machine.specs.declared.reply.Reply.{Reply}
-use Rattle.dds_machine.specs.declared.reply.Reply.TheVariants.{Refused, Created, Done}
 use Rattle.dds_machine.specs.Calls.{Effect, nothing, writes, effect_of}
-use Rattle.dds_machine.specs.Part.{ReaderProxy, own_writer, writer_changes, peers_of}
+use Rattle.dds_machine.specs.Part.{ReaderProxy, own_writer, writer_changes}
 use Rattle.dds_machine.specs.Watching.{Tests}
 use Rattle.dds_notices.specs.declared.notice.Notice.{Notice}
 use Rattle.dds_protocol.specs.declared.event.Event.{Event}
@@ -21,16 +19,14 @@ use Rattle.dds_protocol.specs.declared.event.Event.TheVariants as event
 use Rattle.dds_protocol.specs.declared.event.Output.{Output}
 use Rattle.dds_protocol.specs.declared.event.Packet.{Packet}
 use Rattle.dds_protocol.specs.DueMessages.{Due, AreSent, assertions_due, changes_due}
-use Rattle.dds_protocol.specs.Noticing.{peer_at_end}
 use Rattle.dds_protocol.specs.Peer.{Peer, PeerStep, EventStep}
 use Rattle.dds_core.specs.declared.twin.Twin.{Twin}
 use Rattle.dds_core.specs.declared.twin.Twin.TheVariants.{Unasked, Asked, Kept}
 use Rattle.dds_core.specs.Kept.{PeerKept}
 use Rattle.dds_core.specs.Listening.{CoreKept, Steps}
 use Rattle.dds_core.specs.Sending.{AreMessages, Sends, SendsChange, SendsFor, SendsNothing, due_at_tick}
-use Rattle.dds_core.specs.Standing.{KeepsRules, StandsFor}
+use Rattle.dds_core.specs.Standing.{KeepsRules}
 use Rattle.dds_core.specs.Twins.{AreLeft, IsPlain, IsTwin, Leaves, Loses, is_asked}
-use Rattle.dds_core.specs.Watching.{done_reply, made_reply}
 
 -- ---- replies without lists
 
@@ -39,19 +35,6 @@ pub plain_twin : (twin : Twin) (reply : Reply) → IsPlain reply → is_asked tw
 plain_twin Unasked reply plain asked = absurd (let clash : false ≡ true = asked in cc)
 plain_twin Asked reply plain asked = plain
 plain_twin (Kept again) reply plain asked = absurd (let clash : false ≡ true = asked in cc)
-
--- an answer of such a reply
-pub answered_plain : (output : Output) (reply : Reply) → output ≡ record { reply = reply; packets = []; unsent = 0 }
-    → IsPlain reply → IsPlain output.reply
-answered_plain output reply is plain = subst (λ (r : Reply). IsPlain r) (sym (ap (λ (o : Output). o.reply) is)) plain
-
-pub done_plain : (done : Result (Unit {0}) Code) → IsPlain (done_reply done)
-done_plain (Ok done) = tt
-done_plain (Err code) = tt
-
-pub made_plain : (made : Result ℕ Code) → IsPlain (made_reply made)
-made_plain (Ok number) = tt
-made_plain (Err code) = tt
 
 -- ---- lists of which any two elements differ
 
@@ -137,7 +120,7 @@ leaves_more packets left new packet false h is =
       different = λ d. h.different (front_apart (λ (a b : Packet). a.to ≢ b.to) packets packet d);
     })
 
-pub left_count : (packets left : List Packet) (lost : ℕ) → AreLeft packets left lost → length left + lost ≡ length packets
+left_count : (packets left : List Packet) (lost : ℕ) → AreLeft packets left lost → length left + lost ≡ length packets
 left_count [] left lost h =
     let first = ap (λ (ps : List Packet). length ps) h.0 in let second = h.1 in omega (arith, first, second)
 left_count (p ∷ ps) left lost (inl f) =

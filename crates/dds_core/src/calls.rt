@@ -35,18 +35,12 @@ impl Peer {
             Call::Dispose { writer, key } => self.dispose(writer, key),
             Call::Unregister { writer, key } => self.unregister(writer, key),
             Call::AssertLiveliness { writer } => self.assert_liveliness(writer),
-            Call::Read { reader, selection } => self.access(
-                AccessKind::Read,
-                reader,
-                selection,
-                twin,
-            ),
-            Call::Take { reader, selection } => self.access(
-                AccessKind::Take,
-                reader,
-                selection,
-                twin,
-            ),
+            Call::Read { reader, selection } => {
+                self.access(AccessKind::Read, reader, selection, twin)
+            }
+            Call::Take { reader, selection } => {
+                self.access(AccessKind::Take, reader, selection, twin)
+            }
             Call::GetKeyValue { reader, instance } => self.get_key_value(reader, instance),
             Call::LookupInstance { reader, key } => self.lookup_instance(reader, key),
             Call::GetSampleLost { reader } => self.get_sample_lost(reader),
@@ -56,26 +50,16 @@ impl Peer {
                 reader,
                 scope,
                 condition,
-            } => self.access_by_condition(
-                filters,
-                AccessKind::Read,
-                reader,
-                scope,
-                condition,
-                twin,
-            ),
+            } => {
+                self.access_by_condition(filters, AccessKind::Read, reader, scope, condition, twin)
+            }
             Call::TakeByCondition {
                 reader,
                 scope,
                 condition,
-            } => self.access_by_condition(
-                filters,
-                AccessKind::Take,
-                reader,
-                scope,
-                condition,
-                twin,
-            ),
+            } => {
+                self.access_by_condition(filters, AccessKind::Take, reader, scope, condition, twin)
+            }
             Call::CreateReadCondition { reader, masks } => {
                 self.create_read_condition(reader, masks)
             }

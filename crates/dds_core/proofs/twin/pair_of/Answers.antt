@@ -1,6 +1,3 @@
-use Rattle.std.proofs.Common.{◌+◌, ℕ, List, refl, subst, sym, ap, ◌∙◌}
-use Rattle.dds_protocol.specs.declared.event.Packet.{Packet}
-use Rattle.dds_core.specs.Twins.{Leaves}
 use Rattle.dds_core.proofs.Twice.{loses}
 use Rattle.dds_core.proofs.twin.pair_of.Goals as goal
 

@@ -1,7 +1,6 @@
-use Rattle.std.proofs.Common.{◌≡◌, ◌+◌, ◌*◌, ◌<◌, ◌≤◌, ℕ, Some, None, Vec, length, slice_get, refl, sym, ◌∙◌, ap, subst, arith, rules, length-set, vec_len}
-use Rattle.std.specs.Prelude.{Option, vec_capacity}
+use Rattle.std.proofs.Common.{◌≡◌, ◌+◌, ◌*◌, ◌<◌, ◌≤◌, ℕ, Some, None, length, slice_get, refl, sym, ◌∙◌, ap, subst, arith, rules, length-set}
+use Rattle.std.specs.Prelude.{Option}
 use Rattle.std.proofs.lemmas.Option.{same_Some}
-use Rattle.dds_machine.specs.declared.reply.Move.{Move}
 use Rattle.dds_core.specs.declared.answering.Room.{Room}
 use Rattle.dds_core.specs.declared.sending.Announced.{Announced}
 use Rattle.dds_core.specs.Answering.{TakesRows}

@@ -1,7 +1,6 @@
 use Rattle.std.proofs.Common.{◌≡◌, List, [], ◌∷◌, length, suc, true, false, arith, refl}
 use Rattle.std.proofs.lemmas.Bool.{lt-ltb}
 use Rattle.dds_machine.specs.declared.call.Call.TheVariants as call
-use Rattle.dds_protocol.specs.declared.event.Event.TheVariants as event
 use Rattle.dds_core.proofs.CallSteps.{follows_as}
 use Rattle.std.specs.Prelude.{is_some, nat_lt}
 use Rattle.dds_base.specs.Number.{at_number}

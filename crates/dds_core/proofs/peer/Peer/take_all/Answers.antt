@@ -1,6 +1,5 @@
-use Rattle.std.proofs.Common.{◌≡◌, ◌+◌, ◌<◌, ◌≤◌, ℕ, List, Some, None, length, slice_get, refl, sym, ◌∙◌, ap, subst, arith, rules, length-set, vec_len, Vec}
-use Rattle.std.specs.Prelude.{Option, vec_capacity}
-use Rattle.dds_machine.specs.declared.reply.Move.{Move}
+use Rattle.std.proofs.Common.{◌≡◌, ◌+◌, ◌<◌, ◌≤◌, ℕ, List, Some, None, length, slice_get, refl, sym, ◌∙◌, ap, subst, arith, rules, length-set}
+use Rattle.std.specs.Prelude.{Option}
 use Rattle.dds_core.specs.declared.reader_end.Ready.{Ready}
 use Rattle.dds_core.specs.Kept.{PeerKept}
 use Rattle.dds_core.specs.Moved.{MovesKept}

@@ -1,4 +1,4 @@
-use Rattle.std.proofs.Common.{◌≡◌, ◌+◌, ◌<◌, Some, None, List, ◌∷◌, length, drop, get_or, subst, ap, sym, ◌∙◌, refl, arith}
+use Rattle.std.proofs.Common.{◌≡◌, ◌+◌, ◌<◌, Some, List, ◌∷◌, length, drop, get_or, subst, ap, sym, ◌∙◌, refl, arith}
 use Rattle.std.specs.Prelude.{ℕ}
 use Rattle.std.proofs.lemmas.Option.{slice_get-get_or}
 use Rattle.dds_base.specs.declared.guid.GuidPrefix.{GuidPrefix}
