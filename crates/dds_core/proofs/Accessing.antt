@@ -41,7 +41,8 @@ use Rattle.dds_core.specs.declared.matching.WriterName.{WriterName}
 use Rattle.rtps_reader.specs.Reader.{Proxies, Tracks}
 use Rattle.rtps_reader.specs.Tracked.{Tracked}
 use Rattle.dds_lease.specs.Standing.{Kept as Leased, StandsFor as LeasesStandFor}
-use Rattle.dds_core.specs.Stored.{StoreKept, Holds}
+use Rattle.dds_core.specs.Stored.{StoreKept}
+use Rattle.dds_core.specs.Storing.{Holds}
 use Rattle.dds_machine.specs.declared.endpoint.Endpoint.{Endpoint}
 use Rattle.dds_core.proofs.Rows.{writers_of}
 use Rattle.dds_core.specs.Kept.{ReaderKept, PeerKept}

@@ -18,7 +18,7 @@ use Rattle.dds_machine.specs.Part.{Part, own_reader}
 use Rattle.dds_protocol.specs.Peer.{Peer}
 use Rattle.dds_core.specs.Kept.{ReaderKept, PeerKept}
 use Rattle.dds_core.specs.Standing.{StandsFor}
-use Rattle.dds_core.specs.Stored.{Holds}
+use Rattle.dds_core.specs.Storing.{Holds}
 use Rattle.dds_core.proofs.CallSteps.{Follows, answered_as, unchanging_call, there_is}
 use Rattle.dds_core.proofs.Taking.{silent}
 

@@ -24,7 +24,8 @@ use Rattle.dds_core.specs.Expiring.{AllExpire, Expires, HasRoomForDeaths, HaveRo
 use Rattle.dds_core.specs.Kept.{ReaderKept}
 use Rattle.dds_core.specs.Identity.{ReaderIdentity, reader_identity}
 use Rattle.dds_core.specs.Standing.{ReaderStands, ReadersStand}
-use Rattle.dds_core.specs.Stored.{StoreKept, Holds}
+use Rattle.dds_core.specs.Stored.{StoreKept}
+use Rattle.dds_core.specs.Storing.{Holds}
 use Rattle.dds_core.proofs.Lists.{get-within}
 use Rattle.dds_core.proofs.Ready.{partner, set-cases}
 

@@ -31,7 +31,7 @@ use Rattle.dds_core.specs.Kept.{PeerKept}
 use Rattle.dds_core.specs.Listening.{Adds, CoreKept, RefusesFilter, RefusesListener, Sets, StandsFor, Steps, no_listeners}
 use Rattle.dds_core.specs.Noticing.{AreMarksOf, MarksPeer, Tells}
 use Rattle.dds_core.specs.Opening.{opening_peer}
-use Rattle.dds_core.specs.Standing.{IsSound}
+use Rattle.dds_core.specs.Ruling.{IsSound}
 use Rattle.dds_core.proofs.Lists.{past_end}
 use Rattle.dds_core.proofs.Notified.{listeners_apart, tells_as, tells_then}
 

@@ -31,7 +31,7 @@ use Rattle.dds_core.specs.Noticing.{IsMarkOf, MarksPeer, MarksReaders, MarksWrit
 use Rattle.dds_core.specs.Looking.{TellsLiveliness, TellsLost}
 use Rattle.dds_core.specs.Standing.{ReaderStands, StandsFor, WriterStands}
 use Rattle.dds_core.specs.Stepping.{Enters}
-use Rattle.dds_core.specs.Stored.{Holds}
+use Rattle.dds_core.specs.Storing.{Holds}
 use Rattle.dds_core.proofs.Ends.{own_reader_changed, own_writer_stepped, with_reader, with_writer}
 use Rattle.dds_core.proofs.Lists.{past_end}
 use Rattle.dds_core.proofs.Taking.{stands_beside}

@@ -20,7 +20,8 @@ use Rattle.dds_core.specs.declared.matching.WriterName.{WriterName}
 use Rattle.dds_core.specs.Identity.{FitsWriters}
 use Rattle.dds_core.specs.EndNames.{writer_name, matched_writer}
 use Rattle.dds_core.specs.OpeningEnds.{OpensReader}
-use Rattle.dds_core.specs.Stored.{StoreKept, Holds}
+use Rattle.dds_core.specs.Stored.{StoreKept}
+use Rattle.dds_core.specs.Storing.{Holds}
 use Rattle.dds_core.proofs.Identities.{identity_as}
 use Rattle.dds_core.proofs.Lists.{get-within}
 use Rattle.dds_core.proofs.Tables.{map-matched_writers}

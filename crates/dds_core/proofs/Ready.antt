@@ -26,7 +26,8 @@ use Rattle.dds_core.specs.Readiness.{IsReadyFor, IsReadyWith, AreReady, IsAlike,
 use Rattle.dds_core.specs.Receiving.{AllCanTake, TookAt, TakesAll, ReadersTake, StandsAsWell}
 use Rattle.dds_core.proofs.TakenSoFar.{TakesSome}
 use Rattle.dds_core.specs.Standing.{IsFirstRow, ReaderStands}
-use Rattle.dds_core.specs.Stored.{StoreKept, Holds}
+use Rattle.dds_core.specs.Stored.{StoreKept}
+use Rattle.dds_core.specs.Storing.{Holds}
 use Rattle.dds_core.proofs.Identities.{same_identity}
 use Rattle.dds_core.proofs.Lists.{get-within, left_at, left_more, drop_set}
 use Rattle.dds_core.proofs.Rows.{writers_of}

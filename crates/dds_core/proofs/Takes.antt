@@ -37,7 +37,7 @@ use Rattle.dds_core.specs.Identity.{reader_identity}
 use Rattle.dds_core.specs.Readiness.{SameReader, moves_of}
 use Rattle.dds_core.specs.Receiving.{with_state}
 use Rattle.dds_core.specs.Standing.{IsFirstRow, ReaderStands, StandsFor}
-use Rattle.dds_core.specs.Stored.{Holds}
+use Rattle.dds_core.specs.Storing.{Holds}
 use Rattle.dds_core.proofs.Ends.{with_reader, with_read, own_reader_stepped}
 use Rattle.dds_core.proofs.Identities.{identity_as}
 use Rattle.dds_core.proofs.Lists.{get-within}

@@ -42,7 +42,8 @@ use Rattle.dds_core.specs.Readiness.{IsBounded, AreBounded}
 use Rattle.dds_core.specs.Receiving.{with_state, StandsAsWell, ReadersTook, TookSubmessage, NeedsMemory, TellsReaders, TakesOneMore, TookMessage, TakesMessage, ReceivesPacket}
 use Rattle.dds_core.proofs.TakenSoFar.{TakenTo, TakesTo}
 use Rattle.dds_core.specs.Sending.{AreMessages}
-use Rattle.dds_core.specs.Standing.{StandsFor, IsSound}
+use Rattle.dds_core.specs.Standing.{StandsFor}
+use Rattle.dds_core.specs.Ruling.{IsSound}
 use Rattle.dds_core.specs.Stepping.{Steps, StepsBy, SoundSteps, SoundStepsBy}
 use Rattle.dds_machine.specs.Watching.{Tests}
 use Rattle.dds_protocol.proofs.Growth.{TickStep-rows}

@@ -15,7 +15,7 @@ use Rattle.dds_core.specs.declared.reader_end.Told.{Told}
 use Rattle.dds_core.specs.declared.reader_end.Told.TheVariants as told
 use Rattle.dds_core.specs.Kept.{ReaderKept}
 use Rattle.dds_core.specs.Readiness.{TakesTold, TellsSo}
-use Rattle.dds_core.specs.Stored.{Holds}
+use Rattle.dds_core.specs.Storing.{Holds}
 
 -- what was answered was done
 done_as : {X E : Type 0} (r : Result X E) (x : X) (P : X → Type 0) → r ≡ Ok x → IfOk r P → P x

@@ -37,7 +37,7 @@ use Rattle.dds_core.proofs.TakenSoFar.{TakesSome}
 use Rattle.dds_core.specs.Beating.{AddsTo}
 use Rattle.dds_core.specs.Standing.{IsFirstRow, StandsFor}
 use Rattle.dds_core.proofs.Beating.{adds_none, adds_on}
-use Rattle.dds_core.specs.Stored.{Holds}
+use Rattle.dds_core.specs.Storing.{Holds}
 use Rattle.dds_core.proofs.Ends.{with_reader, with_read}
 use Rattle.dds_core.proofs.Lists.{element, left_at, left_more, drop_set}
 use Rattle.dds_core.proofs.Named.{first_row, is_to, row_of_writer}

@@ -25,7 +25,7 @@ use Rattle.dds_core.specs.declared.twin.Twin.TheVariants.{Unasked, Asked, Kept}
 use Rattle.dds_core.specs.Kept.{PeerKept}
 use Rattle.dds_core.specs.Listening.{CoreKept, Steps}
 use Rattle.dds_core.specs.Sending.{AreMessages, Sends, SendsChange, SendsFor, SendsNothing, due_at_tick}
-use Rattle.dds_core.specs.Standing.{KeepsRules}
+use Rattle.dds_core.specs.Ruling.{KeepsRules}
 use Rattle.dds_core.specs.Twins.{AreLeft, IsPlain, IsTwin, Leaves, Loses, is_asked}
 
 -- ---- replies without lists

@@ -12,7 +12,7 @@ use Rattle.dds_protocol.specs.declared.event.Output.{Output}
 use Rattle.dds_protocol.specs.Filters.{peer_with_filter}
 use Rattle.dds_protocol.specs.Peer.{Peer, PeerStep}
 use Rattle.dds_machine.specs.Watching.{Tests}
-use Rattle.dds_core.specs.Standing.{IsSound, KeepsRules}
+use Rattle.dds_core.specs.Ruling.{IsSound, KeepsRules}
 use Rattle.dds_core.specs.Filtering.{FilteredKept, StandsFor}
 
 -- For each state that the old values stand for, and of which all that is known was claimed, the event is a step by what

@@ -3,6 +3,7 @@ pub mod EndNames
 pub mod Kept
 pub mod Identity
 pub mod Standing
+pub mod Ruling
 pub mod Stepping
 pub mod Opening
 pub mod OpeningEnds
@@ -13,6 +14,7 @@ pub mod Readiness
 pub mod Receiving
 pub mod Looking
 pub mod Stored
+pub mod Storing
 pub mod Beating
 pub mod Answering
 pub mod Pairs

@@ -19,7 +19,7 @@ use Rattle.dds_machine.specs.Watching.{Tests}
 use Rattle.dds_conditions.specs.Watched.{filter_refusal}
 use Rattle.dds_base.specs.Refusal.{Refuses}
 use Rattle.dds_core.specs.Filtering.{FilteredKept, StandsFor as FilteredStandsFor}
-use Rattle.dds_core.specs.Standing.{IsSound, KeepsRules}
+use Rattle.dds_core.specs.Ruling.{IsSound, KeepsRules}
 
 -- what a peer keeps, with its filters and its listeners
 pub record CoreKept (F L : Type 0) : Type 0 where

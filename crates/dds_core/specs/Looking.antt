@@ -22,7 +22,7 @@ use Rattle.dds_machine.specs.declared.reply.Reply.TheVariants.{Samples, Refused}
 use Rattle.dds_machine.specs.Part.{Reader, Seen, WriterProxy}
 use Rattle.dds_machine.specs.Watching.{reader_statuses}
 use Rattle.dds_core.specs.Kept.{ReaderKept}
-use Rattle.dds_core.specs.Stored.{Holds}
+use Rattle.dds_core.specs.Storing.{Holds}
 use Rattle.dds_core.specs.Standing.{ReaderStands}
 
 -- the reply to an access that its cache answers so

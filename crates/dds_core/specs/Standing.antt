@@ -1,10 +1,10 @@
 -- What a peer stands for: each of its writers for a writer of the machine, each of its readers for a reader, and what
--- never changes for what the configuration says of it; that what it knows was claimed, and that an event keeps to the rules
--- of the protocol. What a value stands for need not be believed: the contracts say all that matters of it.
+-- never changes for what the configuration says of it. What a value stands for need not be believed: the contracts say
+-- all that matters of it.
 --
 -- RTPS 2.5, 8.4.7 (StatefulWriter, ReaderProxy), 8.4.10 (StatefulReader, WriterProxy): the machine has them
 -- without packets.
-use Rattle.std.specs.Prelude.{◌≡◌, ℕ, suc, ◌^◌, ◌<◌, ◌≤◌, List, [], map, length, get_or, slice_get, Option, Some, ℤ, All}
+use Rattle.std.specs.Prelude.{◌≡◌, ℕ, suc, ◌^◌, ◌<◌, ◌≤◌, List, map, length, get_or, slice_get, Option, Some, ℤ, All}
 use Rattle.dds_base.specs.declared.config.Config.{Config}
 use Rattle.dds_base.specs.declared.change.Change.{Change}
 use Rattle.dds_base.specs.Kept.{change_at}
@@ -15,21 +15,15 @@ use Rattle.rtps_reader.specs.Reader.{Tracks}
 use Rattle.rtps_writer.specs.Standing.{Kept, reader_count, StandsFor as RtpsStandsFor}
 use Rattle.rtps_writer.specs.WriterState.{WriterState}
 use Rattle.dds_machine.specs.declared.endpoint.Endpoint.{Endpoint}
-use Rattle.dds_protocol.specs.declared.event.Event.{Event}
 use Rattle.dds_protocol.specs.declared.event.Event.TheVariants as event
-use Rattle.dds_protocol.specs.declared.event.Output.{Output}
-use Rattle.dds_machine.specs.declared.reply.Reply.TheVariants.{Reported}
-use Rattle.dds_machine.specs.declared.reply.Report.{Report}
-use Rattle.dds_protocol.specs.Backed.{IsBacked}
 use Rattle.dds_protocol.specs.Dues.{AreTellable}
 use Rattle.dds_machine.specs.Part.{Writer, Reader, ReaderProxy, WriterProxy, no_writer, no_reader, place_of}
-use Rattle.dds_protocol.specs.Peer.{Peer, packets_of, state_of as network_of}
-use Rattle.dds_protocol.specs.DueMessages.{Due, AreSent}
-use Rattle.dds_protocol.specs.Protocol.{Known, TakesPacket}
+use Rattle.dds_protocol.specs.Peer.{Peer}
+use Rattle.dds_protocol.specs.Protocol.{Known}
 use Rattle.dds_core.specs.declared.matching.Destination.{Destination}
 use Rattle.dds_core.specs.declared.matching.ReaderName.{ReaderName}
 use Rattle.dds_core.specs.declared.matching.WriterName.{WriterName}
-use Rattle.dds_core.specs.Stored.{Holds}
+use Rattle.dds_core.specs.Storing.{Holds}
 use Rattle.dds_core.specs.Kept.{WriterKept, ReaderKept, PeerKept}
 use Rattle.dds_core.specs.Identity.{identity_of, IsPeerOf}
 
@@ -113,21 +107,3 @@ pub record StandsFor (kept : PeerKept) (config : Config) (peer : Peer) : Type 0 
   pub readers : ReadersStand kept.readers peer.part.rtps.readers peer.part.dds.readers peer.known
   pub tellable : AreTellable peer.part
   pub watch : peer.part.dds.watch ≡ kept.watch
-
--- all that the peer knows is claimed by what was delivered to it
-abbrev pub IsSound : Config → Peer → Type 0
-IsSound config peer = IsBacked config peer.number (packets_of peer.delivered) peer.delivered (network_of peer)
-
--- A packet that was delivered is taken up by the rules of the protocol: they say what moves, what is known then, and
--- which messages are due; these are sent, in their order, or counted as unsent.
-pub record IsTakenByRules (config : Config) (old : Peer) (packet : List ℕ) (output : Output) (new : Peer) : Type 0 where
-  pub report : Report
-  pub reply : output.reply ≡ Reported report
-  pub dues : List Due
-  pub takes : TakesPacket config old.number packet (network_of old) report dues (network_of new)
-  pub sent : AreSent dues output.packets output.unsent
-
--- a delivery follows the rules of the protocol (RTPS 2.5, 8.4.9, 8.4.12); of other events they say nothing here
-abbrev pub KeepsRules : Config → Peer → Event → Output → Peer → Type 0
-KeepsRules config old (event.Deliver packet) output new = IsTakenByRules config old packet output new
-KeepsRules config old other output new = Unit {0}

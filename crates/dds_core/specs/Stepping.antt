@@ -17,7 +17,8 @@ use Rattle.dds_conditions.specs.NoFilters.{no_filters}
 use Rattle.dds_protocol.specs.Peer.{Peer, PeerStep}
 use Rattle.dds_core.specs.Kept.{WriterKept, PeerKept}
 use Rattle.dds_core.specs.Identity.{writer_identity}
-use Rattle.dds_core.specs.Standing.{WriterStands, StandsFor, IsSound, KeepsRules}
+use Rattle.dds_core.specs.Standing.{WriterStands, StandsFor}
+use Rattle.dds_core.specs.Ruling.{IsSound, KeepsRules}
 
 -- for each state that the old values stand for, the event is a step by these filters to one that the new values stand
 -- for

@@ -12,7 +12,8 @@ ghost use Rattle.dds_core.specs.Listening.{Adds, AreKept, RefusesEntity, Refuses
 ghost use Rattle.dds_core.specs.Opening.{core_refusal, opening_peer};
 ghost use Rattle.dds_core.specs.Pairs.{IsPair};
 ghost use Rattle.dds_core.specs.Sending.{AreMessages, Sends};
-ghost use Rattle.dds_core.specs.Standing.{IsSound, StandsFor as PeerStandsFor};
+ghost use Rattle.dds_core.specs.Standing.{StandsFor as PeerStandsFor};
+ghost use Rattle.dds_core.specs.Ruling.{IsSound};
 ghost use Rattle.dds_core.specs.Twins.{Twins};
 ghost use Rattle.dds_machine.specs.Part.{own_proxies, place_of};
 ghost use Rattle.dds_protocol.specs.Peer.{Peer as PeerState};

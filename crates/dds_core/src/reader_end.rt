@@ -19,7 +19,7 @@ ghost use Rattle.dds_core.specs.OpeningEnds.{OpensReader};
 ghost use Rattle.dds_core.specs.Readiness.{receiver_at, IsFirstName, IsNamedFor, IsNamedAt, NamedBy, NamesNobody, IsToldBy, HasMemory, IsReadyFor, IsAlike, CanTake, TakesTold, SameReader, IsPlaceAt};
 ghost use Rattle.dds_core.specs.Looking.{access_reply, TakesOnly, TellsFlags, TellsLost, TellsLiveliness, TellsMatch};
 ghost use Rattle.dds_core.specs.Twins.{Twins};
-ghost use Rattle.dds_core.specs.Stored.{Holds};
+ghost use Rattle.dds_core.specs.Storing.{Holds};
 ghost use Rattle.dds_cache.specs.Standing.{qos_of, AccessAnswers, AfterAccess};
 ghost use Rattle.dds_protocol.specs.Claims.{is_for, Names};
 ghost use Rattle.dds_machine.specs.Noticing.{data_raised, lost_raised, turn_raised};

@@ -14,7 +14,8 @@ ghost use Rattle.dds_lease.specs.Standing.{writer_count};
 ghost use Rattle.dds_machine.specs.Passing.{passed_at};
 ghost use Rattle.dds_core.specs.Expiring.{HasRoomForDeaths};
 ghost use Rattle.dds_core.specs.Looking.{access_reply};
-ghost use Rattle.dds_core.specs.Stored.{StoreKept, Holds, Loses};
+ghost use Rattle.dds_core.specs.Stored.{StoreKept};
+ghost use Rattle.dds_core.specs.Storing.{Holds, Loses};
 ghost use Rattle.dds_core.specs.Twins.{Twins};
 
 use crate::twin::Twin;
@@ -242,7 +243,7 @@ impl Store {
 
 impl Sink for Store {
     ghost use Rattle.dds_cache.specs.Standing.{qos_of, room_of};
-    ghost use Rattle.dds_core.specs.Stored.{Holds};
+    ghost use Rattle.dds_core.specs.Storing.{Holds};
 
     ghost stands = { λ s h. Holds s h };
 

@@ -40,7 +40,7 @@ use Rattle.dds_protocol.specs.Peer.{Peer, EventStep}
 use Rattle.dds_machine.specs.Watching.{Test, Tests}
 use Rattle.dds_protocol.proofs.AtEnds.{end_watch}
 use Rattle.dds_core.specs.Listening.{CoreKept, StandsFor, Steps}
-use Rattle.dds_core.specs.Standing.{IsSound}
+use Rattle.dds_core.specs.Ruling.{IsSound}
 use Rattle.dds_notices.specs.declared.notice.Notice.{Notice}
 use Rattle.dds_notices.specs.Listeners.{ByEntity}
 use Rattle.dds_conditions.specs.Watched.{is_used, uses_in}

@@ -14,7 +14,7 @@ use Rattle.dds_protocol.specs.Peer.{Peer, PeerStep}
 use Rattle.dds_machine.specs.Watching.{Tests}
 use Rattle.dds_core.specs.Listening.{CoreKept, StandsFor}
 use Rattle.dds_core.specs.Opening.{opening_peer}
-use Rattle.dds_core.specs.Standing.{IsSound, KeepsRules}
+use Rattle.dds_core.specs.Ruling.{IsSound, KeepsRules}
 use Rattle.dds_trace.specs.declared.trace.Entry.{Entry}
 
 -- one event of a peer to its end, at which listeners are told; a delivery follows the rules of the protocol

@@ -39,7 +39,7 @@ use Rattle.dds_protocol.proofs.SameBeside.{SameBeside, bounded_beside, filter_be
 use Rattle.dds_core.specs.Kept.{PeerKept}
 use Rattle.dds_core.specs.Listening.{Adds as CoreAdds, CoreKept, RefusesFilter as CoreRefuses, RefusesListener as CoreRefusesListener, Sets as CoreSets, StandsFor as CoreStands, Steps as CoreSteps}
 use Rattle.dds_core.specs.Sending.{AreMessages, Sends as CoreSends}
-use Rattle.dds_core.specs.Standing.{IsSound}
+use Rattle.dds_core.specs.Ruling.{IsSound}
 use Rattle.dds_core.proofs.Lists.{map-get, map-set_same}
 use Rattle.dds_core.proofs.Results.{err_as, ok_as}
 use Rattle.dds_world.specs.Acting.{Acts, Counts, IsCopy, IsQuiet, RuledSteps, StepsAt}

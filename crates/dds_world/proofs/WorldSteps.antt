@@ -41,7 +41,8 @@ use Rattle.dds_protocol.proofs.FreshCounts.{steps_used}
 use Rattle.dds_protocol.proofs.RuledPackets.{unread_backed}
 use Rattle.dds_machine.proofs.Tables.{append_nothing}
 use Rattle.dds_core.specs.Kept.{PeerKept}
-use Rattle.dds_core.specs.Standing.{StandsFor as CoreStandsFor, IsSound, KeepsRules as CoreKeepsRules}
+use Rattle.dds_core.specs.Standing.{StandsFor as CoreStandsFor}
+use Rattle.dds_core.specs.Ruling.{IsSound, KeepsRules as CoreKeepsRules}
 use Rattle.dds_core.proofs.CallSteps.{refused_nothing}
 use Rattle.dds_core.proofs.Lists.{get-within}
 use Rattle.dds_core.proofs.Taking.{stands_again}

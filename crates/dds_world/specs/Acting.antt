@@ -22,7 +22,8 @@ use Rattle.dds_core.specs.Kept.{PeerKept}
 use Rattle.dds_core.specs.Opening.{opening_peer}
 use Rattle.dds_core.specs.Sending.{Sends as CoreSends, SendsNothing, AreMessages}
 use Rattle.dds_core.specs.Listening.{CoreKept, StandsFor as CoreStands, no_listeners}
-use Rattle.dds_core.specs.Standing.{IsSound, KeepsRules as CoreKeepsRules, StandsFor as CoreStandsFor}
+use Rattle.dds_core.specs.Standing.{StandsFor as CoreStandsFor}
+use Rattle.dds_core.specs.Ruling.{IsSound, KeepsRules as CoreKeepsRules}
 use Rattle.dds_world.specs.WorldStanding.{Hearing, WorldKept, StandsFor}
 use Rattle.dds_world.specs.Posting.{Posts}
 

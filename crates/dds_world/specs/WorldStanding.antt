@@ -17,7 +17,8 @@ use Rattle.dds_protocol.specs.Traffic.{Traffic}
 use Rattle.dds_protocol.specs.World.{WorldState, machine_of, peer_at, Sound}
 use Rattle.dds_core.specs.Kept.{PeerKept}
 use Rattle.dds_core.specs.Sending.{AreMessages}
-use Rattle.dds_core.specs.Standing.{StandsFor as CoreStandsFor, IsSound}
+use Rattle.dds_core.specs.Standing.{StandsFor as CoreStandsFor}
+use Rattle.dds_core.specs.Ruling.{IsSound}
 
 -- what is kept of a peer's listeners, and for which places it stands, by the peer's number
 pub record Hearing : Type 1 where

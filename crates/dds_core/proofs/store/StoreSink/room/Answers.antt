@@ -2,7 +2,8 @@ use Rattle.std.proofs.Common.{◌∙◌, ap, subst, sym}
 use Rattle.dds_base.specs.declared.happening.Happening.TheVariants.{Came}
 use Rattle.dds_base.specs.Presence.{has_room}
 use Rattle.dds_cache.specs.Standing.{qos_of}
-use Rattle.dds_core.specs.Stored.{StoreKept, Holds}
+use Rattle.dds_core.specs.Stored.{StoreKept}
+use Rattle.dds_core.specs.Storing.{Holds}
 use Rattle.dds_core.proofs.store.StoreSink.room.Goals as goal
 
 -- the cache answers it

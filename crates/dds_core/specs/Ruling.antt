@@ -1,0 +1,32 @@
+-- That what a peer knows was claimed, and that an event keeps to the rules of the protocol.
+--
+-- RTPS 2.5, 8.4.7 (StatefulWriter, ReaderProxy), 8.4.10 (StatefulReader, WriterProxy).
+use Rattle.std.specs.Prelude.{◌≡◌, ℕ, List}
+use Rattle.dds_base.specs.declared.config.Config.{Config}
+use Rattle.dds_protocol.specs.declared.event.Event.{Event}
+use Rattle.dds_protocol.specs.declared.event.Event.TheVariants as event
+use Rattle.dds_protocol.specs.declared.event.Output.{Output}
+use Rattle.dds_machine.specs.declared.reply.Reply.TheVariants.{Reported}
+use Rattle.dds_machine.specs.declared.reply.Report.{Report}
+use Rattle.dds_protocol.specs.Backed.{IsBacked}
+use Rattle.dds_protocol.specs.Peer.{Peer, packets_of, state_of as network_of}
+use Rattle.dds_protocol.specs.DueMessages.{Due, AreSent}
+use Rattle.dds_protocol.specs.Protocol.{TakesPacket}
+
+-- all that the peer knows is claimed by what was delivered to it
+abbrev pub IsSound : Config → Peer → Type 0
+IsSound config peer = IsBacked config peer.number (packets_of peer.delivered) peer.delivered (network_of peer)
+
+-- A packet that was delivered is taken up by the rules of the protocol: they say what moves, what is known then, and
+-- which messages are due; these are sent, in their order, or counted as unsent.
+pub record IsTakenByRules (config : Config) (old : Peer) (packet : List ℕ) (output : Output) (new : Peer) : Type 0 where
+  pub report : Report
+  pub reply : output.reply ≡ Reported report
+  pub dues : List Due
+  pub takes : TakesPacket config old.number packet (network_of old) report dues (network_of new)
+  pub sent : AreSent dues output.packets output.unsent
+
+-- a delivery follows the rules of the protocol (RTPS 2.5, 8.4.9, 8.4.12); of other events they say nothing here
+abbrev pub KeepsRules : Config → Peer → Event → Output → Peer → Type 0
+KeepsRules config old (event.Deliver packet) output new = IsTakenByRules config old packet output new
+KeepsRules config old other output new = Unit {0}
