@@ -1,5 +1,5 @@
 -- An event adds at most one WaitSet in which somebody waits; the end of a wait ends one.
-use Rattle.std.proofs.Common.{◌≡◌, ℕ, zero, suc, ◌+◌, ◌-◌, ◌≤◌, ◌==◌, Bool, true, false, List, [], ◌∷◌, ◌++◌, get_or, map, refl, ap, sym, ◌∙◌, subst, inl, inr, arith}
+use Rattle.std.proofs.Common.{◌≡◌, ℕ, zero, suc, ◌+◌, ◌-◌, ◌≤◌, ◌==◌, Bool, true, false, List, [], ◌∷◌, ◌++◌, get_or, map, refl, ap, sym, ◌∙◌, subst, inl, inr, ◌⊎◌, arith}
 use Rattle.std.specs.Prelude.{Option, Some, None, is_some, set, length, if◌then◌else◌}
 use Rattle.std.specs.List.{filter}
 use Rattle.std.specs.Option.{option_map}
@@ -28,7 +28,7 @@ use Rattle.dds_protocol.specs.declared.event.Output.{Output}
 use Rattle.dds_machine.specs.declared.reply.Move.{Move}
 use Rattle.dds_machine.specs.declared.reply.Move.TheVariants.{Place, Acknowledged, Heard}
 use Rattle.dds_machine.specs.declared.reply.Reply.{Reply}
-use Rattle.dds_machine.specs.declared.reply.Reply.TheVariants.{Done, Samples, KeyValue, Reported, Refused}
+use Rattle.dds_machine.specs.declared.reply.Reply.TheVariants.{Active, Done, Samples, KeyValue, Reported, Refused, Waiting as WaitsOn}
 use Rattle.dds_machine.specs.Part.{Part, Dds}
 use Rattle.dds_machine.specs.Moves.{Grounds, IsMove, AreMoves}
 use Rattle.dds_protocol.specs.Claims.{Receiver, after_submessage}
@@ -288,15 +288,16 @@ not_used ws n s false is used =
 abbrev Ended : List (Option Waiting) → ℕ → Dds → Type 0
 Ended ws n new = (uses_of new.watch.wait_sets + 1 ≡ uses_of ws) × (is_used (at_number new.watch.wait_sets n) ≡ true → ⊥)
 
-ended_at : (found : Option Waiting) (ws : List (Option Waiting)) (n : ℕ) (old : Part) (reply : Reply) (new : Dds)
+ended_at : (found : Option Waiting) (ws : List (Option Waiting)) (n : ℕ) (answer : Reply) (old : Part) (reply : Reply)
+    (new : Dds)
     → ws ≡ old.dds.watch.wait_sets → at_number ws n ≡ found → is_used found ≡ true
-    → IsAnsweredWatching (use_refusal found) Done
+    → IsAnsweredWatching (use_refusal found) answer
     (with_wait_set_at old.dds.watch n (option_map (λ (s : Waiting). record s { deadline = None }) found)) old reply new
     → Ended ws n new
-ended_at None ws n old reply new same at used a = absurd cc
-ended_at (Some s) ws n old reply new same at used a =
+ended_at None ws n answer old reply new same at used a = absurd cc
+ended_at (Some s) ws n answer old reply new same at used a =
     let none : use_refusal (Some s) ≡ None = ap (λ (b : Bool). if b then None else Some code.PreconditionNotMet) used in
-    let P : Option Code → Type 0 = λ r. IsAnsweredWatching r Done
+    let P : Option Code → Type 0 = λ r. IsAnsweredWatching r answer
     (with_wait_set_at old.dds.watch n (Some (record s { deadline = None }))) old reply new in
     let done : P None = subst P none a in
     let sets : new.watch.wait_sets ≡ set ws (n - 1) (Some (record s { deadline = None })) =
@@ -309,16 +310,81 @@ ended_at (Some s) ws n old reply new same at used a =
           (ap (λ (xs : List (Option Waiting)). is_used (at_number xs n)) (sym sets) ∙ still),
     )
 
-ends_sets : (ws : List (Option Waiting)) (n : ℕ) (old : Part) (reply : Reply) (new : Dds) → ws ≡ old.dds.watch.wait_sets
-    → is_used (at_number ws n) ≡ true
-    → IsAnsweredWatching (use_refusal (at_number old.dds.watch.wait_sets n)) Done (with_deadline old.dds.watch n None) old
-    reply new
+ends_sets : (ws : List (Option Waiting)) (n : ℕ) (answer : Reply) (old : Part) (reply : Reply) (new : Dds)
+    → ws ≡ old.dds.watch.wait_sets → is_used (at_number ws n) ≡ true
+    → IsAnsweredWatching (use_refusal (at_number old.dds.watch.wait_sets n)) answer (with_deadline old.dds.watch n None)
+    old reply new
     → Ended ws n new
-ends_sets ws n old reply new same used a =
-    ended_at (at_number ws n) ws n old reply new same refl used
-    (subst (λ (xs : List (Option Waiting)). IsAnsweredWatching (use_refusal (at_number xs n)) Done
+ends_sets ws n answer old reply new same used a =
+    ended_at (at_number ws n) ws n answer old reply new same refl used
+    (subst (λ (xs : List (Option Waiting)). IsAnsweredWatching (use_refusal (at_number xs n)) answer
     (with_wait_set_at old.dds.watch n (option_map (λ (s : Waiting). record s { deadline = None }) (at_number xs n)))
     old reply new) (sym same) a)
+
+-- ---- a look that is the last one
+
+abbrev Unused : List (Option Waiting) → ℕ → Type 0
+Unused ws n = is_used (at_number ws n) ≡ true → ⊥
+
+-- whoever is refused for it does not wait
+not_refused : (found : Option Waiting) (c : Code) → use_refusal found ≡ Some c → is_used found ≡ true → ⊥
+not_refused None c refused used = absurd cc
+not_refused (Some s) c refused used =
+    let none : use_refusal (Some s) ≡ None = ap (λ (b : Bool). if b then None else Some code.PreconditionNotMet) used in
+    absurd cc
+
+unused_still : (refusal : Option Code) (n : ℕ) (old new : Dds) → use_refusal (at_number old.watch.wait_sets n) ≡ refusal
+    → is_some refusal ≡ true → new ≡ old → Unused new.watch.wait_sets n
+unused_still None n old new refused there same used = absurd cc
+unused_still (Some c) n old new refused there same used =
+    not_refused (at_number old.watch.wait_sets n) c refused
+    (ap (λ (d : Dds). is_used (at_number d.watch.wait_sets n)) (sym same) ∙ used)
+
+waits_there : (b : Bool) → (if b then None else Some code.PreconditionNotMet) ≡ None → b ≡ true
+waits_there true free = refl
+waits_there false free = absurd cc
+
+used_or_not : (b : Bool) → (b ≡ true) ⊎ (b ≡ false)
+used_or_not true = inl refl
+used_or_not false = inr refl
+
+-- who is not refused for it waits
+unrefused : (found : Option Waiting) → use_refusal found ≡ None → is_used found ≡ true
+unrefused None free = absurd cc
+unrefused (Some s) free = waits_there (is_some s.deadline) free
+
+-- a look that found nothing true, and does not say so, was refused
+unused_waiting : (refusal : Option Code) (n : ℕ) (old : Part) (reply : Reply) (new : Dds)
+    → use_refusal (at_number old.dds.watch.wait_sets n) ≡ refusal
+    → IsAnsweredWatching refusal WaitsOn old.dds.watch old reply new → (reply ≡ WaitsOn → ⊥)
+    → Unused new.watch.wait_sets n
+unused_waiting (Some c) n old reply new is a over = unused_still (Some c) n old.dds new is refl a.1
+unused_waiting None n old reply new is a over = absurd (over a.0)
+
+-- answered by the end of the wait, or refused for want of it
+unused_after : (refusal : Option Code) (n : ℕ) (answer : Reply) (old : Part) (reply : Reply) (new : Dds)
+    → use_refusal (at_number old.dds.watch.wait_sets n) ≡ refusal
+    → IsAnsweredWatching refusal answer (with_deadline old.dds.watch n None) old reply new
+    → Unused new.watch.wait_sets n
+unused_after (Some c) n answer old reply new is a = unused_still (Some c) n old.dds new is refl a.1
+unused_after None n answer old reply new is a =
+    elim (used_or_not (is_used (at_number old.dds.watch.wait_sets n))) [
+      | inl used ↦ (ends_sets old.dds.watch.wait_sets n answer old reply new refl used
+          (subst (λ (r : Option Code). IsAnsweredWatching r answer (with_deadline old.dds.watch n None) old reply new)
+          (sym is) a)).1
+      | inr free ↦ absurd (let r = unrefused (at_number old.dds.watch.wait_sets n) is in cc)
+    ]
+
+look_unused : (active : List Cond) (timed_out : Bool) (old : Part) (n : ℕ) (reply : Reply) (new : Dds)
+    → AnswersLook active timed_out old n reply new → (reply ≡ WaitsOn → ⊥) → (reply ≡ Refused code.Memory → ⊥)
+    → Unused new.watch.wait_sets n
+look_unused [] true old n reply new a over found =
+    unused_after (use_refusal (at_number old.dds.watch.wait_sets n)) n (Refused code.Timeout) old reply new refl a
+look_unused [] false old n reply new a over found =
+    unused_waiting (use_refusal (at_number old.dds.watch.wait_sets n)) n old reply new refl a over
+look_unused (c ∷ cs) timed_out old n reply new (inl a) over found =
+    unused_after (use_refusal (at_number old.dds.watch.wait_sets n)) n (Active (c ∷ cs)) old reply new refl a
+look_unused (c ∷ cs) timed_out old n reply new (inr a) over found = absurd (found a.2)
 
 -- ---- a core
 
@@ -356,9 +422,26 @@ module _ {F L : Type 0} (notices : L → List Notice) (capacity : L → ℕ)
       let later = uses_are stepped.part.dds.watch.wait_sets in
       let here : is_used (at_number peer.part.dds.watch.wait_sets s) ≡ true =
       ap (λ (w : Watched). is_used (at_number w.wait_sets s)) before ∙ used in
-      let e = ends_sets peer.part.dds.watch.wait_sets s peer.part o.reply stepped.part.dds refl here r.1.step.0.answers in
+      let e = ends_sets peer.part.dds.watch.wait_sets s Done peer.part o.reply stepped.part.dds refl here
+      r.1.step.0.answers in
       let sets : new.filtered.peer.watch.wait_sets ≡ stepped.part.dds.watch.wait_sets =
       ap (λ (w : Watched). w.wait_sets) (sym after ∙ ended) in (
         omega (arith, ap uses_in sets, e.0, ap (λ (w : Watched). uses_in w.wait_sets) before, earlier, later),
         λ still. e.1 (ap (λ (ws : List (Option Waiting)). is_used (at_number ws s)) (sym sets) ∙ still),
       )
+
+  -- a look that answers ends the wait, if there was one
+  pub look_ends : (tests : Tests) (config : Config) (peer : Peer) (old new : CoreKept F L) (s : ℕ) (o : Output)
+      → StandsFor notices capacity becomes given old config peer → IsSound config peer
+      → Steps notices capacity becomes tests old (event.Call (WaitLook s)) o new
+      → (o.reply ≡ WaitsOn → ⊥) → (o.reply ≡ Refused code.Memory → ⊥) → IsInUse new s → ⊥
+  look_ends tests config peer old new s o stands sound h over found still =
+      let r = h.step given config peer stands sound in
+      let stepped : Peer = r.0 in
+      let after : (peer_at_end peer stepped).part.dds.watch ≡ new.filtered.peer.watch = r.3.stands.stands.watch in
+      let ended : (peer_at_end peer stepped).part.dds.watch ≡ stepped.part.dds.watch =
+      end_watch peer.part stepped.part in
+      let sets : new.filtered.peer.watch.wait_sets ≡ stepped.part.dds.watch.wait_sets =
+      ap (λ (w : Watched). w.wait_sets) (sym after ∙ ended) in
+      look_unused _ _ peer.part s o.reply stepped.part.dds r.1.step.0.answers over found
+      (ap (λ (ws : List (Option Waiting)). is_used (at_number ws s)) (sym sets) ∙ still)

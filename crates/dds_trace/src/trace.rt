@@ -127,4 +127,11 @@ impl Trace {
     {
         &self.entries[index]
     }
+
+    /// The entries, in the order in which they were entered.
+    pub fn as_slice(&self) -> &[Entry]
+        ensures entries { result.now ≡ self.now.entries }
+    {
+        self.entries.as_slice()
+    }
 }
