@@ -1,0 +1,5 @@
+pub mod Seats
+pub mod Given
+pub mod Seeds
+pub mod Looks
+pub mod Using

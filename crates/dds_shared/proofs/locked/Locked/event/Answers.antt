@@ -1,0 +1,53 @@
+use Rattle.std.proofs.Common.{List, [], ◌∷◌, ◌++◌, length, sym, ap, ◌∙◌, subst, arith, length-append}
+use Rattle.dds_conditions.specs.Filtered.{tests_of}
+use Rattle.dds_trace.specs.declared.trace.Entry.{Entry}
+use Rattle.dds_trace.specs.Entries.{Traced}
+use Rattle.dds_trace.specs.History.{IsHistoryOf, entry_of}
+use Rattle.dds_trace.proofs.Adding.{extends}
+use Rattle.dds_trace.proofs.Uses.{one_more}
+use Rattle.dds_shared.specs.Seeds.{listeners_in}
+use Rattle.dds_shared.proofs.Given.{keeps_slots}
+use Rattle.dds_shared.proofs.Using.{uses_told}
+use Rattle.dds_shared.proofs.locked.Locked.event.Goals as goal
+
+pub invariant_of-self-2 : goal.invariant_of-self-2
+invariant_of-self-2 g c =
+    let old = c.self.inside in
+    let kept = c.self.invariant in
+    let given = listeners_in g.N.Named.slots in
+    let peer = kept.history.peer in
+    let seat = c.seat-seat.result in
+    let core = c.stand_in_for_step_pair-output.new.core in
+    let output = c.stand_in_for_step_pair-output.result.0 in
+    let step = c.stand_in_for_step_pair-output.ensures.step in
+    let tests = tests_of g.F.Filter.meaning old.core.filtered.filters in
+    let entry = entry_of seat c.args.event output in
+    let entries = c.push.ensures.entries ∙ (λ i. (c.in_ok-reserve.ensures.same i).entries
+    ++ entry_of seat (c.in_ok-one.ensures.cases i) output ∷ []) in
+    let P : List Entry → Type 0 =
+    λ es. IsHistoryOf g.F.Filter.meaning g.L.Listener.notices g.L.Listener.capacity g.L.Listener.becomes given
+    g.N.Named.config g.N.Named.peer es core in
+    let in_use = uses_told g.L.Listener.notices g.L.Listener.capacity g.L.Listener.becomes given old.core
+    g.N.Named.config peer c.in_use.result kept.history.stands c.in_use.ensures.used in
+    let more = one_more g.L.Listener.notices g.L.Listener.capacity g.L.Listener.becomes given tests g.N.Named.config peer
+    old.core core c.args.event output kept.history.stands kept.history.sound step in
+    record {
+      history = subst P (sym entries)
+          (extends g.F.Filter.meaning g.L.Listener.notices g.L.Listener.capacity g.L.Listener.becomes given
+          g.N.Named.config g.N.Named.peer old.trace.entries old.core core seat c.args.event output kept.history step);
+      named = c.push.ensures.peer ∙ ap (λ (t : Traced). t.peer) c.in_ok-reserve.ensures.same ∙ kept.named;
+      same_filters = step.filters ∙ kept.same_filters;
+      same_slots = keeps_slots g.L.Listener.notices g.L.Listener.capacity g.L.Listener.becomes given g.N.Named.config tests
+          peer old.core core c.args.event output kept.history.stands kept.history.sound step ∙ kept.same_slots;
+      room = omega (arith, more, in_use, c.in_ok-reserve.ensures.room, c.push.ensures.spare);
+      counted = omega (
+        arith,
+        c.record.ensures.counted,
+        kept.counted,
+        ap length entries,
+        length-append old.trace.entries (entry ∷ []),
+      );
+      rest = kept.rest;
+      nothing = kept.nothing;
+      few = kept.few;
+    }

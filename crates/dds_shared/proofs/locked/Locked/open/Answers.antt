@@ -1,0 +1,27 @@
+use Rattle.std.proofs.Common.{List, length, sym, ap, subst, arith}
+use Rattle.dds_notices.specs.Listeners.{Slotted}
+use Rattle.dds_trace.specs.declared.trace.Entry.{Entry}
+use Rattle.dds_trace.specs.History.{IsHistoryOf}
+use Rattle.dds_shared.specs.Seeds.{listeners_in, slots_shown}
+use Rattle.dds_shared.proofs.Using.{unused_yet}
+use Rattle.dds_shared.proofs.locked.Locked.open.Goals as goal
+
+pub invariant_of-result : goal.invariant_of-result
+invariant_of-result g c =
+    let given = listeners_in g.N.Named.slots in
+    let P : List Entry → Type 0 =
+    λ es. IsHistoryOf g.F.Filter.meaning g.L.Listener.notices g.L.Listener.capacity g.L.Listener.becomes given
+    g.N.Named.config g.N.Named.peer es c.args.core in
+    let unused = unused_yet g.F.Filter.meaning g.L.Listener.notices g.L.Listener.capacity g.L.Listener.becomes given
+    g.N.Named.config g.N.Named.peer c.args.core c.requires.core in
+    record {
+      history = subst P (sym c.requires.trace.0) c.requires.core;
+      named = c.requires.trace.1;
+      same_filters = c.requires.set.0;
+      same_slots = ap (λ (s : Slotted g.row.L.Denot). slots_shown g.L.Listener.capacity s) c.requires.set.1;
+      room = omega (arith, unused);
+      counted = omega (arith, c.requires.book, ap length c.requires.trace.0);
+      rest = omega (arith, c.split_off-share.ensures.parts_left, c.requires.all.0);
+      nothing = omega (arith, c.split_off-share.ensures.amount_left, c.requires.all.1);
+      few = omega arith;
+    }

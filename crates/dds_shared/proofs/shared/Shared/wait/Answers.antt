@@ -1,0 +1,21 @@
+use Rattle.std.proofs.Common.{[], ◌∷◌, ◌++◌, inr}
+use Rattle.dds_shared.specs.Waits.{look_of}
+use Rattle.dds_shared.proofs.Looks.{waits_over, waits_on, waits_failed}
+use Rattle.dds_shared.proofs.shared.Shared.wait.Goals as goal
+
+pub returns-in-Ok-true-clause-ok : goal.returns-in-Ok-true-clause-ok
+returns-in-Ok-true-clause-ok g c =
+    let i = c.loop.invariant in
+    let did = rw c.in-Ok-true.field-0-test at c.in-Ok-true.ensures.ok in
+    inr (i.0, i.1, did.0, waits_over c.args.pass.now c.loop.pass c.look.new.pass c.args.wait_set c.args.deadline i.0 i.1 did.0 i.2 did.1.list, did.2)
+
+pub returns-in-Err-clause-err : goal.returns-in-Err-clause-err
+returns-in-Err-clause-err g c =
+    let i = c.loop.invariant in
+    waits_failed c.args.pass.now c.loop.pass c.look.new.pass c.args.wait_set c.args.deadline i.0 i.1 i.2 c.in-Err.ensures.err
+
+pub loop-preserved : goal.loop-preserved
+loop-preserved g c =
+    let i = c.loop.invariant in
+    let did = rw c.in-Ok-false.field-0-test at c.in-Ok-false.ensures.ok in
+    (i.0, i.1 ++ look_of c.args.pass.now.seat c.args.wait_set did.0 ∷ [], waits_on c.args.pass.now c.loop.pass c.look.new.pass c.args.wait_set c.args.deadline i.0 i.1 did.0 i.2 did.1.list did.2, did.3)

@@ -1,0 +1,4 @@
+pub mod Seeds
+pub mod Passes
+pub mod Locks
+pub mod Waits

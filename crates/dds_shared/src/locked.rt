@@ -1,0 +1,172 @@
+// What lies under the lock of a shared peer.
+
+ghost use Rattle.std.specs.Prelude.{◌≡◌, ℕ, ◌++◌, ◌∷◌, [], ◌+◌, ◌<◌, ◌≤◌, length, OnOk, OnErr, IfErr, IfOk, IfNone, IfSome, ◌⊎◌, List};
+ghost use Rattle.dds_base.specs.declared.code.Code.TheVariants.{Memory, Mismatch, OutOfResources, PreconditionNotMet};
+ghost use Rattle.dds_protocol.specs.declared.event.Output.{Output as OutputOf};
+ghost use Rattle.dds_trace.specs.History.{IsHistoryOf};
+ghost use Rattle.dds_shared.specs.Passes.{IsAsBefore, lists_of, unused};
+ghost use Rattle.dds_shared.specs.Locks.{Adds, Matches};
+ghost use Rattle.dds_shared.specs.Seeds.{listeners_in, slots_shown};
+
+use crate::closing::{give_all, parts_of, same_lists};
+use crate::named::Named;
+use crate::pass::Pass;
+use crate::stand_in::stand_in_for_step_pair;
+use crate::whole::Whole;
+use dds_base::Code;
+use dds_conditions::Filter;
+use dds_core::Core;
+use dds_notices::Listener;
+use dds_protocol::Event;
+use dds_trace::{Entry, Trace};
+use std::alloc::Global;
+use std::marker::Model;
+use std::sync::Wait;
+use std::sync::ledger::{Book, Share};
+
+// How many passes a peer has at most.
+pub const SEATS: u64 = 4294967295;
+
+// The core, beside a history that leads to it.
+#[derive(Drop)]
+pub struct Locked<N: Named<F, L>, F: Filter, L: Listener> {
+    pub(crate) core: Core<F, L>,
+    pub(crate) trace: Trace,
+    pub(crate) book: Book<N>,
+    rest: Share<N>,
+    left: u64,
+    whole: Whole<N>,
+}
+
+impl<N: Named<F, L>, F: Filter, L: Listener> Model for Locked<N, F, L> {
+    ghost use Rattle.dds_shared.specs.Locks.{IsKept, Kept};
+
+    ghost Value = { Kept F L };
+
+    ghost view = { λ k. record { core = k.core; entries = k.trace.entries; left = k.left } };
+
+    ghost invariant = { λ k. IsKept F.meaning L.notices L.capacity L.becomes N.filters N.slots N.config N.peer k.core k.trace
+        k.book.total k.rest.parts k.rest.amount k.left };
+}
+
+impl<N: Named<F, L>, F: Filter, L: Listener> Locked<N, F, L> {
+    // A locked peer without entries, and its first pass.
+    pub fn open(
+        alloc: Global,
+        core: Core<F, L>,
+        trace: Trace,
+        book: Book<N>,
+        all: Share<N>,
+    ) -> (Locked<N, F, L>, Pass<N>)
+        requires core { IsHistoryOf F.meaning L.notices L.capacity L.becomes (listeners_in N.slots) N.config N.peer [] core }
+        requires set { (core.filtered.filters ≡ N.filters) × (core.listeners ≡ N.slots) }
+        requires trace { (trace.entries ≡ []) × (trace.peer ≡ N.peer) }
+        requires book { book.total ≡ 0 }
+        requires all { (all.parts ≡ 4294967295) × (all.amount ≡ 0) × (N.parts ≡ 4294967295) }
+        ensures pass { result.1 ≡ unused 1 result.1.spare }
+    {
+        let mut rest = all;
+        let share = rest.split_off(1, 0);
+        let pass = Pass::new(alloc, 1, share, Whole::new());
+        (
+            Locked {
+                core,
+                trace,
+                book,
+                rest,
+                left: SEATS - 1,
+                whole: Whole::new(),
+            },
+            pass,
+        )
+    }
+
+    // A new pass with a seat of its own.
+    pub fn split(&mut self, alloc: Global) -> Result<Pass<N>, Code>
+        ensures ok { IfOk result (λ pass. pass ≡ unused pass.seat pass.spare) }
+        ensures kept { OnOk result (self.new ≡ record self.old { left = self.new.left }) }
+        ensures err { OnErr result (self.new ≡ self.old) }
+        ensures refused { IfErr result (λ code. (code ≡ OutOfResources) × (self.old.left ≡ 0)) }
+    {
+        if self.left == 0 {
+            return Err(Code::OutOfResources);
+        }
+        let share = self.rest.split_off(1, 0);
+        self.left -= 1;
+        let seat = (SEATS - self.left) as u32;
+        Ok(Pass::new(alloc, seat, share, self.whole.again()))
+    }
+
+    // Whether all passes are here, and have what the trace has.
+    pub fn refusal(&self, passes: &[Pass<N>]) -> Option<Code>
+        ensures none { IfNone result (Matches self.now passes.now) }
+        ensures code { IfSome result (λ code. (code ≡ PreconditionNotMet) ⊎ (code ≡ Mismatch)) }
+    {
+        let Some(parts) = parts_of(passes) else {
+            return Some(Code::PreconditionNotMet);
+        };
+        if parts > SEATS || parts + self.left != SEATS {
+            return Some(Code::PreconditionNotMet);
+        }
+        if !same_lists(self.trace.as_slice(), passes, SEATS - self.left + 1) {
+            return Some(Code::Mismatch);
+        }
+        None
+    }
+
+    // Ends with the core and the trace.
+    pub fn close(self, passes: Vec<Pass<N>>) -> (Core<F, L>, Trace)
+        requires passes { Matches self passes.items }
+        ensures history { IsHistoryOf F.meaning L.notices L.capacity L.becomes (listeners_in N.slots) N.config N.peer
+            result.1.entries result.0 }
+        ensures named { result.1.peer ≡ N.peer }
+        ensures filters { result.0.filtered.filters ≡ N.filters }
+        ensures slots { slots_shown L.capacity result.0.listeners ≡ slots_shown L.capacity N.slots }
+        ensures same { (result.1.entries ≡ self.entries) × (result.0 ≡ self.core) }
+        ensures complete { length result.1.entries ≡ length (lists_of passes.items) }
+    {
+        let Locked {
+            core,
+            trace,
+            mut book,
+            mut rest,
+            left: _,
+            whole,
+        } = self;
+        whole.show();
+        give_all(passes, &mut rest);
+        book.audit(&mut rest);
+        (core, trace)
+    }
+
+    // Does one event, and enters it in the trace and in the pass's list.
+    pub fn event<R: Wait>(&mut self, rt: &R, pass: &mut Pass<N>, event: Event) -> Result<(), Code>
+        ensures ok { OnOk result ((o : OutputOf)
+            × Adds F.meaning L.notices L.capacity L.becomes self.old self.new pass.old pass.new event o) }
+        ensures err { OnErr result ((self.new ≡ self.old) × IsAsBefore pass.old pass.new) }
+        ensures refused { IfErr result (λ code. code ≡ Memory) }
+        ensures room { pass.old.spare ≤ pass.new.spare + 1 }
+        ensures room_kept { OnErr result (pass.old.spare ≤ pass.new.spare) }
+    {
+        let one = event.clone()?;
+        let two = event.clone()?;
+        self.trace.reserve(self.core.in_use() as usize + 2)?;
+        pass.reserve(1)?;
+        let seat = pass.seat();
+        let (output, same) = stand_in_for_step_pair(rt, &mut self.core, event);
+        self.trace.push(Entry {
+            seat,
+            event: one,
+            output,
+        });
+        pass.record(
+            &mut self.book,
+            Entry {
+                seat,
+                event: two,
+                output: same,
+            },
+        );
+        Ok(())
+    }
+}
