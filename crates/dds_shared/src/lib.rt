@@ -19,3 +19,6 @@ pub use named::Named;
 pub use pass::Pass;
 pub use seed::Seed;
 pub use shared::{Closed, NotClosed, Shared};
+
+#[cfg(test)]
+mod tests;
