@@ -1,19 +1,8 @@
 -- Where the last true place is.
-use Rattle.std.proofs.Common.{◌≡◌, ℕ, zero, suc, ◌+◌, ◌-◌, ◌<◌, ◌≤◌, Bool, true, false, cond, List, [], ◌∷◌, ◌++◌, length, get_or, take, replicate, refl, ap, ◌∙◌, arith}
-use Rattle.std.proofs.lemmas.List.{take_more, length-take-le}
+use Rattle.std.proofs.Common.{◌≡◌, ℕ, zero, suc, ◌-◌, ◌<◌, ◌≤◌, Bool, true, false, List, [], ◌∷◌, ◌++◌, length, get_or, take, replicate, refl, inl, inr, sym, ap, ◌∙◌, arith}
+use Rattle.std.specs.Prelude.{◌⊎◌}
+use Rattle.std.proofs.lemmas.Bool.{cases_order}
 use Rattle.rtps_sets.specs.NumberSet.{span, span_after}
-
-cons_suc : (b : Bool) (n : ℕ) → span_after b (suc n) ≡ suc (suc n)
-cons_suc true n = refl
-cons_suc false n = refl
-
-span_true : (xs : List Bool) → span (xs ++ true ∷ []) ≡ suc (length xs)
-span_true [] = refl
-span_true (x ∷ xs) = rw (span_true xs) (cons_suc x (length xs))
-
-span_false : (xs : List Bool) → span (xs ++ false ∷ []) ≡ span xs
-span_false [] = refl
-span_false (x ∷ xs) = ap (span_after x) (span_false xs)
 
 cons_le : (b : Bool) (n m : ℕ) → n ≤ m → span_after b n ≤ suc m
 cons_le true n m le = omega arith
@@ -23,13 +12,6 @@ cons_le false (suc n) m le = omega arith
 pub span_le : (xs : List Bool) → span xs ≤ length xs
 span_le [] = omega arith
 span_le (x ∷ xs) = cons_le x (span xs) (length xs) (span_le xs)
-
-pub span_more : (xs : List Bool) (i : ℕ) (b : Bool) → i < length xs → get_or xs i false ≡ b
-    → span (take (i + 1) xs) ≡ cond b (i + 1) (span (take i xs))
-span_more xs i true lt e =
-    let len : suc (length (take i xs)) ≡ i + 1 = omega (arith, length-take-le i xs (omega arith)) in
-    ap span (take_more xs i false lt ∙ ap (λ (b : Bool). take i xs ++ b ∷ []) e) ∙ span_true (take i xs) ∙ len
-span_more xs i false lt e = rw (take_more xs i false lt, e) (span_false (take i xs))
 
 -- what stands past the span is false
 front_false : (b : Bool) (n : ℕ) (bs : List Bool) → bs ≡ take n bs ++ replicate (length bs - n) false
@@ -82,3 +64,18 @@ pub span_past : (xs : List Bool) (k : ℕ) → span xs ≤ k → get_or xs k fal
 span_past [] k le = refl
 span_past (true ∷ xs) k le = past_after true (span xs) xs (span_past xs) k le
 span_past (false ∷ xs) k le = past_after false (span xs) xs (span_past xs) k le
+
+-- no other number is the span
+pub span_is : (xs : List Bool) (bits : ℕ) → (0 < bits → get_or xs (bits - 1) false ≡ true)
+    → ((k : ℕ) → bits ≤ k → get_or xs k false ≡ false) → bits ≡ span xs
+span_is xs bits last past = by (cases_order bits (span xs))
+  where
+    both : (b : Bool) → b ≡ true → b ≡ false → ⊥
+    both b t f = let e : true ≡ false = sym t ∙ f in absurd (cc)
+
+    by : (bits ≡ span xs) ⊎ ((bits < span xs) ⊎ (span xs < bits)) → bits ≡ span xs
+    by (inl e) = e
+    by (inr (inl lt)) =
+        absurd (both (get_or xs (span xs - 1) false) (span_last xs (omega arith)) (past (span xs - 1) (omega arith)))
+    by (inr (inr lt)) =
+        absurd (both (get_or xs (bits - 1) false) (last (omega arith)) (span_past xs (bits - 1) (omega arith)))

@@ -4,6 +4,7 @@
 //! Not here: the bytes of a set, and who asks for what is missing.
 #![tactic(auto)]
 
+mod bits;
 mod sn_set;
 mod window;
 

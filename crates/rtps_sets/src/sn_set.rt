@@ -5,6 +5,7 @@
 ghost use Rattle.std.specs.Prelude.{◌≡◌, ◌≤◌, ◌<◌, ◌+◌, ◌-◌, ◌==◌, ◌||◌, ℕ, false, true, IsTrue, length, slice_set};
 ghost use Rattle.rtps_sets.specs.NumberSet.{empty_from, has_number, span};
 
+use crate::bits::Bits;
 use dds_base::Sn;
 use std::marker::Model;
 
@@ -19,15 +20,18 @@ pub const MAX_BITS: usize = 256;
 #[derive(Clone, Copy, Debug)]
 pub struct SnSet {
     base: u64,
-    members: [bool; 256],
+    members: Bits,
 }
 
 impl Model for SnSet {
+    ghost use Rattle.std.specs.Prelude.{◌≡◌, length};
     ghost use Rattle.rtps_sets.specs.NumberSet.{NumberSet};
 
     ghost Value = { NumberSet };
 
     ghost view = { λ s. record { base = s.base; members = s.members } };
+
+    ghost invariant = { λ s. length s.members ≡ 256 };
 
     ghost inverse = { λ s. record { base = s.base; members = s.members } };
 }
@@ -42,7 +46,7 @@ impl SnSet {
     {
         SnSet {
             base: base.number(),
-            members: [false; 256],
+            members: Bits::none(),
         }
     }
 
@@ -53,9 +57,6 @@ impl SnSet {
         // There are 256 places.
         ensures places { length self.now.members ≡ 256 }
     {
-        let members: &[bool] = &self.members;
-        // This shows the prover how many flags there are.
-        let _places = members.len();
         Sn::new(self.base)
     }
 
@@ -73,7 +74,7 @@ impl SnSet {
         ensures members { self.new.members
             ≡ slice_set self.old.members (number - self.old.base) true }
     {
-        self.members[(number.number() - self.base) as usize] = true;
+        self.members.insert((number.number() - self.base) as usize);
     }
 
     /// Whether a number is a member. Every number may be asked for.
@@ -85,7 +86,7 @@ impl SnSet {
             return false;
         }
         let place = number - self.base;
-        place < 256 && self.members[place as usize]
+        place < 256 && self.members.has(place as usize)
     }
 
     /// The greatest member minus the base plus 1, and 0 for the empty set: from 0 to 256.
@@ -101,22 +102,8 @@ impl SnSet {
         // No number past them is.
         ensures past { (n : ℕ) → self.now.base + result ≤ n → has_number self.now n ≡ false }
     {
-        span_of(&self.members)
+        self.members.span()
     }
-}
-
-/// One more than the last place that is true, or 0.
-fn span_of(members: &[bool]) -> usize
-    ensures bits { result ≡ span members.now }
-    ensures within { result ≤ length members.now }
-{
-    let mut bits = 0;
-    for (place, is_member) in members.iter().enumerate() {
-        if *is_member {
-            bits = place + 1;
-        }
-    }
-    bits
 }
 
 /// The members of every set lie within `MAX_BITS` numbers from its base on.

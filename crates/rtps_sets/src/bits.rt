@@ -1,0 +1,77 @@
+//! 256 bits in words.
+
+ghost use Rattle.std.specs.Prelude.{◌≡◌, ◌≤◌, ◌<◌, ◌*◌, false, true, length, replicate, slice_index_or, slice_set};
+ghost use Rattle.rtps_sets.specs.Bits.{AreWords, IsSpan};
+ghost use Rattle.rtps_sets.specs.NumberSet.{span};
+
+use std::marker::Model;
+
+/// 256 bits. They take no memory.
+#[derive(Clone, Copy, Debug)]
+pub struct Bits {
+    words: [u64; 4],
+}
+
+impl Model for Bits {
+    ghost use Rattle.std.specs.Prelude.{Bool, List};
+    ghost use Rattle.rtps_sets.specs.Bits.{bits_of, words_of, AreWords};
+    ghost use Rattle.rtps_sets.specs.BitLaws.{words_back};
+
+    ghost Value = { List Bool };
+
+    ghost view = { λ b. bits_of b.words };
+
+    ghost invariant = { λ b. AreWords b.words };
+
+    ghost inverse = { λ bits. record { words = words_of bits } };
+
+    ghost inverse_ok = { λ b are i. record { words = words_back b.words are i } };
+}
+
+impl Bits {
+    /// No bit is set.
+    pub fn none() -> Bits
+        ensures { result ≡ replicate 256 false }
+    {
+        Bits { words: [0; 4] }
+    }
+
+    /// Whether the bit of a place is set.
+    pub fn has(&self, place: usize) -> bool
+        requires { place < 256 }
+        ensures has { result ≡ slice_index_or self.now place false }
+        ensures count { length self.now ≡ 256 }
+    {
+        (self.words[place / 64] >> (place % 64)) & 1 == 1
+    }
+
+    /// Sets the bit of a place.
+    pub fn insert(&mut self, place: usize)
+        requires { place < 256 }
+        ensures { self.new ≡ slice_set self.old place true }
+    {
+        self.words[place / 64] |= 1 << (place % 64);
+    }
+
+    /// One more than the last place whose bit is set, or 0.
+    pub fn span(&self) -> usize
+        ensures span { result ≡ span self.now }
+        ensures within { result ≤ 256 }
+    {
+        span_of(&self.words)
+    }
+}
+
+/// One more than the last place whose bit is set in these words, or 0.
+fn span_of(words: &[u64]) -> usize
+    requires { AreWords words.now }
+    ensures { IsSpan words.now 256 result }
+{
+    let mut bits = 0;
+    for (at, word) in words.iter().enumerate() {
+        if *word != 0 {
+            bits = 64 * (at + 1) - word.leading_zeros() as usize;
+        }
+    }
+    bits
+}
