@@ -1,77 +1,267 @@
--- The marks of a list that gained a number, or lost those below one.
-use Rattle.std.proofs.Common.{◌≡◌, ℕ, ◌<◌, ◌≤◌, ◌+◌, Bool, true, false, ◌&&◌, ◌||◌, cond, List, [], ◌∷◌, ◌++◌, refl, sym, ap, ◌∙◌, arith}
-use Rattle.std.specs.Prelude.{is_some, is_none, Option, None, Some, nat_le, nat_lt, ◌==◌, if◌then◌else◌, filter}
-use Rattle.std.proofs.lemmas.Bool.{leb-true, le-leb, ltb-true, lt-ltb}
+-- What the rings of a window say of its numbers.
+use Rattle.std.proofs.Common.{◌≡◌, ℕ, ◌<◌, ◌≤◌, ◌+◌, ◌-◌, ◌%◌, Bool, true, false, not, ◌&&◌, ◌||◌, cond, eqb, List, get_or, refl, inl, inr, sym, ap, ◌∙◌, arith}
+use Rattle.std.specs.Prelude.{is_some, is_none, Option, None, Some, nat_le, nat_lt, ◌==◌, ◌⊎◌}
+use Rattle.std.proofs.lemmas.Bool.{leb-true, le-leb, ltb-true, ltb-false, lt-ltb, le-ltb, lt-leb, eq-eqb, ne_eqb, eqb-true, cases_eq, cases_lt, cases_Bool}
 use Rattle.std.proofs.lemmas.Bool.Decides.{nat_tests}
-use Rattle.rtps_sets.specs.Window.{mark_in, is_in_window}
-use Rattle.rtps_sets.specs.Sound.{HasNoOthers}
+use Rattle.rtps_sets.specs.Window.{Marks, mark_of, ring_mark, in_ring, is_in_window}
 use Rattle.rtps_sets.specs.declared.window.Mark.{Mark}
-use Rattle.rtps_sets.specs.declared.window.Marked.{Marked}
+use Rattle.rtps_sets.specs.declared.window.Mark.TheVariants.{Held, Irrelevant}
 
-none_same : (b : Bool) → let none : Option Mark = None in none ≡ cond b none none
+and_none : (b : Bool) → (b && false) ≡ false
+and_none true = refl
+and_none false = refl
+
+none_same : (b : Bool) → let none : Option Mark = None in cond b none none ≡ none
 none_same true = refl
 none_same false = refl
 
--- one element under a filter that goes by the number
-filter_step : (keep same at_n : Bool) (mark : Mark) (m : Marked) (rest : List Marked) (n : ℕ) (then_rest : Option Mark)
-    → (same ≡ true → keep ≡ at_n) → m.mark ≡ mark → (m.number == n) ≡ same
-    → mark_in rest n ≡ cond at_n then_rest None
-    → mark_in (cond keep (m ∷ rest) rest) n ≡ cond at_n (cond same (Some mark) then_rest) None
-filter_step true true true mark m rest n t agree is e h = rw (e, is) refl
-filter_step true true false mark m rest n t agree is e h = absurd (let x : true ≡ false = agree refl in cc)
-filter_step false true true mark m rest n t agree is e h = absurd (let x : false ≡ true = agree refl in cc)
-filter_step false true false mark m rest n t agree is e h = h
-filter_step true false true mark m rest n t agree is e h = rw e h
-filter_step true false false mark m rest n t agree is e h = rw e h
-filter_step false false true mark m rest n t agree is e h = h
-filter_step false false false mark m rest n t agree is e h = h
+and_true : (b : Bool) → (b && true) ≡ b
+and_true true = refl
+and_true false = refl
 
-pub marks_from : (to : ℕ) (ms : List Marked) (n : ℕ) → mark_in (filter (λ m. nat_le to m.number) ms) n
-    ≡ (if nat_le to n then mark_in ms n else None)
-marks_from to [] n = none_same (nat_le to n)
-marks_from to (m ∷ ms) n =
-    filter_step (nat_le to m.number) (m.number == n) (nat_le to n) m.mark m (filter (λ x. nat_le to x.number) ms) n
-    (mark_in ms n)
-    (λ same. grind (arith, nat_tests)) refl refl (marks_from to ms n)
+pub in_window : (place n : ℕ) → place ≤ n → n < place + 256 → is_in_window place n ≡ true
+in_window place n low high = rw (le-leb place n low) (lt-ltb n (place + 256) high)
 
--- a list without the number gains it
-pub marks_more : (ms : List Marked) (number : ℕ) (mark : Mark) (n : ℕ) → mark_in ms number ≡ None
-    → mark_in (ms ++ record { number = number; mark = mark } ∷ []) n ≡ (if number == n then Some mark else mark_in ms n)
-marks_more [] number mark n fresh = refl
-marks_more (m ∷ ms) number mark n fresh =
-    join (m.number == number) (m.number == n) (number == n) m.mark mark (mark_in ms number) (mark_in ms n) _ fresh
-    (λ a b. grind (arith, nat_tests)) (λ f. marks_more ms number mark n f)
+below_window : (place n : ℕ) → n < place → is_in_window place n ≡ false
+below_window place n low = grind (arith, nat_tests)
+
+above_window : (place n : ℕ) → place + 256 ≤ n → is_in_window place n ≡ false
+above_window place n high = grind (arith, nat_tests)
+
+window_from : (place n : ℕ) → is_in_window place n ≡ true → place ≤ n
+window_from place n is = grind (arith, nat_tests)
+
+window_to : (place n : ℕ) → is_in_window place n ≡ true → n < place + 256
+window_to place n is = grind (arith, nat_tests)
+
+pub mark_inside : (w : Marks) (n : ℕ) → is_in_window w.place n ≡ true → mark_of w n ≡ ring_mark w.held w.irrelevant n
+unfolding mark_of
+mark_inside w n is = rw is refl
+
+pub mark_outside : (w : Marks) (n : ℕ) → is_in_window w.place n ≡ false → mark_of w n ≡ None
+unfolding mark_of
+mark_outside w n is = rw is refl
+
+-- a number from the place on without a bit has no mark, also past the window
+pub none_from_rings : (w : Marks) (n : ℕ) → w.place ≤ n
+    → (n < w.place + 256 → ring_mark w.held w.irrelevant n ≡ None) → mark_of w n ≡ None
+none_from_rings w n low none = by (cases_lt n (w.place + 256))
   where
-    join : (other at same : Bool) (its mark : Mark) (rest_number rest_n after : Option Mark)
-        → cond other (Some its) rest_number ≡ None → (at ≡ true → same ≡ true → other ≡ true)
-        → (rest_number ≡ None → after ≡ cond same (Some mark) rest_n)
-        → cond at (Some its) after ≡ cond same (Some mark) (cond at (Some its) rest_n)
-    join true at same its mark rn r after e agree ih = absurd (cc)
-    join false true true its mark rn r after e agree ih = absurd (let x : false ≡ true = agree refl refl in cc)
-    join false true false its mark rn r after e agree ih = refl
-    join false false same its mark rn r after e agree ih = ih e
+    by : (n < w.place + 256) ⊎ (w.place + 256 ≤ n) → mark_of w n ≡ None
+    by (inl less) = mark_inside w n (in_window w.place n low less) ∙ none less
+    by (inr past) = mark_outside w n (above_window w.place n past)
 
-none_if : (b : Bool) (o : Option Mark) → (b ≡ true → o ≡ None) → cond b o None ≡ None
-none_if true o e = e refl
-none_if false o e = refl
-
--- a window whose place moves up has no number outside it
-pub slides : (place to : ℕ) (ms : List Marked) (room more : ℕ)
-    → HasNoOthers (record { place = place; marked = ms; room = room }) → place ≤ to
-    → HasNoOthers (record { place = to; marked = filter (λ m. nat_le to m.number) ms; room = more })
-slides place to ms room more w forward n out =
-    marks_from to ms n ∙ none_if (nat_le to n) (mark_in ms n) (λ le. w n (grind (arith, nat_tests)))
-
--- a window that gains a number of it has no number outside it
-pub gains : (place number : ℕ) (mark : Mark) (ms : List Marked) (room more : ℕ)
-    → HasNoOthers (record { place = place; marked = ms; room = room }) → place ≤ number → number < place + 256
-    → mark_in ms number ≡ None
-    → HasNoOthers (record { place = place; marked = ms ++ record { number = number; mark = mark } ∷ []; room = more })
-gains place number mark ms room more w low high fresh n out =
-    marks_more ms number mark n fresh ∙ other (number == n) (mark_in ms n) (grind (arith, nat_tests)) (w n out)
+-- two numbers of one window have two places in a ring
+pub same_place : (place number n : ℕ) → is_in_window place number ≡ true → is_in_window place n ≡ true
+    → eqb (n % 256) (number % 256) ≡ eqb number n
+same_place place number n there here = by (cases_eq number n)
   where
-    other : (b : Bool) (o : Option Mark) → b ≡ false → o ≡ None → cond b (Some mark) o ≡ None
-    other b o e f = rw e f
+    by : (number ≡ n) ⊎ (number ≡ n → ⊥) → eqb (n % 256) (number % 256) ≡ eqb number n
+    by (inl e) = eq-eqb (n % 256) (number % 256) (ap (λ (k : ℕ). k % 256) (sym e)) ∙ sym (eq-eqb number n e)
+    by (inr ne) =
+        let a = window_from place number there in
+        let b = window_to place number there in
+        let c = window_from place n here in
+        let d = window_to place n here in
+        ne_eqb (n % 256) (number % 256) (λ e. ne (omega arith)) ∙ sym (ne_eqb number n ne)
+
+-- the ring has gained the bit of a place
+abbrev pub Gains : List Bool → List Bool → ℕ → Type 0
+Gains old new place = (k : ℕ) → get_or new k false ≡ (get_or old k false || eqb k place)
+
+held_more : (x y same : Bool) → cond (x || same) (Some Held) (cond y (Some Irrelevant) None)
+    ≡ cond same (Some Held) (cond x (Some Held) (cond y (Some Irrelevant) None))
+held_more true y true = refl
+held_more true y false = refl
+held_more false y true = refl
+held_more false y false = refl
+
+irrelevant_more : (x y same : Bool) → (same ≡ true → x ≡ false)
+    → cond x (Some Held) (cond (y || same) (Some Irrelevant) None)
+    ≡ cond same (Some Irrelevant) (cond x (Some Held) (cond y (Some Irrelevant) None))
+irrelevant_more true y true fresh = absurd (let e : true ≡ false = fresh refl in cc)
+irrelevant_more true y false fresh = refl
+irrelevant_more false true true fresh = refl
+irrelevant_more false false true fresh = refl
+irrelevant_more false true false fresh = refl
+irrelevant_more false false false fresh = refl
+
+not_held : (x y : Bool) → cond x (Some Held) (cond y (Some Irrelevant) None) ≡ None → x ≡ false
+not_held true y e = absurd (cc)
+not_held false y e = refl
+
+other_number : (place number n : ℕ) → is_in_window place number ≡ true → is_in_window place n ≡ false
+    → eqb number n ≡ false
+other_number place number n there out = ne_eqb number n (λ e. grind (arith, nat_tests))
+
+-- a window whose ring of held changes has gained a number of it
+pub marks_held : (place number n : ℕ) (held irrelevant new : List Bool) → is_in_window place number ≡ true
+    → Gains held new (number % 256)
+    → mark_of (record { place = place; held = new; irrelevant = irrelevant }) n
+    ≡ cond (eqb number n) (Some Held) (mark_of (record { place = place; held = held; irrelevant = irrelevant }) n)
+marks_held place number n held irrelevant new there gains = by (cases_Bool (is_in_window place n))
+  where
+    by : (is_in_window place n ≡ true) ⊎ (is_in_window place n ≡ false)
+        → mark_of (record { place = place; held = new; irrelevant = irrelevant }) n
+        ≡ cond (eqb number n) (Some Held) (mark_of (record { place = place; held = held; irrelevant = irrelevant }) n)
+    by (inl here) =
+        let bit : in_ring new n ≡ (in_ring held n || eqb number n) =
+        gains (n % 256) ∙ ap (λ (b : Bool). in_ring held n || b) (same_place place number n there here) in
+        rw (
+          mark_inside (record { place = place; held = new; irrelevant = irrelevant }) n here,
+          mark_inside (record { place = place; held = held; irrelevant = irrelevant }) n here,
+          bit,
+        )
+        (held_more (in_ring held n) (in_ring irrelevant n) (eqb number n))
+    by (inr out) =
+        rw (
+          mark_outside (record { place = place; held = new; irrelevant = irrelevant }) n out,
+          mark_outside (record { place = place; held = held; irrelevant = irrelevant }) n out,
+          other_number place number n there out,
+        ) refl
+
+-- a window whose ring of irrelevant numbers has gained a number that had no mark
+pub marks_irrelevant : (place number n : ℕ) (held irrelevant new : List Bool) → is_in_window place number ≡ true
+    → mark_of (record { place = place; held = held; irrelevant = irrelevant }) number ≡ None
+    → Gains irrelevant new (number % 256)
+    → mark_of (record { place = place; held = held; irrelevant = new }) n
+    ≡ cond (eqb number n) (Some Irrelevant) (mark_of (record { place = place; held = held; irrelevant = irrelevant }) n)
+marks_irrelevant place number n held irrelevant new there fresh gains = by (cases_Bool (is_in_window place n))
+  where
+    by : (is_in_window place n ≡ true) ⊎ (is_in_window place n ≡ false)
+        → mark_of (record { place = place; held = held; irrelevant = new }) n
+        ≡ cond (eqb number n) (Some Irrelevant)
+        (mark_of (record { place = place; held = held; irrelevant = irrelevant }) n)
+    by (inl here) =
+        let bit : in_ring new n ≡ (in_ring irrelevant n || eqb number n) =
+        gains (n % 256) ∙ ap (λ (b : Bool). in_ring irrelevant n || b) (same_place place number n there here) in
+        rw (
+          mark_inside (record { place = place; held = held; irrelevant = new }) n here,
+          mark_inside (record { place = place; held = held; irrelevant = irrelevant }) n here,
+          bit,
+        )
+        (irrelevant_more (in_ring held n) (in_ring irrelevant n) (eqb number n)
+        (λ same. ap (λ (k : ℕ). in_ring held k) (sym (eqb-true number n same))
+        ∙ not_held (in_ring held number) (in_ring irrelevant number)
+        (sym (mark_inside (record { place = place; held = held; irrelevant = irrelevant }) number there) ∙ fresh)))
+    by (inr out) =
+        rw (
+          mark_outside (record { place = place; held = held; irrelevant = new }) n out,
+          mark_outside (record { place = place; held = held; irrelevant = irrelevant }) n out,
+          other_number place number n there out,
+        ) refl
+
+-- the ring has moved from one place to another: the bits of its old window stay, and no other is set
+abbrev pub Moves : List Bool → List Bool → ℕ → ℕ → Type 0
+Moves old new from to = (n : ℕ) → to ≤ n → n < to + 256 → in_ring new n ≡ (nat_lt n (from + 256) && in_ring old n)
+
+both_kept : (kept x y : Bool) → cond (kept && x) (Some Held) (cond (kept && y) (Some Irrelevant) None)
+    ≡ cond kept (cond x (Some Held) (cond y (Some Irrelevant) None)) None
+both_kept true x y = refl
+both_kept false x y = refl
+
+-- a window whose place moves up forgets the marks below, and has no new ones
+pub marks_from : (place to n : ℕ) (held irrelevant held_new irrelevant_new : List Bool) → place ≤ to
+    → Moves held held_new place to → Moves irrelevant irrelevant_new place to
+    → mark_of (record { place = to; held = held_new; irrelevant = irrelevant_new }) n
+    ≡ cond (nat_le to n) (mark_of (record { place = place; held = held; irrelevant = irrelevant }) n) None
+marks_from place to n held irrelevant held_new irrelevant_new forward h i = by (cases_lt n to) (cases_lt n (to + 256))
+  where
+    new : Marks
+    new = record { place = to; held = held_new; irrelevant = irrelevant_new }
+
+    old : Marks
+    old = record { place = place; held = held; irrelevant = irrelevant }
+
+    kept : to ≤ n → (b : Bool) → nat_lt n (place + 256) ≡ b
+        → mark_of old n ≡ cond b (ring_mark held irrelevant n) None
+    kept le true less = mark_inside old n (in_window place n (omega arith) (ltb-true n (place + 256) less))
+    kept le false past = mark_outside old n (above_window place n (ltb-false n (place + 256) past))
+
+    by : (n < to) ⊎ (to ≤ n) → (n < to + 256) ⊎ (to + 256 ≤ n)
+        → mark_of new n ≡ cond (nat_le to n) (mark_of old n) None
+    by (inl lt) high = rw (mark_outside new n (below_window to n lt), lt-leb to n lt) refl
+    by (inr le) (inl less) =
+        rw (le-leb to n le, mark_inside new n (in_window to n le less), h n le less, i n le less)
+        (both_kept (nat_lt n (place + 256)) (in_ring held n) (in_ring irrelevant n)
+        ∙ sym (kept le (nat_lt n (place + 256)) refl))
+    by (inr le) (inr past) =
+        rw (
+          le-leb to n le,
+          mark_outside new n (above_window to n past),
+          mark_outside old n (above_window place n (omega arith)),
+        ) refl
+
+-- a number's bit is that of the number of the window with the same place in the ring
+pub ring_same : (ring : List Bool) (n k : ℕ) → n % 256 ≡ k % 256 → in_ring ring n ≡ in_ring ring k
+ring_same ring n k e = ap (λ (place : ℕ). get_or ring place false) e
+
+-- the bits of the numbers from one to another are cleared
+abbrev pub Clears : List Bool → List Bool → ℕ → ℕ → Type 0
+Clears old new from to = (n : ℕ) → from ≤ n → n < from + 256 → in_ring new n ≡ (nat_le to n && in_ring old n)
+
+pub none_cleared : (ring : List Bool) (from : ℕ) → Clears ring ring from from
+none_cleared ring from n low high = rw (le-leb from n low) refl
+
+cleared : (low next x same : Bool) → (same ≡ true → next ≡ false) → (same ≡ false → next ≡ low)
+    → ((low && x) && not same) ≡ (next && x)
+cleared low next x true e f = rw (e refl) (and_none (low && x))
+cleared low next x false e f = rw (f refl) (and_true (low && x))
+
+pub one_cleared : (old ring new : List Bool) (from number : ℕ) → from ≤ number → number < from + 256
+    → Clears old ring from number
+    → ((k : ℕ) → get_or new k false ≡ (get_or ring k false && not (eqb k (number % 256))))
+    → Clears old new from (number + 1)
+one_cleared old ring new from number low high before step n from_n to_n =
+    let same : eqb (n % 256) (number % 256) ≡ eqb number n =
+    same_place from number n (in_window from number low high) (in_window from n from_n to_n) in
+    step (n % 256)
+    ∙ (ap (λ (b : Bool). in_ring ring n && not b) same
+    ∙ (ap (λ (b : Bool). b && not (eqb number n)) (before n from_n to_n)
+    ∙ cleared (nat_le number n) (nat_le (number + 1) n) (in_ring old n) (eqb number n)
+    (λ t. grind (arith, nat_tests)) (λ t. grind (arith, nat_tests))))
+
+-- after the numbers from one place to another, or all of the window, were cleared the ring has moved
+pub all_cleared : (old new : List Bool) (from end to : ℕ) → from ≤ end → end ≤ to → (to < from + 256 → end ≡ to)
+    → (from + 256 ≤ to → end ≡ from + 256) → Clears old new from end → Moves old new from to
+all_cleared old new from end to low within near far clears n le lt = by (cases_lt n (from + 256))
+  where
+    past_end : (to < from + 256) ⊎ (from + 256 ≤ to) → from + 256 ≤ n → from + (n - from) % 256 < end
+    past_end (inl less) past = let e = near less in omega arith
+    past_end (inr more) past = let e = far more in omega arith
+
+    gone : (b x : Bool) → b ≡ false → (b && x) ≡ false
+    gone b x e = rw e refl
+
+    by : (n < from + 256) ⊎ (from + 256 ≤ n) → in_ring new n ≡ (nat_lt n (from + 256) && in_ring old n)
+    by (inl less) =
+        rw (lt-ltb n (from + 256) less)
+        (clears n (omega arith) less ∙ rw (le-leb end n (omega arith)) refl)
+    by (inr past) =
+        let same : n % 256 ≡ (from + (n - from) % 256) % 256 = omega arith in
+        rw (le-ltb n (from + 256) past)
+        (ring_same new n (from + (n - from) % 256) same
+        ∙ (clears (from + (n - from) % 256) (omega arith) (omega arith)
+        ∙ gone (nat_le end (from + (n - from) % 256)) (in_ring old (from + (n - from) % 256))
+        (lt-leb end (from + (n - from) % 256) (past_end (cases_lt to (from + 256)) past))))
+
+-- where nothing was marked, and the ring was empty
+pub no_marks : (n : ℕ) (held irrelevant : List Bool) (place : ℕ) → ((k : ℕ) → get_or held k false ≡ false)
+    → ((k : ℕ) → get_or irrelevant k false ≡ false)
+    → mark_of (record { place = place; held = held; irrelevant = irrelevant }) n ≡ None
+unfolding mark_of
+no_marks n held irrelevant place h i = rw (h (n % 256), i (n % 256)) (none_same (is_in_window place n))
+
+-- a set of the numbers of a window is asked for their marks alone
+pub asked_in_window : (w : Marks) (n : ℕ) (q : Bool)
+    → (is_in_window w.place n && (q && is_none (ring_mark w.held w.irrelevant n)))
+    ≡ (is_in_window w.place n && (q && is_none (mark_of w n)))
+asked_in_window w n q = by (is_in_window w.place n) refl
+  where
+    by : (b : Bool) → is_in_window w.place n ≡ b
+        → (b && (q && is_none (ring_mark w.held w.irrelevant n))) ≡ (b && (q && is_none (mark_of w n)))
+    by true is = rw (mark_inside w n is) refl
+    by false is = refl
 
 or_true : (b : Bool) → (b || true) ≡ true
 or_true true = refl
@@ -81,13 +271,9 @@ or_false : (b : Bool) → (b || false) ≡ b
 or_false true = refl
 or_false false = refl
 
-and_none : (b : Bool) → (b && false) ≡ false
-and_none true = refl
-and_none false = refl
-
-at_number : (ms : List Marked) (n number : ℕ) → n ≡ number → (b : Bool) → is_none (mark_in ms number) ≡ b
-    → is_none (mark_in ms n) ≡ b
-at_number ms n number e b is = ap (λ (k : ℕ). is_none (mark_in ms k)) e ∙ is
+at_number : (known : ℕ → Option Mark) (n number : ℕ) → n ≡ number → (b : Bool) → is_none (known number) ≡ b
+    → is_none (known n) ≡ b
+at_number known n number e b is = ap (λ (k : ℕ). is_none (known k)) e ∙ is
 
 pub none_of : (o : Option Mark) → is_some o ≡ false → o ≡ None
 none_of None e = refl
@@ -116,21 +302,21 @@ left p q next true o e3 e4 = rw (e3 refl) (and_none (p && q) ∙ sym (and_none (
 left p q next false o e3 e4 = rw (e4 refl) refl
 
 -- one more number was looked at, which is not marked
-pub one_taken : (place number n : ℕ) (ms : List Marked) → place ≤ number → is_none (mark_in ms number) ≡ true
-    → (((nat_le place n && nat_lt n number) && is_none (mark_in ms n)) || (n == number))
-    ≡ ((nat_le place n && nat_lt n (number + 1)) && is_none (mark_in ms n))
-one_taken place number n ms from fresh =
-    taken (nat_le place n) (nat_lt n number) (nat_lt n (number + 1)) (n == number) (is_none (mark_in ms n))
+pub one_taken : (place number n : ℕ) (known : ℕ → Option Mark) → place ≤ number → is_none (known number) ≡ true
+    → (((nat_le place n && nat_lt n number) && is_none (known n)) || (n == number))
+    ≡ ((nat_le place n && nat_lt n (number + 1)) && is_none (known n))
+one_taken place number n known from fresh =
+    taken (nat_le place n) (nat_lt n number) (nat_lt n (number + 1)) (n == number) (is_none (known n))
     (λ t. grind (arith, nat_tests)) (λ t. grind (arith, nat_tests))
-    (λ t. at_number ms n number (grind (arith, nat_tests)) true fresh) (λ t. grind (arith, nat_tests))
+    (λ t. at_number known n number (grind (arith, nat_tests)) true fresh) (λ t. grind (arith, nat_tests))
 
 -- one more number was looked at, which is marked
-pub one_left : (place number n : ℕ) (ms : List Marked) → is_none (mark_in ms number) ≡ false
-    → ((nat_le place n && nat_lt n number) && is_none (mark_in ms n))
-    ≡ ((nat_le place n && nat_lt n (number + 1)) && is_none (mark_in ms n))
-one_left place number n ms known =
-    left (nat_le place n) (nat_lt n number) (nat_lt n (number + 1)) (n == number) (is_none (mark_in ms n))
-    (λ t. at_number ms n number (grind (arith, nat_tests)) false known) (λ t. grind (arith, nat_tests))
+pub one_left : (place number n : ℕ) (known : ℕ → Option Mark) → is_none (known number) ≡ false
+    → ((nat_le place n && nat_lt n number) && is_none (known n))
+    ≡ ((nat_le place n && nat_lt n (number + 1)) && is_none (known n))
+one_left place number n known is =
+    left (nat_le place n) (nat_lt n number) (nat_lt n (number + 1)) (n == number) (is_none (known n))
+    (λ t. at_number known n number (grind (arith, nat_tests)) false is) (λ t. grind (arith, nat_tests))
 
 both : (next below up_to : Bool) → (next ≡ true → below ≡ true) → (next ≡ true → up_to ≡ true)
     → (below ≡ true → up_to ≡ true → next ≡ true) → next ≡ (below && up_to)

@@ -4,7 +4,7 @@ use Rattle.std.proofs.lemmas.Bool.{le-leb}
 use Rattle.rtps_sets.specs.NumberSet.{NumberSet, has_number, empty_from, span}
 use Rattle.rtps_sets.proofs.SpanLaws.{span_last, span_past}
 
-none_of : (n k : ℕ) → get_or (replicate n false) k false ≡ false
+pub none_of : (n k : ℕ) → get_or (replicate n false) k false ≡ false
 none_of zero k = refl
 none_of (suc n) zero = refl
 none_of (suc n) (suc k) = none_of n k

@@ -1,9 +1,9 @@
 -- What a write to one word does to the 256 bits, and what their last one is.
-use Rattle.std.proofs.Common.{◌≡◌, ℕ, suc, ◌-◌, ◌+◌, ◌*◌, ◌/◌, ◌%◌, ◌^◌, ◌<◌, ◌≤◌, Bool, true, false, List, length, get_or, set, replicate, eqb, refl, inl, inr, sym, ap, ◌∙◌, arith, length-set, get_or-set_same, get_or-set_other, bit_or, bit_and, w64, pow-suc}
+use Rattle.std.proofs.Common.{◌≡◌, ℕ, suc, ◌-◌, ◌+◌, ◌*◌, ◌/◌, ◌%◌, ◌^◌, ◌<◌, ◌≤◌, Bool, true, false, not, ◌&&◌, ◌||◌, List, length, get_or, set, replicate, eqb, refl, inl, inr, sym, ap, ◌∙◌, arith, length-set, get_or-set_same, get_or-set_other, bit_or, bit_and, w64, pow-suc}
 use Rattle.std.specs.Prelude.{◌≢◌, ◌⊎◌}
 use Rattle.std.specs.Int.{bit_at, bit_not}
 use Rattle.std.specs.Int.Count.{count_leading_zeros}
-use Rattle.std.proofs.lemmas.Bool.{cases_lt, cases_eq}
+use Rattle.std.proofs.lemmas.Bool.{cases_lt, cases_eq, eq-eqb, ne_eqb, or_right, and_right}
 use Rattle.std.proofs.lemmas.List.{set_past}
 use Rattle.std.proofs.lemmas.Nat.{mod_below, or_lt, and_le_l, le-div, div_below, leading_top, pow_pos}
 use Rattle.std.proofs.lemmas.Nat.Bits.{bit_at-zero, bit_at_above, bit_at_set_same, bit_at_set_other, bit_at_clear_same, bit_at_clear_other}
@@ -88,6 +88,39 @@ words_clear words place are =
     words_with words (place / 64) _ are
     (let le = and_le_l (get_or words (place / 64) 0) (bit_not w64 (1 * 2 ^ (place % 64) % 2 ^ 64)) in
     let small = are.small (place / 64) in omega arith)
+
+or_same : (b : Bool) → (b || false) ≡ b
+or_same true = refl
+or_same false = refl
+
+and_same : (b : Bool) → (b && true) ≡ b
+and_same true = refl
+and_same false = refl
+
+-- a bit that is set, and all others
+pub place_set : (flags : List Bool) (place k : ℕ) → place < length flags
+    → get_or (set flags place true) k false ≡ (get_or flags k false || eqb k place)
+place_set flags place k lt = by (cases_eq k place)
+  where
+    by : (k ≡ place) ⊎ (k ≡ place → ⊥) → get_or (set flags place true) k false ≡ (get_or flags k false || eqb k place)
+    by (inl same) =
+        rw (same, get_or-set_same flags place true false lt, eq-eqb place place refl)
+        (sym (or_right (get_or flags place false) true refl))
+    by (inr ne) =
+        rw (get_or-set_other flags place k true false ne, ne_eqb k place ne) (sym (or_same (get_or flags k false)))
+
+-- a bit that is cleared, and all others
+pub place_clear : (flags : List Bool) (place k : ℕ) → place < length flags
+    → get_or (set flags place false) k false ≡ (get_or flags k false && not (eqb k place))
+place_clear flags place k lt = by (cases_eq k place)
+  where
+    by : (k ≡ place) ⊎ (k ≡ place → ⊥)
+        → get_or (set flags place false) k false ≡ (get_or flags k false && not (eqb k place))
+    by (inl same) =
+        rw (same, get_or-set_same flags place false false lt, eq-eqb place place refl)
+        (sym (and_right (get_or flags place false) false refl))
+    by (inr ne) =
+        rw (get_or-set_other flags place k false false ne, ne_eqb k place ne) (sym (and_same (get_or flags k false)))
 
 -- no bit of four words that are 0
 pub no_bits : bits_of (replicate 4 0) ≡ replicate 256 false

@@ -1,6 +1,6 @@
 //! 256 bits in words.
 
-ghost use Rattle.std.specs.Prelude.{◌≡◌, ◌≤◌, ◌<◌, ◌*◌, false, true, length, replicate, slice_index_or, slice_set};
+ghost use Rattle.std.specs.Prelude.{◌≡◌, ◌≤◌, ◌<◌, ◌==◌, ◌&&◌, ◌||◌, ℕ, false, not, true, length, replicate, slice_index_or, slice_set};
 ghost use Rattle.rtps_sets.specs.Bits.{AreWords, IsSpan};
 ghost use Rattle.rtps_sets.specs.NumberSet.{span};
 
@@ -48,9 +48,20 @@ impl Bits {
     /// Sets the bit of a place.
     pub fn insert(&mut self, place: usize)
         requires { place < 256 }
-        ensures { self.new ≡ slice_set self.old place true }
+        ensures bits { self.new ≡ slice_set self.old place true }
+        ensures each { (k : ℕ) → slice_index_or self.new k false
+            ≡ (slice_index_or self.old k false || k == place) }
     {
         self.words[place / 64] |= 1 << (place % 64);
+    }
+
+    /// Clears the bit of a place.
+    pub fn remove(&mut self, place: usize)
+        requires { place < 256 }
+        ensures each { (k : ℕ) → slice_index_or self.new k false
+            ≡ (slice_index_or self.old k false && not (k == place)) }
+    {
+        self.words[place / 64] &= !(1 << (place % 64));
     }
 
     /// One more than the last place whose bit is set, or 0.

@@ -2,11 +2,12 @@
 //!
 //! RTPS 2.5, 8.4.10 (ChangeFromWriter: status), 8.4.12.
 
-ghost use Rattle.std.specs.Prelude.{◌≡◌, ◌≤◌, ◌<◌, ◌+◌, ◌&&◌, ◌==◌, ℕ, false, nat_le, is_none, max, Some, None, Ok, IsTrue, IsOk, IsSome, IfOk, IfErr, OnOk, OnErr, filter, vec_len, vec_capacity, if◌then◌else◌};
+ghost use Rattle.std.specs.Prelude.{◌≡◌, ◌≤◌, ◌<◌, ◌+◌, ◌%◌, ◌&&◌, ◌==◌, ℕ, false, nat_le, nat_lt, is_none, max, Some, None, Ok, IsTrue, IsOk, IsSome, IfOk, IfErr, OnOk, OnErr, if◌then◌else◌};
 ghost use Rattle.dds_base.specs.declared.code.Code.TheVariants.{Memory};
 ghost use Rattle.rtps_sets.specs.NumberSet.{has_number};
-ghost use Rattle.rtps_sets.specs.Window.{window_place, mark_of, room_of, is_in_window, can_mark, mark_in, SameMarks};
+ghost use Rattle.rtps_sets.specs.Window.{window_place, mark_of, room_of, is_in_window, can_mark, in_ring, ring_mark, SameMarks};
 
+use crate::bits::Bits;
 use crate::sn_set::SnSet;
 use dds_base::{Code, Sn};
 use std::alloc::Global;
@@ -26,32 +27,23 @@ pub enum Mark {
     Irrelevant,
 }
 
-/// A marked number.
-#[derive(Clone, Copy)]
-pub struct Marked {
-    number: u64,
-    mark: Mark,
-}
-
 /// The place of a reader in the numbers of one writer, and what is known of the 256 numbers from it on.
 ///
 /// RTPS 2.5, 8.4.10 (WriterProxy: changes_from_writer).
 #[derive(Drop)]
 pub struct Window {
     place: u64,
-    marked: Vec<Marked>,
+    /// Each number has the bit at the number modulo the width.
+    held: Bits,
+    irrelevant: Bits,
 }
 
 impl Model for Window {
-    ghost use Rattle.std.specs.Prelude.{◌-◌, vec_len, vec_capacity};
     ghost use Rattle.rtps_sets.specs.Window.{Marks};
-    ghost use Rattle.rtps_sets.specs.Sound.{HasNoOthers};
 
     ghost Value = { Marks };
 
-    ghost view = { λ w. record { place = w.place; marked = w.marked.items; room = vec_capacity w.marked - vec_len w.marked } };
-
-    ghost invariant = { λ w. HasNoOthers (record { place = w.place; marked = w.marked.items; room = vec_capacity w.marked - vec_len w.marked }) };
+    ghost view = { λ w. record { place = w.place; held = w.held; irrelevant = w.irrelevant } };
 }
 
 impl Window {
@@ -64,7 +56,8 @@ impl Window {
     {
         Window {
             place: 1,
-            marked: Vec::new(alloc),
+            held: Bits::none(),
+            irrelevant: Bits::none(),
         }
     }
 
@@ -85,14 +78,16 @@ impl Window {
     pub fn mark_of(&self, number: Sn) -> Option<Mark>
         ensures mark { result ≡ mark_of self.now number }
     {
-        find_mark(&self.marked, number.number())
+        let number = number.number();
+        if is_in_window(self.place, number) {
+            ring_mark(&self.held, &self.irrelevant, number)
+        } else {
+            None
+        }
     }
 
-    /// Makes room for `n` marks, so that the next `n` calls of `mark` can't fail.
-    ///
-    /// # Errors
-    ///
-    /// `Memory` where a growth was refused; the window is as it was.
+    /// Makes room for `n` marks, so that the next `n` calls of `mark` can't fail. There is room always: it takes no
+    /// memory and never fails.
     pub fn reserve(&mut self, n: usize) -> Result<(), Code>
         // Place and marks stay.
         ensures same { SameMarks self.old self.new }
@@ -104,16 +99,13 @@ impl Window {
         ensures succeeds { n ≤ room_of self.old → IsOk result }
         // It is refused for want of memory alone.
         ensures memory { IfErr result (λ code. code ≡ Memory) }
+        // It is never refused.
+        ensures always { IsOk result }
     {
-        self.marked.reserve(n)?;
         Ok(())
     }
 
-    /// Marks a number: false where it is outside the window or was marked before.
-    ///
-    /// # Errors
-    ///
-    /// `Memory` where there was no room and a growth was refused; the window is as it was.
+    /// Marks a number: false where it is outside the window or was marked before. It takes no memory and never fails.
     pub fn mark(&mut self, number: Sn, mark: Mark) -> Result<bool, Code>
         // The place stays.
         ensures place { window_place self.new ≡ window_place self.old }
@@ -134,15 +126,17 @@ impl Window {
         ensures memory { IfErr result (λ code. code ≡ Memory) }
         // A refusal leaves place and marks as they were.
         ensures err { OnErr result (SameMarks self.old self.new) }
+        // It is never refused.
+        ensures always { IsOk result }
     {
-        let number = number.number();
-        if number < self.place || WIDTH <= number - self.place {
+        if !is_in_window(self.place, number.number()) || self.mark_of(number).is_some() {
             return Ok(false);
         }
-        if find_mark(&self.marked, number).is_some() {
-            return Ok(false);
+        let at = place_in_ring(number.number());
+        match mark {
+            Mark::Held => self.held.insert(at),
+            Mark::Irrelevant => self.irrelevant.insert(at),
         }
-        self.marked.push(Marked { number, mark })?;
         Ok(true)
     }
 
@@ -160,7 +154,7 @@ impl Window {
         let last = u64::min(bound.number(), self.place.saturating_add(WIDTH - 1));
         let mut set = SnSet::new(Sn::new(self.place));
         for number in self.place..=last {
-            if find_mark(&self.marked, number).is_none() {
+            if ring_mark(&self.held, &self.irrelevant, number).is_none() {
                 set.insert(Sn::new(number));
             }
         }
@@ -186,13 +180,12 @@ impl Window {
         // It has no less room than before.
         ensures room { room_of self.old ≤ room_of self.new }
     {
-        let place = run_end(&self.marked, self.place, to.number());
-        drop_below(&mut self.marked, place);
-        self.place = place;
+        let place = run_end(&self.held, &self.irrelevant, self.place, to.number());
+        self.move_to(place);
     }
 
     /// Moves the place to `to` in one step, over numbers whatever is known of them. It takes no memory, and its cost
-    /// goes by the marks, not by the numbers.
+    /// goes by the width, not by the numbers.
     ///
     /// RTPS 2.5, 8.4.10 (WriterProxy: lost_changes_update).
     pub fn pass(&mut self, to: Sn)
@@ -206,43 +199,76 @@ impl Window {
         // It has no less room than before.
         ensures room { room_of self.old ≤ room_of self.new }
     {
-        self.place = to.number();
-        drop_below(&mut self.marked, self.place);
+        self.move_to(to.number());
+    }
+
+    /// Moves the place up to a number, and forgets the marks below.
+    fn move_to(&mut self, place: u64)
+        requires forward { window_place self.old ≤ place }
+        ensures place { window_place self.new ≡ place }
+        ensures marks { (n : ℕ)
+            → mark_of self.new n ≡ (if nat_le place n then mark_of self.old n else None) }
+    {
+        forget(&mut self.held, self.place, place);
+        forget(&mut self.irrelevant, self.place, place);
+        self.place = place;
     }
 }
 
-/// The mark of a number.
-fn find_mark(marked: &[Marked], number: u64) -> Option<Mark>
-    ensures { result ≡ mark_in marked.now number }
+/// Whether a number is one of the window from a place on.
+fn is_in_window(place: u64, number: u64) -> bool
+    ensures { result ≡ is_in_window place number }
 {
-    for entry in marked {
-        if entry.number == number {
-            return Some(entry.mark);
-        }
-    }
-    None
+    place <= number && number - place < WIDTH
 }
 
-/// The first number from the place on that is not marked, but at most `to`.
-fn run_end(marked: &[Marked], place: u64, to: u64) -> u64
+/// Where the bit of a number stands in a ring.
+fn place_in_ring(number: u64) -> usize
+    ensures { result ≡ number % 256 }
+{
+    (number % WIDTH) as usize
+}
+
+/// What the rings say of a number, which is one of the window.
+fn ring_mark(held: &Bits, irrelevant: &Bits, number: u64) -> Option<Mark>
+    ensures { result ≡ ring_mark held.now irrelevant.now number }
+{
+    if held.has(place_in_ring(number)) {
+        Some(Mark::Held)
+    } else if irrelevant.has(place_in_ring(number)) {
+        Some(Mark::Irrelevant)
+    } else {
+        None
+    }
+}
+
+/// The first number from the place on that is not marked, but at most `to`, and at most the first past the window.
+fn run_end(held: &Bits, irrelevant: &Bits, place: u64, to: u64) -> u64
     ensures forward { place ≤ result }
     ensures asked { result ≤ max place to }
-    ensures over { (n : ℕ) → place ≤ n → n < result → IsSome (mark_in marked.now n) }
-    ensures stops { result < to → mark_in marked.now result ≡ None }
+    ensures within { result ≤ place + 256 }
+    ensures over { (n : ℕ) → place ≤ n → n < result
+        → IsSome (ring_mark held.now irrelevant.now n) }
+    ensures stops { result < to → result < place + 256
+        → ring_mark held.now irrelevant.now result ≡ None }
 {
-    for number in place..to {
-        if find_mark(marked, number).is_none() {
+    let end = u64::min(to, place.saturating_add(WIDTH));
+    for number in place..end {
+        if ring_mark(held, irrelevant, number).is_none() {
             return number;
         }
     }
-    u64::max(place, to)
+    u64::max(place, end)
 }
 
-/// Forgets the marks below a number.
-fn drop_below(marked: &mut Vec<Marked>, place: u64)
-    ensures items { marked.new.items ≡ filter (λ m. nat_le place m.number) marked.old.items }
-    ensures len { vec_len marked.new ≤ vec_len marked.old }
-    ensures capacity { vec_capacity marked.new ≡ vec_capacity marked.old }
+/// Moves a ring from one place to a later one: numbers that come into its window have no bit.
+fn forget(ring: &mut Bits, from: u64, to: u64)
+    requires { from ≤ to }
+    ensures { (n : ℕ) → to ≤ n → n < to + 256
+        → in_ring ring.new n ≡ (nat_lt n (from + 256) && in_ring ring.old n) }
 {
-    marked.retain(|entry| place <= entry.number);
+    let end = u64::min(to, from.saturating_add(WIDTH));
+    for number in from..end {
+        ring.remove(place_in_ring(number));
+    }
 }
