@@ -14,6 +14,19 @@ use Rattle.dds_shared.specs.Passes.{Carried, Grows, IsAsBefore, Lists}
 use Rattle.dds_shared.specs.Locks.{Adds, Kept}
 use Rattle.dds_shared.specs.Waits.{AllWaiting, Failed, GivesUp, IsEndOfWait, Waits, look_of}
 
+abbrev front : Entry → List Entry → Entry
+front none [] = none
+front none (e ∷ es) = e
+
+abbrev behind : List Entry → List Entry
+behind [] = []
+behind (e ∷ es) = es
+
+-- what stands last is the same in equal lists
+pub last_same : (es : List Entry) (e f : Entry) → es ++ e ∷ [] ≡ es ++ f ∷ [] → e ≡ f
+last_same [] e f h = ap (front e) h
+last_same (x ∷ es) e f h = last_same es e f (ap behind h)
+
 pub Grows-twice : (was mid last : Carried) (xs ys : List Entry) → Grows was mid xs → Grows mid last ys → Grows was last (xs ++ ys)
 Grows-twice was mid last xs ys g h =
     h

@@ -2,11 +2,15 @@
 
 ghost use Rattle.std.specs.Prelude.{◌≡◌, ℕ, ◌++◌, ◌∷◌, [], ◌+◌, ◌<◌, ◌≤◌, length, OnOk, OnErr, IfErr, IfOk, IfNone, IfSome, ◌⊎◌, List};
 ghost use Rattle.dds_base.specs.declared.code.Code.TheVariants.{Memory, Mismatch, OutOfResources, PreconditionNotMet};
+ghost use Rattle.dds_machine.specs.declared.call.Call.TheVariants.{WaitLook};
+ghost use Rattle.dds_protocol.specs.declared.event.Event.TheVariants as event_of;
 ghost use Rattle.dds_protocol.specs.declared.event.Output.{Output as OutputOf};
 ghost use Rattle.dds_trace.specs.History.{IsHistoryOf};
-ghost use Rattle.dds_shared.specs.Passes.{IsAsBefore, lists_of, unused};
+ghost use Rattle.dds_trace.specs.Uses.{IsInUse};
+ghost use Rattle.dds_shared.specs.Passes.{IsAsBefore, Lists, lists_of, unused};
 ghost use Rattle.dds_shared.specs.Locks.{Adds, Matches};
 ghost use Rattle.dds_shared.specs.Seeds.{listeners_in, slots_shown};
+ghost use Rattle.dds_shared.specs.Waits.{IsLast};
 
 use crate::closing::{give_all, parts_of, same_lists};
 use crate::named::Named;
@@ -84,7 +88,9 @@ impl<N: Named<F, L>, F: Filter, L: Listener> Locked<N, F, L> {
     // A new pass with a seat of its own.
     pub fn split(&mut self, alloc: Global) -> Result<Pass<N>, Code>
         ensures ok { IfOk result (λ pass. pass ≡ unused pass.seat pass.spare) }
+        ensures seat { IfOk result (λ pass. pass.seat + self.new.left ≡ 4294967295) }
         ensures kept { OnOk result (self.new ≡ record self.old { left = self.new.left }) }
+        ensures fewer { OnOk result (self.new.left + 1 ≡ self.old.left) }
         ensures err { OnErr result (self.new ≡ self.old) }
         ensures refused { IfErr result (λ code. (code ≡ OutOfResources) × (self.old.left ≡ 0)) }
     {
@@ -145,6 +151,8 @@ impl<N: Named<F, L>, F: Filter, L: Listener> Locked<N, F, L> {
             × Adds F.meaning L.notices L.capacity L.becomes self.old self.new pass.old pass.new event o) }
         ensures err { OnErr result ((self.new ≡ self.old) × IsAsBefore pass.old pass.new) }
         ensures refused { IfErr result (λ code. code ≡ Memory) }
+        ensures ends { OnOk result ((s : ℕ) (o : OutputOf) → event ≡ event_of.Call (WaitLook s)
+            → Lists pass.old pass.new event o → IsLast o.reply → IsInUse self.new.core s → ⊥) }
         ensures room { pass.old.spare ≤ pass.new.spare + 1 }
         ensures room_kept { OnErr result (pass.old.spare ≤ pass.new.spare) }
     {

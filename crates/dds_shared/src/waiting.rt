@@ -1,6 +1,6 @@
 // Waits of a shared peer, between which the lock is let go.
 
-ghost use Rattle.std.specs.Prelude.{◌≡◌, ◌≢◌, ◌↔◌, ◌++◌, ◌<◌, List, OnErr, IfErr, IfOk, IsTrue, MatchBool};
+ghost use Rattle.std.specs.Prelude.{◌≡◌, ◌≢◌, ◌↔◌, ◌++◌, ◌<◌, List, OnErr, IfErr, IfOk, IsTrue, MatchBool, true};
 ghost use Rattle.dds_base.specs.declared.code.Code.TheVariants.{Memory};
 ghost use Rattle.dds_machine.specs.declared.call.Call.TheVariants.{WaitBegin, WaitLook};
 ghost use Rattle.dds_machine.specs.declared.reply.Reply.TheVariants as reply_of;
@@ -77,6 +77,7 @@ impl<N: Named<F, L>, F: Filter, L: Listener> Locked<N, F, L> {
         ensures err { OnErr result ((es : List EntryOf) × Grows pass.old pass.new es
             × GivesUp pass.old.seat wait_set es) }
         ensures unused { OnErr result (IsInUse self.new.core wait_set → ⊥) }
+        ensures over { IfOk result (λ over. over ≡ true → IsInUse self.new.core wait_set → ⊥) }
         ensures refused { IfErr result (λ code. code ≡ Memory) }
     {
         if pass.reserve(2).is_err() {
