@@ -16,7 +16,7 @@ use Rattle.dds_protocol.specs.Noticing.{peer_at_end}
 use Rattle.dds_protocol.specs.Peer.{Peer}
 use Rattle.dds_protocol.proofs.FiltersKept.{keeps_listeners}
 use Rattle.dds_core.specs.Listening.{CoreKept, StandsFor, Steps}
-use Rattle.dds_core.specs.Standing.{IsSound}
+use Rattle.dds_core.specs.Ruling.{IsSound}
 use Rattle.dds_trace.specs.History.{IsHistoryOf, emptied, emptied_place}
 use Rattle.dds_trace.proofs.Places.{end_places}
 use Rattle.dds_shared.specs.Seeds.{listener_in, listeners_in, slot_shown, slots_shown}

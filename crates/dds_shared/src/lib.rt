@@ -11,7 +11,6 @@ mod named;
 mod pass;
 mod seed;
 mod shared;
-mod stand_in;
 mod waiting;
 mod whole;
 

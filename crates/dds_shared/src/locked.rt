@@ -15,7 +15,6 @@ ghost use Rattle.dds_shared.specs.Waits.{IsLast};
 use crate::closing::{give_all, parts_of, same_lists};
 use crate::named::Named;
 use crate::pass::Pass;
-use crate::stand_in::stand_in_for_step_pair;
 use crate::whole::Whole;
 use dds_base::Code;
 use dds_conditions::Filter;
@@ -25,7 +24,6 @@ use dds_protocol::Event;
 use dds_trace::{Entry, Trace};
 use std::alloc::Global;
 use std::marker::Model;
-use std::sync::Wait;
 use std::sync::ledger::{Book, Share};
 
 // How many passes a peer has at most.
@@ -146,7 +144,7 @@ impl<N: Named<F, L>, F: Filter, L: Listener> Locked<N, F, L> {
     }
 
     // Does one event, and enters it in the trace and in the pass's list.
-    pub fn event<R: Wait>(&mut self, rt: &R, pass: &mut Pass<N>, event: Event) -> Result<(), Code>
+    pub fn event(&mut self, pass: &mut Pass<N>, event: Event) -> Result<(), Code>
         ensures ok { OnOk result ((o : OutputOf)
             × Adds F.meaning L.notices L.capacity L.becomes self.old self.new pass.old pass.new event o) }
         ensures err { OnErr result ((self.new ≡ self.old) × IsAsBefore pass.old pass.new) }
@@ -161,7 +159,7 @@ impl<N: Named<F, L>, F: Filter, L: Listener> Locked<N, F, L> {
         self.trace.reserve(self.core.in_use() as usize + 2)?;
         pass.reserve(1)?;
         let seat = pass.seat();
-        let (output, same) = stand_in_for_step_pair(rt, &mut self.core, event);
+        let (output, same) = self.core.step_pair(event);
         self.trace.push(Entry {
             seat,
             event: one,

@@ -175,7 +175,7 @@ impl<N: Named<F, L>, F: Filter, L: Listener> Shared<N, F, L> {
         ensures err { OnErr result (IsAsBefore pass.old pass.new) }
     {
         let is_look = matches!(event, Event::Call(Call::WaitLook { .. }));
-        self.locked.lock(rt).event(rt, pass, event)?;
+        self.locked.lock(rt).event(pass, event)?;
         if !is_look {
             self.changed.notify_all();
         }
@@ -253,13 +253,13 @@ impl<N: Named<F, L>, F: Filter, L: Listener> Shared<N, F, L> {
         ensures err { OnErr result (Failed pass.old pass.new wait_set deadline) }
     {
         let mut locked = self.locked.lock(rt);
-        let begun = locked.begin(rt, pass, wait_set, deadline)?;
+        let begun = locked.begin(pass, wait_set, deadline)?;
         self.changed.notify_all();
         if !begun {
             return Ok(());
         }
         for _ in rt.forever() {
-            match locked.look(rt, pass, wait_set) {
+            match locked.look(pass, wait_set) {
                 Ok(true) => return Ok(()),
                 Ok(false) => {}
                 Err(code) => {

@@ -15,14 +15,12 @@ ghost use Rattle.dds_shared.specs.Waits.{GivesUp, IsEndOfWait, IsLast};
 use crate::locked::Locked;
 use crate::named::Named;
 use crate::pass::Pass;
-use crate::stand_in::stand_in_for_step_pair;
 use dds_base::{Code, Moment};
 use dds_conditions::Filter;
 use dds_machine::{Call, Reply};
 use dds_notices::Listener;
 use dds_protocol::Event;
 use dds_trace::Entry;
-use std::sync::Wait;
 
 fn is_done(reply: &Reply) -> bool
     ensures done { IsTrue result ↔ (reply.now ≡ reply_of.Done) }
@@ -44,9 +42,8 @@ fn found_no_memory(reply: &Reply) -> bool
 
 impl<N: Named<F, L>, F: Filter, L: Listener> Locked<N, F, L> {
     // Begins a wait, and says whether it began. There is room for its end in the pass's list.
-    pub fn begin<R: Wait>(
+    pub fn begin(
         &mut self,
-        rt: &R,
         pass: &mut Pass<N>,
         wait_set: u32,
         deadline: Moment,
@@ -60,7 +57,6 @@ impl<N: Named<F, L>, F: Filter, L: Listener> Locked<N, F, L> {
     {
         pass.reserve(2)?;
         self.event(
-            rt,
             pass,
             Event::Call(Call::WaitBegin { wait_set, deadline }),
         )?;
@@ -68,7 +64,7 @@ impl<N: Named<F, L>, F: Filter, L: Listener> Locked<N, F, L> {
     }
 
     // Looks once, and says whether the wait is over. Where there is no memory it ends the wait.
-    pub fn look<R: Wait>(&mut self, rt: &R, pass: &mut Pass<N>, wait_set: u32) -> Result<bool, Code>
+    pub fn look(&mut self, pass: &mut Pass<N>, wait_set: u32) -> Result<bool, Code>
         requires room { 0 < pass.old.spare }
         ensures ok { IfOk result (λ over. (o : OutputOf)
             × Adds F.meaning L.notices L.capacity L.becomes self.old self.new pass.old pass.new
@@ -81,22 +77,22 @@ impl<N: Named<F, L>, F: Filter, L: Listener> Locked<N, F, L> {
         ensures refused { IfErr result (λ code. code ≡ Memory) }
     {
         if pass.reserve(2).is_err() {
-            self.end_wait(rt, pass, wait_set);
+            self.end_wait(pass, wait_set);
             return Err(Code::Memory);
         }
-        let Ok(()) = self.event(rt, pass, Event::Call(Call::WaitLook { wait_set })) else {
-            self.end_wait(rt, pass, wait_set);
+        let Ok(()) = self.event(pass, Event::Call(Call::WaitLook { wait_set })) else {
+            self.end_wait(pass, wait_set);
             return Err(Code::Memory);
         };
         if found_no_memory(&pass.last_output().reply) {
-            self.end_wait(rt, pass, wait_set);
+            self.end_wait(pass, wait_set);
             return Err(Code::Memory);
         }
         Ok(!is_waiting(&pass.last_output().reply))
     }
 
     // Ends the wait in a WaitSet, if somebody waits there, in the room that was kept for this.
-    fn end_wait<R: Wait>(&mut self, rt: &R, pass: &mut Pass<N>, wait_set: u32)
+    fn end_wait(&mut self, pass: &mut Pass<N>, wait_set: u32)
         requires room { 0 < pass.old.spare }
         ensures list { (es : List EntryOf) × Grows pass.old pass.new es
             × IsEndOfWait pass.old.seat wait_set es }
@@ -107,7 +103,7 @@ impl<N: Named<F, L>, F: Filter, L: Listener> Locked<N, F, L> {
         }
         let seat = pass.seat();
         let event = Event::Call(Call::WaitEnd { wait_set });
-        let (output, same) = stand_in_for_step_pair(rt, &mut self.core, event);
+        let (output, same) = self.core.step_pair(event);
         self.trace.push(Entry {
             seat,
             event: Event::Call(Call::WaitEnd { wait_set }),

@@ -36,8 +36,8 @@ push-requires g c =
     let used : c.is_in_use.result ≡ true = search rules in
     let counts = ends_one g.L.Listener.notices g.L.Listener.capacity g.L.Listener.becomes given
     (tests_of g.F.Filter.meaning old.core.filtered.filters) g.N.Named.config kept.history.peer old.core
-    c.stand_in_for_step_pair-output.new.core c.args.wait_set c.stand_in_for_step_pair-output.result.0 kept.history.stands
-    kept.history.sound (sym told ∙ used) c.stand_in_for_step_pair-output.ensures.step in
+    c.step_pair-output.new.self c.args.wait_set c.step_pair-output.result.0 kept.history.stands
+    kept.history.sound (sym told ∙ used) c.step_pair-output.ensures.step in
     record { room = omega (arith, counts.0, kept.room) }
 
 pub invariant_of-self : goal.invariant_of-self
@@ -47,9 +47,9 @@ invariant_of-self g c =
     let given = listeners_in g.N.Named.slots in
     let peer = kept.history.peer in
     let seat = c.seat-seat.result in
-    let core = c.stand_in_for_step_pair-output.new.core in
-    let output = c.stand_in_for_step_pair-output.result.0 in
-    let step = c.stand_in_for_step_pair-output.ensures.step in
+    let core = c.step_pair-output.new.self in
+    let output = c.step_pair-output.result.0 in
+    let step = c.step_pair-output.ensures.step in
     let tests = tests_of g.F.Filter.meaning old.core.filtered.filters in
     let event = Call (WaitEnd c.args.wait_set) in
     let entry = entry_of seat event output in
@@ -93,5 +93,5 @@ returns-clause-unused g c =
     let used : c.is_in_use.result ≡ true = search rules in
     (ends_one g.L.Listener.notices g.L.Listener.capacity g.L.Listener.becomes given
     (tests_of g.F.Filter.meaning old.core.filtered.filters) g.N.Named.config kept.history.peer old.core
-    c.stand_in_for_step_pair-output.new.core c.args.wait_set c.stand_in_for_step_pair-output.result.0
-    kept.history.stands kept.history.sound (sym told ∙ used) c.stand_in_for_step_pair-output.ensures.step).1
+    c.step_pair-output.new.self c.args.wait_set c.step_pair-output.result.0
+    kept.history.stands kept.history.sound (sym told ∙ used) c.step_pair-output.ensures.step).1

@@ -22,9 +22,9 @@ invariant_of-self-2 g c =
     let given = listeners_in g.N.Named.slots in
     let peer = kept.history.peer in
     let seat = c.seat-seat.result in
-    let core = c.stand_in_for_step_pair-output.new.core in
-    let output = c.stand_in_for_step_pair-output.result.0 in
-    let step = c.stand_in_for_step_pair-output.ensures.step in
+    let core = c.step_pair-output.new.self in
+    let output = c.step_pair-output.result.0 in
+    let step = c.step_pair-output.ensures.step in
     let tests = tests_of g.F.Filter.meaning old.core.filtered.filters in
     let entry = entry_of seat c.args.event output in
     let entries = c.push.ensures.entries ∙ (λ i. (c.in_ok-reserve.ensures.same i).entries
@@ -62,9 +62,9 @@ returns-clause-ends g c s o is lists last used =
     let old = c.self.inside in
     let kept = c.self.invariant in
     let given = listeners_in g.N.Named.slots in
-    let core = c.stand_in_for_step_pair-output.new.core in
-    let output = c.stand_in_for_step_pair-output.result.0 in
-    let same = c.stand_in_for_step_pair-output.result.1 in
+    let core = c.step_pair-output.new.self in
+    let output = c.step_pair-output.result.0 in
+    let same = c.step_pair-output.result.1 in
     let tests = tests_of g.F.Filter.meaning old.core.filtered.filters in
     let entry : Entry = entry_of c.seat-seat.result c.in_ok-two.two same in
     let made = ap (λ (p : Carried). p.list) c.in_ok-reserve-2.ensures.same in
@@ -72,11 +72,11 @@ returns-clause-ends g c s o is lists last used =
     let told : entry ≡ entry_of c.args.pass.now.seat c.args.event o =
     last_same c.args.pass.now.list entry (entry_of c.args.pass.now.seat c.args.event o)
     (sym (entered ∙ ap (λ (es : List Entry). es ++ entry ∷ []) made) ∙ ap (λ (p : Carried). p.list) lists) in
-    let replied = ap (λ (x : Output). x.reply) c.stand_in_for_step_pair-output.ensures.equal
+    let replied = ap (λ (x : Output). x.reply) c.step_pair-output.ensures.equal
     ∙ ap (λ (e : Entry). e.output.reply) told in
     let P : Event → Type 0 =
     λ e. Steps g.L.Listener.notices g.L.Listener.capacity g.L.Listener.becomes tests old.core e output core in
     look_ends g.L.Listener.notices g.L.Listener.capacity g.L.Listener.becomes given tests g.N.Named.config
     kept.history.peer old.core core s output kept.history.stands kept.history.sound
-    (subst P is c.stand_in_for_step_pair-output.ensures.step)
+    (subst P is c.step_pair-output.ensures.step)
     (λ waits. last.0 (sym replied ∙ waits)) (λ missed. last.1 (sym replied ∙ missed)) used
