@@ -108,7 +108,9 @@ impl ReaderCache {
             return Ok(());
         }
         let entries = additional.checked_mul(2).ok_or(Code::Memory)?;
-        let places = entries.checked_add(self.instances.len()).ok_or(Code::Memory)?;
+        let places = entries
+            .checked_add(self.instances.len())
+            .ok_or(Code::Memory)?;
         self.samples.reserve(places)?;
         self.instances.reserve(additional)?;
         self.room = additional;
