@@ -1,4 +1,5 @@
 pub mod WordLaws
+pub mod RingLaws
 pub mod SpanLaws
 pub mod MemberLaws
 pub mod MarkLaws

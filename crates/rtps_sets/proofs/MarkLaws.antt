@@ -1,8 +1,11 @@
 -- What the rings of a window say of its numbers.
-use Rattle.std.proofs.Common.{◌≡◌, ℕ, ◌<◌, ◌≤◌, ◌+◌, ◌-◌, ◌%◌, Bool, true, false, not, ◌&&◌, ◌||◌, cond, eqb, List, get_or, refl, inl, inr, sym, ap, ◌∙◌, arith}
-use Rattle.std.specs.Prelude.{is_some, is_none, Option, None, Some, nat_le, nat_lt, ◌==◌, ◌⊎◌}
-use Rattle.std.proofs.lemmas.Bool.{leb-true, le-leb, ltb-true, ltb-false, lt-ltb, le-ltb, lt-leb, eq-eqb, ne_eqb, eqb-true, cases_eq, cases_lt, cases_Bool}
+use Rattle.std.proofs.Common.{◌≡◌, ℕ, ◌<◌, ◌≤◌, ◌+◌, ◌-◌, ◌%◌, Bool, true, false, not, ◌&&◌, ◌||◌, cond, eqb, List, length, get_or, refl, inl, inr, sym, ap, ◌∙◌, arith}
+use Rattle.std.specs.Prelude.{is_some, is_none, Option, None, Some, nat_le, nat_lt, ◌⊎◌}
+use Rattle.std.proofs.lemmas.Bool.{le-leb, ltb-true, ltb-false, lt-ltb, le-ltb, lt-leb, eq-eqb, ne_eqb, eqb-true, cases_eq, cases_lt, cases_Bool}
 use Rattle.std.proofs.lemmas.Bool.Decides.{nat_tests}
+use Rattle.std.proofs.lemmas.List.{get_or_past}
+use Rattle.rtps_sets.specs.Bits.{is_free}
+use Rattle.rtps_sets.specs.NumberSet.{NumberSet, has_number}
 use Rattle.rtps_sets.specs.Window.{Marks, mark_of, ring_mark, in_ring, is_in_window}
 use Rattle.rtps_sets.specs.declared.window.Mark.{Mark}
 use Rattle.rtps_sets.specs.declared.window.Mark.TheVariants.{Held, Irrelevant}
@@ -252,84 +255,45 @@ pub no_marks : (n : ℕ) (held irrelevant : List Bool) (place : ℕ) → ((k : �
 unfolding mark_of
 no_marks n held irrelevant place h i = rw (h (n % 256), i (n % 256)) (none_same (is_in_window place n))
 
--- a set of the numbers of a window is asked for their marks alone
-pub asked_in_window : (w : Marks) (n : ℕ) (q : Bool)
-    → (is_in_window w.place n && (q && is_none (ring_mark w.held w.irrelevant n)))
-    ≡ (is_in_window w.place n && (q && is_none (mark_of w n)))
-asked_in_window w n q = by (is_in_window w.place n) refl
-  where
-    by : (b : Bool) → is_in_window w.place n ≡ b
-        → (b && (q && is_none (ring_mark w.held w.irrelevant n))) ≡ (b && (q && is_none (mark_of w n)))
-    by true is = rw (mark_inside w n is) refl
-    by false is = refl
-
-or_true : (b : Bool) → (b || true) ≡ true
-or_true true = refl
-or_true false = refl
-
-or_false : (b : Bool) → (b || false) ≡ b
-or_false true = refl
-or_false false = refl
-
-at_number : (known : ℕ → Option Mark) (n number : ℕ) → n ≡ number → (b : Bool) → is_none (known number) ≡ b
-    → is_none (known n) ≡ b
-at_number known n number e b is = ap (λ (k : ℕ). is_none (known k)) e ∙ is
-
 pub none_of : (o : Option Mark) → is_some o ≡ false → o ≡ None
 none_of None e = refl
 none_of (Some m) e = absurd (cc)
 
-within : (p q r s b : Bool) → (p ≡ true → q ≡ (r && s)) → ((p && q) && b) ≡ ((p && r) && (s && b))
-within false q r s b e = refl
-within true q true s b e = rw (e refl) refl
-within true q false s b e = rw (e refl) refl
+neither : (x y : Bool) → not (x || y) ≡ is_none (cond x (Some Held) (cond y (Some Irrelevant) None))
+neither true y = refl
+neither false true = refl
+neither false false = refl
 
--- what a loop over the window up to a bound has looked at, at its end
-pub looked_at : (place bound next n : ℕ) (b : Bool)
-    → (place ≤ n → nat_lt n next ≡ (nat_lt n (place + 256) && nat_le n bound))
-    → ((nat_le place n && nat_lt n next) && b) ≡ (is_in_window place n && (nat_le n bound && b))
-looked_at place bound next n b e =
-    within (nat_le place n) (nat_lt n next) (nat_lt n (place + 256)) (nat_le n bound) b (λ le. e (leb-true _ _ le))
+-- the set of the bits that are free in both rings, up to a bound, has the numbers of the window that are missing
+pub missing_numbers : (w : Marks) (set : NumberSet) (free : List Bool) (first bound count n : ℕ) → set.base ≡ w.place
+    → set.members ≡ free → length free ≡ 256 → first ≡ w.place % 256
+    → ((k : ℕ) → k < 256 → get_or free k false ≡ is_free w.held w.irrelevant first count k)
+    → ((k : ℕ) → w.place ≤ k → k < w.place + 256 → nat_lt (k - w.place) count ≡ nat_le k bound)
+    → has_number set n ≡ (is_in_window w.place n && (nat_le n bound && is_none (mark_of w n)))
+missing_numbers w set free first bound count n base members long at bits within =
+    is_has ∙ by (cases_lt n w.place) (cases_lt n (w.place + 256))
+  where
+    is_has : has_number set n ≡ (nat_le w.place n && get_or free (n - w.place) false)
+    is_has = rw (base, members) refl
 
-taken : (p q next same o : Bool) → (same ≡ true → p ≡ true) → (same ≡ true → next ≡ true) → (same ≡ true → o ≡ true)
-    → (same ≡ false → next ≡ q) → (((p && q) && o) || same) ≡ ((p && next) && o)
-taken p q next true o e1 e2 e3 e4 = rw (e1 refl, e2 refl, e3 refl) (or_true (q && true))
-taken p q next false o e1 e2 e3 e4 = rw (e4 refl) (or_false ((p && q) && o))
-
-left : (p q next same o : Bool) → (same ≡ true → o ≡ false) → (same ≡ false → next ≡ q)
-    → ((p && q) && o) ≡ ((p && next) && o)
-left p q next true o e3 e4 = rw (e3 refl) (and_none (p && q) ∙ sym (and_none (p && next)))
-left p q next false o e3 e4 = rw (e4 refl) refl
-
--- one more number was looked at, which is not marked
-pub one_taken : (place number n : ℕ) (known : ℕ → Option Mark) → place ≤ number → is_none (known number) ≡ true
-    → (((nat_le place n && nat_lt n number) && is_none (known n)) || (n == number))
-    ≡ ((nat_le place n && nat_lt n (number + 1)) && is_none (known n))
-one_taken place number n known from fresh =
-    taken (nat_le place n) (nat_lt n number) (nat_lt n (number + 1)) (n == number) (is_none (known n))
-    (λ t. grind (arith, nat_tests)) (λ t. grind (arith, nat_tests))
-    (λ t. at_number known n number (grind (arith, nat_tests)) true fresh) (λ t. grind (arith, nat_tests))
-
--- one more number was looked at, which is marked
-pub one_left : (place number n : ℕ) (known : ℕ → Option Mark) → is_none (known number) ≡ false
-    → ((nat_le place n && nat_lt n number) && is_none (known n))
-    ≡ ((nat_le place n && nat_lt n (number + 1)) && is_none (known n))
-one_left place number n known is =
-    left (nat_le place n) (nat_lt n number) (nat_lt n (number + 1)) (n == number) (is_none (known n))
-    (λ t. at_number known n number (grind (arith, nat_tests)) false is) (λ t. grind (arith, nat_tests))
-
-both : (next below up_to : Bool) → (next ≡ true → below ≡ true) → (next ≡ true → up_to ≡ true)
-    → (below ≡ true → up_to ≡ true → next ≡ true) → next ≡ (below && up_to)
-both true below up_to e1 e2 e3 = rw (e1 refl, e2 refl) refl
-both false true true e1 e2 e3 = e3 refl refl
-both false true false e1 e2 e3 = refl
-both false false up_to e1 e2 e3 = refl
-
--- the numbers below the end of the loop are those of the window up to the bound
-pub ends_at : (place bound last next n : ℕ) → last ≤ bound → last ≤ place + 255
-    → (n ≤ bound → n ≤ place + 255 → n ≤ last) → (n < next → n ≤ last) → (n ≤ last → n < next)
-    → nat_lt n next ≡ (nat_lt n (place + 256) && nat_le n bound)
-ends_at place bound last next n e1 e2 e3 e4 e5 =
-    both (nat_lt n next) (nat_lt n (place + 256)) (nat_le n bound)
-    (λ t. lt-ltb _ _ (omega (arith, e4 (ltb-true _ _ t)))) (λ t. le-leb _ _ (omega (arith, e4 (ltb-true _ _ t))))
-    (λ t u. lt-ltb _ _ (e5 (e3 (leb-true _ _ u) (omega (arith, ltb-true _ _ t)))))
+    by : (n < w.place) ⊎ (w.place ≤ n) → (n < w.place + 256) ⊎ (w.place + 256 ≤ n)
+        → (nat_le w.place n && get_or free (n - w.place) false)
+        ≡ (is_in_window w.place n && (nat_le n bound && is_none (mark_of w n)))
+    by (inl lt) high = rw (below_window w.place n lt, lt-leb w.place n lt) refl
+    by (inr le) (inr past) =
+        rw (above_window w.place n past, get_or_past free (n - w.place) false (omega (arith, long)))
+        (and_none (nat_le w.place n))
+    by (inr le) (inl less) =
+        let bit : (first + (n - w.place)) % 256 ≡ n % 256 = omega (arith, at) in
+        let is : get_or free (n - w.place) false
+        ≡ (nat_lt (n - w.place) count && not (in_ring w.held n || in_ring w.irrelevant n)) =
+        bits (n - w.place) (omega arith)
+        ∙ ap (λ (k : ℕ). nat_lt (n - w.place) count && not (get_or w.held k false || get_or w.irrelevant k false)) bit in
+        rw (
+          in_window w.place n le less,
+          le-leb w.place n le,
+          is,
+          within n le less,
+          mark_inside w n (in_window w.place n le less),
+        )
+        (ap (λ (b : Bool). nat_le n bound && b) (neither (in_ring w.held n) (in_ring w.irrelevant n)))

@@ -1,5 +1,5 @@
 -- 256 bits in four words. Inner functions alone cite this: nothing here has to be believed.
-use Rattle.std.specs.Prelude.{◌≡◌, ℕ, ◌*◌, ◌/◌, ◌%◌, ◌^◌, ◌<◌, ◌≤◌, ◌-◌, ◌==◌, Bool, true, false, List, length, take, drop, map, slice_index_or}
+use Rattle.std.specs.Prelude.{◌≡◌, ℕ, ◌*◌, ◌/◌, ◌%◌, ◌^◌, ◌<◌, ◌≤◌, ◌-◌, ◌+◌, ◌==◌, ◌&&◌, ◌||◌, not, nat_lt, Bool, true, false, List, length, take, drop, map, slice_index_or}
 use Rattle.std.specs.Int.{bit_at}
 use Rattle.std.specs.List.{range_with_len}
 use Rattle.std.specs.Simd.Lanes.{mask_l}
@@ -19,6 +19,12 @@ word_of flags at = mask_l (take 64 (drop (64 * at) flags))
 -- the words with these bits
 unfoldable pub words_of : List Bool → List ℕ
 words_of flags = map (λ at. word_of flags at) (range_with_len 0 4)
+
+-- whether the k-th bit from a place on, round the ring, is one of so many, and neither of two rings has it
+abbrev pub is_free : List Bool → List Bool → ℕ → ℕ → ℕ → Bool
+is_free held irrelevant place count k =
+    nat_lt k count && not
+    (slice_index_or held ((place + k) % 256) false || slice_index_or irrelevant ((place + k) % 256) false)
 
 -- four words of 64 bits
 pub record AreWords (words : List ℕ) : Type 0 where

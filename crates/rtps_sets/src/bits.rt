@@ -1,7 +1,8 @@
 //! 256 bits in words.
 
-ghost use Rattle.std.specs.Prelude.{◌≡◌, ◌≤◌, ◌<◌, ◌==◌, ◌&&◌, ◌||◌, ℕ, false, not, true, length, replicate, slice_index_or, slice_set};
-ghost use Rattle.rtps_sets.specs.Bits.{AreWords, IsSpan};
+ghost use Rattle.std.specs.Prelude.{◌≡◌, ◌≤◌, ◌<◌, ◌+◌, ◌%◌, ◌==◌, ◌&&◌, ◌||◌, ℕ, false, not, true, nat_lt, length, replicate, slice_index_or, slice_set};
+ghost use Rattle.std.specs.Int.{bit_at};
+ghost use Rattle.rtps_sets.specs.Bits.{is_free, AreWords, IsSpan};
 ghost use Rattle.rtps_sets.specs.NumberSet.{span};
 
 use std::marker::Model;
@@ -64,6 +65,34 @@ impl Bits {
         self.words[place / 64] &= !(1 << (place % 64));
     }
 
+    /// The 64 bits from a place on; after the last place comes the first.
+    fn word_from(&self, place: usize) -> u64
+        requires { place < 256 }
+        ensures { (i : ℕ) → i < 64 → (bit_at result i == 1)
+            ≡ slice_index_or self.now ((place + i) % 256) false }
+    {
+        let low = self.words[place / 64] >> (place % 64);
+        if place % 64 == 0 {
+            return low;
+        }
+        low | self.words[(place / 64 + 1) % 4] << (64 - place % 64)
+    }
+
+    /// The bits from a place on that neither of two rings has, as many as are asked for.
+    pub fn free(held: &Bits, irrelevant: &Bits, place: usize, count: usize) -> Bits
+        requires { place < 256 }
+        ensures each { (k : ℕ) → k < 256 → slice_index_or result k false
+            ≡ is_free held.now irrelevant.now place count k }
+        ensures count { length result ≡ 256 }
+    {
+        let mut words = [0; 4];
+        for at in 0..4 {
+            let from = (place + 64 * at) % 256;
+            words[at] = free_word(held, irrelevant, from, count.saturating_sub(64 * at));
+        }
+        Bits { words }
+    }
+
     /// One more than the last place whose bit is set, or 0.
     pub fn span(&self) -> usize
         ensures span { result ≡ span self.now }
@@ -71,6 +100,26 @@ impl Bits {
     {
         span_of(&self.words)
     }
+}
+
+/// A word whose lowest bits are set: so many, and all where there are fewer.
+fn low_bits(count: usize) -> u64
+    ensures { (i : ℕ) → i < 64 → (bit_at result i == 1) ≡ nat_lt i count }
+{
+    if count < 64 {
+        (1 << count) - 1
+    } else {
+        u64::MAX
+    }
+}
+
+/// The 64 bits from a place on that neither of two rings has, as many as are asked for.
+fn free_word(held: &Bits, irrelevant: &Bits, place: usize, count: usize) -> u64
+    requires { place < 256 }
+    ensures { (i : ℕ) → i < 64 → (bit_at result i == 1)
+        ≡ is_free held.now irrelevant.now place count i }
+{
+    !(held.word_from(place) | irrelevant.word_from(place)) & low_bits(count)
 }
 
 /// One more than the last place whose bit is set in these words, or 0.

@@ -50,6 +50,18 @@ impl SnSet {
         }
     }
 
+    /// The set with these members from a base on.
+    pub(crate) fn with_members(base: Sn, members: Bits) -> SnSet
+        requires { length members ≡ 256 }
+        ensures base { result.base ≡ base }
+        ensures members { result.members ≡ members }
+    {
+        SnSet {
+            base: base.number(),
+            members,
+        }
+    }
+
     /// The number from which on the members lie.
     pub fn base(&self) -> Sn
         // The number from which on members lie.

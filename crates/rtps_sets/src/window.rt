@@ -2,7 +2,7 @@
 //!
 //! RTPS 2.5, 8.4.10 (ChangeFromWriter: status), 8.4.12.
 
-ghost use Rattle.std.specs.Prelude.{◌≡◌, ◌≤◌, ◌<◌, ◌+◌, ◌%◌, ◌&&◌, ◌==◌, ℕ, false, nat_le, nat_lt, is_none, max, Some, None, Ok, IsTrue, IsOk, IsSome, IfOk, IfErr, OnOk, OnErr, if◌then◌else◌};
+ghost use Rattle.std.specs.Prelude.{◌≡◌, ◌≤◌, ◌<◌, ◌+◌, ◌-◌, ◌%◌, ◌&&◌, ◌==◌, ℕ, false, nat_le, nat_lt, is_none, max, Some, None, Ok, IsTrue, IsOk, IsSome, IfOk, IfErr, OnOk, OnErr, if◌then◌else◌};
 ghost use Rattle.dds_base.specs.declared.code.Code.TheVariants.{Memory};
 ghost use Rattle.rtps_sets.specs.NumberSet.{has_number};
 ghost use Rattle.rtps_sets.specs.Window.{window_place, mark_of, room_of, is_in_window, can_mark, in_ring, ring_mark, SameMarks};
@@ -151,14 +151,13 @@ impl Window {
             → has_number result n ≡ (is_in_window (window_place self.now) n
             && (nat_le n bound && is_none (mark_of self.now n))) }
     {
-        let last = u64::min(bound.number(), self.place.saturating_add(WIDTH - 1));
-        let mut set = SnSet::new(Sn::new(self.place));
-        for number in self.place..=last {
-            if ring_mark(&self.held, &self.irrelevant, number).is_none() {
-                set.insert(Sn::new(number));
-            }
-        }
-        set
+        let members = Bits::free(
+            &self.held,
+            &self.irrelevant,
+            place_in_ring(self.place),
+            count_up_to(self.place, bound.number()),
+        );
+        SnSet::with_members(Sn::new(self.place), members)
     }
 
     /// Moves the place over marked numbers, as far as they go, but not past `to`, which may be any number: where it is
@@ -220,6 +219,16 @@ fn is_in_window(place: u64, number: u64) -> bool
     ensures { result ≡ is_in_window place number }
 {
     place <= number && number - place < WIDTH
+}
+
+/// How many numbers of the window from a place on there are up to a bound, itself among them.
+fn count_up_to(place: u64, bound: u64) -> usize
+    ensures { (n : ℕ) → place ≤ n → n < place + 256 → nat_lt (n - place) result ≡ nat_le n bound }
+{
+    if bound < place {
+        return 0;
+    }
+    u64::min(bound - place, WIDTH - 1) as usize + 1
 }
 
 /// Where the bit of a number stands in a ring.
