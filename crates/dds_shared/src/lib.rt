@@ -20,4 +20,8 @@ pub use seed::Seed;
 pub use shared::{Closed, NotClosed, Shared};
 
 #[cfg(test)]
+mod handed;
+#[cfg(test)]
 mod tests;
+#[cfg(test)]
+mod waits;

@@ -20,7 +20,7 @@ use std::test::*;
 use std::thread::{Threads, join};
 
 // One peer, with two writers that keep the last change of a key and a reader that keeps all, of one topic.
-fn config(alloc: Global) -> Result<Config, Code> {
+pub(crate) fn config(alloc: Global) -> Result<Config, Code> {
     let mut first = WriterConfig::new(EntityId::writer([0, 0, 1]), 0);
     first.history = HistoryQos::KeepLast(1);
     let mut second = WriterConfig::new(EntityId::writer([0, 0, 2]), 0);
