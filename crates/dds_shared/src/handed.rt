@@ -155,8 +155,9 @@ fn run<R: Wait + Abort>(rt: &R, alloc: Global) -> Result<(), Fail> {
     let mut seed: Seed<BeginsWithOne, Recorder> = Seed::new(alloc, &config, 2)?;
     assert!(rt; seed.add_filter(BeginsWithOne).is_ok());
     assert!(rt; listen(alloc, &mut seed)?);
-    let (before, after, core) =
-        share::<Brand, BeginsWithOne, Recorder, R>(rt, alloc, seed, first, second)?;
+    let (before, after, core) = share::<Brand, BeginsWithOne, Recorder, R>(
+        rt, alloc, seed, first, second,
+    )?;
     assert!(rt; !before && after);
     assert!(rt; are_told(&core));
     assert!(rt; matches!(core.notices(Entity::Reader(2)), Err(Code::BadParameter)));

@@ -56,10 +56,7 @@ impl<N: Named<F, L>, F: Filter, L: Listener> Locked<N, F, L> {
         ensures refused { IfErr result (λ code. code ≡ Memory) }
     {
         pass.reserve(2)?;
-        self.event(
-            pass,
-            Event::Call(Call::WaitBegin { wait_set, deadline }),
-        )?;
+        self.event(pass, Event::Call(Call::WaitBegin { wait_set, deadline }))?;
         Ok(is_done(&pass.last_output().reply))
     }
 

@@ -36,7 +36,14 @@ fn guarded<N: Named<F, L>, F: Filter, L: Listener, R: Wait>(
     shared.call(rt, pass, Call::CreateGuardCondition)?;
     shared.call(rt, pass, Call::CreateWaitSet)?;
     let (wait_set, condition) = (1, Cond::Made(1));
-    shared.call(rt, pass, Call::AttachCondition { wait_set, condition })
+    shared.call(
+        rt,
+        pass,
+        Call::AttachCondition {
+            wait_set,
+            condition,
+        },
+    )
 }
 
 // Whether the newest entry answers that one condition is true.
