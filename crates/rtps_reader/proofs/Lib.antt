@@ -1,3 +1,5 @@
+pub mod HeldLaws
 pub mod SlotLaws
+pub mod KeptLaws
 pub mod MoveLaws
 pub mod ReaderLaws

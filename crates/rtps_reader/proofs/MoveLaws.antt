@@ -4,7 +4,6 @@ use Rattle.std.proofs.Common.{subst, arith, append-nil}
 use Rattle.std.specs.Prelude.{nat_lt, if◌then◌else◌}
 use Rattle.std.proofs.lemmas.Bool.Decides.{nat_tests}
 use Rattle.dds_base.specs.declared.change.Change.{Change}
-use Rattle.dds_base.specs.declared.happening.Arrival.{Arrival}
 use Rattle.dds_base.specs.declared.happening.Happening.{Happening}
 use Rattle.dds_base.specs.declared.happening.Happening.TheVariants.{Came, Passed}
 use Rattle.dds_base.specs.declared.happening.PassedRun.{PassedRun}
@@ -15,7 +14,7 @@ use Rattle.dds_base.proofs.PlaceLaws.{EndBelow, end_below_on, end_below_more, co
 use Rattle.rtps_reader.specs.declared.step.HeartbeatSeen.{HeartbeatSeen}
 use Rattle.rtps_reader.specs.declared.step.Step.{Step}
 use Rattle.rtps_reader.specs.Answer.{AnswersHeartbeat, answered, heard_after}
-use Rattle.rtps_reader.specs.Moving.{HeartbeatMoves, ArePassable, PassesOver, HandsOn, Moves, passed_from, match_of, stamped}
+use Rattle.rtps_reader.specs.Moving.{HeartbeatMoves, ArePassable, PassesOver, HandsOn, Moves, passed_from, match_of}
 use Rattle.rtps_reader.specs.Tracked.{Tracked, Held, is_passable, with_heartbeat, SameTracked}
 use Rattle.rtps_reader.specs.Advance.{known, Stays, Advances}
 use Rattle.rtps_reader.specs.declared.writer_proxy.Source.{Source}
@@ -179,18 +178,18 @@ stopped match t h runs mid new stands p not_passable full same =
     subst (λ (u : Tracked). (happened : List Happening) × Advances match t h u.place runs u happened × stands happened)
     (sym (same_is mid new same)) found
 
--- an arrival that is stamped comes here and now
-pub comes_now : (q : ReaderQos) (source : Source) (x a : Arrival) (place : ℕ) (h : List Happening)
-    → a ≡ stamped source x → x.number ≡ place
-    → Came a ≡ coming (match_of q source) (record { place = place; happened = h }) x.change
-comes_now q source x a place h is number =
-    ap (λ (y : Arrival). Came y) is
-    ∙ ap (λ (n : ℕ). Came (record {
+-- the change that is held at the place comes here and now
+pub comes_now : (q : ReaderQos) (source : Source) (change : Change) (number place : ℕ) (h : List Happening)
+    → number ≡ place
+    → Came (record { writer = source.publication; number = number; change = change; moment = source.moment })
+    ≡ coming (match_of q source) (record { place = place; happened = h }) change
+comes_now q source change number place h same =
+    ap (λ (n : ℕ). Came (record {
       writer = source.publication;
       number = n;
-      change = x.change;
+      change = change;
       moment = source.moment;
-    })) number
+    })) same
 
 -- a move from what is known as before, at a sink of the same policies
 pub carried : (q0 q : ReaderQos) (source : Source) (before0 before after : List Happening → Type 0) (t0 t : Tracked)

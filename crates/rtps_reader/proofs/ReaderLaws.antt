@@ -307,8 +307,7 @@ tracks_more items proxy count t len before same index lt = ⊎_elim
 
 -- a sink with more memory
 pub ready_more : (p : WriterProxy) (spare more : ℕ) → spare ≤ more → IsProxyReady p spare → IsProxyReady p more
-ready_more p spare more le r = record
-    { marks = r.marks; changes = r.changes; runs = r.runs; sink = omega (arith, r.sink) }
+ready_more p spare more le r = record { runs = r.runs; sink = omega (arith, r.sink) }
 
 -- one more proxy is ready
 pub ready_step : (xs : List WriterProxy) (at : ℕ) (q : WriterProxy) (spare more : ℕ) → spare ≤ more

@@ -1,43 +1,13 @@
--- Held changes by their number, and what they say with the marks of a window.
-use Rattle.std.proofs.Common.{◌≡◌, ◌≢◌, ℕ, zero, suc, ◌<◌, ◌≤◌, ◌+◌, Bool, true, false, cond, List, [], ◌∷◌, ◌++◌}
-use Rattle.std.proofs.Common.{refl, sym, ap, ◌∙◌, arith, length, get_or, set, take, drop}
-use Rattle.std.specs.Prelude.{Option, None, Some, nat_le, nat_lt, ◌==◌, if◌then◌else◌, ◌&&◌, is_none, remove}
+-- What a GAP marks in a window, number by number.
+use Rattle.std.proofs.Common.{◌≡◌, ℕ, ◌<◌, ◌≤◌, ◌+◌, Bool, true, false, cond, refl, ap, ◌∙◌, arith}
+use Rattle.std.specs.Prelude.{Option, None, Some, nat_le, nat_lt, ◌==◌, if◌then◌else◌, ◌&&◌, is_none}
 use Rattle.std.proofs.lemmas.Bool.Decides.{nat_tests}
-use Rattle.dds_base.specs.declared.change.Change.{Change}
-use Rattle.dds_base.specs.declared.happening.Arrival.{Arrival}
 use Rattle.rtps_sets.specs.Window.{Marks, mark_of, window_place, is_in_window}
 use Rattle.rtps_sets.specs.NumberSet.{NumberSet}
 use Rattle.rtps_sets.specs.declared.window.Mark.{Mark}
 use Rattle.rtps_sets.specs.declared.window.Mark.TheVariants as mark
 use Rattle.rtps_reader.specs.Tracked.{is_named}
-use Rattle.rtps_reader.specs.declared.writer_proxy.Source.{Source}
-use Rattle.rtps_reader.specs.Proxy.{held_change}
-use Rattle.rtps_reader.specs.Moving.{mark_named, stamped}
-
--- without one arrival the changes of the other numbers are found as before
-held_change-parts : (xs : List Arrival) (at : ℕ) (a : Arrival) (n : ℕ) → at < length xs → a ≡ get_or xs at a
-    → n ≢ a.number → held_change (take at xs ++ drop (suc at) xs) n ≡ held_change xs n
-held_change-parts [] at a n lt is ne = absurd (omega (arith, lt))
-held_change-parts (x ∷ xs) zero a n lt is ne = skip (x.number == n)
-    (let e : a.number ≡ x.number = ap (λ (y : Arrival). y.number) is in grind (arith, nat_tests))
-  where
-    skip : (b : Bool) → b ≡ false → held_change xs n ≡ cond b (Some x.change) (held_change xs n)
-    skip b e = rw e refl
-held_change-parts (x ∷ xs) (suc at) a n lt is ne =
-    ap (λ (o : Option Change). cond (x.number == n) (Some x.change) o) (held_change-parts xs at a n (omega arith) is ne)
-
-pub held_change-remove : (xs : List Arrival) (at : ℕ) (a : Arrival) (n : ℕ) → at < length xs → a ≡ get_or xs at a
-    → n ≢ a.number → held_change (remove xs at) n ≡ held_change xs n
-held_change-remove xs at a n lt is ne = held_change-parts xs at a n lt is ne
-
--- the changes are found as before where one arrival is stamped
-pub held_change-set : (xs : List Arrival) (at : ℕ) (a : Arrival) (source : Source) (n : ℕ) → at < length xs
-    → a ≡ get_or xs at a → held_change (set xs at (stamped source a)) n ≡ held_change xs n
-held_change-set [] at a source n lt is = absurd (omega (arith, lt))
-held_change-set (x ∷ xs) zero a source n lt is = ap
-    (λ (y : Arrival). cond (y.number == n) (Some y.change) (held_change xs n)) is
-held_change-set (x ∷ xs) (suc at) a source n lt is = ap (λ (o : Option Change). cond (x.number == n) (Some x.change) o)
-    (held_change-set xs at a source n (omega arith) is)
+use Rattle.rtps_reader.specs.Moving.{mark_named}
 
 and_false : (b : Bool) → (b && false) ≡ false
 and_false true = refl
@@ -93,9 +63,3 @@ pub unmarked_more : (named is_open same : Bool) (m m' : Option Mark)
 unmarked_more false is_open same m m' is other none = is ∙ none
 unmarked_more true false same m m' is other none = is ∙ none
 unmarked_more true true same m m' is other none = rw (other refl) at is ∙ none
-
--- a number that is held was held before what a GAP names was marked
-pub held_before : (b : Bool) (m m' : Option Mark) → m' ≡ cond b (Some mark.Irrelevant) m → m' ≡ Some mark.Held
-    → m ≡ Some mark.Held
-held_before true m m' is held = absurd (let e : Some mark.Irrelevant ≡ Some mark.Held = sym is ∙ held in cc)
-held_before false m m' is held = sym is ∙ held

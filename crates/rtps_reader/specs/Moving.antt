@@ -14,7 +14,6 @@ use Rattle.rtps_sets.specs.NumberSet.{NumberSet}
 use Rattle.rtps_reader.specs.declared.step.HeartbeatSeen.{HeartbeatSeen}
 use Rattle.rtps_reader.specs.declared.step.Step.{Step}
 use Rattle.rtps_reader.specs.Advance.{Advances, Stays}
-use Rattle.dds_base.specs.declared.happening.Arrival.{Arrival}
 use Rattle.dds_base.specs.declared.qos.ReaderQos.{ReaderQos}
 use Rattle.rtps_sets.specs.Window.{Marks, mark_of, window_place}
 use Rattle.rtps_sets.specs.declared.window.Mark.{Mark}
@@ -25,10 +24,6 @@ use Rattle.rtps_reader.specs.Answer.{Accepts}
 -- a reader's match with the writer that is heard
 abbrev pub match_of : ReaderQos → Source → Match
 match_of qos source = record { qos = qos; publication = source.publication; moment = source.moment }
-
--- an arrival as it comes from this writer now
-abbrev pub stamped : Source → Arrival → Arrival
-stamped source a = record a { writer = source.publication; moment = source.moment }
 
 -- the place may move without want of memory: it passes a run before each change that comes, and one after them
 pub record CanMove (held run_capacity sink_spare : ℕ) : Type 0 where

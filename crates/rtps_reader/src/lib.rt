@@ -6,6 +6,7 @@
 //! Not here: packets, peers, GUIDs, and what the reader holds.
 #![tactic(auto)]
 
+mod held_changes;
 mod sink;
 mod stateful_reader;
 mod step;

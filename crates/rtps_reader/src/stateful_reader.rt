@@ -66,7 +66,8 @@ impl StatefulReader {
     {
         let mut proxies = Vec::new(alloc);
         for _ in 0..writers {
-            proxies.push(WriterProxy::open(alloc))?;
+            let proxy = WriterProxy::open(alloc)?;
+            proxies.push(proxy)?;
         }
         Ok(StatefulReader { proxies })
     }

@@ -2,23 +2,24 @@
 //!
 //! RTPS 2.5, 8.4.10 (WriterProxy, ChangeFromWriter).
 
-ghost use Rattle.std.specs.Prelude.{◌≡◌, ◌≢◌, ℕ, ◌+◌, ◌-◌, ◌*◌, ◌^◌, ◌<◌, ◌≤◌, ◌&&◌, ◌||◌, ◌==◌, min, List, ◌∷◌, ◌++◌, [], length, Bool, true, false, nat_lt, nat_le, is_none, None, Some, if◌then◌else◌, slice_index_or, OnOk, IsOk, IfOk, IfErr, IfSome, IfNone, vec_len, vec_capacity};
+ghost use Rattle.std.specs.Prelude.{◌≡◌, ℕ, ◌+◌, ◌-◌, ◌*◌, ◌^◌, ◌<◌, ◌≤◌, ◌&&◌, ◌||◌, ◌==◌, min, List, ◌∷◌, ◌++◌, [], length, Bool, true, false, nat_lt, nat_le, is_none, None, Some, if◌then◌else◌, OnOk, IsOk, IfOk, IfErr, IfSome, vec_len, vec_capacity};
 ghost use Rattle.dds_base.specs.declared.code.Code.TheVariants.{Memory};
 ghost use Rattle.dds_base.specs.declared.change.Change.{Change};
-ghost use Rattle.dds_base.specs.declared.happening.Arrival.{Arrival};
 ghost use Rattle.dds_base.specs.declared.happening.Happening.{Happening};
 ghost use Rattle.dds_base.specs.Ownership.{IsMatched};
 ghost use Rattle.dds_base.specs.Presence.{has_room};
 ghost use Rattle.dds_base.specs.Places.{coming};
 ghost use Rattle.dds_base.specs.Counts.{is_later};
-ghost use Rattle.rtps_sets.specs.Window.{mark_of, window_place, room_of, can_mark};
+ghost use Rattle.rtps_sets.specs.Window.{mark_of, window_place, can_mark};
 ghost use Rattle.rtps_sets.specs.declared.window.Mark.TheVariants as mark;
 ghost use Rattle.rtps_reader.specs.Tracked.{Tracked, Held, fresh, is_named, is_passable, with_data, with_gap, with_heartbeat, SameTracked};
-ghost use Rattle.rtps_reader.specs.Moving.{ArePassable, PassesOver, HandsOn, Moves, run_of, passed_from, HeartbeatMoves, match_of, stamped, mark_named, CanMove};
-ghost use Rattle.rtps_reader.specs.Proxy.{held_change, tracked, IsProxyReady};
+ghost use Rattle.rtps_reader.specs.Moving.{ArePassable, PassesOver, HandsOn, Moves, run_of, passed_from, HeartbeatMoves, match_of, mark_named, CanMove};
+ghost use Rattle.rtps_reader.specs.HeldChanges.{count_held};
+ghost use Rattle.rtps_reader.specs.Proxy.{tracked, IsProxyReady};
 ghost use Rattle.rtps_reader.specs.Sound.{IsSound, ProxyKeepsRest};
 ghost use Rattle.rtps_reader.specs.Answer.{AnswersHeartbeat, IsIdle, IsSayable, answered, heard_after};
 
+use crate::held_changes::HeldChanges;
 use crate::sink::Sink;
 use crate::step::{AckNackDue, HeartbeatSeen, Step};
 use dds_base::{Arrival, Change, Code, Handle, Moment, PassedRun, Sequence, Sn, is_later};
@@ -54,8 +55,8 @@ pub struct Source {
 pub struct WriterProxy {
     alloc: Global,
     window: Window,
-    /// The changes of the numbers that are marked as held, the newest first.
-    held: Vec<Arrival>,
+    /// The changes of the numbers that are marked as held.
+    held: HeldChanges,
     first: u64,
     count: Option<i32>,
     acknacks: u32,
@@ -75,15 +76,13 @@ fn is_named(start: Sn, list: &SnSet, number: u64) -> bool
 
 /// Marks a number as irrelevant, if it is named.
 fn mark_if(window: &mut Window, number: u64, named: bool)
-    requires room { 1 ≤ room_of window.old }
     ensures place { window_place window.new ≡ window_place window.old }
     ensures marks { (n : ℕ) → mark_of window.new n ≡
         (if (named && can_mark window.old number) && (number == n) then Some mark.Irrelevant
         else mark_of window.old n) }
-    ensures room { room_of window.old ≤ room_of window.new + 1 }
 {
     if named && window.mark(Sn::new(number), Mark::Irrelevant).is_err() {
-        // Room was reserved.
+        // A mark is never refused.
         unreachable!();
     }
 }
@@ -92,7 +91,6 @@ fn mark_if(window: &mut Window, number: u64, named: bool)
 fn mark_named(window: &mut Window, start: Sn, list: &SnSet)
     requires small { list.now.base ≤ 2 ^ 62 }
     requires place { window_place window.old ≤ 2 ^ 62 + 256 }
-    requires room { 256 ≤ room_of window.old }
     ensures place { window_place window.new ≡ window_place window.old }
     ensures marks { (n : ℕ) → mark_of window.new n ≡ mark_named start list.now
         (window_place window.old + 256) window.old n }
@@ -104,51 +102,6 @@ fn mark_named(window: &mut Window, start: Sn, list: &SnSet)
         let named = is_named(start, list, number);
         mark_if(window, number, named);
     }
-}
-
-/// Where the change that is held for a number stands.
-fn position_of(held: &[Arrival], number: Sn) -> Option<usize>
-    ensures within { IfSome result (λ at. at < length held.now) }
-    ensures found { IfSome result
-        (λ at. (d : Arrival)
-        → held_change held.now number ≡ Some (slice_index_or held.now at d).change) }
-    ensures number { IfSome result
-        (λ at. (d : Arrival) → (slice_index_or held.now at d).number ≡ number) }
-    ensures none { IfNone result (held_change held.now number ≡ None) }
-{
-    for (at, arrival) in held.iter().enumerate() {
-        if arrival.number == number {
-            return Some(at);
-        }
-    }
-    None
-}
-
-/// Notes from which writer a held change comes, and when.
-fn stamp(held: &mut Vec<Arrival>, at: usize, source: &Source)
-    requires within { at < vec_len held.old }
-    ensures changes { (n : ℕ) → held_change held.new.items n ≡ held_change held.old.items n }
-    ensures arrival { (d : Arrival)
-        → slice_index_or held.new.items at d
-        ≡ stamped source.now (slice_index_or held.old.items at d) }
-    ensures len { vec_len held.new ≡ vec_len held.old }
-    ensures capacity { vec_capacity held.new ≡ vec_capacity held.old }
-{
-    let arrival = &mut held[at];
-    arrival.writer = source.publication;
-    arrival.moment = source.moment;
-}
-
-/// Takes a held change.
-fn take_out(held: &mut Vec<Arrival>, at: usize) -> Arrival
-    requires within { at < vec_len held.old }
-    ensures taken { (d : Arrival) → result ≡ slice_index_or held.old.items at d }
-    ensures others { (n : ℕ) → n ≢ result.number
-        → held_change held.new.items n ≡ held_change held.old.items n }
-    ensures len { vec_len held.new + 1 ≡ vec_len held.old }
-    ensures capacity { vec_capacity held.new ≡ vec_capacity held.old }
-{
-    held.remove(at)
 }
 
 /// Enters a run from one number to below another, if there is one.
@@ -195,20 +148,22 @@ fn hear_if<S: Sink>(sink: &mut S, source: &Source, liveliness: bool)
 }
 
 impl WriterProxy {
-    /// Of a writer of which nothing was heard.
-    pub fn open(alloc: Global) -> WriterProxy
-        ensures sound { IsSound result }
-        ensures tracked { SameTracked fresh (tracked result) }
+    /// Of a writer of which nothing was heard. Makes all the room that its held changes will take.
+    pub fn open(alloc: Global) -> Result<WriterProxy, Code>
+        ensures sound { IfOk result IsSound }
+        ensures tracked { IfOk result (λ proxy. SameTracked fresh (tracked proxy)) }
+        ensures memory { IfErr result (λ code. code ≡ Memory) }
     {
-        WriterProxy {
+        let held = HeldChanges::open(alloc)?;
+        Ok(WriterProxy {
             alloc,
             window: Window::open(alloc),
-            held: Vec::new(alloc),
+            held,
             first: 0,
             count: None,
             acknacks: 0,
             runs: Vec::new(alloc),
-        }
+        })
     }
 
     /// The number of the next change.
@@ -229,9 +184,7 @@ impl WriterProxy {
         ensures succeeds { IsProxyReady self.old (S.spare sink.old) → IsOk result }
         ensures memory { IfErr result (λ code. code ≡ Memory) }
     {
-        let waiting = usize::min(self.held.len(), MAX_MOVES - 1) + 1;
-        self.window.reserve(WIDTH as usize)?;
-        self.held.reserve(1)?;
+        let waiting = usize::min(self.held.count(), MAX_MOVES - 1) + 1;
         self.runs.clear();
         self.runs.reserve(waiting + 1)?;
         sink.reserve(2 * waiting + 3)
@@ -312,7 +265,7 @@ impl WriterProxy {
             → mark_of self.old.window (window_place self.old.window) ≡ Some mark.Held }
         ensures outside { (n : ℕ) → mark_of self.old.window n ≡ None
             → mark_of self.new.window n ≡ None }
-        ensures fewer { result ≡ true → vec_len self.new.held + 1 ≡ vec_len self.old.held }
+        ensures fewer { result ≡ true → count_held self.new.held + 1 ≡ count_held self.old.held }
         ensures qos { S.qos sink.new ≡ S.qos sink.old }
         ensures spare { S.spare sink.old ≤ S.spare sink.new + 1 }
     {
@@ -320,14 +273,17 @@ impl WriterProxy {
         if self.window.mark_of(place) != Some(Mark::Held) {
             return false;
         }
-        let Some(at) = position_of(&self.held, place) else {
-            return false;
+        let change = self.held.take(place);
+        let arrival = Arrival {
+            writer: source.publication,
+            number: place,
+            change,
+            moment: source.moment,
         };
-        stamp(&mut self.held, at, source);
-        if !sink.room(&self.held[at]) {
+        if !sink.room(&arrival) {
+            self.held.put(place, arrival.change);
             return false;
         }
-        let arrival = take_out(&mut self.held, at);
         if sink.come(arrival).is_err() {
             // Room was reserved.
             unreachable!();
@@ -342,7 +298,7 @@ impl WriterProxy {
         requires matched { IsMatched (S.qos sink.old) source.now.publication }
         requires none { runs.old.items ≡ [] }
         requires len { vec_len runs.old ≡ 0 }
-        requires memory { CanMove (vec_len self.old.held) (vec_capacity runs.old)
+        requires memory { CanMove (count_held self.old.held) (vec_capacity runs.old)
             (S.spare sink.old) }
         ensures sound { IsSound self.new }
         ensures qos { S.qos sink.new ≡ S.qos sink.old }
@@ -362,24 +318,20 @@ impl WriterProxy {
     }
 
     /// Holds a received change, if its number is one of the window of which nothing is known.
-    fn hold(&mut self, arrival: Arrival)
+    fn hold(&mut self, number: Sn, change: Change)
         requires sound { IsSound self.old }
-        requires small { arrival.number ≤ 2 ^ 62 }
-        requires marks { 1 ≤ room_of self.old.window }
-        requires changes { vec_len self.old.held < vec_capacity self.old.held }
+        requires small { number ≤ 2 ^ 62 }
         ensures sound { IsSound self.new }
-        ensures holds { SameTracked (with_data arrival.number arrival.change (tracked self.old))
-            (tracked self.new) }
-        ensures held { vec_len self.new.held ≤ vec_len self.old.held + 1 }
+        ensures holds { SameTracked (with_data number change (tracked self.old)) (tracked self.new) }
+        ensures held { count_held self.new.held ≤ count_held self.old.held + 1 }
         ensures runs { self.new.runs ≡ self.old.runs }
     {
-        let Ok(is_new) = self.window.mark(arrival.number, Mark::Held) else {
-            // Room was reserved.
+        let Ok(is_new) = self.window.mark(number, Mark::Held) else {
+            // A mark is never refused.
             unreachable!();
         };
-        if is_new && self.held.insert(0, arrival).is_err() {
-            // Room was reserved.
-            unreachable!();
+        if is_new {
+            self.held.put(number, change);
         }
     }
 
@@ -387,7 +339,6 @@ impl WriterProxy {
     fn make_irrelevant(&mut self, start: Sn, list: &SnSet)
         requires sound { IsSound self.old }
         requires small { list.now.base ≤ 2 ^ 62 }
-        requires marks { 256 ≤ room_of self.old.window }
         ensures sound { IsSound self.new }
         ensures forgets { SameTracked (with_gap start list.now (tracked self.old))
             (tracked self.new) }
@@ -442,7 +393,7 @@ impl WriterProxy {
     fn moved<S: Sink>(&mut self, sink: &mut S, source: &Source) -> Step
         requires sound { IsSound self.old }
         requires matched { IsMatched (S.qos sink.old) source.now.publication }
-        requires memory { CanMove (vec_len self.old.held) (vec_capacity self.old.runs)
+        requires memory { CanMove (count_held self.old.held) (vec_capacity self.old.runs)
             (S.spare sink.old) }
         ensures sound { IsSound self.new }
         ensures quiet { (result.heard ≡ false) × (result.acknack ≡ None) }
@@ -484,12 +435,7 @@ impl WriterProxy {
             self.old self.new sink.old sink.new result }
     {
         self.reserve(sink)?;
-        self.hold(Arrival {
-            writer: source.publication,
-            number,
-            change,
-            moment: source.moment,
-        });
+        self.hold(number, change);
         Ok(self.moved(sink, source))
     }
 

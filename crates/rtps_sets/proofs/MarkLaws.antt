@@ -28,13 +28,13 @@ in_window place n low high = rw (le-leb place n low) (lt-ltb n (place + 256) hig
 below_window : (place n : ℕ) → n < place → is_in_window place n ≡ false
 below_window place n low = grind (arith, nat_tests)
 
-above_window : (place n : ℕ) → place + 256 ≤ n → is_in_window place n ≡ false
+pub above_window : (place n : ℕ) → place + 256 ≤ n → is_in_window place n ≡ false
 above_window place n high = grind (arith, nat_tests)
 
-window_from : (place n : ℕ) → is_in_window place n ≡ true → place ≤ n
+pub window_from : (place n : ℕ) → is_in_window place n ≡ true → place ≤ n
 window_from place n is = grind (arith, nat_tests)
 
-window_to : (place n : ℕ) → is_in_window place n ≡ true → n < place + 256
+pub window_to : (place n : ℕ) → is_in_window place n ≡ true → n < place + 256
 window_to place n is = grind (arith, nat_tests)
 
 pub mark_inside : (w : Marks) (n : ℕ) → is_in_window w.place n ≡ true → mark_of w n ≡ ring_mark w.held w.irrelevant n

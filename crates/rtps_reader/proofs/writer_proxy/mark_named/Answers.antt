@@ -15,5 +15,4 @@ loop-number-preserved c =
       small = λ n high none. unmarked_more c.is_named-named.result _ (c.loop-number.number == n) _ _
           (c.mark_if.ensures.marks n) (λ is. let low = c.is_named-named.ensures.small is in grind (arith, nat_tests))
           (it.small n high none);
-      room = omega (arith, it.room, c.mark_if.ensures.room);
     }

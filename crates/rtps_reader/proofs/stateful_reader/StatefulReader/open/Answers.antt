@@ -14,10 +14,10 @@ loop-preserved c =
     let it = c.loop.invariant in
     let items = c.in_ok-push.ensures.items in
     record {
-      sound = rw items (sound_more c.loop.proxies.items c.open.result it.sound c.open.ensures.sound);
+      sound = rw items (sound_more c.loop.proxies.items c.in_ok-proxy.proxy it.sound c.in_ok-proxy.ensures.sound);
       len = rw items (grow_len _ _ _ it.len);
-      fresh = rw items (tracks_more c.loop.proxies.items c.open.result c.loop.counter fresh it.len it.fresh
-          (same_back fresh (tracked c.open.result) c.open.ensures.tracked));
+      fresh = rw items (tracks_more c.loop.proxies.items c.in_ok-proxy.proxy c.loop.counter fresh it.len it.fresh
+          (same_back fresh (tracked c.in_ok-proxy.proxy) c.in_ok-proxy.ensures.tracked));
     }
 
 pub returns-clause-fresh : goal.returns-clause-fresh

@@ -1,4 +1,4 @@
-use Rattle.std.proofs.Common.{rules, arith, ap, ◌≡◌, ◌≤◌, ◌<◌, ◌+◌, sym, ◌∙◌, subst, ℕ, List, vec_len}
+use Rattle.std.proofs.Common.{rules, arith, ap, ◌≡◌, ◌≤◌, ◌<◌, ◌+◌, sym, ◌∙◌, subst, ℕ, List, Option}
 use Rattle.std.specs.Prelude.{None, Some, false}
 use Rattle.dds_base.specs.declared.change.Change.{Change}
 use Rattle.dds_base.specs.declared.happening.Happening.{Happening}
@@ -9,6 +9,7 @@ use Rattle.rtps_sets.specs.Window.{mark_of, window_place}
 use Rattle.rtps_sets.specs.declared.window.Mark.TheVariants as mark
 use Rattle.rtps_reader.specs.Tracked.{Held}
 use Rattle.rtps_reader.specs.Moving.{HandsOn, match_of}
+use Rattle.rtps_reader.specs.HeldChanges.{count_held}
 use Rattle.rtps_reader.specs.Proxy.{tracked}
 use Rattle.rtps_reader.proofs.MoveLaws.{Progress, over, not_passable_after, handed, stopped, begun}
 use Rattle.rtps_reader.proofs.writer_proxy.WriterProxy.advance.Goals as goal
@@ -42,8 +43,8 @@ moving-preserved g c =
     let over_it = c.pass_over.ensures.passes in
     let hand = c.hand_on.ensures.handed yes in
     let fewer = c.hand_on.ensures.fewer yes in
-    let lens : vec_len c.pass_over.new.self.held ≡ vec_len c.moving.self.held = ap
-    (λ v. vec_len v) c.pass_over.ensures.held in
+    let lens : count_held c.pass_over.new.self.held ≡ count_held c.moving.self.held =
+    ap (λ (held : List (Option Change)). count_held held) c.pass_over.ensures.held in
     let forward = over_it.forward in
     let next = hand.place in
     let outside : (n : ℕ) → start + 256 ≤ n

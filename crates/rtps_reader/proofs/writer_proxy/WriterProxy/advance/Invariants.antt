@@ -2,6 +2,7 @@ use Rattle.std.proofs.Common.{◌≡◌, ◌≤◌, ◌<◌, ◌+◌, ◌*◌, �
 use Rattle.std.specs.Prelude.{None}
 use Rattle.dds_base.specs.declared.happening.Happening.{Happening}
 use Rattle.rtps_sets.specs.Window.{mark_of, window_place}
+use Rattle.rtps_reader.specs.HeldChanges.{count_held}
 use Rattle.rtps_reader.specs.Proxy.{tracked}
 use Rattle.rtps_reader.specs.Sound.{IsSound}
 use Rattle.rtps_reader.specs.Moving.{match_of}
@@ -13,11 +14,11 @@ invariant-moving g l = record {
   sound : IsSound l.self;
   qos : g.S.Sink.qos l.sink ≡ g.S.Sink.qos l.fn.sink;
   outside : (n : ℕ) → window_place l.fn.self.window + 256 ≤ n → mark_of l.self.window n ≡ None;
-  runs : vec_len l.runs + min (vec_len l.self.held)
+  runs : vec_len l.runs + min (count_held l.self.held)
       (window_place l.fn.self.window + 256 - window_place l.self.window) < vec_capacity l.runs;
-  short : vec_len l.runs + min (vec_len l.self.held)
+  short : vec_len l.runs + min (count_held l.self.held)
       (window_place l.fn.self.window + 256 - window_place l.self.window) ≤ 256;
-  spare : 2 * min (vec_len l.self.held)
+  spare : 2 * min (count_held l.self.held)
       (window_place l.fn.self.window + 256 - window_place l.self.window) + 2 ≤ g.S.Sink.spare l.sink;
   progress : (h : List Happening) → g.S.Sink.stands l.fn.sink h
       → Progress (match_of (g.S.Sink.qos l.fn.sink) l.source) (tracked l.fn.self) h l.runs.items (tracked l.self)
@@ -25,4 +26,4 @@ invariant-moving g l = record {
 }
 
 abbrev pub decreases-moving : goal.decreases-moving
-decreases-moving g l = vec_len l.self.held
+decreases-moving g l = count_held l.self.held

@@ -1,0 +1,96 @@
+//! The changes that a reader holds until those before them have come.
+//!
+//! RTPS 2.5, 8.4.10 (ChangeFromWriter), 8.4.12 (received_change_set).
+
+ghost use Rattle.std.specs.Prelude.{◌≡◌, ◌+◌, ◌%◌, ◌==◌, ℕ, None, Some, IfOk, IsSome, if◌then◌else◌, replicate};
+ghost use Rattle.rtps_reader.specs.HeldChanges.{held_at, count_held};
+
+use dds_base::{Change, Sn};
+use std::alloc::{AllocError, Global};
+use std::marker::Model;
+
+/// So many places: as many as a window has numbers.
+const PLACES: usize = 256;
+
+/// The changes of one writer that wait for those before them. Each stands at the place of its number, and the 256
+/// numbers of a window have 256 places. It takes memory only where it is opened.
+#[derive(Drop)]
+pub struct HeldChanges {
+    /// A number has the place at the number modulo 256.
+    places: Vec<Option<Change>>,
+    count: usize,
+}
+
+impl Model for HeldChanges {
+    ghost use Rattle.std.specs.Prelude.{List, Option};
+    ghost use Rattle.dds_base.specs.declared.change.Change.{Change};
+    ghost use Rattle.rtps_reader.specs.HeldChanges.{ArePlaces};
+
+    ghost Value = { List (Option Change) };
+
+    ghost view = { λ h. h.places.items };
+
+    ghost invariant = { λ h. ArePlaces h.places.items h.count };
+}
+
+/// The place of a number.
+fn place_of(number: Sn) -> usize
+    ensures { result ≡ number % 256 }
+{
+    (number.number() % 256) as usize
+}
+
+/// A place for each number of a window, and nothing there.
+fn no_changes(alloc: Global) -> Result<Vec<Option<Change>>, AllocError>
+    ensures { IfOk result (λ places. places.items ≡ replicate 256 None) }
+{
+    let mut places = Vec::with_capacity(alloc, PLACES)?;
+    for _ in 0..PLACES {
+        places.push(None)?;
+    }
+    Ok(places)
+}
+
+impl HeldChanges {
+    /// No change is held. Makes all the room that there will be.
+    pub fn open(alloc: Global) -> Result<HeldChanges, AllocError>
+        ensures none { IfOk result (λ held. (n : ℕ) → held_at held n ≡ None) }
+    {
+        let places = no_changes(alloc)?;
+        Ok(HeldChanges { places, count: 0 })
+    }
+
+    /// How many are held.
+    pub fn count(&self) -> usize
+        ensures { result ≡ count_held self.now }
+    {
+        self.count
+    }
+
+    /// Holds the change of a number, at whose place none is held.
+    pub fn put(&mut self, number: Sn, change: Change)
+        requires free { held_at self.old number ≡ None }
+        ensures each { (n : ℕ) → held_at self.new n ≡
+            (if n % 256 == number % 256 then Some change else held_at self.old n) }
+        ensures count { count_held self.new ≡ count_held self.old + 1 }
+    {
+        self.places[place_of(number)] = Some(change);
+        self.count += 1;
+    }
+
+    /// Takes the change that is held at the place of a number.
+    pub fn take(&mut self, number: Sn) -> Change
+        requires held { IsSome (held_at self.old number) }
+        ensures taken { held_at self.old number ≡ Some result }
+        ensures each { (n : ℕ) → held_at self.new n ≡
+            (if n % 256 == number % 256 then None else held_at self.old n) }
+        ensures count { count_held self.new + 1 ≡ count_held self.old }
+    {
+        let Some(change) = self.places[place_of(number)].take() else {
+            // One is held there.
+            unreachable!();
+        };
+        self.count -= 1;
+        change
+    }
+}
