@@ -1,5 +1,5 @@
 -- The bits of a ring, word by word.
-use Rattle.std.proofs.Common.{◌≡◌, ℕ, zero, suc, ◌-◌, ◌+◌, ◌*◌, ◌/◌, ◌%◌, ◌^◌, ◌<◌, ◌≤◌, min, max, not, ◌&&◌, ◌||◌, List, get_or, eqb, ltb, refl, inl, inr, sym, ap, ◌∙◌, arith, add-zero, bit_or, bit_and, w64}
+use Rattle.std.proofs.Common.{◌≡◌, ℕ, zero, suc, ◌-◌, ◌+◌, ◌*◌, ◌/◌, ◌%◌, ◌^◌, ◌<◌, ◌≤◌, min, max, Bool, false, not, ◌&&◌, ◌||◌, List, get_or, set, eqb, ltb, refl, inl, inr, sym, ap, ◌∙◌, arith, add-zero, bit_or, bit_and, w64, get_or-set_same, get_or-set_other}
 use Rattle.std.specs.Prelude.{◌⊎◌}
 use Rattle.std.specs.Int.{bit_at, bit_not}
 use Rattle.std.proofs.lemmas.Bool.{cases_lt, lt-ltb, le-ltb}
@@ -119,3 +119,52 @@ free_bit a b ones i small less =
     ap (λ (n : ℕ). eqb n 1)
     (bit_at_and (bit_not w64 (bit_or a b)) ones i ∙ ap (λ (n : ℕ). min n (bit_at ones i)) neither)
     ∙ free_digit (bit_at a i) (bit_at b i) (bit_at ones i) (bit_at-lt a i) (bit_at-lt b i) (bit_at-lt ones i)
+
+both_digit : (x z : ℕ) → x < 2 → z < 2 → eqb (min x z) 1 ≡ (eqb z 1 && eqb x 1)
+both_digit zero zero a b = refl
+both_digit zero (suc zero) a b = refl
+both_digit (suc zero) zero a b = refl
+both_digit (suc zero) (suc zero) a b = refl
+both_digit (suc (suc x)) z a b = absurd (omega arith)
+both_digit zero (suc (suc z)) a b = absurd (omega arith)
+both_digit (suc zero) (suc (suc z)) a b = absurd (omega arith)
+
+-- the bits of a word that stand among those of another
+pub both_bit : (a ones i : ℕ) → eqb (bit_at (bit_and a ones) i) 1 ≡ (eqb (bit_at ones i) 1 && eqb (bit_at a i) 1)
+both_bit a ones i =
+    ap (λ (n : ℕ). eqb n 1) (bit_at_and a ones i)
+    ∙ both_digit (bit_at a i) (bit_at ones i) (bit_at-lt a i) (bit_at-lt ones i)
+
+-- a bit of a word is one of those of all words
+pub bit_in_word : (words : List ℕ) (at i : ℕ) → i < 64
+    → eqb (bit_at (get_or words at 0) i) 1 ≡ bit_of words (64 * at + i)
+bit_in_word words at i less =
+    let word : (64 * at + i) / 64 ≡ at = omega arith in
+    let bit : (64 * at + i) % 64 ≡ i = omega arith in
+    rw (word, bit) refl
+
+-- so many bits of a word stand below a place
+pub below_in_word : (at i end count : ℕ) → count ≡ end - 64 * at → ltb i count ≡ ltb (64 * at + i) end
+below_in_word at i end count is = by (cases_lt i count)
+  where
+    by : (i < count) ⊎ (count ≤ i) → ltb i count ≡ ltb (64 * at + i) end
+    by (inl less) = rw (lt-ltb i count less, lt-ltb (64 * at + i) end (omega (arith, is, less))) refl
+    by (inr more) = rw (le-ltb i count more, le-ltb (64 * at + i) end (omega (arith, is, more))) refl
+
+-- one word more has its bits below a place
+pub below_more : (words : List ℕ) (at end word : ℕ) (flags : List Bool) → AreWords words → at < 4
+    → ((k : ℕ) → k < 64 * at → bit_of words k ≡ (ltb k end && get_or flags k false))
+    → ((i : ℕ) → i < 64 → eqb (bit_at word i) 1 ≡ (ltb (64 * at + i) end && get_or flags (64 * at + i) false))
+    → (k : ℕ) → k < 64 * (at + 1) → bit_of (set words at word) k ≡ (ltb k end && get_or flags k false)
+below_more words at end word flags are lt so_far each k high = by (cases_lt k (64 * at))
+  where
+    by : (k < 64 * at) ⊎ (64 * at ≤ k) → bit_of (set words at word) k ≡ (ltb k end && get_or flags k false)
+    by (inl less) =
+        ap (λ (v : ℕ). eqb (bit_at v (k % 64)) 1)
+        (get_or-set_other words at (k / 64) word 0 (λ e. omega (arith, e, less)))
+        ∙ so_far k less
+    by (inr more) =
+        let here : k / 64 ≡ at = omega (arith, more, high) in
+        let place : 64 * at + k % 64 ≡ k = omega (arith, more, high) in
+        rw here (rw (get_or-set_same words at word 0 (omega (arith, are.count, lt)))
+        (each (k % 64) (omega arith) ∙ ap (λ (n : ℕ). ltb n end && get_or flags n false) place))

@@ -1,6 +1,6 @@
 //! 256 bits in words.
 
-ghost use Rattle.std.specs.Prelude.{◌≡◌, ◌≤◌, ◌<◌, ◌+◌, ◌%◌, ◌==◌, ◌&&◌, ◌||◌, ℕ, false, not, true, nat_lt, length, replicate, slice_index_or, slice_set};
+ghost use Rattle.std.specs.Prelude.{◌≡◌, ◌≤◌, ◌<◌, ◌+◌, ◌*◌, ◌%◌, ◌==◌, ◌&&◌, ◌||◌, ℕ, false, not, true, nat_lt, length, replicate, slice_index_or, slice_set};
 ghost use Rattle.std.specs.Int.{bit_at};
 ghost use Rattle.rtps_sets.specs.Bits.{is_free, AreWords, IsSpan};
 ghost use Rattle.rtps_sets.specs.NumberSet.{span};
@@ -89,6 +89,27 @@ impl Bits {
         for at in 0..4 {
             let from = (place + 64 * at) % 256;
             words[at] = free_word(held, irrelevant, from, count.saturating_sub(64 * at));
+        }
+        Bits { words }
+    }
+
+    /// The bits of one word that stand below a place.
+    fn word_below(&self, at: usize, end: usize) -> u64
+        requires { at < 4 }
+        ensures { (i : ℕ) → i < 64 → (bit_at result i == 1)
+            ≡ (nat_lt (64 * at + i) end && slice_index_or self.now (64 * at + i) false) }
+    {
+        self.words[at] & low_bits(end.saturating_sub(64 * at))
+    }
+
+    /// The bits that stand below a place.
+    pub fn below(&self, end: usize) -> Bits
+        ensures each { (k : ℕ) → k < 256 → slice_index_or result k false
+            ≡ (nat_lt k end && slice_index_or self.now k false) }
+    {
+        let mut words = [0; 4];
+        for at in 0..4 {
+            words[at] = self.word_below(at, end);
         }
         Bits { words }
     }

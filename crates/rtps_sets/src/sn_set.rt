@@ -116,6 +116,22 @@ impl SnSet {
     {
         self.members.span()
     }
+
+    /// The same of the members less than `place` above the base: the greatest of them minus the base plus 1, and 0 where
+    /// there is none. From one of these to the next it goes over all members, the greatest first.
+    pub fn bits_below(&self, place: usize) -> usize
+        // There are 256 places.
+        requires place { place ≤ 256 }
+        // It is not past the place.
+        ensures within { result ≤ place }
+        // The last of these bits is a member.
+        ensures last { 0 < result → IsTrue (has_number self.now (self.now.base + result - 1)) }
+        // No number past them is, up to the place.
+        ensures past { (n : ℕ) → self.now.base + result ≤ n → n < self.now.base + place
+            → has_number self.now n ≡ false }
+    {
+        self.members.below(place).span()
+    }
 }
 
 /// The members of every set lie within `MAX_BITS` numbers from its base on.
