@@ -62,11 +62,52 @@ third_fails false b c h = refl
 pub requested-within : (set : NumberSet) (from to n : ℕ) → is_requested set from to n ≡ true → n ≤ to
 requested-within set from to n h = leb-true n to (third_of (has_number set n) (nat_le from n) (nat_le n to) h)
 
--- what a test has answered of a number is whether it is requested, by another name of the last one
-pub requested-at : (set : NumberSet) (from last to n : ℕ) (answer b : Bool) → last ≡ to
-    → answer ≡ is_requested set from last n → answer ≡ b → is_requested set from to n ≡ b
-requested-at set from last to n answer b same tests is =
-    ap (λ (k : ℕ). is_requested set from k n) (sym same) ∙ (sym tests ∙ is)
+-- a member that lies between is requested, and what does not lie between is not; the last number has another name
+pub requested-at : (set : NumberSet) (from last to n : ℕ) (answer : Bool) → last ≡ to
+    → answer ≡ (nat_le from n && nat_le n last) → answer ≡ true → has_number set n ≡ true
+    → is_requested set from to n ≡ true
+requested-at set from last to n answer same tests is member =
+    ap (λ (b : Bool). b && (nat_le from n && nat_le n to)) member
+    ∙ (ap (λ (k : ℕ). nat_le from n && nat_le n k) (sym same) ∙ (sym tests ∙ is))
+
+neither : (a b : Bool) → b ≡ false → (a && b) ≡ false
+neither true b is = is
+neither false b is = refl
+
+pub not-requested-at : (set : NumberSet) (from last to n : ℕ) (answer : Bool) → last ≡ to
+    → answer ≡ (nat_le from n && nat_le n last) → answer ≡ false → is_requested set from to n ≡ false
+not-requested-at set from last to n answer same tests is =
+    neither (has_number set n) (nat_le from n && nat_le n to)
+    (ap (λ (k : ℕ). nat_le from n && nat_le n k) (sym same) ∙ (sym tests ∙ is))
+
+-- a number that lies up to the last one is the member that it was made of
+pub member-here : (set : NumberSet) (place number from last : ℕ) (answer : Bool)
+    → number ≡ min (set.base + place) (2 ^ 64 - 1) → last ≤ 2 ^ 48 → answer ≡ (nat_le from number && nat_le number last)
+    → answer ≡ true → has_number set (set.base + (place + 1) - 1) ≡ true → has_number set number ≡ true
+member-here set place number from last answer at few tests is member =
+    let within : number ≤ last = leb-true number last (second (nat_le from number) (nat_le number last) (sym tests ∙ is)) in
+    let here : number ≡ set.base + (place + 1) - 1 = omega (arith, at, within, few) in
+    ap (λ (n : ℕ). has_number set n) here ∙ member
+  where
+    second : (a b : Bool) → (a && b) ≡ true → b ≡ true
+    second true b h = h
+    second false b h = absurd cc
+
+-- numbers of which none is a member are left out
+pub none-between : (set : NumberSet) (from to bits place : ℕ) → bits ≤ place → place ≤ 256
+    → ((n : ℕ) → set.base + bits ≤ n → n < set.base + place → has_number set n ≡ false)
+    → requested_from bits set from to ≡ requested_from place set from to
+none-between set from to bits place le most none = over (place - bits) bits (omega (arith, le)) none
+  where
+    over : (count at : ℕ) → at + count ≡ place
+        → ((n : ℕ) → set.base + at ≤ n → n < set.base + place → has_number set n ≡ false)
+        → requested_from at set from to ≡ requested_from place set from to
+    over zero at is left = ap (λ (k : ℕ). requested_from k set from to) (omega (arith, is))
+    over (suc count) at is left =
+        one-more at set from to false (omega (arith, is, most))
+        (ap (λ (b : Bool). b && (nat_le from (set.base + at) && nat_le (set.base + at) to))
+        (left (set.base + at) (omega arith) (omega (arith, is))))
+        ∙ over count (at + 1) (omega (arith, is)) (λ n low high. left n (omega (arith, low)) high)
 
 -- the answers from one place earlier on, whose number is requested; a number past 2^64 - 1 is none
 pub step-requested : (kept : ℕ → Bool) (place number : ℕ) (set : NumberSet) (from to : ℕ) (b : Bool)

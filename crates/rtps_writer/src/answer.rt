@@ -2,11 +2,11 @@
 //!
 //! RTPS 2.5, 8.4.7 (ReaderProxy, requested_changes), 8.3.8 (AckNack, Data, Gap).
 
-ghost use Rattle.std.specs.Prelude.{◌≡◌, ◌≤◌, ◌<◌, ◌+◌, ℕ, [], ◌∷◌, vec_len, vec_capacity, length};
+ghost use Rattle.std.specs.Prelude.{◌≡◌, ◌≤◌, ◌<◌, ◌+◌, ◌&&◌, ℕ, [], ◌∷◌, nat_le, vec_len, vec_capacity, length};
 ghost use Rattle.dds_base.specs.Kept.{WriterHistory, is_kept};
 ghost use Rattle.dds_history.specs.Standing.{StandsFor as HistoryStandsFor};
 ghost use Rattle.rtps_sets.specs.NumberSet.{span};
-ghost use Rattle.rtps_writer.specs.Answers.{answer_before, answers_to, is_requested, requested};
+ghost use Rattle.rtps_writer.specs.Answers.{answer_before, answers_to, requested};
 ghost use Rattle.rtps_writer.specs.Gaps.{gap_after};
 
 use dds_base::Sn;
@@ -77,14 +77,15 @@ fn put_before(answers: &mut Vec<Answer>, number: Sn, is_kept: bool)
     }
 }
 
-/// Whether the number is a member of the set, and lies from one number to another.
-fn is_requested(set: &SnSet, from: Sn, to: Sn, number: Sn) -> bool
-    ensures { result ≡ is_requested set.now from to number }
+/// Whether the number lies from one number to another.
+fn is_between(from: Sn, to: Sn, number: Sn) -> bool
+    ensures { result ≡ (nat_le from number && nat_le number to) }
 {
-    set.has(number) && from <= number && number <= to
+    from <= number && number <= to
 }
 
-/// Gives the answers for the members of a set from one number to the last, in their order. There is room for them.
+/// Gives the answers for the members of a set from one number to the last, in their order. There is room for them. It
+/// goes over the members alone.
 pub fn put_answers(answers: &mut Vec<Answer>, history: &History, set: &SnSet, from: Sn)
     requires none { answers.old.items ≡ [] }
     requires room { vec_len answers.old + span set.now.members ≤ vec_capacity answers.old }
@@ -94,9 +95,12 @@ pub fn put_answers(answers: &mut Vec<Answer>, history: &History, set: &SnSet, fr
 {
     let base = set.base().number();
     let last = history.last();
-    for place in (0..set.bits()).rev() {
+    let mut bits = set.bits();
+    while bits > 0 {
+        let place = bits - 1;
+        bits = set.bits_below(place);
         let number = Sn::new(base.saturating_add(place as u64));
-        if is_requested(set, from, last, number) {
+        if is_between(from, last, number) {
             put_before(answers, number, history.kept(number));
         }
     }

@@ -1,59 +1,87 @@
-use Rattle.std.proofs.Common.{◌≡◌, ◌+◌, ◌-◌, ◌^◌, ℕ, List, min, length, true, false, ap, sym, ◌∙◌, arith}
+use Rattle.std.proofs.Common.{◌≡◌, ◌+◌, ◌-◌, ◌^◌, ◌≤◌, ℕ, List, min, length, true, ap, sym, subst, ◌∙◌, arith}
 use Rattle.dds_base.specs.Kept.{is_kept}
+use Rattle.rtps_sets.specs.NumberSet.{has_number}
 use Rattle.rtps_writer.specs.Answers.{answers_to}
-use Rattle.rtps_writer.proofs.AnswerLaws.{from-first, nothing-past, requested-at, requested_from, step-other, step-requested}
+use Rattle.rtps_writer.proofs.AnswerLaws.{from-first, member-here, none-between, not-requested-at, nothing-past, requested-at, requested_from, step-other, step-requested}
 use Rattle.rtps_writer.proofs.answer.put_answers.Goals as goal
 
-pub loop-place-init : goal.loop-place-init
-loop-place-init c = (
-  c.bits-place.ensures.within,
-  omega (arith, c.requires.room, c.bits-place.ensures.bits),
-  λ w given. c.requires.none
+pub loop-bits-init : goal.loop-bits-init
+loop-bits-init c = record {
+  within = c.bits-bits.ensures.within;
+  member = λ some. c.bits-bits.ensures.last some;
+  room = omega (arith, c.requires.room, c.bits-bits.ensures.bits);
+  so_far = λ w given. c.requires.none
       ∙ sym (ap (λ (ns : List ℕ). answers_to (λ n. is_kept w n) ns)
-      (nothing-past c.bits-place.result c.args.set.now c.args.from (length w.changes) c.bits-place.ensures.past)),
-)
+      (nothing-past c.bits-bits.result c.args.set.now c.args.from (length w.changes) c.bits-bits.ensures.past));
+}
 
-pub loop-place-preserved-then-is_requested : goal.loop-place-preserved-then-is_requested
-loop-place-preserved-then-is_requested c =
-    let room = c.loop-place.invariant in
-    let base = c.number-base.ensures.number ∙ c.base.ensures.base in (
-      omega (arith, room.0),
-      omega (arith, room.1, c.put_before.ensures.len, c.put_before.ensures.capacity, c.loop-place-test.true),
-      λ w given.
+pub loop-bits-preserved-then-is_between : goal.loop-bits-preserved-then-is_between
+loop-bits-preserved-then-is_between c =
+    let it = c.loop-bits.invariant in
+    let most = it.within in
+    let room = it.room in
+    let some = c.loop-bits-test.true in
+    let below = c.bits_below-bits.ensures in
+    let within = below.within in
+    let base = c.number-base.ensures.number ∙ c.base.ensures.base in
+    let next : c.loop-bits.bits - 1 + 1 ≡ c.loop-bits.bits = omega (arith, some) in
+    let number : c.new-number.result ≡ min (c.args.set.now.base + (c.loop-bits.bits - 1)) (2 ^ 64 - 1) =
+    omega (arith, c.new-number.ensures.number, c.saturating_add.ensures, base) in
+    record {
+      within = omega (arith, within, most);
+      member = λ more. below.last more;
+      room = omega (arith, room, within, some, c.put_before.ensures.len, c.put_before.ensures.capacity);
+      so_far = λ w given.
           let last = c.last-last.ensures.last w given in
-          let number : c.new-number.result ≡ min (c.args.set.now.base + (c.loop-place.place - 1)) (2 ^ 64 - 1) =
-          omega (arith, c.new-number.ensures.number, c.saturating_add.ensures, base) in
+          let few : length w.changes ≤ 2 ^ 48 = omega (arith, last, c.last-last.ensures.few w given) in
+          let member = member-here c.args.set.now (c.loop-bits.bits - 1) c.new-number.result c.args.from
+          c.last-last.result c.is_between.result number (c.last-last.ensures.few w given) c.is_between.ensures
+          c.if-is_between.true
+          (subst (λ (k : ℕ). has_number c.args.set.now (c.args.set.now.base + k - 1) ≡ true) (sym next)
+          (it.member (omega (arith, some)))) in
           c.put_before.ensures.items
-          ∙ step-requested (λ n. is_kept w n) c.loop-place.place c.new-number.result c.args.set.now c.args.from
-          (length w.changes) c.kept.result c.loop-place.answers.items
-          (omega (arith, c.loop-place-test.true)) room.0 number
-          (omega (arith, last, c.last-last.ensures.few w given))
-          (requested-at c.args.set.now c.args.from _ _ c.new-number.result _ true last c.is_requested.ensures
-          c.if-is_requested.true) (room.2 w given) (c.kept.ensures.kept w given),
-    )
+          ∙ (step-requested (λ n. is_kept w n) c.loop-bits.bits c.new-number.result c.args.set.now c.args.from
+          (length w.changes) c.kept.result c.loop-bits.answers.items
+          (omega (arith, some)) most number few
+          (requested-at c.args.set.now c.args.from _ _ c.new-number.result _ last c.is_between.ensures
+          c.if-is_between.true member) (it.so_far w given) (c.kept.ensures.kept w given)
+          ∙ sym (ap (λ (ns : List ℕ). answers_to (λ n. is_kept w n) ns)
+          (none-between c.args.set.now c.args.from (length w.changes) c.bits_below-bits.result (c.loop-bits.bits - 1)
+          within (omega (arith, most)) below.past)));
+    }
 
-pub loop-place-preserved : goal.loop-place-preserved
-loop-place-preserved c =
-    let room = c.loop-place.invariant in
-    let base = c.number-base.ensures.number ∙ c.base.ensures.base in (
-      omega (arith, room.0),
-      omega (arith, room.1, c.loop-place-test.true),
-      λ w given.
+pub loop-bits-preserved : goal.loop-bits-preserved
+loop-bits-preserved c =
+    let it = c.loop-bits.invariant in
+    let most = it.within in
+    let room = it.room in
+    let some = c.loop-bits-test.true in
+    let below = c.bits_below-bits.ensures in
+    let within = below.within in
+    let base = c.number-base.ensures.number ∙ c.base.ensures.base in
+    let number : c.new-number.result ≡ min (c.args.set.now.base + (c.loop-bits.bits - 1)) (2 ^ 64 - 1) =
+    omega (arith, c.new-number.ensures.number, c.saturating_add.ensures, base) in
+    record {
+      within = omega (arith, within, most);
+      member = λ more. below.last more;
+      room = omega (arith, room, within, some);
+      so_far = λ w given.
           let last = c.last-last.ensures.last w given in
-          let number : c.new-number.result ≡ min (c.args.set.now.base + (c.loop-place.place - 1)) (2 ^ 64 - 1) =
-          omega (arith, c.new-number.ensures.number, c.saturating_add.ensures, base) in
-          step-other (λ n. is_kept w n) c.loop-place.place c.new-number.result c.args.set.now c.args.from
-          (length w.changes) c.loop-place.answers.items
-          (omega (arith, c.loop-place-test.true)) room.0 number
+          step-other (λ n. is_kept w n) c.loop-bits.bits c.new-number.result c.args.set.now c.args.from
+          (length w.changes) c.loop-bits.answers.items
+          (omega (arith, some)) most number
           (omega (arith, last, c.last-last.ensures.few w given))
-          (requested-at c.args.set.now c.args.from _ _ c.new-number.result _ false last c.is_requested.ensures
-          c.if-is_requested.false) (room.2 w given),
-    )
+          (not-requested-at c.args.set.now c.args.from _ _ c.new-number.result _ last c.is_between.ensures
+          c.if-is_between.false) (it.so_far w given)
+          ∙ sym (ap (λ (ns : List ℕ). answers_to (λ n. is_kept w n) ns)
+          (none-between c.args.set.now c.args.from (length w.changes) c.bits_below-bits.result (c.loop-bits.bits - 1)
+          within (omega (arith, most)) below.past));
+    }
 
 pub returns : goal.returns
 returns c = λ w given.
-    let none : c.loop-place.place ≡ 0 = omega (arith, c.loop-place-test.false) in
-    c.loop-place.invariant.2 w given
+    let none : c.loop-bits.bits ≡ 0 = omega (arith, c.loop-bits-test.false) in
+    c.loop-bits.invariant.so_far w given
     ∙ (ap (λ (p : ℕ). answers_to (λ n. is_kept w n)
     (requested_from p c.args.set.now c.args.from (length w.changes))) none
     ∙ ap (λ (ns : List ℕ). answers_to (λ n. is_kept w n) ns) (from-first c.args.set.now c.args.from (length w.changes)))
