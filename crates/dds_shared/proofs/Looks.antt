@@ -1,5 +1,5 @@
 -- What a wait leaves on the list of its pass, look by look.
-use Rattle.std.proofs.Common.{◌≡◌, ℕ, Bool, List, [], ◌∷◌, ◌++◌, refl, sym, ap, ◌∙◌, inr, subst, append_assoc, append-nil}
+use Rattle.std.proofs.Common.{◌≡◌, ◌<◌, ℕ, length, Bool, List, [], ◌∷◌, ◌++◌, refl, sym, ap, ◌∙◌, inr, subst, append_assoc, append-nil}
 use Rattle.dds_base.specs.declared.code.Code.TheVariants.{Memory}
 use Rattle.dds_base.specs.declared.key.Key.{Key}
 use Rattle.dds_notices.specs.declared.notice.Notice.{Notice}
@@ -30,8 +30,8 @@ last_same (x ∷ es) e f h = last_same es e f (ap behind h)
 pub Grows-twice : (was mid last : Carried) (xs ys : List Entry) → Grows was mid xs → Grows mid last ys → Grows was last (xs ++ ys)
 Grows-twice was mid last xs ys g h =
     h
-    ∙ (λ i. record (g i) { list = (g i).list ++ ys; spare = last.spare })
-    ∙ ap (λ es. let r : Carried = record was { list = es; spare = last.spare } in r) (append_assoc was.list xs ys)
+    ∙ (λ i. record (g i) { list = (g i).list ++ ys; spare = last.spare; front = last.front })
+    ∙ ap (λ es. let r : Carried = record was { list = es; spare = last.spare; front = last.front } in r) (append_assoc was.list xs ys)
 
 pub missed : (was mid last : Carried) (s : ℕ) (o : Output) → Lists was mid (Call (WaitLook s)) o → o.reply ≡ Refused Memory
     → ((es : List Entry) × Grows mid last es × IsEndOfWait mid.seat s es) → (es : List Entry) × Grows was last es × GivesUp was.seat s es
@@ -50,7 +50,9 @@ pub Adds-reserved : {F L : Type 0} (meaning : F → Key → List ℕ → Bool) (
 Adds-reserved {F} {L} meaning notices capacity becomes old new was mid last e o r a = record {
   step = a.step;
   kept = a.kept ∙ (λ i. let k : Kept F L = record old { core = new.core; entries = old.entries ++ entry_of (r i).seat e o ∷ [] } in k);
-  list = a.list ∙ (λ i. record (r i) { list = (r i).list ++ entry_of (r i).seat e o ∷ []; spare = last.spare });
+  list = a.list ∙ (λ i. record (r i) { list = (r i).list ++ entry_of (r i).seat e o ∷ []; spare = last.spare; front = last.front });
+  above = subst (λ (c : Carried). c.front < length new.entries) r a.above;
+  seen = a.seen;
 }
 
 AllWaiting-snoc : (seat s : ℕ) (es : List Entry) (o : Output) → AllWaiting seat s es → o.reply ≡ Waiting → AllWaiting seat s (es ++ look_of seat s o ∷ [])
@@ -59,7 +61,7 @@ AllWaiting-snoc seat s (e ∷ es) o h r = (h.0, AllWaiting-snoc seat s es o h.1 
 
 pub waits_begun : (was after : Carried) (s d : ℕ) (b : Output) → Lists was after (Call (WaitBegin s d)) b → b.reply ≡ Done → Waits was after s d b [] []
 waits_begun was after s d b l r = record {
-  list = l ∙ ap (λ es. let c : Carried = record was { list = es; spare = after.spare } in c) (sym (append-nil (was.list ++ entry_of was.seat (Call (WaitBegin s d)) b ∷ [])));
+  list = l ∙ ap (λ es. let c : Carried = record was { list = es; spare = after.spare; front = after.front } in c) (sym (append-nil (was.list ++ entry_of was.seat (Call (WaitBegin s d)) b ∷ [])));
   done = r;
   waiting = tt;
 }
@@ -67,8 +69,8 @@ waits_begun was after s d b l r = record {
 pub waits_more : (was mid last : Carried) (s d : ℕ) (b : Output) (looks es : List Entry) → Waits was mid s d b looks [] → Grows mid last es → Waits was last s d b looks es
 waits_more was mid last s d b looks es w g = record {
   list = g
-      ∙ (λ i. record (w.list i) { list = (w.list i).list ++ es; spare = last.spare })
-      ∙ ap (λ xs. let c : Carried = record was { list = xs ++ es; spare = last.spare } in c) (append-nil (was.list ++ entry_of was.seat (Call (WaitBegin s d)) b ∷ looks));
+      ∙ (λ i. record (w.list i) { list = (w.list i).list ++ es; spare = last.spare; front = last.front })
+      ∙ ap (λ xs. let c : Carried = record was { list = xs ++ es; spare = last.spare; front = last.front } in c) (append-nil (was.list ++ entry_of was.seat (Call (WaitBegin s d)) b ∷ looks));
   done = w.done;
   waiting = w.waiting;
 }
@@ -83,7 +85,7 @@ waits_on was mid last s d b looks o w l r =
     let v = waits_over was mid last s d b looks o w l in
     let begin = entry_of was.seat (Call (WaitBegin s d)) b in
     let look = look_of was.seat s o ∷ [] in record {
-      list = v.list ∙ ap (λ xs. let c : Carried = record was { list = xs; spare = last.spare } in c) (append_assoc was.list (begin ∷ looks) look ∙ sym (append-nil (was.list ++ ((begin ∷ looks) ++ look))));
+      list = v.list ∙ ap (λ xs. let c : Carried = record was { list = xs; spare = last.spare; front = last.front } in c) (append_assoc was.list (begin ∷ looks) look ∙ sym (append-nil (was.list ++ ((begin ∷ looks) ++ look))));
       done = v.done;
       waiting = AllWaiting-snoc was.seat s looks o v.waiting r;
     }

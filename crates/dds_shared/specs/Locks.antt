@@ -1,7 +1,7 @@
 -- What lies under the lock of a shared peer.
 --
 -- Inner functions alone cite this: nothing here has to be believed.
-use Rattle.std.specs.Prelude.{◌≡◌, ℕ, Bool, ◌+◌, ◌≤◌, List, [], ◌∷◌, ◌++◌, length, sum_by}
+use Rattle.std.specs.Prelude.{◌≡◌, ℕ, Bool, ◌+◌, ◌≤◌, ◌<◌, List, [], ◌∷◌, ◌++◌, length, sum_by}
 use Rattle.dds_base.specs.declared.config.Config.{Config}
 use Rattle.dds_base.specs.declared.key.Key.{Key}
 use Rattle.dds_conditions.specs.Filtered.{tests_of}
@@ -24,8 +24,8 @@ pub record Kept (F L : Type 0) : Type 0 where
   pub left : ℕ
 
 -- The trace, which is that of this peer, is a history of the core beside it, with room for the end of each wait. The
--- core has the filters that it was shared with, and at each entity the listener's statuses and room. The book counts the
--- entries, and the rest of the ledger is of those passes that can still be made.
+-- core has the filters that it was shared with, and at each entity the listener's statuses and room. The book and the
+-- word count the entries, and the rest of the ledger is of those passes that can still be made.
 pub record IsKept {F L : Type 0} (meaning : F → Key → List ℕ → Bool) (notices : L → List Notice) (capacity : L → ℕ)
     (becomes : L → Notice → L → Type 0) (filters : List F) (slots : Slotted L) (config : Config) (number : ℕ)
     (core : CoreKept F L) (trace : Traced) (total parts amount left : ℕ) : Type 0 where
@@ -39,13 +39,16 @@ pub record IsKept {F L : Type 0} (meaning : F → Key → List ℕ → Bool) (no
   pub nothing : amount ≡ 0
   pub few : left ≤ 4294967295
 
--- one event: a step of the core, entered at the end of the trace and of the pass's list
+-- one event: a step of the core, entered at the end of the trace and of the pass's list, at a place that the pass had
+-- not seen before
 pub record Adds {F L : Type 0} (meaning : F → Key → List ℕ → Bool) (notices : L → List Notice) (capacity : L → ℕ)
     (becomes : L → Notice → L → Type 0) (old new : Kept F L) (was after : Carried) (event : Event) (o : Output)
     : Type 0 where
   pub step : Steps notices capacity becomes (tests_of meaning old.core.filtered.filters) old.core event o new.core
   pub kept : new ≡ record old { core = new.core; entries = old.entries ++ entry_of was.seat event o ∷ [] }
   pub list : Lists was after event o
+  pub above : was.front < length new.entries
+  pub seen : after.front ≡ length new.entries
 
 -- all passes are here, and each seat's entries are those of the passes, in order
 pub record Matches {F L : Type 0} (kept : Kept F L) (ps : List Carried) : Type 0 where

@@ -8,20 +8,21 @@ use Rattle.dds_trace.specs.declared.trace.Entry.{Entry}
 use Rattle.dds_trace.specs.History.{entry_of}
 
 -- a pass: its seat, the entries that it made or that came with the passes joined into it, for how many more there is
--- room, and how many passes it is
+-- room, how many passes it is, and a number of entries that it has seen the peer reach
 pub record Carried : Type 0 where
   pub seat : ℕ
   pub list : List Entry
   pub spare : ℕ
   pub parts : ℕ
+  pub front : ℕ
 
--- a pass of this seat that did nothing yet
-abbrev pub unused : ℕ → ℕ → Carried
-unused seat spare = record { seat = seat; list = []; spare = spare; parts = 1 }
+-- a pass of this seat that did nothing yet, and has seen so many entries
+abbrev pub unused : ℕ → ℕ → ℕ → Carried
+unused seat spare front = record { seat = seat; list = []; spare = spare; parts = 1; front = front }
 
--- the list of a pass grows by these entries
+-- the list of a pass grows by these entries, which it has seen
 abbrev pub Grows : Carried → Carried → List Entry → Type 0
-Grows was after es = after ≡ record was { list = was.list ++ es; spare = after.spare }
+Grows was after es = after ≡ record was { list = was.list ++ es; spare = after.spare; front = after.front }
 
 -- the list of a pass grows by one entry: this event of its seat, with this output
 abbrev pub Lists : Carried → Carried → Event → Output → Type 0

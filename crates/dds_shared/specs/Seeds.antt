@@ -6,14 +6,16 @@ use Rattle.dds_base.specs.declared.config.Config.{Config}
 use Rattle.dds_notices.specs.declared.mask.StatusMask.{StatusMask}
 use Rattle.dds_notices.specs.Listeners.{ByEntity, Slot, Slotted}
 use Rattle.dds_core.specs.Listening.{CoreKept}
+use Rattle.dds_front.specs.Fronts.{WordName}
 
--- a seed: its core, of which peer of which configuration it is, and the name and the parts of its ledger
+-- a seed: its core, of which peer of which configuration it is, the name and the parts of its ledger, and its word
 pub record Planted (F L : Type 0) : Type 0 where
   pub core : CoreKept F L
   pub config : Config
   pub peer : ℕ
   pub name : ℕ
   pub parts : ℕ
+  pub word : WordName
 
 -- the listener of a slot that may be there
 abbrev pub listener_in : {L : Type 0} → Option (Slot L) → Option L

@@ -27,6 +27,7 @@ pub record Waits (was after : Carried) (wait_set deadline : ℕ) (begun : Output
   pub list : after ≡ record was {
     list = (was.list ++ entry_of was.seat (Call (WaitBegin wait_set deadline)) begun ∷ looks) ++ last;
     spare = after.spare;
+    front = after.front;
   }
   pub done : begun.reply ≡ Done
   pub waiting : AllWaiting was.seat wait_set looks

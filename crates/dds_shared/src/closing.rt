@@ -1,9 +1,11 @@
 // Whether passes have what a trace has, seat by seat.
 
-ghost use Rattle.std.specs.Prelude.{◌≡◌, ◌++◌, ◌∷◌, [], ◌+◌, ◌<◌, length, true, All, IfSome, MatchOption, sum_by};
+ghost use Rattle.std.specs.Prelude.{◌≡◌, ◌++◌, ◌∷◌, [], ◌+◌, ◌<◌, ◌≤◌, length, true, All, IfSome, MatchOption, sum_by};
 ghost use Rattle.dds_shared.specs.Passes.{SameSeats, entries_of, lists_of};
 
 use crate::pass::Pass;
+use crate::tally::Tally;
+use dds_front::{HasWord, Word};
 use dds_trace::Entry;
 use std::sync::ledger::{Ledger, Share};
 
@@ -42,7 +44,7 @@ fn rest_of<'a>(entries: &'a [Entry], list: &[Entry], seat: u64) -> Option<&'a [E
 
 // Whether the entries of one seat are those of the passes, in order.
 #[tactic(auto, using(crate::proofs::Seats::entries_of_append))]
-fn same_seat<N: Ledger>(entries: &[Entry], passes: &[Pass<N>], seat: u64) -> bool
+fn same_seat<N: Ledger + HasWord>(entries: &[Entry], passes: &[Pass<N>], seat: u64) -> bool
     ensures same { result ≡ true → entries_of seat entries.now ≡ entries_of seat (lists_of passes.now) }
 {
     let mut left = entries;
@@ -64,7 +66,7 @@ fn all_below(entries: &[Entry], last: u64) -> bool
 }
 
 #[tactic(auto, using(crate::proofs::Seats::list_steps))]
-fn lists_below<N: Ledger>(passes: &[Pass<N>], last: u64) -> bool
+fn lists_below<N: Ledger + HasWord>(passes: &[Pass<N>], last: u64) -> bool
     ensures below { result ≡ true → All (λ e. e.seat < last) (lists_of passes.now) }
 {
     let mut todo = passes;
@@ -78,7 +80,7 @@ fn lists_below<N: Ledger>(passes: &[Pass<N>], last: u64) -> bool
 }
 
 // Whether the entries of each seat are those of the passes, in order. The seats are below `last`.
-pub fn same_lists<N: Ledger>(entries: &[Entry], passes: &[Pass<N>], last: u64) -> bool
+pub fn same_lists<N: Ledger + HasWord>(entries: &[Entry], passes: &[Pass<N>], last: u64) -> bool
     ensures same { result ≡ true → SameSeats entries.now passes.now }
 {
     for seat in 0..last {
@@ -90,7 +92,7 @@ pub fn same_lists<N: Ledger>(entries: &[Entry], passes: &[Pass<N>], last: u64) -
 }
 
 // The sum of the parts of the passes, if it fits.
-pub fn parts_of<N: Ledger>(passes: &[Pass<N>]) -> Option<u64>
+pub fn parts_of<N: Ledger + HasWord>(passes: &[Pass<N>]) -> Option<u64>
     ensures sum { IfSome result (λ n. n ≡ sum_by (λ p. p.parts) passes.now) }
 {
     let mut sum: u64 = 0;
@@ -100,12 +102,19 @@ pub fn parts_of<N: Ledger>(passes: &[Pass<N>]) -> Option<u64>
     Some(sum)
 }
 
-// Takes the shares of all passes together.
-pub fn give_all<N: Ledger>(passes: Vec<Pass<N>>, all: &mut Share<N>)
+// Takes the shares of all passes together. None has seen more than was counted.
+pub fn give_all<N: Ledger + HasWord>(
+    passes: Vec<Pass<N>>,
+    all: &mut Share<N>,
+    tally: &mut Tally<N>,
+    word: &Word<N>,
+)
     ensures parts { all.new.parts ≡ all.old.parts + sum_by (λ p. p.parts) passes.items }
     ensures amount { all.new.amount ≡ all.old.amount + length (lists_of passes.items) }
+    ensures kept { tally.new ≡ tally.old }
+    ensures fronts { All (λ p. p.front ≤ tally.old) passes.items }
 {
     for pass in passes {
-        pass.give_up(all);
+        pass.give_up(all, tally, word);
     }
 }

@@ -11,6 +11,7 @@ mod named;
 mod pass;
 mod seed;
 mod shared;
+mod tally;
 mod waiting;
 mod whole;
 
@@ -18,10 +19,3 @@ pub use named::Named;
 pub use pass::Pass;
 pub use seed::Seed;
 pub use shared::{Closed, NotClosed, Shared};
-
-#[cfg(test)]
-mod handed;
-#[cfg(test)]
-mod tests;
-#[cfg(test)]
-mod waits;

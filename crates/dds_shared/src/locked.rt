@@ -1,6 +1,6 @@
 // What lies under the lock of a shared peer.
 
-ghost use Rattle.std.specs.Prelude.{◌≡◌, ℕ, ◌++◌, ◌∷◌, [], ◌+◌, ◌<◌, ◌≤◌, length, OnOk, OnErr, IfErr, IfOk, IfNone, IfSome, ◌⊎◌, List};
+ghost use Rattle.std.specs.Prelude.{◌≡◌, ℕ, ◌++◌, ◌∷◌, [], ◌+◌, ◌<◌, ◌≤◌, length, All, OnOk, OnErr, IfErr, IfOk, IfNone, IfSome, ◌⊎◌, List};
 ghost use Rattle.dds_base.specs.declared.code.Code.TheVariants.{Memory, Mismatch, OutOfResources, PreconditionNotMet};
 ghost use Rattle.dds_machine.specs.declared.call.Call.TheVariants.{WaitLook};
 ghost use Rattle.dds_protocol.specs.declared.event.Event.TheVariants as event_of;
@@ -15,16 +15,18 @@ ghost use Rattle.dds_shared.specs.Waits.{IsLast};
 use crate::closing::{give_all, parts_of, same_lists};
 use crate::named::Named;
 use crate::pass::Pass;
+use crate::tally::Tally;
 use crate::whole::Whole;
 use dds_base::Code;
 use dds_conditions::Filter;
 use dds_core::Core;
+use dds_front::{Front, Word};
 use dds_notices::Listener;
 use dds_protocol::Event;
 use dds_trace::{Entry, Trace};
 use std::alloc::Global;
 use std::marker::Model;
-use std::sync::ledger::{Book, Share};
+use std::sync::ledger::Share;
 
 // How many passes a peer has at most.
 pub const SEATS: u64 = 4294967295;
@@ -34,7 +36,7 @@ pub const SEATS: u64 = 4294967295;
 pub struct Locked<N: Named<F, L>, F: Filter, L: Listener> {
     pub(crate) core: Core<F, L>,
     pub(crate) trace: Trace,
-    pub(crate) book: Book<N>,
+    pub(crate) tally: Tally<N>,
     rest: Share<N>,
     left: u64,
     whole: Whole<N>,
@@ -48,7 +50,7 @@ impl<N: Named<F, L>, F: Filter, L: Listener> Model for Locked<N, F, L> {
     ghost view = { λ k. record { core = k.core; entries = k.trace.entries; left = k.left } };
 
     ghost invariant = { λ k. IsKept F.meaning L.notices L.capacity L.becomes N.filters N.slots N.config N.peer k.core k.trace
-        k.book.total k.rest.parts k.rest.amount k.left };
+        k.tally k.rest.parts k.rest.amount k.left };
 }
 
 impl<N: Named<F, L>, F: Filter, L: Listener> Locked<N, F, L> {
@@ -57,24 +59,25 @@ impl<N: Named<F, L>, F: Filter, L: Listener> Locked<N, F, L> {
         alloc: Global,
         core: Core<F, L>,
         trace: Trace,
-        book: Book<N>,
+        tally: Tally<N>,
         all: Share<N>,
+        front: Front<N>,
     ) -> (Locked<N, F, L>, Pass<N>)
         requires core { IsHistoryOf F.meaning L.notices L.capacity L.becomes (listeners_in N.slots) N.config N.peer [] core }
         requires set { (core.filtered.filters ≡ N.filters) × (core.listeners ≡ N.slots) }
         requires trace { (trace.entries ≡ []) × (trace.peer ≡ N.peer) }
-        requires book { book.total ≡ 0 }
+        requires tally { tally ≡ 0 }
         requires all { (all.parts ≡ 4294967295) × (all.amount ≡ 0) × (N.parts ≡ 4294967295) }
-        ensures pass { result.1 ≡ unused 1 result.1.spare }
+        ensures pass { result.1 ≡ unused 1 result.1.spare front }
     {
         let mut rest = all;
         let share = rest.split_off(1, 0);
-        let pass = Pass::new(alloc, 1, share, Whole::new());
+        let pass = Pass::new(alloc, 1, share, Whole::new(), front);
         (
             Locked {
                 core,
                 trace,
-                book,
+                tally,
                 rest,
                 left: SEATS - 1,
                 whole: Whole::new(),
@@ -83,9 +86,9 @@ impl<N: Named<F, L>, F: Filter, L: Listener> Locked<N, F, L> {
         )
     }
 
-    // A new pass with a seat of its own.
-    pub fn split(&mut self, alloc: Global) -> Result<Pass<N>, Code>
-        ensures ok { IfOk result (λ pass. pass ≡ unused pass.seat pass.spare) }
+    // A new pass with a seat of its own, and with what it has seen.
+    pub fn split(&mut self, alloc: Global, front: Front<N>) -> Result<Pass<N>, Code>
+        ensures ok { IfOk result (λ pass. pass ≡ unused pass.seat pass.spare front) }
         ensures seat { IfOk result (λ pass. pass.seat + self.new.left ≡ 4294967295) }
         ensures kept { OnOk result (self.new ≡ record self.old { left = self.new.left }) }
         ensures fewer { OnOk result (self.new.left + 1 ≡ self.old.left) }
@@ -98,7 +101,7 @@ impl<N: Named<F, L>, F: Filter, L: Listener> Locked<N, F, L> {
         let share = self.rest.split_off(1, 0);
         self.left -= 1;
         let seat = (SEATS - self.left) as u32;
-        Ok(Pass::new(alloc, seat, share, self.whole.again()))
+        Ok(Pass::new(alloc, seat, share, self.whole.again(), front))
     }
 
     // Whether all passes are here, and have what the trace has.
@@ -119,7 +122,7 @@ impl<N: Named<F, L>, F: Filter, L: Listener> Locked<N, F, L> {
     }
 
     // Ends with the core and the trace.
-    pub fn close(self, passes: Vec<Pass<N>>) -> (Core<F, L>, Trace)
+    pub fn close(self, passes: Vec<Pass<N>>, word: &Word<N>) -> (Core<F, L>, Trace)
         requires passes { Matches self passes.items }
         ensures history { IsHistoryOf F.meaning L.notices L.capacity L.becomes (listeners_in N.slots) N.config N.peer
             result.1.entries result.0 }
@@ -128,23 +131,29 @@ impl<N: Named<F, L>, F: Filter, L: Listener> Locked<N, F, L> {
         ensures slots { slots_shown L.capacity result.0.listeners ≡ slots_shown L.capacity N.slots }
         ensures same { (result.1.entries ≡ self.entries) × (result.0 ≡ self.core) }
         ensures complete { length result.1.entries ≡ length (lists_of passes.items) }
+        ensures fronts { All (λ p. p.front ≤ length result.1.entries) passes.items }
     {
         let Locked {
             core,
             trace,
-            mut book,
+            mut tally,
             mut rest,
             left: _,
             whole,
         } = self;
         whole.show();
-        give_all(passes, &mut rest);
-        book.audit(&mut rest);
+        give_all(passes, &mut rest, &mut tally, word);
+        tally.audit(&mut rest);
         (core, trace)
     }
 
     // Does one event, and enters it in the trace and in the pass's list.
-    pub fn event(&mut self, pass: &mut Pass<N>, event: Event) -> Result<(), Code>
+    pub fn event(
+        &mut self,
+        word: &Word<N>,
+        pass: &mut Pass<N>,
+        event: Event,
+    ) -> Result<(), Code>
         ensures ok { OnOk result ((o : OutputOf)
             × Adds F.meaning L.notices L.capacity L.becomes self.old self.new pass.old pass.new event o) }
         ensures err { OnErr result ((self.new ≡ self.old) × IsAsBefore pass.old pass.new) }
@@ -165,8 +174,11 @@ impl<N: Named<F, L>, F: Filter, L: Listener> Locked<N, F, L> {
             event: one,
             output,
         });
+        let length = self.trace.len() as u64;
         pass.record(
-            &mut self.book,
+            &mut self.tally,
+            word,
+            length,
             Entry {
                 seat,
                 event: two,

@@ -2,15 +2,16 @@
 //!
 //! They are this project's own.
 
+use dds_front::HasWord;
 use std::marker::Brand;
 use std::sync::ledger::Ledger;
 
-/// The name of one shared peer: of which configuration it is, which number it has there, and which filters and listeners
-/// it was given. A program never writes one: it hands its seed to a function that is generic over the name, and calls that at
+/// The name of one shared peer: of which configuration it is, which number it has there, which filters and listeners it
+/// was given, and which word counts its entries. A program never writes one: it hands its seed to a function that is generic over the name, and calls that at
 /// `Brand`.
 ///
 /// Names are this project's own.
-pub trait Named<F, L>: Ledger {
+pub trait Named<F, L>: Ledger + HasWord {
     ghost use Rattle.std.specs.Prelude.{ℕ, List};
     ghost use Rattle.dds_base.specs.declared.config.Config.{Config};
     ghost use Rattle.dds_notices.specs.Listeners.{Slotted};

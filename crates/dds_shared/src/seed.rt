@@ -10,6 +10,7 @@ ghost use Rattle.dds_core.specs.Opening.{core_refusal};
 use dds_base::{Code, Config, Entity};
 use dds_conditions::Filter;
 use dds_core::Core;
+use dds_front::NewWord;
 use dds_notices::{Listener, StatusMask};
 use dds_trace::Trace;
 use std::alloc::Global;
@@ -25,6 +26,7 @@ pub struct Seed<F: Filter, L: Listener> {
     pub(crate) core: Core<F, L>,
     pub(crate) trace: Trace,
     pub(crate) blank: Blank,
+    pub(crate) word: NewWord,
     pub(crate) config: Snapshot<Config>,
     pub(crate) peer: u8,
     pub(crate) alloc: Global,
@@ -43,6 +45,7 @@ impl<F: Filter, L: Listener> Model for Seed<F, L> {
       peer = s.peer;
       name = s.blank.name;
       parts = s.blank.parts;
+      word = s.word;
     } };
 
     ghost invariant = { λ s.
@@ -68,10 +71,12 @@ impl<F: Filter, L: Listener> Seed<F, L> {
         ensures refused { IfErr result (Refuses (core_refusal config.now.peers peer)) }
     {
         let core = Core::open(alloc, config, peer)?;
+        let word = NewWord::new(alloc)?;
         Ok(Seed {
             core,
             trace: Trace::open(alloc, peer),
             blank: Blank::new(4294967295),
+            word,
             config: Snapshot::of(config),
             peer,
             alloc,

@@ -1,6 +1,6 @@
 // Waits of a shared peer, between which the lock is let go.
 
-ghost use Rattle.std.specs.Prelude.{◌≡◌, ◌≢◌, ◌↔◌, ◌++◌, ◌<◌, List, OnErr, IfErr, IfOk, IsTrue, MatchBool, true};
+ghost use Rattle.std.specs.Prelude.{◌≡◌, ◌≢◌, ◌↔◌, ◌++◌, ◌<◌, ◌≤◌, List, OnErr, IfErr, IfOk, IsTrue, MatchBool, true};
 ghost use Rattle.dds_base.specs.declared.code.Code.TheVariants.{Memory};
 ghost use Rattle.dds_machine.specs.declared.call.Call.TheVariants.{WaitBegin, WaitLook};
 ghost use Rattle.dds_machine.specs.declared.reply.Reply.TheVariants as reply_of;
@@ -17,6 +17,7 @@ use crate::named::Named;
 use crate::pass::Pass;
 use dds_base::{Code, Moment};
 use dds_conditions::Filter;
+use dds_front::Word;
 use dds_machine::{Call, Reply};
 use dds_notices::Listener;
 use dds_protocol::Event;
@@ -44,6 +45,7 @@ impl<N: Named<F, L>, F: Filter, L: Listener> Locked<N, F, L> {
     // Begins a wait, and says whether it began. There is room for its end in the pass's list.
     pub fn begin(
         &mut self,
+        word: &Word<N>,
         pass: &mut Pass<N>,
         wait_set: u32,
         deadline: Moment,
@@ -56,12 +58,17 @@ impl<N: Named<F, L>, F: Filter, L: Listener> Locked<N, F, L> {
         ensures refused { IfErr result (λ code. code ≡ Memory) }
     {
         pass.reserve(2)?;
-        self.event(pass, Event::Call(Call::WaitBegin { wait_set, deadline }))?;
+        self.event(word, pass, Event::Call(Call::WaitBegin { wait_set, deadline }))?;
         Ok(is_done(&pass.last_output().reply))
     }
 
     // Looks once, and says whether the wait is over. Where there is no memory it ends the wait.
-    pub fn look(&mut self, pass: &mut Pass<N>, wait_set: u32) -> Result<bool, Code>
+    pub fn look(
+        &mut self,
+        word: &Word<N>,
+        pass: &mut Pass<N>,
+        wait_set: u32,
+    ) -> Result<bool, Code>
         requires room { 0 < pass.old.spare }
         ensures ok { IfOk result (λ over. (o : OutputOf)
             × Adds F.meaning L.notices L.capacity L.becomes self.old self.new pass.old pass.new
@@ -69,30 +76,32 @@ impl<N: Named<F, L>, F: Filter, L: Listener> Locked<N, F, L> {
             × MatchBool over (IsLast o.reply) (o.reply ≡ reply_of.Waiting) × (0 < pass.new.spare)) }
         ensures err { OnErr result ((es : List EntryOf) × Grows pass.old pass.new es
             × GivesUp pass.old.seat wait_set es) }
+        ensures front { pass.old.front ≤ pass.new.front }
         ensures unused { OnErr result (IsInUse self.new.core wait_set → ⊥) }
         ensures over { IfOk result (λ over. over ≡ true → IsInUse self.new.core wait_set → ⊥) }
         ensures refused { IfErr result (λ code. code ≡ Memory) }
     {
         if pass.reserve(2).is_err() {
-            self.end_wait(pass, wait_set);
+            self.end_wait(word, pass, wait_set);
             return Err(Code::Memory);
         }
-        let Ok(()) = self.event(pass, Event::Call(Call::WaitLook { wait_set })) else {
-            self.end_wait(pass, wait_set);
+        let Ok(()) = self.event(word, pass, Event::Call(Call::WaitLook { wait_set })) else {
+            self.end_wait(word, pass, wait_set);
             return Err(Code::Memory);
         };
         if found_no_memory(&pass.last_output().reply) {
-            self.end_wait(pass, wait_set);
+            self.end_wait(word, pass, wait_set);
             return Err(Code::Memory);
         }
         Ok(!is_waiting(&pass.last_output().reply))
     }
 
     // Ends the wait in a WaitSet, if somebody waits there, in the room that was kept for this.
-    fn end_wait(&mut self, pass: &mut Pass<N>, wait_set: u32)
+    fn end_wait(&mut self, word: &Word<N>, pass: &mut Pass<N>, wait_set: u32)
         requires room { 0 < pass.old.spare }
         ensures list { (es : List EntryOf) × Grows pass.old pass.new es
             × IsEndOfWait pass.old.seat wait_set es }
+        ensures front { pass.old.front ≤ pass.new.front }
         ensures unused { IsInUse self.new.core wait_set → ⊥ }
     {
         if !self.core.is_in_use(wait_set) {
@@ -106,8 +115,11 @@ impl<N: Named<F, L>, F: Filter, L: Listener> Locked<N, F, L> {
             event: Event::Call(Call::WaitEnd { wait_set }),
             output,
         });
+        let length = self.trace.len() as u64;
         pass.record(
-            &mut self.book,
+            &mut self.tally,
+            word,
+            length,
             Entry {
                 seat,
                 event: Event::Call(Call::WaitEnd { wait_set }),

@@ -1,6 +1,6 @@
-use Rattle.std.proofs.Common.{[], ◌∷◌, ◌++◌, inr}
+use Rattle.std.proofs.Common.{[], ◌∷◌, ◌++◌, inr, arith}
 use Rattle.dds_shared.specs.Waits.{look_of}
-use Rattle.dds_shared.proofs.Looks.{waits_over, waits_on, waits_failed}
+use Rattle.dds_shared.proofs.Looks.{waits_begun, waits_over, waits_on, waits_failed}
 use Rattle.dds_shared.proofs.shared.Shared.wait.Goals as goal
 
 pub returns-in-Ok-true-clause-ok : goal.returns-in-Ok-true-clause-ok
@@ -18,4 +18,23 @@ pub loop-preserved : goal.loop-preserved
 loop-preserved g c =
     let i = c.loop.invariant in
     let did = rw c.in-Ok-false.field-0-test at c.in-Ok-false.ensures.ok in
-    (i.0, i.1 ++ look_of c.args.pass.now.seat c.args.wait_set did.0 ∷ [], waits_on c.args.pass.now c.loop.pass c.look.new.pass c.args.wait_set c.args.deadline i.0 i.1 did.0 i.2 did.1.list did.2, did.3)
+    (i.0, i.1 ++ look_of c.args.pass.now.seat c.args.wait_set did.0 ∷ [], waits_on c.args.pass.now c.loop.pass c.look.new.pass c.args.wait_set c.args.deadline i.0 i.1 did.0 i.2 did.1.list did.2, did.3, omega (arith, i.4, did.1.above, did.1.seen))
+
+pub returns-in-Ok-true-clause-front : goal.returns-in-Ok-true-clause-front
+returns-in-Ok-true-clause-front g c =
+    let i = c.loop.invariant in
+    let did = rw c.in-Ok-true.field-0-test at c.in-Ok-true.ensures.ok in
+    omega (arith, i.4, did.1.above, did.1.seen)
+
+pub returns-in-Err-clause-front : goal.returns-in-Err-clause-front
+returns-in-Err-clause-front g c = omega (arith, c.loop.invariant.4, c.look.ensures.front)
+
+pub loop-init : goal.loop-init
+loop-init g c =
+    let did = rw c.if-not-begun.false at c.in_ok-begun.ensures.ok in (
+      did.0,
+      [],
+      waits_begun c.args.pass.now c.begin.new.pass c.args.wait_set c.args.deadline did.0 did.1.list did.2,
+      did.3,
+      omega (arith, did.1.above, did.1.seen),
+    )

@@ -1,0 +1,98 @@
+// What waits at a shared peer.
+
+use super::answers::{is_active, is_late};
+use dds_base::{Code, Moment};
+use dds_conditions::{Cond, Filter};
+use dds_machine::Call;
+use dds_notices::Listener;
+use dds_shared::{Named, Pass, Shared};
+use std::sync::Wait;
+use std::thread::{Threads, join};
+
+// Gives the guard, which is the condition that was made second, this trigger value.
+fn set_guard<N: Named<F, L>, F: Filter, L: Listener, R: Wait>(
+    rt: &R,
+    shared: &Shared<N, F, L>,
+    pass: &mut Pass<N>,
+    value: bool,
+) -> Result<(), Code> {
+    let condition = 2;
+    shared.call(rt, pass, Call::SetTriggerValue { condition, value })
+}
+
+// A guard condition, attached to a WaitSet.
+fn make_guard<N: Named<F, L>, F: Filter, L: Listener, R: Wait>(
+    rt: &R,
+    shared: &Shared<N, F, L>,
+    pass: &mut Pass<N>,
+) -> Result<(), Code> {
+    shared.call(rt, pass, Call::CreateGuardCondition)?;
+    shared.call(rt, pass, Call::CreateWaitSet)?;
+    let (wait_set, condition) = (1, Cond::Made(2));
+    let call = Call::AttachCondition {
+        wait_set,
+        condition,
+    };
+    shared.call(rt, pass, call)
+}
+
+// A wait with a guard that is set, and one with a guard that is not, up to a moment that came. Nine events are done.
+pub fn wait_alone<N: Named<F, L>, F: Filter, L: Listener, R: Wait>(
+    rt: &R,
+    shared: &Shared<N, F, L>,
+    pass: &mut Pass<N>,
+) -> Result<bool, Code> {
+    make_guard(rt, shared, pass)?;
+    set_guard(rt, shared, pass, true)?;
+    shared.wait(rt, pass, 1, Moment::new(0))?;
+    let active = is_active(pass.newest());
+    set_guard(rt, shared, pass, false)?;
+    shared.wait(rt, pass, 1, Moment::new(0))?;
+    Ok(active && is_late(pass.newest()))
+}
+
+// Waits until the guard is set: up to moment 1, which does not come.
+fn wait_for_guard<N: Named<F, L>, F: Filter, L: Listener, R: Wait>(
+    rt: &R,
+    shared: &Shared<N, F, L>,
+    pass: Pass<N>,
+) -> Result<Pass<N>, Code> {
+    let mut pass = pass;
+    shared.wait(rt, &mut pass, 1, Moment::new(1))?;
+    if is_active(pass.newest()) {
+        Ok(pass)
+    } else {
+        Err(Code::Timeout)
+    }
+}
+
+// Sets the guard.
+fn wake<N: Named<F, L>, F: Filter, L: Listener, R: Wait>(
+    rt: &R,
+    shared: &Shared<N, F, L>,
+    pass: Pass<N>,
+) -> Result<Pass<N>, Code> {
+    let mut pass = pass;
+    set_guard(rt, shared, &mut pass, true)?;
+    Ok(pass)
+}
+
+// One thread waits, and another sets the guard.
+pub fn wait_for_another<
+    N: Named<F, L> + Send + Sync,
+    F: Filter + Send,
+    L: Listener + Send,
+    R: Threads + Wait + Sync,
+>(
+    rt: &R,
+    shared: &Shared<N, F, L>,
+    first: Pass<N>,
+    second: Pass<N>,
+) -> Result<(Pass<N>, Pass<N>), Code> {
+    let (first, second) = join(
+        rt,
+        move || wait_for_guard(rt, shared, first),
+        move || wake(rt, shared, second),
+    );
+    Ok((first?, second?))
+}
