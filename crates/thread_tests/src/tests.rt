@@ -136,14 +136,15 @@ fn run<F: Filter + Send, L: Listener + Send, R: Threads + Wait + Abort + Sync>(
     share::<Brand, F, L, R>(rt, alloc, seed)
 }
 
-// The notices begin with LIVELINESS_CHANGED of the first packet, and DATA_AVAILABLE of both packets.
+// The notices begin with those of the first packet, DATA_AVAILABLE and LIVELINESS_CHANGED, and of the second, DATA_AVAILABLE.
 fn are_told<F: Filter, L: Listener>(core: &Core<F, L>) -> bool {
     let Ok(notices) = core.notices(Entity::Reader(1)) else {
         return false;
     };
     match notices.as_slice() {
-        [first, second, ..] => {
-            matches!(first.status, Status::LivelinessChanged(_))
+        [data, changed, second, ..] => {
+            matches!(data.status, Status::DataAvailable)
+                && matches!(changed.status, Status::LivelinessChanged(_))
                 && matches!(second.status, Status::DataAvailable)
         }
         _ => false,
