@@ -64,7 +64,7 @@ pub looks : (slots id : ℕ) (me : Me ℕ View) (st : Step ℕ) → me.1 ≡ []
     → Allows IsCounted slots id me 0 (λ n. n) (Looks st me)
 looks slots id me st empty =
     let P : List (ℕ × ℕ) → Type 0 =
-        λ held. Allows IsCounted slots id (me.0, held) 0 (λ n. n) (Looks st (me.0, held)) in
+    λ held. Allows IsCounted slots id (me.0, held) 0 (λ n. n) (Looks st (me.0, held)) in
     subst P (sym empty) (looks_bare slots id me.0 st)
 
 mod_small : (n : ℕ) → n + 1 < 2 ^ 64 → (n + 1) % 2 ^ 64 ≡ n + 1
@@ -98,7 +98,7 @@ pub counts : (slots id : ℕ) (me : Me ℕ View) (st : Step ℕ) → me.1 ≡ []
     → Allows IsCounted slots id me 0 (λ n. (n + 1) % 2 ^ 64) (Counts st me)
 counts slots id me st empty keeper room =
     let P : List (ℕ × ℕ) → Type 0 =
-        λ held. Allows IsCounted slots id (me.0, held) 0 (λ n. (n + 1) % 2 ^ 64) (Counts st (me.0, held)) in
+    λ held. Allows IsCounted slots id (me.0, held) 0 (λ n. (n + 1) % 2 ^ 64) (Counts st (me.0, held)) in
     subst P (sym empty) (counts_bare slots id me.0 st keeper room)
 
 pub joins : (id : ℕ) (v : View) (other : ℕ) (w : View) → Joins IsCounted id v other w (joined v w) (knows false 0 0)

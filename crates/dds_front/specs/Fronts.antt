@@ -18,7 +18,7 @@ IsCounted s =
     (n seat : ℕ)
     × (s.words ≡ n ∷ [])
     × ((id : ℕ) (v : View) → get_elem? s.views id ≡ some v
-        → (v.at ≤ n) × (v.keeps ≡ true → (id ≡ seat) × (v.count ≡ n)))
+    → (v.at ≤ n) × (v.keeps ≡ true → (id ≡ seat) × (v.count ≡ n)))
 
 -- what another seat is told: what this one has seen
 abbrev pub told : View → View

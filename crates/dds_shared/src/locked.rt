@@ -148,12 +148,7 @@ impl<N: Named<F, L>, F: Filter, L: Listener> Locked<N, F, L> {
     }
 
     // Does one event, and enters it in the trace and in the pass's list.
-    pub fn event(
-        &mut self,
-        word: &Word<N>,
-        pass: &mut Pass<N>,
-        event: Event,
-    ) -> Result<(), Code>
+    pub fn event(&mut self, word: &Word<N>, pass: &mut Pass<N>, event: Event) -> Result<(), Code>
         ensures ok { OnOk result ((o : OutputOf)
             × Adds F.meaning L.notices L.capacity L.becomes self.old self.new pass.old pass.new event o) }
         ensures err { OnErr result ((self.new ≡ self.old) × IsAsBefore pass.old pass.new) }

@@ -176,13 +176,7 @@ impl<N: Ledger + HasWord> Pass<N> {
     }
 
     // Adds an entry to the list, and counts it: it is the last of so many of the peer.
-    pub(crate) fn record(
-        &mut self,
-        tally: &mut Tally<N>,
-        word: &Word<N>,
-        length: u64,
-        entry: Entry,
-    )
+    pub(crate) fn record(&mut self, tally: &mut Tally<N>, word: &Word<N>, length: u64, entry: Entry)
         requires room { 0 < self.old.spare }
         requires happened { length ≡ tally.old + 1 }
         ensures list { Grows self.old self.new (entry ∷ []) }
@@ -192,7 +186,10 @@ impl<N: Ledger + HasWord> Pass<N> {
         ensures seen { self.new.front ≡ length }
     {
         let Pass {
-            list, share, front, ..
+            list,
+            share,
+            front,
+            ..
         } = self;
         list.push_reserved(entry);
         tally.count(word, share, front, length);

@@ -32,13 +32,7 @@ impl<N: Ledger + HasWord> Tally<N> {
     }
 
     // Counts one entry more, which is there already as the last of so many. The front has seen it then.
-    pub fn count(
-        &mut self,
-        word: &Word<N>,
-        share: &mut Share<N>,
-        front: &mut Front<N>,
-        length: u64,
-    )
+    pub fn count(&mut self, word: &Word<N>, share: &mut Share<N>, front: &mut Front<N>, length: u64)
         requires happened { length ≡ self.old + 1 }
         requires part { 0 < share.old.parts }
         ensures counted { self.new ≡ length }

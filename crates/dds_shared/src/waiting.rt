@@ -58,17 +58,16 @@ impl<N: Named<F, L>, F: Filter, L: Listener> Locked<N, F, L> {
         ensures refused { IfErr result (λ code. code ≡ Memory) }
     {
         pass.reserve(2)?;
-        self.event(word, pass, Event::Call(Call::WaitBegin { wait_set, deadline }))?;
+        self.event(
+            word,
+            pass,
+            Event::Call(Call::WaitBegin { wait_set, deadline }),
+        )?;
         Ok(is_done(&pass.last_output().reply))
     }
 
     // Looks once, and says whether the wait is over. Where there is no memory it ends the wait.
-    pub fn look(
-        &mut self,
-        word: &Word<N>,
-        pass: &mut Pass<N>,
-        wait_set: u32,
-    ) -> Result<bool, Code>
+    pub fn look(&mut self, word: &Word<N>, pass: &mut Pass<N>, wait_set: u32) -> Result<bool, Code>
         requires room { 0 < pass.old.spare }
         ensures ok { IfOk result (λ over. (o : OutputOf)
             × Adds F.meaning L.notices L.capacity L.becomes self.old self.new pass.old pass.new

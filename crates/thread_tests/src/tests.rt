@@ -102,11 +102,7 @@ fn share<
 }
 
 // A listener of all statuses of the reader; one that keeps a notice is not taken.
-fn listen<F: Filter, L: Listener>(
-    seed: &mut Seed<F, L>,
-    used: L,
-    fresh: L,
-) -> Result<bool, Code> {
+fn listen<F: Filter, L: Listener>(seed: &mut Seed<F, L>, used: L, fresh: L) -> Result<bool, Code> {
     let entity = Entity::Reader(1);
     let mask = StatusMask::ANY;
     let refused = matches!(
