@@ -4,7 +4,7 @@ use std::alloc::AllocError;
 use std::io::{self, ErrorKind, Write};
 use thiserror::Error;
 
-/// A fault of the lines that are read, of the streams, or of memory. Lines are counted from 1.
+/// A fault of the lines that are read, of the streams, of memory, or of a pair of peers. Lines are counted from 1.
 #[derive(Debug, Drop, Error)]
 pub enum Fault {
     /// The line is no command of the language.
@@ -25,6 +25,12 @@ pub enum Fault {
     /// There is no memory.
     #[error("memory")]
     Memory,
+    /// A pair of peers ended with the code of this number.
+    #[error("pair: code {number}")]
+    PairFailed { number: u8 },
+    /// The traces of a pair of peers have no order in which each packet was sent before it came.
+    #[error("pair: stuck")]
+    PairStuck,
 }
 
 impl From<AllocError> for Fault {
@@ -47,14 +53,14 @@ impl Fault {
 /// How a program ended: its exit status, and the fault if there was one.
 #[derive(Drop)]
 pub struct Status {
-    /// The exit status: 0 where all lines were read.
+    /// The exit status: 0 where all went well.
     pub exit: u8,
     /// What ended it early, if anything did.
     pub fault: Option<Fault>,
 }
 
 impl Status {
-    /// All lines were read.
+    /// All went well.
     pub fn success() -> Self {
         Status {
             exit: 0,
