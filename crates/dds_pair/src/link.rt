@@ -1,0 +1,41 @@
+//! How the packets of a peer travel.
+//!
+//! RTPS 2.5, 8.1 (the transport): packets may be lost, repeated and reordered. Links are this project's own.
+
+use dds_base::Code;
+use dds_protocol::Packet;
+
+/// How the packets of one peer travel: away by `send`, and to it by `receive`. It may lose, repeat and reorder them.
+///
+/// It says by `sends` and `receives` what a call does to it, so that a contract can tell what went over it; a link of
+/// which no contract speaks takes `{ λ _ _ _. ⊤ }` for each.
+///
+/// Links are this project's own.
+pub trait Link: Drop {
+    ghost use Rattle.std.specs.Prelude.{◌≡◌, ◌⊎◌, ℕ, List, Option, IfOk, IfErr, option_map};
+    ghost use Rattle.dds_base.specs.declared.code.Code.TheVariants as code_of;
+    ghost use Rattle.dds_protocol.specs.declared.event.Packet.{Packet};
+
+    /// Which link it may become by sending a packet.
+    ghost sends: { Self → Packet → Self → Type 0 };
+
+    /// Which link it may become by a receive that gives these octets, or none.
+    ghost receives: { Self → Option (List ℕ) → Self → Type 0 };
+
+    /// Sends a packet, without waiting; `false` where it is lost.
+    fn send(&mut self, packet: &Packet) -> bool
+        // It becomes one that it may become by this packet.
+        ensures sends { sends self.old packet.now self.new };
+
+    /// The octets of a packet that came; `None` where nothing is there. It may wait for a moment that it bounds itself.
+    ///
+    /// # Errors
+    ///
+    /// `Link` where the way is broken, and `Memory` where a growth was refused: what came is then lost.
+    fn receive(&mut self) -> Result<Option<Vec<u8>>, Code>
+        // It becomes one that it may become by what it gives.
+        ensures receives { IfOk result
+            (λ got. receives self.old (option_map (λ v. v.items) got) self.new) }
+        // A refusal has one of two causes.
+        ensures refused { IfErr result (λ code. (code ≡ code_of.Link) ⊎ (code ≡ code_of.Memory)) };
+}

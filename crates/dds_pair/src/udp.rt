@@ -1,0 +1,200 @@
+//! A link over UDP, on the loopback.
+//!
+//! RTPS 2.5, 9.6.2 (UDP): one message a datagram. Which datagrams come, and that any does, is the system's.
+
+ghost use Rattle.std.specs.Prelude.{◌≡◌, ◌⊎◌, IfErr};
+ghost use Rattle.dds_base.specs.declared.code.Code.TheVariants as code_of;
+
+use crate::link::Link;
+use dds_base::Code;
+use dds_protocol::Packet;
+use mio::net::UdpSocket;
+use mio::{Events, Interest, Poll, Token};
+use std::alloc::Global;
+use std::io::ErrorKind;
+use std::net::{Ipv4Addr, Net, SocketAddr};
+use std::time::Duration;
+use std::{io, net};
+
+// The longest datagram over IPv4 is shorter.
+const ROOM: usize = 65_536;
+
+// It waits once for so many looks in a row that find nothing: a wait takes a millisecond, and a look a thousandth of it.
+const LOOKS_A_WAIT: u32 = 16;
+
+// What the link answers for an error of the system.
+fn failure(error: io::Error) -> Code
+    ensures { (result ≡ code_of.Link) ⊎ (result ≡ code_of.Memory) }
+{
+    if error.kind() == ErrorKind::OutOfMemory {
+        Code::Memory
+    } else {
+        Code::Link
+    }
+}
+
+/// Sends from the socket of a `UdpLink`: for threads that have calls done at its peer, of which each has the packets that
+/// its call gave.
+///
+/// RTPS 2.5, 9.6.2 (UDP).
+#[derive(Drop)]
+pub struct UdpSender {
+    socket: net::UdpSocket,
+    other: Option<SocketAddr>,
+}
+
+impl UdpSender {
+    fn try_clone(&self) -> io::Result<UdpSender> {
+        Ok(UdpSender {
+            socket: self.socket.try_clone()?,
+            other: self.other,
+        })
+    }
+
+    /// Sends a packet, without waiting; `false` where it is lost, as before `connect`.
+    pub fn send(&self, packet: &Packet) -> bool {
+        let Some(other) = self.other else {
+            return false;
+        };
+        let octets = packet.bytes.as_slice();
+        match self.socket.send_to(octets, other) {
+            Ok(count) => count == octets.len(),
+            Err(_) => false,
+        }
+    }
+}
+
+/// A socket on 127.0.0.1, at a port that the system picks, and the address of the one other that it exchanges datagrams
+/// with. A datagram from elsewhere is dropped. A receive that finds nothing waits for a millisecond at most, and one of
+/// 16 in a row does.
+///
+/// RTPS 2.5, 9.6.2 (UDP).
+#[derive(Drop)]
+pub struct UdpLink {
+    alloc: Global,
+    socket: UdpSocket,
+    poll: Poll,
+    events: Events,
+    buffer: Vec<u8>,
+    sender: UdpSender,
+    // How many looks in a row found nothing, since the last wait.
+    looks: u32,
+}
+
+impl UdpLink {
+    /// Opens a socket. It exchanges nothing before `connect`.
+    ///
+    /// # Errors
+    ///
+    /// `Link` where the system gives no socket, and `Memory` where a growth was refused.
+    pub fn open<R: Net>(rt: &R, alloc: Global) -> Result<UdpLink, Code>
+        // A refusal has one of two causes.
+        ensures refused { IfErr result (λ code. (code ≡ code_of.Link) ⊎ (code ≡ code_of.Memory)) }
+    {
+        UdpLink::try_open(rt, alloc).map_err(failure)
+    }
+
+    fn try_open<R: Net>(rt: &R, alloc: Global) -> io::Result<UdpLink> {
+        let socket = rt.bind_udp(SocketAddr::from((Ipv4Addr::LOCALHOST, 0)))?;
+        socket.set_nonblocking(true)?;
+        let sender = UdpSender {
+            socket: socket.try_clone()?,
+            other: None,
+        };
+        let mut socket = UdpSocket::from_std(socket);
+        let poll = Poll::new(rt)?;
+        poll.registry()
+            .register(&mut socket, Token(0), Interest::READABLE)?;
+        Ok(UdpLink {
+            alloc,
+            socket,
+            poll,
+            events: Events::with_capacity(alloc, 1)?,
+            buffer: Vec::from_elem(alloc, 0, ROOM)?,
+            sender,
+            looks: 0,
+        })
+    }
+
+    /// Its own address, for the other end.
+    ///
+    /// # Errors
+    ///
+    /// `Link` where the system does not tell it, and `Memory` where a growth was refused.
+    pub fn address(&self) -> Result<SocketAddr, Code>
+        // A refusal has one of two causes.
+        ensures refused { IfErr result (λ code. (code ≡ code_of.Link) ⊎ (code ≡ code_of.Memory)) }
+    {
+        self.socket.local_addr().map_err(failure)
+    }
+
+    /// Exchanges datagrams with the socket of this address from now on.
+    pub fn connect(&mut self, other: SocketAddr) {
+        self.sender.other = Some(other);
+    }
+
+    /// Another way to send from its socket, to the same address.
+    ///
+    /// # Errors
+    ///
+    /// `Link` where the system does not give it, and `Memory` where a growth was refused.
+    pub fn sender(&self) -> Result<UdpSender, Code>
+        // A refusal has one of two causes.
+        ensures refused { IfErr result (λ code. (code ≡ code_of.Link) ⊎ (code ≡ code_of.Memory)) }
+    {
+        self.sender.try_clone().map_err(failure)
+    }
+
+    // A datagram that is there.
+    fn take(&mut self) -> io::Result<Option<Vec<u8>>> {
+        match self.socket.recv_from(self.buffer.as_mut_slice()) {
+            Ok((count, from)) => {
+                if self.sender.other != Some(from) {
+                    return Ok(None);
+                }
+                let octets = Vec::from_slice(self.alloc, &self.buffer[..count])?;
+                Ok(Some(octets))
+            }
+            Err(error) if error.kind() == ErrorKind::WouldBlock => Ok(None),
+            Err(error) => Err(error),
+        }
+    }
+
+    // Waits a millisecond at most until a datagram is there, and takes it. A change of the socket is told once, so it is
+    // called where a look found nothing.
+    fn wait_and_take(&mut self) -> io::Result<Option<Vec<u8>>> {
+        self.poll
+            .poll(&mut self.events, Some(Duration::from_millis(1)))?;
+        self.take()
+    }
+
+    // The next datagram; none where none is there, after a wait at each so many looks.
+    fn look(&mut self) -> io::Result<Option<Vec<u8>>> {
+        if let Some(octets) = self.take()? {
+            self.looks = 0;
+            return Ok(Some(octets));
+        }
+        self.looks = self.looks.wrapping_add(1);
+        if self.looks < LOOKS_A_WAIT {
+            return Ok(None);
+        }
+        self.looks = 0;
+        self.wait_and_take()
+    }
+}
+
+impl Link for UdpLink {
+    ghost use Rattle.std.specs.Prelude.{⊤};
+
+    ghost sends = { λ _ _ _. ⊤ };
+
+    ghost receives = { λ _ _ _. ⊤ };
+
+    fn send(&mut self, packet: &Packet) -> bool {
+        self.sender.send(packet)
+    }
+
+    fn receive(&mut self) -> Result<Option<Vec<u8>>, Code> {
+        self.look().map_err(failure)
+    }
+}
