@@ -3,6 +3,7 @@
 use crate::workers::Task;
 use dds_base::{Code, Key, Masks, Octets, Selection};
 use dds_conditions::Filter;
+use dds_front::HasWord;
 use dds_machine::{Call, Reply};
 use dds_notices::Listener;
 use dds_shared::{Named, Pass, Shared};
@@ -30,14 +31,14 @@ pub struct Application<'a, Near: Named<F, L>, Far: Named<F, L>, F: Filter, L: Li
 
 // What it leaves: its passes, and how many samples it took, or what ended it early.
 #[derive(Drop)]
-pub struct Applied<Near: Ledger, Far: Ledger> {
+pub struct Applied<Near: Ledger + HasWord, Far: Ledger + HasWord> {
     pub writing: Pass<Near>,
     pub taking: Pass<Far>,
     pub taken: Result<u64, Code>,
 }
 
 // What the newest entry's reply refuses the call with.
-fn refusal<N: Ledger>(pass: &Pass<N>) -> Option<Code> {
+fn refusal<N: Ledger + HasWord>(pass: &Pass<N>) -> Option<Code> {
     match &pass.newest()?.output.reply {
         Reply::Refused(code) => Some(*code),
         _ => None,
@@ -45,7 +46,7 @@ fn refusal<N: Ledger>(pass: &Pass<N>) -> Option<Code> {
 }
 
 // How many samples the newest entry's reply has.
-fn sample_count<N: Ledger>(pass: &Pass<N>) -> Result<u64, Code> {
+fn sample_count<N: Ledger + HasWord>(pass: &Pass<N>) -> Result<u64, Code> {
     let Some(entry) = pass.newest() else {
         return Ok(0);
     };

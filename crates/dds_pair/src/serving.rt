@@ -15,6 +15,7 @@ use crate::link::Link;
 use crate::turn::Turn;
 use dds_base::{Code, Moment, Octets};
 use dds_conditions::Filter;
+use dds_front::HasWord;
 use dds_notices::Listener;
 use dds_protocol::Packet;
 use dds_shared::{Named, Pass, Shared};
@@ -31,7 +32,7 @@ fn send_all<K: Link>(link: &mut K, packets: &[Packet])
 }
 
 // Sends the packets that the newest entry gave.
-fn send_newest<N: Ledger, K: Link>(pass: &Pass<N>, link: &mut K)
+fn send_newest<N: Ledger + HasWord, K: Link>(pass: &Pass<N>, link: &mut K)
     ensures sent { (es : List Entry) (e : Entry) → pass.now.list ≡ es ++ e ∷ []
         → FoldsTo K.sends link.old e.output.packets link.new }
 {

@@ -8,6 +8,7 @@ use crate::link::Link;
 use crate::serving::serve;
 use dds_base::Code;
 use dds_conditions::Filter;
+use dds_front::HasWord;
 use dds_notices::Listener;
 use dds_shared::{Named, Pass, Shared};
 use std::alloc::{AllocError, Global};
@@ -38,7 +39,7 @@ pub struct Worker<'a, N: Named<F, L>, F: Filter, L: Listener, K: Link, G: Gate> 
 
 // What a worker leaves: its pass, and how many turns it took, or what ended them early.
 #[derive(Drop)]
-pub struct Worked<N: Ledger> {
+pub struct Worked<N: Ledger + HasWord> {
     pub pass: Pass<N>,
     pub turns: Result<u64, Code>,
 }
@@ -70,7 +71,7 @@ impl<'a, N: Named<F, L>, F: Filter, L: Listener, K: Link, G: Gate> Worker<'a, N,
 
 // What the threads of a pair leave.
 #[derive(Drop)]
-pub struct Ran<Near: Ledger, Far: Ledger> {
+pub struct Ran<Near: Ledger + HasWord, Far: Ledger + HasWord> {
     pub near: Worked<Near>,
     pub far: Worked<Far>,
     pub applied: Applied<Near, Far>,
