@@ -3,8 +3,13 @@
 use crate::simulation::sim;
 use crate::words::{Task, read_words};
 use clap::error::ErrorKind;
+use dds_pair::pair;
 use std::alloc::Global;
 use std::io::{Read, Write};
+use std::net::Net;
+use std::sync::Wait;
+use std::thread::Threads;
+use std::time::Clock;
 
 /// What is printed where the words name no task.
 pub const USAGE: &str = "usage: dds_peer sim | dds_peer pair [--count N]";
@@ -28,15 +33,17 @@ fn simulate<R: Read + Drop, W: Write + Drop>(
 
 /// Does what the words ask for, prints a fault on `errors`, and answers the exit status: 0 where all went well, 1 after
 /// a fault, 2 for wrong words. The first word is the name of the program.
-pub fn program<R: Read + Drop, W: Write + Drop>(
+pub fn program<I: Read + Drop, W: Write + Drop, R: Threads + Wait + Net + Clock + Sync>(
+    rt: &R,
     alloc: Global,
     words: &[String],
-    input: R,
+    input: I,
     output: W,
     errors: &mut impl Write,
 ) -> u8 {
     match read_words(alloc, words) {
         Ok(Task::Simulate) => simulate(alloc, input, output, errors),
+        Ok(Task::Pair { count }) => pair(rt, alloc, count, output).tell(errors),
         Err(error) if error.kind() == ErrorKind::OutOfMemory => {
             tell(errors, "memory");
             1

@@ -1,7 +1,7 @@
-//! The program: a network of peers in memory, run from a script.
+//! The program: a network of peers in memory, run from a script, or a pair of peers over UDP on the loopback.
 //!
 //! Nothing is claimed by contracts here: what is printed is tested. What the network answers is proved in `dds_world`,
-//! and the words of a script and the form of replies stand in `dds_script`.
+//! the words of a script and the form of replies stand in `dds_script`, and the pair in `dds_pair`.
 //! Not here: one peer on its own (`dds_pipe`).
 #![tactic(auto)]
 
@@ -20,6 +20,7 @@ fn main(rt: HostRuntime) -> io::Result<ExitCode> {
     let alloc = rt.alloc();
     let words: Vec<String> = env::args(&rt)?.collect(alloc)?;
     let exit = program(
+        &rt,
         alloc,
         &words,
         rt.reader(),

@@ -1,25 +1,42 @@
 //! The words of the command line.
 
-use clap::{ArgMatches, Command, Error};
+use clap::{Arg, ArgMatches, Command, Error, value_parser};
 use std::alloc::{AllocError, Global};
+
+/// How many samples a pair exchanges where the words do not say it.
+const USUAL_COUNT: u64 = 100;
 
 /// What the program is asked to do.
 #[derive(Clone, Copy)]
 pub enum Task {
     /// Run a script.
     Simulate,
+    /// Run a pair of peers over the loopback, which exchange so many samples.
+    Pair { count: u64 },
     /// Nothing that it knows.
     Unknown,
 }
 
+fn pair_command<'a>(alloc: Global) -> Result<Command<'a>, AllocError> {
+    let count = Arg::new(alloc, "count")
+        .long("count")
+        .value_parser(value_parser!(u64).range(1..10_001));
+    Command::new(alloc, "pair").arg(count)
+}
+
 fn command<'a>(alloc: Global) -> Result<Command<'a>, AllocError> {
-    Command::new(alloc, "dds_peer").subcommand(Command::new(alloc, "sim"))
+    Command::new(alloc, "dds_peer")
+        .subcommand(Command::new(alloc, "sim"))?
+        .subcommand(pair_command(alloc)?)
 }
 
 fn task_of(matches: &ArgMatches<'_>) -> Task {
-    match matches.subcommand_name() {
-        Some(_) => Task::Simulate,
-        None => Task::Unknown,
+    match matches.subcommand() {
+        Some(("sim", _)) => Task::Simulate,
+        Some(("pair", words)) => Task::Pair {
+            count: words.get_one::<u64>("count").unwrap_or(USUAL_COUNT),
+        },
+        _ => Task::Unknown,
     }
 }
 
