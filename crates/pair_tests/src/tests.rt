@@ -1,0 +1,6 @@
+// What workers do that no contract says.
+
+mod apart;
+mod meeting;
+mod memory_link;
+mod pairs;
