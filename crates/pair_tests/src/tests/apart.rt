@@ -161,11 +161,13 @@ fn share<
     far_seed: Seed<F, L>,
     signals: &Signals,
 ) -> Result<(), Fail>
-    requires near_name { (near_seed.name ≡ Near.name) × (near_seed.parts ≡ Near.parts) }
+    requires near_name { (near_seed.name ≡ Near.name) × (near_seed.parts ≡ Near.parts)
+        × (near_seed.word ≡ Near.word) }
     requires near_of { (near_seed.config ≡ Near.config) × (near_seed.peer ≡ Near.peer) }
     requires near_set { (near_seed.core.filtered.filters ≡ Near.filters)
         × (near_seed.core.listeners ≡ Near.slots) }
-    requires far_name { (far_seed.name ≡ Far.name) × (far_seed.parts ≡ Far.parts) }
+    requires far_name { (far_seed.name ≡ Far.name) × (far_seed.parts ≡ Far.parts)
+        × (far_seed.word ≡ Far.word) }
     requires far_of { (far_seed.config ≡ Far.config) × (far_seed.peer ≡ Far.peer) }
     requires far_set { (far_seed.core.filtered.filters ≡ Far.filters)
         × (far_seed.core.listeners ≡ Far.slots) }
