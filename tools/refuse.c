@@ -23,6 +23,14 @@ __attribute__((destructor)) static void end(void) {
     }
 }
 
+/* A program with threads ends without the destructors. */
+void _exit(int status) {
+    void (*next)(int) = (void (*)(int))dlsym(RTLD_NEXT, "_exit");
+    end();
+    next(status);
+    __builtin_unreachable();
+}
+
 void *malloc(size_t size) {
     static void *(*next)(size_t);
     if (!next)
