@@ -1,5 +1,5 @@
 -- One more change ages those before it.
-use Rattle.std.proofs.Common.{◌≡◌, ℕ, ◌+◌, ◌-◌, Bool, true, false, cond, List, [], ◌∷◌, ◌++◌, length, count_by, refl, ap, arith}
+use Rattle.std.proofs.Common.{◌≡◌, ℕ, ◌+◌, ◌-◌, Bool, true, false, cond, List, [], ◌∷◌, ◌++◌, map, length, count_by, refl, ap, arith}
 use Rattle.std.specs.Prelude.{if◌then◌else◌}
 use Rattle.std.proofs.lemmas.List.Sums.{sum_by-append}
 use Rattle.dds_base.specs.declared.key.Key.{Key}
@@ -9,7 +9,13 @@ use Rattle.dds_base.specs.declared.qos.HistoryQos.TheVariants.{KeepAll, KeepLast
 use Rattle.dds_base.specs.Happening.{same_key}
 use Rattle.dds_base.proofs.KeyLaws.{same_key-refl}
 use Rattle.dds_history.specs.declared.held.HeldChange.{HeldChange}
-use Rattle.dds_history.specs.Held.{all_from, with_change}
+use Rattle.dds_history.specs.Held.{aged, all_from}
+
+-- all changes, with one more of this number
+abbrev pub one_more : HistoryQos → List HeldChange → ℕ → Change → List HeldChange
+one_more KeepAll entries number change = entries ++ record { number = number; change = change; remaining = 1 } ∷ []
+one_more (KeepLast depth) entries number change =
+    map (λ e. aged change.key e) (entries ++ record { number = number; change = change; remaining = depth + 1 } ∷ [])
 
 -- how many of these changes have the key
 abbrev of_key : Key → List Change → ℕ
@@ -25,7 +31,7 @@ one_fewer : (b : Bool) (depth later more : ℕ) → more ≡ later + cond b 1 0 
 one_fewer true depth later more h = omega arith
 one_fewer false depth later more h = omega arith
 
-entry_as : (n m : ℕ) (c : Change) (a b : ℕ) → n ≡ m → a ≡ b
+pub entry_as : (n m : ℕ) (c : Change) (a b : ℕ) → n ≡ m → a ≡ b
     → ◌≡◌ {A = HeldChange} (record { number = n; change = c; remaining = a })
     (record { number = m; change = c; remaining = b })
 entry_as n m c a b e f = cc
@@ -34,12 +40,12 @@ put_before : (x y : HeldChange) (xs ys : List HeldChange) → x ≡ y → xs ≡
 put_before x y xs ys e f = cc
 
 more-unaged : (n m : ℕ) (cs : List Change) (c : Change) → m ≡ n + length cs
-    → all_from KeepAll n (cs ++ c ∷ []) ≡ with_change KeepAll (all_from KeepAll n cs) m c
+    → all_from KeepAll n (cs ++ c ∷ []) ≡ one_more KeepAll (all_from KeepAll n cs) m c
 more-unaged n m [] c at = put_before _ _ [] [] (entry_as n m c 1 1 (omega arith) refl) refl
 more-unaged n m (x ∷ cs) c at = put_before _ _ _ _ refl (more-unaged (n + 1) m cs c (omega arith))
 
 more-aged : (depth n m : ℕ) (cs : List Change) (c : Change) → m ≡ n + length cs
-    → all_from (KeepLast depth) n (cs ++ c ∷ []) ≡ with_change (KeepLast depth) (all_from (KeepLast depth) n cs) m c
+    → all_from (KeepLast depth) n (cs ++ c ∷ []) ≡ one_more (KeepLast depth) (all_from (KeepLast depth) n cs) m c
 more-aged depth n m [] c at =
     let own = ap (λ (b : Bool). cond b (depth + 1 - 1) (depth + 1)) (same_key-refl c.key) in
     put_before _ _ [] [] (entry_as n m c (depth - 0) _ (omega arith) (omega (arith, own))) refl
@@ -52,6 +58,6 @@ more-aged depth n m (x ∷ cs) c at =
 
 -- all changes and one more, which has the next number
 pub all-more : (policy : HistoryQos) (n m : ℕ) (cs : List Change) (c : Change) → m ≡ n + length cs
-    → all_from policy n (cs ++ c ∷ []) ≡ with_change policy (all_from policy n cs) m c
+    → all_from policy n (cs ++ c ∷ []) ≡ one_more policy (all_from policy n cs) m c
 all-more KeepAll n m cs c at = more-unaged n m cs c at
 all-more (KeepLast depth) n m cs c at = more-aged depth n m cs c at

@@ -6,7 +6,7 @@ use Rattle.std.specs.Option.{option_copied, option_map, unwrap_or}
 use Rattle.std.proofs.lemmas.Bool.Decides.{nat_tests}
 use Rattle.std.proofs.lemmas.List.{map-append, set-get_or}
 use Rattle.std.proofs.lemmas.List.Elements.{filter-append}
-use Rattle.std.proofs.lemmas.List.Sums.{length-filter, sum_by-append}
+use Rattle.std.proofs.lemmas.List.Sums.{length-filter}
 use Rattle.dds_base.specs.declared.key.Key.{Key}
 use Rattle.dds_base.specs.declared.change.Change.{Change}
 use Rattle.dds_base.specs.declared.code.Code.{Code}
@@ -17,35 +17,45 @@ use Rattle.dds_base.specs.Happening.{same_key}
 use Rattle.dds_base.specs.Kept.{WriterHistory, acknowledge, appended, append_refusal, exceeds, first_kept, is_kept, kept_change}
 use Rattle.dds_base.proofs.KeyLaws.{same_key-refl}
 use Rattle.dds_history.specs.declared.held.HeldChange.{HeldChange}
-use Rattle.dds_history.specs.Held.{aged, all_from, awaits, held_of, is_held, kept_after, with_change}
+use Rattle.dds_history.specs.Held.{Rises, aged, aged_by, all_from, awaits, held_of, is_held, kept_after, with_change}
 use Rattle.dds_history.specs.Standing.{Held, StandsFor}
-use Rattle.dds_history.proofs.Aging.{all-more}
+use Rattle.dds_history.proofs.Aging.{all-more, entry_as, one_more}
 use Rattle.dds_history.proofs.Keeping.{first_kept-held, is_kept-found, kept_change-found, kept_count-held}
-use Rattle.dds_history.proofs.Numbering.{at_number, count_cons, one_if}
+use Rattle.dds_history.proofs.Numbering.{at_number, all-numbered, count_cons}
+use Rattle.dds_history.proofs.Rising.{rises-filtered, rises_from-weaker}
 
--- a test that fails wherever a first one does needs only what passes that one
-pub filter-narrower : {X : Type 0} (q p : X → Bool) → ((x : X) → p x ≡ false → q x ≡ false) → (xs : List X)
-    → filter q (filter p xs) ≡ filter q xs
-filter-narrower q p h [] = refl
-filter-narrower {X = X} q p h (x ∷ xs) = step (p x) refl (filter-narrower q p h xs)
+-- what passes two tests, where the second agrees with a third on what passes the first, and nothing else passes that
+pub filter-narrower : {X : Type 0} (h p q : X → Bool) → ((x : X) → h x ≡ false → q x ≡ false)
+    → ((x : X) → h x ≡ true → p x ≡ q x) → (xs : List X) → filter p (filter h xs) ≡ filter q xs
+filter-narrower h p q out within [] = refl
+filter-narrower {X = X} h p q out within (x ∷ xs) = step (h x) refl (filter-narrower h p q out within xs)
   where
-    step : (b : Bool) → p x ≡ b → filter q (filter p xs) ≡ filter q xs
-        → filter q (cond b (x ∷ filter p xs) (filter p xs)) ≡ cond (q x) (x ∷ filter q xs) (filter q xs)
-    step true is rest = ap (λ (zs : List X). cond (q x) (x ∷ zs) zs) rest
-    step false is rest = rest ∙ sym (ap (λ (b : Bool). cond b (x ∷ filter q xs) (filter q xs)) (h x is))
+    step : (b : Bool) → h x ≡ b → filter p (filter h xs) ≡ filter q xs
+        → filter p (cond b (x ∷ filter h xs) (filter h xs)) ≡ cond (q x) (x ∷ filter q xs) (filter q xs)
+    step true is rest =
+        ap (λ (b : Bool). cond b (x ∷ filter p (filter h xs)) (filter p (filter h xs))) (within x is)
+        ∙ ap (λ (zs : List X). cond (q x) (x ∷ zs) zs) rest
+    step false is rest = rest ∙ sym (ap (λ (b : Bool). cond b (x ∷ filter q xs) (filter q xs)) (out x is))
 
--- the same, where the test comes after a change of each
-filter-again : {X : Type 0} (q p : X → Bool) (f : X → X) → ((x : X) → p x ≡ false → q (f x) ≡ false) → (xs : List X)
-    → filter q (map f (filter p xs)) ≡ filter q (map f xs)
-filter-again q p f h [] = refl
-filter-again {X = X} q p f h (x ∷ xs) = step (p x) refl (filter-again q p f h xs)
+filter-mapped : {X : Type 0} (p : X → Bool) (f : X → X) (xs : List X) → filter p (map f xs)
+    ≡ map f (filter (λ x. p (f x)) xs)
+filter-mapped p f [] = refl
+filter-mapped {X = X} p f (x ∷ xs) = step (p (f x)) (filter-mapped p f xs)
   where
-    step : (b : Bool) → p x ≡ b → filter q (map f (filter p xs)) ≡ filter q (map f xs)
-        → filter q (map f (cond b (x ∷ filter p xs) (filter p xs)))
-        ≡ cond (q (f x)) (f x ∷ filter q (map f xs)) (filter q (map f xs))
-    step true is rest = ap (λ (zs : List X). cond (q (f x)) (f x ∷ zs) zs) rest
-    step false is rest = rest
-        ∙ sym (ap (λ (b : Bool). cond b (f x ∷ filter q (map f xs)) (filter q (map f xs))) (h x is))
+    step : (b : Bool) → filter p (map f xs) ≡ map f (filter (λ y. p (f y)) xs)
+        → cond b (f x ∷ filter p (map f xs)) (filter p (map f xs))
+        ≡ map f (cond b (x ∷ filter (λ y. p (f y)) xs) (filter (λ y. p (f y)) xs))
+    step true rest = ap (λ (zs : List X). f x ∷ zs) rest
+    step false rest = rest
+
+-- the same, where the tests come after a change of each
+filter-changed : {X : Type 0} (h p : X → Bool) (f : X → X) → ((x : X) → h x ≡ false → h (f x) ≡ false)
+    → ((x : X) → h x ≡ true → p (f x) ≡ h (f x)) → (xs : List X)
+    → filter p (map f (filter h xs)) ≡ filter h (map f xs)
+filter-changed {X = X} h p f out within xs =
+    filter-mapped p f (filter h xs)
+    ∙ (ap (λ (zs : List X). map f zs) (filter-narrower h (λ x. p (f x)) (λ x. h (f x)) out within xs)
+    ∙ sym (filter-mapped h f xs))
 
 -- what is dropped stays so
 still_dropped : (b awaited : Bool) (remaining : ℕ) → (nat_lt 0 remaining && awaited) ≡ false
@@ -61,34 +71,51 @@ still_dropped false awaited remaining h = h
 aged_apart : (acks : List ℕ) (key : Key) (e : HeldChange) → is_held acks e ≡ false → is_held acks (aged key e) ≡ false
 aged_apart acks key e h = still_dropped (same_key key e.change.key) (awaits acks e.number) e.remaining h
 
--- of all changes and one more, those are held that are held of those that were and the new one
+both_left : (a b : Bool) → (a && b) ≡ true → a ≡ true
+both_left true b h = refl
+both_left false b h = h
+
+both_right : (a b : Bool) → (a && b) ≡ true → b ≡ true
+both_right true b h = h
+both_right false b h = absurd cc
+
+and_true : (a b : Bool) → b ≡ true → a ≡ (a && b)
+and_true true b h = sym h
+and_true false b h = refl
+
+true_and : (a b : Bool) → a ≡ true → b ≡ (a && b)
+true_and a b h = sym (ap (λ (v : Bool). v && b) h)
+
+-- of all changes and one more, those are held that it leaves of those that were, and the new one, if some reader awaits
+-- it
 held-with : (policy : HistoryQos) (acks : List ℕ) (es : List HeldChange) (n : ℕ) (c : Change)
-    → filter (is_held acks) (with_change policy (filter (is_held acks) es) n c)
-    ≡ filter (is_held acks) (with_change policy es n c)
+    → filter (is_held acks) (one_more policy es n c)
+    ≡ with_change policy (filter (is_held acks) es) n c (awaits acks n)
 held-with KeepAll acks es n c =
-    let new : List HeldChange = record { number = n; change = c; remaining = 1 } ∷ [] in
-    filter-append (is_held acks) (filter (is_held acks) es) new
-    ∙ (ap (λ (xs : List HeldChange). xs ++ filter (is_held acks) new)
-    (filter-narrower (is_held acks) (is_held acks) (λ x h. h) es)
-    ∙ sym (filter-append (is_held acks) es new))
+    filter-append (is_held acks) es (record { number = n; change = c; remaining = 1 } ∷ [])
 held-with (KeepLast depth) acks es n c =
     let h : HeldChange → Bool = is_held acks in
     let f : HeldChange → HeldChange = aged c.key in
-    let new : List HeldChange = record { number = n; change = c; remaining = depth + 1 } ∷ [] in
-    ap (λ (xs : List HeldChange). filter h xs) (map-append f (filter h es) new)
-    ∙ (filter-append h (map f (filter h es)) (map f new)
-    ∙ (ap (λ (xs : List HeldChange). xs ++ filter h (map f new)) (filter-again h h f (aged_apart acks c.key) es)
-    ∙ (sym (filter-append h (map f es) (map f new))
-    ∙ ap (λ (xs : List HeldChange). filter h xs) (sym (map-append f es new)))))
+    let new : HeldChange = record { number = n; change = c; remaining = depth + 1 } in
+    let own = ap (λ (b : Bool). cond b (depth + 1 - 1) (depth + 1)) (same_key-refl c.key) in
+    let last : f new ≡ record { number = n; change = c; remaining = depth } =
+    entry_as n n c _ depth refl (omega (arith, own)) in
+    ap (λ (xs : List HeldChange). filter h xs) (map-append f es (new ∷ []))
+    ∙ (filter-append h (map f es) (f new ∷ [])
+    ∙ (ap (λ (xs : List HeldChange). xs ++ filter h (f new ∷ []))
+    (sym (filter-changed h (λ e. nat_lt 0 e.remaining) f (aged_apart acks c.key)
+    (λ e held. and_true (nat_lt 0 (f e).remaining) (awaits acks e.number)
+    (both_right (nat_lt 0 e.remaining) (awaits acks e.number) held)) es))
+    ∙ ap (λ (e : HeldChange). aged_by (KeepLast depth) c.key (filter h es) ++ filter h (e ∷ [])) last))
 
 -- what is held with one more change
 pub held-more : (w : WriterHistory) (c : Change)
     → held_of (appended w c)
-    ≡ filter (is_held w.acknowledged) (with_change w.policy (held_of w) (length w.changes + 1) c)
+    ≡ with_change w.policy (held_of w) (length w.changes + 1) c (awaits w.acknowledged (length w.changes + 1))
 held-more w c =
     ap (λ (es : List HeldChange). filter (is_held w.acknowledged) es)
     (all-more w.policy 1 (length w.changes + 1) w.changes c (omega arith))
-    ∙ sym (held-with w.policy w.acknowledged (all_from w.policy 1 w.changes) (length w.changes + 1) c)
+    ∙ held-with w.policy w.acknowledged (all_from w.policy 1 w.changes) (length w.changes + 1) c
 
 -- so many are held with one more change
 
@@ -98,65 +125,25 @@ count_mapped p f [] = refl
 count_mapped p f (e ∷ es) =
     omega (arith, count_mapped p f es, count_cons p (f e) (map f es), count_cons (λ x. p (f x)) e es)
 
--- tests that agree on what passes a third one count alike there
-count_alike : (p q h : HeldChange → Bool) → ((e : HeldChange) → h e ≡ true → p e ≡ q e) → (es : List HeldChange)
-    → count_by p (filter h es) ≡ count_by q (filter h es)
-count_alike p q h same [] = refl
-count_alike p q h same (e ∷ es) = step (h e) refl (count_alike p q h same es)
-  where
-    step : (b : Bool) → h e ≡ b → count_by p (filter h es) ≡ count_by q (filter h es)
-        → count_by p (cond b (e ∷ filter h es) (filter h es)) ≡ count_by q (cond b (e ∷ filter h es) (filter h es))
-    step true is rest = let here = ap one_if (same e is) in
-        omega (arith, here, rest, count_cons p e (filter h es), count_cons q e (filter h es))
-    step false is rest = rest
-
-both_right : (a b : Bool) → (a && b) ≡ true → b ≡ true
-both_right true b h = h
-both_right false b h = absurd cc
-
-and_true : (a b : Bool) → b ≡ true → (a && b) ≡ a
-and_true true b h = h
-and_true false b h = refl
-
-filter_kept : {X : Type 0} (p : X → Bool) (xs : List X) → filter p (filter p xs) ≡ filter p xs
-filter_kept p xs = filter-narrower p p (λ x h. h) xs
-
 length_if : (b : Bool) (e : HeldChange) → length (cond b (e ∷ []) []) ≡ (if b then 1 else 0)
 length_if true e = refl
 length_if false e = refl
 
-count_of_one : (b c : Bool) → b ≡ c → one_if b + 0 ≡ (if c then 1 else 0)
-count_of_one true true h = refl
-count_of_one true false h = absurd cc
-count_of_one false true h = absurd cc
-count_of_one false false h = refl
-
-pub length-more : (policy : HistoryQos) (acks : List ℕ) (es : List HeldChange) (n : ℕ) (c : Change)
-    → length (filter (is_held acks) (with_change policy (filter (is_held acks) es) n c))
-    ≡ kept_after policy (filter (is_held acks) es) c.key (awaits acks n)
-length-more KeepAll acks es n c =
-    let h : HeldChange → Bool = is_held acks in
+pub length-more : (policy : HistoryQos) (es : List HeldChange) (n : ℕ) (c : Change) (awaited : Bool)
+    → length (with_change policy es n c awaited) ≡ kept_after policy es c.key awaited
+length-more KeepAll es n c awaited =
     let new : HeldChange = record { number = n; change = c; remaining = 1 } in
-    let parts = ap length (filter-append h (filter h es) (new ∷ []))
-    ∙ length-append (filter h (filter h es)) (filter h (new ∷ [])) in
-    let same = ap length (filter_kept h es) in
-    omega (arith, parts, same, length_if (awaits acks n) new)
-length-more (KeepLast depth) acks es n c =
-    let h : HeldChange → Bool = is_held acks in
+    length-append es (cond awaited (new ∷ []) [])
+    ∙ ap (λ (k : ℕ). length es + k) (length_if awaited new)
+length-more (KeepLast depth) es n c awaited =
+    let p : HeldChange → Bool = λ e. nat_lt 0 e.remaining in
     let f : HeldChange → HeldChange = aged c.key in
-    let new : HeldChange = record { number = n; change = c; remaining = depth + 1 } in
-    let older = filter h es in
-    let counts = length-filter h (map f (older ++ new ∷ [])) ∙ count_mapped h f (older ++ new ∷ []) in
-    let parts = sum_by-append (λ (e : HeldChange). one_if (h (f e))) older (new ∷ []) in
-    let alike = count_alike (λ e. h (f e)) (λ e. nat_lt 0 (f e).remaining) h
-    (λ e held. and_true (nat_lt 0 (f e).remaining) (awaits acks e.number)
-    (both_right (nat_lt 0 e.remaining) (awaits acks e.number) held)) es in
-    let full : depth + 1 - 1 ≡ depth = omega arith in
-    let last : h (f new) ≡ (nat_lt 0 depth && awaits acks n) =
-    ap (λ (b : Bool). nat_lt 0 (if b then depth + 1 - 1 else depth + 1) && awaits acks n) (same_key-refl c.key)
-    ∙ ap (λ (k : ℕ). nat_lt 0 k && awaits acks n) full in
-    let one = count_of_one (h (f new)) (nat_lt 0 depth && awaits acks n) last in
-    omega (arith, counts, parts, alike, one)
+    let new : HeldChange = record { number = n; change = c; remaining = depth } in
+    let is_new : Bool = nat_lt 0 depth && awaited in
+    let older = length-filter p (map f es) ∙ count_mapped p f es in
+    length-append (filter p (map f es)) (cond is_new (new ∷ []) [])
+    ∙ (ap (λ (k : ℕ). k + length (cond is_new (new ∷ []) [])) older
+    ∙ ap (λ (k : ℕ). count_by (λ e. p (f e)) es + k) (length_if is_new new))
 
 -- ---- what is held stands for the history
 
@@ -192,7 +179,7 @@ pub refusal-is : (held : Held) (w : WriterHistory) (c : Change) → StandsFor he
 refusal-is held w c s =
     let count = kept_count-held (appended w c)
     ∙ (ap length (held-more w c)
-    ∙ length-more w.policy w.acknowledged (all_from w.policy 1 w.changes) (length w.changes + 1) c) in
+    ∙ length-more w.policy (held_of w) (length w.changes + 1) c (awaits w.acknowledged (length w.changes + 1))) in
     ap (λ (n : ℕ). if nat_le (2 ^ 48) (length w.changes) then Some OutOfResources
     else (if exceeds w.max_samples n then Some Timeout else None)) count
     ∙ ap (λ (h : Held). refusal_held h c) (sym (stands_is held w s))
@@ -200,7 +187,7 @@ refusal-is held w c s =
 pub stands-more : (held : Held) (w : WriterHistory) (c : Change) → StandsFor held w → held.last < 2 ^ 48
     → StandsFor (record held {
       last = held.last + 1;
-      entries = filter (is_held held.acknowledged) (with_change held.policy held.entries (held.last + 1) c);
+      entries = with_change held.policy held.entries (held.last + 1) c (awaits held.acknowledged (held.last + 1));
     }) (appended w c)
 stands-more held w c s few = record {
   policy = s.policy;
@@ -208,7 +195,8 @@ stands-more held w c s few = record {
   last = let n = length-append w.changes (c ∷ []) in omega (arith, n, s.last);
   few = omega (arith, few);
   acknowledged = s.acknowledged;
-  entries = ap (λ (h : Held). filter (is_held h.acknowledged) (with_change h.policy h.entries (h.last + 1) c))
+  entries =
+      ap (λ (h : Held). with_change h.policy h.entries (h.last + 1) c (awaits h.acknowledged (h.last + 1)))
       (stands_is held w s) ∙ sym (held-more w c);
 }
 
@@ -238,7 +226,7 @@ pub stands-acked : (held : Held) (w : WriterHistory) (reader to : ℕ) → Stand
     → get_or held.acknowledged reader 0 < to
     → StandsFor (record held {
       acknowledged = set held.acknowledged reader to;
-      entries = filter (is_held (set held.acknowledged reader to)) held.entries;
+      entries = filter (λ e. awaits (set held.acknowledged reader to) e.number) held.entries;
     }) (acknowledge w reader to)
 stands-acked held w reader to s lt =
     let old = ap (λ (a : List ℕ). get_or a reader 0) s.acknowledged in
@@ -253,11 +241,13 @@ stands-acked held w reader to s lt =
       few = s.few;
       acknowledged = acks;
       entries =
-          ap (λ (a : List ℕ). filter (is_held a) held.entries) acks
-          ∙ (ap (λ (es : List HeldChange). filter (is_held after) es) s.entries
-          ∙ filter-narrower (is_held after) (is_held w.acknowledged)
+          ap (λ (a : List ℕ). filter (λ (e : HeldChange). awaits a e.number) held.entries) acks
+          ∙ (ap (λ (es : List HeldChange). filter (λ e. awaits after e.number) es) s.entries
+          ∙ filter-narrower (is_held w.acknowledged) (λ e. awaits after e.number) (is_held after)
           (λ e out. and_false (nat_lt 0 e.remaining) (awaits w.acknowledged e.number) (awaits after e.number) out
           (still_unawaited w.acknowledged reader (max (get_or w.acknowledged reader 0) to) e.number (omega arith)))
+          (λ e held. true_and (nat_lt 0 e.remaining) (awaits after e.number)
+          (both_left (nat_lt 0 e.remaining) (awaits w.acknowledged e.number) held))
           (all_from w.policy 1 w.changes));
     }
 
@@ -295,6 +285,13 @@ refuses_full h w c s few is = refusal-is h w c s ∙ below_limit h c true few is
 
 pub stands_as : (a b : Held) (w : WriterHistory) → a ≡ b → StandsFor a w → StandsFor b w
 stands_as a b w e s = subst (λ (h : Held). StandsFor h w) e s
+
+-- the numbers of what is held rise
+pub held_rises : (h : Held) (w : WriterHistory) → StandsFor h w → Rises h.entries
+held_rises h w s =
+    subst (λ (es : List HeldChange). Rises es) (sym s.entries)
+    (rises_from-weaker 0 1 (held_of w) (omega arith)
+    (rises-filtered (is_held w.acknowledged) 1 (all_from w.policy 1 w.changes) (all-numbered w.policy 1 w.changes)))
 
 pub kept_is : (h : Held) (w : WriterHistory) (number : ℕ) → StandsFor h w → is_kept w number
     ≡ is_some (find (at_number number) h.entries)

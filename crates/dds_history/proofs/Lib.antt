@@ -1,4 +1,5 @@
 pub mod Aging
 pub mod Numbering
 pub mod Keeping
+pub mod Rising
 pub mod Letting

@@ -18,7 +18,7 @@ AreNumbered n es = (i : ℕ) (e : HeldChange) → slice_get es i ≡ Some e → 
 pub numbered-tail : (n : ℕ) (x : HeldChange) (es : List HeldChange) → AreNumbered n (x ∷ es) → AreNumbered (n + 1) es
 numbered-tail n x es h i e at = let is = h (suc i) e at in omega (arith, is)
 
-numbered-head : (n : ℕ) (x : HeldChange) (es : List HeldChange) → AreNumbered n (x ∷ es) → x.number ≡ n
+pub numbered-head : (n : ℕ) (x : HeldChange) (es : List HeldChange) → AreNumbered n (x ∷ es) → x.number ≡ n
 numbered-head n x es h = let is = h 0 x refl in omega (arith, is)
 
 -- what the history would hold of this change, with these later ones

@@ -2,7 +2,7 @@
 -- writer's history. Inner functions alone cite this: nothing here has to be believed.
 --
 -- DDS 1.4, 2.2.3 (HISTORY, RESOURCE_LIMITS); RTPS 2.5, 8.2 (HistoryCache).
-use Rattle.std.specs.Prelude.{ℕ, ◌+◌, ◌-◌, ◌&&◌, Bool, List, [], ◌∷◌, ◌++◌, map, length, filter, count_by, nat_lt, nat_le, if◌then◌else◌}
+use Rattle.std.specs.Prelude.{ℕ, ◌≤◌, ◌+◌, ◌-◌, ◌&&◌, Bool, List, [], ◌∷◌, ◌++◌, map, length, filter, count_by, nat_lt, nat_le, if◌then◌else◌}
 use Rattle.std.specs.List.{list_any}
 use Rattle.dds_base.specs.declared.key.Key.{Key}
 use Rattle.dds_base.specs.declared.change.Change.{Change}
@@ -28,11 +28,31 @@ aged key e = record {
   remaining = (if same_key key e.change.key then e.remaining - 1 else e.remaining);
 }
 
--- the changes, with one more of this number
-abbrev pub with_change : HistoryQos → List HeldChange → ℕ → Change → List HeldChange
-with_change KeepAll entries number change = entries ++ record { number = number; change = change; remaining = 1 } ∷ []
-with_change (KeepLast depth) entries number change =
-    map (λ e. aged change.key e) (entries ++ record { number = number; change = change; remaining = depth + 1 } ∷ [])
+-- those of the changes that one more of this key leaves
+abbrev pub aged_by : HistoryQos → Key → List HeldChange → List HeldChange
+aged_by KeepAll key entries = entries
+aged_by (KeepLast depth) key entries = filter (λ e. nat_lt 0 e.remaining) (map (λ e. aged key e) entries)
+
+-- so many more changes of its key drop a new change; 1 where nothing is dropped
+abbrev pub granted : HistoryQos → ℕ
+granted KeepAll = 1
+granted (KeepLast depth) = depth
+
+-- the changes, with one more of this number, which some reader awaits or not
+abbrev pub with_change : HistoryQos → List HeldChange → ℕ → Change → Bool → List HeldChange
+with_change policy entries number change is_awaited =
+    aged_by policy change.key entries
+    ++ (if nat_lt 0 (granted policy) && is_awaited
+    then record { number = number; change = change; remaining = granted policy } ∷ [] else [])
+
+-- the numbers rise, from this one on
+abbrev pub RisesFrom : ℕ → List HeldChange → Type 0
+RisesFrom n [] = Unit {0}
+RisesFrom n (e ∷ es) = (n ≤ e.number) × RisesFrom (e.number + 1) es
+
+-- the numbers rise
+abbrev pub Rises : List HeldChange → Type 0
+Rises es = RisesFrom 0 es
 
 -- how many changes are kept once one more of this key was made, which some reader awaits or not
 abbrev pub kept_after : HistoryQos → List HeldChange → Key → Bool → ℕ

@@ -14,6 +14,7 @@ ghost use Rattle.dds_history.specs.Standing.{StandsFor, reader_count};
 use crate::held::{HeldChange, add, find, is_awaited, kept_with, let_go};
 use dds_base::{Change, Code, HistoryQos, Key, Sn};
 use std::alloc::Global;
+use std::collections::VecDeque;
 use std::marker::Model;
 
 /// A writer makes this many changes.
@@ -35,7 +36,7 @@ pub struct History {
     /// Of each reader, the number below which it has acknowledged all.
     acknowledged: Vec<u64>,
     /// What is kept, in the order of the numbers.
-    entries: Vec<HeldChange>,
+    entries: VecDeque<HeldChange>,
 }
 
 impl Model for History {
@@ -83,7 +84,7 @@ impl History {
             max_samples,
             last: 0,
             acknowledged,
-            entries: Vec::new(alloc),
+            entries: VecDeque::new(alloc),
         })
     }
 
@@ -114,8 +115,8 @@ impl History {
             return Err(code);
         }
         let number = self.last + 1;
-        add(&mut self.entries, self.policy, number, change)?;
-        let_go(&mut self.entries, &self.acknowledged);
+        let is_new_kept = is_awaited(&self.acknowledged, number);
+        add(&mut self.entries, self.policy, number, change, is_new_kept)?;
         self.last = number;
         Ok(Sn::new(number))
     }
@@ -245,7 +246,7 @@ impl History {
     pub fn first(&self) -> Sn
         ensures first { (w : WriterHistory) → StandsFor self.now w → result ≡ first_kept w }
     {
-        match self.entries.first() {
+        match self.entries.front() {
             Some(entry) => Sn::new(entry.number),
             None => Sn::new(self.last.saturating_add(1)),
         }

@@ -1,13 +1,12 @@
-use Rattle.std.proofs.Common.{ℕ, get_or, ap}
-use Rattle.dds_history.specs.declared.held.HeldChange.{HeldChange}
-use Rattle.dds_base.proofs.Lists.{map-step}
-use Rattle.dds_history.specs.Held.{aged}
+use Rattle.std.proofs.Common.{rules, ap, sym, ◌∙◌}
+use Rattle.std.specs.Prelude.{nat_lt}
+use Rattle.dds_base.specs.declared.qos.HistoryQos.{HistoryQos}
+use Rattle.dds_history.specs.Held.{aged, aged_by}
+use Rattle.dds_history.proofs.Rising.{filter-from_retain}
 use Rattle.dds_history.proofs.held.age.Goals as goal
 
-pub loop-entry-preserved : goal.loop-entry-preserved
-loop-entry-preserved c =
-    let e : HeldChange = get_or c.loop-entry.entry-items c.loop-entry.entry-index c.entry-item.result in
-    map-step (aged c.args.key.now) c.deref_mut-entry-items.result.now c.loop-entry.entry-items c.loop-entry.entry-index
-    c.entry-item.result _
-    c.loop-entry-test.true c.loop-entry.auto.entry-items c.loop-entry.invariant
-    (ap (λ (n : ℕ). record e { remaining = n }) c.remaining_after-remaining.ensures)
+pub returns-in-KeepLast-clause-items : goal.returns-in-KeepLast-clause-items
+returns-in-KeepLast-clause-items c =
+    filter-from_retain _ (λ e. nat_lt 0 e.remaining) (aged c.args.key.now) _ (λ x b f' y k. search rules) _ _
+    c.retain_mut.ensures.filtered
+    ∙ ap (λ (policy : HistoryQos). aged_by policy c.args.key.now c.args.entries.now.items) (sym c.in-KeepLast.is)

@@ -2,10 +2,10 @@ use Rattle.std.proofs.Common.{◌≡◌, ◌<◌, ◌≤◌, ℕ, List, set, get
 use Rattle.std.specs.Prelude.{filter}
 use Rattle.std.proofs.lemmas.List.{get_or_default}
 use Rattle.dds_base.specs.Kept.{WriterHistory, acknowledge}
-use Rattle.dds_history.specs.Held.{is_held}
+use Rattle.dds_history.specs.Held.{awaits}
 use Rattle.dds_history.specs.declared.held.HeldChange.{HeldChange}
 use Rattle.dds_history.specs.Standing.{Held, StandsFor}
-use Rattle.dds_history.proofs.Letting.{stands-acked, stands-unmoved, stands_as}
+use Rattle.dds_history.proofs.Letting.{held_rises, stands-acked, stands-unmoved, stands_as}
 use Rattle.dds_history.proofs.history.History.acked.Goals as goal
 use Rattle.dds_history.proofs.history.History.acked.Goals.{After-index}
 
@@ -34,9 +34,10 @@ returns-then-index-to-clause-stands c = λ w s.
     let now = opened at in
     let here = so_far at in
     let lt : get_or now.acknowledged c.args.reader 0 < c.number-to.result = omega (arith, here, c.if-index-to.true) in
-    let entries : filter (is_held (set now.acknowledged c.args.reader c.number-to.result)) now.entries
+    let entries : filter (λ e. awaits (set now.acknowledged c.args.reader c.number-to.result) e.number) now.entries
     ≡ c.let_go.new.entries.items =
-    sym (c.let_go.ensures ∙ ap (λ (a : List ℕ). filter (is_held a) now.entries) c.deref.ensures.value) in
+    sym (c.let_go.ensures (held_rises now w (opened_stands at w s))
+    ∙ ap (λ (a : List ℕ). filter (λ (e : HeldChange). awaits a e.number) now.entries) c.deref.ensures.value) in
     let after : Held = record now {
       acknowledged = set now.acknowledged c.args.reader c.number-to.result;
       entries = c.let_go.new.entries.items;

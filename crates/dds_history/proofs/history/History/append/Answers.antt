@@ -1,9 +1,8 @@
-use Rattle.std.proofs.Common.{◌≡◌, ◌+◌, ◌<◌, ◌^◌, List, Option, None, refl, ap, sym, ◌∙◌, subst, arith, rules}
-use Rattle.std.specs.Prelude.{filter}
+use Rattle.std.proofs.Common.{◌≡◌, ◌+◌, ◌<◌, ◌^◌, Bool, List, Option, None, refl, ap, sym, ◌∙◌, subst, arith, rules}
 use Rattle.dds_base.specs.declared.code.Code.{Code}
 use Rattle.dds_base.specs.Refusal.{Refuses}
 use Rattle.dds_base.specs.Kept.{append_refusal, appended}
-use Rattle.dds_history.specs.Held.{is_held, with_change}
+use Rattle.dds_history.specs.Held.{awaits, with_change}
 use Rattle.dds_history.specs.declared.held.HeldChange.{HeldChange}
 use Rattle.dds_history.specs.Standing.{Held}
 use Rattle.dds_history.proofs.Letting.{stands-more, stands_as}
@@ -18,20 +17,20 @@ returns-clause-ok c = λ w s.
     let with_one : Held → Held =
     λ v. record v {
       last = v.last + 1;
-      entries = filter (is_held v.acknowledged) (with_change v.policy v.entries (v.last + 1) c.args.change);
+      entries = with_change v.policy v.entries (v.last + 1) c.args.change (awaits v.acknowledged (v.last + 1));
     } in
     let inside = c.self.inside in
-    let kept : List HeldChange → List HeldChange = λ es. filter (is_held inside.acknowledged.items) es in
-    let entries = c.let_go.ensures
-    ∙ (ap (λ (a : List _). filter (is_held a) c.add.new.entries.items) c.deref.ensures.value
-    ∙ ap kept c.in_ok-add.ensures.ok) in
+    let awaited = c.is_awaited-is_new_kept.ensures
+    ∙ ap (λ (a : List _). awaits a (inside.last + 1)) c.deref.ensures.value in
+    let entries = c.in_ok-add.ensures.ok
+    ∙ ap (λ (b : Bool). with_change inside.policy inside.entries.items (inside.last + 1) c.args.change b) awaited in
     let after : Held =
     record {
       policy = inside.policy;
       max_samples = inside.max_samples;
       last = inside.last + 1;
       acknowledged = inside.acknowledged.items;
-      entries = c.let_go.new.entries.items;
+      entries = c.add.new.entries.items;
     } in
     let added : with_one now ≡ after =
     ap with_one (sym c.self.view_is) ∙ ap (λ (es : List HeldChange). record after { entries = es }) (sym entries) in
