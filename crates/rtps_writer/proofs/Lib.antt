@@ -1,4 +1,3 @@
-mod Registrations
 mod Parts
 mod AnswerLaws
 mod TickLaws

@@ -9,4 +9,4 @@ use Rattle.dds_base.specs.Happening.{same_key}
 
 -- the instance is one of these
 abbrev pub is_among : List Key → Key → Bool
-is_among keys key = list_any (λ k. same_key k key) keys
+is_among keys key = list_any (λ k. same_key key k) keys

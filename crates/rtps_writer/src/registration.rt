@@ -1,51 +1,48 @@
-//! The instances that a writer has registered.
+//! The instances that a writer has registered: a set, so how many there are matters to none of these.
 //!
 //! DDS 1.4, 2.2.2.4 (register_instance, unregister_instance).
 
-ghost use Rattle.std.specs.Prelude.{◌≡◌, ◌<◌, ◌||◌, not, false, true, IsOk, OnOk, vec_len, vec_capacity, if◌then◌else◌};
+ghost use Rattle.std.specs.Prelude.{◌≡◌, ◌<◌, ◌||◌, not, false, true, IsOk, OnErr, OnOk, if◌then◌else◌};
+ghost use Rattle.indexmap.specs.IndexSet.{spare};
 ghost use Rattle.dds_base.specs.Happening.{same_key, is_unregister};
 ghost use Rattle.rtps_writer.specs.Registered.{is_among};
 
 use dds_base::{ChangeKind, Key};
-use std::alloc::AllocError;
+use indexmap::IndexSet;
+use std::alloc::{AllocError, AllocFailed};
 
 /// Whether the instance is registered.
-pub fn is_registered(keys: &[Key], key: Key) -> bool
-    ensures { result ≡ is_among keys.now key }
+pub fn is_registered(keys: &IndexSet<Key>, key: Key) -> bool
+    ensures { result ≡ is_among keys.now.keys key }
 {
-    keys.iter().any(|k| *k == key)
+    keys.contains(&key)
 }
 
-/// Registers an instance, whether or not it is registered. There is room for one more.
-pub fn register(keys: &mut Vec<Key>, key: Key)
-    requires { vec_len keys.old < vec_capacity keys.old }
-    ensures registered { (k : Key)
-        → is_among keys.new.items k ≡ (same_key key k || is_among keys.old.items k) }
-    ensures known { is_among keys.old.items key ≡ true → keys.new.items ≡ keys.old.items }
+/// Registers an instance, whether or not it is registered.
+pub fn register(keys: &mut IndexSet<Key>, key: Key) -> Result<(), AllocFailed<Key>>
+    ensures registered { OnOk result ((k : Key)
+        → is_among keys.new.keys k ≡ (same_key key k || is_among keys.old.keys k)) }
+    ensures err { OnErr result (keys.new.keys ≡ keys.old.keys) }
+    ensures absent { OnErr result (is_among keys.old.keys key ≡ false) }
+    ensures succeeds { 0 < spare keys.old → IsOk result }
 {
-    if is_registered(keys, key) {
-        return;
-    }
-    if keys.push(key).is_err() {
-        // Room was reserved.
-        unreachable!();
-    }
+    keys.insert(key)?;
+    Ok(())
 }
 
 /// Ends the registration of an instance.
-pub fn unregister(keys: &mut Vec<Key>, key: Key)
+pub fn unregister(keys: &mut IndexSet<Key>, key: Key)
     ensures { (k : Key)
-        → is_among keys.new.items k
-        ≡ (if same_key key k then false else is_among keys.old.items k) }
+        → is_among keys.new.keys k
+        ≡ (if same_key key k then false else is_among keys.old.keys k) }
 {
-    keys.retain(|k| *k != key);
+    keys.swap_remove(&key);
 }
 
 /// Makes the room that a change of this kind needs.
-pub fn reserve(keys: &mut Vec<Key>, kind: ChangeKind) -> Result<(), AllocError>
-    ensures keys { keys.new.items ≡ keys.old.items }
-    ensures room { OnOk result (is_unregister kind ≡ false
-        → vec_len keys.new < vec_capacity keys.new) }
+pub fn reserve(keys: &mut IndexSet<Key>, kind: ChangeKind) -> Result<(), AllocError>
+    ensures keys { keys.new.keys ≡ keys.old.keys }
+    ensures room { OnOk result (is_unregister kind ≡ false → 0 < spare keys.new) }
     ensures none { is_unregister kind ≡ true → IsOk result }
 {
     if kind.is_unregister() {
@@ -55,14 +52,15 @@ pub fn reserve(keys: &mut Vec<Key>, kind: ChangeKind) -> Result<(), AllocError>
 }
 
 /// What a change of this kind does: a write and a dispose register its instance, the others end its registration.
-pub fn note(keys: &mut Vec<Key>, key: Key, kind: ChangeKind)
-    requires { is_unregister kind ≡ false → vec_len keys.old < vec_capacity keys.old }
-    ensures { (k : Key) → is_among keys.new.items k
-        ≡ (if same_key key k then not (is_unregister kind) else is_among keys.old.items k) }
+pub fn note(keys: &mut IndexSet<Key>, key: Key, kind: ChangeKind)
+    requires { is_unregister kind ≡ false → 0 < spare keys.old }
+    ensures { (k : Key) → is_among keys.new.keys k
+        ≡ (if same_key key k then not (is_unregister kind) else is_among keys.old.keys k) }
 {
     if kind.is_unregister() {
         unregister(keys, key);
-    } else {
-        register(keys, key);
+    } else if register(keys, key).is_err() {
+        // Room was reserved.
+        unreachable!();
     }
 }

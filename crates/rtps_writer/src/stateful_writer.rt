@@ -22,6 +22,7 @@ use crate::liveliness::Liveliness;
 use crate::registration::{is_registered, note, register, reserve};
 use dds_base::{Change, Code, HistoryQos, Key, LivelinessLostStatus, Moment, Sn, is_later};
 use dds_history::History;
+use indexmap::IndexSet;
 use rtps_sets::SnSet;
 use std::alloc::Global;
 use std::marker::Model;
@@ -48,7 +49,7 @@ pub struct StatefulWriter {
     alloc: Global,
     history: History,
     /// The instances that it has registered.
-    registered: Vec<Key>,
+    registered: IndexSet<Key>,
     /// Of each reader, the count of the last ACKNACK that was applied.
     counts: Vec<Option<i32>>,
     /// How many HEARTBEAT counts were used.
@@ -65,7 +66,7 @@ impl Model for StatefulWriter {
 
     ghost view = { λ w. record {
       history = w.history;
-      registered = w.registered.items;
+      registered = w.registered.keys;
       counts = w.counts.items;
       counts_used = w.counts_used;
       liveliness = w.liveliness;
@@ -102,7 +103,7 @@ impl StatefulWriter {
         Ok(StatefulWriter {
             alloc,
             history,
-            registered: Vec::new(alloc),
+            registered: IndexSet::new(alloc),
             counts,
             counts_used: 0,
             liveliness: Liveliness::new(lease),
@@ -140,11 +141,7 @@ impl StatefulWriter {
         ensures new { (s : WriterState) → StandsFor self.old s
             → OnErr result (is_key_registered key s.written ≡ false) }
     {
-        if is_registered(&self.registered, key) {
-            return Ok(());
-        }
-        self.registered.reserve(1)?;
-        register(&mut self.registered, key);
+        register(&mut self.registered, key)?;
         Ok(())
     }
 
