@@ -72,6 +72,13 @@ none_below n es h = all_from_on n n es (omega arith) h
 
 -- ---- where a number stands
 
+rises-at : (n i : ℕ) (e : HeldChange) (es : List HeldChange) → RisesFrom n es → slice_get es i ≡ Some e → n ≤ e.number
+rises-at n i e [] h at = cc
+rises-at n zero e (x ∷ es) h at = let same : x ≡ e = cc in subst (λ (y : HeldChange). n ≤ y.number) same h.0
+rises-at n (suc i) e (x ∷ es) h at =
+    let later = rises-at (x.number + 1) i e es h.1 at in
+    omega (arith, later, h.0)
+
 find_above : (m n : ℕ) (es : List HeldChange) → m < n → RisesFrom n es → find (at_number m) es ≡ None
 find_above m n [] lt h = refl
 find_above m n (e ∷ es) lt h =
@@ -157,6 +164,19 @@ pub has_another : (m : ℕ) (e : HeldChange) → (e.number ≡ m → ⊥) → No
 has_another m e is_not =
     let other : at_number m e ≡ false = grind (arith, nat_tests) in
     sym (ap (λ (b : Bool). cond b (Some e) None) other)
+
+-- a change is the one that is found at its number
+pub found_itself : (i n : ℕ) (e : HeldChange) (es : List HeldChange) → RisesFrom n es → slice_get es i ≡ Some e
+    → find (at_number e.number) es ≡ Some e
+found_itself i n e [] h at = cc
+found_itself zero n e (x ∷ es) h at =
+    let same : x ≡ e = cc in
+    let here : at_number e.number x ≡ true = let is = ap (λ (y : HeldChange). y.number) same in grind (arith, nat_tests) in
+    ap (λ (b : Bool). cond b (Some x) (find (at_number e.number) es)) here ∙ ap (λ (y : HeldChange). Some y) same
+found_itself (suc i) n e (x ∷ es) h at =
+    let later = rises-at (x.number + 1) i e es h.1 at in
+    let other : at_number e.number x ≡ false = grind (arith, nat_tests) in
+    ap (λ (b : Bool). cond b (Some x) (find (at_number e.number) es)) other ∙ found_itself i (x.number + 1) e es h.1 at
 
 -- ---- what goes from the front
 

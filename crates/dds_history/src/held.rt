@@ -1,11 +1,11 @@
 //! The changes that a history holds, with how many more of their keys each of them outlives.
 //!
 //! They stand in the order of their numbers, and no number stands twice. So what all readers have acknowledged is at
-//! the front, and a number is looked for in halves.
+//! the front, and a number is found at its distance from the first, or, where some between are missing, in halves.
 //!
 //! DDS 1.4, 2.2.3 (HISTORY); RTPS 2.5, 8.2 (HistoryCache, CacheChange).
 
-ghost use Rattle.std.specs.Prelude.{◌≡◌, ℕ, ◌≤◌, ◌==◌, find, filter, slice_get, false, min, nat_le, nat_lt, IfErr, OnOk, OnErr};
+ghost use Rattle.std.specs.Prelude.{◌≡◌, ℕ, ◌≤◌, ◌==◌, find, filter, slice_get, false, min, nat_le, nat_lt, Some, IfErr, IfSome, OnOk, OnErr};
 ghost use Rattle.std.specs.List.{reduce};
 ghost use Rattle.std.specs.Option.{option_copied, option_map_or};
 ghost use Rattle.std.specs.VecDeque.{deque_capacity, deque_len};
@@ -71,8 +71,24 @@ pub fn let_go(entries: &mut VecDeque<HeldChange>, acknowledged: &[u64])
     }
 }
 
-/// The change of a number, if it is here.
-pub fn find(entries: &VecDeque<HeldChange>, number: u64) -> Option<&HeldChange>
+/// The change that stands as far from the first as its number does, if that is this number: so it is where no number
+/// between is missing.
+fn at_distance(entries: &VecDeque<HeldChange>, number: u64) -> Option<&HeldChange>
+    ensures { Rises entries.now.items → IfSome result (λ entry.
+        find (λ (e : HeldChange). e.number == number) entries.now.items ≡ Some entry.now) }
+{
+    let first = entries.front()?;
+    let distance = number.checked_sub(first.number)?;
+    let entry = entries.get(distance as usize)?;
+    if entry.number == number {
+        Some(entry)
+    } else {
+        None
+    }
+}
+
+/// The change of a number, if it is here, looked for in halves.
+fn search(entries: &VecDeque<HeldChange>, number: u64) -> Option<&HeldChange>
     ensures { Rises entries.now.items
         → option_copied result ≡ find (λ (e : HeldChange). e.number == number) entries.now.items }
 {
@@ -83,6 +99,17 @@ pub fn find(entries: &VecDeque<HeldChange>, number: u64) -> Option<&HeldChange>
     } else {
         None
     }
+}
+
+/// The change of a number, if it is here.
+pub fn find(entries: &VecDeque<HeldChange>, number: u64) -> Option<&HeldChange>
+    ensures { Rises entries.now.items
+        → option_copied result ≡ find (λ (e : HeldChange). e.number == number) entries.now.items }
+{
+    if let Some(entry) = at_distance(entries, number) {
+        return Some(entry);
+    }
+    search(entries, number)
 }
 
 /// What the change still has once one more of this key was made.

@@ -4,7 +4,7 @@ use Rattle.std.specs.Option.{option_copied}
 use Rattle.std.proofs.lemmas.List.Sorted.{IsPartitionPoint-from_clause}
 use Rattle.dds_history.specs.declared.held.HeldChange.{HeldChange}
 use Rattle.dds_history.proofs.Rising.{find_parted, has_another, has_number, parted}
-use Rattle.dds_history.proofs.held.find.Goals as goal
+use Rattle.dds_history.proofs.held.search.Goals as goal
 
 pub returns-in_err-entry : goal.returns-in_err-entry
 returns-in_err-entry c = λ rises.
