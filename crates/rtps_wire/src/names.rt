@@ -162,6 +162,9 @@ pub const LEN_PARAMETERS: usize = 3 * LEN_PARAMETER_HEAD + LEN_KEY + LEN_STATUS_
 
 // ---- the longest that is written
 
+/// The longest set: of 256 bits.
+pub const MAX_SET: usize = LEN_SET_HEAD + 8 * LEN_WORD;
+
 /// The longest content of a DATA: a datum of the longest value.
 pub const MAX_CONTENT: usize = LEN_DATUM_HEAD + MAX_VALUE;
 

@@ -10,11 +10,12 @@ ghost use Rattle.std.specs.List.{flat_map};
 ghost use Rattle.std.specs.Int.{w32};
 ghost use Rattle.dds_base.specs.Fields.{number};
 ghost use Rattle.dds_base.specs.declared.endianness.Endianness.TheVariants.{Little};
+ghost use Rattle.rtps_wire.specs.Names.{max_bits, max_sn};
 ghost use Rattle.rtps_wire.specs.Sets.{words_for, set_of, SetField, word_of, words_of, text_of_set, IsSet};
 ghost use Rattle.rtps_wire.specs.SetAt.{words_at, set_field_at, set_at};
 
 use crate::field::{MAX_SN, put_u64, take_sn};
-use crate::names::{LEN_SET_HEAD, LEN_WORD};
+use crate::names::{LEN_SET_HEAD, LEN_WORD, MAX_SET};
 use arrayvec::ArrayVec;
 use dds_base::{Code, Endianness, Sn, take_u32};
 use rtps_sets::{MAX_BITS, SnSet};
@@ -36,8 +37,8 @@ fn take_words(order: Endianness, count: usize, bytes: &[u8]) -> Option<(ArrayVec
 
 /// The set whose members the bits name.
 fn set_from(base: u64, count: usize, words: &[u32]) -> SnSet
-    requires base { base ≤ 2 ^ 62 }
-    requires count { count ≤ 256 }
+    requires base { base ≤ max_sn }
+    requires count { count ≤ max_bits }
     requires words { length words.now ≡ words_for count }
     ensures { result ≡ set_of (record { base = base; num_bits = count; words = words.now }) }
 {
@@ -68,8 +69,8 @@ pub fn take_set(order: Endianness, bytes: &[u8]) -> Option<(SnSet, &[u8])>
 
 /// The word of the 32 places from this one on.
 fn word_from(set: &SnSet, place: usize) -> u32
-    requires base { set.now.base ≤ 2 ^ 62 }
-    requires place { place ≤ 256 }
+    requires base { set.now.base ≤ max_sn }
+    requires place { place ≤ max_bits }
     ensures { result ≡ word_of 32 (drop place set.now.members) }
 {
     let base = set.base().number();
@@ -83,7 +84,7 @@ fn word_from(set: &SnSet, place: usize) -> u32
 }
 
 fn put_words(out: &mut Vec<u8>, set: &SnSet, count: usize) -> Result<(), Code>
-    requires base { set.now.base ≤ 2 ^ 62 }
+    requires base { set.now.base ≤ max_sn }
     requires count { count ≤ 8 }
     ensures ok { OnOk result (out.new.items
         ≡ out.old.items ++ flat_map (number Little w32) (words_of count set.now.members)) }
@@ -119,7 +120,7 @@ pub fn is_set(set: &SnSet) -> bool
 /// How many octets a set takes.
 pub fn set_len(set: &SnSet) -> usize
     ensures len { result ≡ length (text_of_set set.now) }
-    ensures small { result ≤ 44 }
+    ensures small { result ≤ MAX_SET }
 {
     LEN_SET_HEAD + LEN_WORD * ((set.bits() + 31) / 32)
 }

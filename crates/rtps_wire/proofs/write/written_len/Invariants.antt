@@ -1,7 +1,7 @@
 use Rattle.std.proofs.Common.{◌≡◌, ◌+◌, ◌≤◌, take, length}
 use Rattle.std.specs.List.{flat_map, AllByRecursion}
 use Rattle.rtps_wire.specs.Submessages.{spelling_of_submessage, IsSpellable}
-use Rattle.rtps_wire.proofs.write.is_writable.Given as goal
+use Rattle.rtps_wire.proofs.write.written_len.Given as goal
 
 abbrev pub invariant-loop-submessage : goal.invariant-loop-submessage
 invariant-loop-submessage l = record {

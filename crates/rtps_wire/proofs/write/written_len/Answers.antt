@@ -3,7 +3,7 @@ use Rattle.std.specs.List.{flat_map}
 use Rattle.rtps_wire.specs.declared.submessage.Submessage.{Submessage}
 use Rattle.rtps_wire.specs.Submessages.{spelling_of_submessage}
 use Rattle.rtps_wire.proofs.SpellingLaws.{too_long}
-use Rattle.rtps_wire.proofs.write.is_writable.Goals as goal
+use Rattle.rtps_wire.proofs.write.written_len.Goals as goal
 
 pub returns-then-len-gt-MAX_MESSAGE : goal.returns-then-len-gt-MAX_MESSAGE
 returns-then-len-gt-MAX_MESSAGE c =
