@@ -1,24 +1,28 @@
 -- The present samples are counted among those kept.
-use Rattle.std.proofs.Common.{◌≡◌, ℕ, ◌+◌, List, [], ◌∷◌, ◌++◌, length, map, filter, Bool, true, false, ◌||◌, sym, ap, ◌∙◌, refl, cond, arith, suc, ⊎_elim}
+use Rattle.std.proofs.Common.{◌≡◌, ℕ, ◌+◌, List, [], ◌∷◌, ◌++◌, length, map, filter, get_or, Bool, true, false, ◌&&◌, ◌||◌, sym, ap, ◌∙◌, refl, cond, arith, suc, ⊎_elim}
 use Rattle.std.specs.List.{list_any, All, flat_map, count_by, IsDistinct, AllByRecursion}
-use Rattle.std.specs.Prelude.{nat_lt}
+use Rattle.std.specs.Prelude.{if◌then◌else◌, nat_lt}
 use Rattle.std.proofs.lemmas.Bool.{cases_Bool, lt-ltb}
 use Rattle.std.proofs.lemmas.List.{length-append, length-map}
 use Rattle.std.proofs.lemmas.List.Sums.{length-filter, sum_by-cons}
 use Rattle.std.proofs.lemmas.List.Elements.{All-cons, All-head, All-tail, All-weaker}
+use Rattle.std.proofs.lemmas.List.Folds.{list_any_none}
 use Rattle.std.proofs.lemmas.List.Concat.{flat_map-cons}
 use Rattle.std.proofs.lemmas.Map.Keys.{IsDistinct-head, IsDistinct-tail}
 use Rattle.dds_base.specs.declared.key.Key.{Key}
 use Rattle.dds_base.specs.declared.happening.SamplePosition.{SamplePosition}
 use Rattle.dds_base.specs.declared.happening.Happening.{Happening}
+use Rattle.dds_base.specs.declared.mask.Masks.{Masks}
 use Rattle.dds_base.specs.declared.qos.ReaderQos.{ReaderQos}
+use Rattle.dds_base.specs.declared.sample.SampleState.TheVariants.{Read as HasBeenRead, NotRead}
+use Rattle.dds_base.specs.Access.{asks_for_instance_state, asks_for_sample_state, asks_for_view_state, has_match, value_of}
 use Rattle.dds_base.specs.Happening.{same_key}
-use Rattle.dds_base.specs.Instance.{known_instances}
+use Rattle.dds_base.specs.Instance.{instance_state_of, known_instances, view_state_of}
 use Rattle.dds_base.specs.Presence.{is_present, present_of, present_samples, up_to}
 use Rattle.dds_base.proofs.KeyLaws.{key-same, same_key-comm}
 use Rattle.dds_cache.specs.declared.kept.Kept.{Kept}
-use Rattle.dds_cache.specs.Kept.{IsKept, positions_in, sample_at}
-use Rattle.dds_cache.specs.Finding.{passes, sample_of}
+use Rattle.dds_cache.specs.Kept.{IsKept, WasRead, positions_in, sample_at}
+use Rattle.dds_cache.specs.Finding.{is_asked_for, passes, sample_of}
 use Rattle.dds_cache.proofs.GroupLaws.{flat_map-same}
 use Rattle.dds_cache.proofs.FindingLaws.{filter-flat_map, known-distinct, wanted-of}
 
@@ -143,3 +147,28 @@ present-any q h test ks kept present =
     (All-weaker (IsKept q h) (λ (k : Kept). list_any (λ i. same_key i k.sample.key) (known_instances q h) ≡ true)
     (λ k is. is.is_known) ks kept) present)
     ∙ sym (any-count (passes q h test) ks))
+
+-- none of those that a read returned passes where the masks don't ask for such
+pub read-none : (q : ReaderQos) (h : List Happening) (masks : Masks) (test : Key → List ℕ → Bool) (ks : List Kept)
+    → All (IsKept q h) ks → ((i : Key) → filter (is_present q h i) (up_to (length h)) ≡ positions_in q h i ks)
+    → All WasRead ks → asks_for_sample_state masks.samples HasBeenRead ≡ false → has_match q h masks test ≡ false
+read-none q h masks test ks kept present read unasked =
+    present-any q h (is_asked_for q h masks test) ks kept present
+    ∙ list_any_none (passes q h (is_asked_for q h masks test)) ks
+    (λ k d within. fails (get_or ks k d) (kept k d within) (read k d within))
+  where
+    and-false : (b : Bool) → (b && false) ≡ false
+    and-false true = refl
+    and-false false = refl
+
+    fails : (k : Kept) → IsKept q h k → WasRead k → passes q h (is_asked_for q h masks test) k ≡ false
+    fails k is was =
+        ap (λ (b : Bool). is_present q h k.sample.key k.sample.position && ((asks_for_sample_state masks.samples
+        (if b then HasBeenRead else NotRead) && (asks_for_view_state masks.views (view_state_of q k.sample.key h)
+        && asks_for_instance_state masks.instances (instance_state_of q k.sample.key h)))
+        && test k.sample.key (value_of q h k.sample))) (sym is.read_is ∙ was)
+        ∙ (ap (λ (b : Bool). is_present q h k.sample.key k.sample.position && ((b
+        && (asks_for_view_state masks.views (view_state_of q k.sample.key h)
+        && asks_for_instance_state masks.instances (instance_state_of q k.sample.key h)))
+        && test k.sample.key (value_of q h k.sample))) unasked
+        ∙ and-false (is_present q h k.sample.key k.sample.position))

@@ -1,10 +1,11 @@
 -- How many writes are present after a change.
-use Rattle.std.proofs.Common.{◌≡◌, ℕ, ◌+◌, ◌-◌, ◌≤◌, List, [], ◌∷◌, ◌++◌, length, filter, Bool, true, false, not, ◌==◌, ◌&&◌, ◌||◌, sym, ap, ◌∙◌, refl, subst, cond, Option, Some, arith, ⊎_elim}
-use Rattle.std.specs.Prelude.{if◌then◌else◌}
+use Rattle.std.proofs.Common.{◌≡◌, ℕ, ◌+◌, ◌-◌, ◌^◌, ◌≤◌, ◌<◌, min, List, [], ◌∷◌, ◌++◌, length, filter, Bool, true, false, not, ◌==◌, ◌&&◌, ◌||◌, sym, ap, ◌∙◌, refl, subst, cond, Option, Some, None, arith, ⊎_elim}
+use Rattle.std.specs.Prelude.{if◌then◌else◌, is_some}
 use Rattle.std.specs.List.{list_any, All, count_by}
-use Rattle.std.proofs.lemmas.Bool.{cases_Bool}
+use Rattle.std.proofs.lemmas.Bool.{cases_Bool, le-leb, leb-true, lt-ltb}
 use Rattle.std.proofs.lemmas.Bool.Decides.{nat_tests}
-use Rattle.std.proofs.lemmas.List.Sums.{sum_by-append, sum_by-cons}
+use Rattle.std.proofs.lemmas.List.{length-append}
+use Rattle.std.proofs.lemmas.List.Sums.{sum_by-append, sum_by-cons, count_by-le-length}
 use Rattle.std.proofs.lemmas.List.Elements.{All-append, All-weaker}
 use Rattle.dds_base.specs.declared.key.Key.{Key}
 use Rattle.dds_base.specs.declared.change.ChangeKind.{ChangeKind}
@@ -13,15 +14,16 @@ use Rattle.dds_base.specs.declared.happening.SamplePosition.{SamplePosition}
 use Rattle.dds_base.specs.declared.happening.Happening.{Happening}
 use Rattle.dds_base.specs.declared.happening.Happening.TheVariants.{Came}
 use Rattle.dds_base.specs.declared.qos.ReaderQos.{ReaderQos}
-use Rattle.dds_base.specs.Happening.{same_key, as_of}
+use Rattle.dds_base.specs.Happening.{arrivals, same_key, as_of}
 use Rattle.dds_base.specs.Ownership.{accepted_kind}
-use Rattle.dds_base.specs.Instance.{is_write, known_instances, disposed_generations, no_writers_generations}
-use Rattle.dds_base.specs.Presence.{accepted_writes, ends_with_write, is_at, is_kept_write, is_present, keeps, last_marker, later_writes, marks, present_writes, up_to}
+use Rattle.dds_base.specs.Instance.{introduces, is_write, known_instances, last_accepted, or_else, disposed_generations, no_writers_generations}
+use Rattle.dds_base.specs.Presence.{accepted_writes, ends_with_write, has_room, is_accepted, is_at, is_kept_write, is_present, is_within, keeps, last_marker, later_writes, marks, present_writes, up_to}
 use Rattle.dds_base.specs.Access.{handle_of, timestamp_of, publication_of, newest_value}
 use Rattle.dds_base.proofs.KeyLaws.{key-same, same_key-comm}
 use Rattle.dds_instances.specs.declared.known.KnownInstance.{KnownInstance}
 use Rattle.dds_instances.specs.Known.{IsKnown}
 use Rattle.dds_instances.specs.Track.{one_if}
+use Rattle.dds_instances.proofs.KnownLaws.{known}
 use Rattle.dds_instances.proofs.TrackLaws.{accepted-other}
 use Rattle.dds_cache.specs.declared.kept.Kept.{Kept}
 use Rattle.dds_cache.specs.Kept.{Adds, IsFresh, IsKept, IsKeptAt, IsOf, positions_in, position_of, sample_at}
@@ -263,3 +265,66 @@ leaves-write q a h w m written marked fresh =
         ∙ sym (ap (λ (b : Bool). is_at (if b then Some (length h + 1) else last_marker q i h) (length h + 1))
         unmarked)))
         (cases_Bool (marks q i h e))
+
+within-less : (limit : Option ℕ) (n m : ℕ) → n ≤ m → is_within limit m ≡ true → is_within limit n ≡ true
+within-less None n m less within = refl
+within-less (Some most) n m less within = le-leb n most (omega (arith, less, leb-true m most within))
+
+-- an instance is known of which a change was accepted
+pub known-accepted : (q : ReaderQos) (a : Arrival) (h : List Happening) → is_accepted q h (Came a) ≡ true
+    → list_any (λ k. same_key k a.change.key) (known_instances q (Came a ∷ h)) ≡ true
+known-accepted q a h accepted =
+    known q (Came a ∷ h) a.change.key
+    ∙ some-first (accepted_kind q a.change.key h (Came a)) (last_accepted q a.change.key h) accepted
+  where
+    some-first : (a b : Option ChangeKind) → is_some a ≡ true → is_some (or_else a b) ≡ true
+    some-first None b e = absurd cc
+    some-first (Some k) b e = refl
+
+-- with fewer samples than may be present, there is room for one more
+pub spare-fits : (q : ReaderQos) (a : Arrival) (h : List Happening) (ks : List Kept) → All (IsKept q h) ks
+    → ((i : Key) → filter (is_present q h i) (up_to (length h)) ≡ positions_in q h i ks) → IsFresh h a.change.key
+    → is_accepted q h (Came a) ≡ true → is_within q.max_samples (length ks + 1) ≡ true
+    → is_within q.max_samples (present_writes q (Came a ∷ h)) ≡ true
+spare-fits q a h ks each present fresh accepted within =
+    let count = writes-after q a h ks each present fresh (known-accepted q a h accepted) in
+    let few = count_by-le-length (is_present_write q (Came a ∷ h)) ks in
+    let one = at-most-one (leaves_write q a h) in
+    within-less q.max_samples (present_writes q (Came a ∷ h)) (length ks + 1) (omega (arith, count, few, one)) within
+  where
+    at-most-one : (b : Bool) → one_if b ≤ 1
+    at-most-one true = omega arith
+    at-most-one false = omega arith
+
+-- where one sample and one instance more keep to the limits, there is room for each change
+pub spare-is-room : (q : ReaderQos) (a : Arrival) (h : List Happening) (ks : List Kept) (came known : ℕ)
+    → All (IsKept q h) ks → ((i : Key) → filter (is_present q h i) (up_to (length h)) ≡ positions_in q h i ks)
+    → IsFresh h a.change.key → came ≡ min (arrivals h) (2 ^ 31 - 1) → came < 2 ^ 31 - 2
+    → known ≡ length (known_instances q h) → is_within q.max_samples (length ks + 1) ≡ true
+    → is_within q.max_instances (known + 1) ≡ true → true ≡ has_room q h (Came a)
+spare-is-room q a h ks came known each present fresh counted few known_is samples instances =
+    sym (ap (λ (b : Bool). b && fits (is_accepted q h (Came a))) (lt-ltb (arrivals h + 1) (2 ^ 31 - 1)
+    (omega (arith, counted, few)))
+    ∙ ⊎_elim
+    (λ accepted. ap fits accepted
+    ∙ (ap (λ (b : Bool). b && is_within q.max_instances (length (known_instances q (Came a ∷ h))))
+    (spare-fits q a h ks each present fresh accepted samples)
+    ∙ within-less q.max_instances (length (known_instances q (Came a ∷ h))) (known + 1)
+    (one-more (introduces q a.change.key h (Came a)) (known_instances q h) a.change.key known known_is) instances))
+    (λ refused. ap fits refused)
+    (cases_Bool (is_accepted q h (Came a))))
+  where
+    fits : Bool → Bool
+    fits accepted = not accepted || (is_within q.max_samples (present_writes q (Came a ∷ h))
+        && is_within q.max_instances (length (known_instances q (Came a ∷ h))))
+
+    one-more : (b : Bool) (ks : List Key) (k : Key) (n : ℕ) → n ≡ length ks
+        → length (ks ++ (if b then k ∷ [] else [])) ≤ n + 1
+    one-more b ks k n is =
+        let sum : length (ks ++ (if b then k ∷ [] else [])) ≡ length ks + length (if b then k ∷ [] else []) =
+        length-append ks (if b then k ∷ [] else []) in
+        omega (arith, is, sum, one b k)
+      where
+        one : (b : Bool) (k : Key) → length (if b then k ∷ [] else []) ≤ 1
+        one true k = omega arith
+        one false k = omega arith

@@ -98,3 +98,7 @@ HaveSame ss ts = (s : SamplePosition) → list_any (same_sample s) ss ≡ list_a
 -- a kept sample after a read that returned these
 abbrev pub marked : List SamplePosition → Kept → Kept
 marked ss k = record k { is_read = is_among ss k || k.is_read }
+
+-- a read returned a kept sample
+abbrev pub WasRead : Kept → Type 0
+WasRead k = k.is_read ≡ true

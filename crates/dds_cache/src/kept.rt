@@ -2,10 +2,10 @@
 //!
 //! DDS 1.4, 2.2.2.5 (sample_state), 2.2.3 (HISTORY).
 
-ghost use Rattle.std.specs.Prelude.{◌≡◌, ◌+◌};
+ghost use Rattle.std.specs.Prelude.{◌≡◌, ◌+◌, true, All};
 ghost use Rattle.dds_base.specs.Presence.{keeps, is_at};
 ghost use Rattle.dds_instances.specs.Track.{one_if};
-ghost use Rattle.dds_cache.specs.Kept.{is_live, marked};
+ghost use Rattle.dds_cache.specs.Kept.{is_live, marked, WasRead};
 ghost use Rattle.dds_cache.specs.Room.{is_write_after};
 
 use dds_base::{Handle, HistoryQos, Moment, Octets, ReaderQos, SamplePosition};
@@ -45,6 +45,13 @@ pub fn is_kept_after(history: HistoryQos, later: u64, one_more: bool) -> bool
             }
         }
     }
+}
+
+/// Whether a read returned each of them.
+pub fn are_read(samples: &[Kept]) -> bool
+    ensures { result ≡ true → All WasRead samples.now }
+{
+    samples.iter().all(|kept| kept.is_read)
 }
 
 pub fn is_position(at: Option<u64>, position: u64) -> bool

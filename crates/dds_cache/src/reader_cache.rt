@@ -24,15 +24,16 @@ use crate::access_kind::AccessKind;
 use crate::arriving::{add_left, is_accepted_write};
 use crate::collection::{Access, gather};
 use crate::dying::add_markers;
-use crate::kept::Kept;
+use crate::kept::{Kept, are_read};
+use crate::masks::asks_for_sample;
 use crate::pick::{pick, picks_any};
 use crate::returned::settle;
 use crate::room::{count_arrival, is_room};
 use crate::sweeping::{next_sweep, sweep};
 use crate::test::Test;
 use dds_base::{
-    Arrival, Code, Handle, Key, Masks, Moment, ReaderQos, Sample, SamplePosition, Selection,
-    Sequence, Sn,
+    Arrival, Code, Handle, Key, Masks, Moment, ReaderQos, Sample, SamplePosition, SampleState,
+    Selection, Sequence, Sn,
 };
 use dds_instances::Instances;
 use std::alloc::Global;
@@ -54,6 +55,8 @@ pub struct ReaderCache {
     arrivals: u32,
     /// How many samples there are when they are swept next.
     sweep_at: usize,
+    /// Whether a read returned each of them that is kept.
+    all_read: bool,
     /// For how many more entries there is memory.
     room: usize,
     /// The position of the newest entry that brought a sample, if there is one and no read or take has followed it.
@@ -88,6 +91,7 @@ impl ReaderCache {
             samples: Vec::new(alloc),
             arrivals: 0,
             sweep_at: next_sweep(0),
+            all_read: true,
             room: 0,
             data_at: None,
         }
@@ -151,6 +155,7 @@ impl ReaderCache {
         );
         let newest = self.instances.happened();
         self.data_at = data_after(self.data_at, before, self.samples.len(), newest);
+        self.all_read = false;
         self.room = self.room.saturating_sub(1);
     }
 
@@ -175,6 +180,7 @@ impl ReaderCache {
         );
         let newest = self.instances.happened();
         self.data_at = data_after(self.data_at, before, self.samples.len(), newest);
+        self.all_read = false;
         self.arrivals = count_arrival(self.arrivals);
         self.room -= 1;
     }
@@ -306,7 +312,7 @@ impl ReaderCache {
     /// Whether there is room for a change by the limits of the policies: fewer than 2^31 - 1 changes came with it, and
     /// if it is accepted, the present writes and the known instances are as many as they may be. It needs no memory.
     ///
-    /// It goes once over the samples, if there is a limit to them.
+    /// It goes once over the samples, where as many are kept as may be present.
     ///
     /// DDS 1.4, 2.2.3 (RESOURCE_LIMITS).
     pub fn has_room(&self, arrival: &Arrival) -> bool
@@ -324,7 +330,7 @@ impl ReaderCache {
     }
 
     /// Whether some present sample meets the masks and passes the test. It needs no memory, and goes once over the
-    /// samples.
+    /// samples, but where reads returned all of them and the masks ask for others.
     ///
     /// DDS 1.4, 2.2.2.5 (ReadCondition, QueryCondition: get_trigger_value).
     pub fn has_match<T: Test>(&self, masks: Masks, test: &T) -> bool
@@ -332,6 +338,9 @@ impl ReaderCache {
         ensures matched { (h : List Happening) → StandsFor self.now h
             → result ≡ has_match (qos_of self.now) h masks (T.meaning test.now) }
     {
+        if self.all_read && !asks_for_sample(masks.samples, SampleState::Read) {
+            return false;
+        }
         let any = Selection::Any { max: -1, masks };
         is_any_match(&self.instances, &self.qos, &any, masks, test, &self.samples)
     }
@@ -394,6 +403,7 @@ impl ReaderCache {
     {
         self.instances.returned(&access.positions)?;
         settle(kind, &mut self.samples, &access.returned);
+        self.all_read = are_read(&self.samples);
         self.room = self.room.saturating_sub(1);
         self.data_at = None;
         Ok(())

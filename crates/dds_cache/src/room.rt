@@ -117,7 +117,8 @@ fn samples_fit(instances: &Instances, qos: &ReaderQos, arrival: &Arrival, sample
         → is_accepted qos.now h (Came arrival.now) ≡ true
         → result ≡ is_within qos.now.max_samples (present_writes qos.now (Came arrival.now ∷ h)) }
 {
-    if qos.max_samples.is_none() {
+    // With fewer samples than may be present, whichever of them are, there is room for one more.
+    if keeps_to(qos.max_samples, samples.len(), true) {
         return true;
     }
     let is_write = is_accepted_write(instances, qos, arrival);
@@ -125,6 +126,14 @@ fn samples_fit(instances: &Instances, qos: &ReaderQos, arrival: &Arrival, sample
     let count = count_writes(instances, qos, arrival, is_write, is_marked, samples);
     let is_left = is_write && (is_kept_after(qos.history, 0, false) || is_marked);
     keeps_to(qos.max_samples, count, is_left)
+}
+
+/// Whether one sample and one instance more than so many keep to the limits: then each change does.
+fn has_spare(qos: &ReaderQos, samples: usize, instances: usize) -> bool
+    ensures samples { result ≡ true → is_within qos.now.max_samples (samples + 1) ≡ true }
+    ensures instances { result ≡ true → is_within qos.now.max_instances (instances + 1) ≡ true }
+{
+    keeps_to(qos.max_samples, samples, true) && keeps_to(qos.max_instances, instances, true)
 }
 
 /// Whether there is room for a change at a reader of these policies, at which so many came.
@@ -140,8 +149,12 @@ pub fn is_room(
         → arrivals ≡ min (arrivals_of h) (2 ^ 31 - 1)
         → result ≡ has_room qos.now h (Came arrival.now) }
 {
-    arrivals < MAX_ARRIVALS - 1
-        && (!instances.accepts(qos, arrival)
-            || samples_fit(instances, qos, arrival, samples)
-                && instances_fit(instances, qos, arrival))
+    if MAX_ARRIVALS - 1 <= arrivals {
+        return false;
+    }
+    if has_spare(qos, samples.len(), instances.len()) {
+        return true;
+    }
+    !instances.accepts(qos, arrival)
+        || samples_fit(instances, qos, arrival, samples) && instances_fit(instances, qos, arrival)
 }

@@ -6,6 +6,7 @@ ghost use Rattle.std.specs.Prelude.{◌≡◌, ◌≤◌, ◌+◌, ◌-◌, ◌*
 ghost use Rattle.dds_base.specs.declared.happening.Happening.{Happening};
 ghost use Rattle.dds_instances.specs.Table.{Stands};
 ghost use Rattle.dds_cache.specs.Finding.{IsSmall};
+ghost use Rattle.dds_cache.specs.Kept.{WasRead};
 ghost use Rattle.dds_cache.specs.Sweeping.{stays};
 
 use crate::kept::Kept;
@@ -31,6 +32,7 @@ pub fn sweep(instances: &Instances, qos: &ReaderQos, samples: &mut Vec<Kept>)
     ensures items { (h : List Happening) → Stands qos.now instances.now h
         → samples.new.items ≡ filter (stays qos.now h) samples.old.items }
     ensures small { All IsSmall samples.old.items → All IsSmall samples.new.items }
+    ensures read { All WasRead samples.old.items → All WasRead samples.new.items }
     ensures len { vec_len samples.new ≤ vec_len samples.old }
     ensures capacity { vec_capacity samples.new ≡ vec_capacity samples.old }
 {

@@ -1,24 +1,19 @@
 use Rattle.std.proofs.Common.{◌≡◌, ℕ, ◌+◌, List, ◌∷◌, Bool, true, ◌&&◌, ◌||◌, sym, ap, ◌∙◌, refl, Option, Some, None}
-use Rattle.std.specs.Prelude.{is_some}
-use Rattle.std.specs.List.{list_any, count_by}
-use Rattle.dds_base.specs.declared.change.ChangeKind.{ChangeKind}
+use Rattle.std.specs.List.{count_by}
 use Rattle.dds_base.specs.declared.happening.Happening.{Happening}
 use Rattle.dds_base.specs.declared.happening.Happening.TheVariants.{Came}
 use Rattle.dds_base.specs.declared.qos.ReaderQos.{ReaderQos}
-use Rattle.dds_base.specs.Happening.{same_key}
-use Rattle.dds_base.specs.Ownership.{accepted_kind}
-use Rattle.dds_base.specs.Instance.{known_instances, last_accepted, or_else}
 use Rattle.dds_base.specs.Presence.{ends_with_write, is_within, keeps, marks}
 use Rattle.dds_instances.specs.Track.{one_if}
-use Rattle.dds_instances.proofs.KnownLaws.{known}
 use Rattle.dds_cache.specs.Room.{is_present_write}
-use Rattle.dds_cache.proofs.RoomLaws.{leaves_write, leaves-write, writes-after}
+use Rattle.dds_cache.proofs.RoomLaws.{known-accepted, leaves_write, leaves-write, spare-fits, writes-after}
 use Rattle.dds_cache.proofs.room.samples_fit.Goals as goal
 use Rattle.dds_cache.proofs.room.samples_fit.Goals.{then-is_write+then-is_kept_after, then-is_write+else-is_kept_after, else-is_write}
 
-some-first : (a b : Option ChangeKind) → is_some a ≡ true → is_some (or_else a b) ≡ true
-some-first None b e = absurd cc
-some-first (Some k) b e = refl
+pub returns-then-keeps_to : goal.returns-then-keeps_to
+returns-then-keeps_to c = λ h holds fresh accepted.
+    sym (spare-fits c.args.qos.now c.args.arrival.now h c.args.samples.now holds.each holds.present fresh accepted
+    (sym c.keeps_to.ensures ∙ c.if-keeps_to.true))
 
 pub returns : goal.returns
 returns c = λ h holds fresh accepted.
@@ -51,11 +46,8 @@ returns c = λ h holds fresh accepted.
     let leaves : c.if-is_write.is_left ≡ leaves_write q c.args.arrival.now h =
     left ∙ leaves-write q c.args.arrival.now h c.is_accepted_write-is_write.result c.would_mark-is_marked.result
     written marked fresh in
-    let known_is : list_any (λ k. same_key k c.args.arrival.now.change.key) (known_instances q g) ≡ true =
-    known q g c.args.arrival.now.change.key
-    ∙ some-first (accepted_kind q c.args.arrival.now.change.key h (Came c.args.arrival.now))
-    (last_accepted q c.args.arrival.now.change.key h) accepted in
-    c.keeps_to.ensures
+    c.keeps_to-2.ensures
     ∙ ap (λ (n : ℕ). is_within q.max_samples n) (ap (λ (n : ℕ). n + one_if c.if-is_write.is_left) count
     ∙ (ap (λ (b : Bool). count_by (is_present_write q g) c.args.samples.now + one_if b) leaves
-    ∙ sym (writes-after q c.args.arrival.now h c.args.samples.now holds.each holds.present fresh known_is)))
+    ∙ sym (writes-after q c.args.arrival.now h c.args.samples.now holds.each holds.present fresh
+    (known-accepted q c.args.arrival.now h accepted))))

@@ -1,4 +1,4 @@
-use Rattle.std.proofs.Common.{List, sym, subst, refl, ◌∙◌, arith}
+use Rattle.std.proofs.Common.{List, rules, sym, subst, refl, ◌∙◌, arith}
 use Rattle.std.specs.List.{All}
 use Rattle.dds_base.specs.declared.happening.SamplePosition.{SamplePosition}
 use Rattle.dds_cache.specs.declared.kept.Kept.{Kept}
@@ -28,6 +28,7 @@ invariant_of-self-2 c = record {
       );
   small = subst (λ (ks : List Kept). All IsSmall ks) (sym c.settle.ensures.items)
       (small-settled c.args.kind c.args.access.now.returned.keys c.self.inside.samples.items c.self.invariant.small);
+  read = search rules;
 }
 
 pub returns-clause-ok : goal.returns-clause-ok
