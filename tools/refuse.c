@@ -35,12 +35,12 @@ void *malloc(size_t size) {
     static void *(*next)(size_t);
     if (!next)
         next = dlsym(RTLD_NEXT, "malloc");
-    return ++count == refused ? NULL : next(size);
+    return __atomic_add_fetch(&count, 1, __ATOMIC_SEQ_CST) == refused ? NULL : next(size);
 }
 
 void *realloc(void *memory, size_t size) {
     static void *(*next)(void *, size_t);
     if (!next)
         next = dlsym(RTLD_NEXT, "realloc");
-    return ++count == refused ? NULL : next(memory, size);
+    return __atomic_add_fetch(&count, 1, __ATOMIC_SEQ_CST) == refused ? NULL : next(memory, size);
 }
