@@ -56,10 +56,10 @@ pub enum Code {
     IllegalOperation,
     /// MEMORY, 100, of this project: no memory was found for a growth. Whatever allocates answers it.
     Memory,
-    /// LINK, 101, of this project: a socket failed. No call answers it.
+    /// LINK, 101, of this project: a socket failed. No call answers it; a link does, and whoever serves a peer over one.
     Link,
     /// MISMATCH, 103, of this project: what a thread recorded of its calls differs from what the peer recorded. No call
-    /// answers it.
+    /// answers it; closing a shared peer does.
     Mismatch,
 }
 
