@@ -9,7 +9,8 @@ ghost use Rattle.dds_base.specs.Code.{number_of_code, name_of_code};
 use std::alloc::{AllocError, AllocFailed};
 use std::fmt;
 
-/// The return code of a call: the thirteen of the standard, with its numbers, then three of this project.
+/// The return code of a call: the thirteen of the standard, with its numbers, then three of this project. What is said
+/// below of calls is of all crates.
 ///
 /// A call that is refused with a code has changed nothing, unless its own documentation says more. Printed, a code has
 /// the standard's spelling: `BAD_PARAMETER`.
@@ -31,10 +32,12 @@ pub enum Code {
     /// for a packet that was not sent.
     BadParameter,
     /// PRECONDITION_NOT_MET, 4: a call that may not come yet. An unregister answers it for an instance that is not
-    /// registered at its writer, and calls about conditions and WaitSets as `Call` says.
+    /// registered at its writer, calls about conditions and WaitSets as `Call` says, the setting of a listener for one
+    /// that keeps notices already, and the closing of a shared peer where a pass is missing.
     PreconditionNotMet,
     /// OUT_OF_RESOURCES, 5: a counter is at its limit. What makes a change answers it after 2^48 changes of its writer,
-    /// an assertion after 2^31 - 1 counts, and what makes a condition, a WaitSet or a filter where no number is left.
+    /// an assertion after 2^31 - 1 counts, what makes a condition, a WaitSet or a filter where no number is left, and
+    /// the splitting of a pass where no seat is.
     OutOfResources,
     /// NOT_ENABLED, 6: an entity that is not enabled yet. No call answers it, since each peer is enabled from the
     /// start.
@@ -54,12 +57,13 @@ pub enum Code {
     NoData,
     /// ILLEGAL_OPERATION, 12: a call on an entity that doesn't have it. No call answers it.
     IllegalOperation,
-    /// MEMORY, 100, of this project: no memory was found for a growth. Whatever allocates answers it.
+    /// MEMORY, 100, of this project: no memory was found. Whatever allocates answers it.
     Memory,
-    /// LINK, 101, of this project: a socket failed. No call answers it; a link does, and whoever serves a peer over one.
+    /// LINK, 101, of this project: what carries packets is broken, as a socket that failed. What receives from a link
+    /// answers it, and so does a worker that serves a peer over one. No call of a peer does.
     Link,
-    /// MISMATCH, 103, of this project: what a thread recorded of its calls differs from what the peer recorded. No call
-    /// answers it; closing a shared peer does.
+    /// MISMATCH, 103, of this project: what a thread recorded of its calls differs from what the peer recorded. The
+    /// closing of a shared peer answers it. No call of a peer does.
     Mismatch,
 }
 

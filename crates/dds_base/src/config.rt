@@ -25,7 +25,7 @@ pub struct WriterConfig {
     /// A depth is at least 1, and at most `max_samples` where that is a limit.
     pub history: HistoryQos,
     /// How many changes it may keep until they are acknowledged: positive, or -1 for no limit (DDS 1.4, 2.2.3,
-    /// RESOURCE_LIMITS, LENGTH_UNLIMITED).
+    /// RESOURCE_LIMITS, LENGTH_UNLIMITED). `docs/DECISIONS.md`, "Types", says why it is no `Option`.
     pub max_samples: i32,
     /// Of the writers of an exclusive instance the strongest owns it (DDS 1.4, 2.2.3, OWNERSHIP_STRENGTH).
     pub strength: i32,

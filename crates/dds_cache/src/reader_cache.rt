@@ -99,6 +99,7 @@ impl ReaderCache {
 
     /// Makes room for so many more entries: as many that follow find it. Each of them then has a place for the sample that
     /// it brings, and one for the sample that the end of its instance leaves, so a death wants no memory.
+    /// `docs/DECISIONS.md`, "A reader's cache", says what that costs.
     ///
     /// # Errors
     ///
@@ -213,7 +214,7 @@ impl ReaderCache {
     }
 
     /// Takes up a change that came. Its writer is a matched one. Room by the limits of the policies is the caller's
-    /// affair: a change is taken up also where they are then exceeded.
+    /// affair: a change is taken up also where they are then exceeded. `docs/DECISIONS.md`, "A reader's cache".
     ///
     /// # Errors
     ///
@@ -410,7 +411,8 @@ impl ReaderCache {
     }
 
     /// Reads or takes the present samples that the selection asks for and that pass the test; `Everything` is the test
-    /// that each sample passes. The next sample is picked without the test.
+    /// that each sample passes. The next sample is picked without the test. `docs/DECISIONS.md`, "A reader's cache",
+    /// says why they are one.
     ///
     /// # Errors
     ///

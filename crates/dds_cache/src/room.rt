@@ -136,7 +136,8 @@ fn has_spare(qos: &ReaderQos, samples: usize, instances: usize) -> bool
     keeps_to(qos.max_samples, samples, true) && keeps_to(qos.max_instances, instances, true)
 }
 
-/// Whether there is room for a change at a reader of these policies, at which so many came.
+/// Whether there is room for a change at a reader of these policies, at which so many came. Present samples are counted
+/// for it where it is short: `docs/DECISIONS.md`, "A reader's cache".
 pub fn is_room(
     instances: &Instances,
     qos: &ReaderQos,

@@ -13,7 +13,7 @@ use crate::kept::Kept;
 use dds_base::ReaderQos;
 use dds_instances::Instances;
 
-/// Fewer samples than this are not swept.
+/// Fewer samples than this are not swept. `docs/DECISIONS.md`, "A reader's cache", says when others are.
 const SWEPT_FROM: usize = 16;
 
 /// Whether a kept sample may still be present.

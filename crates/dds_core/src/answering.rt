@@ -22,7 +22,7 @@ use rtps_wire::{AckNack, Data, DataContent, Gap, Message, Submessage, Submessage
 use rtps_writer::{Answer, StatefulWriter};
 use std::alloc::{AllocError, Global};
 
-/// How many answers stand in a packet at most.
+/// How many answers stand in a packet at most. `docs/DECISIONS.md`, "Sets, windows and the grammar".
 const MAX_ANSWERS: usize = 8;
 
 /// Room for the answers to an ACKNACK.

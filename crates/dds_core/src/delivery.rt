@@ -141,7 +141,8 @@ impl Peer {
         }
     }
 
-    /// Makes ready what a submessage tells, for each of the peer's readers.
+    /// Makes ready what a submessage tells, for each of the peer's readers, before the first takes it up.
+    /// `docs/DECISIONS.md`, "Peers and the network".
     fn make_ready(
         &mut self,
         receiver: &MessageReceiver,

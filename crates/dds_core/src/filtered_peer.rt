@@ -1,6 +1,6 @@
 //! A peer with the filters of its application.
 //!
-//! DDS 1.4, 2.2.2.5 (QueryCondition).
+//! DDS 1.4, 2.2.2.5 (QueryCondition). `docs/DECISIONS.md`, "Listeners, filters and WaitSets", says why it is a layer.
 
 ghost use Rattle.std.specs.Prelude.{◌≡◌, ◌<◌, ◌^◌, [], None, IfErr, IfOk, OnErr, length};
 ghost use Rattle.dds_base.specs.Refusal.{Refuses};

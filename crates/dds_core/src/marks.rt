@@ -1,6 +1,7 @@
 //! What the statuses of a peer said before an event, by which is known what the event raised.
 //!
-//! DDS 1.4, 2.2.4.2.1, 2.2.4.2.2 (changes in status).
+//! DDS 1.4, 2.2.4.2.1, 2.2.4.2.2 (changes in status). `docs/DECISIONS.md`, "Listeners, filters and WaitSets",
+//! says why it is seen from outside.
 
 ghost use Rattle.std.specs.Prelude.{◌≤◌, length};
 ghost use Rattle.dds_core.specs.Noticing.{MarksReaders, MarksWriters};

@@ -1,4 +1,6 @@
 //! The moves of a delivery, and the same once more where two reports are asked for.
+//!
+//! RTPS 2.5, 8.4 (behaviour). Outputs that are given twice are this project's own.
 
 ghost use Rattle.std.specs.Prelude.{◌≡◌, ◌++◌, ◌∷◌, [], ◌+◌, ◌≤◌, true, length, OnErr, OnOk, vec_capacity, vec_len};
 ghost use Rattle.dds_machine.specs.declared.reply.Reply.TheVariants.{Reported};

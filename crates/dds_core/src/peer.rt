@@ -79,7 +79,8 @@ impl Peer {
     }
 
     /// The time of the peer goes on: not back, and not to 2^63 or beyond. Those whose lease is over die at its readers,
-    /// then the HEARTBEATs that are due are sent.
+    /// then the HEARTBEATs that are due are sent. Deaths are counted before the first: `docs/DECISIONS.md`, "Peers and
+    /// the network".
     fn tick(&mut self, now: Moment) -> Output
         ensures step { Steps self.old (event.Tick now) result self.new }
         ensures sends { Sends self.old (event.Tick now) result }

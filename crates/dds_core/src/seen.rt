@@ -1,6 +1,7 @@
 //! What was seen of a reader's statuses.
 //!
-//! DDS 1.4, 2.2.4.1 (communication statuses: each tells its change against the last look).
+//! DDS 1.4, 2.2.4.1 (communication statuses: each tells its change against the last look). `docs/DECISIONS.md`, "A
+//! reader's cache", says why a look is kept as what it saw.
 
 ghost use Rattle.std.specs.Prelude.{◌≡◌};
 ghost use Rattle.dds_base.specs.StatusFlags.{is_after};

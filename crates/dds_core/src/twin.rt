@@ -1,4 +1,7 @@
 //! A reply that is given twice: the memory for the second one is asked for before anything changes.
+//!
+//! Outputs that are given twice are this project's own. `docs/DECISIONS.md`, "Peers and the network", says why none is
+//! copied after.
 
 ghost use Rattle.std.specs.Prelude.{◌≡◌, ◌+◌, ◌<◌, ◌^◌, ◌∷◌, ◌++◌, [], if◌then◌else◌, length};
 ghost use Rattle.dds_core.specs.Twins.{IsPlain, IsTwin, Leaves, Loses, is_asked};

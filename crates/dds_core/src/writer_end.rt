@@ -244,7 +244,7 @@ impl WriterEnd {
 
     /// Announces a change, which is to get this number, to each peer with a matched reader, at the moment of its peer, of
     /// this prefix. The change is lent before the history takes it: so it is announced whatever the history keeps, and a
-    /// packet is counted as unsent for want of memory alone.
+    /// packet is counted as unsent for want of memory alone. `docs/DECISIONS.md`, "Peers and the network".
     pub fn announce(
         &self,
         alloc: Global,

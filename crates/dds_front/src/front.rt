@@ -1,4 +1,6 @@
 //! How far a word was seen.
+//!
+//! Fronts are this project's own.
 
 ghost use Rattle.std.specs.Prelude.{◌≡◌, ◌≤◌, [], false, max};
 ghost use Rattle.dds_front.specs.Fronts.{knows};

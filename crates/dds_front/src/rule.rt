@@ -1,18 +1,20 @@
-// What holds of the word and of all who know something of it, and the steps that keep it.
+//! What holds of the word and of all who know something of it, and the steps that keep it.
+//!
+//! Fronts are this project's own.
 
 ghost use Rattle.std.specs.Prelude.{true, false};
 ghost use Rattle.dds_front.specs.Fronts.{knows};
 
 use atomic_table::{Join, Play, Split, TableRule};
 
-// What a seat knows. No value of it is made.
+/// What a seat knows. No value of it is made.
 #[derive(Clone, Copy)]
 pub struct View {
-    // Whether it is the keeper's.
+    /// Whether it is the keeper's.
     pub keeps: bool,
-    // What the keeper has counted; 0 of another seat.
+    /// What the keeper has counted; 0 of another seat.
     pub count: u64,
-    // A number that the word has reached.
+    /// A number that the word has reached.
     pub at: u64,
 }
 
@@ -27,7 +29,7 @@ impl TableRule<u64, View, ()> for Rule {
     ghost first = { λ _. knows true 0 0 };
 }
 
-// A seat looks how far the word is.
+/// A seat looks how far the word is.
 pub struct Look;
 
 impl Play<u64, View> for Look {
@@ -36,7 +38,7 @@ impl Play<u64, View> for Look {
     ghost then = { Looks };
 }
 
-// The keeper counts one more.
+/// The keeper counts one more.
 pub struct Count;
 
 impl Play<u64, View> for Count {
@@ -45,7 +47,7 @@ impl Play<u64, View> for Count {
     ghost then = { Counts };
 }
 
-// What one seat has seen, told to another.
+/// What one seat has seen, told to another.
 pub struct Note;
 
 impl Split<View> for Note {

@@ -1,4 +1,6 @@
 //! The word that counts.
+//!
+//! Fronts are this project's own.
 
 ghost use Rattle.std.specs.Prelude.{◌≡◌, true, []};
 ghost use Rattle.dds_front.specs.Fronts.{knows};

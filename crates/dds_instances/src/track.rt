@@ -16,7 +16,8 @@ ghost use Rattle.dds_instances.specs.Track.{state_of_track, one_if, fresh, seen_
 use dds_base::{Arrival, ChangeKind, Handle, InstanceState, Key, ReaderQos};
 use dds_owner::Owners;
 
-/// What is known of an instance after what has happened.
+/// What is known of an instance after what has happened. `docs/DECISIONS.md`, "A reader's cache", says why it has
+/// owners of its own, and why it is known for good.
 #[derive(Drop)]
 pub struct InstanceTrack {
     pub key: Key,

@@ -161,6 +161,7 @@ pub enum Call {
     },
     /// Somebody waits in a WaitSet, up to this moment (DDS 1.4, 2.2.2.1, wait). `BadParameter` for one that was not
     /// made, `PreconditionNotMet` where somebody waits in it already. It is never refused for want of memory.
+    /// `docs/DECISIONS.md`, "Listeners, filters and WaitSets", says why a wait is three calls.
     WaitBegin {
         wait_set: u32,
         deadline: Moment,
@@ -190,6 +191,7 @@ pub enum Call {
     },
 }
 
+// Arm by arm, so that the copy is equal to the call: `docs/DECISIONS.md`, "What is alike, and stays".
 impl Clone for Call {
     ghost is_clone = { λ call copy. copy ≡ call };
 

@@ -63,7 +63,8 @@ fn is_first(qos: &ReaderQos, writer: Handle, registrations: &[Registration]) -> 
         .all(|other| is_no_rival(qos, writer, other))
 }
 
-/// The kind of the change, if it is a write or a dispose of the owner, or of anybody where ownership is shared.
+/// The kind of the change, if it is a write or a dispose of the owner, or of anybody where ownership is shared. Nobody
+/// is asked who owns: `docs/DECISIONS.md`, "A reader's cache".
 pub fn accepted_by(
     qos: &ReaderQos,
     registrations: &[Registration],

@@ -1,4 +1,6 @@
-// The application of a pair: it writes samples at one peer and takes them at the other.
+//! The application of a pair: it writes samples at one peer and takes them at the other.
+//!
+//! Pairs are this project's own.
 
 use crate::workers::Task;
 use dds_base::{Code, Key, Masks, Octets, Selection};
@@ -18,9 +20,10 @@ use std::time::{Clock, Duration};
 const KEY: Key = Key([0, 0, 0, 0, 0, 0, 0, 0, 0, 0, 0, 0, 0, 0, 0, 1]);
 
 // How often it takes at most: where nothing comes it takes once in a millisecond, so for an hour or more.
+// `docs/DECISIONS.md`, "Threads and links".
 const MAX_TAKES: u32 = 3_600_000;
 
-// What the application goes to work with.
+/// What the application goes to work with.
 #[derive(Drop)]
 pub struct Application<'a, Near: Named<F, L>, Far: Named<F, L>, F: Filter, L: Listener> {
     pub near: &'a Shared<Near, F, L>,
@@ -29,7 +32,7 @@ pub struct Application<'a, Near: Named<F, L>, Far: Named<F, L>, F: Filter, L: Li
     pub taking: Pass<Far>,
 }
 
-// What it leaves: its passes, and how many samples it took, or what ended it early.
+/// What it leaves: its passes, and how many samples it took, or what ended it early.
 #[derive(Drop)]
 pub struct Applied<Near: Ledger + HasWord, Far: Ledger + HasWord> {
     pub writing: Pass<Near>,
@@ -137,7 +140,7 @@ impl<'a, Near: Named<F, L>, Far: Named<F, L>, F: Filter, L: Listener> Applicatio
     F,
     L,
 > {
-    // Writes the samples, takes them, and says then that all is done.
+    /// Writes the samples, takes them, and says then that all is done.
     pub fn run<R: Wait + Clock>(self, rt: &R, task: &Task<'_>) -> Applied<Near, Far> {
         let Application {
             near,

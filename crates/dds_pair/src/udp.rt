@@ -66,7 +66,7 @@ impl UdpSender {
 
 /// A socket on 127.0.0.1, at a port that the system picks, and the address of the one other that it exchanges datagrams
 /// with. A datagram from elsewhere is dropped. A receive that finds nothing waits for a millisecond at most, and one of
-/// 16 in a row does.
+/// 16 in a row does. `docs/DECISIONS.md`, "Threads and links".
 ///
 /// RTPS 2.5, 9.6.2 (UDP).
 #[derive(Drop)]

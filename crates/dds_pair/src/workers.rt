@@ -1,4 +1,6 @@
-// The threads of a pair: a worker at each peer, and the application.
+//! The threads of a pair: a worker at each peer, and the application.
+//!
+//! Pairs are this project's own.
 
 ghost use Rattle.std.specs.Thread.{IsSend, IsSync};
 
@@ -18,17 +20,17 @@ use std::sync::ledger::Ledger;
 use std::thread::{Threads, join, spawn};
 use std::time::Clock;
 
-// What the threads of a pair have in common.
+/// What the threads of a pair have in common.
 #[derive(Drop)]
 pub struct Task<'a> {
     pub alloc: Global,
-    // How many samples are written and taken.
+    /// How many samples are written and taken.
     pub count: u64,
-    // Set once a worker or the application has ended.
+    /// Set once a worker or the application has ended.
     pub done: &'a AtomicBool,
 }
 
-// What a worker goes to work with.
+/// What a worker goes to work with.
 #[derive(Drop)]
 pub struct Worker<'a, N: Named<F, L>, F: Filter, L: Listener, K: Link, G: Gate> {
     pub shared: &'a Shared<N, F, L>,
@@ -37,7 +39,7 @@ pub struct Worker<'a, N: Named<F, L>, F: Filter, L: Listener, K: Link, G: Gate> 
     pub gate: G,
 }
 
-// What a worker leaves: its pass, and how many turns it took, or what ended them early.
+/// What a worker leaves: its pass, and how many turns it took, or what ended them early.
 #[derive(Drop)]
 pub struct Worked<N: Ledger + HasWord> {
     pub pass: Pass<N>,
@@ -69,7 +71,7 @@ impl<'a, N: Named<F, L>, F: Filter, L: Listener, K: Link, G: Gate> Worker<'a, N,
     }
 }
 
-// What the threads of a pair leave.
+/// What the threads of a pair leave.
 #[derive(Drop)]
 pub struct Ran<Near: Ledger + HasWord, Far: Ledger + HasWord> {
     pub near: Worked<Near>,
@@ -132,7 +134,7 @@ fn run_threads<
 }
 
 // Makes two threads, to see that it can be done: where `join` can make none it calls one closure after the other, and the
-// application would wait for workers that come after it.
+// application would wait for workers that come after it. `docs/DECISIONS.md`, "Threads and links".
 fn try_threads<R: Threads>(rt: &R) -> Result<(), AllocError> {
     let first = spawn(rt, || ())?;
     let second = spawn(rt, || ())?;
@@ -141,7 +143,7 @@ fn try_threads<R: Threads>(rt: &R) -> Result<(), AllocError> {
     Ok(())
 }
 
-// Gives the application passes of its own, and runs it and both workers, until all have ended.
+/// Gives the application passes of its own, and runs it and both workers, until all have ended.
 pub fn run_all<
     Near: Named<F, L> + Send + Sync,
     Far: Named<F, L> + Send + Sync,

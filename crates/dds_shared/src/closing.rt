@@ -1,4 +1,6 @@
-// Whether passes have what a trace has, seat by seat.
+//! Whether passes have what a trace has, seat by seat.
+//!
+//! Passes and closing are this project's own.
 
 ghost use Rattle.std.specs.Prelude.{◌≡◌, ◌++◌, ◌∷◌, [], ◌+◌, ◌<◌, ◌≤◌, length, true, All, IfSome, MatchOption, sum_by};
 ghost use Rattle.dds_shared.specs.Passes.{SameSeats, entries_of, lists_of};
@@ -79,7 +81,7 @@ fn lists_below<N: Ledger + HasWord>(passes: &[Pass<N>], last: u64) -> bool
     true
 }
 
-// Whether the entries of each seat are those of the passes, in order. The seats are below `last`.
+/// Whether the entries of each seat are those of the passes, in order. The seats are below `last`.
 pub fn same_lists<N: Ledger + HasWord>(entries: &[Entry], passes: &[Pass<N>], last: u64) -> bool
     ensures same { result ≡ true → SameSeats entries.now passes.now }
 {
@@ -91,7 +93,7 @@ pub fn same_lists<N: Ledger + HasWord>(entries: &[Entry], passes: &[Pass<N>], la
     all_below(entries, last) && lists_below(passes, last)
 }
 
-// The sum of the parts of the passes, if it fits.
+/// The sum of the parts of the passes, if it fits.
 pub fn parts_of<N: Ledger + HasWord>(passes: &[Pass<N>]) -> Option<u64>
     ensures sum { IfSome result (λ n. n ≡ sum_by (λ p. p.parts) passes.now) }
 {
@@ -102,7 +104,7 @@ pub fn parts_of<N: Ledger + HasWord>(passes: &[Pass<N>]) -> Option<u64>
     Some(sum)
 }
 
-// Takes the shares of all passes together. None has seen more than was counted.
+/// Takes the shares of all passes together. None has seen more than was counted.
 pub fn give_all<N: Ledger + HasWord>(
     passes: Vec<Pass<N>>,
     all: &mut Share<N>,

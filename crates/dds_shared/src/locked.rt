@@ -1,4 +1,6 @@
-// What lies under the lock of a shared peer.
+//! What lies under the lock of a shared peer.
+//!
+//! Passes are this project's own.
 
 ghost use Rattle.std.specs.Prelude.{◌≡◌, ℕ, ◌++◌, ◌∷◌, [], ◌+◌, ◌<◌, ◌≤◌, length, All, OnOk, OnErr, IfErr, IfOk, IfNone, IfSome, ◌⊎◌, List};
 ghost use Rattle.dds_base.specs.declared.code.Code.TheVariants.{Memory, Mismatch, OutOfResources, PreconditionNotMet};
@@ -28,10 +30,10 @@ use std::alloc::Global;
 use std::marker::Model;
 use std::sync::ledger::Share;
 
-// How many passes a peer has at most.
+/// How many passes a peer has at most.
 pub const SEATS: u64 = 4294967295;
 
-// The core, beside a history that leads to it.
+/// The core, beside a history that leads to it.
 #[derive(Drop)]
 pub struct Locked<N: Named<F, L>, F: Filter, L: Listener> {
     pub(crate) core: Core<F, L>,
@@ -54,7 +56,7 @@ impl<N: Named<F, L>, F: Filter, L: Listener> Model for Locked<N, F, L> {
 }
 
 impl<N: Named<F, L>, F: Filter, L: Listener> Locked<N, F, L> {
-    // A locked peer without entries, and its first pass.
+    /// A locked peer without entries, and its first pass.
     pub fn open(
         alloc: Global,
         core: Core<F, L>,
@@ -86,7 +88,7 @@ impl<N: Named<F, L>, F: Filter, L: Listener> Locked<N, F, L> {
         )
     }
 
-    // A new pass with a seat of its own, and with what it has seen.
+    /// A new pass with a seat of its own, and with what it has seen.
     pub fn split(&mut self, alloc: Global, front: Front<N>) -> Result<Pass<N>, Code>
         ensures ok { IfOk result (λ pass. pass ≡ unused pass.seat pass.spare front) }
         ensures seat { IfOk result (λ pass. pass.seat + self.new.left ≡ 4294967295) }
@@ -104,7 +106,7 @@ impl<N: Named<F, L>, F: Filter, L: Listener> Locked<N, F, L> {
         Ok(Pass::new(alloc, seat, share, self.whole.again(), front))
     }
 
-    // Whether all passes are here, and have what the trace has.
+    /// Whether all passes are here, and have what the trace has.
     pub fn refusal(&self, passes: &[Pass<N>]) -> Option<Code>
         ensures none { IfNone result (Matches self.now passes.now) }
         ensures code { IfSome result (λ code. (code ≡ PreconditionNotMet) ⊎ (code ≡ Mismatch)) }
@@ -121,7 +123,7 @@ impl<N: Named<F, L>, F: Filter, L: Listener> Locked<N, F, L> {
         None
     }
 
-    // Ends with the core and the trace.
+    /// Ends with the core and the trace.
     pub fn close(self, passes: Vec<Pass<N>>, word: &Word<N>) -> (Core<F, L>, Trace)
         requires passes { Matches self passes.items }
         ensures history { IsHistoryOf F.meaning L.notices L.capacity L.becomes (listeners_in N.slots) N.config N.peer
@@ -147,7 +149,7 @@ impl<N: Named<F, L>, F: Filter, L: Listener> Locked<N, F, L> {
         (core, trace)
     }
 
-    // Does one event, and enters it in the trace and in the pass's list.
+    /// Does one event, and enters it in the trace and in the pass's list.
     pub fn event(&mut self, word: &Word<N>, pass: &mut Pass<N>, event: Event) -> Result<(), Code>
         ensures ok { OnOk result ((o : OutputOf)
             × Adds F.meaning L.notices L.capacity L.becomes self.old self.new pass.old pass.new event o) }

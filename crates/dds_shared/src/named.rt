@@ -7,8 +7,8 @@ use std::marker::Brand;
 use std::sync::ledger::Ledger;
 
 /// The name of one shared peer: of which configuration it is, which number it has there, which filters and listeners it
-/// was given, and which word counts its entries. A program never writes one: it hands its seed to a function that is generic over the name, and calls that at
-/// `Brand`.
+/// was given, and which word counts its entries. A program never writes one: it hands its seed to a function that is
+/// generic over the name, and calls that at `Brand`. `docs/DECISIONS.md`, "Threads and links".
 ///
 /// Names are this project's own.
 pub trait Named<F, L>: Ledger + HasWord {

@@ -221,7 +221,7 @@ impl<N: Named<F, L>, F: Filter, L: Listener> Shared<N, F, L> {
         Ok(())
     }
 
-    /// Does a call. What answers it stands at the end of the pass's list.
+    /// Does a call. What answers it stands at the end of the pass's list. `docs/DECISIONS.md`, "Threads and links".
     ///
     /// # Errors
     ///

@@ -1,4 +1,6 @@
-// How many entries a peer has, in the book of its ledger and by its word.
+//! How many entries a peer has, in the book of its ledger and by its word.
+//!
+//! Passes are this project's own.
 
 ghost use Rattle.std.specs.Prelude.{◌≡◌, ◌+◌, ◌≤◌, ◌<◌};
 
@@ -6,7 +8,7 @@ use dds_front::{Front, HasWord, Keeper, Word};
 use std::marker::Model;
 use std::sync::ledger::{Book, Ledger, Share};
 
-// How many entries a peer has.
+/// How many entries a peer has.
 #[derive(Drop)]
 pub struct Tally<N: Ledger + HasWord> {
     book: Book<N>,
@@ -31,7 +33,7 @@ impl<N: Ledger + HasWord> Tally<N> {
         Tally { book, keeper }
     }
 
-    // Counts one entry more, which is there already as the last of so many. The front has seen it then.
+    /// Counts one entry more, which is there already as the last of so many. The front has seen it then.
     pub fn count(&mut self, word: &Word<N>, share: &mut Share<N>, front: &mut Front<N>, length: u64)
         requires happened { length ≡ self.old + 1 }
         requires part { 0 < share.old.parts }
@@ -45,7 +47,7 @@ impl<N: Ledger + HasWord> Tally<N> {
         self.keeper.count(word, front, length);
     }
 
-    // Ends a front: it has seen no more than was counted.
+    /// Ends a front: it has seen no more than was counted.
     pub fn take_back(&mut self, word: &Word<N>, front: Front<N>)
         ensures kept { self.new ≡ self.old }
         ensures bound { front ≤ self.old }
@@ -53,7 +55,7 @@ impl<N: Ledger + HasWord> Tally<N> {
         self.keeper.take_back(word, front);
     }
 
-    // Whoever has the whole ledger has counted all entries.
+    /// Whoever has the whole ledger has counted all entries.
     pub fn audit(&mut self, all: &mut Share<N>)
         ensures whole { all.old.parts ≡ N.parts → all.old.amount ≡ self.old }
     {

@@ -1,4 +1,6 @@
-// Waits of a shared peer, between which the lock is let go.
+//! Waits of a shared peer, between which the lock is let go.
+//!
+//! DDS 1.4, 2.2.2.1 (WaitSet, wait).
 
 ghost use Rattle.std.specs.Prelude.{◌≡◌, ◌≢◌, ◌↔◌, ◌++◌, ◌<◌, ◌≤◌, List, OnErr, IfErr, IfOk, IsTrue, MatchBool, true};
 ghost use Rattle.dds_base.specs.declared.code.Code.TheVariants.{Memory};
@@ -42,7 +44,7 @@ fn found_no_memory(reply: &Reply) -> bool
 }
 
 impl<N: Named<F, L>, F: Filter, L: Listener> Locked<N, F, L> {
-    // Begins a wait, and says whether it began. There is room for its end in the pass's list.
+    /// Begins a wait, and says whether it began. There is room for its end in the pass's list.
     pub fn begin(
         &mut self,
         word: &Word<N>,
@@ -66,7 +68,7 @@ impl<N: Named<F, L>, F: Filter, L: Listener> Locked<N, F, L> {
         Ok(is_done(&pass.last_output().reply))
     }
 
-    // Looks once, and says whether the wait is over. Where there is no memory it ends the wait.
+    /// Looks once, and says whether the wait is over. Where there is no memory it ends the wait.
     pub fn look(&mut self, word: &Word<N>, pass: &mut Pass<N>, wait_set: u32) -> Result<bool, Code>
         requires room { 0 < pass.old.spare }
         ensures ok { IfOk result (λ over. (o : OutputOf)

@@ -1,4 +1,6 @@
 //! The law of the traces of cores.
+//!
+//! Traces are this project's own.
 
 ghost use Rattle.std.specs.Prelude.{ℕ, List};
 ghost use Rattle.dds_base.specs.declared.config.Config.{Config};

@@ -1,4 +1,7 @@
 //! The octets of packets that were sent, found by their hash.
+//!
+//! Traces are this project's own. `docs/DECISIONS.md`, "Peers and the network", says why a packet is known by its
+//! octets.
 
 ghost use Rattle.std.specs.Prelude.{◌≡◌, [], ℕ, List, Any, Contains, IsTrue, OnOk, ◌↔◌, ◌⊎◌};
 

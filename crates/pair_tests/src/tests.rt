@@ -1,4 +1,4 @@
-// What workers do that no contract says.
+//! What workers do that no contract says.
 
 mod apart;
 mod meeting;

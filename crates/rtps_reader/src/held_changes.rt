@@ -1,6 +1,7 @@
 //! The changes that a reader holds until those before them have come.
 //!
-//! RTPS 2.5, 8.4.10 (ChangeFromWriter), 8.4.12 (received_change_set).
+//! RTPS 2.5, 8.4.10 (ChangeFromWriter), 8.4.12 (received_change_set). `docs/DECISIONS.md`, "Sets, windows and the
+//! grammar", says why there are 256 places.
 
 ghost use Rattle.std.specs.Prelude.{◌≡◌, ◌+◌, ◌%◌, ◌==◌, ℕ, None, Some, IfOk, IsSome, if◌then◌else◌, replicate};
 ghost use Rattle.rtps_reader.specs.HeldChanges.{held_at, count_held};

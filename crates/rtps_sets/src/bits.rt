@@ -1,4 +1,6 @@
 //! 256 bits in words.
+//!
+//! RTPS 2.5, 9.4.2 (SequenceNumberSet). `docs/DECISIONS.md`, "Sets, windows and the grammar".
 
 ghost use Rattle.std.specs.Prelude.{◌≡◌, ◌≤◌, ◌<◌, ◌+◌, ◌*◌, ◌%◌, ◌==◌, ◌&&◌, ◌||◌, ℕ, false, not, true, nat_lt, length, replicate, slice_index_or, slice_set};
 ghost use Rattle.std.specs.Int.{bit_at};

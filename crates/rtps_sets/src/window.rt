@@ -1,6 +1,7 @@
 //! The numbers of one writer that a reader has heard of but not yet passed.
 //!
-//! RTPS 2.5, 8.4.10 (ChangeFromWriter: status), 8.4.12.
+//! RTPS 2.5, 8.4.10 (ChangeFromWriter: status), 8.4.12. `docs/DECISIONS.md`, "Sets, windows and the grammar", says why
+//! it is two rings.
 
 ghost use Rattle.std.specs.Prelude.{◌≡◌, ◌≤◌, ◌<◌, ◌+◌, ◌-◌, ◌%◌, ◌&&◌, ◌==◌, ℕ, false, nat_le, nat_lt, is_none, max, Some, None, Ok, IsTrue, IsOk, IsSome, IfOk, IfErr, OnOk, OnErr, if◌then◌else◌};
 ghost use Rattle.dds_base.specs.declared.code.Code.TheVariants.{Memory};

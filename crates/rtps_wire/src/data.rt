@@ -110,7 +110,8 @@ fn ended(disposed: bool, unregistered: bool, key: Key) -> DataContent<'static>
     }
 }
 
-/// What is said, by the table of `docs/WIRE.md`, "What a DATA means".
+/// What is said, by the table of `docs/WIRE.md`, "What a DATA means". `docs/DECISIONS.md`, "Types", says why its flags
+/// are booleans.
 #[tactic(auto, unfolding(crate::specs::DataAt::content_by, crate::specs::DataAt::content_at))]
 fn content_of(flags: u8, found: Parameters, payload: &[u8]) -> Option<DataContent<'_>>
     ensures { result ≡ content_at flags found payload.now }

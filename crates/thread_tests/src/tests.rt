@@ -1,4 +1,4 @@
-// One peer, which two threads share.
+//! One peer, which two threads share.
 
 ghost use Rattle.std.specs.Prelude.{◌≡◌};
 

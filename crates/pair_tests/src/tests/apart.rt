@@ -1,4 +1,4 @@
-// Peers wait for one another nowhere: while one is at an event, another answers.
+//! Peers wait for one another nowhere: while one is at an event, another answers.
 
 ghost use Rattle.std.specs.Prelude.{◌≡◌};
 

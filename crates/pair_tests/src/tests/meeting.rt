@@ -1,4 +1,4 @@
-// Gates of two workers that have to run at the same time.
+//! Gates of two workers that have to run at the same time.
 
 use dds_pair::{Gate, PairGate, Turn};
 use std::sync::atomic::{AtomicBool, Ordering};

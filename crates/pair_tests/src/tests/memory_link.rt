@@ -1,4 +1,4 @@
-// A link in memory, which loses a packet and breaks where it is told to.
+//! A link in memory, which loses a packet and breaks where it is told to.
 
 use dds_base::Code;
 use dds_pair::Link;

@@ -1,4 +1,4 @@
-// Pairs over links in memory: losses are repaired, and a broken link ends a pair.
+//! Pairs over links in memory: losses are repaired, and a broken link ends a pair.
 
 use crate::tests::meeting::{Holding, Showing};
 use crate::tests::memory_link::{Faults, MemoryLink, Way};

@@ -1,4 +1,4 @@
-// What the newest entry of a pass says.
+//! What the newest entry of a pass says.
 
 use dds_base::{Code, Handle, Octets};
 use dds_conditions::Cond;

@@ -1,4 +1,4 @@
-// What passes see of each other without the lock.
+//! What passes see of each other without the lock.
 
 use dds_base::{Code, Key};
 use dds_conditions::Filter;

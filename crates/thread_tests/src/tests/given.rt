@@ -1,4 +1,4 @@
-// What a peer was given before it was shared.
+//! What a peer was given before it was shared.
 
 use super::answers::{is_true, sent};
 use dds_base::{Code, Key, Masks, Octets};

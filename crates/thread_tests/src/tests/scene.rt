@@ -1,4 +1,4 @@
-// The peer that is shared.
+//! The peer that is shared.
 
 ghost use Rattle.std.specs.Prelude.{◌==◌, ◌&&◌, nat_lt, length, slice_index_or};
 

@@ -1,4 +1,4 @@
-// Two threads at one peer.
+//! Two threads at one peer.
 
 use super::answers::{handle, sent, took};
 use dds_base::{Code, Key, Masks, Octets, Selection};

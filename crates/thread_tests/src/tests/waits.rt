@@ -1,4 +1,4 @@
-// What waits at a shared peer.
+//! What waits at a shared peer.
 
 use super::answers::{is_active, is_late};
 use dds_base::{Code, Moment};
