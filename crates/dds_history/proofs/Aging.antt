@@ -8,8 +8,7 @@ use Rattle.dds_base.specs.declared.qos.HistoryQos.{HistoryQos}
 use Rattle.dds_base.specs.declared.qos.HistoryQos.TheVariants.{KeepAll, KeepLast}
 use Rattle.dds_base.specs.Happening.{same_key}
 use Rattle.dds_base.proofs.KeyLaws.{same_key-refl}
-use Rattle.dds_history.specs.declared.held.HeldChange.{HeldChange}
-use Rattle.dds_history.specs.Held.{aged, all_from}
+use Rattle.dds_history.specs.Held.{HeldChange, aged, all_from}
 
 -- all changes, with one more of this number
 abbrev pub one_more : HistoryQos → List HeldChange → ℕ → Change → List HeldChange
@@ -18,7 +17,7 @@ one_more (KeepLast depth) entries number change =
     map (λ e. aged change.key e) (entries ++ record { number = number; change = change; remaining = depth + 1 } ∷ [])
 
 -- how many of these changes have the key
-abbrev of_key : Key → List Change → ℕ
+abbrev pub of_key : Key → List Change → ℕ
 of_key key cs = count_by (λ (c : Change). same_key c.key key) cs
 
 of_key-append : (key : Key) (cs : List Change) (c : Change) → of_key key (cs ++ c ∷ [])

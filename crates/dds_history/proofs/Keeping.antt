@@ -8,8 +8,7 @@ use Rattle.dds_base.specs.declared.change.Change.{Change}
 use Rattle.dds_base.specs.declared.qos.HistoryQos.{HistoryQos}
 use Rattle.dds_base.specs.declared.qos.HistoryQos.TheVariants.{KeepAll, KeepLast}
 use Rattle.dds_base.specs.Kept.{WriterHistory, change_at, is_dropped_by, is_kept, kept_change, kept_count, first_kept, numbers_from, later_changes}
-use Rattle.dds_history.specs.declared.held.HeldChange.{HeldChange}
-use Rattle.dds_history.specs.Held.{all_from, awaits, held_of, is_held, remaining_before}
+use Rattle.dds_history.specs.Held.{HeldChange, all_from, awaits, held_of, is_held, remaining_before}
 use Rattle.dds_history.proofs.Numbering.{Agree, all-at, all-numbered, at_number, counted, entry_of, find-at, find-below, first-number, length-all, passing}
 
 -- all changes of a history, also those that are let go of

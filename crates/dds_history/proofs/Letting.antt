@@ -16,13 +16,14 @@ use Rattle.dds_base.specs.declared.qos.HistoryQos.TheVariants.{KeepAll, KeepLast
 use Rattle.dds_base.specs.Happening.{same_key}
 use Rattle.dds_base.specs.Kept.{WriterHistory, acknowledge, appended, append_refusal, exceeds, first_kept, is_kept, kept_change}
 use Rattle.dds_base.proofs.KeyLaws.{same_key-refl}
-use Rattle.dds_history.specs.declared.held.HeldChange.{HeldChange}
-use Rattle.dds_history.specs.Held.{Rises, aged, aged_by, all_from, awaits, held_of, is_held, kept_after, with_change}
-use Rattle.dds_history.specs.Standing.{Held, StandsFor}
+use Rattle.dds_history.specs.declared.held.Entry.{Entry}
+use Rattle.dds_history.specs.Entries.{Counted, Holds, KeptState, held_as, parts, shown}
+use Rattle.dds_history.specs.Held.{HeldChange, IsNext, aged, aged_by, all_from, awaits, granted, held_of, is_held, kept_after, older_after, with_change}
+use Rattle.dds_history.specs.Standing.{Held, StandsFor, kept_in}
 use Rattle.dds_history.proofs.Aging.{all-more, entry_as, one_more}
 use Rattle.dds_history.proofs.Keeping.{first_kept-held, is_kept-found, kept_change-found, kept_count-held}
-use Rattle.dds_history.proofs.Numbering.{at_number, all-numbered, count_cons}
-use Rattle.dds_history.proofs.Rising.{rises-filtered, rises_from-weaker}
+use Rattle.dds_history.proofs.Numbering.{at_number, count_cons}
+use Rattle.dds_history.proofs.Runs.{is_next}
 
 -- what passes two tests, where the second agrees with a third on what passes the first, and nothing else passes that
 pub filter-narrower : {X : Type 0} (h p q : X → Bool) → ((x : X) → h x ≡ false → q x ≡ false)
@@ -49,7 +50,7 @@ filter-mapped {X = X} p f (x ∷ xs) = step (p (f x)) (filter-mapped p f xs)
     step false rest = rest
 
 -- the same, where the tests come after a change of each
-filter-changed : {X : Type 0} (h p : X → Bool) (f : X → X) → ((x : X) → h x ≡ false → h (f x) ≡ false)
+pub filter-changed : {X : Type 0} (h p : X → Bool) (f : X → X) → ((x : X) → h x ≡ false → h (f x) ≡ false)
     → ((x : X) → h x ≡ true → p (f x) ≡ h (f x)) → (xs : List X)
     → filter p (map f (filter h xs)) ≡ filter h (map f xs)
 filter-changed {X = X} h p f out within xs =
@@ -119,7 +120,7 @@ held-more w c =
 
 -- so many are held with one more change
 
-count_mapped : (p : HeldChange → Bool) (f : HeldChange → HeldChange) (es : List HeldChange) → count_by p (map f es)
+pub count_mapped : (p : HeldChange → Bool) (f : HeldChange → HeldChange) (es : List HeldChange) → count_by p (map f es)
     ≡ count_by (λ e. p (f e)) es
 count_mapped p f [] = refl
 count_mapped p f (e ∷ es) =
@@ -129,76 +130,88 @@ length_if : (b : Bool) (e : HeldChange) → length (cond b (e ∷ []) []) ≡ (i
 length_if true e = refl
 length_if false e = refl
 
+length-older : (policy : HistoryQos) (es : List HeldChange) (key : Key) → length (aged_by policy key es)
+    ≡ older_after policy es key
+length-older KeepAll es key = refl
+length-older (KeepLast depth) es key =
+    length-filter (λ (e : HeldChange). nat_lt 0 e.remaining) (map (aged key) es)
+    ∙ count_mapped (λ e. nat_lt 0 e.remaining) (aged key) es
+
 pub length-more : (policy : HistoryQos) (es : List HeldChange) (n : ℕ) (c : Change) (awaited : Bool)
     → length (with_change policy es n c awaited) ≡ kept_after policy es c.key awaited
-length-more KeepAll es n c awaited =
-    let new : HeldChange = record { number = n; change = c; remaining = 1 } in
-    length-append es (cond awaited (new ∷ []) [])
-    ∙ ap (λ (k : ℕ). length es + k) (length_if awaited new)
-length-more (KeepLast depth) es n c awaited =
-    let p : HeldChange → Bool = λ e. nat_lt 0 e.remaining in
-    let f : HeldChange → HeldChange = aged c.key in
-    let new : HeldChange = record { number = n; change = c; remaining = depth } in
-    let is_new : Bool = nat_lt 0 depth && awaited in
-    let older = length-filter p (map f es) ∙ count_mapped p f es in
-    length-append (filter p (map f es)) (cond is_new (new ∷ []) [])
-    ∙ (ap (λ (k : ℕ). k + length (cond is_new (new ∷ []) [])) older
-    ∙ ap (λ (k : ℕ). count_by (λ e. p (f e)) es + k) (length_if is_new new))
+length-more policy es n c awaited =
+    let new : HeldChange = record { number = n; change = c; remaining = granted policy } in
+    let is_new : Bool = nat_lt 0 (granted policy) && awaited in
+    length-append (aged_by policy c.key es) (cond is_new (new ∷ []) [])
+    ∙ (ap (λ (k : ℕ). k + length (cond is_new (new ∷ []) [])) (length-older policy es c.key)
+    ∙ ap (λ (k : ℕ). older_after policy es c.key + k) (length_if is_new new))
 
 -- ---- what is held stands for the history
 
-made_same : (p q : HistoryQos) (m n : Option ℕ) (k l : ℕ) (a b : List ℕ) (c d : List HeldChange) → p ≡ q → m ≡ n → k ≡ l
-    → a ≡ b → c ≡ d
-    → ◌≡◌ {A = Held} (record { policy = p; max_samples = m; last = k; acknowledged = a; entries = c })
-    (record { policy = q; max_samples = n; last = l; acknowledged = b; entries = d })
-made_same p q m n k l a b c d e f g h i = cc
-
--- what stands for a history holds this
-abbrev pub standing : WriterHistory → Held
-standing w = record {
-  policy = w.policy;
-  max_samples = w.max_samples;
-  last = length w.changes;
-  acknowledged = w.acknowledged;
-  entries = held_of w;
-}
-
-pub stands_is : (held : Held) (w : WriterHistory) → StandsFor held w → held ≡ standing w
-stands_is held w s = made_same _ _ _ _ _ _ _ _ _ _ s.policy s.max_samples s.last s.acknowledged s.entries
-
 -- why one more change is refused, by what is held
-abbrev pub refusal_held : Held → Change → Option Code
-refusal_held held c =
-    if nat_le (2 ^ 48) held.last then Some OutOfResources
-    else (if exceeds held.max_samples
-    (kept_after held.policy held.entries c.key (awaits held.acknowledged (held.last + 1))) then Some Timeout
+abbrev pub refusal_held : Held → WriterHistory → Change → Option Code
+refusal_held h w c =
+    if nat_le (2 ^ 48) h.last then Some OutOfResources
+    else (if exceeds h.max_samples
+    (kept_after w.policy (held_of w) c.key (awaits w.acknowledged (h.last + 1))) then Some Timeout
     else None)
 
-pub refusal-is : (held : Held) (w : WriterHistory) (c : Change) → StandsFor held w → append_refusal w c
-    ≡ refusal_held held c
-refusal-is held w c s =
+pub refusal-is : (h : Held) (w : WriterHistory) (c : Change) → StandsFor h w → append_refusal w c
+    ≡ refusal_held h w c
+refusal-is h w c s =
     let count = kept_count-held (appended w c)
     ∙ (ap length (held-more w c)
     ∙ length-more w.policy (held_of w) (length w.changes + 1) c (awaits w.acknowledged (length w.changes + 1))) in
     ap (λ (n : ℕ). if nat_le (2 ^ 48) (length w.changes) then Some OutOfResources
     else (if exceeds w.max_samples n then Some Timeout else None)) count
-    ∙ ap (λ (h : Held). refusal_held h c) (sym (stands_is held w s))
+    ∙ (ap (λ (n : ℕ). if nat_le (2 ^ 48) n then Some OutOfResources
+    else (if exceeds w.max_samples (kept_after w.policy (held_of w) c.key (awaits w.acknowledged (n + 1)))
+    then Some Timeout else None)) (sym s.last)
+    ∙ ap (λ (m : Option ℕ). if nat_le (2 ^ 48) h.last then Some OutOfResources
+    else (if exceeds m (kept_after w.policy (held_of w) c.key (awaits w.acknowledged (h.last + 1)))
+    then Some Timeout else None)) (sym s.max_samples))
 
-pub stands-more : (held : Held) (w : WriterHistory) (c : Change) → StandsFor held w → held.last < 2 ^ 48
-    → StandsFor (record held {
-      last = held.last + 1;
-      entries = with_change held.policy held.entries (held.last + 1) c (awaits held.acknowledged (held.last + 1));
-    }) (appended w c)
-stands-more held w c s few = record {
-  policy = s.policy;
+-- what is shown after one more change stands for the history with it
+pub stands-more : (h : Held) (w : WriterHistory) (c : Change) (k : KeptState) → StandsFor h w → h.last < 2 ^ 48
+    → k.policy ≡ h.policy
+    → shown k ≡ with_change h.policy (shown (kept_in h)) (h.last + 1) c (awaits h.acknowledged (h.last + 1))
+    → Holds (h.last + 1) k
+    → StandsFor (record h { policy = k.policy; kept = parts k; last = h.last + 1 }) (appended w c)
+stands-more h w c k s few same more holds = record {
+  policy = same ∙ s.policy;
   max_samples = s.max_samples;
   last = let n = length-append w.changes (c ∷ []) in omega (arith, n, s.last);
   few = omega (arith, few);
   acknowledged = s.acknowledged;
-  entries =
-      ap (λ (h : Held). with_change h.policy h.entries (h.last + 1) c (awaits h.acknowledged (h.last + 1)))
-      (stands_is held w s) ∙ sym (held-more w c);
+  shown =
+      more
+      ∙ (ap (λ (p : HistoryQos). with_change p (shown (kept_in h)) (h.last + 1) c (awaits h.acknowledged (h.last + 1)))
+      s.policy
+      ∙ (ap (λ (es : List HeldChange). with_change w.policy es (h.last + 1) c (awaits h.acknowledged (h.last + 1)))
+      s.shown
+      ∙ (ap (λ (a : List ℕ). with_change w.policy (held_of w) (h.last + 1) c (awaits a (h.last + 1))) s.acknowledged
+      ∙ (ap (λ (n : ℕ). with_change w.policy (held_of w) (n + 1) c (awaits w.acknowledged (n + 1))) s.last
+      ∙ sym (held-more w c)))));
+  holds = holds;
 }
+
+-- one more change may come
+pub next_of : (h : Held) (w : WriterHistory) → StandsFor h w
+    → IsNext h.policy (shown (kept_in h)) (awaits h.acknowledged (h.last + 1))
+next_of h w s =
+    subst (λ (p : HistoryQos). IsNext p (shown (kept_in h)) (awaits h.acknowledged (h.last + 1))) (sym s.policy)
+    (subst (λ (es : List HeldChange). IsNext w.policy es (awaits h.acknowledged (h.last + 1))) (sym s.shown)
+    (subst (λ (a : List ℕ). IsNext w.policy (held_of w) (awaits a (h.last + 1))) (sym s.acknowledged)
+    (subst (λ (n : ℕ). IsNext w.policy (held_of w) (awaits w.acknowledged (n + 1))) (sym s.last) (is_next w))))
+
+-- how many would be kept
+pub kept_after_is : (h : Held) (w : WriterHistory) (key : Key) → StandsFor h w
+    → kept_after h.policy (shown (kept_in h)) key (awaits h.acknowledged (h.last + 1))
+    ≡ kept_after w.policy (held_of w) key (awaits w.acknowledged (h.last + 1))
+kept_after_is h w key s =
+    ap (λ (p : HistoryQos). kept_after p (shown (kept_in h)) key (awaits h.acknowledged (h.last + 1))) s.policy
+    ∙ (ap (λ (es : List HeldChange). kept_after w.policy es key (awaits h.acknowledged (h.last + 1))) s.shown
+    ∙ ap (λ (a : List ℕ). kept_after w.policy (held_of w) key (awaits a (h.last + 1))) s.acknowledged)
 
 -- ---- an acknowledgement
 
@@ -222,33 +235,33 @@ and_false true b c h f = f h
 and_false false b c h f = refl
 
 -- what is held once an acknowledgement moved
-pub stands-acked : (held : Held) (w : WriterHistory) (reader to : ℕ) → StandsFor held w
-    → get_or held.acknowledged reader 0 < to
-    → StandsFor (record held {
-      acknowledged = set held.acknowledged reader to;
-      entries = filter (λ e. awaits (set held.acknowledged reader to) e.number) held.entries;
-    }) (acknowledge w reader to)
-stands-acked held w reader to s lt =
+pub stands-acked : (h : Held) (w : WriterHistory) (reader to : ℕ) (k : KeptState) → StandsFor h w
+    → get_or h.acknowledged reader 0 < to → k.policy ≡ h.policy
+    → shown k ≡ filter (λ e. awaits (set h.acknowledged reader to) e.number) (shown (kept_in h)) → Holds h.last k
+    → StandsFor (record h { policy = k.policy; kept = parts k; acknowledged = set h.acknowledged reader to }) (acknowledge w reader to)
+stands-acked h w reader to k s lt same rest holds =
     let old = ap (λ (a : List ℕ). get_or a reader 0) s.acknowledged in
     let moved : to ≡ max (get_or w.acknowledged reader 0) to = omega (arith, old, lt) in
-    let acks : set held.acknowledged reader to ≡ set w.acknowledged reader (max (get_or w.acknowledged reader 0) to) =
+    let acks : set h.acknowledged reader to ≡ set w.acknowledged reader (max (get_or w.acknowledged reader 0) to) =
     ap (λ (a : List ℕ). set a reader to) s.acknowledged ∙ ap (λ (k : ℕ). set w.acknowledged reader k) moved in
     let after : List ℕ = set w.acknowledged reader (max (get_or w.acknowledged reader 0) to) in
     record {
-      policy = s.policy;
+      policy = same ∙ s.policy;
       max_samples = s.max_samples;
       last = s.last;
       few = s.few;
       acknowledged = acks;
-      entries =
-          ap (λ (a : List ℕ). filter (λ (e : HeldChange). awaits a e.number) held.entries) acks
-          ∙ (ap (λ (es : List HeldChange). filter (λ e. awaits after e.number) es) s.entries
+      shown =
+          rest
+          ∙ (ap (λ (a : List ℕ). filter (λ (e : HeldChange). awaits a e.number) (shown (kept_in h))) acks
+          ∙ (ap (λ (es : List HeldChange). filter (λ e. awaits after e.number) es) s.shown
           ∙ filter-narrower (is_held w.acknowledged) (λ e. awaits after e.number) (is_held after)
           (λ e out. and_false (nat_lt 0 e.remaining) (awaits w.acknowledged e.number) (awaits after e.number) out
           (still_unawaited w.acknowledged reader (max (get_or w.acknowledged reader 0) to) e.number (omega arith)))
           (λ e held. true_and (nat_lt 0 e.remaining) (awaits after e.number)
           (both_left (nat_lt 0 e.remaining) (awaits w.acknowledged e.number) held))
-          (all_from w.policy 1 w.changes));
+          (all_from w.policy 1 w.changes)));
+      holds = holds;
     }
 
 -- an acknowledgement that doesn't move changes nothing
@@ -263,56 +276,59 @@ stands-unmoved held w reader to s le =
 
 -- ---- what is read of it
 
-below_limit : (h : Held) (c : Change) (b : Bool) → h.last < 2 ^ 48
-    → exceeds h.max_samples (kept_after h.policy h.entries c.key (awaits h.acknowledged (h.last + 1))) ≡ b
-    → refusal_held h c ≡ (if b then Some Timeout else None)
-below_limit h c b few is =
+below_limit : (h : Held) (w : WriterHistory) (c : Change) (b : Bool) → h.last < 2 ^ 48
+    → exceeds h.max_samples (kept_after w.policy (held_of w) c.key (awaits w.acknowledged (h.last + 1))) ≡ b
+    → refusal_held h w c ≡ (if b then Some Timeout else None)
+below_limit h w c b few is =
     let few_enough : nat_le (2 ^ 48) h.last ≡ false = grind (arith, nat_tests) in
     ap (λ (x : Bool). if x then Some OutOfResources
-    else (if exceeds h.max_samples (kept_after h.policy h.entries c.key (awaits h.acknowledged (h.last + 1)))
+    else (if exceeds h.max_samples (kept_after w.policy (held_of w) c.key (awaits w.acknowledged (h.last + 1)))
     then Some Timeout else None)) few_enough
     ∙ ap (λ (x : Bool). if x then Some Timeout else None) is
 
-pub refuses_none : (h : Held) (w : WriterHistory) (c : Change) → StandsFor h w → h.last < 2 ^ 48
-    → exceeds h.max_samples (kept_after h.policy h.entries c.key (awaits h.acknowledged (h.last + 1))) ≡ false
-    → append_refusal w c ≡ None
-refuses_none h w c s few is = refusal-is h w c s ∙ below_limit h c false few is
-
-pub refuses_full : (h : Held) (w : WriterHistory) (c : Change) → StandsFor h w → h.last < 2 ^ 48
-    → exceeds h.max_samples (kept_after h.policy h.entries c.key (awaits h.acknowledged (h.last + 1))) ≡ true
-    → append_refusal w c ≡ Some Timeout
-refuses_full h w c s few is = refusal-is h w c s ∙ below_limit h c true few is
+pub refuses_by : (h : Held) (w : WriterHistory) (c : Change) (b : Bool) → StandsFor h w → h.last < 2 ^ 48
+    → exceeds h.max_samples (kept_after w.policy (held_of w) c.key (awaits w.acknowledged (h.last + 1))) ≡ b
+    → append_refusal w c ≡ (if b then Some Timeout else None)
+refuses_by h w c b s few is = refusal-is h w c s ∙ below_limit h w c b few is
 
 pub stands_as : (a b : Held) (w : WriterHistory) → a ≡ b → StandsFor a w → StandsFor b w
 stands_as a b w e s = subst (λ (h : Held). StandsFor h w) e s
 
--- the numbers of what is held rise
-pub held_rises : (h : Held) (w : WriterHistory) → StandsFor h w → Rises h.entries
-held_rises h w s =
-    subst (λ (es : List HeldChange). Rises es) (sym s.entries)
-    (rises_from-weaker 0 1 (held_of w) (omega arith)
-    (rises-filtered (is_held w.acknowledged) 1 (all_from w.policy 1 w.changes) (all-numbered w.policy 1 w.changes)))
-
 pub kept_is : (h : Held) (w : WriterHistory) (number : ℕ) → StandsFor h w → is_kept w number
-    ≡ is_some (find (at_number number) h.entries)
+    ≡ is_some (find (at_number number) (shown (kept_in h)))
 kept_is h w number s = is_kept-found w number
-    ∙ ap (λ (es : List HeldChange). is_some (find (at_number number) es)) (sym s.entries)
+    ∙ ap (λ (es : List HeldChange). is_some (find (at_number number) es)) (sym s.shown)
 
 pub get_is : (h : Held) (w : WriterHistory) (number : ℕ) → StandsFor h w → kept_change w number
-    ≡ option_map (λ (e : HeldChange). e.change) (find (at_number number) h.entries)
+    ≡ option_map (λ (e : HeldChange). e.change) (find (at_number number) (shown (kept_in h)))
 get_is h w number s = kept_change-found w number
     ∙ ap (λ (es : List HeldChange). option_map (λ (e : HeldChange). e.change) (find (at_number number) es))
-    (sym s.entries)
+    (sym s.shown)
 
 pub first_is : (h : Held) (w : WriterHistory) → StandsFor h w → first_kept w
-    ≡ unwrap_or (option_map (λ (e : HeldChange). e.number) (slice_get h.entries 0)) (h.last + 1)
+    ≡ unwrap_or (option_map (λ (e : HeldChange). e.number) (slice_get (shown (kept_in h)) 0)) (h.last + 1)
 first_is h w s =
     first_kept-held w
     ∙ (ap (λ (es : List HeldChange). unwrap_or (option_map (λ (e : HeldChange). e.number) (slice_get es 0))
-    (length w.changes + 1)) (sym s.entries)
-    ∙ ap (λ (n : ℕ). unwrap_or (option_map (λ (e : HeldChange). e.number) (slice_get h.entries 0)) (n + 1))
+    (length w.changes + 1)) (sym s.shown)
+    ∙ ap (λ (n : ℕ). unwrap_or (option_map (λ (e : HeldChange). e.number) (slice_get (shown (kept_in h)) 0)) (n + 1))
     (sym s.last))
 
-pub copied_some : {X : Type 0} (o : Option (Bor X)) → is_some o ≡ is_some (option_copied o)
-copied_some None = refl
-copied_some (Some x) = refl
+-- ---- what an entry is shown as
+
+pub number_as : (policy : HistoryQos) (counted : Counted) (o : Option Entry)
+    → option_map (λ (e : HeldChange). e.number) (option_map (held_as policy counted) o)
+    ≡ option_map (λ (e : Entry). e.number) o
+number_as policy counted None = refl
+number_as policy counted (Some e) = refl
+
+pub change_as : (policy : HistoryQos) (counted : Counted) (o : Option Entry)
+    → option_map (λ (e : HeldChange). e.change) (option_map (held_as policy counted) o)
+    ≡ option_map (λ (e : Entry). e.change) o
+change_as policy counted None = refl
+change_as policy counted (Some e) = refl
+
+pub some_as : (policy : HistoryQos) (counted : Counted) (o : Option (Bor Entry))
+    → is_some o ≡ is_some (option_map (held_as policy counted) (option_copied o))
+some_as policy counted None = refl
+some_as policy counted (Some x) = refl

@@ -1,5 +1,8 @@
+pub mod Adding
 pub mod Aging
-pub mod Numbering
+pub mod Counting
 pub mod Keeping
-pub mod Rising
 pub mod Letting
+pub mod Numbering
+pub mod Rising
+pub mod Runs

@@ -8,8 +8,7 @@ use Rattle.std.proofs.lemmas.List.Sums.{sum_by-cons}
 use Rattle.dds_base.specs.declared.change.Change.{Change}
 use Rattle.dds_base.specs.declared.qos.HistoryQos.{HistoryQos}
 use Rattle.dds_base.specs.Kept.{numbers_from}
-use Rattle.dds_history.specs.declared.held.HeldChange.{HeldChange}
-use Rattle.dds_history.specs.Held.{all_from, remaining_before}
+use Rattle.dds_history.specs.Held.{HeldChange, all_from, remaining_before}
 
 -- the numbers of these changes run from this one on
 abbrev pub AreNumbered : ℕ → List HeldChange → Type 0
@@ -52,7 +51,7 @@ abbrev pub at_number : ℕ → HeldChange → Bool
 at_number m e = e.number == m
 
 -- a test passes the element, if there is one
-abbrev pub passing : (HeldChange → Bool) → Option HeldChange → Option HeldChange
+abbrev pub passing : {X : Type 0} → (X → Bool) → Option X → Option X
 passing p None = None
 passing p (Some e) = if p e then Some e else None
 

@@ -2,7 +2,7 @@
 -- writer's history. Inner functions alone cite this: nothing here has to be believed.
 --
 -- DDS 1.4, 2.2.3 (HISTORY, RESOURCE_LIMITS); RTPS 2.5, 8.2 (HistoryCache).
-use Rattle.std.specs.Prelude.{ℕ, ◌≤◌, ◌+◌, ◌-◌, ◌&&◌, Bool, List, [], ◌∷◌, ◌++◌, map, length, filter, count_by, nat_lt, nat_le, if◌then◌else◌}
+use Rattle.std.specs.Prelude.{◌≡◌, ℕ, ◌+◌, ◌-◌, ◌==◌, ◌&&◌, Bool, false, List, [], ◌∷◌, ◌++◌, map, length, filter, count_by, nat_lt, nat_le, if◌then◌else◌}
 use Rattle.std.specs.List.{list_any}
 use Rattle.dds_base.specs.declared.key.Key.{Key}
 use Rattle.dds_base.specs.declared.change.Change.{Change}
@@ -10,7 +10,12 @@ use Rattle.dds_base.specs.declared.qos.HistoryQos.{HistoryQos}
 use Rattle.dds_base.specs.declared.qos.HistoryQos.TheVariants.{KeepAll, KeepLast}
 use Rattle.dds_base.specs.Happening.{same_key}
 use Rattle.dds_base.specs.Kept.{WriterHistory}
-use Rattle.dds_history.specs.declared.held.HeldChange.{HeldChange}
+
+-- a change that a history holds: so many more changes of its key drop it
+pub record HeldChange : Type 0 where
+  pub number : ℕ
+  pub change : Change
+  pub remaining : ℕ
 
 -- some reader has not acknowledged the number
 abbrev pub awaits : List ℕ → ℕ → Bool
@@ -45,20 +50,34 @@ with_change policy entries number change is_awaited =
     ++ (if nat_lt 0 (granted policy) && is_awaited
     then record { number = number; change = change; remaining = granted policy } ∷ [] else [])
 
--- the numbers rise, from this one on
-abbrev pub RisesFrom : ℕ → List HeldChange → Type 0
-RisesFrom n [] = Unit {0}
-RisesFrom n (e ∷ es) = (n ≤ e.number) × RisesFrom (e.number + 1) es
-
--- the numbers rise
-abbrev pub Rises : List HeldChange → Type 0
-Rises es = RisesFrom 0 es
+-- how many changes stay kept once one more of this key was made
+abbrev pub older_after : HistoryQos → List HeldChange → Key → ℕ
+older_after KeepAll entries key = length entries
+older_after (KeepLast depth) entries key = count_by (λ e. nat_lt 0 (aged key e).remaining) entries
 
 -- how many changes are kept once one more of this key was made, which some reader awaits or not
 abbrev pub kept_after : HistoryQos → List HeldChange → Key → Bool → ℕ
-kept_after KeepAll entries key is_awaited = length entries + (if is_awaited then 1 else 0)
-kept_after (KeepLast depth) entries key is_awaited =
-    count_by (λ e. nat_lt 0 (aged key e).remaining) entries + (if nat_lt 0 depth && is_awaited then 1 else 0)
+kept_after policy entries key is_awaited =
+    older_after policy entries key + (if nat_lt 0 (granted policy) && is_awaited then 1 else 0)
+
+-- how many of the changes have the key
+abbrev pub lives : Key → List HeldChange → ℕ
+lives key entries = count_by (λ (e : HeldChange). same_key e.change.key key) entries
+
+-- how many of the changes one more of the key drops
+abbrev pub drops : Key → List HeldChange → ℕ
+drops key entries = count_by (λ (e : HeldChange). same_key e.change.key key && nat_le e.remaining 1) entries
+
+-- one more change of a key drops one exactly if as many of it are held as can be
+abbrev pub AreRuns : HistoryQos → List HeldChange → Type 0
+AreRuns KeepAll entries = Unit {0}
+AreRuns (KeepLast depth) entries =
+    (key : Key) → drops key entries ≡ (if nat_lt 0 depth && lives key entries == depth then 1 else 0)
+
+-- one more change may come, which some reader awaits or not; where none would be kept, nothing is
+pub record IsNext (policy : HistoryQos) (entries : List HeldChange) (is_awaited : Bool) : Type 0 where
+  pub runs : AreRuns policy entries
+  pub none : (nat_lt 0 (granted policy) && is_awaited) ≡ false → entries ≡ []
 
 -- so many more changes of the key drop a change that these follow; 1 where nothing is dropped
 abbrev pub remaining_before : HistoryQos → List Change → Key → ℕ

@@ -1,28 +1,58 @@
-//! The changes that a history holds, with how many more of their keys each of them outlives.
+//! The changes that a history keeps.
 //!
 //! They stand in the order of their numbers, and no number stands twice. So what all readers have acknowledged is at
 //! the front, and a number is found at its distance from the first, or, where some between are missing, in halves.
 //!
+//! Under KEEP_LAST nothing is written to the older changes of a key when one more is made: each has its turn, and the
+//! key its count, which tell what is dropped. What is dropped goes once it is first, or once it is more than what is
+//! kept.
+//!
 //! DDS 1.4, 2.2.3 (HISTORY); RTPS 2.5, 8.2 (HistoryCache, CacheChange).
 
-ghost use Rattle.std.specs.Prelude.{◌≡◌, ℕ, ◌≤◌, ◌==◌, find, filter, slice_get, false, min, nat_le, nat_lt, Some, IfErr, IfSome, OnOk, OnErr};
+ghost use Rattle.std.specs.Prelude.{◌≡◌, [], ℕ, ◌+◌, ◌-◌, ◌^◌, ◌<◌, ◌≤◌, ◌==◌, ◌&&◌, ◌||◌, not, find, filter, slice_get, drop, false, true, min, nat_le, nat_lt, Some, IfErr, IfSome, IfOk, OnOk, OnErr, if◌then◌else◌};
 ghost use Rattle.std.specs.List.{reduce};
-ghost use Rattle.std.specs.Option.{option_copied, option_map_or};
-ghost use Rattle.std.specs.VecDeque.{deque_capacity, deque_len};
+ghost use Rattle.std.specs.Option.{option_copied, option_map, option_map_or, unwrap_or};
+ghost use Rattle.std.specs.VecDeque.{deque_len};
 ghost use Rattle.dds_base.specs.declared.code.Code.TheVariants.{Memory};
-ghost use Rattle.dds_history.specs.declared.held.HeldChange.{HeldChange};
-ghost use Rattle.dds_history.specs.Held.{Rises, aged, aged_by, awaits, granted, with_change, kept_after};
+ghost use Rattle.dds_base.specs.declared.key.Key.{Key};
+ghost use Rattle.dds_base.specs.declared.qos.HistoryQos.TheVariants.{KeepLast};
+ghost use Rattle.dds_base.specs.Happening.{same_key};
+ghost use Rattle.dds_history.specs.declared.held.Entry.{Entry};
+ghost use Rattle.dds_history.specs.Held.{AreRuns, HeldChange, IsNext, awaits, granted, kept_after, older_after, with_change};
+ghost use Rattle.dds_history.specs.Entries.{Holds, IsAfterFirst, Rises, count_in, goes_first, held_as, one_fewer, remaining_by, shown, state, is_counted, IsCounted, IsCountedBy, IsFew, IsFewBy};
 
 use dds_base::{Change, Code, HistoryQos, Key};
+use indexmap::IndexMap;
+use std::alloc::Global;
 use std::collections::VecDeque;
 
-/// A change with what its history still grants it.
+/// A change, with its turn among those of its key.
 #[derive(Drop)]
-pub struct HeldChange {
+pub struct Entry {
     pub number: u64,
     pub change: Change,
-    /// So many more changes of its key drop it; nothing counts under KEEP_ALL.
-    pub remaining: u64,
+    /// So many changes of its key were made with it, since some of them are kept; nothing counts under KEEP_ALL.
+    pub turn: u64,
+}
+
+/// What is counted of a key of which changes are kept.
+#[derive(Clone, Copy)]
+pub struct KeyCount {
+    /// So many changes of it were made, since some of them are kept.
+    pub turns: u64,
+    /// So many of them are kept.
+    pub kept: u64,
+}
+
+/// The changes that are kept, and some that were dropped.
+#[derive(Drop)]
+pub struct Kept {
+    pub policy: HistoryQos,
+    pub entries: VecDeque<Entry>,
+    /// The keys of which changes are kept; nothing counts under KEEP_ALL.
+    pub keys: IndexMap<Key, KeyCount>,
+    /// So many changes are kept; nothing counts under KEEP_ALL.
+    pub live: u64,
 }
 
 /// Whether some reader has not acknowledged the number.
@@ -32,50 +62,54 @@ pub fn is_awaited(acknowledged: &[u64], number: u64) -> bool
     acknowledged.iter().any(|to| *to <= number)
 }
 
-/// The first number that some reader has not acknowledged, if there is a reader.
-fn first_awaited(acknowledged: &[u64]) -> Option<u64>
-    ensures { result ≡ reduce min acknowledged.now }
+/// The first number that some reader has not acknowledged; 0 where there is no reader.
+pub fn first_awaited(acknowledged: &[u64]) -> u64
+    ensures { result ≡ unwrap_or (reduce min acknowledged.now) 0 }
 {
-    acknowledged.iter().copied().min()
+    acknowledged.iter().copied().min().unwrap_or(0)
 }
 
-/// Whether the first of the changes has a number below this one.
-fn starts_below(entries: &VecDeque<HeldChange>, number: u64) -> bool
-    ensures { result ≡ option_map_or (λ (e : HeldChange). nat_lt e.number number)
-        (slice_get entries.now.items 0) false }
+/// What is counted of the key.
+fn count_of(keys: &IndexMap<Key, KeyCount>, key: &Key) -> KeyCount
+    ensures { result ≡ count_in keys.now.entries key.now }
 {
-    match entries.front() {
-        Some(entry) => entry.number < number,
-        None => false,
+    match keys.get(key) {
+        Some(count) => *count,
+        None => KeyCount { turns: 0, kept: 0 },
     }
 }
 
-/// Lets go of the changes below the number.
-fn drop_below(entries: &mut VecDeque<HeldChange>, number: u64)
-    ensures { Rises entries.old.items
-        → entries.new.items ≡ filter (λ e. nat_le number e.number) entries.old.items }
+/// So many more changes of its key drop the change: it is dropped where that is none.
+fn remaining(policy: HistoryQos, keys: &IndexMap<Key, KeyCount>, entry: &Entry) -> u64
+    ensures { result ≡ remaining_by policy keys.now.entries entry.now }
 {
-    while starts_below(entries, number) {
-        let _ = entries.pop_front();
+    match policy {
+        HistoryQos::KeepAll => 1,
+        HistoryQos::KeepLast(depth) => {
+            let count = count_of(keys, &entry.change.key);
+            u64::from(depth).saturating_sub(count.turns.saturating_sub(entry.turn))
+        }
     }
 }
 
-/// Lets go of the changes that all readers have acknowledged.
-pub fn let_go(entries: &mut VecDeque<HeldChange>, acknowledged: &[u64])
-    ensures { Rises entries.old.items
-        → entries.new.items ≡ filter (λ e. awaits acknowledged.now e.number) entries.old.items }
+/// One change fewer of the key is kept.
+fn release(keys: &mut IndexMap<Key, KeyCount>, key: Key)
+    ensures { (k : Key) → count_in keys.new.entries k
+        ≡ (if same_key key k then one_fewer (count_in keys.old.entries key) else count_in keys.old.entries k) }
 {
-    match first_awaited(acknowledged) {
-        Some(number) => drop_below(entries, number),
-        None => entries.clear(),
+    let count = count_of(keys, &key);
+    if count.kept <= 1 {
+        keys.swap_remove(&key);
+    } else if let Some(found) = keys.get_mut(&key) {
+        found.kept = count.kept - 1;
     }
 }
 
 /// The change that stands as far from the first as its number does, if that is this number: so it is where no number
 /// between is missing.
-fn at_distance(entries: &VecDeque<HeldChange>, number: u64) -> Option<&HeldChange>
+fn at_distance(entries: &VecDeque<Entry>, number: u64) -> Option<&Entry>
     ensures { Rises entries.now.items → IfSome result (λ entry.
-        find (λ (e : HeldChange). e.number == number) entries.now.items ≡ Some entry.now) }
+        find (λ (e : Entry). e.number == number) entries.now.items ≡ Some entry.now) }
 {
     let first = entries.front()?;
     let distance = number.checked_sub(first.number)?;
@@ -88,9 +122,9 @@ fn at_distance(entries: &VecDeque<HeldChange>, number: u64) -> Option<&HeldChang
 }
 
 /// The change of a number, if it is here, looked for in halves.
-fn search(entries: &VecDeque<HeldChange>, number: u64) -> Option<&HeldChange>
+fn search(entries: &VecDeque<Entry>, number: u64) -> Option<&Entry>
     ensures { Rises entries.now.items
-        → option_copied result ≡ find (λ (e : HeldChange). e.number == number) entries.now.items }
+        → option_copied result ≡ find (λ (e : Entry). e.number == number) entries.now.items }
 {
     let at = entries.partition_point(|entry| entry.number < number);
     let entry = entries.get(at)?;
@@ -101,41 +135,15 @@ fn search(entries: &VecDeque<HeldChange>, number: u64) -> Option<&HeldChange>
     }
 }
 
-/// The change of a number, if it is here.
-pub fn find(entries: &VecDeque<HeldChange>, number: u64) -> Option<&HeldChange>
+/// What stands at a number, if anything.
+fn find_entry(entries: &VecDeque<Entry>, number: u64) -> Option<&Entry>
     ensures { Rises entries.now.items
-        → option_copied result ≡ find (λ (e : HeldChange). e.number == number) entries.now.items }
+        → option_copied result ≡ find (λ (e : Entry). e.number == number) entries.now.items }
 {
     if let Some(entry) = at_distance(entries, number) {
         return Some(entry);
     }
     search(entries, number)
-}
-
-/// What the change still has once one more of this key was made.
-fn remaining_after(entry: &HeldChange, key: &Key) -> u64
-    ensures { result ≡ (aged key.now entry.now).remaining }
-{
-    if *key == entry.change.key {
-        entry.remaining.saturating_sub(1)
-    } else {
-        entry.remaining
-    }
-}
-
-/// Ages the changes of this key, since one more of it was made, and lets go of the one that it drops.
-fn age(entries: &mut VecDeque<HeldChange>, policy: HistoryQos, key: &Key)
-    ensures items { entries.new.items ≡ aged_by policy key.now entries.old.items }
-    ensures few { deque_len entries.new ≤ deque_len entries.old }
-    ensures room { deque_capacity entries.new ≡ deque_capacity entries.old }
-{
-    if let HistoryQos::KeepLast(_) = policy {
-        entries.retain_mut(|entry| {
-            let remaining = remaining_after(entry, key);
-            entry.remaining = remaining;
-            0 < remaining
-        });
-    }
 }
 
 /// So many more changes of its key drop a new change; nothing counts under KEEP_ALL.
@@ -148,61 +156,252 @@ fn granted(policy: HistoryQos) -> u64
     }
 }
 
-/// Adds a change, which is kept if some reader awaits it, and which may drop an older one of its key.
-pub fn add(
-    entries: &mut VecDeque<HeldChange>,
-    policy: HistoryQos,
-    number: u64,
-    change: Change,
-    is_awaited: bool,
-) -> Result<(), Code>
-    ensures ok { OnOk result (entries.new.items
-        ≡ with_change policy entries.old.items number change is_awaited) }
-    ensures memory { IfErr result (λ code. code ≡ Memory) }
-    ensures err { OnErr result (entries.new.items ≡ entries.old.items) }
+/// Whether as many changes of a key are kept as can be.
+fn is_full(depth: u32, count: KeyCount) -> bool
+    ensures { result ≡ (nat_lt 0 depth && count.kept == depth) }
 {
-    let remaining = granted(policy);
-    if remaining == 0 || !is_awaited {
-        age(entries, policy, &change.key);
-        return Ok(());
-    }
-    // Before anything changes.
-    entries.reserve(1)?;
-    age(entries, policy, &change.key);
-    entries.push_back_reserved(HeldChange {
-        number,
-        change,
-        remaining,
-    });
-    Ok(())
+    0 < depth && count.kept == u64::from(depth)
 }
 
-/// How many changes are kept once one more of this key was made, the new one among them if some reader awaits it.
-pub fn kept_with(
-    entries: &VecDeque<HeldChange>,
+/// The first entry that is not dropped.
+fn first_kept<'a>(
+    entries: &'a VecDeque<Entry>,
     policy: HistoryQos,
-    key: &Key,
-    is_awaited: bool,
-) -> usize
-    ensures { result ≡ kept_after policy entries.now.items key.now is_awaited }
+    keys: &IndexMap<Key, KeyCount>,
+) -> Option<&'a Entry>
+    ensures { option_copied result ≡ find (λ e. nat_lt 0 (remaining_by policy keys.now.entries e)) entries.now.items }
 {
-    match policy {
-        HistoryQos::KeepAll => {
-            if is_awaited {
-                entries.len() + 1
-            } else {
-                entries.len()
+    entries
+        .iter()
+        .find(|entry| 0 < remaining(policy, keys, entry))
+}
+
+/// Lets go of what was dropped.
+fn retain_kept(entries: &mut VecDeque<Entry>, policy: HistoryQos, keys: &IndexMap<Key, KeyCount>)
+    ensures { entries.new.items ≡ filter (λ e. nat_lt 0 (remaining_by policy keys.now.entries e)) entries.old.items }
+{
+    entries.retain(|entry| 0 < remaining(policy, keys, entry));
+}
+
+impl Kept {
+    /// Nothing is kept.
+    pub fn new(alloc: Global, policy: HistoryQos) -> Self
+        ensures holds { Holds 0 (state result) }
+        ensures policy { result.policy ≡ policy }
+        ensures none { shown (state result) ≡ [] }
+    {
+        Kept {
+            policy,
+            entries: VecDeque::new(alloc),
+            keys: IndexMap::new(alloc),
+            live: 0,
+        }
+    }
+
+    /// Whether a new change is kept, which some reader awaits or not.
+    pub fn takes(&self, is_awaited: bool) -> bool
+        ensures { result ≡ (nat_lt 0 (granted self.now.policy) && is_awaited) }
+    {
+        0 < granted(self.policy) && is_awaited
+    }
+
+    /// The change of a number, if it is kept.
+    pub fn find(&self, number: u64) -> Option<&Entry>
+        ensures { Rises self.now.entries.items
+            → option_map (held_as self.now.policy self.now.keys.entries) (option_copied result)
+            ≡ find (λ h. h.number == number) (shown (state self.now)) }
+    {
+        let entry = find_entry(&self.entries, number)?;
+        if 0 < remaining(self.policy, &self.keys, entry) {
+            Some(entry)
+        } else {
+            None
+        }
+    }
+
+    /// The first change that is kept.
+    pub fn first(&self) -> Option<&Entry>
+        ensures { option_map (held_as self.now.policy self.now.keys.entries) (option_copied result)
+            ≡ slice_get (shown (state self.now)) 0 }
+    {
+        first_kept(&self.entries, self.policy, &self.keys)
+    }
+
+    /// Whether it counts that this entry goes.
+    fn is_counted(&self, entry: &Entry) -> bool
+        ensures { result ≡ is_counted (state self.now) entry.now }
+    {
+        match self.policy {
+            HistoryQos::KeepAll => false,
+            HistoryQos::KeepLast(_) => 0 < remaining(self.policy, &self.keys, entry),
+        }
+    }
+
+    /// Lets go of the first entry.
+    fn drop_first(&mut self)
+        ensures policy { self.new.policy ≡ self.old.policy }
+        ensures after { (last : ℕ) → Holds last (state self.old)
+            → IsAfterFirst last (state self.old) (state self.new) }
+        ensures len { deque_len self.new.entries ≡ deque_len self.old.entries - 1 }
+    {
+        if let Some(entry) = self.entries.pop_front() {
+            if self.is_counted(&entry) {
+                self.live = self.live.saturating_sub(1);
+                release(&mut self.keys, entry.change.key);
             }
         }
-        HistoryQos::KeepLast(depth) => {
-            let older = entries
-                .iter()
-                .filter(|entry| 0 < remaining_after(entry, key))
-                .count();
-            if 0 < depth && is_awaited {
-                older + 1
-            } else {
-                older
+    }
+
+    /// Whether the first entry goes: its number is below this one, or it is dropped.
+    fn goes_first(&self, number: u64) -> bool
+        ensures { result ≡ goes_first number (state self.now) }
+    {
+        match self.entries.front() {
+            Some(entry) => {
+                entry.number < number || remaining(self.policy, &self.keys, entry) == 0
+            }
+            None => false,
+        }
+    }
+
+    /// Lets go of the changes below the number, and of what was dropped before the first that stays.
+    pub fn let_go(&mut self, number: u64)
+        ensures policy { self.new.policy ≡ self.old.policy }
+        ensures rest { (last : ℕ) → Holds last (state self.old)
+            → Holds last (state self.new)
+            × (shown (state self.new) ≡ filter (λ h. nat_le number h.number) (shown (state self.old))) }
+    {
+        while self.goes_first(number) {
+            self.drop_first();
+        }
+    }
+
+    /// Counts one more change of the key, and gives its turn.
+    fn count(&mut self, depth: u32, key: Key) -> Result<u64, Code>
+        ensures counts { (last : ℕ) → last < 2 ^ 48 → IsFew last (state self.old)
+            → IfOk result (IsCounted depth key (state self.old) (state self.new)) }
+        ensures memory { IfErr result (λ code. code ≡ Memory) }
+        ensures err { OnErr result (state self.new ≡ state self.old) }
+        ensures entries { self.new.entries ≡ self.old.entries }
+        ensures policy { self.new.policy ≡ self.old.policy }
+    {
+        let count = count_of(&self.keys, &key);
+        let is_full = count.kept == u64::from(depth);
+        let turns = count.turns.saturating_add(1);
+        let kept = if is_full {
+            count.kept
+        } else {
+            count.kept.saturating_add(1)
+        };
+        self.keys.insert(key, KeyCount { turns, kept })?;
+        if !is_full {
+            self.live = self.live.saturating_add(1);
+        }
+        Ok(turns)
+    }
+
+    /// The turn of one more change of the key, which is counted.
+    fn turn(&mut self, key: Key) -> Result<u64, Code>
+        ensures counts { (last : ℕ) → last < 2 ^ 48 → IsFewBy self.old.policy last (state self.old)
+            → IfOk result (IsCountedBy self.old.policy key (state self.old) (state self.new)) }
+        ensures memory { IfErr result (λ code. code ≡ Memory) }
+        ensures err { OnErr result (state self.new ≡ state self.old) }
+        ensures entries { self.new.entries ≡ self.old.entries }
+        ensures policy { self.new.policy ≡ self.old.policy }
+    {
+        match self.policy {
+            HistoryQos::KeepAll => Ok(0),
+            HistoryQos::KeepLast(depth) => self.count(depth, key),
+        }
+    }
+
+    /// Adds a change, which may drop an older one of its key.
+    fn add(&mut self, number: u64, change: Change) -> Result<(), Code>
+        ensures ok { (last : ℕ) → last + 1 ≡ number → last < 2 ^ 48 → Holds last (state self.old)
+            → AreRuns self.old.policy (shown (state self.old)) → 0 < granted self.old.policy
+            → OnOk result (Holds number (state self.new)
+            × (shown (state self.new) ≡ with_change self.old.policy (shown (state self.old)) number change true)) }
+        ensures policy { self.new.policy ≡ self.old.policy }
+        ensures memory { IfErr result (λ code. code ≡ Memory) }
+        ensures err { OnErr result (state self.new ≡ state self.old) }
+    {
+        // Before anything changes.
+        self.entries.reserve(1)?;
+        let turn = self.turn(change.key)?;
+        self.entries.push_back_reserved(Entry {
+            number,
+            change,
+            turn,
+        });
+        Ok(())
+    }
+
+    /// Whether more was dropped than is kept.
+    fn is_sparse(&self) -> bool {
+        match self.policy {
+            HistoryQos::KeepAll => false,
+            HistoryQos::KeepLast(_) => self.live.saturating_mul(2) < self.entries.len() as u64,
+        }
+    }
+
+    /// Lets go of what was dropped, where it is first, or more than what is kept.
+    fn tidy(&mut self)
+        ensures policy { self.new.policy ≡ self.old.policy }
+        ensures same { (last : ℕ) → Holds last (state self.old)
+            → Holds last (state self.new) × (shown (state self.new) ≡ shown (state self.old)) }
+    {
+        self.let_go(0);
+        if self.is_sparse() {
+            retain_kept(&mut self.entries, self.policy, &self.keys);
+        }
+    }
+
+    /// One more change, which is kept if some reader awaits it, and may drop an older one of its key.
+    pub fn append(&mut self, number: u64, change: Change, is_awaited: bool) -> Result<(), Code>
+        ensures ok { (last : ℕ) → last + 1 ≡ number → last < 2 ^ 48 → Holds last (state self.old)
+            → IsNext self.old.policy (shown (state self.old)) is_awaited
+            → OnOk result (Holds number (state self.new)
+            × (shown (state self.new) ≡ with_change self.old.policy (shown (state self.old)) number change is_awaited)) }
+        ensures policy { self.new.policy ≡ self.old.policy }
+        ensures memory { IfErr result (λ code. code ≡ Memory) }
+        ensures err { OnErr result (state self.new ≡ state self.old) }
+    {
+        if self.takes(is_awaited) {
+            self.add(number, change)?;
+            self.tidy();
+        }
+        Ok(())
+    }
+
+    /// How many changes are kept once one more of this key was made, the new one among them if some reader awaits it.
+    pub fn kept_with(&self, key: &Key, is_awaited: bool) -> u64
+        ensures { (last : ℕ) → last < 2 ^ 48 → Holds last (state self.now)
+            → AreRuns self.now.policy (shown (state self.now))
+            → result ≡ kept_after self.now.policy (shown (state self.now)) key.now is_awaited }
+    {
+        let older = self.older(key);
+        if self.takes(is_awaited) {
+            older.saturating_add(1)
+        } else {
+            older
+        }
+    }
+
+    /// How many changes stay kept once one more of this key was made.
+    fn older(&self, key: &Key) -> u64
+        ensures older { (last : ℕ) → Holds last (state self.now)
+            → AreRuns self.now.policy (shown (state self.now))
+            → result ≡ older_after self.now.policy (shown (state self.now)) key.now }
+        ensures few { (last : ℕ) → last < 2 ^ 48 → Holds last (state self.now) → result < 2 ^ 64 - 1 }
+    {
+        match self.policy {
+            HistoryQos::KeepAll => self.entries.len() as u64,
+            HistoryQos::KeepLast(depth) => {
+                if is_full(depth, count_of(&self.keys, key)) {
+                    self.live.saturating_sub(1)
+                } else {
+                    self.live
+                }
             }
         }
     }

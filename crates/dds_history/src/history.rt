@@ -8,20 +8,21 @@ ghost use Rattle.dds_base.specs.declared.change.Change.{Change};
 ghost use Rattle.dds_base.specs.declared.code.Code.TheVariants.{Memory};
 ghost use Rattle.dds_base.specs.Kept.{WriterHistory, acknowledge, appended, append_refusal, exceeds, first_kept, is_awaited, is_kept, kept_change};
 ghost use Rattle.dds_base.specs.Refusal.{Refuses};
-ghost use Rattle.dds_history.specs.Held.{awaits, kept_after};
+ghost use Rattle.dds_history.specs.Held.{awaits, held_of, kept_after};
 ghost use Rattle.dds_history.specs.Standing.{StandsFor, reader_count};
 
-use crate::held::{HeldChange, add, find, is_awaited, kept_with, let_go};
+use crate::held::{Kept, first_awaited, is_awaited};
 use dds_base::{Change, Code, HistoryQos, Key, Sn};
 use std::alloc::Global;
-use std::collections::VecDeque;
 use std::marker::Model;
 
 /// A writer makes this many changes.
 const MAX_CHANGES: u64 = 1 << 48;
 
 /// The changes of a writer, numbered from 1, of which it keeps those that its policy has not dropped and that some
-/// matched reliable reader has not acknowledged. What is not kept takes no room, and costs no time.
+/// matched reliable reader has not acknowledged. A change costs the same however many are kept, and an acknowledgement
+/// what it lets go of. What is acknowledged takes no room; what was dropped takes some until it is the oldest, or more
+/// than is kept.
 ///
 /// Its matched reliable readers are named by an index from 0. Where there is none, a change gets its number and is not
 /// kept.
@@ -29,27 +30,26 @@ const MAX_CHANGES: u64 = 1 << 48;
 /// DDS 1.4, 2.2.3 (HISTORY, RESOURCE_LIMITS); RTPS 2.5, 8.2 (HistoryCache), 8.4.7 (ReaderProxy).
 #[derive(Drop)]
 pub struct History {
-    policy: HistoryQos,
     max_samples: Option<u32>,
     /// The number of the last change.
     last: u64,
     /// Of each reader, the number below which it has acknowledged all.
     acknowledged: Vec<u64>,
-    /// What is kept, in the order of the numbers.
-    entries: VecDeque<HeldChange>,
+    kept: Kept,
 }
 
 impl Model for History {
+    ghost use Rattle.dds_history.specs.Entries.{parts, state};
     ghost use Rattle.dds_history.specs.Standing.{Held};
 
     ghost Value = { Held };
 
     ghost view = { λ h. record {
-      policy = h.policy;
+      policy = h.kept.policy;
       max_samples = h.max_samples;
       last = h.last;
       acknowledged = h.acknowledged.items;
-      entries = h.entries.items;
+      kept = parts (state h.kept);
     } };
 }
 
@@ -80,11 +80,10 @@ impl History {
     {
         let acknowledged = vec![in alloc; 1u64; readers]?;
         Ok(History {
-            policy,
             max_samples,
             last: 0,
             acknowledged,
-            entries: VecDeque::new(alloc),
+            kept: Kept::new(alloc, policy),
         })
     }
 
@@ -115,8 +114,8 @@ impl History {
             return Err(code);
         }
         let number = self.last + 1;
-        let is_new_kept = is_awaited(&self.acknowledged, number);
-        add(&mut self.entries, self.policy, number, change, is_new_kept)?;
+        let is_awaited = is_awaited(&self.acknowledged, number);
+        self.kept.append(number, change, is_awaited)?;
         self.last = number;
         Ok(Sn::new(number))
     }
@@ -150,24 +149,23 @@ impl History {
     /// Whether one more change of this key would exceed the limit.
     fn is_full(&self, key: &Key) -> bool
         requires { self.now.last < 2 ^ 48 }
-        ensures { result ≡ exceeds self.now.max_samples
-            (kept_after self.now.policy self.now.entries key.now
-            (awaits self.now.acknowledged (self.now.last + 1))) }
+        ensures { (w : WriterHistory) → StandsFor self.now w → result ≡ exceeds self.now.max_samples
+            (kept_after w.policy (held_of w) key.now (awaits w.acknowledged (self.now.last + 1))) }
     {
         match self.max_samples {
-            Some(most) => (most as usize) < self.kept_with(key),
+            Some(most) => u64::from(most) < self.kept_with(key),
             None => false,
         }
     }
 
     /// How many numbers are kept once one more change of this key was made.
-    fn kept_with(&self, key: &Key) -> usize
+    fn kept_with(&self, key: &Key) -> u64
         requires { self.now.last < 2 ^ 48 }
-        ensures { result ≡ kept_after self.now.policy self.now.entries key.now
-            (awaits self.now.acknowledged (self.now.last + 1)) }
+        ensures { (w : WriterHistory) → StandsFor self.now w → result ≡ kept_after w.policy (held_of w) key.now
+            (awaits w.acknowledged (self.now.last + 1)) }
     {
-        let is_new_kept = is_awaited(&self.acknowledged, self.last + 1);
-        kept_with(&self.entries, self.policy, key, is_new_kept)
+        let is_awaited = is_awaited(&self.acknowledged, self.last + 1);
+        self.kept.kept_with(key, is_awaited)
     }
 
     /// How many matched reliable readers there are: their indices lie below.
@@ -197,7 +195,7 @@ impl History {
         let to = to.number();
         if self.acknowledged[reader] < to {
             self.acknowledged[reader] = to;
-            let_go(&mut self.entries, &self.acknowledged);
+            self.kept.let_go(first_awaited(&self.acknowledged));
         }
     }
 
@@ -228,7 +226,7 @@ impl History {
     pub fn kept(&self, number: Sn) -> bool
         ensures kept { (w : WriterHistory) → StandsFor self.now w → result ≡ is_kept w number }
     {
-        find(&self.entries, number.number()).is_some()
+        self.kept.find(number.number()).is_some()
     }
 
     /// The change of a kept number; `None` where the number is not kept.
@@ -236,7 +234,7 @@ impl History {
         ensures change { (w : WriterHistory) → StandsFor self.now w
             → option_copied result ≡ kept_change w number }
     {
-        let entry = find(&self.entries, number.number())?;
+        let entry = self.kept.find(number.number())?;
         Some(&entry.change)
     }
 
@@ -246,7 +244,7 @@ impl History {
     pub fn first(&self) -> Sn
         ensures first { (w : WriterHistory) → StandsFor self.now w → result ≡ first_kept w }
     {
-        match self.entries.front() {
+        match self.kept.first() {
             Some(entry) => Sn::new(entry.number),
             None => Sn::new(self.last.saturating_add(1)),
         }
