@@ -10,12 +10,12 @@ from collections.abc import Iterator
 # A name that the root brings out of a module, or several, over one line or more.
 USE = re.compile(r"^pub use (?:\w+::)*(?:\{([^}]*)\}|(\w+))(?: as (\w+))?;", re.M)
 MODULE = re.compile(r"^pub mod (\w+);", re.M)
-OWN = re.compile(r"^pub (?:const )?(?:fn|struct|enum|trait) (\w+)", re.M)
+OWN = re.compile(r'^pub (?:const |extern "C" )?(?:fn|struct|enum|trait) (\w+)', re.M)
 # The parameters of an impl or of a type, with those within them.
 GENERIC = r"(?:<(?:[^<>]|<(?:[^<>]|<[^<>]*>)*>)*>)?"
 IMPL = re.compile(rf"impl{GENERIC} (?:(?:\w+::)*(\w+){GENERIC} for )?(\w+)")
 TRAIT = re.compile(r"(?:pub )?trait (\w+)")
-ITEM = re.compile(r"( *)(pub )?(?:pub\(\w+\) )?(?:(?:const )?(fn) (\w+)|const (\w+))")
+ITEM = re.compile(r'( *)(pub )?(?:pub\(\w+\) )?(?:(?:const |extern "C" )?(fn) (\w+)|const (\w+))')
 
 
 @dataclasses.dataclass(frozen=True)
@@ -114,6 +114,7 @@ pub use two::{
 };
 pub use other::deep::Third;
 pub fn own() {}
+pub extern "C" fn own_for_c() {}
 fn inner() {}
 """
 TWO = """//! A file.
@@ -156,7 +157,7 @@ pub fn make() {}
 
 def main() -> int:
     found = exports_of(SMALL)
-    wanted = {"One", "Two", "make", "made", "TwoOfThem", "Third", "own"}
+    wanted = {"One", "Two", "make", "made", "TwoOfThem", "Third", "own", "own_for_c"}
     items = {it.path: it for it in items_of(TWO)}
     right = [
         found.names == wanted,

@@ -1,0 +1,20 @@
+//! Peers for programs in C, and in whatever calls C.
+//!
+//! DDS 1.4, 2.2.2.4 and 2.2.2.5 (DataWriter, DataReader); RTPS 2.5, 8.3.4 (the message receiver).
+//! Each export is an event at a peer, or a fetch of what the last event gave back; `include/cinchwalnut.h` declares them,
+//! and says what their caller owes. `specs/` says what an event does to what a caller holds.
+//! Not here: what a peer answers (`dds_core`), where packets go and how, and what time it is.
+#![tactic(auto)]
+
+pub mod answers;
+mod config;
+pub mod events;
+mod held;
+pub mod lines;
+pub mod opening;
+mod out;
+mod parts;
+mod peer;
+pub mod reading;
+mod session;
+pub mod writing;

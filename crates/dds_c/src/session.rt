@@ -1,0 +1,81 @@
+//! A peer and its last answer.
+
+ghost use Rattle.std.specs.Prelude.{◌≡◌, ◌≢◌, None, IfOk, IfErr};
+ghost use Rattle.dds_base.specs.Refusal.{Refuses};
+ghost use Rattle.dds_core.specs.Listening.{Steps};
+ghost use Rattle.dds_core.specs.Opening.{core_refusal};
+ghost use Rattle.dds_core.specs.Sending.{AreMessages, Sends};
+ghost use Rattle.dds_conditions.specs.Filtered.{tests_of};
+ghost use Rattle.dds_c.specs.Answering.{code_number, refusing_number};
+ghost use Rattle.dds_c.specs.Meaning.{prefix_meaning, recorder_notices, recorder_capacity, recorder_becomes};
+ghost use Rattle.dds_c.specs.Opening.{IsOpening};
+
+use dds_base::{Code, Config, Sequence};
+use dds_core::Core as CoreOf;
+use dds_machine::Reply;
+use dds_notices::Recorder;
+use dds_protocol::{Event, Output};
+use dds_script::Prefix;
+use std::alloc::Global;
+
+/// A peer whose filters are prefixes, and whose listeners record.
+pub type Core = CoreOf<Prefix, Recorder>;
+
+/// A peer, and what it gave back last.
+#[derive(Drop)]
+pub struct Session {
+    pub core: Core,
+    pub last: Output,
+}
+
+/// The number of the code that a reply refuses with, 0 of another reply.
+pub fn code_of(reply: &Reply) -> u8
+    ensures number { result ≡ code_number reply.now }
+{
+    match reply {
+        Reply::Refused(code) => code.number(),
+        _ => 0,
+    }
+}
+
+/// The number of a code that refuses: that of ERROR for OK, with which nothing is refused.
+pub fn refusal(code: Code) -> u8
+    ensures number { result ≡ refusing_number code }
+    ensures refuses { result ≢ 0 }
+{
+    match code {
+        Code::Ok => Code::Error.number(),
+        code => code.number(),
+    }
+}
+
+impl Session {
+    /// The peer of this number, at its opening.
+    ///
+    /// # Errors
+    ///
+    /// As `Core::open` has them.
+    pub fn open(alloc: Global, config: &Config, peer: u8) -> Result<Session, Code>
+        ensures opening { IfOk result (IsOpening config.now peer) }
+        ensures refused { IfErr result (Refuses (core_refusal config.now.peers peer)) }
+    {
+        let core: Core = Core::open(alloc, config, peer)?;
+        let last = Output {
+            reply: Reply::Done,
+            packets: Sequence::from_vec(Vec::new(alloc)),
+            unsent: 0,
+        };
+        Ok(Session { core, last })
+    }
+
+    /// An event at the peer.
+    pub fn step(&mut self, event: Event)
+        ensures step { Steps recorder_notices recorder_capacity recorder_becomes
+            (tests_of prefix_meaning self.old.core.filtered.filters)
+            self.old.core event self.new.last self.new.core }
+        ensures sends { Sends self.old.core.filtered.peer event self.new.last }
+        ensures messages { AreMessages self.new.last.packets }
+    {
+        self.last = self.core.step(event);
+    }
+}

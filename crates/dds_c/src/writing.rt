@@ -1,0 +1,93 @@
+//! The calls of a writer, which is named by its number at the peer, from 1.
+//!
+//! DDS 1.4, 2.2.2.4 (DataWriter).
+
+ghost use Rattle.dds_machine.specs.declared.call.Call.TheVariants.{AssertLiveliness, Dispose, GetLivelinessLost, Register, Unregister, Write};
+ghost use Rattle.dds_protocol.specs.declared.event.Event.TheVariants.{Call as Asked};
+ghost use Rattle.dds_c.specs.Answering.{Happens, HappensCopied};
+
+use crate::events::step;
+use crate::peer::Peer;
+use dds_base::{Code, Key, Octets};
+use dds_machine::Call;
+use dds_protocol::Event;
+use std::alloc::Global;
+
+/// Registers an instance (DDS 1.4, 2.2.2.4, register_instance). It is refused as `Call::Register`.
+#[unsafe(no_mangle)]
+pub extern "C" fn cw_register(alloc: Global, peer: &mut Peer, writer: u8, key: &[u8; 16]) -> u8
+    // It is one step of the peer.
+    ensures step { Happens peer.old.held.session
+        (Asked (Register writer (record { 0 = key.now }))) result peer.new.held.session }
+{
+    let key = Key(*key);
+    step(alloc, peer, Event::Call(Call::Register { writer, key }))
+}
+
+/// Writes a value of an instance (DDS 1.4, 2.2.2.4, write). It is refused as `Call::Write`, and by MEMORY where there is
+/// none for the copy of the value; then nothing changes.
+#[unsafe(no_mangle)]
+pub extern "C" fn cw_write(
+    alloc: Global,
+    peer: &mut Peer,
+    writer: u8,
+    key: &[u8; 16],
+    value: &[u8],
+) -> u8
+    // It is one step of the peer, or nothing changes.
+    ensures step { HappensCopied peer.old.held.session
+        (Asked (Write writer (record { 0 = key.now }) value.now)) result peer.new.held.session }
+{
+    let Ok(value) = Vec::from_slice(alloc, value) else {
+        return Code::Memory.number();
+    };
+    let call = Call::Write {
+        writer,
+        key: Key(*key),
+        value: Octets::from_vec(value),
+    };
+    step(alloc, peer, Event::Call(call))
+}
+
+/// Disposes an instance (DDS 1.4, 2.2.2.4, dispose). It is refused as `Call::Dispose`.
+#[unsafe(no_mangle)]
+pub extern "C" fn cw_dispose(alloc: Global, peer: &mut Peer, writer: u8, key: &[u8; 16]) -> u8
+    // It is one step of the peer.
+    ensures step { Happens peer.old.held.session
+        (Asked (Dispose writer (record { 0 = key.now }))) result peer.new.held.session }
+{
+    let key = Key(*key);
+    step(alloc, peer, Event::Call(Call::Dispose { writer, key }))
+}
+
+/// Ends the registration of an instance (DDS 1.4, 2.2.2.4, unregister_instance). It is refused as `Call::Unregister`.
+#[unsafe(no_mangle)]
+pub extern "C" fn cw_unregister(alloc: Global, peer: &mut Peer, writer: u8, key: &[u8; 16]) -> u8
+    // It is one step of the peer.
+    ensures step { Happens peer.old.held.session
+        (Asked (Unregister writer (record { 0 = key.now }))) result peer.new.held.session }
+{
+    let key = Key(*key);
+    step(alloc, peer, Event::Call(Call::Unregister { writer, key }))
+}
+
+/// Asserts a writer's liveliness (DDS 1.4, 2.2.2.4, assert_liveliness). It is refused as `Call::AssertLiveliness`.
+#[unsafe(no_mangle)]
+pub extern "C" fn cw_assert_liveliness(alloc: Global, peer: &mut Peer, writer: u8) -> u8
+    // It is one step of the peer.
+    ensures step { Happens peer.old.held.session
+        (Asked (AssertLiveliness writer)) result peer.new.held.session }
+{
+    step(alloc, peer, Event::Call(Call::AssertLiveliness { writer }))
+}
+
+/// Looks at LIVELINESS_LOST (DDS 1.4, 2.2.2.4, get_liveliness_lost_status); `cw_total` fetches it. It is refused as
+/// `Call::GetLivelinessLost`.
+#[unsafe(no_mangle)]
+pub extern "C" fn cw_get_liveliness_lost_status(alloc: Global, peer: &mut Peer, writer: u8) -> u8
+    // It is one step of the peer.
+    ensures step { Happens peer.old.held.session
+        (Asked (GetLivelinessLost writer)) result peer.new.held.session }
+{
+    step(alloc, peer, Event::Call(Call::GetLivelinessLost { writer }))
+}

@@ -1,0 +1,50 @@
+/* What is misused is answered by a code, and changes nothing. */
+#include "cinchwalnut.h"
+#include <stdio.h>
+#include <string.h>
+
+static const cw_peer_config peers[] = {{{1, 1, 1, 1, 1, 1, 1, 1, 1, 1, 1, 1}}};
+static const cw_writer_config writers[] = {
+    {.peer = 1, .entity = {0, 0, 1, 2}, .max_samples = -1}, {.peer = 9, .entity = {0, 0, 2, 2}, .max_samples = -1}};
+static const cw_reader_config readers[] = {
+    {.peer = 1, .entity = {0, 0, 1, 7}, .keeps_last = true, .depth = 0, .max_samples = -1, .max_instances = -1}};
+
+static void say(const char *what, uint8_t code) { printf("%s: %u\n", what, code); }
+
+static uint8_t open_with(cw_peer *peer, size_t writers_len, size_t readers_len, uint8_t number) {
+    return cw_open(peer, peers, 1, writers, writers_len, readers, readers_len, number);
+}
+
+int main(void) {
+    cw_peer peer = CW_PEER_NONE;
+    const uint8_t key[16] = {1}, value[1025] = {0};
+    uint8_t buffer[8] = {0}, to = 0;
+    uint64_t handle = 0;
+    size_t needed = 0;
+    say("a tick at a peer that is not open", cw_tick(&peer, 1));
+    say("a packet of one that is not open", cw_packet(&peer, 0, &to, buffer, sizeof buffer, &needed));
+    say("a writer of a peer that there isn't", open_with(&peer, 2, 0, 1));
+    say("a peer that there isn't", open_with(&peer, 1, 0, 2));
+    say("peer 0", open_with(&peer, 1, 0, 0));
+    say("a depth of 0", open_with(&peer, 1, 1, 1));
+    say("a configuration that is none", cw_open_text(&peer, (const uint8_t *)"nonsense", 8, 1));
+    say("and now one that is", open_with(&peer, 1, 0, 1));
+    say("a writer that there isn't", cw_write(&peer, 2, key, value, 1));
+    say("a value of 1,025 octets", cw_write(&peer, 1, key, value, sizeof value));
+    say("an instance that is not registered", cw_unregister(&peer, 1, key));
+    say("a reader that there isn't", cw_take(&peer, 1, -1, CW_ANY, CW_ANY, CW_ANY));
+    say("a line that is none", cw_line(&peer, (const uint8_t *)"take", 4));
+    say("a moment", cw_tick(&peer, 5));
+    say("an earlier one", cw_tick(&peer, 4));
+    say("a moment that is too late", cw_tick(&peer, (uint64_t)1 << 63));
+    say("a handle of an answer that has none", cw_handle(&peer, &handle));
+    say("a packet that there isn't", cw_packet(&peer, 0, &to, buffer, sizeof buffer, &needed));
+    say("octets that are no datagram", cw_deliver(&peer, value, sizeof value));
+    say("no octets", cw_deliver(&peer, value, 0));
+    say("a buffer that is too short", cw_text(&peer, buffer, 3, &needed));
+    printf("it has to have %zu octets\n", needed);
+    cw_close(&peer);
+    cw_close(&peer);
+    say("a write once it is closed, twice", cw_write(&peer, 1, key, value, 1));
+    return 0;
+}

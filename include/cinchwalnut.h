@@ -1,0 +1,194 @@
+/* Peers of the Data Distribution Service, for C, C++ and whatever calls C: docs/C.md says what is proved of them.
+ *
+ * A peer does no input and no output and knows no time: what comes to it is told by these calls, and what it sends is
+ * fetched from it.
+ *
+ * What a caller owes; nothing checks it.
+ *  - A cw_peer is as CW_PEER_NONE or as a call left it. It may be moved, but is no copy of one that is still used.
+ *  - One call at a time for each cw_peer; it may go from thread to thread, as C orders that.
+ *  - Pointers are valid, aligned, not NULL (also for length 0), and what they point to is initialized for the whole
+ *    length, also where it is only written to. No two pointers of a call overlap. A bool is 0 or 1.
+ *  - malloc, realloc and free are of one allocator, which aligns as usual. No call comes from a signal handler, or from
+ *    the forked child of a process with threads.
+ * All else is answered by a code: a peer that is not open, or closed twice; a number, an index, a length, a mask or
+ * octets of any value; memory that is refused. */
+#ifndef CINCHWALNUT_H
+#define CINCHWALNUT_H
+
+#include <stdbool.h>
+#include <stddef.h>
+#include <stdint.h>
+
+#ifdef __cplusplus
+extern "C" {
+#endif
+
+/* A peer that is open, or none, in the memory of the caller: CW_PEER_NONE at first, and from then on only its address is
+ * handed on. */
+typedef struct cw_peer {
+    bool is_open;
+    void *held;
+} cw_peer;
+
+#define CW_PEER_NONE {false, NULL}
+
+/* Return codes: those of DDS 1.4, 2.3.3, and CW_MEMORY. A call that answers another one than CW_OK has changed nothing,
+ * but for what docs/C.md says of CW_NO_DATA and of CW_TIMEOUT. */
+enum {
+    CW_OK = 0,
+    CW_BAD_PARAMETER = 3,
+    CW_PRECONDITION_NOT_MET = 4, /* also: no peer is open */
+    CW_OUT_OF_RESOURCES = 5,     /* of a fetch: the buffer is too short */
+    CW_INCONSISTENT_POLICY = 8,
+    CW_TIMEOUT = 10,
+    CW_NO_DATA = 11,             /* of a fetch: the last answer has nothing of the kind */
+    CW_MEMORY = 100
+};
+
+/* The states of samples (DDS 1.4, 2.3.3). */
+enum {
+    CW_READ = 1,
+    CW_NOT_READ = 2,
+    CW_NEW = 1,
+    CW_NOT_NEW = 2,
+    CW_ALIVE = 1,
+    CW_NOT_ALIVE_DISPOSED = 2,
+    CW_NOT_ALIVE_NO_WRITERS = 4,
+    CW_ANY = 65535
+};
+
+/* A peer of a configuration, numbered from 1 in their order: what its GUIDs begin with (RTPS 2.5, 8.2), not twelve zeros,
+ * and no other peer's. */
+typedef struct cw_peer_config {
+    uint8_t prefix[12];
+} cw_peer_config;
+
+/* A writer of a configuration (DDS 1.4, 2.2.3). The writers of a peer are numbered from 1 in their order. */
+typedef struct cw_writer_config {
+    uint8_t peer;         /* the number of its peer */
+    uint8_t entity[4];    /* three octets of a key, and 0x02 */
+    bool is_exclusive;    /* OWNERSHIP: EXCLUSIVE, else SHARED */
+    bool keeps_last;      /* HISTORY: KEEP_LAST with depth, else KEEP_ALL */
+    bool has_lease;       /* LIVELINESS: lease, else without end */
+    bool autodispose;     /* WRITER_DATA_LIFECYCLE */
+    uint32_t topic;       /* writers and readers of equal numbers match */
+    uint32_t depth;       /* from 1, where keeps_last */
+    int32_t max_samples;  /* RESOURCE_LIMITS: positive, or -1 for no limit */
+    int32_t strength;     /* OWNERSHIP_STRENGTH */
+    uint64_t lease;       /* in units of 2^-32 second, from 1 to 2^63 - 1, where has_lease */
+} cw_writer_config;
+
+/* A reader of a configuration, likewise; its entity ends with 0x07, and it takes writers whose lease is no longer. */
+typedef struct cw_reader_config {
+    uint8_t peer;
+    uint8_t entity[4];
+    bool is_exclusive;
+    bool keeps_last;
+    bool has_lease;
+    uint32_t topic;
+    uint32_t depth;
+    int32_t max_samples;
+    int32_t max_instances; /* RESOURCE_LIMITS: positive, or -1 for no limit */
+    uint64_t lease;
+} cw_reader_config;
+
+/* DDS 1.4, 2.2.2.5 (SampleInfo), with the key of the sample. */
+typedef struct cw_sample_info {
+    uint8_t key[16];
+    uint64_t source_timestamp; /* in units of 2^-32 second */
+    uint64_t instance_handle;
+    uint64_t publication_handle;
+    uint64_t disposed_generation_count;
+    uint64_t no_writers_generation_count;
+    uint64_t sample_rank;
+    uint64_t generation_rank;
+    uint64_t absolute_generation_rank;
+    uint32_t sample_state;
+    uint32_t view_state;
+    uint32_t instance_state;
+    bool valid_data;
+} cw_sample_info;
+
+/* DDS 1.4, 2.2.4.1: SAMPLE_LOST, LIVELINESS_LOST. */
+typedef struct cw_total_status {
+    uint64_t total_count;
+    uint64_t total_count_change;
+} cw_total_status;
+
+/* DDS 1.4, 2.2.4.1: LIVELINESS_CHANGED. */
+typedef struct cw_changed_status {
+    int32_t alive_count;
+    int32_t not_alive_count;
+    int32_t alive_count_change;
+    int32_t not_alive_count_change;
+    uint64_t last_publication_handle; /* 0 for none */
+} cw_changed_status;
+
+/* Opens a peer of a configuration, by its number; what was open before is closed. A refusal changes nothing. */
+uint8_t cw_open(cw_peer *peer, const cw_peer_config *peers, size_t peers_len, const cw_writer_config *writers,
+                size_t writers_len, const cw_reader_config *readers, size_t readers_len, uint8_t number);
+/* The same of a configuration in lines "peer ..", "writer ..", "reader .." of docs/PIPE.md. */
+uint8_t cw_open_text(cw_peer *peer, const uint8_t *text, size_t text_len, uint8_t number);
+/* Frees what the peer holds: none is open then. Where none was, it does nothing. */
+void cw_close(cw_peer *peer);
+
+/* Events. Each makes the last answer anew: its packets, its samples, its values and its text.
+ *
+ * A datagram comes, whatever its octets are; the time goes on, in units of 2^-32 second. */
+uint8_t cw_deliver(cw_peer *peer, const uint8_t *datagram, size_t datagram_len);
+uint8_t cw_tick(cw_peer *peer, uint64_t now);
+
+/* Calls of a writer, by its number (DDS 1.4, 2.2.2.4); a value has at most 1,024 octets. */
+uint8_t cw_register(cw_peer *peer, uint8_t writer, const uint8_t key[16]);
+uint8_t cw_write(cw_peer *peer, uint8_t writer, const uint8_t key[16], const uint8_t *value, size_t value_len);
+uint8_t cw_dispose(cw_peer *peer, uint8_t writer, const uint8_t key[16]);
+uint8_t cw_unregister(cw_peer *peer, uint8_t writer, const uint8_t key[16]);
+uint8_t cw_assert_liveliness(cw_peer *peer, uint8_t writer);
+uint8_t cw_get_liveliness_lost_status(cw_peer *peer, uint8_t writer);
+
+/* Calls of a reader, by its number (DDS 1.4, 2.2.2.5). max is how many samples at most, -1 for all; the masks are sums of
+ * states, or CW_ANY. Conditions are made by lines. */
+uint8_t cw_read(cw_peer *peer, uint8_t reader, int32_t max, uint32_t samples, uint32_t views, uint32_t instances);
+uint8_t cw_take(cw_peer *peer, uint8_t reader, int32_t max, uint32_t samples, uint32_t views, uint32_t instances);
+uint8_t cw_read_instance(cw_peer *peer, uint8_t reader, int32_t max, uint64_t handle, uint32_t samples, uint32_t views,
+                         uint32_t instances);
+uint8_t cw_take_instance(cw_peer *peer, uint8_t reader, int32_t max, uint64_t handle, uint32_t samples, uint32_t views,
+                         uint32_t instances);
+uint8_t cw_read_next_instance(cw_peer *peer, uint8_t reader, int32_t max, uint64_t previous, uint32_t samples,
+                              uint32_t views, uint32_t instances);
+uint8_t cw_take_next_instance(cw_peer *peer, uint8_t reader, int32_t max, uint64_t previous, uint32_t samples,
+                              uint32_t views, uint32_t instances);
+uint8_t cw_read_next_sample(cw_peer *peer, uint8_t reader);
+uint8_t cw_take_next_sample(cw_peer *peer, uint8_t reader);
+uint8_t cw_read_w_condition(cw_peer *peer, uint8_t reader, int32_t max, uint32_t condition);
+uint8_t cw_take_w_condition(cw_peer *peer, uint8_t reader, int32_t max, uint32_t condition);
+uint8_t cw_read_next_instance_w_condition(cw_peer *peer, uint8_t reader, int32_t max, uint64_t previous,
+                                          uint32_t condition);
+uint8_t cw_take_next_instance_w_condition(cw_peer *peer, uint8_t reader, int32_t max, uint64_t previous,
+                                          uint32_t condition);
+uint8_t cw_get_key_value(cw_peer *peer, uint8_t reader, uint64_t handle);
+uint8_t cw_lookup_instance(cw_peer *peer, uint8_t reader, const uint8_t key[16]);
+uint8_t cw_get_sample_lost_status(cw_peer *peer, uint8_t reader);
+uint8_t cw_get_liveliness_changed_status(cw_peer *peer, uint8_t reader);
+
+/* Any event, in a line of docs/PIPE.md without its line feed: "call ..", "tick M" or "deliver HEX". */
+uint8_t cw_line(cw_peer *peer, const uint8_t *line, size_t line_len);
+
+/* Fetches of the last answer, which change nothing. Packets and samples count from 0; each is copied to the start of the
+ * buffer, and *needed is how many octets it has. Where they don't fit, nothing is copied, the code is CW_OUT_OF_RESOURCES,
+ * and *needed says how long the buffer has to be. */
+uint8_t cw_packet(cw_peer *peer, size_t at, uint8_t *to, uint8_t *buffer, size_t buffer_len, size_t *needed);
+uint8_t cw_sample(cw_peer *peer, size_t at, cw_sample_info *info, uint8_t *buffer, size_t buffer_len, size_t *needed);
+uint8_t cw_key(cw_peer *peer, uint8_t key[16]);                 /* of cw_get_key_value */
+uint8_t cw_handle(cw_peer *peer, uint64_t *handle);             /* of cw_lookup_instance; 0 where it is not known */
+uint8_t cw_number(cw_peer *peer, uint32_t *number);             /* of what a line made: a condition, a WaitSet */
+uint8_t cw_total(cw_peer *peer, cw_total_status *total);        /* of a look at SAMPLE_LOST or LIVELINESS_LOST */
+uint8_t cw_changed(cw_peer *peer, cw_changed_status *changed);  /* of a look at LIVELINESS_CHANGED */
+uint64_t cw_unsent(cw_peer *peer);                              /* how many packets found no memory, as if they were lost */
+/* The reply in words, and a line feed: what docs/PIPE.md has behind "reply". */
+uint8_t cw_text(cw_peer *peer, uint8_t *buffer, size_t buffer_len, size_t *needed);
+
+#ifdef __cplusplus
+}
+#endif
+#endif
