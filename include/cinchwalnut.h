@@ -124,6 +124,30 @@ typedef struct cw_changed_status {
     uint64_t last_publication_handle; /* 0 for none */
 } cw_changed_status;
 
+/* The participant, a writer or a reader: the kind of an entity. */
+enum {
+    CW_PARTICIPANT = 0, /* of number 0 */
+    CW_WRITER = 1,
+    CW_READER = 2
+};
+
+/* Communication statuses, as bits (DDS 1.4, 2.3.3). */
+enum {
+    CW_SAMPLE_LOST = 128,
+    CW_DATA_AVAILABLE = 1024,
+    CW_LIVELINESS_LOST = 2048,
+    CW_LIVELINESS_CHANGED = 4096
+};
+
+/* That a status of an entity was raised, with its values; those that the status does not have are 0. */
+typedef struct cw_notice_info {
+    uint8_t entity_kind;
+    uint8_t entity_number;
+    uint32_t status;
+    cw_total_status total;
+    cw_changed_status changed;
+} cw_notice_info;
+
 /* Opens a peer of a configuration, by its number; what was open before is closed. A refusal changes nothing. */
 uint8_t cw_open(cw_peer *peer, const cw_peer_config *peers, size_t peers_len, const cw_writer_config *writers,
                 size_t writers_len, const cw_reader_config *readers, size_t readers_len, uint8_t number);
@@ -132,7 +156,8 @@ uint8_t cw_open_text(cw_peer *peer, const uint8_t *text, size_t text_len, uint8_
 /* Frees what the peer holds: none is open then. Where none was, it does nothing. */
 void cw_close(cw_peer *peer);
 
-/* Events. Each makes the last answer anew: its packets, its samples, its values and its text.
+/* Events. Each makes the last answer anew: its packets, its samples, its values and its text. Where there was none, for
+ * want of memory for a copy of its octets, or of an open peer, or as a line names none, the answer before stays.
  *
  * A datagram comes, whatever its octets are; the time goes on, in units of 2^-32 second. */
 uint8_t cw_deliver(cw_peer *peer, const uint8_t *datagram, size_t datagram_len);
@@ -173,6 +198,17 @@ uint8_t cw_get_liveliness_changed_status(cw_peer *peer, uint8_t reader);
 
 /* Any event, in a line of docs/PIPE.md without its line feed: "call ..", "tick M" or "deliver HEX". */
 uint8_t cw_line(cw_peer *peer, const uint8_t *line, size_t line_len);
+
+/* A filter, which values pass that begin with these octets: query conditions, which are made by lines, name it by its
+ * number. */
+uint8_t cw_add_filter(cw_peer *peer, const uint8_t *octets, size_t octets_len, uint32_t *number);
+
+/* Listeners are recorders (DDS 1.4, 2.2.4.3): each keeps the last notices of the statuses of its mask, at most as many as
+ * there is room for, 1 to 65,536. To ask for them, set the recorder anew, or clear it: what the one before kept is then
+ * fetched by cw_notice, from 0 and the oldest first. */
+uint8_t cw_set_recorder(cw_peer *peer, uint8_t kind, uint8_t number, uint32_t mask, size_t room);
+uint8_t cw_clear_recorder(cw_peer *peer, uint8_t kind, uint8_t number);
+uint8_t cw_notice(cw_peer *peer, size_t at, cw_notice_info *notice);
 
 /* Fetches of the last answer, which change nothing. Packets and samples count from 0; each is copied to the start of the
  * buffer, and *needed is how many octets it has. Where they don't fit, nothing is copied, the code is CW_OUT_OF_RESOURCES,

@@ -31,6 +31,7 @@ pub record Answered (old : Session) (event : Event) (number : ℕ) (new : Sessio
   pub sends : Sends old.core.filtered.peer event new.last
   pub messages : AreMessages new.last.packets
   pub code : number ≡ code_number new.last.reply
+  pub told : new.told ≡ old.told
 
 -- what an event does: where no peer is open it is refused, and none is open afterwards
 abbrev pub Happens : Option Session → Event → ℕ → Option Session → Type 0

@@ -4,3 +4,4 @@ pub mod Fetching
 pub mod Held
 pub mod Meaning
 pub mod Opening
+pub mod Watching

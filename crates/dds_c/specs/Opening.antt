@@ -118,6 +118,7 @@ pub record IsOpening (config : Config) (number : ℕ) (session : Session) : Type
   pub filters : session.core.filtered.filters ≡ []
   pub taken : core_refusal config.peers number ≡ None
   pub last : session.last ≡ no_output
+  pub told : session.told ≡ None
 
 -- the same of some configuration
 pub record IsSomeOpening (number : ℕ) (session : Session) : Type 0 where

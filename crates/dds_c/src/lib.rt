@@ -17,4 +17,5 @@ mod parts;
 mod peer;
 pub mod reading;
 mod session;
+pub mod watching;
 pub mod writing;

@@ -26,6 +26,8 @@ pub type Core = CoreOf<Prefix, Recorder>;
 pub struct Session {
     pub core: Core,
     pub last: Output,
+    /// The recorder that was replaced or taken away last.
+    pub told: Option<Recorder>,
 }
 
 /// The number of the code that a reply refuses with, 0 of another reply.
@@ -65,7 +67,11 @@ impl Session {
             packets: Sequence::from_vec(Vec::new(alloc)),
             unsent: 0,
         };
-        Ok(Session { core, last })
+        Ok(Session {
+            core,
+            last,
+            told: None,
+        })
     }
 
     /// An event at the peer.
@@ -75,6 +81,7 @@ impl Session {
             self.old.core event self.new.last self.new.core }
         ensures sends { Sends self.old.core.filtered.peer event self.new.last }
         ensures messages { AreMessages self.new.last.packets }
+        ensures told { self.new.told ≡ self.old.told }
     {
         self.last = self.core.step(event);
     }
