@@ -1,8 +1,9 @@
 -- A writer at its opening, and after what happens there.
-use Rattle.std.proofs.Common.{◌≡◌, ℕ, zero, suc, ◌≤◌, Bool, List, [], ◌∷◌, Option, None, map, replicate, length, get_or, refl, ap, sym, ◌∙◌, subst, arith}
-use Rattle.std.specs.Prelude.{◌+◌, ◌||◌, nat_le, ℤ, Result, Ok, Err, IfOk, IfErr, OnOk}
+use Rattle.std.proofs.Common.{◌≡◌, ℕ, zero, suc, ◌-◌, ◌≤◌, ◌⊎◌, ⊎_elim, inl, inr, Bool, true, false, List, [], ◌∷◌, ◌++◌, Option, None, Some, slice_get, map, replicate, length, get_or, refl, ap, sym, ◌∙◌, subst, arith}
+use Rattle.std.specs.Prelude.{◌+◌, ◌||◌, nat_le, nat_lt, if◌then◌else◌, ℤ, Result, Ok, Err, IfOk, IfErr, OnErr, OnOk}
 use Rattle.std.specs.List.{AllByRecursion, list_any}
 use Rattle.std.proofs.lemmas.List.Elements.{All-from_recursion}
+use Rattle.std.proofs.lemmas.Option.{same_Some}
 use Rattle.dds_base.specs.declared.change.Change.{Change}
 use Rattle.dds_base.specs.declared.code.Code.{Code}
 use Rattle.dds_base.specs.declared.config.PeerConfig.{PeerConfig}
@@ -10,8 +11,8 @@ use Rattle.dds_base.specs.declared.config.WriterConfig.{WriterConfig}
 use Rattle.dds_base.specs.declared.guid.EntityId.{EntityId}
 use Rattle.dds_base.specs.Kept.{append_refusal}
 use Rattle.dds_base.specs.Refusal.{Refuses}
-use Rattle.dds_base.specs.Written.{Written, Ticked}
-use Rattle.rtps_writer.specs.Standing.{Kept, StandsFor as RtpsStandsFor}
+use Rattle.dds_base.specs.Written.{Written, Changed, Ticked, changes_of}
+use Rattle.rtps_writer.specs.Standing.{Kept, StandsFor as RtpsStandsFor, reader_count}
 use Rattle.rtps_writer.specs.WriterState.{WriterState, entering, history_of, is_behind, last_of, opening, ticked}
 use Rattle.dds_machine.specs.declared.endpoint.Endpoint.{Endpoint}
 use Rattle.dds_machine.specs.Opening.{matched_readers}
@@ -24,7 +25,7 @@ use Rattle.dds_core.specs.Identity.{WriterIdentity, writer_identity}
 use Rattle.dds_core.specs.Matching.{destinations}
 use Rattle.dds_core.specs.EndNames.{reader_name, reader_names}
 use Rattle.dds_core.specs.OpeningEnds.{OpensWriter}
-use Rattle.dds_core.specs.Standing.{WriterStands, state_of}
+use Rattle.dds_core.specs.Standing.{AreShort, IsWhole, WriterStands, state_of}
 use Rattle.dds_core.specs.Stepping.{Enters, Ticks}
 use Rattle.dds_core.proofs.Acknowledging.{state_as}
 use Rattle.dds_core.proofs.Tables.{map-matched_readers, told_alike}
@@ -175,3 +176,39 @@ ticks kept current now after same more = record {
         begun = here.begun;
       };
 }
+
+-- a writer that took up a change, or refused it, is whole
+
+-- what is at a place of a list with one more is there without it, or is the last
+last_or : {X : Type 0} (xs : List X) (last x : X) (k : ℕ) → slice_get (xs ++ last ∷ []) k ≡ Some x
+    → (slice_get xs k ≡ Some x) ⊎ (last ≡ x)
+last_or [] last x zero at = inr (same_Some last x at)
+last_or [] last x (suc k) at = absurd cc
+last_or (y ∷ ys) last x zero at = inl at
+last_or (y ∷ ys) last x (suc k) at = last_or ys last x k at
+
+short_more : (cs : List Change) (c : Change) → AreShort cs → length c.value ≤ 1024 → AreShort (cs ++ c ∷ [])
+short_more cs c short last = λ number x at. one (nat_lt 0 number) (number - 1) x (λ there. short number x there) at
+  where
+    one : (b : Bool) (k : ℕ) (x : Change)
+        → ((if b then slice_get cs k else None) ≡ Some x → length x.value ≤ 1024)
+        → (if b then slice_get (cs ++ c ∷ []) k else None) ≡ Some x → length x.value ≤ 1024
+    one true k x old at =
+        ⊎_elim (λ there. old there) (λ is. subst (λ (y : Change). length y.value ≤ 1024) is last) (last_or cs c x k at)
+    one false k x old at = absurd cc
+
+pub whole_if : (result : Result ℕ Code) (destinations : List Destination) (readers : List ReaderName) (old after : Kept)
+    (change : Change) → IsWhole destinations readers old → length change.value ≤ 1024
+    → reader_count after ≡ reader_count old
+    → ((s : WriterState) → RtpsStandsFor old s → OnOk result (RtpsStandsFor after (entering s (Changed change))))
+    → OnErr result (after ≡ old) → IsWhole destinations readers after
+whole_if (Ok n) destinations readers old after change whole short counted more same = record {
+  few = whole.few;
+  many = whole.many;
+  count = counted ∙ whole.count;
+  state = entering whole.state (Changed change);
+  stands = more whole.state whole.stands;
+  short = short_more (changes_of whole.state.written) change whole.short short;
+}
+whole_if (Err e) destinations readers old after change whole short counted more same =
+    subst (λ (k : Kept). IsWhole destinations readers k) (sym same) whole
