@@ -1,8 +1,9 @@
 -- How a place goes on: one way is joined to the next, and a way on some grounds is one on grounds that say as much.
-use Rattle.std.proofs.Common.{◌≡◌, ℕ, ◌+◌, ◌<◌, ◌≤◌, List, [], ◌∷◌, ◌++◌, refl, sym, ◌∙◌, subst, ap, arith}
+use Rattle.std.proofs.Common.{◌≡◌, ℕ, ◌+◌, ◌<◌, ◌≤◌, List, [], ◌∷◌, ◌++◌, refl, sym, ◌∙◌, subst, ap, inl, inr, arith}
 use Rattle.dds_base.specs.declared.change.Change.{Change}
 use Rattle.dds_base.specs.declared.happening.PassedRun.{PassedRun}
-use Rattle.dds_base.specs.Places.{WriterGrounds, Match, Position, Comes, AllCome, Passes, IsApart, GoesTo}
+use Rattle.dds_base.specs.declared.qos.ReaderQos.{ReaderQos}
+use Rattle.dds_base.specs.Places.{WriterGrounds, Match, Position, Comes, AllCome, Passes, IsApart, GoesTo, MayPassOver}
 
 -- from this number on the second grounds say what the first do
 pub record SayAsMuch (first second : WriterGrounds) (from : ℕ) : Type 0 where
@@ -25,6 +26,22 @@ all_come_on g k from m match old (c ∷ cs) new low h =
       rest.1,
     )
 
+-- so what may be passed over on the first may be on the second
+passed_over_on : (g k : WriterGrounds) (from : ℕ) → SayAsMuch g k from → (qos : ReaderQos) (n : ℕ) → from ≤ n
+    → MayPassOver g qos n → MayPassOver k qos n
+passed_over_on g k from m qos n low (inl h) = inl (m.may_pass n low h)
+passed_over_on g k from m qos n low (inr h) =
+    let before = h.1.before in
+    inr (
+      h.0,
+      record {
+        later = h.1.later;
+        change = h.1.change;
+        is_change = m.is_change h.1.later h.1.change (omega (arith, low, before)) h.1.is_change;
+        before = h.1.before;
+      },
+    )
+
 pub passes_on : (g k : WriterGrounds) (from : ℕ) → SayAsMuch g k from
     → (match : Match) (old : Position) (run : PassedRun) (new : Position) → from ≤ old.place
     → Passes g match old run new → Passes k match old run new × (from ≤ new.place)
@@ -35,7 +52,8 @@ passes_on g k from m match old run new low h =
       record {
         begins = h.begins;
         ordered = h.ordered;
-        may_pass = λ n above below. m.may_pass n (omega (arith, begins, low, above)) (h.may_pass n above below);
+        may_pass = λ n above below.
+            passed_over_on g k from m match.qos n (omega (arith, begins, low, above)) (h.may_pass n above below);
         after = h.after;
       },
       omega (arith, begins, ordered, next, low),

@@ -3,11 +3,12 @@
 --
 -- DDS 1.4, 2.2.2.3 (a Topic is what publications and subscriptions have in common), 2.2.3 (RELIABILITY); RTPS 2.5, 8.4
 -- (matched_writers, matched_readers).
-use Rattle.std.specs.Prelude.{ℕ, ◌+◌, ◌==◌, Bool, true, ◌&&◌, if◌then◌else◌, List, [], ◌∷◌, ◌++◌}
+use Rattle.std.specs.Prelude.{ℕ, ◌+◌, ◌==◌, Bool, true, false, ◌&&◌, if◌then◌else◌, List, [], ◌∷◌, ◌++◌}
 use Rattle.dds_base.specs.declared.config.PeerConfig.{PeerConfig}
 use Rattle.dds_base.specs.declared.config.WriterConfig.{WriterConfig}
 use Rattle.dds_base.specs.declared.config.ReaderConfig.{ReaderConfig}
 use Rattle.dds_base.specs.declared.qos.ReliabilityQos.{ReliabilityQos}
+use Rattle.dds_base.specs.declared.qos.ReliabilityQos.TheVariants.{BestEffort, Reliable}
 
 -- two topic numbers name one topic
 abbrev pub same_topic : ℕ → ℕ → Bool
@@ -41,20 +42,30 @@ abbrev pub of_matched_writers : {X : Type 0} → (ℕ → PeerConfig → ℕ →
     → List X
 of_matched_writers = of_matched_ends (λ (p : PeerConfig). p.writers) any_writer (λ (w : WriterConfig). w.topic)
 
--- a reader of this policy is reliable: it asks for what it misses, and acknowledges what came (2.2.3, RELIABILITY); so
--- is each, as there is no other policy
+-- a reader of this policy is reliable: it asks for what it misses, and acknowledges what came (2.2.3, RELIABILITY)
 abbrev pub is_reliable : ReliabilityQos → Bool
-is_reliable policy = true
+is_reliable BestEffort = false
+is_reliable Reliable = true
 
 -- a reader is reliable
 abbrev pub is_reliable_reader : ReaderConfig → Bool
 is_reliable_reader r = is_reliable r.reliability
 
--- what is told of each matched reliable reader of a writer of the topic, at all of these peers; the first of them has
--- this number
+-- each reader is matched: a writer is reliable, so it takes readers of either policy (2.2.3, RELIABILITY: offered >=
+-- requested)
+abbrev pub any_reader : ReaderConfig → Bool
+any_reader r = true
+
+-- what is told of each matched reader of a writer of the topic, at all of these peers; the first of them has this number
 abbrev pub of_matched_readers : {X : Type 0} → (ℕ → PeerConfig → ℕ → ReaderConfig → X) → ℕ → ℕ → List PeerConfig
     → List X
-of_matched_readers = of_matched_ends (λ (p : PeerConfig). p.readers) is_reliable_reader (λ (r : ReaderConfig). r.topic)
+of_matched_readers = of_matched_ends (λ (p : PeerConfig). p.readers) any_reader (λ (r : ReaderConfig). r.topic)
+
+-- what is told of each matched reliable reader of a writer of the topic, at all of these peers; the first of them has
+-- this number
+abbrev pub of_reliable_readers : {X : Type 0} → (ℕ → PeerConfig → ℕ → ReaderConfig → X) → ℕ → ℕ → List PeerConfig
+    → List X
+of_reliable_readers = of_matched_ends (λ (p : PeerConfig). p.readers) is_reliable_reader (λ (r : ReaderConfig). r.topic)
 
 -- the matched writers of a reader
 abbrev pub matched_writers_of : List PeerConfig → ReaderConfig → List WriterConfig

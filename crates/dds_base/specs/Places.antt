@@ -1,19 +1,33 @@
 -- Where a reader stands in the list of one of its writers, and how its place goes on there: over changes that come, and
--- over changes that are passed over (RTPS 2.5, 8.4: reliable StatefulReader).
-use Rattle.std.specs.Prelude.{◌≡◌, ℕ, ◌+◌, ◌<◌, ◌≤◌, true, List, [], ◌∷◌}
+-- over changes that are passed over (RTPS 2.5, 8.4: StatefulReader).
+use Rattle.std.specs.Prelude.{◌≡◌, ◌⊎◌, ℕ, ◌+◌, ◌<◌, ◌≤◌, true, false, List, [], ◌∷◌}
 use Rattle.dds_base.specs.declared.change.Change.{Change}
 use Rattle.dds_base.specs.declared.happening.Happening.{Happening}
 use Rattle.dds_base.specs.declared.happening.Happening.TheVariants.{Came, Passed}
 use Rattle.dds_base.specs.declared.happening.PassedRun.{PassedRun}
 use Rattle.dds_base.specs.declared.qos.ReaderQos.{ReaderQos}
+use Rattle.dds_base.specs.Matched.{is_reliable}
 use Rattle.dds_base.specs.Presence.{has_room}
 
 -- what a reader may rest on as to one of its writers
 pub record WriterGrounds : Type 1 where
   -- the writer's change of this number, which is for the reader, is this
   pub is_change : ℕ → Change → Type 0
-  -- the reader may pass over the writer's change of this number
+  -- any reader may pass over the writer's change of this number
   pub may_pass : ℕ → Type 0
+
+-- the number is that of a change before one that the writer has
+pub record ComesBefore (grounds : WriterGrounds) (number : ℕ) : Type 0 where
+  pub later : ℕ
+  pub change : Change
+  pub is_change : grounds.is_change later change
+  pub before : number < later
+
+-- a reader of this QoS may pass over the writer's change of this number: a best-effort one over each that comes before
+-- another (DDS 1.4, 2.2.3, RELIABILITY)
+abbrev pub MayPassOver : WriterGrounds → ReaderQos → ℕ → Type 0
+MayPassOver grounds qos number =
+    grounds.may_pass number ⊎ ((is_reliable qos.reliability ≡ false) × ComesBefore grounds number)
 
 -- a reader and one of its matched writers: the reader's QoS, the writer's publication handle there, and the moment of
 -- the reader's peer
@@ -54,7 +68,7 @@ pub record Passes (grounds : WriterGrounds) (match : Match) (old : Position) (ru
     (new : Position) : Type 0 where
   pub begins : run.first ≡ old.place
   pub ordered : run.first ≤ run.last
-  pub may_pass : (number : ℕ) → run.first ≤ number → number ≤ run.last → grounds.may_pass number
+  pub may_pass : (number : ℕ) → run.first ≤ number → number ≤ run.last → MayPassOver grounds match.qos number
   pub after : new ≡ record
       { place = run.last + 1; happened = Passed match.publication run.first run.last ∷ old.happened }
 

@@ -2,6 +2,9 @@
 //!
 //! DDS 1.4, 2.2.3 (supported QoS).
 
+ghost use Rattle.std.specs.Prelude.{◌≡◌};
+ghost use Rattle.dds_base.specs.Matched.{is_reliable};
+
 use crate::guid::Guid;
 use crate::sequence::Sequence;
 
@@ -27,13 +30,29 @@ pub enum HistoryQos {
     KeepLast(u32),
 }
 
-/// Whether a reader gets each change, or may miss some. `BEST_EFFORT` is not supported.
+/// Whether a reader gets each change that its writer keeps, or may miss some.
 ///
 /// DDS 1.4, 2.2.3 (RELIABILITY).
 #[derive(Clone, Copy, Debug)]
 pub enum ReliabilityQos {
+    /// What comes, in the order of its writer: it asks for nothing, no writer waits for it, and what it misses is
+    /// counted as lost.
+    BestEffort,
     /// Each change that its writer keeps: what it misses it asks for, and what came it acknowledges.
     Reliable,
+}
+
+impl ReliabilityQos {
+    /// Whether it is `Reliable`.
+    pub fn is_reliable(self) -> bool
+        // It is what writers and readers go by.
+        ensures reliable { result ≡ is_reliable self }
+    {
+        match self {
+            ReliabilityQos::BestEffort => false,
+            ReliabilityQos::Reliable => true,
+        }
+    }
 }
 
 /// A writer that a reader is matched with.

@@ -173,7 +173,7 @@ entered tests entry quiet c kept i k k' config peer s at same reply samples stan
       record peer { part = after_access entry part (suc i) samples },
       record { same_number = refl; knows = refl; step = (step, refl); sent = λ p x m h. absurd (omega (arith, m.1)) },
       own_reader_changed kept i k k' (record r { happened = entry samples ∷ r.happened }) config peer s at
-          (same_identity k' k same.entity same.writers) one,
+          (same_identity k' k same.entity same.writers same.qos) one,
     )
 
 -- an access that was refused, and is not entered

@@ -1,7 +1,7 @@
 -- What tells an assertion of a writer is what is due for it.
 use Rattle.std.proofs.Common.{◌≡◌, ℕ, ◌+◌, ◌-◌, ◌^◌, ◌<◌, Bool, true, false, List, [], ◌∷◌, ◌++◌, Option, Some, None, map, take, length, get_or, refl, ap, sym, ◌∙◌, subst, length-append}
 use Rattle.std.specs.Prelude.{ℤ, pos, nat_le, nat_lt, if◌then◌else◌}
-use Rattle.std.proofs.lemmas.List.{take_more, length-map, map-append}
+use Rattle.std.proofs.lemmas.List.{take_more, map-append}
 use Rattle.std.proofs.lemmas.Option.{same_Some}
 use Rattle.dds_base.specs.declared.code.Code.{Code}
 use Rattle.dds_base.specs.declared.code.Code.TheVariants.{OutOfResources}
@@ -14,7 +14,7 @@ use Rattle.rtps_writer.specs.WriterState.{WriterState, counts_due, last_of, hist
 use Rattle.rtps_writer.specs.declared.heartbeat.HeartbeatDue.{HeartbeatDue}
 use Rattle.dds_machine.specs.declared.endpoint.Endpoint.{Endpoint}
 use Rattle.dds_protocol.specs.declared.event.Packet.{Packet}
-use Rattle.dds_machine.specs.Part.{ReaderProxy, Writer, has_readers, heartbeats_used}
+use Rattle.dds_machine.specs.Part.{Writer, has_readers, heartbeats_used}
 use Rattle.dds_protocol.specs.DueMessages.{Due, AreSent, assertion_message}
 use Rattle.dds_core.specs.declared.heartbeat.Beat.{Beat}
 use Rattle.dds_core.specs.declared.matching.Destination.{Destination}
@@ -42,15 +42,6 @@ told_more beat ds i d p q m n lt h k =
 
 -- ---- what is due
 
--- a writer has readers where its state has
-readers_same : (w : Writer) (answered : Endpoint → Option ℤ)
-    → nat_lt 0 (length (state_of w answered).acknowledged) ≡ has_readers w
-readers_same w answered = ap (λ (n : ℕ). nat_lt 0 n) (length-map w.readers (λ (p : ReaderProxy). p.acknowledged))
-
--- it has used as many counts
-used_same : (w : Writer) (answered : Endpoint → Option ℤ) → counts_due (state_of w answered) ≡ heartbeats_used w
-used_same w answered = ap (λ (b : Bool). length (counts_of b w.written)) (readers_same w answered)
-
 some_told : (b : Bool) (xs : List Bool) (make : ℕ → HeartbeatDue) (due : HeartbeatDue)
     → (if b then Some (make (length (if b then xs ++ true ∷ [] else xs))) else None) ≡ Some due
     → (b ≡ true) × (due ≡ make (length xs + 1))
@@ -68,10 +59,6 @@ told_by w b =
     if b then Some (due_by w (length (if b then counts_of b w.written ++ true ∷ [] else counts_of b w.written)))
     else None
 
-told_as : (w : Writer) (answered : Endpoint → Option ℤ) (now : ℕ)
-    → heartbeat_asserted (state_of w answered) now ≡ told_by w (has_readers w)
-told_as w answered now = ap (λ (b : Bool). told_by w b) (readers_same w answered)
-
 -- the HEARTBEATs that are sent are those of the writer
 pub told_are : (prefix : GuidPrefix) (kept : WriterKept) (w : Writer) (answered : Endpoint → Option ℤ) (now : ℕ)
     (due : HeartbeatDue)
@@ -80,8 +67,7 @@ pub told_are : (prefix : GuidPrefix) (kept : WriterKept) (w : Writer) (answered 
     ≡ assertions_of prefix kept w
 told_are prefix kept w answered now due is =
     let d =
-    some_told (has_readers w) (counts_of (has_readers w) w.written) (due_by w) due (sym (told_as w answered now) ∙ is)
-    in
+    some_told (has_readers w) (counts_of (has_readers w) w.written) (due_by w) due is in
     ap (λ (x : HeartbeatDue). told_to
     (record { prefix = prefix; entity = kept.entity; due = x; asserts = true }) kept.destinations) d.1
     ∙ sym (ap (λ (b : Bool). if b then map
@@ -96,7 +82,7 @@ told_none prefix kept w answered now is =
     (due_by w
     (length (if has_readers w then counts_of (has_readers w) w.written ++ true
     ∷ [] else counts_of (has_readers w) w.written)))
-    (sym (told_as w answered now) ∙ is) in
+    is in
     sym (ap (λ (b : Bool). if b then map
     (λ (e : Destination). due_to e.peer (assertion_message prefix e.prefix kept.entity w)) kept.destinations
     else []) nobody)
@@ -107,7 +93,7 @@ pub valid_told : (kept : Kept) (s : WriterState) (now : ℕ) (due : HeartbeatDue
 valid_told kept s now due stands is =
     let count : ℤ = pos (counts_due (asserted s now)) in
     subst (λ (d : HeartbeatDue). IsValid d)
-    (made_is (nat_lt 0 (length s.acknowledged))
+    (made_is s.matched
     (record { first = first_kept (rtps_history_of s); last = last_of s; count = count }) due is)
     (valid_next kept s count stands)
 
@@ -125,12 +111,10 @@ used_if false code is = absurd cc
 pub count_left : (w : Writer) (answered : Endpoint → Option ℤ) → assert_refusal (state_of w answered) ≡ None
     → nat_le (2 ^ 31 - 1) (heartbeats_used w) ≡ false
 count_left w answered is =
-    ap (λ (n : ℕ). nat_le (2 ^ 31 - 1) n) (sym (used_same w answered))
-    ∙ left_if (nat_le (2 ^ 31 - 1) (counts_due (state_of w answered))) is
+    left_if (nat_le (2 ^ 31 - 1) (counts_due (state_of w answered))) is
 
 pub count_used : (w : Writer) (answered : Endpoint → Option ℤ) (code : Code)
     → assert_refusal (state_of w answered) ≡ Some code
     → (code ≡ OutOfResources) × (nat_le (2 ^ 31 - 1) (heartbeats_used w) ≡ true)
 count_used w answered code is =
-    let u = used_if (nat_le (2 ^ 31 - 1) (counts_due (state_of w answered))) code is in
-    (u.0, ap (λ (n : ℕ). nat_le (2 ^ 31 - 1) n) (sym (used_same w answered)) ∙ u.1)
+    used_if (nat_le (2 ^ 31 - 1) (counts_due (state_of w answered))) code is

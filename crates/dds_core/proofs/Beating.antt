@@ -252,9 +252,7 @@ due_by w count = record { first = first_kept (history_of w); last = length (writ
 counts_now : (w : Writer) (answered : Endpoint → Option ℤ) (now : ℕ)
     → counts_due (rtps_ticked (state_of w answered) now) ≡ counts_before w + cond (is_behind (state_of w answered)) 1 0
 counts_now w answered now =
-    let same = length-map w.readers (λ (p : ReaderProxy). p.acknowledged) in
-    ap (λ (n : ℕ). length (counts_of (nat_lt 0 n) (Ticked now (is_behind (state_of w answered)) ∷ w.written))) same
-    ∙ more (is_behind (state_of w answered)) (counts_of (has_readers w) w.written)
+    more (is_behind (state_of w answered)) (counts_of (has_readers w) w.written)
   where
     more : (b : Bool) (xs : List Bool) → length (if b then xs ++ false ∷ [] else xs) ≡ length xs + cond b 1 0
     more true xs = let n = length-append xs (false ∷ []) in omega (arith, n)

@@ -32,6 +32,7 @@ use Rattle.dds_core.specs.Identity.{WriterIdentity, writer_identity, configured_
 use Rattle.dds_core.specs.Matching.{destinations}
 use Rattle.dds_core.specs.EndNames.{reader_names}
 use Rattle.dds_core.specs.Standing.{WriterStands, StandsFor}
+use Rattle.dds_machine.specs.Opening.{matched_readers}
 use Rattle.dds_core.proofs.Destinations.{ends_of_names, is_peer, reader_ends}
 use Rattle.dds_core.proofs.Lists.{element, get-map, get-within, map-get}
 use Rattle.dds_core.proofs.PeersBehind.{peers_passed}
@@ -108,6 +109,7 @@ pub record IsNamed (config : Config) (peer : ℕ) (prefix : GuidPrefix) (number 
   pub topic : ℕ
   pub sent_to : k.destinations ≡ destinations topic 1 config.peers
   pub readers : map (λ (p : ReaderProxy). p.reader) w.readers ≡ reader_ends topic config.peers
+  pub matched : w.matched ≡ matched_readers topic 1 config.peers
 
 -- the same of another value of that identity
 pub named_again : (config : Config) (peer : ℕ) (prefix : GuidPrefix) (number : ℕ) (k k' : WriterKept) (w : Writer)
@@ -119,6 +121,7 @@ named_again config peer prefix number k k' w same is = record {
   topic = is.topic;
   sent_to = ap (λ (x : WriterIdentity). x.destinations) same ∙ is.sent_to;
   readers = is.readers;
+  matched = is.matched;
 }
 
 beats_due_of : (config : Config) (peer : ℕ) (prefix : GuidPrefix) (number : ℕ) (k : WriterKept) (w : Writer)
@@ -192,6 +195,9 @@ named config peer kept s j k at =
     let index : 1 + j - 1 ≡ j = omega arith in
     let there : slice_get s.is_peer.own.writers (1 + j - 1) ≡ Some c.end =
     subst (λ (m : ℕ). slice_get s.is_peer.own.writers m ≡ Some c.end) (sym index) c.at in
+    let next_index : suc j - 1 ≡ j = omega arith in
+    let next : slice_get s.is_peer.own.writers (suc j - 1) ≡ Some c.end =
+    subst (λ (m : ℕ). slice_get s.is_peer.own.writers m ≡ Some c.end) (sym next_index) c.at in
     record {
       own = prefix_is kept config peer s;
       entity =
@@ -205,6 +211,7 @@ named config peer kept s j k at =
       readers =
           readers_configured config k (get_or peer.part.rtps.writers j no_writer) (peer.known.answered (suc j)) c.end
           (s.writers.each j k at) c.is;
+      matched = s.matched s.is_peer.own (suc j) c.end s.is_peer.at (omega arith, next);
     }
 
 -- the name of a writer, and of those that it is matched with
@@ -262,6 +269,7 @@ part_of config peer kept s = record {
       s.writers.count ∙ (sym (length-map kept.writers writer_identity)
       ∙ (ap (λ (xs : List WriterIdentity). length xs) s.is_peer.writers
       ∙ length-map s.is_peer.own.writers (configured_writer config.peers)));
+  matched = λ number w at. s.matched s.is_peer.own number w s.is_peer.at at;
   readers = own_readers config peer kept s;
 }
 

@@ -25,6 +25,7 @@ use Rattle.dds_machine.specs.Refusals.{writer_refusal, write_refusal, dispose_re
 use Rattle.dds_machine.specs.Calls.{Effect, nothing, writes, effect, effect_of, liveliness_lost_at, IsAnswered, IsAnsweredWatching, IsDoneUnless, Answers, CallStep}
 use Rattle.dds_machine.specs.Numbered.{has_element}
 use Rattle.dds_conditions.specs.NoFilters.{no_filters}
+use Rattle.dds_protocol.proofs.Growth.{TickStep-grows}
 use Rattle.dds_machine.specs.Part.{Part, Dds, Writer, own_writer}
 use Rattle.dds_protocol.specs.Peer.{Peer, PeerStep}
 use Rattle.dds_machine.specs.Watching.{Tests}
@@ -422,6 +423,9 @@ ticks kept writers readers config peer s now on early all expired output done be
         is_peer =
             same_peer kept config peer.number writers readers (same_names now kept.writers writers all)
             (expired_names now kept.readers readers expired) s.is_peer;
+        matched = λ own number w at_own at_w.
+            ((TickStep-grows peer.part now Done (after_tick peer.part now) (accepted, refl)).writers number).matched
+            ∙ s.matched own number w at_own at_w;
         moment = refl;
         early = early;
         watch = s.watch;

@@ -68,14 +68,14 @@ pub change_sent : (config : Config) (peer : ℕ) (prefix : GuidPrefix) (number s
     (change : Change) (packets : List Packet) (unsent : ℕ) → IsNamed config peer prefix number k w
     → AreAnnouncements (record { prefix = prefix; entity = k.entity; moment = change.source_timestamp }) sn
     (content_of change) k.destinations packets → length packets + unsent ≡ length k.destinations
-    → AreSent (changes_due config (record { peer = peer; number = number }) w.readers sn change) packets unsent
+    → AreSent (changes_due config (record { peer = peer; number = number }) w.matched sn change) packets unsent
 change_sent config peer prefix number sn k w change packets unsent is are count =
     let ds : List Destination = k.destinations in
     let message = λ (own : GuidPrefix) (entity : EntityId) (to : GuidPrefix). change_message own to entity sn change in
     let own : GuidPrefix = prefix_of config peer in
     let entity : EntityId = writer_entity config peer number in
-    let peers = sends_to is.topic config.peers w.readers ds is.readers is.sent_to in
-    let all : changes_due config (record { peer = peer; number = number }) w.readers sn change
+    let peers = sends_to is.topic config.peers w.matched ds is.matched is.sent_to in
+    let all : changes_due config (record { peer = peer; number = number }) w.matched sn change
     ≡ map (λ (d : Destination). due_to d.peer (message prefix k.entity d.prefix)) ds =
     ap (λ (ns : List ℕ). map (λ (to : ℕ). due_to to (message own entity (prefix_of config to))) ns) peers
     ∙ (by_number config (message own entity) ds (all_named config is.topic ds is.sent_to)

@@ -1,35 +1,24 @@
 -- Whom a writer sends to: each peer with a matched reader, once.
-use Rattle.std.proofs.Common.{◌≡◌, ℕ, zero, suc, ◌+◌, ◌<◌, ◌==◌, Bool, true, false, cond, ◌||◌, List, [], ◌∷◌, ◌++◌, Some, map, slice_get, refl, ap, sym, ◌∙◌, subst, arith, ⊎_elim, eqb-true, eq-eqb}
-use Rattle.std.specs.Prelude.{if◌then◌else◌, IsSome}
+use Rattle.std.proofs.Common.{◌≡◌, ℕ, zero, suc, ◌+◌, ◌<◌, ◌==◌, Bool, true, false, cond, ◌||◌, List, [], ◌∷◌, ◌++◌, Some, Contains, map, length, slice_get, refl, ap, sym, ◌∙◌, subst, arith, ⊎_elim, eqb-true, eq-eqb}
+use Rattle.std.proofs.lemmas.Bool.Decides.{nat_tests}
+use Rattle.std.specs.Prelude.{if◌then◌else◌, nat_lt}
+use Rattle.std.proofs.lemmas.List.{length-map}
 use Rattle.std.specs.List.{list_any}
-use Rattle.std.specs.Option.{option_map}
 use Rattle.dds_base.specs.declared.config.Config.{Config}
 use Rattle.dds_base.specs.declared.config.PeerConfig.{PeerConfig}
 use Rattle.dds_base.specs.declared.config.ReaderConfig.{ReaderConfig}
-use Rattle.dds_base.specs.Matched.{is_reliable_reader, same_topic, of_matched_readers}
-use Rattle.dds_base.specs.MatchedAt.{of_readers_in}
+use Rattle.dds_base.specs.Matched.{any_reader, same_topic, of_ends_in, of_reliable_readers}
+use Rattle.dds_machine.specs.Opening.{matched_readers}
 use Rattle.dds_machine.specs.declared.endpoint.Endpoint.{Endpoint}
 use Rattle.dds_protocol.specs.Claims.{IsNumbered}
-use Rattle.dds_machine.specs.Part.{ReaderProxy, same_endpoint, row_of, acknowledged_of}
 use Rattle.dds_machine.specs.Part.{peers_of}
-use Rattle.dds_machine.proofs.Tables.{same_is}
+use Rattle.dds_protocol.proofs.Composed.{front_or_rest}
 use Rattle.dds_core.specs.declared.matching.Destination.{Destination}
 use Rattle.dds_core.specs.declared.matching.ReaderName.{ReaderName}
 use Rattle.dds_core.specs.Matching.{has_reader, destinations}
 use Rattle.dds_core.specs.EndNames.{reader_name, reader_names}
-use Rattle.dds_core.proofs.Tables.{map-matched_readers}
+use Rattle.dds_core.proofs.Tables.{map-reliable_readers}
 use Rattle.dds_core.proofs.Numbered.{IsRest, rest_whole, rest_first, rest_later, cond_get, is_told}
-
--- the peers of these names, each once
-peers_in : List Endpoint → List ℕ
-peers_in [] = []
-peers_in (e ∷ es) = if list_any (λ peer. peer == e.peer) (peers_in es) then peers_in es else e.peer ∷ peers_in es
-
-same_peers : (rows : List ReaderProxy) → peers_of rows ≡ peers_in (map (λ (p : ReaderProxy). p.reader) rows)
-unfolding peers_in
-same_peers [] = refl
-same_peers (r ∷ rs) =
-    ap (λ ns. if list_any (λ peer. peer == r.reader.peer) ns then ns else r.reader.peer ∷ ns) (same_peers rs)
 
 -- a reader, by the numbers of its peer and its own
 abbrev pub name_at : ℕ → ℕ → ReaderConfig → Endpoint
@@ -37,11 +26,15 @@ name_at peer number r = record { peer = peer; number = number }
 
 -- the readers of the topic, by their numbers
 abbrev pub reader_ends : ℕ → List PeerConfig → List Endpoint
-reader_ends topic peers = of_matched_readers (λ i p k r. name_at i k r) topic 1 peers
+reader_ends topic peers = of_reliable_readers (λ i p k r. name_at i k r) topic 1 peers
 
 pub ends_of_names : (topic : ℕ) (peers : List PeerConfig)
     → map (λ (n : ReaderName). n.reader) (reader_names topic peers) ≡ reader_ends topic peers
-ends_of_names topic peers = map-matched_readers (λ (n : ReaderName). n.reader) reader_name topic 1 peers
+ends_of_names topic peers = map-reliable_readers (λ (n : ReaderName). n.reader) reader_name topic 1 peers
+
+-- the readers of the topic among those of one peer, reliable or not
+abbrev pub ends_in : ℕ → ℕ → ℕ → List ReaderConfig → List Endpoint
+ends_in topic peer n rs = of_ends_in any_reader (λ (r : ReaderConfig). r.topic) (name_at peer) topic n rs
 
 -- the number of a peer before or after its readers
 one_peer : (b any : Bool) (peer : ℕ) (numbers : List ℕ) → list_any (λ p. p == peer) numbers ≡ false → any ≡ b
@@ -55,22 +48,21 @@ one_peer true false peer numbers none is = absurd cc
 one_peer false true peer numbers none is = absurd cc
 
 peers_row : (b : Bool) (topic peer n : ℕ) (r : ReaderConfig) (rs : List ReaderConfig) (rest : List Endpoint)
-    → same_topic r.topic topic ≡ b → list_any (λ p. p == peer) (peers_in rest) ≡ false
-    → peers_in (of_readers_in (name_at peer) topic (n + 1) rs ++ rest)
-    ≡ cond (has_reader topic rs) (peer ∷ peers_in rest) (peers_in rest)
-    → peers_in (cond b (name_at peer n r ∷ of_readers_in (name_at peer) topic (n + 1) rs)
-    (of_readers_in (name_at peer) topic (n + 1) rs) ++ rest)
-    ≡ cond (b || has_reader topic rs) (peer ∷ peers_in rest) (peers_in rest)
-unfolding peers_in
+    → same_topic r.topic topic ≡ b → list_any (λ p. p == peer) (peers_of rest) ≡ false
+    → peers_of (ends_in topic peer (n + 1) rs ++ rest)
+    ≡ cond (has_reader topic rs) (peer ∷ peers_of rest) (peers_of rest)
+    → peers_of (cond b (name_at peer n r ∷ ends_in topic peer (n + 1) rs)
+    (ends_in topic peer (n + 1) rs) ++ rest)
+    ≡ cond (b || has_reader topic rs) (peer ∷ peers_of rest) (peers_of rest)
 peers_row true topic peer n r rs rest is none h =
     ap (λ ns. if list_any (λ p. p == peer) ns then ns else peer ∷ ns) h
-    ∙ one_peer (has_reader topic rs) (has_reader topic rs) peer (peers_in rest) none refl
+    ∙ one_peer (has_reader topic rs) (has_reader topic rs) peer (peers_of rest) none refl
 peers_row false topic peer n r rs rest is none h = h
 
 peers_of_one : (topic peer n : ℕ) (rs : List ReaderConfig) (rest : List Endpoint)
-    → list_any (λ p. p == peer) (peers_in rest) ≡ false
-    → peers_in (of_readers_in (name_at peer) topic n rs ++ rest)
-    ≡ cond (has_reader topic rs) (peer ∷ peers_in rest) (peers_in rest)
+    → list_any (λ p. p == peer) (peers_of rest) ≡ false
+    → peers_of (ends_in topic peer n rs ++ rest)
+    ≡ cond (has_reader topic rs) (peer ∷ peers_of rest) (peers_of rest)
 peers_of_one topic peer n [] rest none = refl
 peers_of_one topic peer n (r ∷ rs) rest none =
     peers_row (same_topic r.topic topic) topic peer n r rs rest refl none (peers_of_one topic peer (n + 1) rs rest none)
@@ -106,14 +98,13 @@ map-cond : (b : Bool) (d : Destination) (ds : List Destination)
 map-cond true d ds = refl
 map-cond false d ds = refl
 
-peers_are : (topic n : ℕ) (ps : List PeerConfig) → peers_in (of_matched_readers (λ i p k r. name_at i k r) topic n ps)
+peers_are : (topic n : ℕ) (ps : List PeerConfig) → peers_of (matched_readers topic n ps)
     ≡ map (λ (d : Destination). d.peer) (destinations topic n ps)
-unfolding peers_in
 peers_are topic n [] = refl
 peers_are topic n (p ∷ ps) =
     let later = peers_are topic (n + 1) ps in
-    let rest : List Endpoint = of_matched_readers (λ i q k r. name_at i k r) topic (n + 1) ps in
-    let none : list_any (λ q. q == n) (peers_in rest) ≡ false =
+    let rest : List Endpoint = matched_readers topic (n + 1) ps in
+    let none : list_any (λ q. q == n) (peers_of rest) ≡ false =
     ap (λ ns. list_any (λ q. q == n) ns) later ∙ none_before topic n (n + 1) ps (omega arith) in
     peers_of_one topic n 1 p.readers rest none
     ∙ (ap (λ ns. cond (has_reader topic p.readers) (n ∷ ns) ns) later
@@ -121,12 +112,12 @@ peers_are topic n (p ∷ ps) =
     (destinations topic (n + 1) ps))
 
 -- the peers of a writer's matched readers are those that it sends to
-pub sends_to : (topic : ℕ) (peers : List PeerConfig) (rows : List ReaderProxy) (ds : List Destination)
-    → map (λ (p : ReaderProxy). p.reader) rows ≡ reader_ends topic peers → ds ≡ destinations topic 1 peers
-    → peers_of rows ≡ map (λ (d : Destination). d.peer) ds
-sends_to topic peers rows ds names is =
-    same_peers rows ∙ (ap (λ (es : List Endpoint). peers_in es) names
-    ∙ (peers_are topic 1 peers ∙ ap (λ (xs : List Destination). map (λ (d : Destination). d.peer) xs) (sym is)))
+pub sends_to : (topic : ℕ) (peers : List PeerConfig) (es : List Endpoint) (ds : List Destination)
+    → es ≡ matched_readers topic 1 peers → ds ≡ destinations topic 1 peers
+    → peers_of es ≡ map (λ (d : Destination). d.peer) ds
+sends_to topic peers es ds names is =
+    ap (λ (xs : List Endpoint). peers_of xs) names
+    ∙ (peers_are topic 1 peers ∙ ap (λ (xs : List Destination). map (λ (d : Destination). d.peer) xs) (sym is))
 
 -- a destination is a peer of the configuration
 
@@ -160,33 +151,46 @@ pub record IsReaderOf (config : Config) (topic : ℕ) (reader : Endpoint) : Type
   pub at_reader : IsNumbered peer.readers reader.number end
   pub same_topic : end.topic ≡ topic
 
--- a reader that has a row
-abbrev HasRow : List ReaderProxy → Endpoint → Type 0
-HasRow rows reader = (k : ℕ) × (slice_get (map (λ (p : ReaderProxy). p.reader) rows) k ≡ Some reader)
+-- where an element stands
+at_some : {X : Type 0} (xs : List X) (x : X) → Contains xs x → (k : ℕ) × (slice_get xs k ≡ Some x)
+at_some [] x among = let lt = among.1 in absurd (omega (arith, lt))
+at_some {X = X} (y ∷ ys) x among =
+    ⊎_elim (λ e. (zero, ap (λ (z : X). Some z) e)) (λ later. let f = at_some ys x later in (suc f.0, f.1))
+    (front_or_rest y ys x among.0 among.1 among.2)
 
-first_or_later : (r : ReaderProxy) (rs : List ReaderProxy) (reader : Endpoint) (b : Bool)
-    → same_endpoint r.reader reader ≡ b
-    → IsSome (option_map (λ (p : ReaderProxy). p.acknowledged)
-    (cond b (Some r) (row_of (λ (p : ReaderProxy). p.reader) rs reader)))
-    → (IsSome (acknowledged_of rs reader) → HasRow rs reader)
-    → HasRow (r ∷ rs) reader
-first_or_later r rs reader true is there rest = (zero, ap (λ (e : Endpoint). Some e) (same_is r.reader reader is))
-first_or_later r rs reader false is there rest = let f = rest there in (suc f.0, f.1)
-
-has_row : (rows : List ReaderProxy) (reader : Endpoint) → IsSome (acknowledged_of rows reader) → HasRow rows reader
-has_row [] reader some = absurd cc
-has_row (r ∷ rs) reader some =
-    first_or_later r rs reader (same_endpoint r.reader reader) refl some (λ there. has_row rs reader there)
-
-pub is_reader : (config : Config) (topic : ℕ) (rows : List ReaderProxy) (reader : Endpoint)
-    → map (λ (p : ReaderProxy). p.reader) rows ≡ reader_ends topic config.peers → IsSome (acknowledged_of rows reader)
-    → IsReaderOf config topic reader
-is_reader config topic rows reader names some =
-    let f = has_row rows reader some in
-    let there : slice_get (reader_ends topic config.peers) f.0 ≡ Some reader =
-    subst (λ (es : List Endpoint). slice_get es f.0 ≡ Some reader) names f.1 in
+pub is_reader : (config : Config) (topic : ℕ) (es : List Endpoint) (reader : Endpoint)
+    → es ≡ matched_readers topic 1 config.peers → Contains es reader → IsReaderOf config topic reader
+is_reader config topic es reader names among =
+    let f = at_some es reader among in
+    let there : slice_get (matched_readers topic 1 config.peers) f.0 ≡ Some reader =
+    subst (λ (xs : List Endpoint). slice_get xs f.0 ≡ Some reader) names f.1 in
     let t =
-    is_told config.peers (λ (p : PeerConfig). p.readers) is_reliable_reader (λ (r : ReaderConfig). r.topic)
+    is_told config.peers (λ (p : PeerConfig). p.readers) any_reader (λ (r : ReaderConfig). r.topic)
     (λ i p n r. name_at i n r) topic f.0 reader there in
     subst (λ (e : Endpoint). IsReaderOf config topic e) t.told
     (record { peer = t.peer; at_peer = t.at_peer; end = t.end; at_reader = t.at_end; same_topic = t.same_topic })
+
+-- a writer is matched where there is a peer that it sends to
+pub matched_so : (topic : ℕ) (peers : List PeerConfig)
+    → nat_lt 0 (length (destinations topic 1 peers)) ≡ nat_lt 0 (length (matched_readers topic 1 peers))
+matched_so topic peers =
+    let same = ap (λ (ns : List ℕ). length ns) (peers_are topic 1 peers) in
+    let count = length-map (destinations topic 1 peers) (λ (d : Destination). d.peer) in
+    ap (λ (n : ℕ). nat_lt 0 n) (sym count ∙ sym same) ∙ some_peer (matched_readers topic 1 peers)
+  where
+    positive : (n : ℕ) → nat_lt 0 (suc n) ≡ true
+    positive n = grind (arith, nat_tests)
+
+    some_there : (test : ℕ → Bool) (ns : List ℕ) → list_any test ns ≡ true → nat_lt 0 (length ns) ≡ true
+    some_there test [] is = cc
+    some_there test (n ∷ ns) is = positive (length ns)
+
+    some_peer : (es : List Endpoint) → nat_lt 0 (length (peers_of es)) ≡ nat_lt 0 (length es)
+    some_peer [] = refl
+    some_peer (e ∷ es) =
+        by (list_any (λ peer. peer == e.peer) (peers_of es)) refl ∙ sym (positive (length es))
+      where
+        by : (b : Bool) → list_any (λ peer. peer == e.peer) (peers_of es) ≡ b
+            → nat_lt 0 (length (if b then peers_of es else e.peer ∷ peers_of es)) ≡ true
+        by true is = some_there (λ peer. peer == e.peer) (peers_of es) is
+        by false is = positive (length (peers_of es))

@@ -23,6 +23,7 @@ use Rattle.dds_machine.proofs.Tables.{numbered-map}
 use Rattle.dds_core.specs.Expiring.{AllExpire, Expires, HasRoomForDeaths, HaveRoomForDeaths, IsPastCounting}
 use Rattle.dds_core.specs.Kept.{ReaderKept}
 use Rattle.dds_core.specs.Identity.{ReaderIdentity, reader_identity}
+use Rattle.dds_core.proofs.Identities.{same_identity}
 use Rattle.dds_core.specs.Standing.{ReaderStands, ReadersStand}
 use Rattle.dds_core.specs.Stored.{StoreKept}
 use Rattle.dds_core.specs.Storing.{Holds}
@@ -112,7 +113,7 @@ pub expires : (kept : ReaderKept) (now : ℕ) (store : StoreKept) → qos_of sto
     → ((h : List Happening) → Holds kept.store h → Holds store (after_deaths (qos_of kept.store.cache) now h))
     → Expires kept now (record kept { store = store })
 expires kept now store qos died = record {
-  same = refl;
+  same = same_identity (record kept { store = store }) kept refl refl qos;
   stands = λ proxies r tracked s. record {
     writers_are = s.writers_are;
     places = s.places;

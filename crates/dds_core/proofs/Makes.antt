@@ -19,7 +19,7 @@ use Rattle.dds_machine.specs.declared.endpoint.Endpoint.{Endpoint}
 use Rattle.dds_protocol.specs.declared.event.Output.{Output}
 use Rattle.dds_protocol.specs.declared.event.Packet.{Packet}
 use Rattle.dds_machine.specs.declared.reply.Reply.TheVariants.{Done, Refused}
-use Rattle.dds_machine.specs.Part.{Writer, ReaderProxy, no_writer, own_writer, history_of, writer_changes}
+use Rattle.dds_machine.specs.Part.{Writer, no_writer, own_writer, history_of, writer_changes}
 use Rattle.dds_machine.specs.Refusals.{change_made, change_refusal}
 use Rattle.dds_machine.specs.Calls.{with_written}
 use Rattle.dds_protocol.specs.Claims.{IsWriter}
@@ -31,14 +31,13 @@ use Rattle.dds_core.specs.declared.sending.Sender.{Sender}
 use Rattle.dds_core.specs.Kept.{WriterKept, PeerKept}
 use Rattle.dds_core.specs.Identity.{WriterIdentity, writer_identity, configured_writer, identity_of, IsPeerOf}
 use Rattle.dds_core.specs.Making.{IsMade, IsNotMade, IsValueOf, entered}
+use Rattle.dds_core.specs.Matching.{destinations}
 use Rattle.dds_core.specs.Sending.{SendsChange}
 use Rattle.dds_core.specs.Announcing.{AreAnnouncements}
 use Rattle.dds_core.specs.Standing.{WriterStands, StandsFor}
 use Rattle.dds_core.specs.Stepping.{Enters}
-use Rattle.dds_core.specs.declared.matching.ReaderName.{ReaderName}
 use Rattle.dds_core.proofs.BeatsDue.{IsNamed, named, named_again}
 use Rattle.dds_core.proofs.ChangesDue.{change_sent}
-use Rattle.dds_core.proofs.Destinations.{ends_of_names, reader_ends}
 use Rattle.dds_core.proofs.Ends.{with_writer, own_writer_stepped, unchanged_with}
 use Rattle.dds_core.proofs.Tellable.{tellable_entered}
 use Rattle.dds_core.proofs.Lists.{get-map, map-get, get-within}
@@ -139,24 +138,25 @@ made_there old i k k' kind key value number output config peer s at enters accep
     let own : IsOwnWriter config new peer.number i k' =
     own_writer_is config peer.number new stands.is_peer i k' at_new in
     let endpoint : Endpoint = record { peer = peer.number; number = suc i } in
-    let names : map (λ (p : ReaderProxy). p.reader) w.readers ≡ reader_ends own.end.topic config.peers =
-    (enters.stands w (peer.known.answered (suc i)) ws).readers
-    ∙ (ap (λ (x : WriterIdentity). map (λ (n : ReaderName). n.reader) x.readers) own.is
-    ∙ ends_of_names own.end.topic config.peers) in
-    let matched : IsMatched config own.end.topic w.readers k'.destinations =
-    record { names = names; sent_to = ap (λ (x : WriterIdentity). x.destinations) own.is } in
     let means : change_in (content_of change) old.moment ≡ change = change_in-content_of change valued in
     let index : 1 + i ≡ suc i = omega arith in
     let named' : IsNamed config peer.number old.prefix (suc i) k' w =
     named_again config peer.number old.prefix (suc i) k k' w enters.same
     (subst (λ (n : ℕ). IsNamed config peer.number old.prefix n k w) index (named config peer old s i k at)) in
-    let due : AreSent (changes_due config endpoint w.readers number change) output.packets output.unsent =
+    let matched : IsMatched config own.from.end.topic w.matched k'.destinations =
+    record {
+      names = s.matched own.from.peer (suc i) own.from.end own.from.at_peer own.from.at_writer;
+      sent_to =
+          ap (λ (x : WriterIdentity). x.destinations) own.is
+          ∙ ap (λ (t : ℕ). destinations t 1 config.peers) (sym own.same_topic);
+    } in
+    let due : AreSent (changes_due config endpoint w.matched number change) output.packets output.unsent =
     change_sent config peer.number old.prefix
     (suc i) number k' w change output.packets output.unsent named' are counted in
-    let sends : SendsChange config endpoint w.readers number (change_in (content_of change) old.moment) output =
-    sends_change config sender endpoint own.end.topic w.readers k'.destinations number (content_of change) output
-    (record { from = own.from; same_topic = own.same_topic }) matched s.early are counted
-    (subst (λ (x : Change). AreSent (changes_due config endpoint w.readers number x) output.packets output.unsent)
+    let sends : SendsChange config endpoint w.matched number (change_in (content_of change) old.moment) output =
+    sends_change config sender endpoint own.from.end.topic w.matched k'.destinations number (content_of change) output
+    (record { from = own.from; same_topic = refl }) matched s.early are counted
+    (subst (λ (x : Change). AreSent (changes_due config endpoint w.matched number x) output.packets output.unsent)
     (sym means) due) in
     let only : IsOnly config sender endpoint =
     λ e name. one_writer config old.prefix k'.entity e endpoint s.is_peer.checked name own.from in
@@ -172,8 +172,8 @@ made_there old i k k' kind key value number output config peer s at enters accep
     record {
       accepted = a.0;
       reply = reply;
-      sends = subst (λ (n : ℕ). SendsChange config endpoint w.readers n change output) a.1
-          (subst (λ (x : Change). SendsChange config endpoint w.readers number x output) means sends);
+      sends = subst (λ (n : ℕ). SendsChange config endpoint w.matched n change output) a.1
+          (subst (λ (x : Change). SendsChange config endpoint w.matched number x output) means sends);
       is_true =
           λ packet claim among h. sent_true config sender endpoint after.part k'.destinations number
           (content_of change) output.packets only s.early there are packet claim among h;

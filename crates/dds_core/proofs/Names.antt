@@ -7,13 +7,13 @@ use Rattle.dds_base.specs.declared.config.ReaderConfig.{ReaderConfig}
 use Rattle.dds_base.specs.declared.guid.EntityId.{EntityId}
 use Rattle.dds_base.specs.declared.guid.Guid.{Guid}
 use Rattle.dds_base.specs.declared.guid.GuidPrefix.{GuidPrefix}
-use Rattle.dds_base.specs.Matched.{any_writer, of_matched_ends}
+use Rattle.dds_base.specs.Matched.{any_writer, is_reliable_reader, of_matched_ends}
 use Rattle.dds_machine.specs.declared.endpoint.Endpoint.{Endpoint}
 use Rattle.dds_protocol.specs.Claims.{IsNumbered}
 use Rattle.dds_core.specs.declared.matching.ReaderName.{ReaderName}
 use Rattle.dds_core.specs.declared.matching.WriterName.{WriterName}
 use Rattle.dds_core.specs.Kept.{ReaderKept, PeerKept}
-use Rattle.dds_core.specs.Identity.{ReaderIdentity, reader_identity, configured_reader, identity_of, IsPeerOf}
+use Rattle.dds_core.specs.Identity.{ReaderIdentity, reader_identity, reliable_in, configured_reader, identity_of, IsPeerOf}
 use Rattle.dds_core.specs.EndNames.{writer_name, writer_names}
 use Rattle.dds_core.proofs.Lists.{get-map, map-get}
 use Rattle.dds_core.proofs.Numbered.{is_told, same_end}
@@ -89,6 +89,7 @@ pub record IsOwnReader (config : Config) (own : PeerConfig) (i : ℕ) (k : Reade
   pub end : ReaderConfig
   pub at : IsNumbered own.readers (suc i) end
   pub entity : end.entity ≡ k.entity
+  pub reliable : is_reliable_reader end ≡ reliable_in k.store
   pub names : (j : ℕ) (name : WriterName) → slice_get k.writers j ≡ Some name → IsWriterNamed config end.topic name
   pub all : k.writers ≡ writer_names end.topic config.peers
 
@@ -104,6 +105,7 @@ own_reader_is config number kept is i k at =
       end = f.0;
       at = (omega arith, subst (λ (m : ℕ). slice_get is.own.readers m ≡ Some f.0) index f.1);
       entity = ap (λ (x : ReaderIdentity). x.entity) f.2;
+      reliable = ap (λ (x : ReaderIdentity). x.reliable) f.2;
       names =
           λ j name in_names. of_named (λ (p : PeerConfig). p.writers) any_writer (λ (w : WriterConfig). w.topic)
           (λ (w : WriterConfig). w.entity) writer_name (λ (x : WriterName). IsWriterNamed config f.0.topic x)

@@ -1,5 +1,5 @@
 -- A writer's matched readers are each named once.
-use Rattle.std.proofs.Common.{◌≡◌, ℕ, zero, suc, ◌+◌, ◌≤◌, Bool, true, false, cond, List, [], ◌∷◌, ◌++◌, Some, slice_get, refl, ap, sym, ◌∙◌, arith, ⊎_elim}
+use Rattle.std.proofs.Common.{◌≡◌, ℕ, zero, suc, ◌+◌, ◌≤◌, Bool, ◌&&◌, true, false, cond, List, [], ◌∷◌, ◌++◌, Some, slice_get, refl, ap, sym, ◌∙◌, arith, ⊎_elim}
 use Rattle.std.proofs.lemmas.Option.{same_Some}
 use Rattle.dds_base.specs.declared.config.PeerConfig.{PeerConfig}
 use Rattle.dds_base.specs.declared.config.ReaderConfig.{ReaderConfig}
@@ -49,7 +49,7 @@ named_from i p topic n (r ∷ rs) k x at =
       let number = ap (λ (y : ReaderName). y.reader.number) f.1 in omega (arith, number),
     ))
     (λ f. let later = named_from i p topic (n + 1) rs f.0 x f.1 in let low = later.1 in (later.0, omega (arith, low)))
-    (cond_get (same_topic r.topic topic) (reader_name i p n r) (ends_of i p topic (n + 1) rs) k x at)
+    (cond_get (is_reliable_reader r && same_topic r.topic topic) (reader_name i p n r) (ends_of i p topic (n + 1) rs) k x at)
 
 once_cond : (b : Bool) (x : ReaderName) (xs : List ReaderName) → Once (λ (y : ReaderName). y.reader) (x ∷ xs)
     → Once (λ (y : ReaderName). y.reader) xs → Once (λ (y : ReaderName). y.reader) (cond b (x ∷ xs) xs)
@@ -61,7 +61,7 @@ once_in : (i : ℕ) (p : PeerConfig) (topic n : ℕ) (rs : List ReaderConfig)
 once_in i p topic n [] = λ j k x y at_x at_y same. absurd cc
 once_in i p topic n (r ∷ rs) =
     let rest = once_in i p topic (n + 1) rs in
-    once_cond (same_topic r.topic topic) (reader_name i p n r) (ends_of i p topic (n + 1) rs)
+    once_cond (is_reliable_reader r && same_topic r.topic topic) (reader_name i p n r) (ends_of i p topic (n + 1) rs)
     (once_cons (λ (y : ReaderName). y.reader) (reader_name i p n r) (ends_of i p topic (n + 1) rs) rest
     (λ k y at same. let low = (named_from i p topic (n + 1) rs k y at).1 in let number = ap (λ (e : Endpoint). e.number)
     same in omega (arith, low, number)))

@@ -9,6 +9,8 @@ use Rattle.dds_base.specs.Checked.{check_refusal}
 use Rattle.dds_conditions.specs.Watched.{Watched, opened}
 use Rattle.dds_machine.specs.Opening.{opening_writer, matched_writers, reader_qos, opening_part}
 use Rattle.dds_protocol.specs.Opening.{opening_peers}
+use Rattle.dds_protocol.specs.Claims.{IsNumbered}
+use Rattle.dds_protocol.proofs.CountsOpened.{matched_opened}
 use Rattle.dds_machine.specs.Part.{Writer, Reader, WriterProxy, no_writer, no_reader, nothing_seen}
 use Rattle.rtps_reader.specs.Tracked.{fresh}
 use Rattle.dds_protocol.specs.Protocol.{knows_nothing}
@@ -169,6 +171,11 @@ stands_begun peers index moment own writers readers watch checked at begins watc
         same_maps (configured_reader peers) reader_identity own.readers readers rs.count
         (λ i r k at_r at_k. (rs.each i r k at_r at_k).identity);
   };
+  matched = λ here number w at_here at_w.
+      let same : here ≡ own =
+      same_Some here own (sym at_here.1 ∙ is_numbered peers index own at) in
+      matched_opened peers own number w
+      (subst (λ (p : PeerConfig). IsNumbered p.writers number w) same at_w);
   moment = sym begins;
   early = subst (λ (m : ℕ). m < 2 ^ 63) (sym begins) (omega arith);
   writers = writers_stand peers own.writers writers ws;

@@ -5,14 +5,16 @@ use Rattle.std.specs.List.{list_any}
 use Rattle.std.proofs.lemmas.Bool.Decides.{nat_tests}
 use Rattle.dds_base.specs.declared.config.PeerConfig.{PeerConfig}
 use Rattle.dds_base.specs.declared.config.ReaderConfig.{ReaderConfig}
-use Rattle.dds_base.specs.Matched.{same_topic, of_matched_readers}
+use Rattle.dds_base.specs.Matched.{is_reliable_reader, same_topic, of_reliable_readers}
 use Rattle.dds_base.specs.MatchedAt.{of_readers_in}
 use Rattle.dds_machine.specs.declared.endpoint.Endpoint.{Endpoint}
 use Rattle.dds_machine.specs.Part.{ReaderProxy, peers_of}
 use Rattle.dds_core.specs.declared.matching.Destination.{Destination}
 use Rattle.dds_core.specs.Matching.{has_reader, destinations}
 use Rattle.dds_core.proofs.Beating.{other_number}
-use Rattle.dds_core.proofs.Destinations.{reader_ends, sends_to, name_at}
+use Rattle.dds_core.proofs.Destinations.{reader_ends, ends_in, sends_to, name_at}
+use Rattle.dds_machine.specs.Opening.{matched_readers}
+use Rattle.dds_protocol.proofs.Ways.{both_true}
 
 -- ---- lists of numbers that go up, from this one on
 
@@ -122,29 +124,38 @@ above n (x ∷ xs) none h = (more (x == n) refl none, h.1)
         (λ o. ⊎_elim (λ same. let bad : false ≡ true = sym is ∙ eq-eqb x n (sym same) in absurd cc)
         (λ gt. absurd (omega (arith, gt, low))) o) (order n x)
 
-peers_ascend : (n : ℕ) (rows : List ReaderProxy) → InOrder n (ends_of rows) → Ascend n (peers_of rows)
+peers_ascend : (n : ℕ) (es : List Endpoint) → InOrder n es → Ascend n (peers_of es)
 unfolding InOrder Ascend
 peers_ascend n [] h = tt
-peers_ascend n (p ∷ ps) h = one (has p.reader.peer (peers_of ps)) refl (peers_ascend p.reader.peer ps h.1)
+peers_ascend n (e ∷ es) h = one (has e.peer (peers_of es)) refl (peers_ascend e.peer es h.1)
   where
-    one : (b : Bool) → has p.reader.peer (peers_of ps) ≡ b → Ascend p.reader.peer (peers_of ps)
-        → Ascend n (if b then peers_of ps else p.reader.peer ∷ peers_of ps)
-    one true is k = from_below n p.reader.peer (peers_of ps) h.0 k
-    one false is k = (h.0, above p.reader.peer (peers_of ps) is k)
+    one : (b : Bool) → has e.peer (peers_of es) ≡ b → Ascend e.peer (peers_of es)
+        → Ascend n (if b then peers_of es else e.peer ∷ peers_of es)
+    one true is k = from_below n e.peer (peers_of es) h.0 k
+    one false is k = (h.0, above e.peer (peers_of es) is k)
 
--- a number is among the peers where some row is of it
-has_peer : (m : ℕ) (rows : List ReaderProxy) → has m (peers_of rows)
-    ≡ list_any (λ (p : ReaderProxy). p.reader.peer == m) rows
+-- a number is among the peers where some end is of it
+has_peer : (m : ℕ) (es : List Endpoint) → has m (peers_of es) ≡ list_any (λ (e : Endpoint). e.peer == m) es
 has_peer m [] = refl
-has_peer m (p ∷ ps) = one (has p.reader.peer (peers_of ps)) (p.reader.peer == m) refl refl (has_peer m ps)
+has_peer m (e ∷ es) = one (has e.peer (peers_of es)) (e.peer == m) refl refl (has_peer m es)
   where
-    one : (b c : Bool) → has p.reader.peer (peers_of ps) ≡ b → (p.reader.peer == m) ≡ c
-        → has m (peers_of ps) ≡ list_any (λ (q : ReaderProxy). q.reader.peer == m) ps
-        → has m (if b then peers_of ps else p.reader.peer ∷ peers_of ps)
-        ≡ (c || list_any (λ (q : ReaderProxy). q.reader.peer == m) ps)
-    one true true there is h = sym (ap (λ (k : ℕ). has k (peers_of ps)) (eqb-true p.reader.peer m is)) ∙ there
+    one : (b c : Bool) → has e.peer (peers_of es) ≡ b → (e.peer == m) ≡ c
+        → has m (peers_of es) ≡ list_any (λ (x : Endpoint). x.peer == m) es
+        → has m (if b then peers_of es else e.peer ∷ peers_of es)
+        ≡ (c || list_any (λ (x : Endpoint). x.peer == m) es)
+    one true true there is h = sym (ap (λ (k : ℕ). has k (peers_of es)) (eqb-true e.peer m is)) ∙ there
     one true false there is h = h
-    one false c there is h = ap (λ (x : Bool). x || has m (peers_of ps)) is ∙ ap (λ (x : Bool). c || x) h
+    one false c there is h = ap (λ (x : Bool). x || has m (peers_of es)) is ∙ ap (λ (x : Bool). c || x) h
+
+-- where some row is
+has_row : (m : ℕ) (rows : List ReaderProxy) → has m (peers_of (ends_of rows))
+    ≡ list_any (λ (p : ReaderProxy). p.reader.peer == m) rows
+has_row m rows = has_peer m (ends_of rows) ∙ each rows
+  where
+    each : (ps : List ReaderProxy) → list_any (λ (e : Endpoint). e.peer == m) (ends_of ps)
+        ≡ list_any (λ (p : ReaderProxy). p.reader.peer == m) ps
+    each [] = refl
+    each (p ∷ ps) = ap (λ (b : Bool). (p.reader.peer == m) || b) (each ps)
 
 any_filtered : (f b : ReaderProxy → Bool) (rows : List ReaderProxy)
     → list_any f (filter b rows) ≡ list_any (λ (p : ReaderProxy). f p && b p) rows
@@ -236,7 +247,8 @@ ends_before : (topic peer n : ℕ) (rs : List ReaderConfig) (rest : List Endpoin
     → InOrder peer (of_readers_in (name_at peer) topic n rs ++ rest)
 unfolding InOrder
 ends_before topic peer n [] rest h = h
-ends_before topic peer n (r ∷ rs) rest h = one (same_topic r.topic topic) (ends_before topic peer (n + 1) rs rest h)
+ends_before topic peer n (r ∷ rs) rest h =
+    one (is_reliable_reader r && same_topic r.topic topic) (ends_before topic peer (n + 1) rs rest h)
   where
     one : (b : Bool) → InOrder peer (of_readers_in (name_at peer) topic (n + 1) rs ++ rest)
         → InOrder peer (cond b (name_at peer n r ∷ of_readers_in (name_at peer) topic (n + 1) rs)
@@ -245,28 +257,112 @@ ends_before topic peer n (r ∷ rs) rest h = one (same_topic r.topic topic) (end
     one false k = k
 
 ends_in_order : (topic n : ℕ) (ps : List PeerConfig)
-    → InOrder n (of_matched_readers (λ i p k r. name_at i k r) topic n ps)
+    → InOrder n (of_reliable_readers (λ i p k r. name_at i k r) topic n ps)
 unfolding InOrder
 ends_in_order topic n [] = tt
 ends_in_order topic n (p ∷ ps) =
     ends_before topic n 1 p.readers _ (order_below n (n + 1) _ (omega arith) (ends_in_order topic (n + 1) ps))
 
+-- a reliable reader of the topic is one of its readers
+
+any_both : (f : Endpoint → Bool) (xs ys : List Endpoint) → list_any f (xs ++ ys) ≡ (list_any f xs || list_any f ys)
+any_both f [] ys = refl
+any_both f (x ∷ xs) ys = one (f x) (any_both f xs ys)
+  where
+    one : (b : Bool) → list_any f (xs ++ ys) ≡ (list_any f xs || list_any f ys)
+        → (b || list_any f (xs ++ ys)) ≡ ((b || list_any f xs) || list_any f ys)
+    one true h = refl
+    one false h = h
+
+ends_matched : (f : Endpoint → Bool) (topic peer n : ℕ) (rs : List ReaderConfig)
+    → list_any f (of_readers_in (name_at peer) topic n rs) ≡ true
+    → list_any f (ends_in topic peer n rs) ≡ true
+ends_matched f topic peer n [] some = some
+ends_matched f topic peer n (r ∷ rs) some =
+    one (is_reliable_reader r) (same_topic r.topic topic) some (ends_matched f topic peer (n + 1) rs)
+  where
+    now : List Endpoint
+    now = of_readers_in (name_at peer) topic (n + 1) rs
+
+    all : List Endpoint
+    all = ends_in topic peer (n + 1) rs
+
+    later : (b : Bool) → (b || list_any f now) ≡ true → (list_any f now ≡ true → list_any f all ≡ true)
+        → (b || list_any f all) ≡ true
+    later true h next = refl
+    later false h next = next h
+
+    or_true : (b : Bool) → list_any f all ≡ true → (b || list_any f all) ≡ true
+    or_true true h = refl
+    or_true false h = h
+
+    one : (b c : Bool) → list_any f (cond (b && c) (name_at peer n r ∷ now) now) ≡ true
+        → (list_any f now ≡ true → list_any f all ≡ true)
+        → list_any f (cond (true && c) (name_at peer n r ∷ all) all) ≡ true
+    one true true h next = later (f (name_at peer n r)) h next
+    one true false h next = next h
+    one false true h next = or_true (f (name_at peer n r)) (next h)
+    one false false h next = next h
+
+all_matched : (f : Endpoint → Bool) (topic n : ℕ) (ps : List PeerConfig)
+    → list_any f (of_reliable_readers (λ i p k r. name_at i k r) topic n ps) ≡ true
+    → list_any f (matched_readers topic n ps) ≡ true
+all_matched f topic n [] some = some
+all_matched f topic n (p ∷ ps) some =
+    any_both f (ends_in topic n 1 p.readers) (matched_readers topic (n + 1) ps)
+    ∙ either (list_any f (of_readers_in (name_at n) topic 1 p.readers)) _
+    (list_any f (ends_in topic n 1 p.readers)) _
+    (sym (any_both f (of_readers_in (name_at n) topic 1 p.readers)
+    (of_reliable_readers (λ i q k r. name_at i k r) topic (n + 1) ps)) ∙ some)
+    (ends_matched f topic n 1 p.readers) (all_matched f topic (n + 1) ps)
+  where
+    either : (a b c d : Bool) → (a || b) ≡ true → (a ≡ true → c ≡ true) → (b ≡ true → d ≡ true) → (c || d) ≡ true
+    either true b c d h first rest = ap (λ (x : Bool). x || d) (first refl)
+    either false b c true h first rest = last c
+      where
+        last : (x : Bool) → (x || true) ≡ true
+        last true = refl
+        last false = refl
+    either false b c false h first rest = let no = rest h in cc
+
+-- what holds where another does is both
+and_same : (a b : Bool) → (b ≡ true → a ≡ true) → (a && b) ≡ b
+and_same true b h = refl
+and_same false true h = let no = h refl in cc
+and_same false false h = refl
+
 -- the peers of the rows that pass are the destinations of which some row passes
 pub peers_passed : (topic : ℕ) (peers : List PeerConfig) (rows : List ReaderProxy) (ds : List Destination)
     (b : ReaderProxy → Bool) → map (λ (p : ReaderProxy). p.reader) rows ≡ reader_ends topic peers
     → ds ≡ destinations topic 1 peers
-    → peers_of (filter b rows) ≡ map (λ (d : Destination). d.peer)
+    → peers_of (ends_of (filter b rows)) ≡ map (λ (d : Destination). d.peer)
     (filter (λ (d : Destination). list_any (λ (p : ReaderProxy). (p.reader.peer == d.peer) && b p) rows) ds)
 peers_passed topic peers rows ds b names sent =
-    let q : ℕ → Bool = λ m. list_any (λ (p : ReaderProxy). (p.reader.peer == m) && b p) rows in
-    let ordered : InOrder 1 (ends_of rows) =
-    subst (λ (es : List Endpoint). InOrder 1 es) (sym names) (ends_in_order topic 1 peers) in
-    let right : Ascend 1 (map (λ (d : Destination). d.peer) ds) =
-    subst (λ (es : List Destination). Ascend 1 (map (λ (d : Destination). d.peer) es)) (sym sent)
-    (sent_ascend topic 1 peers) in
-    one_list 1 _ _ (peers_ascend 1 (filter b rows) (order_filtered b 1 rows ordered)) (filtered_ascend q 1 ds right)
+    one_list 1 _ _ (peers_ascend 1 (ends_of (filter b rows)) (order_filtered b 1 rows ordered))
+    (filtered_ascend q 1 ds right)
     (λ m.
-    (has_peer m (filter b rows) ∙ any_filtered (λ (p : ReaderProxy). p.reader.peer == m) b rows)
-    ∙ sym (has_filtered q m ds
-    ∙ (ap (λ (c : Bool). c && q m) (ap (λ (ns : List ℕ). has m ns) (sym (sends_to topic peers rows ds names sent))
-    ∙ has_peer m rows) ∙ any_and (λ (p : ReaderProxy). p.reader.peer == m) b rows)))
+    (has_row m (filter b rows) ∙ any_filtered (λ (p : ReaderProxy). p.reader.peer == m) b rows)
+    ∙ sym (has_filtered q m ds ∙ and_same (has m (map (λ (d : Destination). d.peer) ds)) (q m) (present m)))
+  where
+    q : ℕ → Bool
+    q m = list_any (λ (p : ReaderProxy). (p.reader.peer == m) && b p) rows
+
+    ordered : InOrder 1 (ends_of rows)
+    ordered = subst (λ (es : List Endpoint). InOrder 1 es) (sym names) (ends_in_order topic 1 peers)
+
+    right : Ascend 1 (map (λ (d : Destination). d.peer) ds)
+    right =
+        subst (λ (es : List Destination). Ascend 1 (map (λ (d : Destination). d.peer) es)) (sym sent)
+        (sent_ascend topic 1 peers)
+
+    present : (m : ℕ) → q m ≡ true → has m (map (λ (d : Destination). d.peer) ds) ≡ true
+    present m some =
+        let both : (list_any (λ (p : ReaderProxy). p.reader.peer == m) rows && q m) ≡ true =
+        any_and (λ (p : ReaderProxy). p.reader.peer == m) b rows ∙ some in
+        let row = (both_true (list_any (λ (p : ReaderProxy). p.reader.peer == m) rows) (q m) both).0 in
+        let ends : list_any (λ (e : Endpoint). e.peer == m) (reader_ends topic peers) ≡ true =
+        ap (λ (es : List Endpoint). list_any (λ (e : Endpoint). e.peer == m) es) (sym names)
+        ∙ (sym (has_peer m (ends_of rows)) ∙ (has_row m rows ∙ row)) in
+        ap (λ (ns : List ℕ). has m ns) (sym (sends_to topic peers (matched_readers topic 1 peers) ds refl sent))
+        ∙ (has_peer m (matched_readers topic 1 peers)
+        ∙ all_matched (λ (e : Endpoint). e.peer == m) topic 1 peers ends)

@@ -6,7 +6,7 @@ use Rattle.dds_base.specs.declared.config.ReaderConfig.{ReaderConfig}
 use Rattle.dds_base.specs.declared.config.WriterConfig.{WriterConfig}
 use Rattle.dds_base.specs.declared.qos.MatchedWriter.{MatchedWriter}
 use Rattle.dds_base.specs.declared.qos.ReaderQos.{ReaderQos}
-use Rattle.dds_base.specs.Matched.{same_topic, of_matched_writers}
+use Rattle.dds_base.specs.Matched.{same_topic, is_reliable, is_reliable_reader, of_matched_writers}
 use Rattle.dds_cache.specs.Standing.{qos_of}
 use Rattle.rtps_reader.specs.Reader.{Proxies, Tracks, count_of}
 use Rattle.rtps_reader.specs.Tracked.{fresh}
@@ -17,7 +17,7 @@ use Rattle.dds_machine.specs.Opening.{matched_writers}
 use Rattle.dds_machine.specs.Part.{WriterProxy, same_endpoint, row_of, place_of, nothing_seen}
 use Rattle.dds_protocol.proofs.OwnGuids.{as_many}
 use Rattle.dds_core.specs.declared.matching.WriterName.{WriterName}
-use Rattle.dds_core.specs.Identity.{FitsWriters}
+use Rattle.dds_core.specs.Identity.{FitsWriters, reliable_in}
 use Rattle.dds_core.specs.EndNames.{writer_name, matched_writer}
 use Rattle.dds_core.specs.OpeningEnds.{OpensReader}
 use Rattle.dds_core.specs.Stored.{StoreKept}
@@ -106,7 +106,9 @@ pub opens_reader : (peers : List PeerConfig) (r : ReaderConfig) (names : List Wr
     (record { entity = r.entity; writers = names; reader = reader; store = store; seen = nothing_seen })
 opens_reader peers r names writers reader store matched told nothing qos stands =
     record {
-      identity = identity_as r.entity r.entity names _ refl matched;
+      identity =
+          identity_as r.entity r.entity names _ (reliable_in store) (is_reliable_reader r) refl matched
+          (ap (λ (q : ReaderQos). is_reliable q.reliability) qos);
       stands = record {
         writers_are = map-matched_writers (λ (p : WriterProxy). p.writer) _ r.topic 1 peers
             ∙ sym (ap (λ (ns : List WriterName). map (λ (n : WriterName). n.writer) ns) matched
@@ -123,12 +125,18 @@ opens_reader peers r names writers reader store matched told nothing qos stands 
 pub rows_fit : (peers : List PeerConfig) (r : ReaderConfig) (names : List WriterName) (writers : List MatchedWriter)
     (reader : Proxies) (store : StoreKept) → names ≡ of_matched_writers writer_name r.topic 1 peers
     → writers ≡ of_matched_writers matched_writer r.topic 1 peers → count_of reader ≡ length names
-    → qos_of store.cache ≡ qos_with r writers → length writers ≤ 256 → FitsWriters names reader store
-rows_fit peers r names writers reader store matched told count qos many =
+    → qos_of store.cache ≡ qos_with r writers → length writers ≤ 256 → (reliable : Bool)
+    → reliable ≡ is_reliable_reader r → FitsWriters names reader store reliable
+rows_fit peers r names writers reader store matched told count qos many reliable is =
     let same = as_many writer_name matched_writer r.topic 1 peers in
     let a : length names ≡ length (of_matched_writers writer_name r.topic 1 peers) =
     ap (λ (ns : List WriterName). length ns) matched in
     let b : length (qos_of store.cache).writers ≡ length (of_matched_writers matched_writer r.topic 1 peers) =
     ap (λ (q : ReaderQos). length q.writers) qos ∙ ap (λ (ws : List MatchedWriter). length ws) told in
     let c : length (qos_of store.cache).writers ≡ length writers = ap (λ (q : ReaderQos). length q.writers) qos in
-    record { count = count; fits = omega (arith, same, a, b); many = omega (arith, c, many) }
+    record {
+      policy = ap (λ (q : ReaderQos). is_reliable q.reliability) qos ∙ sym is;
+      count = count;
+      fits = omega (arith, same, a, b);
+      many = omega (arith, c, many);
+    }

@@ -1,5 +1,5 @@
 -- What is made ready for each reader.
-use Rattle.std.proofs.Common.{◌≡◌, ◌⊎◌, ℕ, zero, suc, ◌+◌, ◌<◌, ◌≤◌, List, [], ◌∷◌, ◌++◌, Option, Some, set, drop, map, length, slice_get, get_or, refl, ap, sym, ◌∙◌, subst, arith, inl, inr, ⊎_elim, length-set}
+use Rattle.std.proofs.Common.{◌≡◌, ◌⊎◌, ℕ, zero, suc, ◌+◌, ◌<◌, ◌≤◌, Bool, true, false, List, [], ◌∷◌, ◌++◌, Option, Some, set, drop, map, length, slice_get, get_or, refl, ap, sym, ◌∙◌, subst, arith, inl, inr, ⊎_elim, length-set}
 use Rattle.std.proofs.lemmas.Option.{same_Some, slice_get-get_or}
 use Rattle.dds_base.specs.declared.guid.GuidPrefix.{GuidPrefix}
 use Rattle.dds_base.specs.declared.happening.Happening.{Happening}
@@ -21,7 +21,7 @@ use Rattle.dds_core.specs.declared.reader_end.Ready.{Ready}
 use Rattle.dds_core.specs.declared.reader_end.Told.{Told}
 use Rattle.dds_core.specs.declared.reader_end.Told.TheVariants as told
 use Rattle.dds_core.specs.Kept.{ReaderKept, PeerKept}
-use Rattle.dds_core.specs.Identity.{ReaderIdentity, Identity, reader_identity, writer_identity, IsPeerOf}
+use Rattle.dds_core.specs.Identity.{ReaderIdentity, Identity, reader_identity, reliable_in, writer_identity, IsPeerOf}
 use Rattle.dds_core.specs.Readiness.{IsReadyFor, IsReadyWith, AreReady, IsAlike, AreAlike, CanTake, TakesTold, SameReader, moves_of, IsBounded, IsToldBounded, IsToldBy}
 use Rattle.dds_core.specs.Receiving.{AllCanTake, TookAt, TakesAll, ReadersTake, StandsAsWell}
 use Rattle.dds_core.proofs.TakenSoFar.{TakesSome}
@@ -124,13 +124,18 @@ ready_more own at sub now ready ready' i k' one count is each new j k r at_k at_
     (set-cases now i k' j k at_k)
 
 -- what is told keeps to the wire's bounds
-told_bounded : (at : Receiver) (s : Submessage) (said : Told) → IsBounded s → IsToldBy at s said → IsToldBounded said
-told_bounded at (Data d) (told.Change number change) b is = let same = is.0 in omega (arith, same, b)
-told_bounded at (Gap g) (told.Gap start list) b is =
-    let same = ap (λ (x : NumberSet). x.base) is.1 in omega (arith, same, b)
-told_bounded at (Heartbeat h) (told.Heartbeat seen) b is =
+told_bounded : (reliable : Bool) (at : Receiver) (s : Submessage) (said : Told) → IsBounded s
+    → IsToldBy reliable at s said → IsToldBounded said
+told_bounded reliable at (Data d) (told.Change number change) b is = let same = is.1 in omega (arith, same, b)
+told_bounded reliable at (Data d) (told.Jump number change) b is = let same = is.1 in omega (arith, same, b)
+told_bounded reliable at (Gap g) (told.Gap start list) b is =
+    let same = ap (λ (x : NumberSet). x.base) is.2 in omega (arith, same, b)
+told_bounded reliable at (Gap g) told.Nothing b is = tt
+told_bounded true at (Heartbeat h) (told.Heartbeat seen) b is =
     let same = ap (λ (x : HeartbeatSeen). x.first) is in omega (arith, same, b)
-told_bounded at s said b is = absurd is
+told_bounded false at (Heartbeat h) (told.Heartbeat seen) b is =
+    let same = ap (λ (x : HeartbeatSeen). x.first) is in omega (arith, same)
+told_bounded reliable at s said b is = absurd is
 
 -- the element of the same index
 pub partner : {X Y : Type 0} (xs : List X) (ys : List Y) (i : ℕ) (y : Y) → length ys ≡ length xs
@@ -146,8 +151,7 @@ pub can_take : (own : GuidPrefix) (at : Receiver) (s : Submessage) (k : ReaderKe
 can_take own at s k ready b is =
     record {
       row = get-within k.writers ready.row is.named.first.name is.named.first.at;
-      bounded = told_bounded at s
-          ready.told b is.told;
+      bounded = told_bounded (reliable_in k.store) at s ready.told b is.told;
       room = is.room;
     }
 
@@ -192,7 +196,7 @@ same_identities (a ∷ as') [] h = let count = h.count in absurd (omega (arith, 
 same_identities (a ∷ as') (b ∷ bs) h =
     let count = h.count in
     cons_as (reader_identity b) (reader_identity a) _ _
-    (let one = h.each zero a b refl refl in same_identity b a one.entity one.writers)
+    (let one = h.each zero a b refl refl in same_identity b a one.entity one.writers one.qos)
     (same_identities as' bs
     (record { count = omega (arith, count); each = λ i x y at_x at_y. h.each (suc i) x y at_x at_y }))
   where
@@ -208,6 +212,7 @@ alike_core kept readers h config peer s =
       is_peer =
           subst (λ (x : Identity). IsPeerOf config peer.number x)
           (sym (ap identity (same_identities kept.readers readers h))) s.is_peer;
+      matched = s.matched;
       moment = s.moment;
       early = s.early;
       watch = s.watch;

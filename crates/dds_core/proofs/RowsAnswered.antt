@@ -274,7 +274,7 @@ row_applied turn from is = record {
   takes = inl (to, taken, takes);
   stands =
       writer_put turn.c.config turn.c.peer turn.c.kept turn.c.stands turn.c.i turn.c.k turn.t.writer turn.c.at_k
-      turn.t.same there known.answered stands others
+      turn.t.same there known.answered refl stands others
       (tellable_put turn.c.peer.part (suc turn.c.i) there turn.c.stands.tellable refl);
   adds = subst (λ (ds : List Due). AddsTo ds turn.sent turn.gone) (same_dues (sends turn).groups) (sends turn).adds;
 }
@@ -431,7 +431,7 @@ row_ignored turn is = record {
       subst (λ (p : Part). StandsFor (with_writer turn.c.kept turn.c.i turn.t.writer) turn.c.config
       (record turn.c.peer { part = p })) part_is
       (writer_put turn.c.config turn.c.peer turn.c.kept turn.c.stands turn.c.i turn.c.k turn.t.writer turn.c.at_k
-      turn.t.same (writer_of turn.c) turn.c.peer.known.answered stands (λ j apart e. refl)
+      turn.t.same (writer_of turn.c) turn.c.peer.known.answered refl stands (λ j apart e. refl)
       (tellable_put turn.c.peer.part (suc turn.c.i) (writer_of turn.c) turn.c.stands.tellable refl));
   adds =
       subst (λ (ds : List Due). AddsTo ds turn.sent turn.gone)

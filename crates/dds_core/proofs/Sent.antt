@@ -24,7 +24,8 @@ use Rattle.rtps_wire.proofs.SpellingLaws.{message_again}
 use Rattle.dds_machine.specs.declared.endpoint.Endpoint.{Endpoint}
 use Rattle.dds_protocol.specs.declared.event.Packet.{Packet}
 use Rattle.dds_protocol.specs.declared.event.Output.{Output}
-use Rattle.dds_machine.specs.Part.{Part, ReaderProxy, own_writer, writer_changes}
+use Rattle.dds_machine.specs.Opening.{matched_readers}
+use Rattle.dds_machine.specs.Part.{Part, own_writer, writer_changes}
 use Rattle.dds_protocol.specs.Claims.{Claim, ChangeIs, MayPass, PlaceReached, Asserts, Receiver, receiver_of, every_peer, every_reader, is_for, stamp_of, after_submessage, StandsAt, StandsIn, IsWriter, IsReader, IsToReader, Says, Claims}
 use Rattle.dds_protocol.specs.Peer.{IsTrueAt}
 use Rattle.dds_protocol.proofs.Dues.{stands_in, told, dst_says, ts_says}
@@ -34,7 +35,7 @@ use Rattle.dds_core.specs.declared.sending.Sender.{Sender}
 use Rattle.dds_core.specs.Matching.{has_reader, destinations}
 use Rattle.dds_core.specs.Sending.{AreMessages, SendsChange}
 use Rattle.dds_core.specs.Announcing.{announcement, IsAnnouncement, AreAnnouncements}
-use Rattle.dds_core.proofs.Destinations.{IsPeer, is_peer, IsReaderOf, is_reader, reader_ends, sends_to}
+use Rattle.dds_core.proofs.Destinations.{IsPeer, is_peer, IsReaderOf, is_reader, sends_to}
 
 abbrev data_of : Sender → ℕ → DataContent → Submessage
 data_of sender number content =
@@ -298,20 +299,20 @@ contains_map [] k d at = absurd cc
 contains_map (x ∷ xs) zero d at = (zero, omega arith, ap (λ (y : Destination). y.peer) (same_Some x d at))
 contains_map (x ∷ xs) (suc k) d at = let c = contains_map xs k d at in let lt = c.1 in (suc c.0, omega (arith, lt), c.2)
 
--- what a writer knows of those that it sends to
-pub record IsMatched (config : Config) (topic : ℕ) (rows : List ReaderProxy) (ds : List Destination) : Type 0 where
-  pub names : map (λ (p : ReaderProxy). p.reader) rows ≡ reader_ends topic config.peers
+-- whom a writer is matched with, and those that it sends to
+pub record IsMatched (config : Config) (topic : ℕ) (es : List Endpoint) (ds : List Destination) : Type 0 where
+  pub names : es ≡ matched_readers topic 1 config.peers
   pub sent_to : ds ≡ destinations topic 1 config.peers
 
-pub sends_change : (config : Config) (sender : Sender) (own : Endpoint) (topic : ℕ) (rows : List ReaderProxy)
+pub sends_change : (config : Config) (sender : Sender) (own : Endpoint) (topic : ℕ) (es : List Endpoint)
     (ds : List Destination) (number : ℕ) (content : DataContent) (output : Output) → IsSender config sender own topic
-    → IsMatched config topic rows ds
+    → IsMatched config topic es ds
     → sender.moment < 2 ^ 63 → AreAnnouncements sender number content ds output.packets
     → length output.packets + output.unsent ≡ length ds
-    → AreSent (changes_due config own rows number (change_in content sender.moment)) output.packets output.unsent
-    → SendsChange config own rows number (change_in content sender.moment) output
-sends_change config sender own topic rows ds number content output from matched early are counted are_sent =
-    let peers = sends_to topic config.peers rows ds matched.names matched.sent_to in
+    → AreSent (changes_due config own es number (change_in content sender.moment)) output.packets output.unsent
+    → SendsChange config own es number (change_in content sender.moment) output
+sends_change config sender own topic es ds number content output from matched early are counted are_sent =
+    let peers = sends_to topic config.peers es ds matched.names matched.sent_to in
     let ordered : AreFrom 1 ds =
     subst (λ (xs : List Destination). AreFrom 1 xs) (sym matched.sent_to) (all_from topic 1 config.peers) in
     record {
@@ -323,12 +324,12 @@ sends_change config sender own topic rows ds number content output from matched 
           subst (λ (ns : List ℕ). Contains ns packet.to) (sym peers)
           (subst (λ (n : ℕ). Contains (map (λ (x : Destination). x.peer) ds) n) (sym t.is.to_is)
           (contains_map ds t.index t.to t.at));
-      says = λ packet reader among same some.
+      says = λ packet reader among same there.
           let t = target sender number content ds output.packets are packet among in
           announces config sender t.to own reader topic number content packet from
           (is_peer config.peers topic t.index t.to
           (subst (λ (xs : List Destination). slice_get xs t.index ≡ Some t.to) matched.sent_to t.at))
-          (is_reader config topic rows reader matched.names some) (same ∙ t.is.to_is) early t.is;
+          (is_reader config topic es reader matched.names there) (same ∙ t.is.to_is) early t.is;
       different = different sender number content 1 ds output.packets ordered are;
     }
 

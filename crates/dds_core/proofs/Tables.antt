@@ -4,7 +4,7 @@ use Rattle.std.proofs.lemmas.List.{map-append}
 use Rattle.dds_base.specs.declared.config.PeerConfig.{PeerConfig}
 use Rattle.dds_base.specs.declared.config.WriterConfig.{WriterConfig}
 use Rattle.dds_base.specs.declared.config.ReaderConfig.{ReaderConfig}
-use Rattle.dds_base.specs.Matched.{same_topic, any_writer, is_reliable_reader, of_ends_in, of_matched_ends, of_matched_writers, of_matched_readers}
+use Rattle.dds_base.specs.Matched.{same_topic, any_writer, is_reliable_reader, of_ends_in, of_matched_ends, of_matched_writers, of_reliable_readers}
 
 map-cond : {X Y : Type 0} (f : X → Y) (b : Bool) (x : X) (xs : List X) (ys : List Y) → map f xs ≡ ys
     → map f (cond b (x ∷ xs) xs) ≡ cond b (f x ∷ ys) ys
@@ -30,10 +30,10 @@ map-matched_ends ends is_wanted topic_of f tell topic n (p ∷ ps) =
     ∙ ap (λ xs. of_ends_in is_wanted topic_of (λ k e. f (tell n p k e)) topic 1 (ends p) ++ xs)
     (map-matched_ends ends is_wanted topic_of f tell topic (n + 1) ps))
 
-pub map-matched_readers : {X Y : Type 0} (f : X → Y) (tell : ℕ → PeerConfig → ℕ → ReaderConfig → X) (topic n : ℕ)
+pub map-reliable_readers : {X Y : Type 0} (f : X → Y) (tell : ℕ → PeerConfig → ℕ → ReaderConfig → X) (topic n : ℕ)
     (ps : List PeerConfig)
-    → map f (of_matched_readers tell topic n ps) ≡ of_matched_readers (λ i p k r. f (tell i p k r)) topic n ps
-map-matched_readers = map-matched_ends (λ (p : PeerConfig). p.readers) is_reliable_reader (λ (r : ReaderConfig). r.topic)
+    → map f (of_reliable_readers tell topic n ps) ≡ of_reliable_readers (λ i p k r. f (tell i p k r)) topic n ps
+map-reliable_readers = map-matched_ends (λ (p : PeerConfig). p.readers) is_reliable_reader (λ (r : ReaderConfig). r.topic)
 
 pub map-matched_writers : {X Y : Type 0} (f : X → Y) (tell : ℕ → PeerConfig → ℕ → WriterConfig → X) (topic n : ℕ)
     (ps : List PeerConfig)
@@ -48,6 +48,6 @@ constant y (x ∷ xs) = ap (λ zs. y ∷ zs) (constant y xs)
 -- where each end is told alike, as many are told as there are
 pub told_alike : {X Y : Type 0} (y : Y) (tell : ℕ → PeerConfig → ℕ → ReaderConfig → X) (topic n : ℕ)
     (ps : List PeerConfig)
-    → of_matched_readers (λ i p k r. y) topic n ps ≡ replicate (length (of_matched_readers tell topic n ps)) y
+    → of_reliable_readers (λ i p k r. y) topic n ps ≡ replicate (length (of_reliable_readers tell topic n ps)) y
 told_alike {X} y tell topic n ps =
-    sym (map-matched_readers (λ (x : X). y) tell topic n ps) ∙ constant y (of_matched_readers tell topic n ps)
+    sym (map-reliable_readers (λ (x : X). y) tell topic n ps) ∙ constant y (of_reliable_readers tell topic n ps)

@@ -5,7 +5,9 @@ use Rattle.std.proofs.lemmas.Option.{same_Some}
 use Rattle.dds_base.specs.declared.config.Config.{Config}
 use Rattle.dds_base.specs.declared.guid.EntityId.{EntityId}
 use Rattle.dds_base.specs.declared.guid.GuidPrefix.{GuidPrefix}
+use Rattle.dds_base.specs.declared.change.Change.{Change}
 use Rattle.dds_base.specs.declared.happening.Happening.{Happening}
+use Rattle.dds_base.specs.declared.happening.PassedRun.{PassedRun}
 use Rattle.dds_base.specs.declared.happening.Happening.TheVariants.{Heard as WasHeard}
 use Rattle.dds_base.specs.declared.qos.ReaderQos.{ReaderQos}
 use Rattle.dds_base.specs.Places.{Match}
@@ -16,8 +18,9 @@ use Rattle.rtps_reader.specs.declared.step.AckNackDue.{AckNackDue}
 use Rattle.rtps_reader.specs.declared.step.HeartbeatSeen.{HeartbeatSeen}
 use Rattle.rtps_reader.specs.Tracked.{Tracked, with_heartbeat}
 use Rattle.rtps_reader.specs.Advance.{Advances}
+use Rattle.rtps_reader.specs.Jump.{Jumps}
 use Rattle.rtps_reader.specs.Answer.{AnswersHeartbeat, answered, heard_after}
-use Rattle.rtps_reader.specs.Reader.{Tracks, OthersStay, match_at, MovesOn, TakesHeartbeat as HeartbeatTold}
+use Rattle.rtps_reader.specs.Reader.{Tracks, OthersStay, match_at, MovesOn, JumpsOn, TakesHeartbeat as HeartbeatTold}
 use Rattle.rtps_wire.specs.declared.heartbeat.Heartbeat.{Heartbeat as HeartbeatBody}
 use Rattle.dds_machine.specs.declared.endpoint.Endpoint.{Endpoint}
 use Rattle.dds_machine.specs.declared.reply.Move.{Move}
@@ -28,7 +31,8 @@ use Rattle.dds_machine.specs.Moves.{IsMatchedAt, match_of}
 use Rattle.dds_protocol.specs.Claims.{Receiver}
 use Rattle.dds_protocol.specs.Peer.{Peer, state_of}
 use Rattle.dds_protocol.specs.DueMessages.{acknacks_due}
-use Rattle.dds_protocol.specs.Protocol.{Known, State, Goes, Asserting, TakesHeartbeat, with_tracked}
+use Rattle.dds_protocol.specs.Protocol.{Known, State, GoesBy, Goes, Asserting, TakesHeartbeat, with_tracked}
+use Rattle.dds_protocol.proofs.Ways.{jumps_gone}
 use Rattle.dds_protocol.proofs.Framing.{tracked_here, tracked_elsewhere, pair_or_not}
 use Rattle.dds_machine.proofs.Tables.{numbered-same, place-cases, place-hits, place-heard}
 use Rattle.dds_core.specs.declared.matching.WriterName.{WriterName}
@@ -39,7 +43,7 @@ use Rattle.dds_core.specs.Receiving.{with_state}
 use Rattle.dds_core.specs.Standing.{IsFirstRow, ReaderStands, StandsFor}
 use Rattle.dds_core.specs.Storing.{Holds}
 use Rattle.dds_core.proofs.Ends.{with_reader, with_read, own_reader_stepped}
-use Rattle.dds_core.proofs.Identities.{identity_as}
+use Rattle.dds_core.proofs.Identities.{same_identity}
 use Rattle.dds_core.proofs.Lists.{get-within}
 use Rattle.dds_core.proofs.Rows.{writers_of, proxied, IsFirstOf, is_first_of, one_first, handle_is, place_there, writers_kept}
 
@@ -132,7 +136,7 @@ stands_after c k' t happened proxies known counts a writers here elsewhere is ot
     })
   where
     identity : reader_identity k' ≡ reader_identity c.k
-    identity = identity_as k'.entity c.k.entity k'.writers c.k.writers a.same.entity a.same.writers
+    identity = same_identity k' c.k a.same.entity a.same.writers a.same.qos
 
     by_place : (w : Endpoint) (p : ℕ) → place_of proxies w ≡ Some p
         → ((w ≡ c.writer) × (suc c.i ≡ suc c.i)) ⊎ ((w ≡ c.writer) × (suc c.i ≡ suc c.i) → ⊥)
@@ -209,6 +213,45 @@ after_step c step new happened = record {
   known = with_tracked c.peer.known c.writer (suc c.i) new;
 }
 
+pub way_on : {Way : Match → List Happening → ℕ → List PassedRun → Tracked → List Happening → Type 0}
+    → (c : Telling) (k' : ReaderKept) (from : ℕ) (step : Step) → SameReader c.k k'
+    → OthersStay c.row c.k.reader k'.reader → from ≡ (known_of c).place → (new : Tracked) (after : List Happening)
+    → Way (match_of (part_of c) (suc c.i) (c.row + 1)) (reader_of c).happened step.to step.passed new after
+    → new.place ≡ step.to → Tracks k'.reader c.row new → Holds k'.store after → step.heard ≡ false
+    → GoesBy Way (state_of c.peer) c.writer (suc c.i) (moves_of c.writer (c.i + 1) from step)
+    (after_step c step new after)
+    × StandsFor (with_reader c.kept c.i k') c.config (with_state c.peer (after_step c step new after))
+way_on c k' from step same others at new after way place knows holds quiet = (
+  record {
+    publication = c.row + 1;
+    place = (known_of c).place;
+    matched = matched_by c (part_of c) (stood c).writers_are ((stood c).places c.writer);
+    to = step.to;
+    passed = step.passed;
+    known = new;
+    happened = after;
+    advances = way;
+    moves_are =
+        ap (λ (b : Bool). (if b then Heard c.writer (c.i + 1) ∷ [] else [])
+        ++ (if nat_lt from step.to then Place c.writer (c.i + 1) step.to step.passed ∷ [] else [])) quiet
+        ∙ (ap (λ (n : ℕ). if nat_lt from step.to then Place c.writer n step.to step.passed ∷ [] else []) (next c.i)
+        ∙ ap (λ (n : ℕ). if nat_lt n step.to then Place c.writer (suc c.i) step.to step.passed ∷ [] else []) at);
+    after = refl;
+  },
+  stands_after c k' new after (with_place (proxies_of c) c.writer step.to)
+      (with_tracked c.peer.known c.writer (suc c.i) new)
+      refl (record { same = same; others = others; knows = knows; holds = holds })
+      (writers_kept (λ (p : WriterProxy). record p { place = step.to }) (λ p. refl) (proxies_of c) c.writer)
+      (λ p e. place ∙ same_Some step.to p (sym (place_hits_there c step.to) ∙ e))
+      (λ w p apart e. sym (elsewhere c w step.to apart) ∙ e)
+      (tracked_here c.peer.known c.writer (suc c.i) new)
+      (λ w n apart. tracked_elsewhere c.peer.known c.writer (suc c.i) new w n apart),
+)
+  where
+    next : (n : ℕ) → n + 1 ≡ suc n
+    next n = omega arith
+
+-- as far as it can
 pub moves_on : (c : Telling) (k' : ReaderKept) (t : Tracked) (from : ℕ) (step : Step) → SameReader c.k k'
     → OthersStay c.row c.k.reader k'.reader → from ≡ (known_of c).place
     → (m : MovesOn (match_at (qos_of c.k.store.cache) c.row c.kept.moment) t (reader_of c).happened step
@@ -216,37 +259,25 @@ pub moves_on : (c : Telling) (k' : ReaderKept) (t : Tracked) (from : ℕ) (step 
     → Goes (state_of c.peer) c.writer (suc c.i) t (moves_of c.writer (c.i + 1) from step)
     (after_step c step m.new m.after)
     × StandsFor (with_reader c.kept c.i k') c.config (with_state c.peer (after_step c step m.new m.after))
-moves_on c k' t from step same others at m = (
-  record {
-    publication = c.row + 1;
-    place = (known_of c).place;
-    matched = matched_by c (part_of c) (stood c).writers_are ((stood c).places c.writer);
-    to = step.to;
-    passed = step.passed;
-    known = m.new;
-    happened = m.after;
-    advances =
-        subst (λ (match : Match). Advances match t (reader_of c).happened step.to step.passed m.new m.after)
-        (match_is c) m.advances;
-    moves_are =
-        ap (λ (b : Bool). (if b then Heard c.writer (c.i + 1) ∷ [] else [])
-        ++ (if nat_lt from step.to then Place c.writer (c.i + 1) step.to step.passed ∷ [] else [])) m.heard
-        ∙ (ap (λ (n : ℕ). if nat_lt from step.to then Place c.writer n step.to step.passed ∷ [] else []) (next c.i)
-        ∙ ap (λ (n : ℕ). if nat_lt n step.to then Place c.writer (suc c.i) step.to step.passed ∷ [] else []) at);
-    after = refl;
-  },
-  stands_after c k' m.new m.after (with_place (proxies_of c) c.writer step.to)
-      (with_tracked c.peer.known c.writer (suc c.i) m.new)
-      refl (record { same = same; others = others; knows = m.known; holds = m.stands })
-      (writers_kept (λ (p : WriterProxy). record p { place = step.to }) (λ p. refl) (proxies_of c) c.writer)
-      (λ p e. m.advances.place ∙ same_Some step.to p (sym (place_hits_there c step.to) ∙ e))
-      (λ w p apart e. sym (elsewhere c w step.to apart) ∙ e)
-      (tracked_here c.peer.known c.writer (suc c.i) m.new)
-      (λ w n apart. tracked_elsewhere c.peer.known c.writer (suc c.i) m.new w n apart),
-)
-  where
-    next : (n : ℕ) → n + 1 ≡ suc n
-    next n = omega arith
+moves_on c k' t from step same others at m =
+    way_on c k' from step same others at m.new m.after
+    (subst (λ (match : Match). Advances match t (reader_of c).happened step.to step.passed m.new m.after)
+    (match_is c) m.advances) m.advances.place m.known m.stands m.heard
+
+-- by a jump
+pub jumps_on : (c : Telling) (k' : ReaderKept) (number : ℕ) (change : Change) (from : ℕ) (step : Step)
+    → SameReader c.k k' → OthersStay c.row c.k.reader k'.reader → from ≡ (known_of c).place
+    → (m : JumpsOn (match_at (qos_of c.k.store.cache) c.row c.kept.moment) (known_of c) (reader_of c).happened number
+    change step (Tracks k'.reader c.row) (λ h. Holds k'.store h))
+    → GoesBy (λ match h. Jumps match (known_of c) h number change) (state_of c.peer) c.writer (suc c.i)
+    (moves_of c.writer (c.i + 1) from step) (after_step c step m.new m.after)
+    × StandsFor (with_reader c.kept c.i k') c.config (with_state c.peer (after_step c step m.new m.after))
+jumps_on c k' number change from step same others at m =
+    way_on c k' from step same others at m.new m.after
+    (subst (λ (match : Match). Jumps match (known_of c) (reader_of c).happened number change step.to step.passed m.new
+    m.after) (match_is c) m.jumps)
+    (jumps_gone (match_at (qos_of c.k.store.cache) c.row c.kept.moment) (known_of c) (reader_of c).happened number
+    change step.to step.passed m.new m.after m.jumps).place m.known m.stands m.heard
 
 -- ---- a HEARTBEAT
 

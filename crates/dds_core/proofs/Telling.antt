@@ -54,6 +54,13 @@ answer_told {inside} {new = new} view ready moment result step said is ok answer
     (told_as inside new ready said moment step is
     (done_as result step (λ s. Answer inside new ready said moment s) ok answer) others)
 
+-- nothing
+pub nothing_told : (kept : ReaderKept) (ready : Ready) (moment : ℕ) (step : Step) → ready.told ≡ told.Nothing
+    → ((t : Tracked) → Tracks kept.reader ready.row t → IsIdle t.place step) → TakesTold kept ready moment step kept
+nothing_told kept ready moment step is idle =
+    told_as kept kept ready told.Nothing moment step is (λ t h knows holds. (idle t knows, knows, holds))
+    (λ index t other knows. knows)
+
 -- an accepted HEARTBEAT, and any other
 abbrev Accepted : ReaderKept → ReaderKept → Ready → HeartbeatSeen → ℕ → Step → Type 0
 Accepted old new ready seen moment step =

@@ -1,20 +1,24 @@
 -- The peer's readers take a submessage up, one after the other, by the rules of the protocol.
-use Rattle.std.proofs.Common.{◌≡◌, ℕ, zero, suc, ◌+◌, ◌<◌, true, false, List, [], ◌∷◌, ◌++◌, Option, Some, None, drop, length, slice_get, refl, ap, sym, ◌∙◌, subst, arith, inl, inr, append_assoc, nat_lt}
+use Rattle.std.proofs.Common.{◌≡◌, ℕ, ℤ, zero, suc, ◌+◌, ◌<◌, Bool, true, false, List, [], ◌∷◌, ◌++◌, Option, Some, None, drop, length, slice_get, refl, ap, sym, ◌∙◌, subst, arith, inl, inr, append_assoc, nat_lt}
 use Rattle.std.specs.Prelude.{IfSome, if◌then◌else◌}
 use Rattle.std.proofs.lemmas.Option.{same_Some}
 use Rattle.std.proofs.lemmas.List.{append-nil}
+use Rattle.dds_base.specs.declared.change.Change.{Change}
 use Rattle.dds_base.specs.declared.config.Config.{Config}
 use Rattle.dds_base.specs.declared.guid.EntityId.{EntityId}
 use Rattle.dds_base.specs.declared.guid.Guid.{Guid}
 use Rattle.dds_base.specs.declared.guid.GuidPrefix.{GuidPrefix}
+use Rattle.dds_base.specs.declared.qos.ReaderQos.{ReaderQos}
 use Rattle.dds_base.specs.Kept.{numbers_from}
+use Rattle.dds_base.specs.Matched.{is_reliable, is_reliable_reader}
 use Rattle.dds_base.specs.Counts.{is_later}
 use Rattle.dds_cache.specs.Standing.{qos_of}
 use Rattle.rtps_reader.specs.declared.step.AckNackDue.{AckNackDue}
 use Rattle.rtps_reader.specs.declared.step.Step.{Step}
 use Rattle.rtps_reader.specs.declared.step.HeartbeatSeen.{HeartbeatSeen}
 use Rattle.rtps_reader.specs.Tracked.{Tracked, with_data, with_gap}
-use Rattle.rtps_reader.specs.Reader.{Tracks, OthersStay, match_at, MovesOn}
+use Rattle.rtps_reader.specs.Reader.{Tracks, OthersStay, match_at, MovesOn, JumpsOn}
+use Rattle.rtps_wire.specs.declared.heartbeat.Heartbeat.{Heartbeat as HeartbeatBody}
 use Rattle.rtps_wire.specs.declared.submessage.Submessage.{Submessage}
 use Rattle.rtps_wire.specs.declared.submessage.Submessage.TheVariants.{Data, Heartbeat, Gap}
 use Rattle.rtps_wire.specs.Content.{change_in}
@@ -24,13 +28,15 @@ use Rattle.dds_machine.specs.declared.reply.Move.TheVariants.{Place, Heard}
 use Rattle.dds_protocol.specs.Claims.{Receiver, IsToReader, Names}
 use Rattle.dds_protocol.specs.Peer.{Peer, state_of}
 use Rattle.dds_protocol.specs.DueMessages.{Due, acknacks_due}
-use Rattle.dds_protocol.specs.Protocol.{State, InTurn, MayNeedMemory, TakesHeartbeat, ReaderTakes}
+use Rattle.dds_protocol.specs.Protocol.{State, InTurn, MayNeedMemory, TakesChange, TakesGap, heard_as, TakesHeartbeat, TakesOrNot, ReaderTakes}
 use Rattle.dds_core.specs.declared.matching.WriterName.{WriterName}
 use Rattle.dds_core.specs.declared.sending.Announced.{Announced}
 use Rattle.dds_core.specs.declared.reader_end.Ready.{Ready}
 use Rattle.dds_core.specs.declared.reader_end.Told.{Told}
 use Rattle.dds_core.specs.declared.reader_end.Told.TheVariants as told
+use Rattle.dds_core.specs.Identity.{reliable_in}
 use Rattle.dds_core.specs.Kept.{ReaderKept, PeerKept}
+use Rattle.dds_core.proofs.Names.{own_reader_is}
 use Rattle.dds_core.specs.Readiness.{IsReadyWith, IsReadyFor, AreReady, IsNamedReader, NamesNone, NamedBy, IsToldBy, SameReader, TellsSo, moves_of, writer_guid}
 use Rattle.dds_core.specs.Receiving.{TookAt, with_state, NeedsMemory, ReadersTook, TakesAll, TellsReaders, StandsAsWell}
 use Rattle.dds_core.proofs.TakenSoFar.{TakesSome}
@@ -45,7 +51,7 @@ use Rattle.std.proofs.lemmas.Bool.Decides.{nat_tests}
 use Rattle.dds_machine.specs.Numbered.{with_numbered}
 use Rattle.dds_machine.specs.Part.{no_reader}
 use Rattle.dds_protocol.proofs.Framing.{with_same}
-use Rattle.dds_core.proofs.Takes.{Telling, known_of, proxies_of, reader_of, part_of, stood, stands_after, moves_on, heartbeat_on, after_step}
+use Rattle.dds_core.proofs.Takes.{Telling, known_of, proxies_of, reader_of, part_of, stood, stands_after, moves_on, heartbeat_on, jumps_on, after_step}
 
 -- what one reader did, by the rules, and what was then due
 pub record ReaderTook (config : Config) (own : GuidPrefix) (at : Receiver) (s : Submessage) (reader : ℕ) (peer : Peer)
@@ -125,55 +131,120 @@ MovesTo c k' step t =
     MovesOn (match_at (qos_of c.k.store.cache) c.row c.kept.moment) t (reader_of c).happened step
     (Tracks k'.reader c.row) (λ h. Holds k'.store h)
 
--- what is ready for a reader is told
+-- the reader jumps to the change of this number
+abbrev JumpsTo : Telling → ReaderKept → Step → ℕ → Change → Type 0
+JumpsTo c k' step number change =
+    JumpsOn (match_at (qos_of c.k.store.cache) c.row c.kept.moment) (known_of c) (reader_of c).happened number change
+    step (Tracks k'.reader c.row) (λ h. Holds k'.store h)
+
+-- what a reader hears of a HEARTBEAT has its count, and is of its writer
+heard_count : (b : Bool) (h : HeartbeatBody) → (heard_as b h).count ≡ h.count
+heard_count true h = refl
+heard_count false h = refl
+
+heard_writer : (b : Bool) (h : HeartbeatBody) → (heard_as b h).writer_id ≡ h.writer_id
+heard_writer true h = refl
+heard_writer false h = refl
+
+-- what is ready for a reader is told, by the reader's reliability, which is that of the configuration
 told_so : (c : Telling) (own : GuidPrefix) (at : Receiver) (s : Submessage) (said : Told) (k' : ReaderKept) (from : ℕ)
-    (step : Step) (reader_id writer_id : EntityId) → NamedBy s reader_id writer_id → IsToldBy at s said
+    (step : Step) (reader_id writer_id : EntityId) → NamedBy s reader_id writer_id
+    → IsToldBy (reliable_in c.k.store) at s said
     → (to : IsToReader c.config own at reader_id writer_id c.writer (record { peer = c.peer.number; number = suc c.i }))
+    → is_reliable_reader to.to.end ≡ reliable_in c.k.store
     → SameReader c.k k' → OthersStay c.row c.k.reader k'.reader → from ≡ (known_of c).place
     → TellsSo (match_at (qos_of c.k.store.cache) c.row c.kept.moment) said (known_of c) (reader_of c).happened step
     (Tracks k'.reader c.row) (λ h. Holds k'.store h)
     → ReaderTook c.config own at s (suc c.i) c.peer (moves_of c.writer (c.i + 1) from step)
     (answer_to c own at to.entity writer_id step) (with_reader c.kept c.i k')
-told_so c own at (Data d) (told.Change number change) k' from step reader_id writer_id by is to same others place m =
+told_so c own at (Data d) (told.Change number change) k' from step reader_id writer_id by is to policy same others place
+    m =
     let n : MovesTo c k' step (with_data d.writer_sn (change_in d.content at.timestamp) (known_of c)) =
-    subst (λ x. MovesTo c k' step (with_data d.writer_sn x (known_of c))) is.1
-    (subst (λ x. MovesTo c k' step (with_data x change (known_of c))) is.0 m) in
+    subst (λ x. MovesTo c k' step (with_data d.writer_sn x (known_of c))) is.2
+    (subst (λ x. MovesTo c k' step (with_data x change (known_of c))) is.1 m) in
     let r = moves_on c k' _ from step same others place n in
     let to_it = named_as c own at reader_id writer_id d.reader_id d.writer_id by.0 by.1 to in
+    let takes : TakesChange (is_reliable_reader to_it.to.end) (state_of c.peer) c.writer (suc c.i) d.writer_sn
+    (change_in d.content at.timestamp) (moves_of c.writer (c.i + 1) from step) (after_step c step n.new n.after) =
+    subst (λ (b : Bool). TakesChange b (state_of c.peer) c.writer (suc c.i) d.writer_sn
+    (change_in d.content at.timestamp) (moves_of c.writer (c.i + 1) from step) (after_step c step n.new n.after))
+    (sym (policy ∙ is.0)) r.0 in
     record {
       state = after_step c step n.new n.after;
-      takes = inl (c.writer, to_it, (r.0, no_answer c own at to.entity writer_id step m.acknack));
+      takes = inl (c.writer, to_it, (takes, no_answer c own at to.entity writer_id step m.acknack));
       stands = r.1;
     }
-told_so c own at (Gap g) (told.Gap start list) k' from step reader_id writer_id by is to same others place m =
+told_so c own at (Data d) (told.Jump number change) k' from step reader_id writer_id by is to policy same others place
+    m =
+    let n : JumpsTo c k' step d.writer_sn (change_in d.content at.timestamp) =
+    subst (λ x. JumpsTo c k' step d.writer_sn x) is.2 (subst (λ x. JumpsTo c k' step x change) is.1 m) in
+    let r = jumps_on c k' d.writer_sn (change_in d.content at.timestamp) from step same others place n in
+    let to_it = named_as c own at reader_id writer_id d.reader_id d.writer_id by.0 by.1 to in
+    let other : is_reliable (reader_of c).qos.reliability ≡ false =
+    ap (λ (q : ReaderQos). is_reliable q.reliability) (stood c).qos_is ∙ is.0 in
+    let takes : TakesChange (is_reliable_reader to_it.to.end) (state_of c.peer) c.writer (suc c.i) d.writer_sn
+    (change_in d.content at.timestamp) (moves_of c.writer (c.i + 1) from step) (after_step c step n.new n.after) =
+    subst (λ (b : Bool). TakesChange b (state_of c.peer) c.writer (suc c.i) d.writer_sn
+    (change_in d.content at.timestamp) (moves_of c.writer (c.i + 1) from step) (after_step c step n.new n.after))
+    (sym (policy ∙ is.0)) (other, r.0) in
+    record {
+      state = after_step c step n.new n.after;
+      takes = inl (c.writer, to_it, (takes, no_answer c own at to.entity writer_id step m.acknack));
+      stands = r.1;
+    }
+told_so c own at (Gap g) (told.Gap start list) k' from step reader_id writer_id by is to policy same others place m =
     let n : MovesTo c k' step (with_gap g.gap_start g.gap_list (known_of c)) =
-    subst (λ x. MovesTo c k' step (with_gap g.gap_start x (known_of c))) is.1
-    (subst (λ x. MovesTo c k' step (with_gap x list (known_of c))) is.0 m) in
+    subst (λ x. MovesTo c k' step (with_gap g.gap_start x (known_of c))) is.2
+    (subst (λ x. MovesTo c k' step (with_gap x list (known_of c))) is.1 m) in
     let r = moves_on c k' _ from step same others place n in
     let to_it = named_as c own at reader_id writer_id g.reader_id g.writer_id by.0 by.1 to in
+    let takes : TakesGap (is_reliable_reader to_it.to.end) (state_of c.peer) c.writer (suc c.i) g
+    (moves_of c.writer (c.i + 1) from step) (after_step c step n.new n.after) =
+    subst (λ (b : Bool). TakesGap b (state_of c.peer) c.writer (suc c.i) g (moves_of c.writer (c.i + 1) from step)
+    (after_step c step n.new n.after)) (sym (policy ∙ is.0)) r.0 in
     record {
       state = after_step c step n.new n.after;
-      takes = inl (c.writer, to_it, (r.0, no_answer c own at to.entity writer_id step m.acknack));
+      takes = inl (c.writer, to_it, (takes, no_answer c own at to.entity writer_id step m.acknack));
       stands = r.1;
     }
-told_so c own at (Heartbeat h) (told.Heartbeat seen) k' from step reader_id writer_id by is to same others place
+told_so c own at (Gap g) told.Nothing k' from step reader_id writer_id by is to policy same others place m =
+    let to_it = named_as c own at reader_id writer_id g.reader_id g.writer_id by.0 by.1 to in
+    let none = no_moves c.writer (c.i + 1) from step m.0.heard (m.0.to ∙ sym place) in
+    let takes : TakesGap (is_reliable_reader to_it.to.end) (state_of c.peer) c.writer (suc c.i) g
+    (moves_of c.writer (c.i + 1) from step) (state_of c.peer) =
+    subst (λ (b : Bool). TakesGap b (state_of c.peer) c.writer (suc c.i) g (moves_of c.writer (c.i + 1) from step)
+    (state_of c.peer)) (sym (policy ∙ is)) (none, refl) in
+    record {
+      state = state_of c.peer;
+      takes = inl (c.writer, to_it, (takes, no_answer c own at to.entity writer_id step m.0.acknack));
+      stands = idles_after c k' same others m.1 m.2;
+    }
+told_so c own at (Heartbeat h) (told.Heartbeat seen) k' from step reader_id writer_id by is to policy same others place
     (inl m) =
+    let heard : HeartbeatBody = heard_as (reliable_in c.k.store) h in
     let to_it = named_as c own at reader_id writer_id h.reader_id h.writer_id by.0 by.1 to in
-    let later : is_later (known_of c).count h.count ≡ true =
+    let later : is_later (known_of c).count heard.count ≡ true =
     subst (λ (x : HeartbeatSeen). is_later (known_of c).count x.count ≡ true) is m.0 in
-    let r = heartbeat_on c own at to.entity k' h seen from step is same others place later m.1 in
+    let r = heartbeat_on c own at to.entity k' heard seen from step is same others place later m.1 in
     let dues : List Due = answer_to c own at to.entity writer_id step in
-    let takes : TakesHeartbeat own at (state_of c.peer) c.writer (suc c.i) to.entity h
+    let takes : TakesHeartbeat own at (state_of c.peer) c.writer (suc c.i) to.entity heard
     (moves_of c.writer (c.i + 1) from step) dues r.0 =
-    subst (λ (ds : List Due). TakesHeartbeat own at (state_of c.peer) c.writer (suc c.i) to.entity h
+    subst (λ (ds : List Due). TakesHeartbeat own at (state_of c.peer) c.writer (suc c.i) to.entity heard
     (moves_of c.writer (c.i + 1) from step) ds r.0)
-    (ap (λ (w : EntityId). answer_to c own at to.entity w step) (sym by.1)) r.1 in
-    record { state = r.0; takes = inl (c.writer, to_it, inl takes); stands = r.2 }
-told_so c own at (Heartbeat h) (told.Heartbeat seen) k' from step reader_id writer_id by is to same others place
+    (ap (λ (w : EntityId). answer_to c own at to.entity w step)
+    (heard_writer (reliable_in c.k.store) h ∙ sym by.1)) r.1 in
+    let either : TakesOrNot own at (state_of c.peer) c.writer (suc c.i) to.entity
+    (heard_as (is_reliable_reader to_it.to.end) h) (moves_of c.writer (c.i + 1) from step) dues r.0 =
+    subst (λ (b : Bool). TakesOrNot own at (state_of c.peer) c.writer (suc c.i) to.entity (heard_as b h)
+    (moves_of c.writer (c.i + 1) from step) dues r.0) (sym policy) (inl takes) in
+    record { state = r.0; takes = inl (c.writer, to_it, either); stands = r.2 }
+told_so c own at (Heartbeat h) (told.Heartbeat seen) k' from step reader_id writer_id by is to policy same others place
     (inr m) =
     let to_it = named_as c own at reader_id writer_id h.reader_id h.writer_id by.0 by.1 to in
-    let repeated : is_later (known_of c).count h.count ≡ false =
-    subst (λ (x : HeartbeatSeen). is_later (known_of c).count x.count ≡ false) is m.0 in
+    let repeated : is_later (known_of c).count (heard_as (is_reliable_reader to_it.to.end) h).count ≡ false =
+    ap (λ (n : ℤ). is_later (known_of c).count n)
+    (heard_count (is_reliable_reader to_it.to.end) h
+    ∙ (sym (heard_count (reliable_in c.k.store) h) ∙ sym (ap (λ (x : HeartbeatSeen). x.count) is))) ∙ m.0 in
     record {
       state = state_of c.peer;
       takes =
@@ -192,7 +263,7 @@ told_so c own at (Heartbeat h) (told.Heartbeat seen) k' from step reader_id writ
           );
       stands = idles_after c k' same others m.2 m.3;
     }
-told_so c own at s said k' from step reader_id writer_id by is to same others place m = absurd is
+told_so c own at s said k' from step reader_id writer_id by is to policy same others place m = absurd is
 
 -- what is due to a writer of this name, from a reader that keeps this
 abbrev pub answer_due : GuidPrefix → ReaderKept → WriterName → Step → List Due
@@ -227,8 +298,9 @@ took config peer kept new at s i k ready moves sent after gone stands at_k is t 
     is.writer_id ready.row is.named in
     let knows : Tracks k.reader ready.row (known_of c) = (stood c).knows own_name.writer ready.row first in
     let r =
-    told_so c kept.prefix at s ready.told t.reader t.from t.step is.reader_id is.writer_id is.by is.told to t.same
-    t.told.others (t.place (known_of c) knows)
+    told_so c kept.prefix at s ready.told t.reader t.from t.step is.reader_id is.writer_id is.by is.told to
+    (own_reader_is config peer.number kept stands.is_peer i k at_k).reliable t.same t.told.others
+    (t.place (known_of c) knows)
     (t.told.told (known_of c) (reader_of c).happened knows (stood c).holds) in
     let guid : own_name.guid ≡ writer_guid at is.writer_id = is.named.first.named in
     let there : ReaderTook config kept.prefix at s (suc i) peer (moves_of own_name.writer (i + 1) t.from t.step)

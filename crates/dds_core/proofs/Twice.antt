@@ -11,7 +11,7 @@ use Rattle.dds_base.specs.Written.{Registered, Changed, Asserted, LookedAt, Tick
 use Rattle.dds_machine.specs.declared.endpoint.Endpoint.{Endpoint}
 use Rattle.dds_machine.specs.declared.reply.Reply.{Reply}
 use Rattle.dds_machine.specs.Calls.{Effect, nothing, writes, effect_of}
-use Rattle.dds_machine.specs.Part.{ReaderProxy, own_writer, writer_changes}
+use Rattle.dds_machine.specs.Part.{own_writer, writer_changes}
 use Rattle.dds_machine.specs.Watching.{Tests}
 use Rattle.dds_notices.specs.declared.notice.Notice.{Notice}
 use Rattle.dds_protocol.specs.declared.event.Event.{Event}
@@ -188,7 +188,7 @@ nothing_sent output less l none =
     let third = left.1 in
     record { packets = left.0; unsent = omega (arith, first, second, third) }
 
-change_sent : (config : Config) (writer : Endpoint) (readers : List ReaderProxy) (number : ℕ) (change : Change)
+change_sent : (config : Config) (writer : Endpoint) (readers : List Endpoint) (number : ℕ) (change : Change)
     (output less : Output) → Loses output less → SendsChange config writer readers number change output
     → SendsChange config writer readers number change less
 change_sent config writer readers number change output less l one =
@@ -206,7 +206,7 @@ change_sent config writer readers number change output less l one =
 effect_sent : (config : Config) (peer : Peer) (effect : Effect) (output less : Output) → Loses output less
     → SendsFor config peer effect output → SendsFor config peer effect less
 effect_sent config peer (writes w (Changed change)) output less l one =
-    change_sent config (record { peer = peer.number; number = w }) (own_writer peer.part w).readers
+    change_sent config (record { peer = peer.number; number = w }) (own_writer peer.part w).matched
     (length (writer_changes (own_writer peer.part w)) + 1) change output less l one
 effect_sent config peer (writes w (Registered key)) output less l none = nothing_sent output less l none
 effect_sent config peer (writes w (Asserted moment)) output less l are =

@@ -15,7 +15,8 @@ use Rattle.dds_base.specs.Written.{Written, Changed, Ticked, changes_of}
 use Rattle.rtps_writer.specs.Standing.{Kept, StandsFor as RtpsStandsFor, reader_count}
 use Rattle.rtps_writer.specs.WriterState.{WriterState, entering, history_of, is_behind, last_of, opening, ticked}
 use Rattle.dds_machine.specs.declared.endpoint.Endpoint.{Endpoint}
-use Rattle.dds_machine.specs.Opening.{matched_readers}
+use Rattle.dds_machine.specs.Opening.{matched_readers, reliable_readers}
+use Rattle.dds_core.proofs.Destinations.{matched_so}
 use Rattle.dds_machine.specs.Part.{Writer, ReaderProxy, writer_changes, history_of as writer_history, is_behind as is_writer_behind}
 use Rattle.dds_base.specs.Checked.{limit_of}
 use Rattle.dds_core.specs.declared.matching.Destination.{Destination}
@@ -28,7 +29,7 @@ use Rattle.dds_core.specs.OpeningEnds.{OpensWriter}
 use Rattle.dds_core.specs.Standing.{AreShort, IsWhole, WriterStands, state_of}
 use Rattle.dds_core.specs.Stepping.{Enters, Ticks}
 use Rattle.dds_core.proofs.Acknowledging.{state_as}
-use Rattle.dds_core.proofs.Tables.{map-matched_readers, told_alike}
+use Rattle.dds_core.proofs.Tables.{map-reliable_readers, told_alike}
 
 -- a writer at its opening
 
@@ -57,32 +58,37 @@ rows_begun (p ∷ ps) (suc count) same = (
 pub opens_writer : (peers : List PeerConfig) (w : WriterConfig) (ds : List Destination) (names : List ReaderName)
     (limit : Option ℕ) (kept : Kept) (count : ℕ) → count ≡ length names
     → ds ≡ destinations w.topic 1 peers → names ≡ reader_names w.topic peers → limit ≡ limit_of w.max_samples
-    → RtpsStandsFor kept (opening w.history limit w.lease count)
+    → RtpsStandsFor kept (opening w.history limit w.lease (nat_lt 0 (length ds)) count)
     → OpensWriter peers w
     (record { entity = w.entity; autodispose = w.autodispose; destinations = ds; readers = names; writer = kept })
 opens_writer peers w ds names limit kept count counted sent matched limited stands =
-    let rows : List ReaderProxy = matched_readers w.topic 1 peers in
+    let rows : List ReaderProxy = reliable_readers w.topic 1 peers in
     let many : length (reader_names w.topic peers) ≡ count =
     sym (counted ∙ ap (λ (ns : List ReaderName). length ns) matched) in
     let acknowledged : map (λ (p : ReaderProxy). p.acknowledged) rows ≡ replicate count 1 =
-    map-matched_readers (λ (p : ReaderProxy). p.acknowledged) _ w.topic 1 peers
+    map-reliable_readers (λ (p : ReaderProxy). p.acknowledged) _ w.topic 1 peers
     ∙ (told_alike 1 reader_name w.topic 1 peers ∙ ap (λ (n : ℕ). replicate n 1) many) in
+    let is_matched : Bool = nat_lt 0 (length (matched_readers w.topic 1 peers)) in
+    let told : nat_lt 0 (length ds) ≡ is_matched =
+    ap (λ (xs : List Destination). nat_lt 0 (length xs)) sent ∙ matched_so w.topic peers in
     let none : Option ℤ = None in
     let counts : map (λ (p : ReaderProxy). none) rows ≡ replicate count none =
-    map-matched_readers (λ (p : ReaderProxy). none) _ w.topic 1 peers
+    map-reliable_readers (λ (p : ReaderProxy). none) _ w.topic 1 peers
     ∙ (told_alike none reader_name w.topic 1 peers ∙ ap (λ (n : ℕ). replicate n none) many) in
     record {
       identity = identity_as w.entity w.autodispose ds _ names _ sent matched;
       stands = record {
         autodispose = refl;
-        readers = map-matched_readers (λ (p : ReaderProxy). p.reader) _ w.topic 1 peers
+        readers = map-reliable_readers (λ (p : ReaderProxy). p.reader) _ w.topic 1 peers
             ∙ sym (ap (λ (ns : List ReaderName). map (λ (n : ReaderName). n.reader) ns) matched
-            ∙ map-matched_readers (λ (n : ReaderName). n.reader) reader_name w.topic 1 peers);
+            ∙ map-reliable_readers (λ (n : ReaderName). n.reader) reader_name w.topic 1 peers);
         writer =
             subst (λ (s : WriterState). RtpsStandsFor kept s)
-            (state_as (opening w.history (limit_of w.max_samples) w.lease count) (replicate count 1) _
+            (state_as (opening w.history (limit_of w.max_samples) w.lease is_matched count) (replicate count 1) _
             (replicate count none) _ (sym acknowledged) (sym counts))
-            (subst (λ (o : Option ℕ). RtpsStandsFor kept (opening w.history o w.lease count)) limited stands);
+            (subst (λ (b : Bool). RtpsStandsFor kept (opening w.history (limit_of w.max_samples) w.lease b count)) told
+            (subst (λ (o : Option ℕ). RtpsStandsFor kept (opening w.history o w.lease (nat_lt 0 (length ds)) count))
+            limited stands));
         begun = All-from_recursion (λ (p : ReaderProxy). 1 ≤ p.acknowledged) rows (rows_begun rows count acknowledged);
       };
     }

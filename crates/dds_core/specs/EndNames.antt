@@ -5,7 +5,7 @@
 use Rattle.std.specs.Prelude.{ℕ, List}
 use Rattle.dds_base.specs.declared.config.PeerConfig.{PeerConfig}
 use Rattle.dds_base.specs.declared.config.ReaderConfig.{ReaderConfig}
-use Rattle.dds_base.specs.Matched.{of_matched_writers, of_matched_readers}
+use Rattle.dds_base.specs.Matched.{of_matched_writers, of_reliable_readers}
 use Rattle.dds_base.specs.declared.config.WriterConfig.{WriterConfig}
 use Rattle.dds_base.specs.declared.qos.MatchedWriter.{MatchedWriter}
 use Rattle.dds_core.specs.declared.matching.ReaderName.{ReaderName}
@@ -18,7 +18,7 @@ reader_name peer p number r =
 
 -- the readers of the topic, in the order of the configuration
 abbrev pub reader_names : ℕ → List PeerConfig → List ReaderName
-reader_names topic peers = of_matched_readers reader_name topic 1 peers
+reader_names topic peers = of_reliable_readers reader_name topic 1 peers
 
 -- the name of a writer
 abbrev pub writer_name : ℕ → PeerConfig → ℕ → WriterConfig → WriterName

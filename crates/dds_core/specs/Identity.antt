@@ -10,6 +10,7 @@ use Rattle.dds_base.specs.declared.config.ReaderConfig.{ReaderConfig}
 use Rattle.dds_base.specs.declared.guid.GuidPrefix.{GuidPrefix}
 use Rattle.dds_base.specs.declared.guid.EntityId.{EntityId}
 use Rattle.dds_base.specs.Checked.{check_refusal}
+use Rattle.dds_base.specs.Matched.{is_reliable, is_reliable_reader}
 use Rattle.dds_cache.specs.Standing.{qos_of}
 use Rattle.rtps_reader.specs.Reader.{Proxies, count_of}
 use Rattle.dds_core.specs.Stored.{StoreKept}
@@ -21,8 +22,14 @@ use Rattle.dds_core.specs.Matching.{destinations}
 use Rattle.dds_core.specs.EndNames.{reader_names, writer_names}
 use Rattle.dds_core.specs.Kept.{WriterKept, ReaderKept, PeerKept}
 
--- each matched writer is known, and is among those of the policies, of which there are 256 at most
-pub record FitsWriters (names : List WriterName) (reader : Proxies) (store : StoreKept) : Type 0 where
+-- the store is that of a reliable reader, by its policies
+abbrev pub reliable_in : StoreKept → Bool
+reliable_in store = is_reliable (qos_of store.cache).reliability
+
+-- each matched writer is known, and is among those of the policies, of which there are 256 at most; and by these the
+-- reader is a reliable one or not
+pub record FitsWriters (names : List WriterName) (reader : Proxies) (store : StoreKept) (reliable : Bool) : Type 0 where
+  pub policy : reliable_in store ≡ reliable
   pub count : count_of reader ≡ length names
   pub fits : length names ≤ length (qos_of store.cache).writers
   pub many : length (qos_of store.cache).writers ≤ 256
@@ -35,10 +42,11 @@ pub record WriterIdentity : Type 0 where
   pub destinations : List Destination
   pub readers : List ReaderName
 
--- what never changes of a reader: its name, and those of its matched writers
+-- what never changes of a reader: its name, those of its matched writers, and whether it is a reliable one
 pub record ReaderIdentity : Type 0 where
   pub entity : EntityId
   pub writers : List WriterName
+  pub reliable : Bool
 
 -- what never changes of a peer: its name, and that of its writers and its readers
 pub record Identity : Type 0 where
@@ -53,7 +61,8 @@ writer_identity w = record
 
 -- what never changes of this reader
 abbrev pub reader_identity : ReaderKept → ReaderIdentity
-reader_identity r = record { entity = r.entity; writers = r.writers }
+reader_identity r =
+    record { entity = r.entity; writers = r.writers; reliable = reliable_in r.store }
 
 -- what never changes of this peer
 abbrev pub identity_of : PeerKept → Identity
@@ -72,7 +81,8 @@ configured_writer peers w =
 
 -- what never changes of a reader, as the configuration says it
 abbrev pub configured_reader : List PeerConfig → ReaderConfig → ReaderIdentity
-configured_reader peers r = record { entity = r.entity; writers = writer_names r.topic peers }
+configured_reader peers r =
+    record { entity = r.entity; writers = writer_names r.topic peers; reliable = is_reliable_reader r }
 
 -- the peer of this number has this identity, in a configuration that is not refused
 pub record IsPeerOf (config : Config) (number : ℕ) (identity : Identity) : Type 0 where

@@ -3,7 +3,7 @@
 -- cite this: nothing here has to be believed.
 --
 -- RTPS 2.5, 8.3.4 (the message receiver), 8.4.12 (the behaviour of a reliable StatefulReader).
-use Rattle.std.specs.Prelude.{◌≡◌, ◌⊎◌, ◌^◌, ◌<◌, ◌≤◌, true, false, ℕ, List, [], ◌∷◌, ◌++◌, length, slice_get, nat_lt, if◌then◌else◌, Option, Some, None}
+use Rattle.std.specs.Prelude.{◌≡◌, ◌⊎◌, ◌^◌, ◌<◌, ◌≤◌, Bool, true, false, ℕ, List, [], ◌∷◌, ◌++◌, length, slice_get, nat_lt, if◌then◌else◌, Option, Some, None}
 use Rattle.dds_base.specs.declared.guid.EntityId.{EntityId}
 use Rattle.dds_base.specs.declared.guid.Guid.{Guid}
 use Rattle.dds_base.specs.declared.guid.GuidPrefix.{GuidPrefix}
@@ -11,10 +11,12 @@ use Rattle.dds_base.specs.declared.happening.Happening.{Happening}
 use Rattle.dds_base.specs.Places.{Match}
 use Rattle.dds_base.specs.Counts.{is_later}
 use Rattle.dds_cache.specs.Standing.{qos_of, room_of}
+use Rattle.rtps_reader.specs.declared.step.HeartbeatSeen.{HeartbeatSeen}
 use Rattle.rtps_reader.specs.declared.step.Step.{Step}
 use Rattle.rtps_reader.specs.Tracked.{Tracked, with_data, with_gap}
 use Rattle.rtps_reader.specs.Answer.{IsIdle}
-use Rattle.rtps_reader.specs.Reader.{Tracks, IsReady, AllStay, OthersStay, match_at, MovesOn, TakesHeartbeat}
+use Rattle.rtps_reader.specs.Reader.{Tracks, IsReady, AllStay, OthersStay, match_at, MovesOn, JumpsOn, TakesHeartbeat}
+use Rattle.rtps_wire.specs.declared.heartbeat.Heartbeat.{Heartbeat as HeartbeatBody}
 use Rattle.rtps_wire.specs.declared.submessage.Submessage.{Submessage}
 use Rattle.rtps_wire.specs.declared.submessage.Submessage.TheVariants.{Data, Heartbeat, AckNack, Gap}
 use Rattle.rtps_wire.specs.Content.{change_in}
@@ -22,6 +24,8 @@ use Rattle.dds_machine.specs.declared.endpoint.Endpoint.{Endpoint}
 use Rattle.dds_machine.specs.declared.reply.Move.{Move}
 use Rattle.dds_machine.specs.declared.reply.Move.TheVariants.{Place, Heard}
 use Rattle.dds_protocol.specs.Claims.{Receiver, is_for, Names}
+use Rattle.dds_protocol.specs.Protocol.{heard_as}
+use Rattle.dds_core.specs.Identity.{reliable_in}
 use Rattle.dds_core.specs.declared.matching.WriterName.{WriterName}
 use Rattle.dds_core.specs.declared.reader_end.Ready.{Ready}
 use Rattle.dds_core.specs.declared.reader_end.Told.{Told}
@@ -83,19 +87,27 @@ pub record IsNamedReader (own : GuidPrefix) (at : Receiver) (submessage : Submes
 
 -- ---- what it tells
 
--- this is what a submessage of a writer tells a reader; a change has the source timestamp that the receiver has then
-abbrev pub IsToldBy : Receiver → Submessage → Told → Type 0
-IsToldBy at (Data d) (told.Change number change) = (number ≡ d.writer_sn) × (change ≡ change_in d.content at.timestamp)
-IsToldBy at (Gap g) (told.Gap start list) = (start ≡ g.gap_start) × (list ≡ g.gap_list)
-IsToldBy at (Heartbeat h) (told.Heartbeat seen) =
-    seen ≡ record {
-      first = h.first_sn;
-      last = h.last_sn;
-      count = h.count;
-      is_final = h.final_flag;
-      liveliness = h.liveliness_flag;
-    }
-IsToldBy at submessage other = ⊥
+-- what a HEARTBEAT says
+abbrev pub seen_in : HeartbeatBody → HeartbeatSeen
+seen_in h = record {
+  first = h.first_sn;
+  last = h.last_sn;
+  count = h.count;
+  is_final = h.final_flag;
+  liveliness = h.liveliness_flag;
+}
+
+-- this is what a submessage of a writer tells a reader of this reliability; a change has the source timestamp that the
+-- receiver has then
+abbrev pub IsToldBy : Bool → Receiver → Submessage → Told → Type 0
+IsToldBy reliable at (Data d) (told.Change number change) =
+    (reliable ≡ true) × (number ≡ d.writer_sn) × (change ≡ change_in d.content at.timestamp)
+IsToldBy reliable at (Data d) (told.Jump number change) =
+    (reliable ≡ false) × (number ≡ d.writer_sn) × (change ≡ change_in d.content at.timestamp)
+IsToldBy reliable at (Gap g) (told.Gap start list) = (reliable ≡ true) × (start ≡ g.gap_start) × (list ≡ g.gap_list)
+IsToldBy reliable at (Gap g) told.Nothing = reliable ≡ false
+IsToldBy reliable at (Heartbeat h) (told.Heartbeat seen) = seen ≡ seen_in (heard_as reliable h)
+IsToldBy reliable at submessage other = ⊥
 
 -- its numbers are such that the wire has
 abbrev pub IsBounded : Submessage → Type 0
@@ -112,6 +124,8 @@ AreBounded submessages = (i : ℕ) (s : Submessage) → slice_get submessages i 
 -- what a reader is told is such: the number of a change, the base of a set or firstSN is at most 2^62
 abbrev pub IsToldBounded : Told → Type 0
 IsToldBounded (told.Change number change) = number ≤ 2 ^ 62
+IsToldBounded (told.Jump number change) = number ≤ 2 ^ 62
+IsToldBounded told.Nothing = Unit {0}
 IsToldBounded (told.Gap start list) = list.base ≤ 2 ^ 62
 IsToldBounded (told.Heartbeat seen) = seen.first ≤ 2 ^ 62
 
@@ -128,7 +142,7 @@ pub record IsReadyWith (own : GuidPrefix) (at : Receiver) (submessage : Submessa
   pub writer_id : EntityId
   pub by : NamedBy submessage reader_id writer_id
   pub named : IsNamedFor own kept at reader_id writer_id ready.row
-  pub told : IsToldBy at submessage ready.told
+  pub told : IsToldBy (reliable_in kept.store) at submessage ready.told
   pub room : HasMemory kept
 
 -- what is ready for a reader, or nothing, where the submessage does not name it
@@ -177,6 +191,8 @@ abbrev pub TellsSo : Match → Told → Tracked → List Happening → Step → 
     → Type 0
 TellsSo match (told.Change number change) t h step Knows Has =
     MovesOn match (with_data number change t) h step Knows Has
+TellsSo match (told.Jump number change) t h step Knows Has = JumpsOn match t h number change step Knows Has
+TellsSo match told.Nothing t h step Knows Has = IsIdle t.place step × Knows t × Has h
 TellsSo match (told.Gap start list) t h step Knows Has = MovesOn match (with_gap start list t) h step Knows Has
 TellsSo match (told.Heartbeat seen) t h step Knows Has =
     ((is_later t.count seen.count ≡ true) × TakesHeartbeat match t h seen step Knows Has)

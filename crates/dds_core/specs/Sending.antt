@@ -1,7 +1,7 @@
 -- What a peer sends.
 --
 -- RTPS 2.5, 8.4.9 (the behaviour of a reliable StatefulWriter), 8.3.7 (what stands in a message).
-use Rattle.std.specs.Prelude.{◌≡◌, ◌≢◌, ℕ, ◌+◌, length, Contains, AllPairs, IsSome, List, []}
+use Rattle.std.specs.Prelude.{◌≡◌, ◌≢◌, ℕ, ◌+◌, length, Contains, AllPairs, List, []}
 use Rattle.dds_base.specs.declared.change.Change.{Change}
 use Rattle.dds_base.specs.declared.config.Config.{Config}
 use Rattle.dds_base.specs.Written.{Changed, Asserted}
@@ -11,7 +11,7 @@ use Rattle.dds_protocol.specs.declared.event.Event.{Event}
 use Rattle.dds_protocol.specs.declared.event.Event.TheVariants as event
 use Rattle.dds_protocol.specs.declared.event.Output.{Output}
 use Rattle.dds_protocol.specs.declared.event.Packet.{Packet}
-use Rattle.dds_machine.specs.Part.{ReaderProxy, own_writer, acknowledged_of, writer_changes}
+use Rattle.dds_machine.specs.Part.{own_writer, writer_changes}
 use Rattle.dds_machine.specs.Calls.{Effect, writes, effect_of}
 use Rattle.dds_protocol.specs.Claims.{ChangeIs, Claims}
 use Rattle.dds_protocol.specs.Peer.{Peer}
@@ -29,19 +29,19 @@ pub record SendsNothing (output : Output) : Type 0 where
 
 -- A change of a writer is announced: each peer with a matched reader gets one packet, in its one written form, in which
 -- the change is for each such reader, or the packet is counted as unsent.
-pub record SendsChange (config : Config) (writer : Endpoint) (readers : List ReaderProxy) (number : ℕ) (change : Change)
+pub record SendsChange (config : Config) (writer : Endpoint) (readers : List Endpoint) (number : ℕ) (change : Change)
     (output : Output) : Type 0 where
   pub counted : length output.packets + output.unsent ≡ length (peers_of readers)
   pub are_sent : AreSent (changes_due config writer readers number change) output.packets output.unsent
   pub to_peers : (packet : Packet) → Contains output.packets packet → Contains (peers_of readers) packet.to
   pub says : (packet : Packet) (reader : Endpoint) → Contains output.packets packet → reader.peer ≡ packet.to
-      → IsSome (acknowledged_of readers reader) → Claims config packet.bytes (ChangeIs writer reader number change)
+      → Contains readers reader → Claims config packet.bytes (ChangeIs writer reader number change)
   pub different : AllPairs (λ (a b : Packet). a.to ≢ b.to) output.packets
 
 -- what is sent for what a call enters
 abbrev pub SendsFor : Config → Peer → Effect → Output → Type 0
 SendsFor config peer (writes writer (Changed change)) output =
-    SendsChange config (record { peer = peer.number; number = writer }) (own_writer peer.part writer).readers
+    SendsChange config (record { peer = peer.number; number = writer }) (own_writer peer.part writer).matched
     (length (writer_changes (own_writer peer.part writer)) + 1) change output
 SendsFor config peer (writes writer (Asserted moment)) output =
     AreSent (assertions_due config (record { peer = peer.number; number = writer })

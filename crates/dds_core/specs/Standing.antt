@@ -6,6 +6,8 @@
 -- without packets.
 use Rattle.std.specs.Prelude.{◌≡◌, ℕ, suc, ◌^◌, ◌<◌, ◌≤◌, List, [], map, length, get_or, slice_get, Option, Some, ℤ, All}
 use Rattle.dds_base.specs.declared.config.Config.{Config}
+use Rattle.dds_base.specs.declared.config.PeerConfig.{PeerConfig}
+use Rattle.dds_base.specs.declared.config.WriterConfig.{WriterConfig}
 use Rattle.dds_base.specs.declared.change.Change.{Change}
 use Rattle.dds_base.specs.Kept.{change_at}
 use Rattle.dds_base.specs.Written.{changes_of}
@@ -17,7 +19,9 @@ use Rattle.rtps_writer.specs.WriterState.{WriterState}
 use Rattle.dds_machine.specs.declared.endpoint.Endpoint.{Endpoint}
 use Rattle.dds_protocol.specs.declared.event.Event.TheVariants as event
 use Rattle.dds_protocol.specs.Dues.{AreTellable}
-use Rattle.dds_machine.specs.Part.{Writer, Reader, ReaderProxy, WriterProxy, no_writer, no_reader, place_of}
+use Rattle.dds_machine.specs.Opening.{matched_readers}
+use Rattle.dds_machine.specs.Part.{Writer, Reader, ReaderProxy, WriterProxy, has_readers, no_writer, no_reader, own_writer, place_of}
+use Rattle.dds_protocol.specs.Claims.{IsNumbered}
 use Rattle.dds_protocol.specs.Peer.{Peer}
 use Rattle.dds_protocol.specs.Protocol.{Known}
 use Rattle.dds_core.specs.declared.matching.Destination.{Destination}
@@ -33,6 +37,7 @@ state_of w answered = record {
   policy = w.policy;
   max_samples = w.max_samples;
   lease = w.lease;
+  matched = has_readers w;
   written = w.written;
   acknowledged = map (λ (p : ReaderProxy). p.acknowledged) w.readers;
   counts = map (λ (p : ReaderProxy). answered p.reader) w.readers;
@@ -98,9 +103,16 @@ pub record ReadersStand (kept : List ReaderKept) (proxies : List (List WriterPro
   pub each : (i : ℕ) (k : ReaderKept) → slice_get kept i ≡ Some k
       → ReaderStands k (get_or proxies i []) (get_or rs i no_reader) (λ w. known.tracked w (suc i))
 
+-- each writer of the peer is matched with the readers of its topic
+abbrev pub AreMatched : Config → Peer → Type 0
+AreMatched config peer =
+    (own : PeerConfig) (number : ℕ) (w : WriterConfig) → IsNumbered config.peers peer.number own
+    → IsNumbered own.writers number w → (own_writer peer.part number).matched ≡ matched_readers w.topic 1 config.peers
+
 -- a state of the peer for which what is kept stands
 pub record StandsFor (kept : PeerKept) (config : Config) (peer : Peer) : Type 0 where
   pub is_peer : IsPeerOf config peer.number (identity_of kept)
+  pub matched : AreMatched config peer
   pub moment : peer.part.dds.moment ≡ kept.moment
   pub early : kept.moment < 2 ^ 63
   pub writers : WritersStand kept.writers peer.part.rtps.writers peer.known.answered

@@ -63,7 +63,7 @@ pub fn destinations(
     Ok(all)
 }
 
-/// Adds the readers of the topic among those of a peer.
+/// Adds the reliable readers of the topic among those of a peer.
 fn push_readers(
     all: &mut Vec<ReaderName>,
     number: u8,
@@ -77,7 +77,7 @@ fn push_readers(
     ensures few { OnOk result (length all.new.items ≤ length all.old.items + 16) }
 {
     for (index, reader) in peer.readers.as_slice().iter().enumerate() {
-        if reader.topic == topic {
+        if reader.reliability.is_reliable() && reader.topic == topic {
             all.push(ReaderName {
                 reader: Endpoint {
                     peer: number,
@@ -93,8 +93,8 @@ fn push_readers(
     Ok(())
 }
 
-/// The readers that a writer of the topic is matched with.
-pub fn matched_readers(
+/// The reliable readers that a writer of the topic is matched with.
+pub fn reliable_readers(
     alloc: Global,
     peers: &[PeerConfig],
     topic: u32,

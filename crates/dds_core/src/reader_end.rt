@@ -2,7 +2,7 @@
 //!
 //! RTPS 2.5, 8.4.10 (StatefulReader, WriterProxy); DDS 1.4, 2.2.2.5 (DataReader).
 
-ghost use Rattle.std.specs.Prelude.{◌≡◌, ◌↔◌, ◌<◌, ◌≤◌, ℕ, List, length, slice_get, None, Some, true, false, IsTrue, IfSome, IfNone, IfOk, IfErr, OnOk, IsOk, Ok, MatchOption};
+ghost use Rattle.std.specs.Prelude.{◌≡◌, ◌↔◌, ◌<◌, ◌≤◌, ℕ, List, [], length, slice_get, None, Some, true, false, IsTrue, IfSome, IfNone, IfOk, IfErr, OnOk, IsOk, Ok, MatchOption};
 ghost use Rattle.dds_base.specs.Access.{instance_of, handle_of};
 ghost use Rattle.dds_base.specs.Checked.{check_refusal};
 ghost use Rattle.dds_base.specs.Liveliness.{liveliness_changed_status};
@@ -10,7 +10,8 @@ ghost use Rattle.dds_base.specs.Statuses.{sample_lost_status};
 ghost use Rattle.dds_base.specs.declared.code.Code.TheVariants.{Memory};
 ghost use Rattle.dds_base.specs.declared.happening.Happening.{Happening};
 ghost use Rattle.rtps_wire.specs.declared.submessage.Submessage.TheVariants as submessage;
-ghost use Rattle.rtps_reader.specs.Answer.{IsSayable};
+ghost use Rattle.rtps_reader.specs.Answer.{IsIdle, IsSayable};
+ghost use Rattle.rtps_reader.specs.Reader.{Tracks};
 ghost use Rattle.rtps_reader.specs.Tracked.{Tracked};
 ghost use Rattle.dds_core.specs.Expiring.{Expires, HasRoomForDeaths, IsPastCounting};
 ghost use Rattle.dds_core.specs.Identity.{reader_identity};
@@ -48,9 +49,15 @@ use std::marker::Model;
 /// What a submessage tells a reader.
 #[derive(Drop)]
 pub enum Told {
+    /// A change, at a reliable reader.
     Change { number: Sn, change: Change },
+    /// A change, at a best-effort reader.
+    Jump { number: Sn, change: Change },
+    /// A GAP, at a reliable reader.
     Gap { start: Sn, list: SnSet },
     Heartbeat(HeartbeatSeen),
+    /// A GAP, at a best-effort reader.
+    Nothing,
 }
 
 /// What a reader is told, by the writer of this row. There is memory for all that it does.
@@ -65,6 +72,8 @@ pub struct Ready {
 pub struct ReaderEnd {
     alloc: Global,
     entity: EntityId,
+    /// By its policies, which the store has.
+    is_reliable: bool,
     writers: Vec<WriterName>,
     reader: StatefulReader,
     store: Store,
@@ -85,7 +94,7 @@ impl Model for ReaderEnd {
       seen = r.seen;
     } };
 
-    ghost invariant = { λ r. FitsWriters r.writers.items r.reader r.store };
+    ghost invariant = { λ r. FitsWriters r.writers.items r.reader r.store r.is_reliable };
 }
 
 /// Whether it is the name of a writer of this GUID.
@@ -138,6 +147,7 @@ impl ReaderEnd {
         Ok(ReaderEnd {
             alloc,
             entity: config.entity,
+            is_reliable: config.reliability.is_reliable(),
             writers: names,
             reader,
             store,
@@ -204,36 +214,53 @@ impl ReaderEnd {
 }
 
 /// What a DATA says of the reader's writer, as its change and its number.
-fn told_by_data(alloc: Global, receiver: &MessageReceiver, body: &Data) -> Result<Told, Code>
-    ensures told { IfOk result (IsToldBy (receiver_at receiver.now) (submessage.Data body.now)) }
+fn told_by_data(
+    alloc: Global,
+    is_reliable: bool,
+    receiver: &MessageReceiver,
+    body: &Data,
+) -> Result<Told, Code>
+    ensures told { IfOk result
+        (IsToldBy is_reliable (receiver_at receiver.now) (submessage.Data body.now)) }
     ensures memory { IfErr result (λ code. code ≡ Memory) }
 {
     let change = body.content.to_change(alloc, receiver.timestamp)?;
-    Ok(Told::Change {
-        number: body.writer_sn,
-        change,
-    })
+    let number = body.writer_sn;
+    if is_reliable {
+        Ok(Told::Change { number, change })
+    } else {
+        Ok(Told::Jump { number, change })
+    }
 }
 
 /// What a GAP says.
-fn told_by_gap(receiver: &MessageReceiver, body: &Gap) -> Told
-    ensures { IsToldBy (receiver_at receiver.now) (submessage.Gap body.now) result }
+fn told_by_gap(is_reliable: bool, receiver: &MessageReceiver, body: &Gap) -> Told
+    ensures { IsToldBy is_reliable (receiver_at receiver.now) (submessage.Gap body.now) result }
 {
+    if !is_reliable {
+        return Told::Nothing;
+    }
     Told::Gap {
         start: body.gap_start,
         list: body.gap_list,
     }
 }
 
-/// What a HEARTBEAT says.
-fn told_by_heartbeat(receiver: &MessageReceiver, body: &Heartbeat) -> Told
-    ensures { IsToldBy (receiver_at receiver.now) (submessage.Heartbeat body.now) result }
+/// What a HEARTBEAT says: to a best-effort reader of no number, and it asks for no answer.
+fn told_by_heartbeat(is_reliable: bool, receiver: &MessageReceiver, body: &Heartbeat) -> Told
+    ensures { IsToldBy is_reliable
+        (receiver_at receiver.now) (submessage.Heartbeat body.now) result }
 {
+    let (first, last, is_final) = if is_reliable {
+        (body.first_sn, body.last_sn, body.final_flag)
+    } else {
+        (Sn::new(0), Sn::new(0), true)
+    };
     Told::Heartbeat(HeartbeatSeen {
-        first: body.first_sn,
-        last: body.last_sn,
+        first,
+        last,
         count: body.count,
-        is_final: body.final_flag,
+        is_final,
         liveliness: body.liveliness_flag,
     })
 }
@@ -270,21 +297,22 @@ fn ids_of(submessage: &Submessage) -> Option<Ids>
 /// What a submessage of a writer says to a reader.
 fn told_by(
     alloc: Global,
+    is_reliable: bool,
     receiver: &MessageReceiver,
     submessage: &Submessage,
 ) -> Result<Option<Told>, Code>
     ensures told { IfOk result
         (λ told. MatchOption told (NamesNobody submessage.now)
-        (IsToldBy (receiver_at receiver.now) submessage.now)) }
+        (IsToldBy is_reliable (receiver_at receiver.now) submessage.now)) }
     ensures memory { IfErr result (λ code. code ≡ Memory) }
 {
     match submessage {
         Submessage::Data(body) => {
-            let told = told_by_data(alloc, receiver, body)?;
+            let told = told_by_data(alloc, is_reliable, receiver, body)?;
             Ok(Some(told))
         }
-        Submessage::Gap(body) => Ok(Some(told_by_gap(receiver, body))),
-        Submessage::Heartbeat(body) => Ok(Some(told_by_heartbeat(receiver, body))),
+        Submessage::Gap(body) => Ok(Some(told_by_gap(is_reliable, receiver, body))),
+        Submessage::Heartbeat(body) => { Ok(Some(told_by_heartbeat(is_reliable, receiver, body))) }
         _ => Ok(None),
     }
 }
@@ -302,6 +330,21 @@ fn done(step: Result<Step, Code>) -> Step
 }
 
 impl ReaderEnd {
+    /// What was done where nothing was.
+    fn idle(&self, row: usize) -> Step
+        requires { row < length self.now.writers }
+        ensures idle { (t : Tracked) → Tracks self.now.reader row t → IsIdle t.place result }
+        ensures passed { result.passed ≡ [] }
+        ensures silent { result.acknack ≡ None }
+    {
+        Step {
+            to: self.reader.place(row),
+            passed: Sequence::from_vec(Vec::new(self.alloc)),
+            heard: false,
+            acknack: None,
+        }
+    }
+
     /// Makes memory for the next submessage.
     fn make_room(&mut self) -> Result<(), Code>
         ensures room { OnOk result (HasMemory self.new) }
@@ -357,7 +400,7 @@ impl ReaderEnd {
             return Ok(None);
         };
         self.make_room()?;
-        match told_by(self.alloc, receiver, submessage)? {
+        match told_by(self.alloc, self.is_reliable, receiver, submessage)? {
             Some(told) => Ok(Some(Ready { row, told })),
             None => Ok(None),
         }
@@ -377,6 +420,11 @@ impl ReaderEnd {
                 self.reader
                     .on_data(&mut self.store, row, number, change, moment),
             ),
+            Told::Jump { number, change } => done(
+                self.reader
+                    .on_best_effort_data(&mut self.store, row, number, change, moment),
+            ),
+            Told::Nothing => self.idle(row),
             Told::Gap { start, list } => {
                 done(
                     self.reader

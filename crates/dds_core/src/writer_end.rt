@@ -28,7 +28,7 @@ ghost use Rattle.dds_core.specs.Stepping.{Enters, Ticks, AllTick};
 use crate::answering::{Answering, Room, is_from, rooms, send_answers};
 use crate::heartbeat::{Beat, send_beats, send_to_all};
 use crate::limits::limit_of;
-use crate::matching::{Destination, ReaderName, destinations, matched_readers};
+use crate::matching::{Destination, ReaderName, destinations, reliable_readers};
 use crate::receiver::MessageReceiver;
 use crate::sending::{Announced, Sender, announce};
 use crate::status_bits::{LIVELINESS_LOST, bit_if};
@@ -50,7 +50,7 @@ pub struct WriterEnd {
     entity: EntityId,
     autodispose: bool,
     destinations: Vec<Destination>,
-    /// Its matched readers, in the order of their indices in `writer`.
+    /// Its matched reliable readers, in the order of their indices in `writer`.
     readers: Vec<ReaderName>,
     writer: StatefulWriter,
 }
@@ -84,10 +84,12 @@ impl WriterEnd {
         ensures { IfOk result (OpensWriter peers.now config.now) }
     {
         let destinations = destinations(alloc, peers, config.topic)?;
-        let readers = matched_readers(alloc, peers, config.topic)?;
+        let readers = reliable_readers(alloc, peers, config.topic)?;
         let limit = limit_of(config.max_samples);
         let (history, lease) = (config.history, config.lease);
-        let Ok(writer) = StatefulWriter::open(alloc, history, limit, lease, readers.len()) else {
+        let (matched, reliable) = (destinations.len() > 0, readers.len());
+        let Ok(writer) = StatefulWriter::open(alloc, history, limit, lease, matched, reliable)
+        else {
             return Err(AllocError);
         };
         Ok(WriterEnd {
@@ -113,7 +115,7 @@ impl WriterEnd {
         self.destinations.as_slice()
     }
 
-    /// Its matched readers, by their names.
+    /// Its matched reliable readers, by their names.
     pub fn readers(&self) -> &[ReaderName]
         ensures { result.now ≡ self.now.readers }
     {

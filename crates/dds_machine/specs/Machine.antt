@@ -1,5 +1,6 @@
 -- The machine without packets: each writer is a list of changes, and each matched reader has a place in it that goes
--- over changes which come, and passes over those alone that the writer's history had dropped.
+-- over changes which come, and passes over those alone that the writer's history had dropped, or, where the reader is a
+-- best-effort one, that come before another.
 --
 -- No clause has this machine: it is what RTPS 2.5, 8.4.9 (reliable StatefulWriter) and 8.4.12 (reliable
 -- StatefulReader) come to, whatever becomes of packets; HISTORY (DDS 1.4, 2.2.3) says what is dropped.

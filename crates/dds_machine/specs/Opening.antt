@@ -12,16 +12,20 @@ use Rattle.dds_base.specs.declared.qos.MatchedWriter.{MatchedWriter}
 use Rattle.dds_base.specs.declared.qos.ReaderQos.{ReaderQos}
 use Rattle.dds_conditions.specs.Watched.{opened as nothing_watched}
 use Rattle.dds_notices.specs.Listeners.{nobody}
-use Rattle.dds_base.specs.Matched.{of_matched_writers, of_matched_readers}
+use Rattle.dds_base.specs.Matched.{of_matched_writers, of_matched_readers, of_reliable_readers}
+use Rattle.dds_machine.specs.declared.endpoint.Endpoint.{Endpoint}
 use Rattle.dds_machine.specs.Part.{ReaderProxy, WriterProxy, Writer, Part, nothing_seen}
 use Rattle.dds_base.specs.Checked.{limit_of}
 use Rattle.dds_machine.specs.Machine.{Machine}
 
--- what a writer of the topic has of its matched reliable readers, which are all that it is matched with (is_reliable);
--- the first of these peers has this number
-abbrev pub matched_readers : ℕ → ℕ → List PeerConfig → List ReaderProxy
-matched_readers topic peer ps =
-    of_matched_readers (λ i p n r. record { reader = record { peer = i; number = n }; acknowledged = 1 }) topic peer ps
+-- the matched readers of a writer of the topic; the first of these peers has this number
+abbrev pub matched_readers : ℕ → ℕ → List PeerConfig → List Endpoint
+matched_readers topic peer ps = of_matched_readers (λ i p n r. record { peer = i; number = n }) topic peer ps
+
+-- what a writer of the topic has of its matched reliable readers; the first of these peers has this number
+abbrev pub reliable_readers : ℕ → ℕ → List PeerConfig → List ReaderProxy
+reliable_readers topic peer ps =
+    of_reliable_readers (λ i p n r. record { reader = record { peer = i; number = n }; acknowledged = 1 }) topic peer ps
 
 -- what a reader of the topic has of its matched writers, in the order of publication handles; the first of these peers
 -- has this number
@@ -59,7 +63,8 @@ opening_writer peers w =
       lease = w.lease;
       autodispose = w.autodispose;
       written = [];
-      readers = matched_readers w.topic 1 peers;
+      matched = matched_readers w.topic 1 peers;
+      readers = reliable_readers w.topic 1 peers;
     }
 
 -- the part of a peer to which nothing has happened: at moment 0, with nothing watched and no listener

@@ -35,14 +35,15 @@ pub record WriterProxy : Type 0 where
   pub place : ℕ
   pub heard : Option ℤ
 
--- a writer: its policy, limit and lease, whether an unregister disposes too, what happened there, the newest first, and
--- its matched reliable readers
+-- a writer: its policy, limit and lease, whether an unregister disposes too, what happened there, the newest first, its
+-- matched readers, and what it knows of those that are reliable
 pub record Writer : Type 0 where
   pub policy : HistoryQos
   pub max_samples : Option ℕ
   pub lease : Option ℕ
   pub autodispose : Bool
   pub written : List Written
+  pub matched : List Endpoint
   pub readers : List ReaderProxy
 
 -- a peer's writers, and for each of its readers the matched writers in the order of their publication handles
@@ -92,6 +93,7 @@ no_writer = record {
   lease = None;
   autodispose = false;
   written = [];
+  matched = [];
   readers = [];
 }
 
@@ -217,15 +219,14 @@ is_reader_behind w reader =
 abbrev pub is_behind : Writer → Bool
 is_behind w = list_any (λ (p : ReaderProxy). nat_le p.acknowledged (length (writer_changes w))) w.readers
 
--- the peers of these readers, each once
-abbrev pub peers_of : List ReaderProxy → List ℕ
+-- the peers of these endpoints, each once
+abbrev pub peers_of : List Endpoint → List ℕ
 peers_of [] = []
-peers_of (p ∷ ps) = if list_any (λ peer. peer == p.reader.peer) (peers_of ps) then peers_of ps
-    else p.reader.peer ∷ peers_of ps
+peers_of (e ∷ es) = if list_any (λ peer. peer == e.peer) (peers_of es) then peers_of es else e.peer ∷ peers_of es
 
 -- the writer has a matched reader
 abbrev pub has_readers : Writer → Bool
-has_readers w = nat_lt 0 (length w.readers)
+has_readers w = nat_lt 0 (length w.matched)
 
 -- how many HEARTBEAT counts a writer has used
 abbrev pub heartbeats_used : Writer → ℕ

@@ -32,7 +32,7 @@ writers_on a b c f g = record {
 
 looked : (w : Writer) → AlikeWriters w (with_written w LookedAt)
 looked w = record {
-  grows = record { policy = refl; readers = refl; more = LookedAt ∷ []; written = refl };
+  grows = record { policy = refl; matched = refl; more = LookedAt ∷ []; written = refl };
   rest = refl;
   changes = refl;
   counts = λ b. refl;

@@ -9,7 +9,8 @@ use Rattle.dds_base.specs.declared.happening.PassedRun.{PassedRun}
 use Rattle.dds_base.specs.declared.qos.HistoryQos.{HistoryQos}
 use Rattle.dds_base.specs.declared.qos.HistoryQos.TheVariants.{KeepAll, KeepLast}
 use Rattle.dds_base.specs.Kept.{change_at, is_dropped_by, later_changes}
-use Rattle.dds_base.specs.Places.{WriterGrounds, Match, Position, AllCome, GoesTo}
+use Rattle.dds_base.specs.declared.qos.ReaderQos.{ReaderQos}
+use Rattle.dds_base.specs.Places.{WriterGrounds, Match, Position, AllCome, GoesTo, MayPassOver}
 use Rattle.dds_machine.specs.declared.endpoint.Endpoint.{Endpoint}
 use Rattle.dds_machine.specs.declared.event.WorldEvent.{WorldEvent}
 use Rattle.dds_machine.specs.declared.event.WorldEvent.TheVariants as world
@@ -52,6 +53,15 @@ record SpeakTo (g : WriterGrounds) (last : ℕ) : Type 0 where
   change : (n : ℕ) (c : Change) → g.is_change n c → n ≤ last
   pass : (n : ℕ) → g.may_pass n → n ≤ last
 
+-- nor does a reader pass over one
+passes_within : (g : WriterGrounds) (last : ℕ) → SpeakTo g last → (qos : ReaderQos) (n : ℕ) → MayPassOver g qos n
+    → n ≤ last
+passes_within g last s qos n (inl h) = s.pass n h
+passes_within g last s qos n (inr h) =
+    let before = h.1.before in
+    let there = s.change h.1.later h.1.change h.1.is_change in
+    omega (arith, before, there)
+
 come_within : (g : WriterGrounds) (last : ℕ) → SpeakTo g last
     → (match : Match) (old : Position) (changes : List Change) (new : Position)
     → AllCome g match old changes new → old.place ≤ last + 1 → new.place ≤ last + 1
@@ -70,7 +80,8 @@ goes_within g last s match old [] to new h low =
     omega (arith, rest, end)
 goes_within g last s match old (run ∷ runs) to new h low =
     let ordered = h.3.ordered in
-    let passed = s.pass run.last (h.3.may_pass run.last (omega (arith, ordered)) (omega arith)) in
+    let passed =
+    passes_within g last s match.qos run.last (h.3.may_pass run.last (omega (arith, ordered)) (omega arith)) in
     let next = ap (λ (p : Position). p.place) h.3.after in
     goes_within g last s match h.1 runs to new h.5 (omega (arith, next, passed))
 

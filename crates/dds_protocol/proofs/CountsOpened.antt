@@ -1,12 +1,12 @@
 -- At the opening no count has been used, and each peer is that of its configuration.
-use Rattle.std.proofs.Common.{◌≡◌, ℕ, zero, suc, ◌+◌, ◌-◌, ◌<◌, Bool, true, false, cond, List, [], ◌∷◌, ◌++◌, Some, map, length, get_or, slice_get, refl, subst, ap, sym, ◌∙◌, arith}
+use Rattle.std.proofs.Common.{◌≡◌, ℕ, zero, suc, ◌+◌, ◌-◌, ◌<◌, ◌&&◌, Bool, true, false, cond, List, [], ◌∷◌, ◌++◌, Some, map, length, get_or, slice_get, refl, subst, ap, sym, ◌∙◌, arith}
 use Rattle.std.proofs.lemmas.List.{length-map, map-append}
 use Rattle.std.proofs.lemmas.Option.{same_Some}
 use Rattle.dds_base.specs.declared.config.Config.{Config}
 use Rattle.dds_base.specs.declared.config.PeerConfig.{PeerConfig}
 use Rattle.dds_base.specs.declared.config.ReaderConfig.{ReaderConfig}
 use Rattle.dds_base.specs.declared.config.WriterConfig.{WriterConfig}
-use Rattle.dds_base.specs.Matched.{same_topic, of_matched_readers}
+use Rattle.dds_base.specs.Matched.{same_topic, is_reliable_reader, of_reliable_readers}
 use Rattle.dds_base.specs.MatchedAt.{of_readers_in}
 use Rattle.dds_machine.specs.declared.endpoint.Endpoint.{Endpoint}
 use Rattle.dds_machine.specs.Numbered.{HasNumber}
@@ -16,7 +16,7 @@ use Rattle.dds_protocol.specs.Dues.{IsPartOf}
 use Rattle.dds_protocol.specs.Peer.{no_peer}
 use Rattle.dds_protocol.specs.Protocol.{Known}
 use Rattle.dds_protocol.specs.World.{peer_at}
-use Rattle.dds_machine.specs.Opening.{opening_writer, opening_part}
+use Rattle.dds_machine.specs.Opening.{matched_readers, opening_writer, opening_part}
 use Rattle.dds_protocol.specs.Opening.{opening_peers, opening_world}
 use Rattle.dds_protocol.specs.Fresh.{HasUsedCounts}
 use Rattle.dds_protocol.proofs.Bounded.{opened_is_fresh}
@@ -32,16 +32,16 @@ readers_told : {X Y : Type 0} (f : X → Y) (tell : ℕ → ReaderConfig → X) 
     → map f (of_readers_in tell topic n rs) ≡ of_readers_in (λ k r. f (tell k r)) topic n rs
 readers_told f tell topic n [] = refl
 readers_told f tell topic n (r ∷ rs) =
-    end_told f (same_topic r.topic topic) (tell n r) (of_readers_in tell topic (n + 1) rs)
+    end_told f (is_reliable_reader r && same_topic r.topic topic) (tell n r) (of_readers_in tell topic (n + 1) rs)
     (of_readers_in (λ k x. f (tell k x)) topic (n + 1) rs) (readers_told f tell topic (n + 1) rs)
 
 matched_told : {X Y : Type 0} (f : X → Y) (tell : ℕ → PeerConfig → ℕ → ReaderConfig → X) (topic n : ℕ)
     (ps : List PeerConfig)
-    → map f (of_matched_readers tell topic n ps) ≡ of_matched_readers (λ i p k r. f (tell i p k r)) topic n ps
+    → map f (of_reliable_readers tell topic n ps) ≡ of_reliable_readers (λ i p k r. f (tell i p k r)) topic n ps
 matched_told f tell topic n [] = refl
 matched_told {Y = Y} f tell topic n (p ∷ ps) =
-    map-append f (of_readers_in (tell n p) topic 1 p.readers) (of_matched_readers tell topic (n + 1) ps)
-    ∙ (ap (λ (xs : List Y). xs ++ map f (of_matched_readers tell topic (n + 1) ps))
+    map-append f (of_readers_in (tell n p) topic 1 p.readers) (of_reliable_readers tell topic (n + 1) ps)
+    ∙ (ap (λ (xs : List Y). xs ++ map f (of_reliable_readers tell topic (n + 1) ps))
     (readers_told f (tell n p) topic 1 p.readers)
     ∙ ap (λ (ys : List Y). of_readers_in (λ k r. f (tell n p k r)) topic 1 p.readers ++ ys)
     (matched_told f tell topic (n + 1) ps))
@@ -76,7 +76,7 @@ names rows = map (λ (p : ReaderProxy). p.reader) rows
 rows_opened : (peers : List PeerConfig) (own : PeerConfig) (number : ℕ) (w : WriterConfig)
     → IsNumbered own.writers number w
     → names (own_writer (opening_part peers own) number).readers
-    ≡ of_matched_readers (λ i p k r. record { peer = i; number = k }) w.topic 1 peers
+    ≡ of_reliable_readers (λ i p k r. record { peer = i; number = k }) w.topic 1 peers
 rows_opened peers own zero w at = let low = at.0 in absurd (omega (arith, low))
 rows_opened peers own (suc k) w at =
     let index : suc k - 1 ≡ k = omega arith in
@@ -84,6 +84,15 @@ rows_opened peers own (suc k) w at =
     ap (λ (x : Writer). names x.readers) (writer_opened peers own.writers k w there)
     ∙ matched_told (λ (p : ReaderProxy). p.reader)
     (λ i p n r. record { reader = record { peer = i; number = n }; acknowledged = 1 }) w.topic 1 peers
+
+pub matched_opened : (peers : List PeerConfig) (own : PeerConfig) (number : ℕ) (w : WriterConfig)
+    → IsNumbered own.writers number w
+    → (own_writer (opening_part peers own) number).matched ≡ matched_readers w.topic 1 peers
+matched_opened peers own zero w at = let low = at.0 in absurd (omega (arith, low))
+matched_opened peers own (suc k) w at =
+    let index : suc k - 1 ≡ k = omega arith in
+    let there : slice_get own.writers k ≡ Some w = subst (λ (n : ℕ). slice_get own.writers n ≡ Some w) index at.1 in
+    ap (λ (x : Writer). x.matched) (writer_opened peers own.writers k w there)
 
 part_opened : (config : Config) (peer : ℕ) → HasNumber (opening_world config).peers peer
     → IsPartOf config peer (peer_at (opening_world config) peer).part
@@ -97,6 +106,7 @@ part_opened config (suc i) has =
       here = o.here;
       at = (omega arith, subst (λ (n : ℕ). slice_get config.peers n ≡ Some o.here) index o.at);
       writers = length-map o.here.writers (opening_writer config.peers);
+      matched = λ number w at. matched_opened config.peers o.here number w at;
       readers = λ number w at. rows_opened config.peers o.here number w at;
     })
 

@@ -11,7 +11,8 @@ use Rattle.dds_base.specs.declared.guid.GuidPrefix.{GuidPrefix}
 use Rattle.dds_base.specs.Checked.{check_refusal}
 use Rattle.dds_base.specs.Kept.{numbers_from}
 use Rattle.rtps_reader.specs.declared.step.AckNackDue.{AckNackDue}
-use Rattle.rtps_reader.specs.Tracked.{Tracked, with_data, with_gap, with_heartbeat}
+use Rattle.dds_base.specs.Matched.{is_reliable_reader}
+use Rattle.rtps_reader.specs.Tracked.{Tracked, with_gap, with_heartbeat}
 use Rattle.rtps_reader.specs.Answer.{AnswersHeartbeat, answered}
 use Rattle.rtps_wire.specs.declared.acknack.AckNack.{AckNack as AckNackBody}
 use Rattle.rtps_wire.specs.declared.heartbeat.Heartbeat.{Heartbeat as HeartbeatBody}
@@ -27,14 +28,15 @@ use Rattle.dds_machine.specs.Part.{ReaderProxy, same_endpoint, own_writer, write
 use Rattle.dds_protocol.specs.Claims.{Receiver, receiver_of, after_submessage, StandsAt, StandsIn, IsWriter, IsToReader, IsToWriter}
 use Rattle.dds_protocol.specs.Receipt.{prefix_of}
 use Rattle.dds_protocol.specs.DueMessages.{Due, acknack_message, acknacks_due, answer_message}
-use Rattle.dds_protocol.specs.Protocol.{Known, State, InTurn, Goes, Idles, TakesHeartbeat, TakesAckNack, ReaderTakes, WriterTakes, Takes, FollowsMessage, TakesPacket, with_answered}
+use Rattle.dds_protocol.specs.Protocol.{Known, State, InTurn, TakesChange, heard_as, Idles, TakesHeartbeat, TakesOrNot, TakesAckNack, ReaderTakes, WriterTakes, Takes, FollowsMessage, TakesPacket, with_answered}
 use Rattle.dds_protocol.specs.Backed.{reader_at}
 use Rattle.dds_protocol.specs.Fresh.{HasHeartbeat, HasAckNack}
 use Rattle.dds_protocol.proofs.Composed.{is_alone}
 use Rattle.dds_protocol.proofs.CountsWritten.{plain_beats, plain_asks, plain_answers, one_ask, one_ask_beats, each_of}
 use Rattle.dds_protocol.proofs.DuesAcknacks.{ask_body, answer_names}
 use Rattle.dds_protocol.proofs.Framing.{pair_or_not}
-use Rattle.dds_protocol.proofs.Learning.{Learns, goes_learns, heartbeat_learns}
+use Rattle.dds_protocol.proofs.Ways.{Went, goes_went, after_change, after_change-same, change_went, gap_went}
+use Rattle.dds_protocol.proofs.Learning.{Learns, way_learns, heartbeat_learns}
 use Rattle.dds_machine.proofs.Tables.{same_is}
 use Rattle.dds_protocol.proofs.Turns.{in_turn}
 
@@ -154,11 +156,11 @@ no_dues c s dues none due among =
 -- a DATA or a GAP
 goes_counts : (c : Counting) (old : State) (w : Endpoint) (r : ℕ) (t : Tracked) (moves : List Move) (dues : List Due)
     (new : State)
-    → Goes old w r t moves new → dues ≡ [] → t.count ≡ (old.known.tracked w r).count
+    → Went old w r t moves new → dues ≡ [] → t.count ≡ (old.known.tracked w r).count
     → t.acknacks ≡ (old.known.tracked w r).acknacks → Counts c old dues new
 goes_counts c old w r t moves dues new g none count acknacks =
     let stays = g.advances.stays.acknacks in
-    learned_counts c old w r g.known dues new (goes_learns old w r t moves new g) (omega (arith, stays, acknacks))
+    learned_counts c old w r g.known dues new (way_learns old w r moves new g) (omega (arith, stays, acknacks))
     (λ n e. inl (sym count ∙ (sym g.advances.stays.count ∙ e))) (no_dues c new dues none)
 
 answered_count : (answer : Option AckNackDue) (t : Tracked) → (answered answer t).count ≡ t.count
@@ -210,9 +212,7 @@ heartbeat_counts : (c : Counting) (at : Receiver) (h : HeartbeatBody) → IsUsed
     → TakesHeartbeat c.own at old w r is.entity h moves dues new → Counts c old dues new
 heartbeat_counts c at h used old w r is moves dues new k =
     let learned = heartbeat_learns c.own at old w r is.entity h moves dues new k in
-    let known : k.there.known.tracked w r ≡ k.goes.known =
-    (goes_learns k.heard w r (with_heartbeat h.first_sn h.count (old.known.tracked w r)) k.going k.there
-    k.goes).here in
+    let known : k.there.known.tracked w r ≡ k.goes.known = (way_learns k.heard w r k.going k.there k.goes).here in
     let stays = k.goes.advances.stays.acknacks in
     let more = answered_more k.answer k.goes.known in
     learned_counts c old w r (answered k.answer k.goes.known) dues new learned (omega (arith, stays, more))
@@ -229,16 +229,32 @@ reader_counts : (c : Counting) (at : Receiver) (s : Submessage) → IsUsed c at 
     → (r : ℕ) (old : State) (moves : List Move) (dues : List Due) (new : State)
     → ReaderTakes c.config c.own c.peer at s r old moves dues new → Counts c old dues new
 reader_counts c at (Data d) used r old moves dues new (inl h) =
-    goes_counts c old h.0 r (with_data d.writer_sn (change_in d.content at.timestamp) (old.known.tracked h.0 r)) moves
-    dues new h.2.0 h.2.1 refl refl
+    by (is_reliable_reader h.1.to.end) h.2.0
+  where
+    change : Change
+    change = change_in d.content at.timestamp
+
+    by : (reliable : Bool) → TakesChange reliable old h.0 r d.writer_sn change moves new → Counts c old dues new
+    by reliable takes =
+        let same = after_change-same reliable d.writer_sn change (old.known.tracked h.0 r) in
+        goes_counts c old h.0 r (after_change reliable d.writer_sn change (old.known.tracked h.0 r)) moves dues new
+        (change_went reliable old h.0 r d.writer_sn change moves new takes) h.2.1 same.1 same.2
 reader_counts c at (Data d) used r old moves dues new (inr h) = counts_idle c old moves dues new h.1
 reader_counts c at (Gap g) used r old moves dues new (inl h) =
-    goes_counts c old h.0 r (with_gap g.gap_start g.gap_list (old.known.tracked h.0 r)) moves dues new h.2.0 h.2.1
-    refl refl
+    ⊎_elim (λ t. goes_counts c old h.0 r (with_gap g.gap_start g.gap_list (old.known.tracked h.0 r)) moves dues new
+    (goes_went old h.0 r _ moves new t.1) h.2.1 refl refl)
+    (λ n. counts_idle c old moves dues new (n.0, h.2.1, n.1))
+    (gap_went (is_reliable_reader h.1.to.end) old h.0 r g moves new h.2.0)
 reader_counts c at (Gap g) used r old moves dues new (inr h) = counts_idle c old moves dues new h.1
 reader_counts c at (Heartbeat b) used r old moves dues new (inl h) =
-    ⊎_elim (λ k. heartbeat_counts c at b used old h.0 r h.1 moves dues new k)
-    (λ n. counts_idle c old moves dues new n.1) h.2
+    by (is_reliable_reader h.1.to.end) h.2
+  where
+    by : (reliable : Bool) → TakesOrNot c.own at old h.0 r h.1.entity (heard_as reliable b) moves dues new
+        → Counts c old dues new
+    by true (inl k) = heartbeat_counts c at b used old h.0 r h.1 moves dues new k
+    by true (inr n) = counts_idle c old moves dues new n.1
+    by false (inl k) = heartbeat_counts c at (heard_as false b) used old h.0 r h.1 moves dues new k
+    by false (inr n) = counts_idle c old moves dues new n.1
 reader_counts c at (Heartbeat b) used r old moves dues new (inr h) = counts_idle c old moves dues new h.1
 reader_counts c at (AckNack a) used r old moves dues new h = counts_idle c old moves dues new h
 reader_counts c at Pad used r old moves dues new h = counts_idle c old moves dues new h

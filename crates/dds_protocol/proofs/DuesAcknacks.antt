@@ -19,7 +19,9 @@ use Rattle.dds_machine.specs.Part.{Part, WriterProxy, own_proxies, place_of, wit
 use Rattle.dds_protocol.specs.Claims.{Receiver, every_peer, Names, IsWriter, IsReader, IsToReader, IsToWriter, Claim, ChangeIs, MayPass, PlaceReached, Asserts, Says}
 use Rattle.dds_protocol.specs.Peer.{IsTrueAt}
 use Rattle.dds_protocol.specs.DueMessages.{Due, acknack_message, acknacks_due}
-use Rattle.dds_protocol.specs.Protocol.{State, Goes, TakesHeartbeat, ReaderTakes}
+use Rattle.dds_protocol.specs.Protocol.{State, heard_as, TakesHeartbeat, TakesOrNot, ReaderTakes}
+use Rattle.dds_base.specs.Matched.{is_reliable_reader}
+use Rattle.dds_protocol.proofs.Ways.{Went, goes_went}
 use Rattle.dds_protocol.specs.Backed.{reader_at}
 use Rattle.dds_protocol.specs.Dues.{IsTruthful, AreTruthful}
 use Rattle.dds_protocol.proofs.Dues.{addressed, told_alone}
@@ -116,7 +118,7 @@ acknack_truthful x to claim writable says =
 
 -- where a place has gone to, the reader is, and knows so
 pub goes_there : (old : State) (w : Endpoint) (r : ℕ) (t : Tracked) (moves : List Move) (new : State)
-    → Goes old w r t moves new → place_of (own_proxies new.part r) w ≡ Some (new.known.tracked w r).place
+    → Went old w r t moves new → place_of (own_proxies new.part r) w ≡ Some (new.known.tracked w r).place
 goes_there old w r t moves new g =
     let rows : List WriterProxy = with_place (own_proxies old.part r) w g.to in
     let here : numbered (with_numbered old.part.rtps.readers r rows) r [] ≡ rows =
@@ -154,7 +156,7 @@ heartbeat_answered c h w r is old made dues new k =
           due = due;
           part = new.part;
           there = ap (λ (s : State). place_of (own_proxies s.part r) w) k.after
-              ∙ (goes_there k.heard w r _ k.going k.there k.goes ∙ ap (λ (n : ℕ). Some n) (sym a.3.set_base));
+              ∙ (goes_there k.heard w r _ k.going k.there (goes_went k.heard w r _ k.going k.there k.goes) ∙ ap (λ (n : ℕ). Some n) (sym a.3.set_base));
         } in
         All-cons (IsTruthful c.config c.peer new.part) (acknack_due x w.peer) [] (acknack_truthful x w.peer)
         (All-nil (IsTruthful c.config c.peer new.part))
@@ -172,8 +174,15 @@ pub reader_truthful : (c : Coming) (s : Submessage) (r : ℕ) (old : State) (mad
 reader_truthful c (Data d) r old made dues new h = none_due c new.part dues (⊎_elim (λ t. t.2.1) (λ n. n.1.1) h)
 reader_truthful c (Gap g) r old made dues new h = none_due c new.part dues (⊎_elim (λ t. t.2.1) (λ n. n.1.1) h)
 reader_truthful c (Heartbeat b) r old made dues new h =
-    ⊎_elim (λ t. ⊎_elim (λ k. heartbeat_answered c b t.0 r t.1 old made dues new k)
-    (λ n. none_due c new.part dues n.1.1) t.2) (λ n. none_due c new.part dues n.1.1) h
+    ⊎_elim (λ t. by t.0 t.1 (is_reliable_reader t.1.to.end) t.2) (λ n. none_due c new.part dues n.1.1) h
+  where
+    by : (w : Endpoint) (is : IsToReader c.config c.own c.at b.reader_id b.writer_id w (reader_at c.peer r))
+        (reliable : Bool) → TakesOrNot c.own c.at old w r is.entity (heard_as reliable b) made dues new
+        → AreTruthful c.config c.peer new.part dues
+    by w is true (inl k) = heartbeat_answered c b w r is old made dues new k
+    by w is true (inr n) = none_due c new.part dues n.1.1
+    by w is false (inl k) = heartbeat_answered c (heard_as false b) w r is old made dues new k
+    by w is false (inr n) = none_due c new.part dues n.1.1
 reader_truthful c (AckNack a) r old made dues new h = none_due c new.part dues h.1
 reader_truthful c Pad r old made dues new h = none_due c new.part dues h.1
 reader_truthful c (InfoDst x) r old made dues new h = none_due c new.part dues h.1

@@ -102,7 +102,7 @@ gap_says x reader far at first last source dropped (ChangeIs w r n c) h = absurd
 gap_says x reader far at first last source dropped (PlaceReached w r b) h = absurd h
 gap_says x reader far at first last source dropped (Asserts w r k) h = absurd h
 gap_says x reader far at first last source dropped (MayPass w r n) h =
-    let same = named x at.source_guid_prefix source w h.0.from in
+    let same = named x at.source_guid_prefix source w h.0.is_to.from in
     let within : is_dropped (history_of x.writer) n ≡ true =
     ⊎_elim
     (λ (i : (first ≤ n) × (n < last + 1)). let high = i.1 in dropped n i.0 (omega (arith, high)))

@@ -53,32 +53,32 @@ OfEachTold config peer part number P =
 pub told_each : (config : Config) (peer : ℕ) (part : Part) (number : ℕ) (P : Due → Type 0)
     → OfEachTold config peer part number P
     → All P (assertions_due config (record { peer = peer; number = number }) (own_writer part number))
-told_each config peer part number P each = by (own_writer part number).readers refl
+told_each config peer part number P each = by (own_writer part number).matched refl
   where
     tell : ℕ → Due
     tell = assertion_due config peer part number
 
-    there : (p : ReaderProxy) (ps : List ReaderProxy) → (own_writer part number).readers ≡ p ∷ ps
+    there : (e : Endpoint) (es : List Endpoint) → (own_writer part number).matched ≡ e ∷ es
         → HasNumber part.rtps.writers number
-    there p ps some =
+    there e es some =
         ⊎_elim (λ h. h)
         (λ none.
-        let empty : (own_writer part number).readers ≡ [] = ap (λ (w : Writer). w.readers) none in
-        let lengths = ap (λ (rows : List ReaderProxy). length rows) (sym some ∙ empty) in
+        let empty : (own_writer part number).matched ≡ [] = ap (λ (w : Writer). w.matched) none in
+        let lengths = ap (λ (all : List Endpoint). length all) (sym some ∙ empty) in
         absurd (omega (arith, lengths)))
         (number_there part.rtps.writers number no_writer)
 
-    by : (rows : List ReaderProxy) → (own_writer part number).readers ≡ rows
-        → All P (map (assertion_due config peer part number) (peers_of (own_writer part number).readers))
+    by : (es : List Endpoint) → (own_writer part number).matched ≡ es
+        → All P (map (assertion_due config peer part number) (peers_of (own_writer part number).matched))
     by [] none =
-        subst (λ (rows : List ReaderProxy). All P (map (assertion_due config peer part number) (peers_of rows)))
+        subst (λ (es : List Endpoint). All P (map (assertion_due config peer part number) (peers_of es)))
         (sym none) (All-nil P)
-    by (p ∷ ps) some =
-        let lengths = ap (λ (rows : List ReaderProxy). length rows) some in
+    by (e ∷ es) some =
+        let lengths = ap (λ (all : List Endpoint). length all) some in
         let matched : has_readers (own_writer part number) ≡ true = grind (arith, nat_tests, lengths) in
-        All-map P (assertion_due config peer part number) (peers_of (own_writer part number).readers)
-        (all_of (λ to. P (assertion_due config peer part number to)) (λ to. each (there p ps some) matched to)
-        (peers_of (own_writer part number).readers))
+        All-map P (assertion_due config peer part number) (peers_of (own_writer part number).matched)
+        (all_of (λ to. P (assertion_due config peer part number to)) (λ to. each (there e es some) matched to)
+        (peers_of (own_writer part number).matched))
 
 -- ---- the count of an assertion
 

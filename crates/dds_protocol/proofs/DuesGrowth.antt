@@ -57,17 +57,18 @@ truthful_on config peer old new g a dues h =
     All-weaker (IsTruthful config peer old) (IsTruthful config peer new)
     (λ due t claim writable says. true_on peer old new g a claim (t claim writable says)) dues h
 
--- the writers have the same matched readers
+-- the writers know of the same reliable readers
 pub record SameNames (old new : Part) : Type 0 where
   pub count : length new.rtps.writers ≡ length old.rtps.writers
   pub names : (w : ℕ) → names_of (own_writer new w).readers ≡ names_of (own_writer old w).readers
 
-pub is_part_kept : (config : Config) (peer : ℕ) (old new : Part) → SameNames old new → IsPartOf config peer old
-    → IsPartOf config peer new
-is_part_kept config peer old new s h = record {
+pub is_part_kept : (config : Config) (peer : ℕ) (old new : Part) → Grows old.rtps new.rtps → SameNames old new
+    → IsPartOf config peer old → IsPartOf config peer new
+is_part_kept config peer old new g s h = record {
   here = h.here;
   at = h.at;
   writers = s.count ∙ h.writers;
+  matched = λ number w at. (g.writers number).matched ∙ h.matched number w at;
   readers = λ number w at. s.names number ∙ h.readers number w at;
 }
 

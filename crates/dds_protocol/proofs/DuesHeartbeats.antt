@@ -60,9 +60,11 @@ first_says b final liveliness far to v r n h =
     let me : Endpoint = record { peer = b.peer; number = b.number } in
     let own : GuidPrefix = prefix_of b.config b.peer in
     let entity : EntityId = writer_entity b.config b.peer b.number in
-    let same : v ≡ me = one_writer b.config own entity v me b.checked h.0.from b.own.name in
-    let end = same_end b.config own own entity entity v me h.0.from b.own.name same in
-    let row = b.own.rows far h.0.entity r h.0.to (sym h.0.matched ∙ ap (λ x. x.topic) end) in (
+    let to_it = h.0.is_to in
+    let same : v ≡ me = one_writer b.config own entity v me b.checked to_it.from b.own.name in
+    let end = same_end b.config own own entity entity v me to_it.from b.own.name same in
+    let row =
+    b.own.rows far to_it.entity r to_it.to (sym to_it.matched ∙ ap (λ x. x.topic) end) h.0.reliable in (
       ap (λ (e : Endpoint). e.peer) same,
       subst (λ (e : Endpoint). Passes (own_writer b.part e.number) r n) (sym same)
           (below_first_passes (own_writer b.part b.number) r row.0 n row.1 h.1 h.2),
@@ -138,8 +140,9 @@ of_writer config peer part P each number there = by (nat_lt (heartbeats_used w) 
             (all_of (λ to. P (heartbeat_due config peer part number to)) (λ to. each number to there left is) ends)
         behind left false none =
             let empty : readers_behind w ≡ [] =
-            none_left (λ (p : ReaderProxy). nat_le p.acknowledged (length (writer_changes w))) w.readers none in
-            subst (λ (ps : List ReaderProxy). All P (map (heartbeat_due config peer part number) (peers_of ps)))
+            ap (λ (ps : List ReaderProxy). map (λ (p : ReaderProxy). p.reader) ps)
+            (none_left (λ (p : ReaderProxy). nat_le p.acknowledged (length (writer_changes w))) w.readers none) in
+            subst (λ (es : List Endpoint). All P (map (heartbeat_due config peer part number) (peers_of es)))
             (sym empty) (All-nil P)
     by false e = All-nil P
 

@@ -1,5 +1,5 @@
 -- A writer of a configuration has its name there, and each reader of its topic has a row at it.
-use Rattle.std.proofs.Common.{◌≡◌, ◌⊎◌, ℕ, zero, suc, ◌+◌, ◌-◌, ◌<◌, Bool, true, false, cond, List, [], ◌∷◌, Option, Some, Contains, map, length, slice_get, refl, subst, ap, sym, ◌∙◌, inl, inr, ⊎_elim, arith, eq-eqb}
+use Rattle.std.proofs.Common.{◌≡◌, ◌⊎◌, ℕ, zero, suc, ◌+◌, ◌-◌, ◌<◌, Bool, true, false, ◌&&◌, cond, List, [], ◌∷◌, Option, Some, Contains, map, length, slice_get, refl, subst, ap, sym, ◌∙◌, inl, inr, ⊎_elim, arith, eq-eqb}
 use Rattle.std.specs.Option.{option_map, option_map_or}
 use Rattle.std.proofs.lemmas.List.Elements.{Contains-append_left, Contains-append_right}
 use Rattle.std.proofs.lemmas.Option.{same_Some}
@@ -9,7 +9,7 @@ use Rattle.dds_base.specs.declared.config.ReaderConfig.{ReaderConfig}
 use Rattle.dds_base.specs.declared.config.WriterConfig.{WriterConfig}
 use Rattle.dds_base.specs.declared.guid.EntityId.{EntityId}
 use Rattle.dds_base.specs.declared.guid.GuidPrefix.{GuidPrefix}
-use Rattle.dds_base.specs.Matched.{same_topic, of_matched_readers}
+use Rattle.dds_base.specs.Matched.{same_topic, is_reliable_reader, of_reliable_readers}
 use Rattle.dds_base.specs.MatchedAt.{of_readers_in}
 use Rattle.dds_machine.specs.declared.endpoint.Endpoint.{Endpoint}
 use Rattle.dds_machine.specs.Numbered.{HasNumber}
@@ -57,7 +57,7 @@ abbrev pub names_in : ℕ → ℕ → ℕ → List ReaderConfig → List Endpoin
 names_in topic peer number rs = of_readers_in (λ k r. name_at peer k) topic number rs
 
 abbrev pub names : ℕ → ℕ → List PeerConfig → List Endpoint
-names topic peer ps = of_matched_readers (λ i p k r. name_at i k) topic peer ps
+names topic peer ps = of_reliable_readers (λ i p k r. name_at i k) topic peer ps
 
 named_first : (b : Bool) (e : Endpoint) (es : List Endpoint) → b ≡ true → Contains (cond b (e ∷ es) es) e
 named_first true e es is = (0, omega arith, refl)
@@ -68,47 +68,52 @@ named_later true e x es h = later_in e es x h
 named_later false e x es h = h
 
 in_ends : (topic peer n : ℕ) (rs : List ReaderConfig) (k : ℕ) (r : ReaderConfig) → slice_get rs k ≡ Some r
-    → r.topic ≡ topic → Contains (names_in topic peer n rs) (name_at peer (n + k))
-in_ends topic peer n [] k r at of = cc
-in_ends topic peer n (x ∷ xs) zero r at of =
+    → r.topic ≡ topic → is_reliable_reader r ≡ true → Contains (names_in topic peer n rs) (name_at peer (n + k))
+in_ends topic peer n [] k r at of reliable = cc
+in_ends topic peer n (x ∷ xs) zero r at of reliable =
     let here : n ≡ n + 0 = omega arith in
-    let is : same_topic x.topic topic ≡ true =
-    eq-eqb x.topic topic (ap (λ (y : ReaderConfig). y.topic) (same_Some x r at) ∙ of) in
+    let one : x ≡ r = same_Some x r at in
+    let wanted : (is_reliable_reader x && same_topic x.topic topic) ≡ true =
+    ap (λ (b : Bool). b && same_topic x.topic topic) (ap (λ (y : ReaderConfig). is_reliable_reader y) one ∙ reliable)
+    ∙ eq-eqb x.topic topic (ap (λ (y : ReaderConfig). y.topic) one ∙ of) in
     subst (λ (m : ℕ). Contains (names_in topic peer n (x ∷ xs)) (name_at peer m)) here
-    (named_first (same_topic x.topic topic) (name_at peer n) (names_in topic peer (n + 1) xs) is)
-in_ends topic peer n (x ∷ xs) (suc k) r at of =
+    (named_first (is_reliable_reader x && same_topic x.topic topic) (name_at peer n)
+    (names_in topic peer (n + 1) xs) wanted)
+in_ends topic peer n (x ∷ xs) (suc k) r at of reliable =
     let over : n + 1 + k ≡ n + suc k = omega arith in
     subst (λ (m : ℕ). Contains (names_in topic peer n (x ∷ xs)) (name_at peer m)) over
-    (named_later (same_topic x.topic topic) (name_at peer n) (name_at peer (n + 1 + k))
-    (names_in topic peer (n + 1) xs) (in_ends topic peer (n + 1) xs k r at of))
+    (named_later (is_reliable_reader x && same_topic x.topic topic) (name_at peer n) (name_at peer (n + 1 + k))
+    (names_in topic peer (n + 1) xs) (in_ends topic peer (n + 1) xs k r at of reliable))
 
 in_peers : (topic n : ℕ) (ps : List PeerConfig) (i : ℕ) (p : PeerConfig) (k : ℕ) (r : ReaderConfig)
-    → slice_get ps i ≡ Some p → slice_get p.readers k ≡ Some r → r.topic ≡ topic
+    → slice_get ps i ≡ Some p → slice_get p.readers k ≡ Some r → r.topic ≡ topic → is_reliable_reader r ≡ true
     → Contains (names topic n ps) (name_at (n + i) (1 + k))
-in_peers topic n [] i p k r at within of = cc
-in_peers topic n (x ∷ xs) zero p k r at within of =
+in_peers topic n [] i p k r at within of reliable = cc
+in_peers topic n (x ∷ xs) zero p k r at within of reliable =
     let here : n ≡ n + 0 = omega arith in
     let found : slice_get x.readers k ≡ Some r =
     subst (λ (q : PeerConfig). slice_get q.readers k ≡ Some r) (sym (same_Some x p at)) within in
     Contains-append_left (names_in topic n 1 x.readers) (names topic (n + 1) xs) (name_at (n + 0) (1 + k))
     (subst (λ (m : ℕ). Contains (names_in topic n 1 x.readers) (name_at m (1 + k))) here
-    (in_ends topic n 1 x.readers k r found of))
-in_peers topic n (x ∷ xs) (suc i) p k r at within of =
+    (in_ends topic n 1 x.readers k r found of reliable))
+in_peers topic n (x ∷ xs) (suc i) p k r at within of reliable =
     let over : n + 1 + i ≡ n + suc i = omega arith in
     Contains-append_right (names_in topic n 1 x.readers) (names topic (n + 1) xs) (name_at (n + suc i) (1 + k))
     (subst (λ (m : ℕ). Contains (names topic (n + 1) xs) (name_at m (1 + k))) over
-    (in_peers topic (n + 1) xs i p k r at within of))
+    (in_peers topic (n + 1) xs i p k r at within of reliable))
 
--- a reader of the configuration is among those of its topic
+-- a reliable reader of the configuration is among those of its topic
 reader_named : (config : Config) (prefix : GuidPrefix) (entity : EntityId) (r : Endpoint)
-    (is : IsReader config prefix entity r) (topic : ℕ) → is.end.topic ≡ topic → Contains (names topic 1 config.peers) r
-reader_named config prefix entity r is topic of =
+    (is : IsReader config prefix entity r) (topic : ℕ) → is.end.topic ≡ topic → is_reliable_reader is.end ≡ true
+    → Contains (names topic 1 config.peers) r
+reader_named config prefix entity r is topic of reliable =
     let peer = is.at_peer.0 in
     let number = is.at_reader.0 in
     let here : name_at (1 + (r.peer - 1)) (1 + (r.number - 1)) ≡ r =
     same_endpoints (name_at (1 + (r.peer - 1)) (1 + (r.number - 1))) r (omega (arith, peer)) (omega (arith, number)) in
     subst (λ (e : Endpoint). Contains (names topic 1 config.peers) e) here
-    (in_peers topic 1 config.peers (r.peer - 1) is.peer (r.number - 1) is.end is.at_peer.1 is.at_reader.1 of)
+    (in_peers topic 1 config.peers (r.peer - 1) is.peer (r.number - 1) is.end is.at_peer.1 is.at_reader.1 of
+    reliable)
 
 -- ---- a peer's writers
 
@@ -116,7 +121,8 @@ reader_named config prefix entity r is topic of =
 pub record OwnName (config : Config) (peer : ℕ) (part : Part) (number : ℕ) : Type 0 where
   pub name : IsWriter config (prefix_of config peer) (writer_entity config peer number) (name_at peer number)
   pub rows : (prefix : GuidPrefix) (entity : EntityId) (r : Endpoint) (is : IsReader config prefix entity r)
-      → is.end.topic ≡ name.end.topic → (a : ℕ) × (acknowledged_of (own_writer part number).readers r ≡ Some a)
+      → is.end.topic ≡ name.end.topic → is_reliable_reader is.end ≡ true
+      → (a : ℕ) × (acknowledged_of (own_writer part number).readers r ≡ Some a)
   pub lists : map (λ (p : ReaderProxy). p.reader) (own_writer part number).readers ≡ names name.end.topic 1 config.peers
 
 get_some : {X : Type 0} (xs : List X) (i : ℕ) → i < length xs → (x : X) × (slice_get xs i ≡ Some x)
@@ -145,10 +151,10 @@ own_name config peer part of number there =
             (slice_get p.writers (number - 1)) every_reader) o every_reader) of.at.1
             ∙ ap (λ (o : Option WriterConfig). option_map_or (λ (w : WriterConfig). w.entity) o every_reader) found.1);
       };
-      rows = λ prefix entity r is topic.
+      rows = λ prefix entity r is topic reliable.
           row_found (own_writer part number).readers r
           (subst (λ (es : List Endpoint). Contains es r) (sym (of.readers number found.0 at))
-          (reader_named config prefix entity r is found.0.topic topic));
+          (reader_named config prefix entity r is found.0.topic topic reliable));
       lists = of.readers number found.0 at;
     }
 

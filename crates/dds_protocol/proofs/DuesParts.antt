@@ -15,7 +15,7 @@ use Rattle.dds_machine.specs.Calls.{Effect, nothing, writes, effect, effect_of, 
 use Rattle.dds_machine.specs.Watching.{Tests}
 use Rattle.dds_protocol.specs.Dues.{AreTellable, AreSmall, HasSmallChanges, IsPartOf}
 use Rattle.dds_protocol.proofs.DuesGrowth.{SameNames, names_of, is_part_kept}
-use Rattle.dds_protocol.proofs.Growth.{CallStep-readers, TickStep-acknowledged}
+use Rattle.dds_protocol.proofs.Growth.{CallStep-grows, CallStep-readers, TickStep-grows, TickStep-acknowledged}
 use Rattle.dds_machine.proofs.Tables.{length-with_numbered, numbered-map-cases}
 
 -- ---- a call
@@ -33,7 +33,7 @@ call_part config peer tests old call reply new h of =
       count = ap (λ (r : Rtps). length r.writers) h.rtps ∙ effect_count old.rtps (effect_of old call reply);
       names = λ w. ap (λ (rows : List ReaderProxy). names_of rows) (CallStep-readers tests old call reply new h w);
     } in
-    is_part_kept config peer old new same of
+    is_part_kept config peer old new (CallStep-grows tests old call reply new h) same of
 
 -- ---- a tick
 
@@ -51,7 +51,7 @@ tick_part config peer old now reply new h of =
       count = tick_count old now reply new h;
       names = λ w. ap (λ (rows : List ReaderProxy). names_of rows) (TickStep-acknowledged old now reply new h w);
     } in
-    is_part_kept config peer old new same of
+    is_part_kept config peer old new (TickStep-grows old now reply new h) same of
 
 ticked_changes : (now : ℕ) (ws : List Writer) (w : ℕ)
     → writer_changes (numbered (map (ticked now) ws) w no_writer) ≡ writer_changes (numbered ws w no_writer)

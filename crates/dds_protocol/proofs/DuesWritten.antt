@@ -1,5 +1,5 @@
 -- What is due once a submessage was taken up can be written.
-use Rattle.std.proofs.Common.{◌≡◌, ℕ, ◌^◌, ◌<◌, ◌≤◌, max, List, [], ◌∷◌, Option, Some, None, length, subst, ap, sym, ◌∙◌, inl, inr, ⊎_elim, arith}
+use Rattle.std.proofs.Common.{◌≡◌, ℕ, ◌^◌, ◌<◌, ◌≤◌, max, Bool, true, false, List, [], ◌∷◌, Option, Some, None, length, subst, ap, sym, ◌∙◌, inl, inr, ⊎_elim, arith}
 use Rattle.std.specs.List.{All}
 use Rattle.std.proofs.lemmas.List.Elements.{All-cons, All-map, All-nil, All-weaker}
 use Rattle.dds_base.specs.declared.change.Change.{Change}
@@ -7,9 +7,7 @@ use Rattle.dds_base.specs.declared.config.Config.{Config}
 use Rattle.dds_base.specs.declared.guid.EntityId.{EntityId}
 use Rattle.dds_base.specs.declared.guid.GuidPrefix.{GuidPrefix}
 use Rattle.dds_base.specs.Kept.{change_at, is_kept}
-use Rattle.dds_base.proofs.PlaceLaws.{goes_forward}
 use Rattle.rtps_reader.specs.declared.step.AckNackDue.{AckNackDue}
-use Rattle.rtps_reader.specs.Advance.{known}
 use Rattle.rtps_reader.specs.Answer.{AnswersHeartbeat}
 use Rattle.rtps_reader.specs.Tracked.{Tracked, with_heartbeat}
 use Rattle.rtps_sets.specs.NumberSet.{NumberSet}
@@ -26,10 +24,11 @@ use Rattle.rtps_writer.specs.Answers.{IsRight}
 use Rattle.dds_machine.specs.declared.endpoint.Endpoint.{Endpoint}
 use Rattle.dds_machine.specs.declared.reply.Move.{Move}
 use Rattle.dds_machine.specs.Part.{Writer, own_writer, own_reader, writer_changes, history_of}
-use Rattle.dds_machine.specs.Moves.{match_of}
 use Rattle.dds_protocol.specs.Claims.{IsReader, IsWriter, IsToReader, IsToWriter}
 use Rattle.dds_protocol.specs.DueMessages.{Due, answer_message, acknack_message, acknacks_due}
-use Rattle.dds_protocol.specs.Protocol.{State, Goes, TakesHeartbeat, TakesAckNack, ReaderTakes, WriterTakes, AreGrouped}
+use Rattle.dds_base.specs.Matched.{is_reliable_reader}
+use Rattle.dds_protocol.proofs.Ways.{Went, goes_went}
+use Rattle.dds_protocol.specs.Protocol.{State, heard_as, TakesHeartbeat, TakesOrNot, TakesAckNack, ReaderTakes, WriterTakes, AreGrouped}
 use Rattle.dds_protocol.specs.Backed.{reader_at}
 use Rattle.dds_protocol.specs.Dues.{IsTellable, AreTellable, IsSized, AreSmall, HasSmallChanges, CanBeWritten}
 use Rattle.dds_protocol.proofs.DuesAnswers.{IsAskedOf, answers_of, answers_of-right, all_grouped}
@@ -65,13 +64,9 @@ writer_octets config sized prefix entity w is = (
 
 -- a place goes on from 1 or more
 place_low : (old : State) (w : Endpoint) (r : ℕ) (t : Tracked) (moves : List Move) (new : State)
-    → Goes old w r t moves new → 1 ≤ t.place → 1 ≤ (new.known.tracked w r).place
+    → Went old w r t moves new → 1 ≤ t.place → 1 ≤ (new.known.tracked w r).place
 place_low old w r t moves new g low =
-    let forward =
-    goes_forward (known t) (match_of old.part r g.publication)
-    (record { place = t.place; happened = (own_reader old.part r).happened }) g.passed g.to
-    (record { place = g.to; happened = g.happened }) g.advances.goes in
-    let more = forward.0 in
+    let more = g.advances.forward in
     let is : new.known.tracked w r ≡ g.known =
     ap (λ (s : State). s.known.tracked w r) g.after ∙ tracked_here old.known w r g.known in
     let place : (new.known.tracked w r).place ≡ g.to = ap (λ (x : Tracked). x.place) is ∙ g.advances.place in
@@ -104,8 +99,8 @@ heartbeat_written : (c : Coming) (h : HeartbeatBody) (w : Endpoint) (r : ℕ)
     → TakesHeartbeat c.own c.at old w r is.entity h made dues new → All CanBeWritten dues
 heartbeat_written c h w r is sized old made dues new b k =
     let low : 1 ≤ (k.there.known.tracked w r).place =
-    place_low k.heard w r (with_heartbeat h.first_sn h.count (old.known.tracked w r)) k.going k.there k.goes
-    (b.claimed w r).from in
+    place_low k.heard w r (with_heartbeat h.first_sn h.count (old.known.tracked w r)) k.going k.there
+    (goes_went k.heard w r _ k.going k.there k.goes) (b.claimed w r).from in
     subst (λ (ds : List Due). All CanBeWritten ds) (sym k.dues_are)
     (acknack_written c h w r is sized (k.there.known.tracked w r) low k.answer k.answers)
 
@@ -116,8 +111,15 @@ pub reader_written : (c : Coming) (s : Submessage) (r : ℕ) (old : State) (made
 reader_written c (Data d) r old made dues new sized b h = none_written dues (⊎_elim (λ t. t.2.1) (λ n. n.1.1) h)
 reader_written c (Gap g) r old made dues new sized b h = none_written dues (⊎_elim (λ t. t.2.1) (λ n. n.1.1) h)
 reader_written c (Heartbeat x) r old made dues new sized b h =
-    ⊎_elim (λ t. ⊎_elim (λ k. heartbeat_written c x t.0 r t.1 sized old made dues new b k)
-    (λ n. none_written dues n.1.1) t.2) (λ n. none_written dues n.1.1) h
+    ⊎_elim (λ t. by t.0 t.1 (is_reliable_reader t.1.to.end) t.2) (λ n. none_written dues n.1.1) h
+  where
+    by : (w : Endpoint) (is : IsToReader c.config c.own c.at x.reader_id x.writer_id w (reader_at c.peer r))
+        (reliable : Bool) → TakesOrNot c.own c.at old w r is.entity (heard_as reliable x) made dues new
+        → All CanBeWritten dues
+    by w is true (inl k) = heartbeat_written c x w r is sized old made dues new b k
+    by w is true (inr n) = none_written dues n.1.1
+    by w is false (inl k) = heartbeat_written c (heard_as false x) w r is sized old made dues new b k
+    by w is false (inr n) = none_written dues n.1.1
 reader_written c (AckNack a) r old made dues new sized b h = none_written dues h.1
 reader_written c Pad r old made dues new sized b h = none_written dues h.1
 reader_written c (InfoDst x) r old made dues new sized b h = none_written dues h.1

@@ -113,7 +113,7 @@ event_lasts config tests peer before (event.Deliver packet) (Reported report) af
     let g : Gains before.part after.part =
     receives_gains config (claimed config before.delivered packet before.number) before.number packet before.part
     report after.part h.0 in
-    record { grows = g.grows; part = is_part_kept config peer before.part after.part g.same }
+    record { grows = g.grows; part = is_part_kept config peer before.part after.part g.grows g.same }
 event_lasts config tests peer before (event.Deliver packet) reply after h = absurd h
 
 -- ---- what it makes of the network
@@ -170,7 +170,8 @@ steps_stays config tests old peer ev reply new h = record {
 -- a writer that grows has used no fewer counts
 used_more : (old new : Writer) → WriterGrows old new → heartbeats_used old ≤ heartbeats_used new
 used_more old new g =
-    let matched : has_readers new ≡ has_readers old = ap (λ (k : ℕ). nat_lt 0 k) g.readers in
+    let matched : has_readers new ≡ has_readers old =
+    ap (λ (es : List Endpoint). nat_lt 0 (length es)) g.matched in
     let r = counts-more (has_readers old) g.more old.written in
     let is : counts_of (has_readers new) new.written ≡ counts_of (has_readers old) old.written ++ r.0 =
     ap (λ (b : Bool). counts_of b new.written) matched
@@ -285,7 +286,7 @@ announced config peer part (writes writer (Changed change)) P silent told due am
           (prefix_of config to) entity number change;
     })
     (change_silent config (prefix_of config peer) (prefix_of config to) entity number change to))
-    (peers_of (own_writer part writer).readers) due among
+    (peers_of (own_writer part writer).matched) due among
 announced config peer part (writes writer (Asserted moment)) P silent told due among =
     All-contains P (assertions_due config (record { peer = peer; number = writer }) (own_writer part writer)) due
     (told_each config peer part writer P (told writer moment refl)) among

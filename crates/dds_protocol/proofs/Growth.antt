@@ -31,7 +31,7 @@ use Rattle.dds_machine.proofs.Tables.{numbered-cases, numbered-map-cases, append
 
 pub record WriterGrows (old new : Writer) : Type 0 where
   pub policy : new.policy ≡ old.policy
-  pub readers : length new.readers ≡ length old.readers
+  pub matched : new.matched ≡ old.matched
   pub more : List Written
   pub written : new.written ≡ more ++ old.written
 
@@ -41,12 +41,12 @@ pub record Grows (old new : Rtps) : Type 0 where
       → NoLess (place_of (numbered old.readers r []) w) (place_of (numbered new.readers r []) w)
 
 pub writer_same : (w : Writer) → WriterGrows w w
-writer_same w = record { policy = refl; readers = refl; more = []; written = refl }
+writer_same w = record { policy = refl; matched = refl; more = []; written = refl }
 
 pub writer_on : (a b c : Writer) → WriterGrows a b → WriterGrows b c → WriterGrows a c
 writer_on a b c f g = record {
   policy = g.policy ∙ f.policy;
-  readers = g.readers ∙ f.readers;
+  matched = g.matched ∙ f.matched;
   more = g.more ++ f.more;
   written =
       g.written ∙ (ap (λ (xs : List Written). g.more ++ xs) f.written ∙ sym (append_assoc g.more f.more a.written));
@@ -129,9 +129,7 @@ IsMove-grows g old (Acknowledged w r to) new h =
     let after : Writer = record before { readers = with_acknowledged before.readers r to } in
     subst (λ (q : Part). Grows old.rtps q.rtps) (sym h.after) (set_writer-grows old.rtps w after (record {
       policy = refl;
-      readers =
-          length-with_row (λ (p : ReaderProxy). p.reader)
-          (λ (p : ReaderProxy). record p { acknowledged = to }) before.readers r;
+      matched = refl;
       more = [];
       written = refl;
     }))
@@ -156,7 +154,7 @@ pub effect-grows : (old : Rtps) (e : Effect) → Grows old (effect old e)
 effect-grows old nothing = grows_same old
 effect-grows old (writes w entry) =
     set_writer-grows old w (with_written (numbered old.writers w no_writer) entry)
-    (record { policy = refl; readers = refl; more = entry ∷ []; written = refl })
+    (record { policy = refl; matched = refl; more = entry ∷ []; written = refl })
 
 readers_set : (writers : List Writer) (w : ℕ) (after : Writer) → after.readers ≡ (numbered writers w no_writer).readers
     → (k : ℕ) → (numbered (with_numbered writers w after) k no_writer).readers ≡ (numbered writers k no_writer).readers
@@ -186,7 +184,7 @@ CallStep-readers tests old call reply new h k =
 -- what a tick does: each writer's list grows by one entry, and readers, places and acknowledgements stay
 
 ticked-grows : (now : ℕ) (w : Writer) → WriterGrows w (ticked now w)
-ticked-grows now w = record { policy = refl; readers = refl; more = Ticked now (is_behind w) ∷ []; written = refl }
+ticked-grows now w = record { policy = refl; matched = refl; more = Ticked now (is_behind w) ∷ []; written = refl }
 
 all_ticked-grows : (now : ℕ) (old : Rtps) → Grows old (record old { writers = map (ticked now) old.writers })
 all_ticked-grows now old = record {
@@ -334,7 +332,8 @@ numbered-append xs ys (suc n) h = get-append xs ys n h
 pub assertion-grows : (old new : Writer) (count : ℤ) → WriterGrows old new → is_assertion old count ≡ true
     → is_assertion new count ≡ true
 assertion-grows old new (pos n) g h =
-    let matched : has_readers new ≡ has_readers old = ap (λ (k : ℕ). nat_lt 0 k) g.readers in
+    let matched : has_readers new ≡ has_readers old =
+    ap (λ (es : List Endpoint). nat_lt 0 (length es)) g.matched in
     let r = counts-more (has_readers old) g.more old.written in
     let is : counts_of (has_readers new) new.written ≡ counts_of (has_readers old) old.written ++ r.0 =
     ap (λ (b : Bool). counts_of b new.written) matched

@@ -1,5 +1,5 @@
 -- The changes that came at a reader are the first ones of the list of a writer that keeps all.
-use Rattle.std.proofs.Common.{◌≡◌, ℕ, Option, ◌+◌, ◌-◌, ◌≤◌, ◌==◌, Bool, true, false, cond, List, [], ◌∷◌, ◌++◌, Some, None, refl, subst, ap, sym, ◌∙◌, arith, length, slice_get, eq-eqb, eqb-true, append_assoc}
+use Rattle.std.proofs.Common.{◌≡◌, ℕ, Option, ◌+◌, ◌-◌, ◌≤◌, ◌==◌, Bool, true, false, cond, List, [], ◌∷◌, ◌++◌, Some, None, refl, subst, ap, sym, ◌∙◌, arith, length, slice_get, eq-eqb, eqb-true, append_assoc, inl, inr}
 use Rattle.std.specs.Prelude.{if◌then◌else◌, nat_lt}
 use Rattle.std.specs.Option.{option_map}
 use Rattle.std.proofs.lemmas.Option.{same_Some}
@@ -7,7 +7,9 @@ use Rattle.dds_base.specs.declared.change.Change.{Change}
 use Rattle.dds_base.specs.Kept.{change_at}
 use Rattle.dds_machine.specs.declared.endpoint.Endpoint.{Endpoint}
 use Rattle.dds_base.specs.declared.happening.PassedRun.{PassedRun}
-use Rattle.dds_base.specs.Places.{WriterGrounds, Match, Position, coming, AllCome, GoesTo}
+use Rattle.dds_base.specs.declared.qos.ReaderQos.{ReaderQos}
+use Rattle.dds_base.specs.Matched.{is_reliable}
+use Rattle.dds_base.specs.Places.{WriterGrounds, Match, Position, coming, AllCome, GoesTo, MayPassOver}
 use Rattle.dds_machine.specs.Part.{same_endpoint, WriterProxy, row_of, with_row, place_of, publication_from, publication_among}
 use Rattle.dds_protocol.specs.InOrder.{came_from}
 use Rattle.dds_machine.proofs.Tables.{same_is}
@@ -159,13 +161,21 @@ all_along changes g match old (c ∷ cs) new f h a =
     (subst (λ (x : Position). Along changes match.publication x) (sym h.1.after)
     (along_next changes match old c a (f.0 old.place c h.1.is_change)))
 
+-- a reliable reader passes over nothing where nothing was dropped
+pub passes_none : (g : WriterGrounds) (qos : ReaderQos) (n : ℕ) → is_reliable qos.reliability ≡ true
+    → ((k : ℕ) → g.may_pass k → ⊥) → MayPassOver g qos n → ⊥
+passes_none g qos n reliable none (inl h) = none n h
+passes_none g qos n reliable none (inr h) = let other = h.0 in cc
+
 pub goes_along : (changes : List Change) (g : WriterGrounds) (match : Match) (old : Position) (passed : List PassedRun)
-    (to : ℕ) (new : Position) → RestsOn changes g
+    (to : ℕ) (new : Position) → RestsOn changes g → is_reliable match.qos.reliability ≡ true
     → GoesTo g match old passed to new → Along changes match.publication old
     → Along changes match.publication new × (new.place ≡ to)
-goes_along changes g match old [] to new f h a = (all_along changes g match old h.0 new f h.1 a, h.2)
-goes_along changes g match old (run ∷ runs) to new f h a =
-    let ordered = h.3.ordered in absurd (f.1 run.first (h.3.may_pass run.first (omega arith) (omega (arith, ordered))))
+goes_along changes g match old [] to new f reliable h a = (all_along changes g match old h.0 new f h.1 a, h.2)
+goes_along changes g match old (run ∷ runs) to new f reliable h a =
+    let ordered = h.3.ordered in
+    absurd (passes_none g match.qos run.first reliable f.1
+    (h.3.may_pass run.first (omega arith) (omega (arith, ordered))))
 
 -- nothing comes from another writer
 

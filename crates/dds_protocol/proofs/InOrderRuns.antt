@@ -16,7 +16,9 @@ use Rattle.dds_base.specs.declared.happening.Happening.TheVariants.{Read as HasR
 use Rattle.dds_base.specs.declared.happening.SamplePosition.{SamplePosition}
 use Rattle.dds_base.specs.declared.selection.Selection.{Selection}
 use Rattle.dds_base.specs.declared.qos.HistoryQos.TheVariants.{KeepAll}
+use Rattle.dds_base.specs.declared.qos.ReaderQos.{ReaderQos}
 use Rattle.dds_base.specs.Liveliness.{dead_at, with_deaths}
+use Rattle.dds_base.specs.Matched.{is_reliable}
 use Rattle.dds_conditions.specs.declared.condition.Cond.{Cond}
 use Rattle.dds_conditions.specs.Watched.{Watched}
 use Rattle.dds_machine.specs.declared.call.Call.{Call}
@@ -46,6 +48,7 @@ use Rattle.dds_protocol.specs.Opening.{opening_peers, opening_world}
 use Rattle.dds_protocol.specs.Peer.{Peer}
 use Rattle.dds_machine.proofs.Tables.{numbered-cases, numbered-map-cases, numbered-same, length-with_numbered, place-cases, place-hits, place-heard, same_is}
 use Rattle.dds_protocol.proofs.Growth.{CallStep-grows, TickStep-rows, TickStep-readers, TickStep-grows, DeliveryStep-grows, MachineGrows, with_part-grows, writer-changes}
+use Rattle.dds_protocol.proofs.Policies.{IsReliableAt, still_reliable, delivery_qos}
 use Rattle.dds_protocol.proofs.RunLaws.{keeps_all, Step-policy}
 use Rattle.dds_machine.specs.Noticing.{machine_ended}
 use Rattle.dds_protocol.proofs.EndsBeside.{ended_alike, ended_policy, ended_writer}
@@ -128,9 +131,10 @@ moved_here changes old w r publication place rows happened l handle at a =
     }
 
 same_writer : (changes : List Change) (g : Grounds) (old : Part) (w : Endpoint) (r to : ℕ) (passed : List PassedRun)
-    (new : Part) → RestsOn changes (as_to g w r) → Lane changes old w r → (h : Places g old w r to passed new)
+    (new : Part) → RestsOn changes (as_to g w r) → IsReliableAt old r → Lane changes old w r
+    → (h : Places g old w r to passed new)
     → Lane changes (at_reader old r (with_place (own_proxies old r) w to) h.end.happened) w r
-same_writer changes g old w r to passed new f l h =
+same_writer changes g old w r to passed new f reliable l h =
     let rows = with_place (own_proxies old r) w to in
     let same_handle : l.publication ≡ h.publication =
     same_Some l.publication h.publication (sym l.matched.handle ∙ h.matched.handle) in
@@ -140,7 +144,7 @@ same_writer changes g old w r to passed new f l h =
     (ap (λ (x : ℕ). came_from x (own_reader old r).happened) (sym same_handle)) (sym same_place) in
     let end =
     goes_along changes (as_to g w r) (match_of old r h.publication)
-    (position_at old r h.place) passed to h.end f h.goes begins in
+    (position_at old r h.place) passed to h.end f reliable h.goes begins in
     moved_here changes old w r h.publication to rows h.end.happened l
     (publication_kept (λ (p : WriterProxy). record p { place = to }) (λ p. refl) (own_proxies old r) w w
     ∙ h.matched.handle) (place-hits (own_proxies old r) w h.place to h.matched.at)
@@ -166,31 +170,32 @@ other_writer changes g old w v r to passed new f l h =
     (position_at old r h.place) passed to h.end apart h.goes) refl)
 
 either_writer : (changes : List Change) (g : Grounds) (old : Part) (w v : Endpoint) (r to : ℕ) (passed : List PassedRun)
-    (new : Part) (b : Bool) → same_endpoint v w ≡ b → RestsOn changes (as_to g w r) → Lane changes old w r
+    (new : Part) (b : Bool) → same_endpoint v w ≡ b → RestsOn changes (as_to g w r) → IsReliableAt old r
+    → Lane changes old w r
     → (h : Places g old v r to passed new)
     → Lane changes (at_reader old r (with_place (own_proxies old r) v to) h.end.happened) w r
-either_writer changes g old w v r to passed new true e f l h =
+either_writer changes g old w v r to passed new true e f reliable l h =
     subst (λ (x : Endpoint). (k : Places g old x r to passed new)
     → Lane changes (at_reader old r (with_place (own_proxies old r) x to) k.end.happened) w r) (sym (same_is v w e))
-    (λ k. same_writer changes g old w r to passed new f l k) h
-either_writer changes g old w v r to passed new false e f l h =
+    (λ k. same_writer changes g old w r to passed new f reliable l k) h
+either_writer changes g old w v r to passed new false e f reliable l h =
     other_writer changes g old w v r to passed new
     (λ q. let s = ap (λ (x : Endpoint). same_endpoint x w) q in let t = same_self w in cc) l h
 
 lane_here : (changes : List Change) (g : Grounds) (old : Part) (w v : Endpoint) (r to : ℕ) (passed : List PassedRun)
-    (new : Part) → RestsOn changes (as_to g w r) → Lane changes old w r → Places g old v r to passed new
-    → Lane changes new w r
-lane_here changes g old w v r to passed new f l h =
+    (new : Part) → RestsOn changes (as_to g w r) → IsReliableAt old r → Lane changes old w r
+    → Places g old v r to passed new → Lane changes new w r
+lane_here changes g old w v r to passed new f reliable l h =
     subst (λ (x : Part). Lane changes x w r) (sym h.after)
-    (either_writer changes g old w v r to passed new (same_endpoint v w) refl f l h)
+    (either_writer changes g old w v r to passed new (same_endpoint v w) refl f reliable l h)
 
 lane_place : (changes : List Change) (g : Grounds) (old : Part) (w v : Endpoint) (r k to : ℕ) (passed : List PassedRun)
-    (new : Part) (b : Bool) → (k == r) ≡ b → RestsOn changes (as_to g w r) → Lane changes old w r
+    (new : Part) (b : Bool) → (k == r) ≡ b → RestsOn changes (as_to g w r) → IsReliableAt old r → Lane changes old w r
     → Places g old v k to passed new → Lane changes new w r
-lane_place changes g old w v r k to passed new true e f l h =
+lane_place changes g old w v r k to passed new true e f reliable l h =
     subst (λ (j : ℕ). Places g old v j to passed new → Lane changes new w r) (sym (eqb-true k r e))
-    (λ p. lane_here changes g old w v r to passed new f l p) h
-lane_place changes g old w v r k to passed new false e f l h =
+    (λ p. lane_here changes g old w v r to passed new f reliable l p) h
+lane_place changes g old w v r k to passed new false e f reliable l h =
     subst (λ (x : Part). Lane changes x w r) (sym h.after)
     (moved_other changes old w r k (with_place (own_proxies old k) v to) h.end.happened
     (λ q. let s = eq-eqb k r (sym q) in cc) l)
@@ -221,50 +226,63 @@ lane_heard changes g old w v r k new false e l h =
     (WasHeard h.publication old.dds.moment ∷ (own_reader old k).happened) (λ q. let s = eq-eqb k r (sym q) in cc) l)
 
 lane_moves : (changes : List Change) (g : Grounds) (old : Part) (w : Endpoint) (r : ℕ) (ms : List Move) (new : Part)
-    → RestsOn changes (as_to g w r) → Lane changes old w r → AreMoves g old ms new → Lane changes new w r
-lane_moves changes g old w r [] new f l h = subst (λ (x : Part). Lane changes x w r) (sym h) l
-lane_moves changes g old w r (Place v k to passed ∷ ms) new f l h =
-    lane_moves changes g h.0 w r ms new f (lane_place changes g old w v r k to passed h.0 (k == r) refl f l h.1) h.2
-lane_moves changes g old w r (Acknowledged v k to ∷ ms) new f l h =
-    lane_moves changes g h.0 w r ms new f
+    → RestsOn changes (as_to g w r) → IsReliableAt old r → Lane changes old w r → AreMoves g old ms new
+    → Lane changes new w r
+lane_moves changes g old w r [] new f reliable l h = subst (λ (x : Part). Lane changes x w r) (sym h) l
+lane_moves changes g old w r (Place v k to passed ∷ ms) new f reliable l h =
+    lane_moves changes g h.0 w r ms new f (still_reliable g old (Place v k to passed) h.0 r h.1 reliable)
+    (lane_place changes g old w v r k to passed h.0 (k == r) refl f reliable l h.1) h.2
+lane_moves changes g old w r (Acknowledged v k to ∷ ms) new f reliable l h =
+    lane_moves changes g h.0 w r ms new f (still_reliable g old (Acknowledged v k to) h.0 r h.1 reliable)
     (subst (λ (x : Part). Lane changes x w r) (sym h.1.after)
     (lane_as changes old
     (at_writer old v (record (own_writer old v) { readers = with_acknowledged (own_writer old v).readers k to })) w
     r l l.rows l.own refl refl refl)) h.2
-lane_moves changes g old w r (Heard v k ∷ ms) new f l h =
-    lane_moves changes g h.0 w r ms new f (lane_heard changes g old w v r k h.0 (k == r) refl l h.1) h.2
+lane_moves changes g old w r (Heard v k ∷ ms) new f reliable l h =
+    lane_moves changes g h.0 w r ms new f (still_reliable g old (Heard v k) h.0 r h.1 reliable)
+    (lane_heard changes g old w v r k h.0 (k == r) refl l h.1) h.2
 
 lane_delivery : (changes : List Change) (g : Grounds) (old : Part) (w : Endpoint) (r : ℕ) (reply : Reply) (new : Part)
-    → RestsOn changes (as_to g w r) → Lane changes old w r → DeliveryStep g old reply new → Lane changes new w r
-lane_delivery changes g old w r (Reported report) new f l h = lane_moves changes g old w r report.moves new f l h
-lane_delivery changes g old w r reply new f l h = absurd h
+    → RestsOn changes (as_to g w r) → IsReliableAt old r → Lane changes old w r → DeliveryStep g old reply new
+    → Lane changes new w r
+lane_delivery changes g old w r (Reported report) new f reliable l h =
+    lane_moves changes g old w r report.moves new f reliable l h
+lane_delivery changes g old w r reply new f reliable l h = absurd h
 
 -- a call
 
--- the reader of this number has the same changes that came
-abbrev SameCame : Dds → Dds → ℕ → Type 0
+-- the same changes came at the reader of this number, which has the same policies, and there are as many readers
+abbrev pub SameCame : Dds → Dds → ℕ → Type 0
 SameCame old new r =
-    HasNumber new.readers r × ((p : ℕ) → came_from p (numbered new.readers r no_reader).happened
+    (length new.readers ≡ length old.readers)
+    × ((p : ℕ) → came_from p (numbered new.readers r no_reader).happened
     ≡ came_from p (numbered old.readers r no_reader).happened)
+    × ((numbered new.readers r no_reader).qos ≡ (numbered old.readers r no_reader).qos)
 
-same_came : (old new : Dds) (r : ℕ) → HasNumber old.readers r → new ≡ old → SameCame old new r
-same_came old new r h e = (
-  subst (λ (d : Dds). HasNumber d.readers r)
-      (sym e) h,
+same_came : (old new : Dds) (r : ℕ) → new ≡ old → SameCame old new r
+same_came old new r e = (
+  ap (λ (d : Dds). length d.readers) e,
   λ p. ap (λ (d : Dds). came_from p (numbered d.readers r no_reader).happened) e,
+  ap (λ (d : Dds). (numbered d.readers r no_reader).qos) e,
 )
 
--- the reader of number k has changed, but the same changes came at it
-changed_reader : (old : Part) (new : Dds) (k : ℕ) (reader : Reader) (r : ℕ) → HasNumber old.dds.readers r
+-- the reader of number k has changed, but the same changes came at it, and it has the same policies
+changed_reader : (old : Part) (new : Dds) (k : ℕ) (reader : Reader) (r : ℕ)
     → ((p : ℕ) → came_from p reader.happened ≡ came_from p (own_reader old k).happened)
+    → reader.qos ≡ (own_reader old k).qos
     → new ≡ record old.dds { readers = with_numbered old.dds.readers k reader } → SameCame old.dds new r
-changed_reader old new k reader r h same e = (
-  subst (λ (d : Dds). HasNumber d.readers r) (sym e) (has_with old.dds.readers k reader r h),
+changed_reader old new k reader r same policies e = (
+  ap (λ (d : Dds). length d.readers) e ∙ length-with_numbered old.dds.readers k reader,
   λ p.
       ap (λ (d : Dds). came_from p (numbered d.readers r no_reader).happened) e
       ∙ ⊎_elim (λ s. ap (λ (x : Reader). came_from p x.happened) s)
       (λ o. ap (λ (x : Reader). came_from p x.happened) o.1
       ∙ (same p ∙ ap (λ (j : ℕ). came_from p (own_reader old j).happened) (sym o.0)))
+      (numbered-cases old.dds.readers k reader r no_reader),
+  ap (λ (d : Dds). (numbered d.readers r no_reader).qos) e
+      ∙ ⊎_elim (λ s. ap (λ (x : Reader). x.qos) s)
+      (λ o. ap (λ (x : Reader). x.qos) o.1
+      ∙ (policies ∙ ap (λ (j : ℕ). (own_reader old j).qos) (sym o.0)))
       (numbered-cases old.dds.readers k reader r no_reader),
 )
 
@@ -274,119 +292,121 @@ EntersNothingThatCame entry =
     (samples : List SamplePosition) (p : ℕ) (h : List Happening) → came_from p (entry samples ∷ h) ≡ came_from p h
 
 entered : (entry : List SamplePosition → Happening) → EntersNothingThatCame entry
-    → (old : Part) (new : Dds) (k : ℕ) (samples : List SamplePosition) (r : ℕ) → HasNumber old.dds.readers r
+    → (old : Part) (new : Dds) (k : ℕ) (samples : List SamplePosition) (r : ℕ)
     → new ≡ with_happening old k (entry samples) → SameCame old.dds new r
-entered entry same old new k samples r h e =
-    changed_reader old new k (record (own_reader old k) { happened = entry samples ∷ (own_reader old k).happened }) r h
-    (λ p. same samples p (own_reader old k).happened) e
+entered entry same old new k samples r e =
+    changed_reader old new k (record (own_reader old k) { happened = entry samples ∷ (own_reader old k).happened }) r
+    (λ p. same samples p (own_reader old k).happened) refl e
 
-looked : (old : Part) (new : Dds) (k : ℕ) (seen : Seen) (r : ℕ) → HasNumber old.dds.readers r
+looked : (old : Part) (new : Dds) (k : ℕ) (seen : Seen) (r : ℕ)
     → new ≡ after_look old k seen → SameCame old.dds new r
-looked old new k seen r h e = changed_reader old new k (record (own_reader old k) { seen = seen }) r h (λ p. refl) e
+looked old new k seen r e =
+    changed_reader old new k (record (own_reader old k) { seen = seen }) r (λ p. refl) refl e
 
 accessed : (entry : List SamplePosition → Happening) → EntersNothingThatCame entry
     → (test : Test) (old : Part) (k : ℕ) (selection : Selection) (reply : Reply) (new : Dds) (r : ℕ)
-    → HasNumber old.dds.readers r → AnswersAccess entry test old k selection reply new → SameCame old.dds new r
-accessed entry same test old k selection (Samples samples) new r h a = entered entry same old new k _ r h a.3
-accessed entry same test old k selection (Refused code.NoData) new r h a = entered entry same old new k [] r h a.2
-accessed entry same test old k selection (Refused code) new r h a = same_came old.dds new r h a.1
-accessed entry same test old k selection reply new r h a = absurd a
+    → AnswersAccess entry test old k selection reply new → SameCame old.dds new r
+accessed entry same test old k selection (Samples samples) new r a = entered entry same old new k _ r a.3
+accessed entry same test old k selection (Refused code.NoData) new r a = entered entry same old new k [] r a.2
+accessed entry same test old k selection (Refused code) new r a = same_came old.dds new r a.1
+accessed entry same test old k selection reply new r a = absurd a
 
-done_or_not : (refusal : Option Code) (reply : Reply) (old new : Dds) (r : ℕ) → HasNumber old.readers r
+done_or_not : (refusal : Option Code) (reply : Reply) (old new : Dds) (r : ℕ)
     → IsDoneUnless refusal reply old old new → SameCame old new r
-done_or_not refusal Done old new r h a = same_came old new r h a.1
-done_or_not refusal (Refused code) old new r h a = same_came old new r h a.1
-done_or_not refusal reply old new r h a = absurd a
+done_or_not refusal Done old new r a = same_came old new r a.1
+done_or_not refusal (Refused code) old new r a = same_came old new r a.1
+done_or_not refusal reply old new r a = absurd a
 
 -- what is watched is not what came
-watch_came : (old new : Dds) (after : Watched) (r : ℕ) → HasNumber old.readers r → new ≡ record old { watch = after }
+watch_came : (old new : Dds) (after : Watched) (r : ℕ) → new ≡ record old { watch = after }
     → SameCame old new r
-watch_came old new after r h e = (
-  subst (λ (d : Dds). HasNumber d.readers r) (sym e) h,
+watch_came old new after r e = (
+  ap (λ (d : Dds). length d.readers) e,
   λ p. ap (λ (d : Dds). came_from p (numbered d.readers r no_reader).happened) e,
+  ap (λ (d : Dds). (numbered d.readers r no_reader).qos) e,
 )
 
 answered_came : (refusal : Option Code) (answer : Reply) (after : Dds) (old : Part) (reply : Reply) (new : Dds) (r : ℕ)
-    → HasNumber old.dds.readers r → (new ≡ after → SameCame old.dds new r)
+    → (new ≡ after → SameCame old.dds new r)
     → IsAnswered refusal answer after old reply new → SameCame old.dds new r
-answered_came (Some code) answer after old reply new r h came a = same_came old.dds new r h a.1
-answered_came None answer after old reply new r h came a = came a.1
+answered_came (Some code) answer after old reply new r came a = same_came old.dds new r a.1
+answered_came None answer after old reply new r came a = came a.1
 
 watching_came : (refusal : Option Code) (answer : Reply) (after : Watched) (old : Part) (reply : Reply) (new : Dds)
     (r : ℕ)
-    → HasNumber old.dds.readers r → IsAnsweredWatching refusal answer after old reply new → SameCame old.dds new r
-watching_came refusal answer after old reply new r h a =
-    answered_came refusal answer (record old.dds { watch = after }) old reply new r h
-    (watch_came old.dds new after r h) a
+    → IsAnsweredWatching refusal answer after old reply new → SameCame old.dds new r
+watching_came refusal answer after old reply new r a =
+    answered_came refusal answer (record old.dds { watch = after }) old reply new r
+    (watch_came old.dds new after r) a
 
 in_memory_came : (needs : Bool) (refusal : Option Code) (answer : Reply) (after : Watched) (old : Part) (reply : Reply)
     (new : Dds) (r : ℕ)
-    → HasNumber old.dds.readers r → IsAnsweredInMemory needs refusal answer after old reply new → SameCame old.dds new r
-in_memory_came needs refusal answer after old reply new r h (inl a) =
-    watching_came refusal answer after old reply new r h a
-in_memory_came needs refusal answer after old reply new r h (inr a) = same_came old.dds new r h a.3
+    → IsAnsweredInMemory needs refusal answer after old reply new → SameCame old.dds new r
+in_memory_came needs refusal answer after old reply new r (inl a) =
+    watching_came refusal answer after old reply new r a
+in_memory_came needs refusal answer after old reply new r (inr a) = same_came old.dds new r a.3
 
 look_came : (active : List Cond) (timed_out : Bool) (old : Part) (wait_set : ℕ) (reply : Reply) (new : Dds) (r : ℕ)
-    → HasNumber old.dds.readers r → AnswersLook active timed_out old wait_set reply new → SameCame old.dds new r
-look_came [] true old wait_set reply new r h a = watching_came _ _ _ old reply new r h a
-look_came [] false old wait_set reply new r h a = watching_came _ _ _ old reply new r h a
-look_came (c ∷ cs) timed_out old wait_set reply new r h a = in_memory_came _ _ _ _ old reply new r h a
+    → AnswersLook active timed_out old wait_set reply new → SameCame old.dds new r
+look_came [] true old wait_set reply new r a = watching_came _ _ _ old reply new r a
+look_came [] false old wait_set reply new r a = watching_came _ _ _ old reply new r a
+look_came (c ∷ cs) timed_out old wait_set reply new r a = in_memory_came _ _ _ _ old reply new r a
 
 by_condition : (entry : List SamplePosition → Happening) → EntersNothingThatCame entry
     → (refusal : Option Code) (test : Test) (old : Part) (k : ℕ) (selection : Selection) (reply : Reply) (new : Dds)
     (r : ℕ)
-    → HasNumber old.dds.readers r → AnswersByCondition entry refusal test old k selection reply new
+    → AnswersByCondition entry refusal test old k selection reply new
     → SameCame old.dds new r
-by_condition entry same (Some code) test old k selection reply new r h a = same_came old.dds new r h a.1
-by_condition entry same None test old k selection reply new r h a =
-    accessed entry same test old k selection reply new r h a
+by_condition entry same (Some code) test old k selection reply new r a = same_came old.dds new r a.1
+by_condition entry same None test old k selection reply new r a =
+    accessed entry same test old k selection reply new r a
 
-answers_came : (tests : Tests) (old : Part) (c : Call) (reply : Reply) (new : Dds) (r : ℕ) → HasNumber old.dds.readers r
+answers_came : (tests : Tests) (old : Part) (c : Call) (reply : Reply) (new : Dds) (r : ℕ)
     → Answers tests old c reply new → SameCame old.dds new r
-answers_came tests old (Register v key) reply new r h a = in_memory_came _ _ _ _ old reply new r h a
-answers_came tests old (Write v key value) reply new r h a =
-    done_or_not (write_refusal old v key value) reply old.dds new r h a
-answers_came tests old (Dispose v key) reply new r h a = done_or_not (dispose_refusal old v key) reply old.dds new r h a
-answers_came tests old (Unregister v key) reply new r h a =
-    done_or_not (unregister_refusal old v key) reply old.dds new r h a
-answers_came tests old (AssertLiveliness v) reply new r h a =
-    answered_came _ _ old.dds old reply new r h (same_came old.dds new r h) a
-answers_came tests old (Read v selection) reply new r h a =
-    accessed HasRead (λ samples p past. refl) _ old v selection reply new r h a
-answers_came tests old (Take v selection) reply new r h a =
-    accessed Took (λ samples p past. refl) _ old v selection reply new r h a
-answers_came tests old (GetKeyValue v instance) (KeyValue key) new r h a = same_came old.dds new r h a.2
-answers_came tests old (GetKeyValue v instance) (Refused code) new r h a = same_came old.dds new r h a.1
-answers_came tests old (GetKeyValue v instance) reply new r h a = absurd a
-answers_came tests old (LookupInstance v key) reply new r h a =
-    answered_came _ _ old.dds old reply new r h (same_came old.dds new r h) a
-answers_came tests old (GetSampleLost v) reply new r h a =
-    answered_came _ _ _ old reply new r h (looked old new v (seen_lost (own_reader old v)) r h) a
-answers_came tests old (GetLivelinessChanged v) reply new r h a =
-    answered_came _ _ _ old reply new r h (looked old new v (seen_liveliness (own_reader old v)) r h) a
-answers_came tests old (GetLivelinessLost v) reply new r h a =
-    answered_came _ _ old.dds old reply new r h (same_came old.dds new r h) a
-answers_came tests old (ReadByCondition v scope c) reply new r h a =
-    by_condition HasRead (λ samples p past. refl) _ _ old v _ reply new r h a
-answers_came tests old (TakeByCondition v scope c) reply new r h a =
-    by_condition Took (λ samples p past. refl) _ _ old v _ reply new r h a
-answers_came tests old (CreateReadCondition v masks) reply new r h a = in_memory_came _ _ _ _ old reply new r h a
-answers_came tests old (CreateQueryCondition v masks filter) reply new r h a =
-    in_memory_came _ _ _ _ old reply new r h a
-answers_came tests old CreateGuardCondition reply new r h a = in_memory_came _ _ _ _ old reply new r h a
-answers_came tests old (SetTriggerValue c value) reply new r h a = watching_came _ _ _ old reply new r h a
-answers_came tests old (DeleteCondition c) reply new r h a = watching_came _ _ _ old reply new r h a
-answers_came tests old (GetTriggerValue c) reply new r h a = watching_came _ _ _ old reply new r h a
-answers_came tests old CreateWaitSet reply new r h a = in_memory_came _ _ _ _ old reply new r h a
-answers_came tests old (DeleteWaitSet s) reply new r h a = watching_came _ _ _ old reply new r h a
-answers_came tests old (AttachCondition s c) reply new r h a = in_memory_came _ _ _ _ old reply new r h a
-answers_came tests old (DetachCondition s c) reply new r h a = watching_came _ _ _ old reply new r h a
-answers_came tests old (GetConditions s) reply new r h a = in_memory_came _ _ _ _ old reply new r h a
-answers_came tests old (WaitBegin s deadline) reply new r h a = watching_came _ _ _ old reply new r h a
-answers_came tests old (WaitLook s) reply new r h a = look_came _ _ old s reply new r h a
-answers_came tests old (WaitEnd s) reply new r h a = watching_came _ _ _ old reply new r h a
-answers_came tests old (SetEnabledStatuses e mask) reply new r h a = watching_came _ _ _ old reply new r h a
-answers_came tests old (GetStatusChanges e) reply new r h a = watching_came _ _ _ old reply new r h a
+answers_came tests old (Register v key) reply new r a = in_memory_came _ _ _ _ old reply new r a
+answers_came tests old (Write v key value) reply new r a =
+    done_or_not (write_refusal old v key value) reply old.dds new r a
+answers_came tests old (Dispose v key) reply new r a = done_or_not (dispose_refusal old v key) reply old.dds new r a
+answers_came tests old (Unregister v key) reply new r a =
+    done_or_not (unregister_refusal old v key) reply old.dds new r a
+answers_came tests old (AssertLiveliness v) reply new r a =
+    answered_came _ _ old.dds old reply new r (same_came old.dds new r) a
+answers_came tests old (Read v selection) reply new r a =
+    accessed HasRead (λ samples p past. refl) _ old v selection reply new r a
+answers_came tests old (Take v selection) reply new r a =
+    accessed Took (λ samples p past. refl) _ old v selection reply new r a
+answers_came tests old (GetKeyValue v instance) (KeyValue key) new r a = same_came old.dds new r a.2
+answers_came tests old (GetKeyValue v instance) (Refused code) new r a = same_came old.dds new r a.1
+answers_came tests old (GetKeyValue v instance) reply new r a = absurd a
+answers_came tests old (LookupInstance v key) reply new r a =
+    answered_came _ _ old.dds old reply new r (same_came old.dds new r) a
+answers_came tests old (GetSampleLost v) reply new r a =
+    answered_came _ _ _ old reply new r (looked old new v (seen_lost (own_reader old v)) r) a
+answers_came tests old (GetLivelinessChanged v) reply new r a =
+    answered_came _ _ _ old reply new r (looked old new v (seen_liveliness (own_reader old v)) r) a
+answers_came tests old (GetLivelinessLost v) reply new r a =
+    answered_came _ _ old.dds old reply new r (same_came old.dds new r) a
+answers_came tests old (ReadByCondition v scope c) reply new r a =
+    by_condition HasRead (λ samples p past. refl) _ _ old v _ reply new r a
+answers_came tests old (TakeByCondition v scope c) reply new r a =
+    by_condition Took (λ samples p past. refl) _ _ old v _ reply new r a
+answers_came tests old (CreateReadCondition v masks) reply new r a = in_memory_came _ _ _ _ old reply new r a
+answers_came tests old (CreateQueryCondition v masks filter) reply new r a =
+    in_memory_came _ _ _ _ old reply new r a
+answers_came tests old CreateGuardCondition reply new r a = in_memory_came _ _ _ _ old reply new r a
+answers_came tests old (SetTriggerValue c value) reply new r a = watching_came _ _ _ old reply new r a
+answers_came tests old (DeleteCondition c) reply new r a = watching_came _ _ _ old reply new r a
+answers_came tests old (GetTriggerValue c) reply new r a = watching_came _ _ _ old reply new r a
+answers_came tests old CreateWaitSet reply new r a = in_memory_came _ _ _ _ old reply new r a
+answers_came tests old (DeleteWaitSet s) reply new r a = watching_came _ _ _ old reply new r a
+answers_came tests old (AttachCondition s c) reply new r a = in_memory_came _ _ _ _ old reply new r a
+answers_came tests old (DetachCondition s c) reply new r a = watching_came _ _ _ old reply new r a
+answers_came tests old (GetConditions s) reply new r a = in_memory_came _ _ _ _ old reply new r a
+answers_came tests old (WaitBegin s deadline) reply new r a = watching_came _ _ _ old reply new r a
+answers_came tests old (WaitLook s) reply new r a = look_came _ _ old s reply new r a
+answers_came tests old (WaitEnd s) reply new r a = watching_came _ _ _ old reply new r a
+answers_came tests old (SetEnabledStatuses e mask) reply new r a = watching_came _ _ _ old reply new r a
+answers_came tests old (GetStatusChanges e) reply new r a = watching_came _ _ _ old reply new r a
 
 effect_rows : (old : Part) (new : Part) (e : Effect) → new.rtps ≡ effect old.rtps e
     → new.rtps.readers ≡ old.rtps.readers
@@ -407,8 +427,10 @@ lane_call : (changes : List Change) (tests : Tests) (old : Part) (w : Endpoint) 
     (new : Part) → Lane changes old w r → CallStep tests old c reply new → Lane changes new w r
 lane_call changes tests old w r c reply new l h =
     let rows : new.rtps.readers ≡ old.rtps.readers = effect_rows old new (effect_of old c reply) h.rtps in
-    let came = answers_came tests old c reply new.dds r l.own h.answers in
-    lane_same changes old new w r l rows came.0 (came.1 l.publication)
+    let came = answers_came tests old c reply new.dds r h.answers in
+    let count = came.0 in
+    lane_same changes old new w r l rows
+    (subst (λ (n : ℕ). (1 ≤ r) × (r ≤ n)) (sym count) l.own) (came.1 l.publication)
 
 -- a tick: by deaths nothing comes
 
@@ -425,6 +447,19 @@ ticked_came now rs r p =
     ∙ deaths_came now (dead_at old.qos now old.happened) old.happened p)
     (λ n. ap (λ (x : Reader). came_from p x.happened) (n.0 ∙ sym n.1))
     (numbered-map-cases (reader_ticked now) rs r no_reader)
+
+ticked_qos : (now : ℕ) (rs : List Reader) (r : ℕ)
+    → (numbered (map (reader_ticked now) rs) r no_reader).qos ≡ (numbered rs r no_reader).qos
+ticked_qos now rs r =
+    ⊎_elim (λ e. ap (λ (x : Reader). x.qos) e) (λ n. ap (λ (x : Reader). x.qos) (n.0 ∙ sym n.1))
+    (numbered-map-cases (reader_ticked now) rs r no_reader)
+
+tick_qos : (old : Part) (now : ℕ) (reply : Reply) (new : Part) → TickStep old now reply new → (r : ℕ)
+    → (own_reader new r).qos ≡ (own_reader old r).qos
+tick_qos old now Done new h r =
+    ap (λ (x : Part). (own_reader x r).qos) h.1 ∙ ticked_qos now old.dds.readers r
+tick_qos old now (Refused code) new h r = ap (λ (x : Part). (own_reader x r).qos) h.1
+tick_qos old now reply new h r = absurd h
 
 tick_came : (old : Part) (now : ℕ) (reply : Reply) (new : Part) → TickStep old now reply new → (r p : ℕ)
     → came_from p (own_reader new r).happened ≡ came_from p (own_reader old r).happened
@@ -465,20 +500,52 @@ lane_longer changes later part w r l =
 
 record InOrder (m : Machine) (w r : Endpoint) : Type 0 where
   all : (writer_at m w).policy ≡ KeepAll
+  reliable : IsReliableAt (part_at m r.peer) r.number
   lane : Lane (writer_changes (writer_at m w)) (part_at m r.peer) w r.number
 
 rests_on : (m : Machine) (peer : ℕ) (w : Endpoint) (r : ℕ) → (writer_at m w).policy ≡ KeepAll
     → RestsOn (writer_changes (writer_at m w)) (as_to (grounds_of m peer) w r)
 rests_on m peer w r all = (λ n c h. h, λ n h. keeps_all (writer_at m w).policy m w n refl all h)
 
+-- the policies of a reader stay
+reader_qos_at : (m : Machine) (peer : ℕ) (after : Part) (new : Machine) (r : Endpoint)
+    → new ≡ record { parts = with_numbered m.parts peer after }
+    → ((k : ℕ) → (own_reader after k).qos ≡ (own_reader (part_at m peer) k).qos)
+    → (own_reader (part_at new r.peer) r.number).qos ≡ (own_reader (part_at m r.peer) r.number).qos
+reader_qos_at m peer after new r changed same =
+    ap (λ (x : Machine). (own_reader (part_at x r.peer) r.number).qos) changed
+    ∙ ⊎_elim (λ s. ap (λ (x : Part). (own_reader x r.number).qos) s)
+    (λ o. ap (λ (x : Part). (own_reader x r.number).qos) o.1
+    ∙ (same r.number ∙ ap (λ (j : ℕ). (own_reader (part_at m j) r.number).qos) (sym o.0)))
+    (numbered-cases m.parts peer after r.peer no_part)
+
+pub Step-qos : (tests : AllTests) (sent : ℕ) (m : Machine) (ev : WorldEvent) (reply : Reply) (new : Machine)
+    (r : Endpoint) → Step tests sent m ev reply new
+    → (own_reader (part_at new r.peer) r.number).qos ≡ (own_reader (part_at m r.peer) r.number).qos
+Step-qos tests sent m (world.Call peer c) reply new r (inl h) =
+    reader_qos_at m peer h.after new r h.changed
+    (λ k. (answers_came (tests peer) (part_at m peer) c reply h.after.dds k h.step.answers).2)
+Step-qos tests sent m (world.Call peer c) reply new r (inr h) =
+    ap (λ (x : Machine). (own_reader (part_at x r.peer) r.number).qos) h.1.1
+Step-qos tests sent m (world.Tick peer now) reply new r (inl h) =
+    reader_qos_at m peer h.after new r h.changed (tick_qos (part_at m peer) now reply h.after h.step)
+Step-qos tests sent m (world.Tick peer now) reply new r (inr h) =
+    ap (λ (x : Machine). (own_reader (part_at x r.peer) r.number).qos) h.1.1
+Step-qos tests sent m (world.Deliver peer packet) reply new r (inl h) =
+    reader_qos_at m peer h.2.after new r h.2.changed
+    (λ k. delivery_qos (grounds_of m peer) (part_at m peer) reply h.2.after k h.2.step)
+Step-qos tests sent m (world.Deliver peer packet) reply new r (inr h) =
+    ap (λ (x : Machine). (own_reader (part_at x r.peer) r.number).qos) h.1.1
+
 -- one part has changed
 at_peer : (m : Machine) (peer : ℕ) (after : Part) (new : Machine) (w r : Endpoint)
     → new ≡ record { parts = with_numbered m.parts peer after }
     → MachineGrows m (record { parts = with_numbered m.parts peer after })
     → (writer_at new w).policy ≡ (writer_at m w).policy
-    → ((k : ℕ) → Lane (writer_changes (writer_at m w)) (part_at m peer) w k
+    → (own_reader (part_at new r.peer) r.number).qos ≡ (own_reader (part_at m r.peer) r.number).qos
+    → ((k : ℕ) → IsReliableAt (part_at m peer) k → Lane (writer_changes (writer_at m w)) (part_at m peer) w k
     → Lane (writer_changes (writer_at m w)) after w k) → InOrder m w r → InOrder new w r
-at_peer m peer after new w r changed grows policy f o =
+at_peer m peer after new w r changed grows policy qos f o =
     let with : Machine = record { parts = with_numbered m.parts peer after } in
     let longer = writer-changes (writer_at m w) (writer_at with w) (grows.writers w) in
     let written : writer_changes (writer_at new w) ≡ writer_changes (writer_at m w) ++ longer.0 =
@@ -486,10 +553,12 @@ at_peer m peer after new w r changed grows policy f o =
     let lane : Lane (writer_changes (writer_at m w)) (part_at with r.peer) w r.number =
     ⊎_elim (λ s. subst (λ (x : Part). Lane (writer_changes (writer_at m w)) x w r.number) (sym s) o.lane)
     (λ h. subst (λ (x : Part). Lane (writer_changes (writer_at m w)) x w r.number) (sym h.1)
-    (f r.number (subst (λ (j : ℕ). Lane (writer_changes (writer_at m w)) (part_at m j) w r.number) h.0 o.lane)))
+    (f r.number (subst (λ (j : ℕ). IsReliableAt (part_at m j) r.number) h.0 o.reliable)
+    (subst (λ (j : ℕ). Lane (writer_changes (writer_at m w)) (part_at m j) w r.number) h.0 o.lane)))
     (numbered-cases m.parts peer after r.peer no_part) in
     record {
       all = policy ∙ o.all;
+      reliable = ap (λ (q : ReaderQos). is_reliable q.reliability) qos ∙ o.reliable;
       lane = subst (λ (xs : List Change). Lane xs (part_at new r.peer) w r.number) (sym written)
           (subst (λ (x : Machine). Lane (writer_changes (writer_at m w) ++ longer.0) (part_at x r.peer) w r.number)
           (sym changed) (lane_longer (writer_changes (writer_at m w)) longer.0
@@ -502,14 +571,16 @@ step_in_order tests sent m (world.Call peer c) reply new w r (inl h) o =
     at_peer m peer h.after new w r h.changed
     (with_part-grows m peer h.after (CallStep-grows (tests peer) (part_at m peer) c reply h.after h.step))
     (Step-policy w tests sent m (world.Call peer c) reply new (inl h))
-    (λ k l. lane_call (writer_changes (writer_at m w)) (tests peer) (part_at m peer) w k c reply h.after l h.step) o
+    (Step-qos tests sent m (world.Call peer c) reply new r (inl h))
+    (λ k reliable l. lane_call (writer_changes (writer_at m w)) (tests peer) (part_at m peer) w k c reply h.after l h.step) o
 step_in_order tests sent m (world.Call peer c) reply new w r (inr h) o =
     subst (λ (x : Machine). InOrder x w r) (sym h.1.1) o
 step_in_order tests sent m (world.Tick peer now) reply new w r (inl h) o =
     at_peer m peer h.after new w r h.changed
     (with_part-grows m peer h.after (TickStep-grows (part_at m peer) now reply h.after h.step))
     (Step-policy w tests sent m (world.Tick peer now) reply new (inl h))
-    (λ k l. lane_tick (writer_changes (writer_at m w)) (part_at m peer) w k now reply h.after l h.step) o
+    (Step-qos tests sent m (world.Tick peer now) reply new r (inl h))
+    (λ k reliable l. lane_tick (writer_changes (writer_at m w)) (part_at m peer) w k now reply h.after l h.step) o
 step_in_order tests sent m (world.Tick peer now) reply new w r (inr h) o =
     subst (λ (x : Machine). InOrder x w r) (sym h.1.1) o
 step_in_order tests sent m (world.Deliver peer packet) reply new w r (inl h) o =
@@ -517,8 +588,9 @@ step_in_order tests sent m (world.Deliver peer packet) reply new w r (inl h) o =
     (with_part-grows m peer h.2.after
     (DeliveryStep-grows (grounds_of m peer) (part_at m peer) reply h.2.after h.2.step))
     (Step-policy w tests sent m (world.Deliver peer packet) reply new (inl h))
-    (λ k l. lane_delivery (writer_changes (writer_at m w)) (grounds_of m peer) (part_at m peer) w k reply h.2.after
-    (rests_on m peer w k o.all) l h.2.step) o
+    (Step-qos tests sent m (world.Deliver peer packet) reply new r (inl h))
+    (λ k reliable l. lane_delivery (writer_changes (writer_at m w)) (grounds_of m peer) (part_at m peer) w k reply h.2.after
+    (rests_on m peer w k o.all) reliable l h.2.step) o
 step_in_order tests sent m (world.Deliver peer packet) reply new w r (inr h) o =
     subst (λ (x : Machine). InOrder x w r) (sym h.1.1) o
 
@@ -533,6 +605,7 @@ ended_in_order before e m w r o =
     ap (λ (xs : List (List WriterProxy)). numbered xs r.number []) alike.rows in
     record {
       all = ended_policy before e m w ∙ o.all;
+      reliable = ap (λ (q : ReaderQos). is_reliable q.reliability) (alike.qos r.number) ∙ o.reliable;
       lane = subst (λ (changes : List Change). Lane changes new w r.number) (sym (ended_writer before e m w).changes)
           (lane_as (writer_changes (writer_at m w)) old new w r.number o.lane
           (subst (λ (xs : List (List WriterProxy)). HasNumber xs r.number) (sym alike.rows) o.lane.rows)
@@ -684,13 +757,14 @@ lane_opens config w changes peer number =
 
 pub changes_come_in_order : (config : Config) (tests : AllTests) (w r : Endpoint) (events : List WorldEvent)
     (replies : List Reply) (last : ℕ) (after : Machine) → (writer_at (opening config) w).policy ≡ KeepAll
+    → is_reliable (own_reader (part_at (opening config) r.peer) r.number).qos.reliability ≡ true
     → IsSome (place_at (opening config) r w) → Run tests 0 (opening config) events replies last after
     → CameInOrder after w r
-changes_come_in_order config tests w r events replies last after all placed run =
+changes_come_in_order config tests w r events replies last after all reliable placed run =
     let lane = lane_opens config w (writer_changes (writer_at (opening config) w)) r.peer r.number placed in
     let o =
     run_in_order tests (opening config) after events replies 0 last w r run
-    (record { all = all; lane = lane }) in
+    (record { all = all; reliable = reliable; lane = lane }) in
     let l = o.lane in
     record {
       publication = l.publication;

@@ -4,18 +4,14 @@ use Rattle.std.specs.Prelude.{if◌then◌else◌}
 use Rattle.std.proofs.lemmas.Bool.Decides.{nat_tests}
 use Rattle.dds_base.specs.declared.change.Change.{Change}
 use Rattle.dds_base.specs.declared.config.Config.{Config}
-use Rattle.dds_base.specs.declared.happening.Happening.{Happening}
-use Rattle.dds_base.specs.declared.happening.PassedRun.{PassedRun}
-use Rattle.dds_base.specs.Places.{Match}
-use Rattle.dds_base.proofs.PlaceLaws.{goes_forward}
 use Rattle.rtps_sets.specs.NumberSet.{NumberSet}
 use Rattle.rtps_reader.specs.declared.step.AckNackDue.{AckNackDue}
 use Rattle.rtps_reader.specs.Tracked.{Slot, Missing, Held, Irrelevant, Tracked, is_passable_slot, is_open, is_named, with_data, with_gap, with_heartbeat}
-use Rattle.rtps_reader.specs.Advance.{known, Advances}
 use Rattle.rtps_reader.specs.Answer.{answered}
 use Rattle.dds_machine.specs.declared.endpoint.Endpoint.{Endpoint}
 use Rattle.dds_protocol.specs.Claims.{ChangeIs, MayPass, Claimed}
 use Rattle.dds_protocol.specs.Backed.{reader_at, IsClaimed}
+use Rattle.dds_protocol.proofs.Ways.{HasGone}
 
 -- a DATA
 
@@ -106,21 +102,17 @@ heartbeat_claimed config peer packets w r first count t k says = record {
 
 -- the place goes on
 
-pub advanced_claimed : (config : Config) (peer : ℕ) (packets : List (List ℕ)) (w : Endpoint) (r : ℕ) (match : Match)
-    (t : Tracked) (h : List Happening) (to : ℕ) (passed : List PassedRun) (new : Tracked) (after : List Happening)
-    → IsClaimed config peer packets w r t → Advances match t h to passed new after
-    → IsClaimed config peer packets w r new
-advanced_claimed config peer packets w r match t h to passed new after k a =
+pub gone_claimed : (config : Config) (peer : ℕ) (packets : List (List ℕ)) (w : Endpoint) (r : ℕ) (t : Tracked) (to : ℕ)
+    (new : Tracked) → IsClaimed config peer packets w r t → HasGone t to new → IsClaimed config peer packets w r new
+gone_claimed config peer packets w r t to new k a =
     let from = k.from in
     let place = a.place in
-    let forward =
-    goes_forward (known t) match (record { place = t.place; happened = h }) passed to
-    (record { place = to; happened = after }) a.goes in
+    let forward = a.forward in
     record {
-      from = omega (arith, from, place, forward.0);
-      change = λ n d low e. k.change n d (omega (arith, place, forward.0, low)) (sym (a.stays.slots n low) ∙ e);
+      from = omega (arith, from, place, forward);
+      change = λ n d low e. k.change n d (omega (arith, place, forward, low)) (sym (a.stays.slots n low) ∙ e);
       pass = λ n low e.
-          k.pass n (omega (arith, place, forward.0, low))
+          k.pass n (omega (arith, place, forward, low))
           (ap (λ (s : Slot). is_passable_slot t.first n s) (sym (a.stays.slots n low))
           ∙ (ap (λ (f : ℕ). is_passable_slot f n (new.slot n)) (sym a.stays.first) ∙ e));
     }

@@ -2,14 +2,17 @@
 use Rattle.std.proofs.Common.{◌≡◌, ℕ, ℤ, Bool, true, false, List, ap, ◌∙◌}
 use Rattle.dds_base.specs.declared.guid.EntityId.{EntityId}
 use Rattle.dds_base.specs.declared.guid.GuidPrefix.{GuidPrefix}
-use Rattle.rtps_reader.specs.Tracked.{Tracked, with_heartbeat}
+use Rattle.dds_base.specs.declared.happening.Happening.{Happening}
+use Rattle.dds_base.specs.declared.happening.PassedRun.{PassedRun}
+use Rattle.dds_base.specs.Places.{Match}
+use Rattle.rtps_reader.specs.Tracked.{Tracked}
 use Rattle.rtps_reader.specs.Answer.{answered}
 use Rattle.rtps_wire.specs.declared.heartbeat.Heartbeat.{Heartbeat as HeartbeatBody}
 use Rattle.dds_machine.specs.declared.endpoint.Endpoint.{Endpoint}
 use Rattle.dds_machine.specs.declared.reply.Move.{Move}
 use Rattle.dds_protocol.specs.Claims.{Receiver}
 use Rattle.dds_protocol.specs.DueMessages.{Due}
-use Rattle.dds_protocol.specs.Protocol.{Known, State, Goes, Asserting, TakesHeartbeat}
+use Rattle.dds_protocol.specs.Protocol.{Known, State, GoesBy, Asserting, TakesHeartbeat}
 use Rattle.dds_protocol.proofs.Framing.{tracked_here, tracked_elsewhere}
 
 -- of this writer the reader knows this now, and of others what it knew
@@ -18,9 +21,10 @@ pub record Learns (old : State) (w : Endpoint) (r : ℕ) (t : Tracked) (new : St
   pub elsewhere : (v : Endpoint) (k : ℕ) → ((v ≡ w) × (k ≡ r) → ⊥) → new.known.tracked v k ≡ old.known.tracked v k
   pub answered : (v : ℕ) (x : Endpoint) → new.known.answered v x ≡ old.known.answered v x
 
-pub goes_learns : (old : State) (w : Endpoint) (r : ℕ) (t : Tracked) (moves : List Move) (new : State)
-    → (g : Goes old w r t moves new) → Learns old w r g.known new
-goes_learns old w r t moves new g = record {
+pub way_learns : {Way : Match → List Happening → ℕ → List PassedRun → Tracked → List Happening → Type 0}
+    → (old : State) (w : Endpoint) (r : ℕ) (moves : List Move) (new : State)
+    → (g : GoesBy Way old w r moves new) → Learns old w r g.known new
+way_learns old w r moves new g = record {
   here = ap (λ (s : State). s.known.tracked w r) g.after ∙ tracked_here old.known w r g.known;
   elsewhere = λ v k apart.
       ap (λ (s : State). s.known.tracked v k) g.after ∙ tracked_elsewhere old.known w r g.known v k apart;
@@ -50,7 +54,7 @@ heartbeat_learns own at old w r entity h moves dues new k = record {
 }
   where
     gone : Learns k.heard w r k.goes.known k.there
-    gone = goes_learns k.heard w r (with_heartbeat h.first_sn h.count (old.known.tracked w r)) k.going k.there k.goes
+    gone = way_learns k.heard w r k.going k.there k.goes
 
     heard : k.heard.known ≡ old.known
     heard = asserting_known h.liveliness_flag old w r h.count k.hearing k.heard k.asserts

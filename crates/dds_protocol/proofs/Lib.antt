@@ -1,8 +1,10 @@
 pub mod Growth
 pub mod Composed
 pub mod RunLaws
+pub mod Policies
 pub mod InOrder
 pub mod InOrderRuns
+pub mod KeptRuns
 pub mod Opened
 pub mod OpenedPeers
 pub mod Bounded
@@ -14,6 +16,7 @@ mod WorkedPeers
 mod WorkedReceipt
 mod WorkedTicks
 pub mod OwnGuids
+pub mod Ways
 pub mod Knowing
 pub mod Framing
 pub mod Ruled

@@ -1,6 +1,6 @@
 -- All claims are true at the opening: a matched writer and reader have rows on both sides.
 use Rattle.std.specs.Option.{option_map}
-use Rattle.std.proofs.Common.{◌≡◌, ℕ, Option, Some, None, zero, suc, ◌+◌, ◌<◌, ◌≤◌, ◌==◌, ◌⊎◌, Bool, true, false, cond, List, [], ◌∷◌, ◌++◌, refl, subst, ap, sym, ◌∙◌, inl, inr, ⊎_elim, arith, length, get_or, map, eq-eqb, eqb-true, Contains}
+use Rattle.std.proofs.Common.{◌≡◌, ℕ, Option, Some, None, zero, suc, ◌+◌, ◌<◌, ◌≤◌, ◌==◌, ◌⊎◌, ◌&&◌, Bool, true, false, cond, List, [], ◌∷◌, ◌++◌, refl, subst, ap, sym, ◌∙◌, inl, inr, ⊎_elim, arith, length, get_or, map, eq-eqb, eqb-true, Contains}
 use Rattle.dds_base.specs.declared.config.Config.{Config}
 use Rattle.dds_base.specs.declared.config.PeerConfig.{PeerConfig}
 use Rattle.dds_base.specs.declared.config.WriterConfig.{WriterConfig}
@@ -11,8 +11,10 @@ use Rattle.dds_machine.specs.Part.{row_of, NoLess, IsAtMost, same_endpoint, Read
 use Rattle.dds_protocol.specs.Peer.{Peer, Delivery, no_peer}
 use Rattle.dds_machine.specs.Machine.{Machine, part_at, place_at}
 use Rattle.dds_protocol.specs.World.{machine_of, Sound}
+use Rattle.dds_base.specs.Matched.{same_topic, is_reliable_reader}
 use Rattle.dds_base.specs.MatchedAt.{of_readers_in, of_writers_in}
-use Rattle.dds_machine.specs.Opening.{matched_readers, matched_writers, opening, opening_part, opening_writer}
+use Rattle.dds_protocol.proofs.Ways.{both_true}
+use Rattle.dds_machine.specs.Opening.{reliable_readers, matched_writers, opening, opening_part, opening_writer}
 use Rattle.dds_protocol.specs.Opening.{opening_peers, opening_world}
 use Rattle.dds_machine.proofs.Tables.{same_is}
 
@@ -156,7 +158,7 @@ row_hit true peer n rest F f = inr (refl, f refl)
 row_hit false peer n rest F f = inl refl
 
 readers_row : (b : Bool) (topic peer n : ℕ) (x : ReaderConfig) (rs : List ReaderConfig) (ys : List ReaderProxy)
-    (r : Endpoint) → (x.topic == topic) ≡ b
+    (r : Endpoint) → (is_reliable_reader x && same_topic x.topic topic) ≡ b
     → (acknowledged_of (readers_in topic peer (n + 1) rs ++ ys) r ≡ acknowledged_of ys r)
     ⊎ ((acknowledged_of (readers_in topic peer (n + 1) rs ++ ys) r ≡ Some 1) × Found topic peer n (x ∷ rs) r)
     → (acknowledged_of (cond b (begun_reader peer n ∷ readers_in topic peer (n + 1) rs)
@@ -170,8 +172,12 @@ readers_row true topic peer n x rs ys r is h =
     (Found topic peer n (x ∷ rs) r)
     (λ s.
     let e = same_is (record { peer = peer; number = n }) r s in
-    let number : r.number ≡ n = sym (ap (λ (q : Endpoint). q.number) e) in
-    (0, sym (ap (λ (q : Endpoint). q.peer) e), omega (arith, number), eqb-true x.topic topic is)))
+    let number : r.number ≡ n = sym (ap (λ (q : Endpoint). q.number) e) in (
+      0,
+      sym (ap (λ (q : Endpoint). q.peer) e),
+      omega (arith, number),
+      eqb-true x.topic topic (both_true (is_reliable_reader x) (same_topic x.topic topic) is).1,
+    )))
 readers_row false topic peer n x rs ys r is h = h
 
 readers_found : (topic peer n : ℕ) (rs : List ReaderConfig) (ys : List ReaderProxy) (r : Endpoint)
@@ -182,25 +188,25 @@ readers_found topic peer n (x ∷ rs) ys r =
     let h : (acknowledged_of (readers_in topic peer (n + 1) rs ++ ys) r ≡ acknowledged_of ys r)
     ⊎ ((acknowledged_of (readers_in topic peer (n + 1) rs ++ ys) r ≡ Some 1) × Found topic peer (n + 1) rs r) =
     readers_found topic peer (n + 1) rs ys r in
-    readers_row (x.topic == topic) topic peer n x rs ys r refl (⊎_elim (λ e. inl e)
+    readers_row (is_reliable_reader x && same_topic x.topic topic) topic peer n x rs ys r refl (⊎_elim (λ e. inl e)
     (λ f. inr (f.0, found_later topic peer n x rs r f.1)) h)
 
 abbrev FoundIn : ℕ → ℕ → List PeerConfig → Endpoint → Type 0
 FoundIn topic peer ps r = (i : ℕ) × (k : ℕ) × (r.peer ≡ peer + i) × (r.number ≡ 1 + k) × ReaderAt topic ps i k
 
 acknowledged_found : (topic peer : ℕ) (ps : List PeerConfig) (r : Endpoint)
-    → (acknowledged_of (matched_readers topic peer ps) r ≡ None)
-    ⊎ ((acknowledged_of (matched_readers topic peer ps) r ≡ Some 1) × FoundIn topic peer ps r)
+    → (acknowledged_of (reliable_readers topic peer ps) r ≡ None)
+    ⊎ ((acknowledged_of (reliable_readers topic peer ps) r ≡ Some 1) × FoundIn topic peer ps r)
 acknowledged_found topic peer [] r = inl refl
 acknowledged_found topic peer (p ∷ ps) r =
-    let h : (acknowledged_of (matched_readers topic (peer + 1) ps) r ≡ None)
-    ⊎ ((acknowledged_of (matched_readers topic (peer + 1) ps) r ≡ Some 1)
+    let h : (acknowledged_of (reliable_readers topic (peer + 1) ps) r ≡ None)
+    ⊎ ((acknowledged_of (reliable_readers topic (peer + 1) ps) r ≡ Some 1)
     × FoundIn topic (peer + 1) ps r) = acknowledged_found topic (peer + 1) ps r in
     ⊎_elim
     (λ e. ⊎_elim (λ z. inl (e ∙ z))
     (λ f. let here = f.1.2 in inr (e ∙ f.0, (suc f.1.0, f.1.1, omega (arith, here), f.1.3, f.1.4))) h)
     (λ f. let here = f.1.1 in inr (f.0, (0, f.1.0, omega (arith, here), f.1.2, f.1.3)))
-    (readers_found topic peer 1 p.readers (matched_readers topic (peer + 1) ps) r)
+    (readers_found topic peer 1 p.readers (reliable_readers topic (peer + 1) ps) r)
 
 -- the peers of the opening, by their places, counted from 0
 
@@ -219,12 +225,12 @@ opening_delivered peers n (p ∷ ps) (suc i) = opening_delivered peers (n + 1) p
 
 -- a writer's rows are those of its topic, or there is no such writer
 abbrev RowsOf : List PeerConfig → List PeerConfig → ℕ → ℕ → List ReaderProxy → Type 0
-RowsOf peers ps i k rows = (rows ≡ []) ⊎ ((topic : ℕ) × WriterAt topic ps i k × (rows ≡ matched_readers topic 1 peers))
+RowsOf peers ps i k rows = (rows ≡ []) ⊎ ((topic : ℕ) × WriterAt topic ps i k × (rows ≡ reliable_readers topic 1 peers))
 
 own_rows : (peers : List PeerConfig) (ws : List WriterConfig) (k : ℕ)
     → ((get_or (map (opening_writer peers) ws) k no_writer).readers ≡ [])
     ⊎ ((topic : ℕ) × At topic (writer_topics ws) k
-    × ((get_or (map (opening_writer peers) ws) k no_writer).readers ≡ matched_readers topic 1 peers))
+    × ((get_or (map (opening_writer peers) ws) k no_writer).readers ≡ reliable_readers topic 1 peers))
 own_rows peers [] k = inl refl
 own_rows peers (w ∷ ws) zero = inr (w.topic, refl, refl)
 own_rows peers (w ∷ ws) (suc k) = own_rows peers ws k

@@ -19,7 +19,7 @@ use Rattle.rtps_writer.specs.WriterState.{WriterState}
 use Rattle.rtps_writer.proofs.AnswerFacts.{answers-right, answers_after-complete}
 use Rattle.dds_machine.specs.declared.endpoint.Endpoint.{Endpoint}
 use Rattle.dds_protocol.specs.declared.event.Packet.{Packet}
-use Rattle.dds_machine.specs.Part.{ReaderProxy, Writer, no_writer, own_writer, acknowledged_of, writer_changes, history_of}
+use Rattle.dds_machine.specs.Part.{ReaderProxy, Writer, no_writer, own_writer, acknowledged_of, has_readers, writer_changes, history_of}
 use Rattle.dds_protocol.specs.Claims.{IsToReader}
 use Rattle.dds_machine.specs.Machine.{AllTests}
 use Rattle.dds_protocol.specs.Peer.{Peer, state_of}
@@ -33,9 +33,9 @@ use Rattle.dds_protocol.proofs.DuesAcknacks.{ask_body, answer_names}
 use Rattle.dds_protocol.proofs.DuesUnkept.{row_index}
 use Rattle.dds_protocol.proofs.Framing.{number_or_not}
 use Rattle.dds_protocol.proofs.PairAsked.{Asking, Took, has_writer}
-use Rattle.dds_protocol.proofs.PairHeard.{Pairing, writer_prefix, reader_prefix, writer_id, reader_host, writer_host, there, back, for_itself, topic_is, to_reader, reader_ends, delivered_takes, delivered_others}
+use Rattle.dds_protocol.proofs.PairHeard.{Pairing, writer_prefix, reader_prefix, writer_id, reader_host, writer_host, there, back, for_itself, topic_is, to_reader, delivered_takes, delivered_others}
 use Rattle.dds_protocol.proofs.PairMessages.{HasChange, Answered, answers_packet}
-use Rattle.dds_protocol.proofs.PairReader.{standing_of, Seat}
+use Rattle.dds_protocol.proofs.PairReader.{standing_of, Seat, reader_ends}
 use Rattle.dds_machine.specs.declared.event.WorldEvent.{WorldEvent}
 use Rattle.dds_machine.specs.declared.event.WorldEvent.TheVariants as world
 use Rattle.dds_protocol.specs.Noticing.{world_ended}
@@ -140,6 +140,7 @@ all_answered w r from set is places n has low high =
       policy = w.policy;
       max_samples = w.max_samples;
       lease = w.lease;
+      matched = has_readers w;
       written = w.written;
       acknowledged = map (λ (p : ReaderProxy). p.acknowledged) w.readers;
       counts = [];

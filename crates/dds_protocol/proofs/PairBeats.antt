@@ -56,28 +56,36 @@ peer_later x y xs false h = later_in x xs y h
 
 -- a reader that is behind is among those that are
 behind_peer : (n : ℕ) (rows : List ReaderProxy) (r : Endpoint) (a : ℕ) → acknowledged_of rows r ≡ Some a → a ≤ n
-    → Contains (peers_of (filter (λ (p : ReaderProxy). nat_le p.acknowledged n) rows)) r.peer
+    → Contains (peers_of (map (λ (p : ReaderProxy). p.reader)
+    (filter (λ (p : ReaderProxy). nat_le p.acknowledged n) rows))) r.peer
 behind_peer n [] r a h low = cc
 behind_peer n (p ∷ ps) r a h low = by (same_endpoint p.reader r) refl h (λ k. behind_peer n ps r a k low)
   where
+    ends : List ReaderProxy → List Endpoint
+    ends qs = map (λ (q : ReaderProxy). q.reader) qs
+
     rest : List ReaderProxy
     rest = filter (λ (q : ReaderProxy). nat_le q.acknowledged n) ps
 
-    kept : (t : Bool) → Contains (peers_of rest) r.peer → Contains (peers_of (cond t (p ∷ rest) rest)) r.peer
-    kept true k = peer_later p.reader.peer r.peer (peers_of rest) (list_any (λ y. y == p.reader.peer) (peers_of rest)) k
+    kept : (t : Bool) → Contains (peers_of (ends rest)) r.peer
+        → Contains (peers_of (ends (cond t (p ∷ rest) rest))) r.peer
+    kept true k =
+        peer_later p.reader.peer r.peer (peers_of (ends rest))
+        (list_any (λ y. y == p.reader.peer) (peers_of (ends rest))) k
     kept false k = k
 
-    here : p.reader ≡ r → (t : Bool) → t ≡ true → Contains (peers_of (cond t (p ∷ rest) rest)) r.peer
+    here : p.reader ≡ r → (t : Bool) → t ≡ true → Contains (peers_of (ends (cond t (p ∷ rest) rest))) r.peer
     here e true is =
-        subst (λ (x : Endpoint). Contains (peers_of (p ∷ rest)) x.peer) e
-        (peer_first p.reader.peer (peers_of rest) (list_any (λ y. y == p.reader.peer) (peers_of rest)) refl)
+        subst (λ (x : Endpoint). Contains (peers_of (ends (p ∷ rest))) x.peer) e
+        (peer_first p.reader.peer (peers_of (ends rest))
+        (list_any (λ y. y == p.reader.peer) (peers_of (ends rest))) refl)
     here e false is = cc
 
     by : (b : Bool) → same_endpoint p.reader r ≡ b
         → option_map (λ (q : ReaderProxy). q.acknowledged)
         (cond b (Some p) (row_of (λ (q : ReaderProxy). q.reader) ps r)) ≡ Some a
-        → (acknowledged_of ps r ≡ Some a → Contains (peers_of rest) r.peer)
-        → Contains (peers_of (cond (nat_le p.acknowledged n) (p ∷ rest) rest)) r.peer
+        → (acknowledged_of ps r ≡ Some a → Contains (peers_of (ends rest)) r.peer)
+        → Contains (peers_of (ends (cond (nat_le p.acknowledged n) (p ∷ rest) rest))) r.peer
     by true e k later =
         let is = same_Some p.acknowledged a k in
         let small : nat_le p.acknowledged n ≡ true = grind (arith, nat_tests, is, low) in

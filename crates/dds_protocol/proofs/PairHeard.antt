@@ -23,7 +23,7 @@ use Rattle.dds_machine.specs.declared.event.WorldEvent.TheVariants as world
 use Rattle.dds_machine.specs.declared.reply.Reply.{Reply}
 use Rattle.dds_machine.specs.declared.reply.Reply.TheVariants.{Reported}
 use Rattle.dds_machine.specs.Part.{Part}
-use Rattle.dds_protocol.specs.Claims.{Receiver, is_for, every_peer, Names, IsWriter, IsReader, IsToReader}
+use Rattle.dds_protocol.specs.Claims.{Receiver, is_for, every_peer, Names, IsWriter, IsReader, IsToReliable}
 use Rattle.dds_protocol.specs.Receipt.{prefix_of}
 use Rattle.dds_machine.specs.Machine.{AllTests}
 use Rattle.dds_protocol.specs.Peer.{state_of}
@@ -42,7 +42,7 @@ use Rattle.dds_protocol.proofs.DuesMatched.{same_end}
 use Rattle.dds_protocol.proofs.FreshCounts.{IsWrittenOf, steps_stays}
 use Rattle.dds_protocol.proofs.OwnGuids.{prefix-Decides}
 use Rattle.dds_protocol.proofs.PairMessages.{HeardPacket, heartbeat_packet}
-use Rattle.dds_protocol.proofs.PairReader.{Seat}
+use Rattle.dds_protocol.proofs.PairReader.{Seat, reader_ends}
 use Rattle.dds_protocol.proofs.PairTicked.{beat_of, beat_message}
 use Rattle.dds_protocol.proofs.PairTurns.{Host, OfOther}
 
@@ -124,25 +124,20 @@ topic_is p =
 
 -- a submessage of the writer to this reader
 pub to_reader : (p : Pairing) (id : EntityId) → Names id p.pair.reader_entity
-    → IsToReader p.config (reader_prefix p) (there p) id (writer_id p) p.writer p.reader
+    → IsToReliable p.config (reader_prefix p) (there p) id (writer_id p) p.writer p.reader
 to_reader p id named = record {
-  from = p.name;
-  is_for = for_itself (reader_prefix p) (writer_prefix p);
-  entity = p.pair.reader_entity;
-  to = p.pair.is_reader;
-  named = named;
-  matched = topic_is p;
+  is_to = record {
+    from = p.name;
+    is_for = for_itself (reader_prefix p) (writer_prefix p);
+    entity = p.pair.reader_entity;
+    to = p.pair.is_reader;
+    named = named;
+    matched = topic_is p;
+  };
+  reliable = p.pair.reliable;
 }
 
--- two names of one reader are told of one entry, and have one entity id
-pub reader_ends : (config : Config) (p q : GuidPrefix) (d e : EntityId) (r : Endpoint) (x : IsReader config p d r)
-    (y : IsReader config q e r) → x.end ≡ y.end
-reader_ends config p q d e r x y =
-    let peer : x.peer ≡ y.peer = same_Some x.peer y.peer (sym x.at_peer.1 ∙ y.at_peer.1) in
-    let within : slice_get y.peer.readers (r.number - 1) ≡ Some x.end =
-    subst (λ (z : PeerConfig). slice_get z.readers (r.number - 1) ≡ Some x.end) peer x.at_reader.1 in
-    same_Some x.end y.end (sym within ∙ y.at_reader.1)
-
+-- two names of one reader have one entity id
 pub reader_entities : (config : Config) (p q : GuidPrefix) (d e : EntityId) (r : Endpoint) (x : IsReader config p d r)
     (y : IsReader config q e r) → d ≡ e
 reader_entities config p q d e r x y =

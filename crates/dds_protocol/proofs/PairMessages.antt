@@ -24,7 +24,7 @@ use Rattle.dds_machine.specs.declared.endpoint.Endpoint.{Endpoint}
 use Rattle.dds_machine.specs.declared.reply.Move.{Move}
 use Rattle.dds_machine.specs.declared.reply.Report.{Report}
 use Rattle.dds_machine.specs.Part.{own_writer}
-use Rattle.dds_protocol.specs.Claims.{Receiver, receiver_of, after_submessage, is_for, stamp_of, IsToReader}
+use Rattle.dds_protocol.specs.Claims.{Receiver, receiver_of, after_submessage, is_for, stamp_of, IsToReliable}
 use Rattle.dds_protocol.specs.Receipt.{prefix_of}
 use Rattle.dds_protocol.specs.DueMessages.{Due, data_of, submessages_of, answer_message}
 use Rattle.dds_protocol.specs.Protocol.{State, InTurn, ReaderTakes, is_taken_up, Takes, FollowsMessage, TakesPacket}
@@ -49,7 +49,7 @@ pub record HeardPacket (c : Host) (at : Receiver) (h : HeartbeatBody) (m : Match
 
 pub heartbeat_packet : (c : Host) → c.own ≡ prefix_of c.config c.peer
     → (from to : GuidPrefix) (h : HeartbeatBody) (m : Match) (w : Endpoint) (r : ℕ)
-    → h.liveliness_flag ≡ false → IsToReader c.config c.own (addressed from to) h.reader_id h.writer_id w
+    → h.liveliness_flag ≡ false → IsToReliable c.config c.own (addressed from to) h.reader_id h.writer_id w
     (reader_at c.peer r)
     → (old : State) (report : Report) (dues : List Due) (new : State) → Seat m w r old
     → is_later (old.known.tracked w r).count h.count ≡ true
@@ -149,7 +149,7 @@ turn_at c at s m w r old made dues new seat h =
 
 -- a DATA is taken as the answer to its number
 data_answers : (c : Host) (at : Receiver) (d : DataBody) (m : Match) (w : Endpoint) (r : ℕ)
-    → IsToReader c.config c.own at d.reader_id d.writer_id w (reader_at c.peer r)
+    → IsToReliable c.config c.own at d.reader_id d.writer_id w (reader_at c.peer r)
     → (old : State) (made : List Move) (dues : List Due) (mid : State) → Seat m w r old
     → Takes c.config c.own c.peer at (Data d) old made dues mid
     → MovesBy m w r (with_data d.writer_sn (change_in d.content at.timestamp)) old mid × Keeps old mid
@@ -164,7 +164,7 @@ data_answers c at d m w r to old made dues mid s h =
     )
 
 gap_answers : (c : Host) (at : Receiver) (g : GapBody) (m : Match) (w : Endpoint) (r : ℕ)
-    → IsToReader c.config c.own at g.reader_id g.writer_id w (reader_at c.peer r)
+    → IsToReliable c.config c.own at g.reader_id g.writer_id w (reader_at c.peer r)
     → (old : State) (made : List Move) (dues : List Due) (mid : State) → Seat m w r old
     → Takes c.config c.own c.peer at (Gap g) old made dues mid
     → MovesBy m w r (with_gap g.gap_start g.gap_list) old mid × Keeps old mid
@@ -180,20 +180,23 @@ gap_answers c at g m w r to old made dues mid s h =
 
 -- an INFO_TS changes nothing of whom a submessage is for
 to_stamped : (c : Host) (at : Receiver) (reader writer : EntityId) (w x : Endpoint) (stamp : Option ℕ)
-    → IsToReader c.config c.own at reader writer w x
-    → IsToReader c.config c.own (after_submessage c.own at (InfoTs stamp)) reader writer w x
+    → IsToReliable c.config c.own at reader writer w x
+    → IsToReliable c.config c.own (after_submessage c.own at (InfoTs stamp)) reader writer w x
 to_stamped c at reader writer w x stamp to = by (is_for at c.own)
   where
-    by : (b : Bool) → IsToReader c.config c.own
+    by : (b : Bool) → IsToReliable c.config c.own
         (if b then record at { timestamp = stamp_of stamp } else at) reader writer w x
     by true =
         record {
-          from = to.from;
-          is_for = to.is_for;
-          entity = to.entity;
-          to = to.to;
-          named = to.named;
-          matched = to.matched;
+          is_to = record {
+            from = to.is_to.from;
+            is_for = to.is_to.is_for;
+            entity = to.is_to.entity;
+            to = to.is_to.to;
+            named = to.is_to.named;
+            matched = to.is_to.matched;
+          };
+          reliable = to.reliable;
         }
     by false = to
 
@@ -204,7 +207,7 @@ all_of changes reader writer answers = flat_map (submessages_of changes reader w
 abbrev TakesRest : Host → List Change → EntityId → EntityId → Match → Endpoint → ℕ → List Answer → Type 0
 TakesRest c changes reader writer m w r answers =
     (index : ℕ) (at : Receiver) (old : State) (moves : List Move) (dues : List Due) (new : State)
-    → IsToReader c.config c.own at reader writer w (reader_at c.peer r) → Seat m w r old
+    → IsToReliable c.config c.own at reader writer w (reader_at c.peer r) → Seat m w r old
     → FollowsMessage c.config c.own c.peer index at (all_of changes reader writer answers) old moves None dues new
     → Answered m w r answers old new
 
@@ -212,7 +215,7 @@ take_data : (c : Host) (changes : List Change) (reader writer : EntityId) (m : M
     (rest : List Answer) (change : Change) (o : Option Change) → o ≡ Some change
     → TakesRest c changes reader writer m w r rest
     → (index : ℕ) (at : Receiver) (old : State) (moves : List Move) (dues : List Due) (new : State)
-    → IsToReader c.config c.own at reader writer w (reader_at c.peer r) → Seat m w r old
+    → IsToReliable c.config c.own at reader writer w (reader_at c.peer r) → Seat m w r old
     → FollowsMessage c.config c.own c.peer index at
     (data_of reader writer n o ++ all_of changes reader writer rest) old moves None dues new
     → Answered m w r (AnswersData n ∷ rest) old new
@@ -221,7 +224,7 @@ take_data c changes reader writer m w r n rest change (Some x) is later index at
     let stamp : Option ℕ = Some x.source_timestamp in
     let at' : Receiver = after_submessage c.own at (InfoTs stamp) in
     let body : DataBody = record { reader_id = reader; writer_id = writer; writer_sn = n; content = content_of x } in
-    let to' : IsToReader c.config c.own at' reader writer w (reader_at c.peer r) =
+    let to' : IsToReliable c.config c.own at' reader writer w (reader_at c.peer r) =
     to_stamped c at reader writer w (reader_at c.peer r) stamp to in
     let on : FollowsOn c.config c.own c.peer (index + 1) at'
     (Data body ∷ all_of changes reader writer rest) old dues new =
@@ -237,7 +240,7 @@ take_data c changes reader writer m w r n rest change (Some x) is later index at
 take_gap : (c : Host) (changes : List Change) (reader writer : EntityId) (m : Match) (w : Endpoint) (r first last : ℕ)
     (rest : List Answer) → TakesRest c changes reader writer m w r rest
     → (index : ℕ) (at : Receiver) (old : State) (moves : List Move) (dues : List Due) (new : State)
-    → IsToReader c.config c.own at reader writer w (reader_at c.peer r) → Seat m w r old
+    → IsToReliable c.config c.own at reader writer w (reader_at c.peer r) → Seat m w r old
     → FollowsMessage c.config c.own c.peer index at
     (all_of changes reader writer (AnswersGap first last ∷ rest)) old moves None dues new
     → Answered m w r (AnswersGap first last ∷ rest) old new
@@ -269,7 +272,7 @@ takes_answers c changes reader writer m w r (AnswersGap first last ∷ rest) all
 pub answers_packet : (c : Host) → c.own ≡ prefix_of c.config c.peer
     → (from to : GuidPrefix) (reader writer : EntityId) (changes : List Change) (answers : List Answer) (m : Match)
     (w : Endpoint) (r : ℕ)
-    → IsToReader c.config c.own (addressed from to) reader writer w (reader_at c.peer r)
+    → IsToReliable c.config c.own (addressed from to) reader writer w (reader_at c.peer r)
     → All (HasChange changes) answers
     → (old : State) (report : Report) (dues : List Due) (new : State) → Seat m w r old
     → IsWritable (answer_message from to reader writer changes answers) → report.refused ≡ None

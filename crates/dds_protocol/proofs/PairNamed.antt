@@ -1,11 +1,11 @@
 -- A writer of a network and a reader that has a row at it are a pair of the configuration.
-use Rattle.std.proofs.Common.{◌≡◌, ℕ, suc, ◌+◌, ◌-◌, ◌≤◌, Bool, true, false, cond, List, [], ◌∷◌, Some, Contains, map, slice_get, refl, subst, ap, sym, ◌∙◌, ⊎_elim, arith, eqb-true}
+use Rattle.std.proofs.Common.{◌≡◌, ℕ, suc, ◌+◌, ◌-◌, ◌≤◌, Bool, true, false, ◌&&◌, cond, List, [], ◌∷◌, Some, Contains, map, slice_get, refl, subst, ap, sym, ◌∙◌, ⊎_elim, arith, eqb-true}
 use Rattle.std.specs.Option.{option_map}
 use Rattle.std.proofs.lemmas.List.Elements.{Contains-append_cases}
 use Rattle.dds_base.specs.declared.config.Config.{Config}
 use Rattle.dds_base.specs.declared.config.PeerConfig.{PeerConfig}
 use Rattle.dds_base.specs.declared.config.ReaderConfig.{ReaderConfig}
-use Rattle.dds_base.specs.Matched.{same_topic}
+use Rattle.dds_base.specs.Matched.{is_reliable_reader, same_topic}
 use Rattle.dds_machine.specs.declared.endpoint.Endpoint.{Endpoint}
 use Rattle.dds_machine.specs.Part.{Part, ReaderProxy, same_endpoint, row_of, own_writer, acknowledged_of}
 use Rattle.dds_protocol.specs.DueMessages.{writer_entity}
@@ -15,6 +15,7 @@ use Rattle.dds_protocol.proofs.Composed.{front_or_rest, later_in}
 use Rattle.dds_protocol.proofs.DuesMatched.{OwnName, name_at, names_in, names, own_name}
 use Rattle.dds_protocol.proofs.PairAsked.{has_writer}
 use Rattle.dds_protocol.proofs.RuledPackets.{numbered_is}
+use Rattle.dds_protocol.proofs.Ways.{both_true}
 use Rattle.dds_machine.proofs.Tables.{same_is}
 
 -- ---- rows
@@ -37,13 +38,14 @@ named_row (p ∷ ps) r a h = by (same_endpoint p.reader r) refl h (λ k. named_r
 
 -- ---- the readers of a topic
 
--- an end of this topic, at this number of these
+-- a reliable end of this topic, at this number of these
 record IsEnd (topic peer n : ℕ) (rs : List ReaderConfig) (x : Endpoint) : Type 0 where
   index : ℕ
   end : ReaderConfig
   at : slice_get rs index ≡ Some end
   is : name_at peer (n + index) ≡ x
   of : end.topic ≡ topic
+  reliable : is_reliable_reader end ≡ true
 
 later_end : (topic peer n : ℕ) (r : ReaderConfig) (rs : List ReaderConfig) (x : Endpoint)
     → IsEnd topic peer (n + 1) rs x
@@ -51,30 +53,39 @@ later_end : (topic peer n : ℕ) (r : ReaderConfig) (rs : List ReaderConfig) (x 
 later_end topic peer n r rs x e =
     let k = e.index in
     let over : n + suc k ≡ n + 1 + k = omega arith in
-    record { index = suc e.index; end = e.end; at = e.at; is = ap (λ (m : ℕ). name_at peer m) over ∙ e.is; of = e.of }
+    record {
+      index = suc e.index;
+      end = e.end;
+      at = e.at;
+      is = ap (λ (m : ℕ). name_at peer m) over ∙ e.is;
+      of = e.of;
+      reliable = e.reliable;
+    }
 
 an_end : (topic peer n : ℕ) (rs : List ReaderConfig) (x : Endpoint) → Contains (names_in topic peer n rs) x
     → IsEnd topic peer n rs x
 an_end topic peer n [] x h = let lt = h.1 in absurd (omega (arith, lt))
 an_end topic peer n (r ∷ rs) x h =
-    by (same_topic r.topic topic) refl h (λ k. later_end topic peer n r rs x (an_end topic peer (n + 1) rs x k))
+    by (is_reliable_reader r && same_topic r.topic topic) refl h (λ k. later_end topic peer n r rs x (an_end topic peer (n + 1) rs x k))
   where
     rest : List Endpoint
     rest = names_in topic peer (n + 1) rs
 
-    by : (b : Bool) → same_topic r.topic topic ≡ b → Contains (cond b (name_at peer n ∷ rest) rest) x
+    by : (b : Bool) → (is_reliable_reader r && same_topic r.topic topic) ≡ b → Contains (cond b (name_at peer n ∷ rest) rest) x
         → (Contains rest x → IsEnd topic peer n (r ∷ rs) x) → IsEnd topic peer n (r ∷ rs) x
     by true e k later =
         ⊎_elim
         (λ (first : name_at peer n ≡ x).
         let here : n + 0 ≡ n = omega arith in
+        let both = both_true (is_reliable_reader r) (same_topic r.topic topic) e in
         record {
           index = 0;
           end = r;
           at = refl;
           is = ap (λ (m : ℕ). name_at peer m) here
               ∙ first;
-          of = eqb-true r.topic topic e;
+          of = eqb-true r.topic topic both.1;
+          reliable = both.0;
         })
         (λ more. later more) (front_or_rest (name_at peer n) rest x k.0 k.1 k.2)
     by false e k later = later k
@@ -141,6 +152,7 @@ pair_named config writer reader part a of row =
           same_entity = refl;
         };
         matched = sym found.end.of;
+        reliable = found.end.reliable;
       };
       writer_is = refl;
     }

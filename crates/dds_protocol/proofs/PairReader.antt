@@ -1,8 +1,14 @@
 -- What a reader does with the submessages of one of its matched writers: its place goes on as far as it can.
-use Rattle.std.proofs.Common.{◌≡◌, ℕ, ℤ, Bool, true, false, List, Option, Some, length, subst, ap, sym, ◌∙◌, inl, inr, ⊎_elim, arith}
+use Rattle.std.proofs.Common.{◌≡◌, ℕ, ℤ, ◌-◌, Bool, true, false, List, Option, Some, length, slice_get, subst, ap, sym, ◌∙◌, inl, inr, ⊎_elim, arith}
 use Rattle.std.proofs.lemmas.Option.{same_Some}
 use Rattle.dds_base.specs.declared.happening.Happening.{Happening}
 use Rattle.dds_base.specs.declared.qos.ReaderQos.{ReaderQos}
+use Rattle.dds_base.specs.declared.config.Config.{Config}
+use Rattle.dds_base.specs.declared.config.PeerConfig.{PeerConfig}
+use Rattle.dds_base.specs.declared.config.ReaderConfig.{ReaderConfig}
+use Rattle.dds_base.specs.declared.guid.EntityId.{EntityId}
+use Rattle.dds_base.specs.declared.guid.GuidPrefix.{GuidPrefix}
+use Rattle.dds_base.specs.Matched.{is_reliable_reader}
 use Rattle.dds_base.specs.Places.{Match}
 use Rattle.dds_base.specs.Counts.{is_later}
 use Rattle.rtps_reader.specs.declared.step.AckNackDue.{AckNackDue}
@@ -19,18 +25,19 @@ use Rattle.dds_machine.specs.declared.reply.Move.{Move}
 use Rattle.dds_machine.specs.Numbered.{HasNumber}
 use Rattle.dds_machine.specs.Part.{Part, Reader, WriterProxy, no_reader, own_proxies, own_reader, place_of, publication_among}
 use Rattle.dds_machine.specs.Moves.{match_of}
-use Rattle.dds_protocol.specs.Claims.{Receiver, IsToReader}
+use Rattle.dds_protocol.specs.Claims.{Receiver, IsReader, IsToReader, IsToReliable}
 use Rattle.dds_protocol.specs.DueMessages.{Due, acknacks_due}
-use Rattle.dds_protocol.specs.Protocol.{State, Goes, Asserting, TakesHeartbeat, ReaderTakes}
+use Rattle.dds_protocol.specs.Protocol.{State, Goes, TakesChange, TakesGap, heard_as, Asserting, TakesHeartbeat, TakesOrNot, ReaderTakes}
 use Rattle.dds_protocol.specs.Backed.{reader_at}
 use Rattle.dds_protocol.specs.CatchUp.{Standing, GoesOn}
 use Rattle.dds_protocol.proofs.DuesAcknacks.{goes_there}
 use Rattle.dds_protocol.proofs.Framing.{tracked_here}
 use Rattle.dds_protocol.proofs.Knowing.{answered_same}
-use Rattle.dds_protocol.proofs.Learning.{goes_learns}
+use Rattle.dds_protocol.proofs.Learning.{way_learns}
 use Rattle.dds_protocol.proofs.OwnGuids.{one_writer}
 use Rattle.dds_protocol.proofs.PairTurns.{Host, Keeps}
-use Rattle.dds_protocol.proofs.Ruled.{goes_frames}
+use Rattle.dds_protocol.proofs.Ruled.{way_frames}
+use Rattle.dds_protocol.proofs.Ways.{goes_went}
 use Rattle.dds_protocol.proofs.RuledTurns.{SameAt}
 use Rattle.dds_machine.proofs.Tables.{numbered-same, length-with_numbered}
 
@@ -90,15 +97,15 @@ pub goes_by : (m : Match) (w : Endpoint) (r : ℕ) (mark : Tracked → Tracked) 
     (new : State) → Seat m w r old → Goes old w r (mark (old.known.tracked w r)) moves new → MovesBy m w r mark old new
 goes_by m w r mark old moves new s g = record {
   seat = record {
-    rows = has_as old.part.rtps.readers new.part.rtps.readers r (goes_frames old w r t moves new g).count s.rows;
+    rows = has_as old.part.rtps.readers new.part.rtps.readers r (way_frames old w r moves new g).count s.rows;
     there = has_as old.part.dds.readers new.part.dds.readers r
         (ap (λ (x : State). length x.part.dds.readers) g.after
         ∙ length-with_numbered old.part.dds.readers r (record (own_reader old.part r) { happened = g.happened }))
         s.there;
-    handle = (goes_frames old w r t moves new g).handles w ∙ s.handle;
+    handle = (way_frames old w r moves new g).handles w ∙ s.handle;
     qos = ap (λ (x : Reader). x.qos) reader ∙ s.qos;
-    moment = (goes_frames old w r t moves new g).moment ∙ s.moment;
-    place = goes_there old w r t moves new g;
+    moment = (way_frames old w r moves new g).moment ∙ s.moment;
+    place = goes_there old w r t moves new (goes_went old w r t moves new g);
   };
   goes = (
     g.to,
@@ -106,7 +113,7 @@ goes_by m w r mark old moves new s g = record {
     subst (λ (h : List Happening). Advances m t (own_reader old.part r).happened g.to g.passed
         (new.known.tracked w r) h) (sym (ap (λ (x : Reader). x.happened) reader))
         (subst (λ (x : Tracked). Advances m t (own_reader old.part r).happened g.to g.passed x g.happened)
-        (sym (goes_learns old w r t moves new g).here)
+        (sym (way_learns old w r moves new g).here)
         (subst (λ (x : Match). Advances x t (own_reader old.part r).happened g.to g.passed g.known g.happened) match
         g.advances)),
   );
@@ -147,29 +154,52 @@ moves_between m w r mark old before after new first last k s h = record {
 
 -- ---- a DATA, or a GAP
 
+-- two names of one reader are told of one entry
+pub reader_ends : (config : Config) (p q : GuidPrefix) (d e : EntityId) (r : Endpoint) (x : IsReader config p d r)
+    (y : IsReader config q e r) → x.end ≡ y.end
+reader_ends config p q d e r x y =
+    let peer : x.peer ≡ y.peer = same_Some x.peer y.peer (sym x.at_peer.1 ∙ y.at_peer.1) in
+    let within : slice_get y.peer.readers (r.number - 1) ≡ Some x.end =
+    subst (λ (z : PeerConfig). slice_get z.readers (r.number - 1) ≡ Some x.end) peer x.at_reader.1 in
+    same_Some x.end y.end (sym within ∙ y.at_reader.1)
+
+-- so it is reliable by any of its names, where it is by one
+reliable_too : (c : Host) (at : Receiver) (reader_id writer_id : EntityId) (w v x : Endpoint)
+    → IsToReliable c.config c.own at reader_id writer_id w x
+    → (is : IsToReader c.config c.own at reader_id writer_id v x) → is_reliable_reader is.to.end ≡ true
+reliable_too c at reader_id writer_id w v x to is =
+    ap (λ (e : ReaderConfig). is_reliable_reader e)
+    (reader_ends c.config c.own c.own is.entity to.is_to.entity x is.to to.is_to.to) ∙ to.reliable
+
 pub data_moves : (c : Host) (at : Receiver) (d : DataBody) (m : Match) (w : Endpoint) (r : ℕ)
-    → IsToReader c.config c.own at d.reader_id d.writer_id w (reader_at c.peer r)
+    → IsToReliable c.config c.own at d.reader_id d.writer_id w (reader_at c.peer r)
     → (old : State) (moves : List Move) (dues : List Due) (new : State) → Seat m w r old
     → ReaderTakes c.config c.own c.peer at (Data d) r old moves dues new
     → MovesBy m w r (with_data d.writer_sn (change_in d.content at.timestamp)) old new
 data_moves c at d m w r to old moves dues new s (inl h) =
-    let same : h.0 ≡ w = one_writer c.config at.source_guid_prefix d.writer_id h.0 w c.checked h.1.from to.from in
+    let same : h.0 ≡ w =
+    one_writer c.config at.source_guid_prefix d.writer_id h.0 w c.checked h.1.from to.is_to.from in
+    let reliable = reliable_too c at d.reader_id d.writer_id w h.0 (reader_at c.peer r) to h.1 in
     goes_by m w r (with_data d.writer_sn (change_in d.content at.timestamp)) old moves new s
     (subst (λ (x : Endpoint). Goes old x r
-    (with_data d.writer_sn (change_in d.content at.timestamp) (old.known.tracked x r)) moves new) same h.2.0)
-data_moves c at d m w r to old moves dues new s (inr h) = absurd (h.0 w to)
+    (with_data d.writer_sn (change_in d.content at.timestamp) (old.known.tracked x r)) moves new) same
+    (subst (λ (b : Bool). TakesChange b old h.0 r d.writer_sn (change_in d.content at.timestamp) moves new) reliable
+    h.2.0))
+data_moves c at d m w r to old moves dues new s (inr h) = absurd (h.0 w to.is_to)
 
 pub gap_moves : (c : Host) (at : Receiver) (g : GapBody) (m : Match) (w : Endpoint) (r : ℕ)
-    → IsToReader c.config c.own at g.reader_id g.writer_id w (reader_at c.peer r)
+    → IsToReliable c.config c.own at g.reader_id g.writer_id w (reader_at c.peer r)
     → (old : State) (moves : List Move) (dues : List Due) (new : State) → Seat m w r old
     → ReaderTakes c.config c.own c.peer at (Gap g) r old moves dues new
     → MovesBy m w r (with_gap g.gap_start g.gap_list) old new
 gap_moves c at g m w r to old moves dues new s (inl h) =
-    let same : h.0 ≡ w = one_writer c.config at.source_guid_prefix g.writer_id h.0 w c.checked h.1.from to.from in
+    let same : h.0 ≡ w =
+    one_writer c.config at.source_guid_prefix g.writer_id h.0 w c.checked h.1.from to.is_to.from in
+    let reliable = reliable_too c at g.reader_id g.writer_id w h.0 (reader_at c.peer r) to h.1 in
     goes_by m w r (with_gap g.gap_start g.gap_list) old moves new s
     (subst (λ (x : Endpoint). Goes old x r (with_gap g.gap_start g.gap_list (old.known.tracked x r)) moves new) same
-    h.2.0)
-gap_moves c at g m w r to old moves dues new s (inr h) = absurd (h.0 w to)
+    (subst (λ (b : Bool). TakesGap b old h.0 r g moves new) reliable h.2.0))
+gap_moves c at g m w r to old moves dues new s (inr h) = absurd (h.0 w to.is_to)
 
 -- ---- a HEARTBEAT
 
@@ -237,7 +267,7 @@ heartbeat_heard c at h m w r quiet is old moves dues new s k = record {
 
 -- one with a new count, and without flag L, is taken
 pub heartbeat_moves : (c : Host) (at : Receiver) (h : HeartbeatBody) (m : Match) (w : Endpoint) (r : ℕ)
-    → h.liveliness_flag ≡ false → IsToReader c.config c.own at h.reader_id h.writer_id w (reader_at c.peer r)
+    → h.liveliness_flag ≡ false → IsToReliable c.config c.own at h.reader_id h.writer_id w (reader_at c.peer r)
     → (old : State) (moves : List Move) (dues : List Due) (new : State) → Seat m w r old
     → is_later (old.known.tracked w r).count h.count ≡ true
     → ReaderTakes c.config c.own c.peer at (Heartbeat h) r old moves dues new → HearsBy c at h m w r old dues new
@@ -245,10 +275,12 @@ heartbeat_moves c at h m w r quiet to old moves dues new s later (inl k) =
     ⊎_elim (λ t. at_writer k.0 same k.1 t)
     (λ n. let no : is_later (old.known.tracked w r).count h.count
     ≡ false = subst (λ (x : Endpoint). is_later (old.known.tracked x r).count h.count
-    ≡ false) same n.0 in absurd cc) k.2
+    ≡ false) same n.0 in absurd cc)
+    (subst (λ (b : Bool). TakesOrNot c.own at old k.0 r k.1.entity (heard_as b h) moves dues new)
+    (reliable_too c at h.reader_id h.writer_id w k.0 (reader_at c.peer r) to k.1) k.2)
   where
     same : k.0 ≡ w
-    same = one_writer c.config at.source_guid_prefix h.writer_id k.0 w c.checked k.1.from to.from
+    same = one_writer c.config at.source_guid_prefix h.writer_id k.0 w c.checked k.1.from to.is_to.from
 
     at_writer : (v : Endpoint) → v ≡ w
         → (is : IsToReader c.config c.own at h.reader_id h.writer_id v (reader_at c.peer r))
@@ -257,7 +289,7 @@ heartbeat_moves c at h m w r quiet to old moves dues new s later (inl k) =
         subst (λ (x : Endpoint). HearsBy c at h m x r old dues new) e
         (heartbeat_heard c at h m v r quiet is old moves dues new
         (subst (λ (x : Endpoint). Seat m x r old) (sym e) s) t)
-heartbeat_moves c at h m w r quiet to old moves dues new s later (inr k) = absurd (k.0 w to)
+heartbeat_moves c at h m w r quiet to old moves dues new s later (inr k) = absurd (k.0 w to.is_to)
 
 -- the same, whatever other readers did before and after
 pub hears_between : (c : Host) (at : Receiver) (h : HeartbeatBody) (m : Match) (w : Endpoint) (r : ℕ)

@@ -8,7 +8,11 @@ use Rattle.dds_base.specs.declared.guid.GuidPrefix.{GuidPrefix}
 use Rattle.dds_base.specs.Checked.{check_refusal}
 use Rattle.dds_base.specs.Kept.{numbers_from}
 use Rattle.rtps_reader.specs.declared.step.AckNackDue.{AckNackDue}
-use Rattle.rtps_reader.specs.Tracked.{Tracked, with_data, with_gap, with_heartbeat}
+use Rattle.dds_base.specs.declared.happening.Happening.{Happening}
+use Rattle.dds_base.specs.declared.happening.PassedRun.{PassedRun}
+use Rattle.dds_base.specs.Matched.{is_reliable_reader}
+use Rattle.dds_base.specs.Places.{Match}
+use Rattle.rtps_reader.specs.Tracked.{Tracked}
 use Rattle.rtps_reader.specs.Answer.{answered}
 use Rattle.rtps_wire.specs.declared.acknack.AckNack.{AckNack as AckNackBody}
 use Rattle.rtps_wire.specs.declared.heartbeat.Heartbeat.{Heartbeat as HeartbeatBody}
@@ -23,15 +27,16 @@ use Rattle.dds_machine.specs.declared.reply.Move.{Move}
 use Rattle.dds_machine.specs.Part.{WriterProxy, own_proxies, own_reader, with_heard}
 use Rattle.dds_protocol.specs.Claims.{Receiver, IsReader, IsToReader}
 use Rattle.dds_protocol.specs.DueMessages.{Due, acknack_message, acknacks_due}
-use Rattle.dds_protocol.specs.Protocol.{State, InTurn, Goes, Asserting, TakesHeartbeat, Idles, ReaderTakes, with_tracked}
+use Rattle.dds_protocol.specs.Protocol.{State, InTurn, GoesBy, heard_as, Asserting, TakesHeartbeat, TakesOrNot, Idles, ReaderTakes, with_tracked}
 use Rattle.dds_protocol.specs.Backed.{reader_at}
 use Rattle.dds_protocol.specs.Fresh.{HasAckNack}
 use Rattle.dds_protocol.proofs.Composed.{is_alone}
 use Rattle.dds_protocol.proofs.CountsWritten.{one_ask, one_sought}
 use Rattle.dds_protocol.proofs.DuesAcknacks.{ask_body, answer_names}
 use Rattle.dds_protocol.proofs.Framing.{Frames, frames_at, frames_known, has_handle, number_or_not}
-use Rattle.dds_protocol.proofs.Learning.{goes_learns}
-use Rattle.dds_protocol.proofs.Ruled.{goes_frames}
+use Rattle.dds_protocol.proofs.Learning.{way_learns}
+use Rattle.dds_protocol.proofs.Ruled.{way_frames}
+use Rattle.dds_protocol.proofs.Ways.{change_went, gap_went}
 use Rattle.dds_protocol.proofs.RuledTurns.{SameAt, same_on, same_by}
 use Rattle.dds_machine.proofs.Tables.{length-with_numbered}
 use Rattle.dds_protocol.proofs.Turns.{in_turn}
@@ -83,18 +88,19 @@ leaves_idle old k moves dues new h = subst (λ (s : State). Leaves old k s) (sym
 leaves_by : (old new : State) (w : Endpoint) (k : ℕ) → Frames old w k new → Keeps old new → Leaves old k new
 leaves_by old new w k f h = record { same = λ r n. same_by old new w k r f n; keeps = h }
 
-goes_leaves : (old : State) (w : Endpoint) (r : ℕ) (t : Tracked) (moves : List Move) (new : State)
-    → Goes old w r t moves new → Leaves old r new
-goes_leaves old w r t moves new g = leaves_by old new w r frames (record {
+way_leaves : {Way : Match → List Happening → ℕ → List PassedRun → Tracked → List Happening → Type 0}
+    → (old : State) (w : Endpoint) (r : ℕ) (moves : List Move) (new : State)
+    → GoesBy Way old w r moves new → Leaves old r new
+way_leaves old w r moves new g = leaves_by old new w r frames (record {
   writers = frames.writers;
-  answered = (goes_learns old w r t moves new g).answered;
+  answered = (way_learns old w r moves new g).answered;
   rows = frames.count;
   readers = ap (λ (s : State). length s.part.dds.readers) g.after
       ∙ length-with_numbered old.part.dds.readers r (record (own_reader old.part r) { happened = g.happened });
 })
   where
     frames : Frames old w r new
-    frames = goes_frames old w r t moves new g
+    frames = way_frames old w r moves new g
 
 asserting_leaves : (flag : Bool) (old : State) (w : Endpoint) (r : ℕ) (count : ℤ) (moves : List Move) (new : State)
     → Asserting flag old w r count moves new → Leaves old r new
@@ -118,7 +124,7 @@ heartbeat_leaves : (own : GuidPrefix) (at : Receiver) (old : State) (w : Endpoin
 heartbeat_leaves own at old w r entity h moves dues new k =
     leaves_on old k.there new r
     (leaves_on old k.heard k.there r (asserting_leaves h.liveliness_flag old w r h.count k.hearing k.heard k.asserts)
-    (goes_leaves k.heard w r (with_heartbeat h.first_sn h.count (old.known.tracked w r)) k.going k.there k.goes))
+    (way_leaves k.heard w r k.going k.there k.goes))
     (subst (λ (s : State). Leaves k.there r s) (sym k.after)
     (leaves_by k.there
     (record k.there { known = with_tracked k.there.known w r (answered k.answer (k.there.known.tracked w r)) }) w r
@@ -130,14 +136,18 @@ pub reader_leaves : (c : Host) (at : Receiver) (s : Submessage) (k : ℕ) (old :
     (dues : List Due) (new : State)
     → ReaderTakes c.config c.own c.peer at s k old moves dues new → Leaves old k new
 reader_leaves c at (Data d) k old moves dues new (inl h) =
-    goes_leaves old h.0 k (with_data d.writer_sn (change_in d.content at.timestamp) (old.known.tracked h.0 k)) moves new
-    h.2.0
+    way_leaves old h.0 k moves new
+    (change_went (is_reliable_reader h.1.to.end) old h.0 k d.writer_sn (change_in d.content at.timestamp) moves new
+    h.2.0)
 reader_leaves c at (Data d) k old moves dues new (inr h) = leaves_idle old k moves dues new h.1
 reader_leaves c at (Gap g) k old moves dues new (inl h) =
-    goes_leaves old h.0 k (with_gap g.gap_start g.gap_list (old.known.tracked h.0 k)) moves new h.2.0
+    ⊎_elim (λ t. way_leaves old h.0 k moves new t.1)
+    (λ n. subst (λ (s : State). Leaves old k s) (sym n.1) (leaves_same old k))
+    (gap_went (is_reliable_reader h.1.to.end) old h.0 k g moves new h.2.0)
 reader_leaves c at (Gap g) k old moves dues new (inr h) = leaves_idle old k moves dues new h.1
 reader_leaves c at (Heartbeat b) k old moves dues new (inl h) =
-    ⊎_elim (λ t. heartbeat_leaves c.own at old h.0 k h.1.entity b moves dues new t)
+    ⊎_elim
+    (λ t. heartbeat_leaves c.own at old h.0 k h.1.entity (heard_as (is_reliable_reader h.1.to.end) b) moves dues new t)
     (λ n. leaves_idle old k moves dues new n.1) h.2
 reader_leaves c at (Heartbeat b) k old moves dues new (inr h) = leaves_idle old k moves dues new h.1
 reader_leaves c at (AckNack a) k old moves dues new h = leaves_idle old k moves dues new h
@@ -187,12 +197,17 @@ pub reader_asks : (c : Host) (at : Receiver) (s : Submessage) (k : ℕ) (old : S
     → ReaderTakes c.config c.own c.peer at s k old moves dues new → (due : Due) → Contains dues due → Asks c k due
 reader_asks c at (Data d) k old moves dues new h = none_asks c k dues (⊎_elim (λ t. t.2.1) (λ n. n.1.1) h)
 reader_asks c at (Gap g) k old moves dues new h = none_asks c k dues (⊎_elim (λ t. t.2.1) (λ n. n.1.1) h)
-reader_asks c at (Heartbeat b) k old moves dues new (inl h) =
-    ⊎_elim
-    (λ (t : TakesHeartbeat c.own at old h.0 k h.1.entity b moves dues new). λ due among.
-    due_asks c at b.reader_id b.writer_id h.0 k h.1 t.answer due
-    (subst (λ (ds : List Due). Contains ds due) t.dues_are among))
-    (λ n. none_asks c k dues n.1.1) h.2
+reader_asks c at (Heartbeat b) k old moves dues new (inl h) = by (is_reliable_reader h.1.to.end) h.2
+  where
+    by : (reliable : Bool) → TakesOrNot c.own at old h.0 k h.1.entity (heard_as reliable b) moves dues new
+        → (due : Due) → Contains dues due → Asks c k due
+    by true (inl t) due among =
+        due_asks c at b.reader_id b.writer_id h.0 k h.1 t.answer due
+        (subst (λ (ds : List Due). Contains ds due) t.dues_are among)
+    by false (inl t) due among =
+        due_asks c at b.reader_id b.writer_id h.0 k h.1 t.answer due
+        (subst (λ (ds : List Due). Contains ds due) t.dues_are among)
+    by reliable (inr n) due among = none_asks c k dues n.1.1 due among
 reader_asks c at (Heartbeat b) k old moves dues new (inr h) = none_asks c k dues h.1.1
 reader_asks c at (AckNack a) k old moves dues new h = none_asks c k dues h.1
 reader_asks c at Pad k old moves dues new h = none_asks c k dues h.1

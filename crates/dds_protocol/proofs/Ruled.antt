@@ -6,7 +6,8 @@ use Rattle.std.proofs.lemmas.Int.{ints}
 use Rattle.std.proofs.lemmas.Option.{same_Some}
 use Rattle.dds_base.specs.declared.config.Config.{Config}
 use Rattle.dds_base.specs.declared.happening.Happening.{Happening}
-use Rattle.dds_base.specs.Places.{Position, GoesTo}
+use Rattle.dds_base.specs.declared.happening.PassedRun.{PassedRun}
+use Rattle.dds_base.specs.Places.{Match, Position, GoesTo}
 use Rattle.dds_base.proofs.PlaceLaws.{SayAsMuch, goes_on, goes_nowhere}
 use Rattle.dds_base.specs.Counts.{is_later}
 use Rattle.rtps_reader.specs.Tracked.{Tracked}
@@ -18,10 +19,11 @@ use Rattle.dds_machine.specs.Numbered.{HasNumber}
 use Rattle.dds_machine.specs.Part.{WriterProxy, own_proxies, own_reader, place_of, with_place, heard_of, at_reader}
 use Rattle.dds_machine.specs.Moves.{Grounds, as_to, match_of, position_at, IsMove, AreMoves}
 use Rattle.dds_protocol.specs.Peer.{Delivery, claimed, packets_of}
-use Rattle.dds_protocol.specs.Protocol.{State, Goes, with_tracked}
+use Rattle.dds_protocol.specs.Protocol.{State, GoesBy, Goes, with_tracked}
 use Rattle.dds_protocol.specs.Backed.{IsClaimed, TookNone, IsBacked}
 use Rattle.dds_protocol.proofs.Framing.{Frames, frames_at, pair_or_not, number_or_not, has_reader, at_reader_same, tracked_here, tracked_elsewhere, heard_still}
-use Rattle.dds_protocol.proofs.Knowing.{advanced_claimed}
+use Rattle.dds_protocol.proofs.Knowing.{gone_claimed}
+use Rattle.dds_protocol.proofs.Ways.{Went}
 use Rattle.dds_machine.proofs.Tables.{numbered-same, place-hits}
 
 -- ---- what is known after a step at one reader, as to one writer
@@ -92,26 +94,20 @@ pub says_as_much : (config : Config) (before : List Delivery) (packet : List ℕ
 says_as_much config before packet peer index w r t k =
     record { is_change = λ n c low h. k.change n c low h; may_pass = λ n low h. k.pass n low h }
 
--- the moves that it makes are legal
-pub goes_moves : (config : Config) (before : List Delivery) (packet : List ℕ) (peer index : ℕ) (old : State)
-    (w : Endpoint) (r : ℕ) (t : Tracked) (moves : List Move) (new : State)
-    → IsClaimed config peer (packet ∷ packets_of before) w r t → (h : Goes old w r t moves new) → t.place ≡ h.place
-    → AreMoves (claimed config before packet peer index) old.part moves new.part
-goes_moves config before packet peer index old w r t moves new k h at = by (nat_lt h.place h.to) refl
+-- the moves that a way makes are legal, where its changes and runs may rest on these grounds
+pub way_moves : {Way : Match → List Happening → ℕ → List PassedRun → Tracked → List Happening → Type 0}
+    → (g : Grounds) (old : State) (w : Endpoint) (r : ℕ) (moves : List Move) (new : State)
+    → (h : GoesBy Way old w r moves new)
+    → GoesTo (as_to g w r) (match_of old.part r h.publication) (position_at old.part r h.place) h.passed h.to
+    (record { place = h.to; happened = h.happened })
+    → AreMoves g old.part moves new.part
+way_moves g old w r moves new h way = by (nat_lt h.place h.to) refl
   where
-    g : Grounds
-    g = claimed config before packet peer index
-
     from : Position
     from = position_at old.part r h.place
 
     end : Position
     end = record { place = h.to; happened = h.happened }
-
-    way : GoesTo (known t) (match_of old.part r h.publication) from h.passed h.to end
-    way =
-        subst (λ (n : ℕ). GoesTo (known t) (match_of old.part r h.publication)
-        (record { place = n; happened = (own_reader old.part r).happened }) h.passed h.to end) at h.advances.goes
 
     part_is : new.part ≡ at_reader old.part r (with_place (own_proxies old.part r) w h.to) h.happened
     part_is = ap (λ (s : State). s.part) h.after
@@ -123,17 +119,13 @@ goes_moves config before packet peer index old w r t moves new k h at = by (nat_
       matched = h.matched;
       forward = lt;
       end = end;
-      goes =
-          goes_on (known t) (as_to g w r) h.place
-          (subst (λ (n : ℕ). SayAsMuch (known t) (as_to g w r) n) at
-          (says_as_much config before packet peer index w r t k))
-          (match_of old.part r h.publication) from h.passed h.to end (omega arith) way;
+      goes = way;
       after = part_is;
     }
 
     stays : h.to ≤ h.place → new.part ≡ old.part
     stays low =
-        let still = goes_nowhere (known t) (match_of old.part r h.publication) from h.passed h.to end way low in
+        let still = goes_nowhere (as_to g w r) (match_of old.part r h.publication) from h.passed h.to end way low in
         let to : h.to ≡ h.place = ap (λ (p : Position). p.place) still.0 in
         let happened : h.happened ≡ (own_reader old.part r).happened = ap (λ (p : Position). p.happened) still.0 in
         part_is
@@ -151,10 +143,27 @@ goes_moves config before packet peer index old w r t moves new k h at = by (nat_
         let made : moves ≡ [] = h.moves_are ∙ ap (λ (b : Bool). if b then Place w r h.to h.passed ∷ [] else []) e in
         subst (λ (ms : List Move). AreMoves g old.part ms new.part) (sym made) (stays (grind (arith, nat_tests)))
 
+-- so are those of a place that goes as far as it can
+pub goes_moves : (config : Config) (before : List Delivery) (packet : List ℕ) (peer index : ℕ) (old : State)
+    (w : Endpoint) (r : ℕ) (t : Tracked) (moves : List Move) (new : State)
+    → IsClaimed config peer (packet ∷ packets_of before) w r t → (h : Goes old w r t moves new) → t.place ≡ h.place
+    → AreMoves (claimed config before packet peer index) old.part moves new.part
+goes_moves config before packet peer index old w r t moves new k h at =
+    way_moves (claimed config before packet peer index) old w r moves new h
+    (goes_on (known t) (as_to (claimed config before packet peer index) w r) h.place
+    (subst (λ (n : ℕ). SayAsMuch (known t) (as_to (claimed config before packet peer index) w r) n) at
+    (says_as_much config before packet peer index w r t k))
+    (match_of old.part r h.publication) (position_at old.part r h.place) h.passed h.to
+    (record { place = h.to; happened = h.happened }) (omega arith)
+    (subst (λ (n : ℕ). GoesTo (known t) (match_of old.part r h.publication)
+    (record { place = n; happened = (own_reader old.part r).happened }) h.passed h.to
+    (record { place = h.to; happened = h.happened })) at h.advances.goes))
+
 -- other readers and writers see nothing of it
-pub goes_frames : (old : State) (w : Endpoint) (r : ℕ) (t : Tracked) (moves : List Move) (new : State)
-    → Goes old w r t moves new → Frames old w r new
-goes_frames old w r t moves new h =
+pub way_frames : {Way : Match → List Happening → ℕ → List PassedRun → Tracked → List Happening → Type 0}
+    → (old : State) (w : Endpoint) (r : ℕ) (moves : List Move) (new : State)
+    → GoesBy Way old w r moves new → Frames old w r new
+way_frames old w r moves new h =
     subst (λ (s : State). Frames old w r s) (sym h.after)
     (frames_at old w r (λ (p : WriterProxy). record p { place = h.to }) (λ p. refl) h.happened
     (with_tracked old.known w r h.known) (has_reader old.part r h.place w h.matched.at)
@@ -165,7 +174,7 @@ pub goes_backed : (config : Config) (peer : ℕ) (packets : List (List ℕ)) (de
     (w : Endpoint) (r : ℕ) (t : Tracked) (moves : List Move) (new : State)
     → IsClaimed config peer packets w r t → TookNone config peer deliveries w r t
     → ((count : ℤ) → heard_of (own_proxies old.part r) w ≡ Some (Some count) → is_later t.count count ≡ false)
-    → Goes old w r t moves new → BackedAt config peer packets deliveries w r new
+    → Went old w r t moves new → BackedAt config peer packets deliveries w r new
 goes_backed config peer packets deliveries old w r t moves new k newest heard h =
     subst (λ (s : State). BackedAt config peer packets deliveries w r s) (sym h.after) (record {
       place = λ p e.
@@ -174,8 +183,7 @@ goes_backed config peer packets deliveries old w r t moves new k newest heard h 
           ∙ place-hits (own_proxies old.part r) w h.place h.to h.matched.at) ∙ e in
           ap (λ (x : Tracked). x.place) here ∙ (h.advances.place ∙ same_Some h.to p at);
       claimed = subst (λ (x : Tracked). IsClaimed config peer packets w r x) (sym here)
-          (advanced_claimed config peer packets w r (match_of old.part r h.publication) t
-          (own_reader old.part r).happened h.to h.passed h.known h.happened k h.advances);
+          (gone_claimed config peer packets w r t h.to h.known k h.advances);
       newest = λ d count among applied. ap (λ (x : Option ℤ). is_later x count) counts ∙ newest d count among applied;
       heard = λ count e.
           ap (λ (x : Option ℤ). is_later x count) counts

@@ -1,5 +1,5 @@
 -- What one of the peer's readers does with a submessage rests on what packets claim.
-use Rattle.std.proofs.Common.{◌≡◌, ◌⊎◌, ℕ, ℤ, ◌<◌, ◌≤◌, ◌&&◌, ◌||◌, Bool, true, false, nat_lt, nat_le, List, [], ◌∷◌, ◌++◌, Option, Some, None, refl, subst, ap, sym, ◌∙◌, inl, inr, ⊎_elim, arith, eq-eqb}
+use Rattle.std.proofs.Common.{◌≡◌, ◌⊎◌, ℕ, ℤ, ◌-◌, ◌<◌, ◌≤◌, ◌&&◌, ◌||◌, Bool, true, false, nat_lt, nat_le, List, [], ◌∷◌, ◌++◌, Option, Some, None, refl, subst, ap, sym, ◌∙◌, inl, inr, ⊎_elim, arith, eq-eqb}
 use Rattle.std.specs.Prelude.{if◌then◌else◌}
 use Rattle.std.proofs.lemmas.Bool.Decides.{nat_tests}
 use Rattle.std.proofs.lemmas.Option.{same_Some}
@@ -8,8 +8,10 @@ use Rattle.dds_base.specs.declared.config.Config.{Config}
 use Rattle.dds_base.specs.declared.guid.EntityId.{EntityId}
 use Rattle.dds_base.specs.declared.guid.GuidPrefix.{GuidPrefix}
 use Rattle.dds_base.specs.declared.happening.Happening.{Happening}
+use Rattle.dds_base.specs.declared.happening.Happening.TheVariants.{Passed}
 use Rattle.dds_base.specs.Checked.{check_refusal}
-use Rattle.dds_base.specs.Places.{Position, coming}
+use Rattle.dds_base.specs.Matched.{is_reliable_reader}
+use Rattle.dds_base.specs.Places.{Match, Position, coming, GoesTo}
 use Rattle.dds_base.specs.Presence.{has_room}
 use Rattle.dds_base.proofs.PlaceLaws.{goes_nowhere}
 use Rattle.dds_base.specs.Counts.{is_later}
@@ -17,6 +19,7 @@ use Rattle.rtps_sets.specs.NumberSet.{NumberSet, has_number}
 use Rattle.rtps_sets.specs.Window.{is_in_window}
 use Rattle.rtps_reader.specs.Tracked.{Slot, Missing, Held, Irrelevant, Tracked, is_missing, is_passable, is_passable_slot, is_named, with_data, with_gap, with_heartbeat}
 use Rattle.rtps_reader.specs.Advance.{known}
+use Rattle.rtps_reader.specs.Jump.{jumped_to, comes, JumpsIf, Jumps}
 use Rattle.rtps_reader.specs.Answer.{answered}
 use Rattle.rtps_wire.specs.declared.data.Data.{Data as DataBody}
 use Rattle.rtps_wire.specs.declared.gap.Gap.{Gap as GapBody}
@@ -29,18 +32,19 @@ use Rattle.dds_machine.specs.declared.reply.Move.{Move}
 use Rattle.dds_machine.specs.declared.reply.Move.TheVariants.{Place}
 use Rattle.dds_machine.specs.Numbered.{HasNumber}
 use Rattle.dds_machine.specs.Part.{Part, own_proxies, own_reader, place_of, with_heard, heard_of, at_reader}
-use Rattle.dds_machine.specs.Moves.{Grounds, match_of, position_at, IsMatchedAt, AreMoves, IsLater}
-use Rattle.dds_protocol.specs.Claims.{Receiver, IsToReader, Claim, ChangeIs, MayPass, Asserts, Says, Claimed}
+use Rattle.dds_machine.specs.Moves.{Grounds, as_to, match_of, position_at, IsMatchedAt, AreMoves, IsLater}
+use Rattle.dds_protocol.specs.Claims.{Receiver, IsToReader, IsToReliable, Claim, ChangeIs, MayPass, Asserts, Says, Claimed}
 use Rattle.dds_protocol.specs.Receipt.{GoesOver, HasNoRoom}
 use Rattle.dds_protocol.specs.Peer.{Delivery, claimed, packets_of, delivered_to}
 use Rattle.dds_protocol.specs.DueMessages.{Due}
-use Rattle.dds_protocol.specs.Protocol.{State, Goes, Asserting, TakesHeartbeat, Idles, ReaderTakes}
+use Rattle.dds_protocol.specs.Protocol.{State, GoesBy, Goes, TakesChange, TakesGap, heard_as, Asserting, TakesHeartbeat, Idles, ReaderTakes}
 use Rattle.dds_protocol.specs.Backed.{reader_at, IsClaimed, TookNone, IsBacked}
 use Rattle.dds_protocol.proofs.Composed.{moves_on}
 use Rattle.dds_protocol.proofs.OwnGuids.{one_writer}
 use Rattle.dds_protocol.proofs.Framing.{Frames, frames_at, frames_none, frames_on, has_reader, has_handle, frames_known, tracked_here, heard_here, heard_there}
 use Rattle.dds_protocol.proofs.Knowing.{data_claimed, gap_claimed, heartbeat_claimed, answered_claimed, answered_same}
-use Rattle.dds_protocol.proofs.Ruled.{BackedAt, backed_on, goes_moves, goes_frames, goes_backed, later_on, not_later_than_itself, earlier}
+use Rattle.dds_protocol.proofs.Ways.{Went, goes_went, change_went, jumps_go}
+use Rattle.dds_protocol.proofs.Ruled.{BackedAt, backed_on, way_moves, goes_moves, way_frames, goes_backed, later_on, not_later_than_itself, earlier}
 use Rattle.dds_machine.proofs.Tables.{numbered-same, place-heard}
 
 -- a submessage of a packet, which comes to a peer after these deliveries
@@ -192,6 +196,48 @@ moved_or_full c old w r number change made new h k at same = by (nat_lt h.place 
         inr (⊎_elim (λ d. full low d.0 d.1) (λ p. absurd (passes low p))
         (held_there number change (tracked_by old w r) (at ∙ sym same)))
 
+-- a jump goes over the change that it comes to, or there is no room for that at the place
+jumped_or_full : (c : Coming) (old : State) (w : Endpoint) (r number : ℕ) (change : Change) (made : List Move)
+    (new : State) (h : GoesBy (λ match xs. Jumps match (tracked_by old w r) xs number change) old w r made new)
+    → Claimed c.config (packets c) (ChangeIs w (reader_at c.peer r) number change)
+    → (tracked_by old w r).place ≡ h.place → number ≡ h.place
+    → GoesOver w r number made ⊎ HasNoRoom (grounds c) old.part w r h.publication number
+jumped_or_full c old w r number change made new h says at same =
+    by (comes match t.place happened number change) refl h.advances
+  where
+    t : Tracked
+    t = tracked_by old w r
+
+    match : Match
+    match = match_of old.part r h.publication
+
+    happened : List Happening
+    happened = (own_reader old.part r).happened
+
+    by : (b : Bool) → comes match t.place happened number change ≡ b
+        → JumpsIf b match t happened number change h.to h.passed h.known h.happened
+        → GoesOver w r number made ⊎ HasNoRoom (grounds c) old.part w r h.publication number
+    by true e j =
+        let beyond = j.beyond in
+        let forward : nat_lt h.place h.to ≡ true = grind (arith, nat_tests) in
+        let one : made ≡ Place w r h.to h.passed ∷ [] =
+        h.moves_are ∙ ap (λ (b : Bool). if b then Place w r h.to h.passed ∷ [] else []) forward in
+        inl (subst (λ (ms : List Move). GoesOver w r number ms) (sym one) (inl (refl, refl, omega (arith, beyond))))
+    by false e j =
+        let low : nat_le t.place number ≡ true = grind (arith, nat_tests) in
+        let none : nat_lt t.place number ≡ false = grind (arith, nat_tests) in
+        let full : has_room match.qos (jumped_to match t.place happened number).happened
+        (coming match (jumped_to match t.place happened number) change) ≡ false =
+        sym (ap (λ (b : Bool). b && has_room match.qos (jumped_to match t.place happened number).happened
+        (coming match (jumped_to match t.place happened number) change)) low) ∙ e in
+        inr (record {
+          change = change;
+          is_change = says;
+          no_room = sym (ap (λ (b : Bool).
+              has_room match.qos (if b then Passed match.publication t.place (number - 1) ∷ happened else happened)
+              (coming match (position_at old.part r number) change)) none) ∙ full;
+        })
+
 -- the one writer of this name
 writer_is : (c : Coming) (reader_id writer_id : EntityId) (w v : Endpoint) (r : ℕ)
     → IsToReader c.config c.own c.at reader_id writer_id w (reader_at c.peer r)
@@ -200,13 +246,13 @@ writer_is c reader_id writer_id w v r a b =
     one_writer c.config c.at.source_guid_prefix writer_id w v c.checked a.from b.from
 
 -- what a reader does on the ground of a DATA or a GAP: its place goes on, and no HEARTBEAT is told
-goes_taken : (c : Coming) (s : Submessage) (r : ℕ) (old : State) (w : Endpoint) (t : Tracked) (made : List Move)
-    (new : State) → Backs c old → t.place ≡ (tracked_by old w r).place → t.count ≡ (tracked_by old w r).count
-    → IsClaimed c.config c.peer (packets c) w r t → (h : Goes old w r t made new) → IsPast c s r new
+went_taken : (c : Coming) (s : Submessage) (r : ℕ) (old : State) (w : Endpoint) (t : Tracked) (made : List Move)
+    (new : State) → Backs c old → t.count ≡ (tracked_by old w r).count
+    → IsClaimed c.config c.peer (packets c) w r t → Went old w r t made new
+    → AreMoves (grounds c) old.part made new.part → IsPast c s r new
     → MovesIt c s r old made → IsTakenAt c s r old made new
-goes_taken c s r old w t made new b place count k h past over =
-    let at : t.place ≡ h.place = place ∙ b.place w r h.place h.matched.at in
-    let frames : Frames old w r new = goes_frames old w r t made new h in
+went_taken c s r old w t made new b count k h moves past over =
+    let frames : Frames old w r new = way_frames old w r made new h in
     let newest : TookNone c.config c.peer (deliveries c) w r t =
     λ d n among applied. ap (λ (o : Option ℤ). is_later o n) count
     ∙ b.newest w r (has_reader old.part r h.place w h.matched.at) d n among applied in
@@ -214,7 +260,7 @@ goes_taken c s r old w t made new b place count k h past over =
     goes_backed c.config c.peer (packets c) (deliveries c) old w r t made new k newest
     (λ n e. ap (λ (o : Option ℤ). is_later o n) count ∙ b.heard w r n e) h in
     record {
-      moves = goes_moves c.config c.before c.packet c.peer c.index old w r t made new k h at;
+      moves = moves;
       backed = backed_on c.config c.peer (packets c) (deliveries c) w r old new frames b here;
       writer = w;
       frames = frames;
@@ -222,32 +268,100 @@ goes_taken c s r old w t made new b place count k h past over =
       over = over;
     }
 
+goes_taken : (c : Coming) (s : Submessage) (r : ℕ) (old : State) (w : Endpoint) (t : Tracked) (made : List Move)
+    (new : State) → Backs c old → t.place ≡ (tracked_by old w r).place → t.count ≡ (tracked_by old w r).count
+    → IsClaimed c.config c.peer (packets c) w r t → (h : Goes old w r t made new) → IsPast c s r new
+    → MovesIt c s r old made → IsTakenAt c s r old made new
+goes_taken c s r old w t made new b place count k h past over =
+    went_taken c s r old w t made new b count k (goes_went old w r t made new h)
+    (goes_moves c.config c.before c.packet c.peer c.index old w r t made new k h
+    (place ∙ b.place w r h.place h.matched.at)) past over
+
+-- where the place of the writer that a DATA is of moves, or has no room, so it is of each writer that it tells of
+moves_it : (c : Coming) (d : DataBody) (r : ℕ) (old : State) (w : Endpoint) (made : List Move) (publication place : ℕ)
+    → IsToReader c.config c.own c.at d.reader_id d.writer_id w (reader_at c.peer r)
+    → IsMatchedAt old.part w r publication place
+    → (d.writer_sn ≡ place
+    → GoesOver w r d.writer_sn made ⊎ HasNoRoom (grounds c) old.part w r publication d.writer_sn)
+    → MovesIt c (Data d) r old made
+moves_it c d r old w made publication place to at here v p number ch told matched =
+    let one : v ≡ w = writer_is c d.reader_id d.writer_id v w r told.0 to in
+    subst (λ (x : Endpoint). GoesOver x r number made ⊎ HasNoRoom (grounds c) old.part x r p number) (sym one)
+    (let there : IsMatchedAt old.part w r p number = subst
+    (λ (x : Endpoint). IsMatchedAt old.part x r p number) one matched in
+    let handle : publication ≡ p = same_Some publication p (sym at.handle ∙ there.handle) in
+    let same : number ≡ place = same_Some number place (sym there.at ∙ at.at) in
+    subst (λ (q : ℕ). GoesOver w r number made ⊎ HasNoRoom (grounds c) old.part w r q number) handle
+    (subst (λ (n : ℕ). GoesOver w r n made ⊎ HasNoRoom (grounds c) old.part w r publication n) (sym told.1)
+    (here (sym told.1 ∙ same))))
+
+-- what the packet claims by a DATA
+data_says : (c : Coming) (d : DataBody) → c.submessage ≡ Data d → (w : Endpoint) (r : ℕ)
+    → IsToReader c.config c.own c.at d.reader_id d.writer_id w (reader_at c.peer r)
+    → Claimed c.config (packets c) (ChangeIs w (reader_at c.peer r) d.writer_sn (change_in d.content c.at.timestamp))
+data_says c d is w r to =
+    let change : Change = change_in d.content c.at.timestamp in
+    c.says (ChangeIs w (reader_at c.peer r) d.writer_sn change)
+    (subst (λ (s : Submessage). Says c.config c.own c.at s (ChangeIs w (reader_at c.peer r) d.writer_sn change))
+    (sym is) (to, refl, refl))
+
+-- a reliable reader holds it
+data_held : (c : Coming) (d : DataBody) → c.submessage ≡ Data d
+    → (r : ℕ) (old : State) (w : Endpoint) (made : List Move) (new : State) → Backs c old
+    → IsToReader c.config c.own c.at d.reader_id d.writer_id w (reader_at c.peer r)
+    → Goes old w r (with_data d.writer_sn (change_in d.content c.at.timestamp) (tracked_by old w r)) made new
+    → IsTakenAt c (Data d) r old made new
+data_held c d is r old w made new b to goes =
+    let change : Change = change_in d.content c.at.timestamp in
+    let k : IsClaimed c.config c.peer (packets c) w r (with_data d.writer_sn change (tracked_by old w r)) =
+    data_claimed c.config c.peer (packets c) w r d.writer_sn change (tracked_by old w r) (b.claimed w r)
+    (data_says c d is w r to) in
+    goes_taken c (Data d) r old w (with_data d.writer_sn change (tracked_by old w r)) made new b refl refl k goes tt
+    (moves_it c d r old w made goes.publication goes.place to goes.matched
+    (λ same. moved_or_full c old w r d.writer_sn change made new goes k
+    (b.place w r goes.place goes.matched.at) same))
+
+-- a best-effort reader jumps to it
+data_jumped : (c : Coming) (d : DataBody) → c.submessage ≡ Data d
+    → (r : ℕ) (old : State) (w : Endpoint) (made : List Move) (new : State) → Backs c old
+    → IsToReader c.config c.own c.at d.reader_id d.writer_id w (reader_at c.peer r)
+    → TakesChange false old w r d.writer_sn (change_in d.content c.at.timestamp) made new
+    → IsTakenAt c (Data d) r old made new
+data_jumped c d is r old w made new b to takes =
+    went_taken c (Data d) r old w t made new b refl (b.claimed w r)
+    (change_went false old w r d.writer_sn change made new takes)
+    (way_moves (grounds c) old w r made new jump
+    (subst (λ (n : ℕ). GoesTo (as_to (grounds c) w r) (match_of old.part r jump.publication)
+    (record { place = n; happened = (own_reader old.part r).happened }) jump.passed jump.to
+    (record { place = jump.to; happened = jump.happened })) at
+    (jumps_go (as_to (grounds c) w r) (match_of old.part r jump.publication) t (own_reader old.part r).happened
+    d.writer_sn change jump.to jump.passed jump.known jump.happened takes.0 (data_says c d is w r to) jump.advances)))
+    tt
+    (moves_it c d r old w made jump.publication jump.place to jump.matched
+    (λ same. jumped_or_full c old w r d.writer_sn change made new jump (data_says c d is w r to) at same))
+  where
+    t : Tracked
+    t = tracked_by old w r
+
+    change : Change
+    change = change_in d.content c.at.timestamp
+
+    jump : GoesBy (λ match h. Jumps match t h d.writer_sn change) old w r made new
+    jump = takes.1
+
+    at : t.place ≡ jump.place
+    at = b.place w r jump.place jump.matched.at
+
 pub data_taken : (c : Coming) (d : DataBody) → c.submessage ≡ Data d
     → (r : ℕ) (old : State) (made : List Move) (dues : List Due) (new : State) → Backs c old
     → ReaderTakes c.config c.own c.peer c.at (Data d) r old made dues new → IsTakenAt c (Data d) r old made new
-data_taken c d is r old made dues new b (inl h) =
-    let w : Endpoint = h.0 in
-    let change : Change = change_in d.content c.at.timestamp in
-    let goes : Goes old w r (with_data d.writer_sn change (tracked_by old w r)) made new = h.2.0 in
-    let says : Claimed c.config (packets c) (ChangeIs w (reader_at c.peer r) d.writer_sn change) =
-    c.says (ChangeIs w (reader_at c.peer r) d.writer_sn change)
-    (subst (λ (s : Submessage). Says c.config c.own c.at s (ChangeIs w (reader_at c.peer r) d.writer_sn change))
-    (sym is) (h.1, refl, refl)) in
-    let k : IsClaimed c.config c.peer (packets c) w r (with_data d.writer_sn change (tracked_by old w r)) =
-    data_claimed c.config c.peer (packets c) w r d.writer_sn change (tracked_by old w r) (b.claimed w r) says in
-    goes_taken c (Data d) r old w (with_data d.writer_sn change (tracked_by old w r)) made new b refl refl k goes tt
-    (λ v publication number ch told matched.
-    let one : v ≡ w = writer_is c d.reader_id d.writer_id v w r told.0 h.1 in
-    subst (λ (x : Endpoint). GoesOver x r number made ⊎ HasNoRoom (grounds c) old.part x r publication number) (sym one)
-    (let there : IsMatchedAt old.part w r publication number = subst
-    (λ (x : Endpoint). IsMatchedAt old.part x r publication number) one matched in
-    let handle : goes.publication ≡ publication =
-    same_Some goes.publication publication (sym goes.matched.handle ∙ there.handle) in
-    let place : number ≡ goes.place = same_Some number goes.place (sym there.at ∙ goes.matched.at) in
-    subst (λ (p : ℕ). GoesOver w r number made ⊎ HasNoRoom (grounds c) old.part w r p number) handle
-    (subst (λ (n : ℕ). GoesOver w r n made ⊎ HasNoRoom (grounds c) old.part w r goes.publication n) (sym told.1)
-    (moved_or_full c old w r d.writer_sn change made new goes k (b.place w r goes.place goes.matched.at)
-    (sym told.1 ∙ place)))))
+data_taken c d is r old made dues new b (inl h) = by (is_reliable_reader h.1.to.end) h.2.0
+  where
+    by : (reliable : Bool)
+        → TakesChange reliable old h.0 r d.writer_sn (change_in d.content c.at.timestamp) made new
+        → IsTakenAt c (Data d) r old made new
+    by true goes = data_held c d is r old h.0 made new b h.1 goes
+    by false takes = data_jumped c d is r old h.0 made new b h.1 takes
 data_taken c d is r old made dues new b (inr h) =
     nothing_taken c (Data d) r old made dues new b h.1 tt
     (λ w publication number change told matched. absurd (h.0 w told.0))
@@ -269,16 +383,22 @@ in_gap start list n h = by (nat_le start n) (nat_lt n list.base) refl refl
 pub gap_taken : (c : Coming) (g : GapBody) → c.submessage ≡ Gap g
     → (r : ℕ) (old : State) (made : List Move) (dues : List Due) (new : State) → Backs c old
     → ReaderTakes c.config c.own c.peer c.at (Gap g) r old made dues new → IsTakenAt c (Gap g) r old made new
-gap_taken c g is r old made dues new b (inl h) =
-    let w : Endpoint = h.0 in
-    let goes : Goes old w r (with_gap g.gap_start g.gap_list (tracked_by old w r)) made new = h.2.0 in
-    let k : IsClaimed c.config c.peer (packets c) w r (with_gap g.gap_start g.gap_list (tracked_by old w r)) =
-    gap_claimed c.config c.peer (packets c) w r g.gap_start g.gap_list (tracked_by old w r) (b.claimed w r)
-    (λ n least named. c.says (MayPass w (reader_at c.peer r) n)
-    (subst (λ (s : Submessage). Says c.config c.own c.at s (MayPass w (reader_at c.peer r) n)) (sym is)
-    (h.1, least, in_gap g.gap_start g.gap_list n named))) in
-    goes_taken c (Gap g) r old w (with_gap g.gap_start g.gap_list (tracked_by old w r)) made new b refl refl k goes tt
-    (λ v publication number ch told matched. absurd told)
+gap_taken c g is r old made dues new b (inl h) = by (is_reliable_reader h.1.to.end) refl h.2.0
+  where
+    by : (reliable : Bool) → is_reliable_reader h.1.to.end ≡ reliable → TakesGap reliable old h.0 r g made new
+        → IsTakenAt c (Gap g) r old made new
+    by true reliable goes =
+        let w : Endpoint = h.0 in
+        let k : IsClaimed c.config c.peer (packets c) w r (with_gap g.gap_start g.gap_list (tracked_by old w r)) =
+        gap_claimed c.config c.peer (packets c) w r g.gap_start g.gap_list (tracked_by old w r) (b.claimed w r)
+        (λ n least named. c.says (MayPass w (reader_at c.peer r) n)
+        (subst (λ (s : Submessage). Says c.config c.own c.at s (MayPass w (reader_at c.peer r) n)) (sym is)
+        (record { is_to = h.1; reliable = reliable }, least, in_gap g.gap_start g.gap_list n named))) in
+        goes_taken c (Gap g) r old w (with_gap g.gap_start g.gap_list (tracked_by old w r)) made new b refl refl k goes
+        tt (λ v publication number ch told matched. absurd told)
+    by false other idle =
+        nothing_taken c (Gap g) r old made dues new b (idle.0, h.2.1, idle.1) tt
+        (λ v publication number ch told matched. absurd told)
 gap_taken c g is r old made dues new b (inr h) =
     nothing_taken c (Gap g) r old made dues new b h.1 tt (λ w publication number change told matched. absurd told)
 
@@ -355,13 +475,28 @@ asserting_there true old w r p count hearing heard h at = has_handle old.part r 
 asserting_there false old w r p count hearing heard h at =
     has_reader old.part r p w (ap (λ (s : State). place_of (own_proxies s.part r) w) (sym h.1) ∙ at)
 
+-- what a reader hears of a HEARTBEAT has its count and its flag L, and speaks of numbers to a reliable reader alone
+record IsHeardAs (c : Coming) (h s : HeartbeatBody) (w : Endpoint) (r : ℕ) : Type 0 where
+  count : s.count ≡ h.count
+  flag : s.liveliness_flag ≡ h.liveliness_flag
+  first : (n : ℕ) → n < s.first_sn
+      → IsToReliable c.config c.own c.at h.reader_id h.writer_id w (reader_at c.peer r) × (n < h.first_sn)
+
+is_heard_as : (c : Coming) (h : HeartbeatBody) (w : Endpoint) (r : ℕ)
+    → (to : IsToReader c.config c.own c.at h.reader_id h.writer_id w (reader_at c.peer r)) (reliable : Bool)
+    → is_reliable_reader to.to.end ≡ reliable → IsHeardAs c h (heard_as reliable h) w r
+is_heard_as c h w r to true reliable =
+    record { count = refl; flag = refl; first = λ n below. (record { is_to = to; reliable = reliable }, below) }
+is_heard_as c h w r to false other =
+    record { count = refl; flag = refl; first = λ n below. absurd (omega (arith, below)) }
+
 -- one that is taken
-heartbeat_takes : (c : Coming) (h : HeartbeatBody) → c.submessage ≡ Heartbeat h
+heartbeat_takes : (c : Coming) (h s : HeartbeatBody) → c.submessage ≡ Heartbeat h
     → (w : Endpoint) (r : ℕ) (entity : EntityId) (old : State) (made : List Move) (dues : List Due) (new : State)
     → Backs c old
-    → IsToReader c.config c.own c.at h.reader_id h.writer_id w (reader_at c.peer r)
-    → TakesHeartbeat c.own c.at old w r entity h made dues new → IsTakenAt c (Heartbeat h) r old made new
-heartbeat_takes c h is w r entity old made dues new b to k =
+    → IsToReader c.config c.own c.at h.reader_id h.writer_id w (reader_at c.peer r) → IsHeardAs c h s w r
+    → TakesHeartbeat c.own c.at old w r entity s made dues new → IsTakenAt c (Heartbeat h) r old made new
+heartbeat_takes c h s is w r entity old made dues new b to heard_so k =
     record {
       moves = subst (λ (ms : List Move). AreMoves (grounds c) old.part ms new.part) (sym k.moves_are)
           (subst (λ (p : Part). AreMoves (grounds c) old.part (k.hearing ++ k.going) p) (sym part)
@@ -374,47 +509,49 @@ heartbeat_takes c h is w r entity old made dues new b to k =
       past = λ v v_to.
           subst (λ (x : Endpoint). is_later (new.known.tracked x r).count h.count ≡ false)
           (writer_is c h.reader_id h.writer_id w v r to v_to)
-          (ap (λ (o : Option ℤ). is_later o h.count) counts ∙ not_later_than_itself h.count);
+          (subst (λ (n : ℤ). is_later (new.known.tracked w r).count n ≡ false) heard_so.count
+          (ap (λ (o : Option ℤ). is_later o s.count) counts ∙ not_later_than_itself s.count));
       over = λ v publication number ch told matched. absurd told;
     }
   where
     t : Tracked
-    t = with_heartbeat h.first_sn h.count (tracked_by old w r)
+    t = with_heartbeat s.first_sn s.count (tracked_by old w r)
 
     there : HasNumber old.part.rtps.readers r
-    there = asserting_there h.liveliness_flag old w r k.goes.place h.count k.hearing k.heard k.asserts k.goes.matched.at
+    there = asserting_there s.liveliness_flag old w r k.goes.place s.count k.hearing k.heard k.asserts k.goes.matched.at
 
-    heard : IsHeard c w r h.count old k.hearing k.heard
+    heard : IsHeard c w r s.count old k.hearing k.heard
     heard =
-        hears c w r h.count h.liveliness_flag old k.hearing k.heard b there k.later
-        (λ flag. c.says (Asserts w (reader_at c.peer r) h.count)
-        (subst (λ (s : Submessage). Says c.config c.own c.at s (Asserts w (reader_at c.peer r) h.count)) (sym is)
-        (to, flag, refl))) k.asserts
+        hears c w r s.count s.liveliness_flag old k.hearing k.heard b there k.later
+        (λ flag. c.says (Asserts w (reader_at c.peer r) s.count)
+        (subst (λ (x : Submessage). Says c.config c.own c.at x (Asserts w (reader_at c.peer r) s.count)) (sym is)
+        (to, sym heard_so.flag ∙ flag, heard_so.count))) k.asserts
 
     claimed_by : IsClaimed c.config c.peer (packets c) w r t
     claimed_by =
-        heartbeat_claimed c.config c.peer (packets c) w r h.first_sn h.count (tracked_by old w r) (b.claimed w r)
+        heartbeat_claimed c.config c.peer (packets c) w r s.first_sn s.count (tracked_by old w r) (b.claimed w r)
         (λ n least below. c.says (MayPass w (reader_at c.peer r) n)
-        (subst (λ (s : Submessage). Says c.config c.own c.at s (MayPass w (reader_at c.peer r) n)) (sym is)
-        (to, least, below)))
+        (subst (λ (x : Submessage). Says c.config c.own c.at x (MayPass w (reader_at c.peer r) n)) (sym is)
+        ((heard_so.first n below).0, least, (heard_so.first n below).1)))
 
     at : t.place ≡ k.goes.place
     at = b.place w r k.goes.place (heard.place k.goes.place k.goes.matched.at)
 
     newest : TookNone c.config c.peer (deliveries c) w r t
     newest d n among applied =
-        later_on (tracked_by old w r).count h.count n k.later (b.newest w r there d n among applied)
+        later_on (tracked_by old w r).count s.count n k.later (b.newest w r there d n among applied)
 
     no_later : (n : ℤ) → heard_of (own_proxies k.heard.part r) w ≡ Some (Some n) → is_later t.count n ≡ false
     no_later n e =
-        ⊎_elim (λ o. later_on (tracked_by old w r).count h.count n k.later (b.heard w r n o))
-        (λ s. subst (λ (x : ℤ). is_later (Some h.count) x ≡ false) s (not_later_than_itself h.count))
+        ⊎_elim (λ o. later_on (tracked_by old w r).count s.count n k.later (b.heard w r n o))
+        (λ same. subst (λ (x : ℤ). is_later (Some s.count) x ≡ false) same (not_later_than_itself s.count))
         (heard.counts n e)
 
     gone : BackedAt c.config c.peer (packets c) (deliveries c) w r k.there
     gone =
         goes_backed c.config c.peer (packets c)
-        (deliveries c) k.heard w r t k.going k.there claimed_by newest no_later k.goes
+        (deliveries c) k.heard w r t k.going k.there claimed_by newest no_later
+        (goes_went k.heard w r t k.going k.there k.goes)
 
     part : new.part ≡ k.there.part
     part = ap (λ (s : State). s.part) k.after
@@ -427,7 +564,7 @@ heartbeat_takes c h is w r entity old made dues new b to k =
     same_count : (new.known.tracked w r).count ≡ (k.there.known.tracked w r).count
     same_count = ap (λ (x : Tracked). x.count) known_is ∙ (answered_same k.answer (k.there.known.tracked w r)).1
 
-    counts : (new.known.tracked w r).count ≡ Some h.count
+    counts : (new.known.tracked w r).count ≡ Some s.count
     counts =
         same_count
         ∙ (ap (λ (s : State). (s.known.tracked w r).count) k.goes.after
@@ -452,7 +589,7 @@ heartbeat_takes c h is w r entity old made dues new b to k =
     frames : Frames old w r new
     frames =
         frames_on old k.there new w r
-        (frames_on old k.heard k.there w r heard.frames (goes_frames k.heard w r t k.going k.there k.goes))
+        (frames_on old k.heard k.there w r heard.frames (way_frames k.heard w r k.going k.there k.goes))
         (subst (λ (s : State). Frames k.there w r s) (sym k.after)
         (frames_known k.there w r (answered k.answer (k.there.known.tracked w r))))
 
@@ -461,11 +598,18 @@ pub heartbeat_taken : (c : Coming) (h : HeartbeatBody) → c.submessage ≡ Hear
     → ReaderTakes c.config c.own c.peer c.at (Heartbeat h) r old made dues new
     → IsTakenAt c (Heartbeat h) r old made new
 heartbeat_taken c h is r old made dues new b (inl k) =
-    ⊎_elim (λ takes. heartbeat_takes c h is k.0 r k.1.entity old made dues new b k.1 takes)
+    ⊎_elim (λ takes. heartbeat_takes c h s is k.0 r k.1.entity old made dues new b k.1 heard_so takes)
     (λ not. nothing_taken c (Heartbeat h) r old made dues new b not.1
     (λ v v_to. subst (λ (x : Endpoint). is_later (old.known.tracked x r).count h.count ≡ false)
-    (writer_is c h.reader_id h.writer_id k.0 v r k.1 v_to) not.0)
+    (writer_is c h.reader_id h.writer_id k.0 v r k.1 v_to)
+    (subst (λ (n : ℤ). is_later (old.known.tracked k.0 r).count n ≡ false) heard_so.count not.0))
     (λ v publication number ch told matched. absurd told)) k.2
+  where
+    s : HeartbeatBody
+    s = heard_as (is_reliable_reader k.1.to.end) h
+
+    heard_so : IsHeardAs c h s k.0 r
+    heard_so = is_heard_as c h k.0 r k.1 (is_reliable_reader k.1.to.end) refl
 heartbeat_taken c h is r old made dues new b (inr k) =
     nothing_taken c (Heartbeat h) r old made dues new b k.1 (λ w told. absurd (k.0 w told))
     (λ w publication number ch told matched. absurd told)

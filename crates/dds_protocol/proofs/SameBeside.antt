@@ -99,6 +99,7 @@ part_beside config peer old new same h = record {
   here = h.here;
   at = h.at;
   writers = same.count ∙ h.writers;
+  matched = λ number w at. (same.writers number).grows.matched ∙ h.matched number w at;
   readers = λ number w at.
       ap (λ (rows : List ReaderProxy). map (λ (p : ReaderProxy). p.reader) rows)
       (alike_readers (own_writer old number) (own_writer new number) (same.writers number))
@@ -108,8 +109,7 @@ part_beside config peer old new same h = record {
 beats_alike : (old new : Writer) → AlikeWriters old new → heartbeats_used new ≡ heartbeats_used old
 beats_alike old new h =
     ap (λ (bs : List Bool). length bs) (h.counts (has_readers new))
-    ∙ ap (λ (rows : List ReaderProxy). length (counts_of (nat_lt 0 (length rows)) old.written))
-    (alike_readers old new h)
+    ∙ ap (λ (es : List Endpoint). length (counts_of (nat_lt 0 (length es)) old.written)) h.grows.matched
 
 pub used_beside : (config : Config) (old new : WorldState) → SameBeside old new → HasUsedCounts config old
     → HasUsedCounts config new

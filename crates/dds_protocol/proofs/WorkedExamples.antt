@@ -18,7 +18,7 @@ use Rattle.rtps_wire.specs.declared.heartbeat.Heartbeat.{Heartbeat as HeartbeatB
 use Rattle.rtps_wire.specs.declared.submessage.Submessage.TheVariants.{Data, Heartbeat, AckNack, Gap}
 use Rattle.dds_protocol.specs.Claims.{ChangeIs, MayPass, PlaceReached, Asserts, Receiver, every_reader, IsInGap, Says}
 use Rattle.rtps_wire.specs.Content.{change_in}
-use Rattle.dds_protocol.proofs.WorkedReceivers.{prefix_1, prefix_2, w1_id, r1_id, r2_id, reader, network, w1, r1, r2, r3, to_2, to_1, to_r1, to_r3, some_is, writer-is, reader-is, not_to_r2, not_to_r3, from_r1, from_r3}
+use Rattle.dds_protocol.proofs.WorkedReceivers.{prefix_1, prefix_2, w1_id, r1_id, r2_id, reader, network, w1, r1, r2, r3, to_2, to_1, to_r1, to_reliable_r1, to_r3, some_is, writer-is, reader-is, not_to_r2, not_to_r3, from_r1, from_r3}
 
 -- ---- DATA
 
@@ -76,7 +76,7 @@ abbrev pub gap_2 : GapBody
 gap_2 = record { reader_id = r1_id; writer_id = w1_id; gap_start = 2; gap_list = empty_from 3 }
 
 pub gap-names_2 : Says network prefix_2 to_2 (Gap gap_2) (MayPass w1 r1 2)
-gap-names_2 = (to_r1 r1_id 0 (inl refl), omega arith, inl (omega arith, omega arith))
+gap-names_2 = (to_reliable_r1 r1_id (inl refl), omega arith, inl (omega arith, omega arith))
 
 -- it names no number below gapStart, nor the set's base
 gap-not_1 : (own : GuidPrefix) (at : Receiver) → Says network own at (Gap gap_2) (MayPass w1 r1 1) → ⊥
@@ -88,7 +88,7 @@ gap-not_3 own at h = ⊎_elim (λ below. let high = below.1 in absurd (omega ari
 -- another reader may not pass what it names
 gap-not_to_r3 : (own : GuidPrefix) (at : Receiver) (number : ℕ) → Says network own at (Gap gap_2) (MayPass w1 r3 number)
     → ⊥
-gap-not_to_r3 own at number h = not_to_r3 own at w1_id h.0
+gap-not_to_r3 own at number h = not_to_r3 own at w1_id h.0.is_to
 
 -- gapStart 2, the set from 4 on with 6
 abbrev gap_2_3_6 : GapBody
@@ -144,10 +144,10 @@ heartbeat-passes_none own at number h = let low = h.1 in let high = h.2 in absur
 
 -- where it keeps 3 alone, 1 and 2 may be
 heartbeat-passes_1 : Says network prefix_2 to_2 (Heartbeat (heartbeat 3 3 (pos 1) false)) (MayPass w1 r1 1)
-heartbeat-passes_1 = (to_r1 every_reader 0 (inr refl), omega arith, omega arith)
+heartbeat-passes_1 = (to_reliable_r1 every_reader (inr refl), omega arith, omega arith)
 
 heartbeat-passes_2 : Says network prefix_2 to_2 (Heartbeat (heartbeat 3 3 (pos 1) false)) (MayPass w1 r1 2)
-heartbeat-passes_2 = (to_r1 every_reader 0 (inr refl), omega arith, omega arith)
+heartbeat-passes_2 = (to_reliable_r1 every_reader (inr refl), omega arith, omega arith)
 
 heartbeat-not_3 : (own : GuidPrefix) (at : Receiver)
     → Says network own at (Heartbeat (heartbeat 3 3 (pos 1) false)) (MayPass w1 r1 3) → ⊥
@@ -161,7 +161,7 @@ heartbeat-not_0 own at h = let low = h.1 in absurd (omega arith)
 -- to a reader of another topic it says nothing
 heartbeat-not_to_r2 : (own : GuidPrefix) (at : Receiver) (number : ℕ)
     → Says network own at (Heartbeat (heartbeat 3 3 (pos 1) false)) (MayPass w1 r2 number) → ⊥
-heartbeat-not_to_r2 own at number h = not_to_r2 own at every_reader w1_id h.0
+heartbeat-not_to_r2 own at number h = not_to_r2 own at every_reader w1_id h.0.is_to
 
 -- with flag L its count numbers an assertion, without it none
 heartbeat-asserts : Says network prefix_2 to_2 (Heartbeat (heartbeat 1 3 (pos 7) true)) (Asserts w1 r1 (pos 7))

@@ -1,6 +1,6 @@
 -- Which moves a place makes, computed at two peers: over changes that come and over runs that are passed over. Peer 1
 -- has a writer w1, peer 2 a matched reader r1.
-use Rattle.std.proofs.Common.{◌≡◌, ℕ, zero, suc, ◌+◌, ◌<◌, ◌≤◌, true, Option, None, List, [], ◌∷◌, refl, ap, subst, arith}
+use Rattle.std.proofs.Common.{◌≡◌, ℕ, zero, suc, ◌+◌, ◌<◌, ◌≤◌, true, Option, None, List, [], ◌∷◌, refl, ap, subst, inl, ⊎_elim, arith}
 use Rattle.std.specs.Prelude.{ℤ, slice_index}
 use Rattle.dds_base.specs.declared.change.Change.{Change}
 use Rattle.dds_base.specs.declared.config.Config.{Config}
@@ -13,7 +13,7 @@ use Rattle.dds_base.specs.Kept.{is_dropped}
 use Rattle.dds_base.specs.Presence.{has_room}
 use Rattle.dds_base.specs.Written.{Written, Changed}
 use Rattle.dds_base.specs.declared.happening.PassedRun.{PassedRun}
-use Rattle.dds_base.specs.Places.{WriterGrounds, Match, Position, Comes, AllCome, Passes, IsApart, GoesTo}
+use Rattle.dds_base.specs.Places.{WriterGrounds, Match, Position, Comes, AllCome, Passes, MayPassOver, IsApart, GoesTo}
 use Rattle.dds_conditions.specs.Watched.{opened as nothing_watched}
 use Rattle.dds_notices.specs.Listeners.{nobody}
 use Rattle.dds_machine.specs.declared.reply.Move.{Move}
@@ -44,6 +44,7 @@ writing policy max_samples happened acknowledged =
       lease = None;
       autodispose = true;
       written = happened;
+      matched = r1 ∷ [];
       readers = record { reader = r1; acknowledged = acknowledged } ∷ [];
     }
 
@@ -190,7 +191,7 @@ lost_2 = came 3 (write_of 2 3) ∷ Passed 1 2 2 ∷ came_1
 
 -- what a run of these numbers asks of them
 abbrev Dropped : Writer → ℕ → Type 0
-Dropped w number = is_dropped (history_of w) number ≡ true
+Dropped w number = MayPassOver (as_to (grounds_at_2 w) w1 1) the_match.qos number
 
 each_of_one : (P : ℕ → Type 0) (n : ℕ) → P n → (number : ℕ) → n ≤ number → number ≤ n → P number
 each_of_one P n here number low high = let same : n ≡ number = omega arith in subst P same here
@@ -213,7 +214,7 @@ place-passes_2 =
         begins = refl;
         ordered = omega arith;
         may_pass = each_of_one
-            (Dropped one_dropped) 2 refl;
+            (Dropped one_dropped) 2 (inl refl);
         after = refl;
       },
       tt,
@@ -232,14 +233,15 @@ passes-2_and_3 =
       begins = refl;
       ordered = omega arith;
       may_pass = each_of_2_and_3
-          (Dropped two_dropped) refl refl;
+          (Dropped two_dropped) (inl refl) (inl refl);
       after = refl;
     }
 
 -- a run ends where a change is not dropped, and begins at the place
 passes-not_4 : (old new : Position) (first : ℕ) → first ≤ 4
     → Passes (as_to (grounds_at_2 two_dropped) w1 1) the_match old (run first 4) new → ⊥
-passes-not_4 old new first low h = let dropped = h.may_pass 4 low (omega arith) in absurd cc
+passes-not_4 old new first low h =
+    ⊎_elim (λ dropped. absurd cc) (λ jumps. let other = jumps.0 in absurd cc) (h.may_pass 4 low (omega arith))
 
 passes-not_from_3 : (happened : List Happening) (new : Position)
     → Passes (as_to (grounds_at_2 two_dropped) w1 1) the_match (position 2 happened) (run 3 3) new → ⊥
@@ -248,7 +250,8 @@ passes-not_from_3 happened new h = let begins = h.begins in absurd (omega arith)
 -- of a writer that keeps all no change is passed over
 passes-none_of_keep_all : (old new : Position) (first last : ℕ)
     → Passes (as_to (grounds_at_2 kept) w1 1) the_match old (run first last) new → ⊥
-passes-none_of_keep_all old new first last h = let dropped = h.may_pass first (omega arith) h.ordered in absurd cc
+passes-none_of_keep_all old new first last h =
+    ⊎_elim (λ dropped. absurd cc) (λ jumps. let other = jumps.0 in absurd cc) (h.may_pass first (omega arith) h.ordered)
 
 -- ---- runs that are apart
 
@@ -267,7 +270,7 @@ goes-over_two_runs = (
   position 1 [],
   position 2 (Passed 1 1 1 ∷ []),
   ([], refl, refl),
-  record { begins = refl; ordered = omega arith; may_pass = each_of_one (Dropped apart) 1 refl; after = refl },
+  record { begins = refl; ordered = omega arith; may_pass = each_of_one (Dropped apart) 1 (inl refl); after = refl },
   omega arith,
   (
     position 3 (came 2 (write_of 2 2) ∷ Passed 1 1 1 ∷ []),
@@ -281,7 +284,7 @@ goes-over_two_runs = (
       ),
       refl,
     ),
-    record { begins = refl; ordered = omega arith; may_pass = each_of_one (Dropped apart) 3 refl; after = refl },
+    record { begins = refl; ordered = omega arith; may_pass = each_of_one (Dropped apart) 3 (inl refl); after = refl },
     tt,
     (write_of 1 4 ∷ [], (position 5 lost_1_and_3, record { is_change = refl; room = refl; after = refl }, refl), refl),
   ),

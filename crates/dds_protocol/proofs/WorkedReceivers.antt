@@ -15,7 +15,7 @@ use Rattle.dds_base.specs.declared.qos.ReliabilityQos.TheVariants.{Reliable}
 use Rattle.rtps_wire.specs.declared.data.Data.{Data as DataBody}
 use Rattle.rtps_wire.specs.declared.submessage.Submessage.TheVariants.{Pad, InfoDst, InfoTs, Data}
 use Rattle.dds_machine.specs.declared.endpoint.Endpoint.{Endpoint}
-use Rattle.dds_protocol.specs.Claims.{IsNumbered, IsWriter, IsReader, Receiver, every_peer, receiver_of, is_for, after_submessage, StandsAt, every_reader, Names, IsToReader, IsToWriter}
+use Rattle.dds_protocol.specs.Claims.{IsNumbered, IsWriter, IsReader, Receiver, every_peer, receiver_of, is_for, after_submessage, StandsAt, every_reader, Names, IsToReader, IsToReliable, IsToWriter}
 
 abbrev pub prefix_1 : GuidPrefix
 prefix_1 = record { 0 = replicate 11 0 ++ 1 ∷ [] }
@@ -200,6 +200,21 @@ pub to_r1 : (reader_id : EntityId) (timestamp : ℕ) → Names reader_id r1_id
     → IsToReader network prefix_2 (record to_2 { timestamp = timestamp }) reader_id w1_id w1 r1
 to_r1 reader_id timestamp named =
     record { from = w1_named; is_for = refl; entity = r1_id; to = r1_named; named = named; matched = refl }
+
+-- which is a reliable reader
+pub to_reliable_r1 : (reader_id : EntityId) → Names reader_id r1_id
+    → IsToReliable network prefix_2 to_2 reader_id w1_id w1 r1
+to_reliable_r1 reader_id named = record {
+  is_to = record {
+    from = w1_named;
+    is_for = refl;
+    entity = r1_id;
+    to = r1_named;
+    named = named;
+    matched = refl;
+  };
+  reliable = refl;
+}
 
 -- that of zeros names r3 too
 pub to_r3 : IsToReader network prefix_2 to_2 every_reader w1_id w1 r3

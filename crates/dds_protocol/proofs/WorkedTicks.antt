@@ -74,6 +74,7 @@ tick-back = refl
 -- a writer of two readers of one peer, which has used a count at a tick
 abbrev writer : Writer
 writer = record no_writer {
+  matched = r1 ∷ r3 ∷ [];
   readers = record { reader = r1; acknowledged = 1 } ∷ record { reader = r3; acknowledged = 1 } ∷ [];
   written = Ticked 0 true ∷ [];
 }

@@ -10,6 +10,7 @@ use Rattle.dds_base.specs.declared.config.ReaderConfig.{ReaderConfig}
 use Rattle.dds_base.specs.declared.guid.GuidPrefix.{GuidPrefix}
 use Rattle.dds_base.specs.declared.guid.EntityId.{EntityId}
 use Rattle.dds_base.specs.Checked.{unknown_prefix, same_prefix}
+use Rattle.dds_base.specs.Matched.{is_reliable_reader}
 use Rattle.rtps_sets.specs.NumberSet.{has_number}
 use Rattle.rtps_wire.specs.declared.gap.Gap.{Gap as GapBody}
 use Rattle.rtps_wire.specs.declared.message.Message.{Message}
@@ -110,6 +111,12 @@ pub record IsToReader (config : Config) (own : GuidPrefix) (at : Receiver) (read
   pub named : Names reader_id entity
   pub matched : from.end.topic ≡ to.end.topic
 
+-- the same, and the reader is a reliable one: a best-effort reader is told nothing of what was dropped
+pub record IsToReliable (config : Config) (own : GuidPrefix) (at : Receiver) (reader_id writer_id : EntityId)
+    (writer reader : Endpoint) : Type 0 where
+  pub is_to : IsToReader config own at reader_id writer_id writer reader
+  pub reliable : is_reliable_reader is_to.to.end ≡ true
+
 -- the submessage is from the reader, which its readerId names, for the writer, with which it is matched
 pub record IsToWriter (config : Config) (own : GuidPrefix) (at : Receiver) (reader_id writer_id : EntityId)
     (writer reader : Endpoint) : Type 0 where
@@ -143,9 +150,9 @@ Says config own at (Data d) (ChangeIs writer reader number change) =
     IsToReader config own at d.reader_id d.writer_id writer reader × (number ≡ d.writer_sn)
     × (change ≡ change_in d.content at.timestamp)
 Says config own at (Gap g) (MayPass writer reader number) =
-    IsToReader config own at g.reader_id g.writer_id writer reader × (1 ≤ number) × IsInGap g number
+    IsToReliable config own at g.reader_id g.writer_id writer reader × (1 ≤ number) × IsInGap g number
 Says config own at (Heartbeat h) (MayPass writer reader number) =
-    IsToReader config own at h.reader_id h.writer_id writer reader × (1 ≤ number) × (number < h.first_sn)
+    IsToReliable config own at h.reader_id h.writer_id writer reader × (1 ≤ number) × (number < h.first_sn)
 Says config own at (Heartbeat h) (Asserts writer reader count) =
     IsToReader config own at h.reader_id h.writer_id writer reader × (h.liveliness_flag ≡ true) × (count ≡ h.count)
 Says config own at (AckNack a) (PlaceReached writer reader base) =

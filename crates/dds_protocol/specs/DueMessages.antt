@@ -84,7 +84,7 @@ change_message own to writer number change =
     record { prefix = own; submessages = InfoDst to ∷ data_of every_reader writer number (Some change) }
 
 -- what is due once a writer has made the change of this number: a message to each peer with one of these readers
-abbrev pub changes_due : Config → Endpoint → List ReaderProxy → ℕ → Change → List Due
+abbrev pub changes_due : Config → Endpoint → List Endpoint → ℕ → Change → List Due
 changes_due config writer readers number change =
     map (λ to. record {
       to = to;
@@ -92,9 +92,10 @@ changes_due config writer readers number change =
           (writer_entity config writer.peer writer.number) number change;
     }) (peers_of readers)
 
--- the matched readers that have not acknowledged all changes of a writer
-abbrev pub readers_behind : Writer → List ReaderProxy
-readers_behind w = filter (λ (p : ReaderProxy). nat_le p.acknowledged (length (writer_changes w))) w.readers
+-- the matched reliable readers that have not acknowledged all changes of a writer
+abbrev pub readers_behind : Writer → List Endpoint
+readers_behind w = map (λ (p : ReaderProxy). p.reader)
+    (filter (λ (p : ReaderProxy). nat_le p.acknowledged (length (writer_changes w))) w.readers)
 
 -- a HEARTBEAT of a writer with these flags: from its first kept number to its last, with the next count
 abbrev pub heartbeat_with : (final liveliness : Bool) (own to : GuidPrefix) (writer : EntityId) → Writer → Message
@@ -147,7 +148,7 @@ assertions_due config writer w =
       to = to;
       message = assertion_message (prefix_of config writer.peer) (prefix_of config to)
           (writer_entity config writer.peer writer.number) w;
-    }) (peers_of w.readers)
+    }) (peers_of w.matched)
 
 -- of the messages that are due these packets are sent, in their order, each in the one written form that it has; so
 -- many more found no memory

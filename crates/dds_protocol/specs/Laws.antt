@@ -2,7 +2,7 @@
 --
 -- The laws are this project's own; what they speak of is in RTPS 2.5, 8.3.8 and 8.4 (behaviour), and DDS 1.4,
 -- 2.2.3 (HISTORY: KEEP_ALL; OWNERSHIP).
-use Rattle.std.specs.Prelude.{◌≡◌, ◌≢◌, ℕ, ◌≤◌, Some, None, IsSome, List, [], ◌∷◌, length, Contains}
+use Rattle.std.specs.Prelude.{◌≡◌, ◌≢◌, ℕ, ◌≤◌, true, Some, None, IsSome, List, [], ◌∷◌, length, Contains}
 use Rattle.std.specs.List.{All}
 use Rattle.dds_base.specs.declared.config.Config.{Config}
 use Rattle.dds_base.specs.declared.config.PeerConfig.{PeerConfig}
@@ -15,7 +15,9 @@ use Rattle.dds_base.specs.Ownership.{IsMatched, HaveOwnGuids, registered_writers
 use Rattle.dds_protocol.specs.Noticing.{world_ended}
 use Rattle.dds_machine.specs.declared.call.Call.TheVariants.{AssertLiveliness}
 use Rattle.dds_machine.specs.declared.endpoint.Endpoint.{Endpoint}
+use Rattle.dds_base.specs.Matched.{is_reliable}
 use Rattle.dds_machine.specs.declared.event.WorldEvent.{WorldEvent}
+use Rattle.dds_machine.specs.declared.event.WorldEvent.TheVariants.{Deliver}
 use Rattle.dds_machine.specs.declared.reply.Move.{Move}
 use Rattle.dds_machine.specs.declared.reply.Move.TheVariants.{Place}
 use Rattle.dds_machine.specs.declared.reply.Reply.{Reply}
@@ -31,11 +33,11 @@ use Rattle.dds_protocol.specs.Dues.{AreTellable, IsPartOf, AreTruthful, IsSized,
 use Rattle.dds_machine.specs.Ticks.{TickStep}
 use Rattle.dds_machine.specs.Calls.{CallStep}
 use Rattle.dds_machine.specs.Watching.{Tests}
-use Rattle.dds_machine.specs.Machine.{Machine, AllTests, writer_at, Step}
+use Rattle.dds_machine.specs.Machine.{Machine, AllTests, part_at, writer_at, Step}
 use Rattle.dds_protocol.specs.World.{WorldState, WorldStep, machine_of, Sound}
 use Rattle.dds_protocol.specs.Progress.{Progresses}
 use Rattle.dds_machine.specs.Runs.{Run}
-use Rattle.dds_machine.specs.Part.{Part, own_writer, publication_among}
+use Rattle.dds_machine.specs.Part.{Part, own_writer, own_reader, publication_among}
 use Rattle.dds_machine.specs.Opening.{matched_writers, reader_qos}
 use Rattle.dds_protocol.specs.Opening.{opening_world}
 
@@ -66,24 +68,28 @@ ComposesRuns = (config : Config) (tests : AllTests) (old new : WorldState) (even
     (replies : List Reply) → Sound config old → WorldRun config tests old events replies new
     → Run tests (length old.sent) (machine_of old) events replies (length new.sent) (machine_of new) × Sound config new
 
--- no change of this writer is passed over
-abbrev pub PassesNone : Endpoint → List Move → Type 0
-PassesNone writer [] = Unit {0}
-PassesNone writer (Place w reader to [] ∷ moves) = PassesNone writer moves
-PassesNone writer (Place w reader to (run ∷ runs) ∷ moves) = (w ≡ writer → ⊥) × PassesNone writer moves
-PassesNone writer (m ∷ moves) = PassesNone writer moves
+-- no change of this writer is passed over by the peer's reader of this number
+abbrev pub PassesNone : Endpoint → ℕ → List Move → Type 0
+PassesNone writer reader [] = Unit {0}
+PassesNone writer reader (Place w r to [] ∷ moves) = PassesNone writer reader moves
+PassesNone writer reader (Place w r to (run ∷ runs) ∷ moves) =
+    (w ≡ writer → r ≡ reader → ⊥) × PassesNone writer reader moves
+PassesNone writer reader (m ∷ moves) = PassesNone writer reader moves
 
--- no reply reports that a change of this writer was passed over
-abbrev pub LosesNone : Endpoint → List Reply → Type 0
-LosesNone writer [] = Unit {0}
-LosesNone writer (Reported report ∷ replies) = PassesNone writer report.moves × LosesNone writer replies
-LosesNone writer (reply ∷ replies) = LosesNone writer replies
+-- no reply reports that a change of this writer was passed over by this reader
+abbrev pub LosesNone : Endpoint → Endpoint → List WorldEvent → List Reply → Type 0
+LosesNone writer reader (Deliver peer packet ∷ events) (Reported report ∷ replies) =
+    (peer ≡ reader.peer → PassesNone writer reader.number report.moves) × LosesNone writer reader events replies
+LosesNone writer reader (event ∷ events) (reply ∷ replies) = LosesNone writer reader events replies
+LosesNone writer reader events replies = Unit {0}
 
--- in no run is a change of a KEEP_ALL writer passed over
+-- in no run is a change of a KEEP_ALL writer passed over by a reliable reader
 abbrev pub KeepAllIsKept : Type 0
-KeepAllIsKept = (tests : AllTests) (writer : Endpoint) (m after : Machine) (events : List WorldEvent)
+KeepAllIsKept = (tests : AllTests) (writer reader : Endpoint) (m after : Machine) (events : List WorldEvent)
     (replies : List Reply) (sent last : ℕ)
-    → (writer_at m writer).policy ≡ KeepAll → Run tests sent m events replies last after → LosesNone writer replies
+    → (writer_at m writer).policy ≡ KeepAll
+    → is_reliable (own_reader (part_at m reader.peer) reader.number).qos.reliability ≡ true
+    → Run tests sent m events replies last after → LosesNone writer reader events replies
 
 -- A reader of these peers tells its matched writers apart: no two have one GUID, and each publication handle, from 1
 -- on, is that of one.

@@ -2,6 +2,7 @@
 --
 -- RTPS 2.5, 8.4.9 (reliable StatefulWriter), 8.4.12 (reliable StatefulReader).
 use Rattle.std.specs.Prelude.{◌≡◌, ◌≢◌, ◌⊎◌, ℕ, ◌+◌, ◌≤◌, ◌==◌, ◌&&◌, Bool, true, false, if◌then◌else◌, nat_lt, nat_le, max, List, [], ◌∷◌, ◌++◌, length, map, Option, Some, None, ℤ}
+use Rattle.dds_base.specs.declared.change.Change.{Change}
 use Rattle.dds_base.specs.declared.config.Config.{Config}
 use Rattle.dds_base.specs.declared.guid.EntityId.{EntityId}
 use Rattle.dds_base.specs.declared.guid.GuidPrefix.{GuidPrefix}
@@ -9,8 +10,11 @@ use Rattle.dds_base.specs.declared.happening.Happening.{Happening}
 use Rattle.dds_base.specs.declared.happening.Happening.TheVariants.{Heard as WasHeard}
 use Rattle.dds_base.specs.declared.happening.PassedRun.{PassedRun}
 use Rattle.dds_base.specs.Kept.{numbers_from, is_kept}
+use Rattle.dds_base.specs.Matched.{is_reliable, is_reliable_reader}
+use Rattle.dds_base.specs.Places.{Match}
 use Rattle.dds_base.specs.Counts.{is_later}
 use Rattle.rtps_wire.specs.declared.acknack.AckNack.{AckNack as AckNackBody}
+use Rattle.rtps_wire.specs.declared.gap.Gap.{Gap as GapBody}
 use Rattle.rtps_wire.specs.declared.heartbeat.Heartbeat.{Heartbeat as HeartbeatBody}
 use Rattle.rtps_wire.specs.declared.message.Message.{Message}
 use Rattle.rtps_wire.specs.declared.submessage.Submessage.{Submessage}
@@ -20,6 +24,7 @@ use Rattle.rtps_wire.specs.Messages.{ReadsMessage}
 use Rattle.rtps_reader.specs.declared.step.AckNackDue.{AckNackDue}
 use Rattle.rtps_reader.specs.Tracked.{Tracked, fresh, with_data, with_gap, with_heartbeat}
 use Rattle.rtps_reader.specs.Advance.{Advances}
+use Rattle.rtps_reader.specs.Jump.{Jumps}
 use Rattle.rtps_reader.specs.Answer.{AnswersHeartbeat, answered}
 use Rattle.rtps_writer.specs.declared.answer.Answer.{Answer}
 use Rattle.rtps_writer.specs.Answers.{answers_to, requested}
@@ -75,10 +80,10 @@ InTurn step (x ∷ xs) old moves dues new =
 abbrev pub Idles : State → List Move → List Due → State → Type 0
 Idles old moves dues new = (moves ≡ []) × (dues ≡ []) × (new ≡ old)
 
--- The place of one of the peer's readers goes as far as it can in the list of a matched writer, of which the reader
--- knows this by now.
-pub record Goes (old : State) (writer : Endpoint) (reader : ℕ) (t : Tracked) (moves : List Move)
-    (new : State) : Type 0 where
+-- The place of one of the peer's readers goes on in the list of a matched writer, on this way: by the reader's match,
+-- from what happened to where the place goes, what is passed over, what is known then, and what happened then.
+pub record GoesBy (Way : Match → List Happening → ℕ → List PassedRun → Tracked → List Happening → Type 0) (old : State)
+    (writer : Endpoint) (reader : ℕ) (moves : List Move) (new : State) : Type 0 where
   pub publication : ℕ
   pub place : ℕ
   pub matched : IsMatchedAt old.part writer reader publication place
@@ -86,13 +91,38 @@ pub record Goes (old : State) (writer : Endpoint) (reader : ℕ) (t : Tracked) (
   pub passed : List PassedRun
   pub known : Tracked
   pub happened : List Happening
-  pub advances : Advances (match_of old.part reader publication) t
+  pub advances : Way (match_of old.part reader publication)
       (own_reader old.part reader).happened to passed known happened
   pub moves_are : moves ≡ (if nat_lt place to then Place writer reader to passed ∷ [] else [])
   pub after : new ≡ record {
     part = at_reader old.part reader (with_place (own_proxies old.part reader) writer to) happened;
     known = with_tracked old.known writer reader known;
   }
+
+-- the place of a reader goes as far as it can, by what the reader knows by now
+abbrev pub Goes : State → Endpoint → ℕ → Tracked → List Move → State → Type 0
+Goes old writer reader t moves new = GoesBy (λ match h. Advances match t h) old writer reader moves new
+
+-- What a change does at a reader: a reliable one holds it, and its place goes as far as it can; a best-effort one takes
+-- it at once, over all before it, or not at all (DDS 1.4, 2.2.3, RELIABILITY).
+abbrev pub TakesChange : Bool → State → Endpoint → ℕ → ℕ → Change → List Move → State → Type 0
+TakesChange true old writer reader number change moves new =
+    Goes old writer reader (with_data number change (old.known.tracked writer reader)) moves new
+TakesChange false old writer reader number change moves new =
+    (is_reliable (own_reader old.part reader).qos.reliability ≡ false)
+    × GoesBy (λ match h. Jumps match (old.known.tracked writer reader) h number change) old writer reader moves new
+
+-- what a GAP does at a reader: at a best-effort one nothing
+abbrev pub TakesGap : Bool → State → Endpoint → ℕ → GapBody → List Move → State → Type 0
+TakesGap true old writer reader g moves new =
+    Goes old writer reader (with_gap g.gap_start g.gap_list (old.known.tracked writer reader)) moves new
+TakesGap false old writer reader g moves new = (moves ≡ []) × (new ≡ old)
+
+-- what a reader hears of a HEARTBEAT: a best-effort one its count and its flag L alone, as if it spoke of no number, and
+-- asked for no answer
+abbrev pub heard_as : Bool → HeartbeatBody → HeartbeatBody
+heard_as true h = h
+heard_as false h = record h { first_sn = 0; last_sn = 0; final_flag = true }
 
 -- a reader hears that a matched writer has asserted its liveliness
 pub record HearsOf (old : State) (writer : Endpoint) (reader : ℕ) (count : ℤ) (new : State) : Type 0 where
@@ -134,12 +164,13 @@ TakesOrNot own at old writer reader entity h moves dues new =
     TakesHeartbeat own at old writer reader entity h moves dues new
     ⊎ ((is_later (old.known.tracked writer reader).count h.count ≡ false) × Idles old moves dues new)
 
--- the submessage names the peer's reader, and is of a writer that is matched with it, which takes it so; else it is
--- nothing to the reader
+-- the submessage names the peer's reader, which is of this reliability, and is of a writer that is matched with it: the
+-- reader takes it so; else it is nothing to the reader
 abbrev pub WhereMatched : Config → GuidPrefix → Receiver → EntityId → EntityId → Endpoint
-    → (Endpoint → EntityId → Type 0) → Type 0 → Type 0
+    → (Endpoint → EntityId → Bool → Type 0) → Type 0 → Type 0
 WhereMatched config own at reader_id writer_id reader Takes Idle =
-    ((writer : Endpoint) × (is : IsToReader config own at reader_id writer_id writer reader) × Takes writer is.entity)
+    ((writer : Endpoint) × (is : IsToReader config own at reader_id writer_id writer reader)
+    × Takes writer is.entity (is_reliable_reader is.to.end))
     ⊎ (((writer : Endpoint) → IsToReader config own at reader_id writer_id writer reader → ⊥) × Idle)
 
 -- what the peer's reader of this number does with a submessage
@@ -147,18 +178,16 @@ abbrev pub ReaderTakes : Config → GuidPrefix → ℕ → Receiver → Submessa
     → Type 0
 ReaderTakes config own peer at (Data d) reader old moves dues new =
     WhereMatched config own at d.reader_id d.writer_id (record { peer = peer; number = reader })
-    (λ writer entity. Goes old writer reader
-    (with_data d.writer_sn (change_in d.content at.timestamp) (old.known.tracked writer reader)) moves new
-    × (dues ≡ []))
+    (λ writer entity reliable.
+    TakesChange reliable old writer reader d.writer_sn (change_in d.content at.timestamp) moves new × (dues ≡ []))
     (Idles old moves dues new)
 ReaderTakes config own peer at (Gap g) reader old moves dues new =
     WhereMatched config own at g.reader_id g.writer_id (record { peer = peer; number = reader })
-    (λ writer entity. Goes old writer reader
-    (with_gap g.gap_start g.gap_list (old.known.tracked writer reader)) moves new × (dues ≡ []))
+    (λ writer entity reliable. TakesGap reliable old writer reader g moves new × (dues ≡ []))
     (Idles old moves dues new)
 ReaderTakes config own peer at (Heartbeat h) reader old moves dues new =
     WhereMatched config own at h.reader_id h.writer_id (record { peer = peer; number = reader })
-    (λ writer entity. TakesOrNot own at old writer reader entity h moves dues new)
+    (λ writer entity reliable. TakesOrNot own at old writer reader entity (heard_as reliable h) moves dues new)
     (Idles old moves dues new)
 ReaderTakes config own peer at submessage reader old moves dues new = Idles old moves dues new
 

@@ -2,11 +2,12 @@
 -- HEARTBEAT, the reader's ACKNACK, and the answers to that, each delivered once. After it the reader has caught up.
 --
 -- RTPS 2.5, 8.4.9 (reliable StatefulWriter), 8.4.12 (reliable StatefulReader).
-use Rattle.std.specs.Prelude.{◌≡◌, ◌⊎◌, ℕ, ◌+◌, ◌-◌, ◌^◌, ◌<◌, ◌≤◌, min, false, List, [], ◌∷◌, length, slice_get, None, Some, ℤ, Contains}
+use Rattle.std.specs.Prelude.{◌≡◌, ◌⊎◌, ℕ, ◌+◌, ◌-◌, ◌^◌, ◌<◌, ◌≤◌, min, true, false, List, [], ◌∷◌, length, slice_get, None, Some, ℤ, Contains}
 use Rattle.dds_base.specs.declared.change.Change.{Change}
 use Rattle.dds_base.specs.declared.config.Config.{Config}
 use Rattle.dds_base.specs.declared.guid.EntityId.{EntityId}
 use Rattle.dds_base.specs.Checked.{check_refusal}
+use Rattle.dds_base.specs.Matched.{is_reliable_reader}
 use Rattle.dds_base.specs.Places.{coming}
 use Rattle.dds_base.specs.Presence.{has_room}
 use Rattle.rtps_reader.specs.Tracked.{Held}
@@ -95,13 +96,14 @@ pub record IsRepairRound (config : Config) (tests : AllTests) (writer reader : E
   pub asks : AsksInRound config tests writer reader old asked
   pub repairs : DeliversAll config tests (ask_in asks) reader.peer asks.answers.step.packets new
 
--- the configuration has the writer and the reader, of one topic
+-- the configuration has the writer and the reader, which is a reliable one, of one topic
 pub record IsPair (config : Config) (writer reader : Endpoint) : Type 0 where
   pub writer_entity : EntityId
   pub is_writer : IsWriter config (prefix_of config writer.peer) writer_entity writer
   pub reader_entity : EntityId
   pub is_reader : IsReader config (prefix_of config reader.peer) reader_entity reader
   pub matched : is_writer.end.topic ≡ is_reader.end.topic
+  pub reliable : is_reliable_reader is_reader.end ≡ true
 
 -- the reader's place in the writer's list, and what the writer has of the reader; and what the reader knows is of that
 -- place

@@ -25,7 +25,7 @@ use Rattle.dds_protocol.specs.World.{WorldState, WorldStep, peer_at, machine_of}
 -- assertion is told
 abbrev pub announcements_due : Config → ℕ → Part → Effect → List Due
 announcements_due config peer part (writes writer (Changed change)) =
-    changes_due config (record { peer = peer; number = writer }) (own_writer part writer).readers
+    changes_due config (record { peer = peer; number = writer }) (own_writer part writer).matched
     (length (writer_changes (own_writer part writer)) + 1) change
 announcements_due config peer part (writes writer (Asserted moment)) =
     assertions_due config (record { peer = peer; number = writer }) (own_writer part writer)

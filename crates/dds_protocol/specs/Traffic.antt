@@ -1,7 +1,7 @@
 -- What is sent at an event, as far as the machine without packets can say.
 --
 -- RTPS 2.5, 8.4.7 (StatefulWriter), 8.4.9 and 8.4.12.
-use Rattle.std.specs.Prelude.{◌≡◌, ◌≢◌, ◌⊎◌, ℕ, ◌+◌, ◌-◌, ◌^◌, List, [], ◌++◌, length, min, IsSome, Contains, AllPairs}
+use Rattle.std.specs.Prelude.{◌≡◌, ◌≢◌, ◌⊎◌, ℕ, ◌+◌, ◌-◌, ◌^◌, List, [], ◌++◌, length, min, Contains, AllPairs}
 use Rattle.dds_base.specs.declared.change.Change.{Change}
 use Rattle.dds_base.specs.declared.config.Config.{Config}
 use Rattle.dds_base.specs.Written.{Changed, Asserted}
@@ -11,7 +11,7 @@ use Rattle.dds_machine.specs.declared.event.WorldEvent.TheVariants as world
 use Rattle.dds_protocol.specs.declared.event.Packet.{Packet}
 use Rattle.dds_machine.specs.declared.reply.Reply.{Reply}
 use Rattle.dds_machine.specs.declared.reply.Reply.TheVariants.{Done, Reported}
-use Rattle.dds_machine.specs.Part.{ReaderProxy, peers_of, acknowledged_of, writer_changes}
+use Rattle.dds_machine.specs.Part.{peers_of, writer_changes}
 use Rattle.dds_machine.specs.Calls.{Effect, writes, effect_of}
 use Rattle.dds_protocol.specs.Claims.{ChangeIs, Claims}
 use Rattle.dds_machine.specs.Machine.{Machine, part_at, writer_at}
@@ -28,13 +28,13 @@ no_traffic = record { sent = []; unsent = 0 }
 
 -- A change of a writer is announced: each peer with a matched reader is sent one packet, in its one written form, in
 -- which the change is for each such reader, or the packet is counted as unsent.
-pub record Announced (config : Config) (old : Traffic) (writer : Endpoint) (readers : List ReaderProxy) (number : ℕ)
+pub record Announced (config : Config) (old : Traffic) (writer : Endpoint) (readers : List Endpoint) (number : ℕ)
     (change : Change) (new : Traffic) : Type 0 where
   pub packets : List Packet
   pub sent : new.sent ≡ old.sent ++ packets
   pub to_peers : (packet : Packet) → Contains packets packet → Contains (peers_of readers) packet.to
   pub says : (packet : Packet) (reader : Endpoint) → Contains packets packet → reader.peer ≡ packet.to
-      → IsSome (acknowledged_of readers reader) → Claims config packet.bytes (ChangeIs writer reader number change)
+      → Contains readers reader → Claims config packet.bytes (ChangeIs writer reader number change)
   pub different : AllPairs (λ (a b : Packet). a.to ≢ b.to) packets
   pub lost : ℕ
   pub counted : length packets + lost ≡ length (peers_of readers)
@@ -55,7 +55,7 @@ pub record SendsDues (dues : List Due) (old new : Traffic) : Type 0 where
 abbrev pub SendsOf : Config → Traffic → Machine → ℕ → Effect → Traffic → Type 0
 SendsOf config old m peer (writes writer (Changed change)) new =
     Announced config old (record { peer = peer; number = writer })
-    (writer_at m (record { peer = peer; number = writer })).readers
+    (writer_at m (record { peer = peer; number = writer })).matched
     (length (writer_changes (writer_at m (record { peer = peer; number = writer }))) + 1) change new
 SendsOf config old m peer (writes writer (Asserted moment)) new =
     SendsDues (assertions_due config (record { peer = peer; number = writer })

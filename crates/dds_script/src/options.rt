@@ -8,6 +8,8 @@ use dds_base::{EntityId, HistoryQos, OwnershipQos, ReaderConfig, ReliabilityQos,
 pub struct Options {
     /// `shared` or `exclusive`.
     pub ownership: OwnershipQos,
+    /// `besteffort`, of a reader; without it a reader is reliable.
+    pub reliability: ReliabilityQos,
     /// `all`, or `last` with a depth.
     pub history: HistoryQos,
     /// `samples`: positive, or -1 for no limit.
@@ -29,6 +31,7 @@ impl Options {
     fn new() -> Self {
         Options {
             ownership: OwnershipQos::Shared,
+            reliability: ReliabilityQos::Reliable,
             history: HistoryQos::KeepLast(1),
             max_samples: -1,
             max_instances: -1,
@@ -77,9 +80,12 @@ impl Options {
 
     /// Takes up an option of a reader, if it is one.
     fn take_reader(&mut self, word: &str) -> Option<()> {
-        match word.strip_prefix("instances=") {
-            Some(max) => self.max_instances = decimal_i32(max)?,
-            None => self.take_common(word)?,
+        if word == "besteffort" {
+            self.reliability = ReliabilityQos::BestEffort;
+        } else if let Some(max) = word.strip_prefix("instances=") {
+            self.max_instances = decimal_i32(max)?;
+        } else {
+            self.take_common(word)?;
         }
         Some(())
     }
@@ -123,7 +129,7 @@ pub fn reader_config(entity: EntityId, options: Options) -> ReaderConfig {
         entity,
         topic: options.topic,
         ownership: options.ownership,
-        reliability: ReliabilityQos::Reliable,
+        reliability: options.reliability,
         history: options.history,
         max_samples: options.max_samples,
         max_instances: options.max_instances,

@@ -32,7 +32,7 @@ use Rattle.dds_world.proofs.Posted.{lost_in_all, lost_is, posted_count, posted_o
 
 -- a change that a peer announces is announced in the network
 announced : {hearing : Hearing} → (kept new : WorldKept hearing) (config : Config) (writer : Endpoint)
-    (readers : List ReaderProxy) (number : ℕ)
+    (readers : List Endpoint) (number : ℕ)
     (change : Change) (output : Output) → Posts kept.sent output.packets new.sent → Counts kept output new
     → SendsChange config writer readers number change output
     → Announced config (traffic kept) writer readers number change (traffic new)
@@ -79,7 +79,7 @@ same_traffic kept new output quiet none =
 -- what a peer of this number and this part sends for an effect
 abbrev SendsAt : Config → Traffic → ℕ → Part → Effect → Traffic → Type 0
 SendsAt config old peer part (writes writer (Changed change)) new =
-    Announced config old (record { peer = peer; number = writer }) (own_writer part writer).readers
+    Announced config old (record { peer = peer; number = writer }) (own_writer part writer).matched
     (length (writer_changes (own_writer part writer)) + 1) change new
 SendsAt config old peer part (writes writer (Asserted moment)) new =
     SendsDues (assertions_due config (record { peer = peer; number = writer }) (own_writer part writer)) old new
@@ -90,7 +90,7 @@ effect_sends : {hearing : Hearing} → (kept new : WorldKept hearing) (config : 
     → Posts kept.sent output.packets new.sent → Counts kept output new → IsQuiet kept output new
     → SendsFor config peer effect output → SendsAt config (traffic kept) peer.number peer.part effect (traffic new)
 effect_sends kept new config peer (writes w (Changed change)) output posts counts quiet one =
-    announced kept new config (record { peer = peer.number; number = w }) (own_writer peer.part w).readers
+    announced kept new config (record { peer = peer.number; number = w }) (own_writer peer.part w).matched
     (length (writer_changes (own_writer peer.part w)) + 1) change output posts counts one
 effect_sends kept new config peer (writes w (Registered key)) output posts counts quiet none =
     same_traffic kept new output quiet none

@@ -1,5 +1,5 @@
 -- The changes that are held, each at its place, and how many they are.
-use Rattle.std.proofs.Common.{◌≡◌, ℕ, zero, suc, ◌<◌, ◌+◌, ◌-◌, ◌%◌, true, false, cond, eqb, List, length, get_or, set, replicate, Option, None, Some, is_some, refl, inl, inr, sym, ap, ◌∙◌, arith, length-set, get_or-set_same, get_or-set_other}
+use Rattle.std.proofs.Common.{◌≡◌, ℕ, zero, suc, Bool, ◌<◌, ◌+◌, ◌-◌, ◌%◌, true, false, cond, eqb, List, length, get_or, set, replicate, Option, None, Some, is_some, refl, inl, inr, sym, ap, ◌∙◌, arith, length-set, get_or-set_same, get_or-set_other}
 use Rattle.std.specs.Prelude.{◌⊎◌}
 use Rattle.std.proofs.lemmas.Bool.{cases_eq, eq-eqb, ne_eqb}
 use Rattle.std.proofs.lemmas.List.{get_or_read}
@@ -104,3 +104,21 @@ read_none inside view at number read is width place found none some =
     held_there inside view at number None is place
     (sym (get_or_read inside at read (omega (arith, width, place)) found None) ∙ sym none) in
     let e : false ≡ true = sym (ap (λ (o : Option Change). is_some o) empty) ∙ some in cc
+
+-- where no change is held at the place of a number, it may be emptied
+pub empty_already : (places : List (Option Change)) (number n : ℕ) → is_some (held_at places number) ≡ false
+    → held_at places n ≡ cond (eqb (n % 256) (number % 256)) None (held_at places n)
+empty_already places number n none = by (cases_eq (n % 256) (number % 256))
+  where
+    nothing : (o : Option Change) → is_some o ≡ false → o ≡ None
+    nothing None is = refl
+    nothing (Some change) is = absurd (let e : true ≡ false = is in cc)
+
+    by : (n % 256 ≡ number % 256) ⊎ (n % 256 ≡ number % 256 → ⊥)
+        → held_at places n ≡ cond (eqb (n % 256) (number % 256)) None (held_at places n)
+    by (inl same) =
+        ap (λ (k : ℕ). get_or places k None) same
+        ∙ (nothing (held_at places number) none
+        ∙ sym (ap (λ (b : Bool). cond b None (held_at places n)) (eq-eqb (n % 256) (number % 256) same)))
+    by (inr other) =
+        sym (ap (λ (b : Bool). cond b None (held_at places n)) (ne_eqb (n % 256) (number % 256) other))

@@ -185,7 +185,7 @@ not_passable w held first n keeps marked = by (cases_Bool (is_in_window (window_
         absurd (let e : Some mark.Held ≡ None = sym marked ∙ mark_outside w n out in cc)
 
 -- a number past the window has the place of one that is passed
-earlier : (place n : ℕ) → place + 256 ≤ n
+pub earlier : (place n : ℕ) → place + 256 ≤ n
     → (k : ℕ) × (place ≤ k) × (k < place + 256) × (k + 256 ≤ n) × (k % 256 ≡ n % 256)
 earlier place n far = (place + (n - place) % 256, omega arith, omega arith, omega arith, omega arith)
 

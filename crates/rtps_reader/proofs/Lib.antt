@@ -2,4 +2,6 @@ pub mod HeldLaws
 pub mod SlotLaws
 pub mod KeptLaws
 pub mod MoveLaws
+pub mod RoomLaws
+pub mod JumpLaws
 pub mod ReaderLaws

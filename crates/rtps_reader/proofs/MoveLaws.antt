@@ -1,6 +1,6 @@
 -- How the place of a reader moves: it goes over what can be passed over, a change comes, and so on until it stops.
 use Rattle.std.proofs.Common.{◌≡◌, ℕ, ◌<◌, ◌≤◌, ◌+◌, ◌-◌, Bool, true, false, List, [], ◌∷◌, ◌++◌, refl, sym, ap, ◌∙◌}
-use Rattle.std.proofs.Common.{subst, arith, append-nil}
+use Rattle.std.proofs.Common.{subst, inl, arith, append-nil}
 use Rattle.std.specs.Prelude.{nat_lt, if◌then◌else◌}
 use Rattle.std.proofs.lemmas.Bool.Decides.{nat_tests}
 use Rattle.dds_base.specs.declared.change.Change.{Change}
@@ -14,7 +14,8 @@ use Rattle.dds_base.proofs.PlaceLaws.{EndBelow, end_below_on, end_below_more, co
 use Rattle.rtps_reader.specs.declared.step.HeartbeatSeen.{HeartbeatSeen}
 use Rattle.rtps_reader.specs.declared.step.Step.{Step}
 use Rattle.rtps_reader.specs.Answer.{AnswersHeartbeat, answered, heard_after}
-use Rattle.rtps_reader.specs.Moving.{HeartbeatMoves, ArePassable, PassesOver, HandsOn, Moves, passed_from, match_of}
+use Rattle.rtps_reader.specs.Moving.{HeartbeatMoves, ArePassable, PassesOver, HandsOn, Moves, match_of}
+use Rattle.rtps_reader.specs.Jump.{passed_from}
 use Rattle.rtps_reader.specs.Tracked.{Tracked, Held, is_passable, with_heartbeat, SameTracked}
 use Rattle.rtps_reader.specs.Advance.{known, Stays, Advances}
 use Rattle.rtps_reader.specs.declared.writer_proxy.Source.{Source}
@@ -65,7 +66,7 @@ step_over match t h runs now mid happened true forward back below passable way =
     (record { place = mid - 1 + 1; happened = Passed match.publication now (mid - 1) ∷ happened }) = record {
       begins = refl;
       ordered = omega (arith, lt);
-      may_pass = λ n above under. passable n above (omega (arith, under, lt));
+      may_pass = λ n above under. inl (passable n above (omega (arith, under, lt)));
       after = refl;
     } in (
       subst (λ (n : ℕ). GoesTo (known t) match start (runs ++ run ∷ []) n

@@ -5,6 +5,7 @@ use Rattle.std.specs.Prelude.{None, Some, slice_get, slice_set, Result, Ok, Err,
 use Rattle.std.proofs.lemmas.Bool.{cases_lt}
 use Rattle.std.proofs.lemmas.Option.{same_Some, slice_get-get_or}
 use Rattle.std.proofs.Math.ListN.{length-set}
+use Rattle.dds_base.specs.declared.change.Change.{Change}
 use Rattle.dds_base.specs.declared.code.Code.{Code}
 use Rattle.dds_base.specs.declared.happening.Happening.{Happening}
 use Rattle.dds_base.specs.declared.qos.ReaderQos.{ReaderQos}
@@ -15,13 +16,14 @@ use Rattle.rtps_reader.specs.declared.step.Step.{Step}
 use Rattle.rtps_reader.specs.declared.writer_proxy.WriterProxy.{WriterProxy}
 use Rattle.rtps_reader.specs.Tracked.{Tracked, SameTracked}
 use Rattle.rtps_reader.specs.Advance.{Advances}
-use Rattle.rtps_reader.specs.Moving.{HeartbeatMoves, Moves, match_of}
+use Rattle.rtps_reader.specs.Jump.{Jumps}
+use Rattle.rtps_reader.specs.Moving.{HeartbeatMoves, JumpMoves, Moves, match_of}
 use Rattle.rtps_reader.specs.Answer.{IsIdle, Accepts}
 use Rattle.rtps_reader.specs.declared.writer_proxy.Source.{Source}
 use Rattle.rtps_reader.specs.Proxy.{tracked, IsProxyReady}
 use Rattle.rtps_reader.specs.Sound.{AreSound, IsSound, ProxyKeepsRest}
 use Rattle.rtps_reader.specs.Reader.{Proxies, Tracks, count_of, IsReady, AllStay, OthersStay, match_at}
-use Rattle.rtps_reader.specs.Reader.{MovesOn, TakesHeartbeat, KeepsRest}
+use Rattle.rtps_reader.specs.Reader.{JumpsOn, MovesOn, TakesHeartbeat, KeepsRest}
 use Rattle.rtps_reader.proofs.MoveLaws.{same_is}
 
 get-set_same : {X : Type 0} (xs : List X) (i : ℕ) (x y : X) → slice_get xs i ≡ Some y
@@ -145,6 +147,47 @@ moves_all {reader = reader} {items} {writer} {proxy} o q source moment with_it b
     (Tracks (record { proxies = slice_set items writer new }) writer) after) is
     (moves_at (match_of q source) with_it before after items writer proxy new step o.at moves quiet))
 moves_all o q source moment with_it before after new (Err e) is moves quiet = tt
+
+-- what a change did at its writer's proxy, it did at the best-effort reader
+jumps_at : (match : Match) (before after : List Happening → Type 0) (items : List WriterProxy) (writer : ℕ)
+    (proxy new : WriterProxy) (number : ℕ) (change : Change) (step : Step)
+    → slice_get items writer ≡ Some proxy
+    → JumpMoves match before after (tracked proxy) number change step.to step.passed (tracked new)
+    → (step.heard ≡ false) × (step.acknack ≡ None)
+    → (t : Tracked) (h : List Happening) → Tracks (record { proxies = items }) writer t → before h
+    → JumpsOn match t h number change step (Tracks (record { proxies = slice_set items writer new }) writer) after
+jumps_at match before after items writer proxy new number change step at moves quiet t h has was =
+    let r = moves h was in
+    record {
+      new = tracked new;
+      after = r.0;
+      jumps = subst (λ (u : Tracked). Jumps match u h number change step.to step.passed (tracked new) r.0)
+          (known_of items writer proxy t at has) r.1;
+      known = tracks_set items writer proxy new at;
+      stands = r.2;
+      heard = quiet.0;
+      acknack = quiet.1;
+    }
+
+pub jumps_all : {E : Type 0} {reader : Proxies} {items : List WriterProxy} {writer : ℕ} {proxy : WriterProxy}
+    → Opened reader items writer proxy → (q : ReaderQos) (source : Source) (moment number : ℕ) (change : Change)
+    (before after : List Happening → Type 0) (new : WriterProxy) (r : Result Step E)
+    → source ≡ record { publication = writer + 1; moment = moment }
+    → IfOk r (λ step. JumpMoves (match_of q source) before after (tracked proxy) number change step.to step.passed
+    (tracked new)) → IfOk r (λ step. (step.heard ≡ false) × (step.acknack ≡ None))
+    → IfOk r (λ step. (t : Tracked) (h : List Happening) → Tracks reader writer t → before h
+    → JumpsOn (match_at q writer moment) t h number change step
+    (Tracks (record { proxies = slice_set items writer new }) writer) after)
+jumps_all {reader = reader} {items} {writer} {proxy} o q source moment number change before after new (Ok step) is
+    moves quiet =
+    subst (λ (u : Proxies). (t : Tracked) (h : List Happening) → Tracks u writer t → before h
+    → JumpsOn (match_at q writer moment) t h number change step
+    (Tracks (record { proxies = slice_set items writer new }) writer) after) o.view
+    (subst (λ (s : Source). (t : Tracked) (h : List Happening) → Tracks (record { proxies = items }) writer t
+    → before h → JumpsOn (match_of q s) t h number change step
+    (Tracks (record { proxies = slice_set items writer new }) writer) after) is
+    (jumps_at (match_of q source) before after items writer proxy new number change step o.at moves quiet))
+jumps_all o q source moment number change before after new (Err e) is moves quiet = tt
 
 -- what an accepted HEARTBEAT did at its writer's proxy, it did at the reader
 accepted_at : (match : Match) (before after : List Happening → Type 0) (items : List WriterProxy) (writer : ℕ)

@@ -1,11 +1,17 @@
--- What a sink keeps where something that happened is entered.
+-- What a sink stands for, and what it keeps where something that happened is entered.
 --
 -- RTPS 2.5, 8.2 (HistoryCache of a reader, add_change).
-use Rattle.std.specs.Prelude.{◌≡◌, ℕ, ◌+◌, ◌≤◌, List, Result, OnErr, IsOk, IfErr}
+use Rattle.std.specs.Prelude.{◌≡◌, ℕ, ◌+◌, ◌≤◌, ◌<◌, List, length, false, Result, OnErr, IsOk, IfErr}
 use Rattle.dds_base.specs.declared.code.Code.{Code}
 use Rattle.dds_base.specs.declared.code.Code.TheVariants.{Memory}
 use Rattle.dds_base.specs.declared.happening.Happening.{Happening}
+use Rattle.dds_base.specs.declared.key.Key.{Key}
 use Rattle.dds_base.specs.declared.qos.ReaderQos.{ReaderQos}
+use Rattle.dds_base.specs.Happening.{is_taken}
+
+-- no access returned what had not happened
+abbrev pub NoneTakenAhead : List Happening → Type 0
+NoneTakenAhead h = (i : Key) (j : ℕ) → length h < j → is_taken (record { key = i; position = j }) h ≡ false
 
 -- what an entry more leaves alone, and how it may be refused: of a sink, which is seen by what it stands for, its
 -- policies, and how many more entries can't fail

@@ -1,5 +1,6 @@
 pub mod Tracked
 pub mod Advance
+pub mod Jump
 pub mod HeldChanges
 pub mod Proxy
 pub mod Answer

@@ -2,10 +2,9 @@
 -- this: nothing here has to be believed.
 --
 -- RTPS 2.5, 8.4.12 (reliable StatefulReader), 8.4.10 (WriterProxy).
-use Rattle.std.specs.Prelude.{◌≡◌, ℕ, ◌+◌, ◌-◌, ◌<◌, ◌≤◌, List, [], ◌∷◌, ◌++◌, true, false, nat_lt, if◌then◌else◌, ◌&&◌, nat_le, Option, Some, ◌*◌, min, is_none}
+use Rattle.std.specs.Prelude.{◌≡◌, ℕ, ◌+◌, ◌<◌, ◌≤◌, List, ◌∷◌, ◌++◌, true, false, nat_lt, if◌then◌else◌, ◌&&◌, nat_le, Option, Some, ◌*◌, min, is_none}
 use Rattle.dds_base.specs.declared.change.Change.{Change}
 use Rattle.dds_base.specs.declared.happening.Happening.{Happening}
-use Rattle.dds_base.specs.declared.happening.Happening.TheVariants.{Passed}
 use Rattle.dds_base.specs.declared.happening.PassedRun.{PassedRun}
 use Rattle.dds_base.specs.Presence.{has_room}
 use Rattle.dds_base.specs.Places.{Match, coming}
@@ -14,6 +13,7 @@ use Rattle.rtps_sets.specs.NumberSet.{NumberSet}
 use Rattle.rtps_reader.specs.declared.step.HeartbeatSeen.{HeartbeatSeen}
 use Rattle.rtps_reader.specs.declared.step.Step.{Step}
 use Rattle.rtps_reader.specs.Advance.{Advances, Stays}
+use Rattle.rtps_reader.specs.Jump.{HasJumped, Jumps, run_of, passed_from}
 use Rattle.dds_base.specs.declared.qos.ReaderQos.{ReaderQos}
 use Rattle.rtps_sets.specs.Window.{Marks, mark_of, window_place}
 use Rattle.rtps_sets.specs.declared.window.Mark.{Mark}
@@ -34,14 +34,6 @@ pub record CanMove (held run_capacity sink_spare : ℕ) : Type 0 where
 abbrev pub mark_named : ℕ → NumberSet → ℕ → Marks → ℕ → Option Mark
 mark_named start list to w n = if is_named start list n &&
     ((nat_le (window_place w) n && nat_lt n to) && is_none (mark_of w n)) then Some mark.Irrelevant else mark_of w n
-
--- the run from one number to below another, if there is one
-abbrev pub run_of : ℕ → ℕ → List PassedRun
-run_of from to = if nat_lt from to then record { first = from; last = to - 1 } ∷ [] else []
-
--- what happened once the numbers from one to below another were passed over
-abbrev pub passed_from : ℕ → ℕ → ℕ → List Happening → List Happening
-passed_from publication from to h = if nat_lt from to then Passed publication from (to - 1) ∷ h else h
 
 -- the place may go from one number to another
 abbrev pub ArePassable : Tracked → ℕ → ℕ → Type 0
@@ -73,6 +65,18 @@ abbrev pub Moves : Match → (List Happening → Type 0) → (List Happening →
     → Tracked → Type 0
 Moves match before after t to passed new = (h : List Happening) → before h
     → (happened : List Happening) × Advances match t h to passed new happened × after happened
+
+-- what a change did at a best-effort reader: for all that the sink stood for, it stands for what was entered
+abbrev pub JumpMoves : Match → (List Happening → Type 0) → (List Happening → Type 0) → Tracked → ℕ → Change → ℕ
+    → List PassedRun → Tracked → Type 0
+JumpMoves match before after t number change to passed new = (h : List Happening) → before h
+    → (happened : List Happening) × Jumps match t h number change to passed new happened × after happened
+
+-- the same of one that came
+abbrev pub HasMoved : Match → (List Happening → Type 0) → (List Happening → Type 0) → Tracked → ℕ → Change → ℕ
+    → List PassedRun → Tracked → Type 0
+HasMoved match before after t number change to passed new = (h : List Happening) → before h
+    → (happened : List Happening) × HasJumped match t h number change to passed new happened × after happened
 
 -- what an accepted HEARTBEAT did: for all that the sink stood for, it stands for what was entered
 abbrev pub HeartbeatMoves : Match → (List Happening → Type 0) → (List Happening → Type 0) → Tracked → HeartbeatSeen

@@ -3,6 +3,7 @@
 -- RTPS 2.5, 8.4.10 (StatefulReader: matched_writers), 8.4.12.
 use Rattle.std.specs.Prelude.{◌≡◌, ◌≢◌, ℕ, ◌+◌, List, length, false, None, Some, slice_get}
 use Rattle.std.specs.Prelude.{Result, OnErr, IsOk, IfOk, IfErr, IfSome}
+use Rattle.dds_base.specs.declared.change.Change.{Change}
 use Rattle.dds_base.specs.declared.code.Code.{Code}
 use Rattle.dds_base.specs.declared.code.Code.TheVariants.{Memory}
 use Rattle.dds_base.specs.declared.happening.Happening.{Happening}
@@ -13,6 +14,7 @@ use Rattle.rtps_reader.specs.declared.step.HeartbeatSeen.{HeartbeatSeen}
 use Rattle.rtps_reader.specs.declared.step.Step.{Step}
 use Rattle.rtps_reader.specs.Tracked.{Tracked, SameTracked}
 use Rattle.rtps_reader.specs.Advance.{Advances}
+use Rattle.rtps_reader.specs.Jump.{Jumps}
 use Rattle.rtps_reader.specs.Answer.{Accepts, IsSayable}
 use Rattle.rtps_reader.specs.Proxy.{tracked, IsProxyReady}
 
@@ -50,6 +52,17 @@ pub record MovesOn (match : Match) (t : Tracked) (h : List Happening) (step : St
   pub new : Tracked
   pub after : List Happening
   pub advances : Advances match t h step.to step.passed new after
+  pub known : Knows new
+  pub stands : Stands after
+  pub heard : step.heard ≡ false
+  pub acknack : step.acknack ≡ None
+
+-- what a DATA did at a best-effort reader
+pub record JumpsOn (match : Match) (t : Tracked) (h : List Happening) (number : ℕ) (change : Change) (step : Step)
+    (Knows : Tracked → Type 0) (Stands : List Happening → Type 0) : Type 0 where
+  pub new : Tracked
+  pub after : List Happening
+  pub jumps : Jumps match t h number change step.to step.passed new after
   pub known : Knows new
   pub stands : Stands after
   pub heard : step.heard ≡ false

@@ -3,7 +3,7 @@
 //! RTPS 2.5, 8.4.10 (ChangeFromWriter), 8.4.12 (received_change_set). `docs/DECISIONS.md`, "Sets, windows and the
 //! grammar", says why there are 256 places.
 
-ghost use Rattle.std.specs.Prelude.{◌≡◌, ◌+◌, ◌%◌, ◌==◌, ℕ, None, Some, IfOk, IsSome, if◌then◌else◌, replicate};
+ghost use Rattle.std.specs.Prelude.{◌≡◌, ◌≤◌, ◌<◌, ◌+◌, ◌^◌, ◌%◌, ◌==◌, ℕ, nat_lt, None, Some, is_some, IfOk, IsSome, if◌then◌else◌, replicate};
 ghost use Rattle.rtps_reader.specs.HeldChanges.{held_at, count_held};
 
 use dds_base::{Change, Sn};
@@ -12,6 +12,9 @@ use std::marker::Model;
 
 /// So many places: as many as a window has numbers.
 const PLACES: usize = 256;
+
+/// So many numbers a window has.
+const WIDTH: u64 = 256;
 
 /// The changes of one writer that wait for those before them. Each stands at the place of its number, and the 256
 /// numbers of a window have 256 places. It takes memory only where it is opened.
@@ -93,5 +96,35 @@ impl HeldChanges {
         };
         self.count -= 1;
         change
+    }
+
+    /// Whether a change is held at the place of a number.
+    fn has(&self, number: Sn) -> bool
+        ensures { result ≡ is_some (held_at self.now number) }
+    {
+        self.places[place_of(number)].is_some()
+    }
+
+    /// Lets go of the change at the place of a number, if one is held there.
+    fn forget(&mut self, number: Sn)
+        ensures { (n : ℕ) → held_at self.new n ≡
+            (if n % 256 == number % 256 then None else held_at self.old n) }
+    {
+        if !self.has(number) {
+            return;
+        }
+        let _change = self.take(number);
+    }
+}
+
+/// Lets go of the changes of the window from one number on that are held below another.
+pub fn forget_below(held: &mut HeldChanges, from: u64, to: u64)
+    requires forward { from ≤ to }
+    requires small { from ≤ 2 ^ 62 + 256 }
+    ensures { (n : ℕ) → from ≤ n → n < from + 256
+        → held_at held.new n ≡ (if nat_lt n to then None else held_at held.old n) }
+{
+    for number in from..u64::min(to, from + WIDTH) {
+        held.forget(Sn::new(number));
     }
 }

@@ -1,5 +1,5 @@
-//! A reliable reader's side of the protocol: its place in the list of each matched writer, the changes that wait there,
-//! and what it acknowledges.
+//! A reader's side of the protocol: its place in the list of each matched writer, the changes that wait there, and what
+//! it acknowledges; and how the place of a best-effort reader goes on.
 //!
 //! RTPS 2.5, 8.4.10 to 8.4.12 (StatefulReader, WriterProxy). Writers are named by index; what comes is handed to a
 //! `Sink`.

@@ -9,7 +9,7 @@ ghost use Rattle.dds_base.specs.declared.happening.Happening.TheVariants.{Came, 
 ghost use Rattle.dds_base.specs.declared.qos.ReaderQos.{ReaderQos};
 ghost use Rattle.dds_base.specs.Ownership.{IsMatched};
 ghost use Rattle.dds_base.specs.Presence.{has_room};
-ghost use Rattle.rtps_reader.specs.Entering.{SinkKeepsRest};
+ghost use Rattle.rtps_reader.specs.Entering.{NoneTakenAhead, SinkKeepsRest};
 
 use dds_base::{Arrival, Code, Handle, Moment, Sn};
 
@@ -51,7 +51,9 @@ pub trait Sink {
     fn room(&self, arrival: &Arrival) -> bool
         // It goes by what happened.
         ensures room { (h : List Happening) → stands self.now h
-            → result ≡ has_room (qos self.now) h (Came arrival.now) };
+            → result ≡ has_room (qos self.now) h (Came arrival.now) }
+        // No access returned what had not happened: so a run that is passed over before the change takes no room.
+        ensures untaken { (h : List Happening) → stands self.now h → NoneTakenAhead h };
 
     /// Enters that a change came.
     ///

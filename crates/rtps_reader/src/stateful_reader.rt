@@ -1,6 +1,6 @@
-//! A reliable reader and its matched writers.
+//! A reader and its matched writers.
 //!
-//! RTPS 2.5, 8.4.10 (StatefulReader), 8.4.12.
+//! RTPS 2.5, 8.4.10 (StatefulReader), 8.4.11, 8.4.12.
 
 ghost use Rattle.std.specs.Prelude.{◌≡◌, ℕ, ◌+◌, ◌-◌, ◌^◌, ◌<◌, ◌≤◌, List, length, true, false, OnOk, IsOk, IfOk, IfErr};
 ghost use Rattle.dds_base.specs.declared.code.Code.TheVariants.{Memory};
@@ -8,7 +8,7 @@ ghost use Rattle.dds_base.specs.declared.happening.Happening.{Happening};
 ghost use Rattle.dds_base.specs.Counts.{is_later};
 ghost use Rattle.rtps_reader.specs.Tracked.{Tracked, fresh, with_data, with_gap};
 ghost use Rattle.rtps_reader.specs.Answer.{IsIdle};
-ghost use Rattle.rtps_reader.specs.Reader.{Tracks, count_of, IsReady, AllStay, match_at, MovesOn, TakesHeartbeat, KeepsRest};
+ghost use Rattle.rtps_reader.specs.Reader.{Tracks, count_of, IsReady, AllStay, match_at, MovesOn, JumpsOn, TakesHeartbeat, KeepsRest};
 
 use crate::sink::Sink;
 use crate::step::{HeartbeatSeen, Step};
@@ -18,8 +18,8 @@ use rtps_sets::SnSet;
 use std::alloc::Global;
 use std::marker::Model;
 
-/// A reliable reader: for each of its matched writers, named by index from 0, its place there and what it knows from
-/// the place on. A writer's publication handle is its index plus 1.
+/// A reader: for each of its matched writers, named by index from 0, its place there and what it knows from the place
+/// on. A writer's publication handle is its index plus 1.
 ///
 /// RTPS 2.5, 8.4.10 (StatefulReader).
 #[derive(Drop)]
@@ -152,6 +152,46 @@ impl StatefulReader {
         let proxy = &mut self.proxies[writer];
         let source = source_of(writer, moment);
         proxy.on_data(sink, &source, number, change)
+    }
+
+    /// A change of a writer was received, and the reader is a best-effort one: where the number is not below the place,
+    /// and there is room for the change, it comes, and all numbers before it are passed over; else nothing happens.
+    ///
+    /// The number is at most 2^62.
+    ///
+    /// # Errors
+    ///
+    /// `Memory` where a growth was refused, and never after `reserve`; what is known and what happened is as it was.
+    ///
+    /// DDS 1.4, 2.2.3 (RELIABILITY: BEST_EFFORT); RTPS 2.5, 8.4.11 (best-effort StatefulReader).
+    pub fn on_best_effort_data<S: Sink>(
+        &mut self,
+        sink: &mut S,
+        writer: usize,
+        number: Sn,
+        change: Change,
+        moment: Moment,
+    ) -> Result<Step, Code>
+        // The writer is a matched one.
+        requires matched { writer < count_of self.old }
+        // The sink knows the matched writers.
+        requires writers { count_of self.old ≤ length (S.qos sink.old).writers }
+        // The number is one that the wire has.
+        requires number { number ≤ 2 ^ 62 }
+        // The change comes, over all before it, or nothing happens.
+        ensures jumps { IfOk result (λ step. (t : Tracked) (h : List Happening)
+            → Tracks self.old writer t → S.stands sink.old h
+            → JumpsOn (match_at (S.qos sink.old) writer moment) t h number change step
+            (Tracks self.new writer) (S.stands sink.new)) }
+        // It passes over one run at most.
+        ensures few { IfOk result (λ step. length step.passed ≤ 1) }
+        // Nothing else changes; a refusal, for want of memory alone, changes nothing at all.
+        ensures keeps { KeepsRest S.stands S.qos S.spare writer
+            self.old self.new sink.old sink.new result }
+    {
+        let proxy = &mut self.proxies[writer];
+        let source = source_of(writer, moment);
+        proxy.on_best_effort_data(sink, &source, number, change)
     }
 
     /// A GAP of a writer was received: the numbers from `start` to below the list's base, and those of the list, are

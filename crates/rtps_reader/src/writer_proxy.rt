@@ -13,13 +13,15 @@ ghost use Rattle.dds_base.specs.Counts.{is_later};
 ghost use Rattle.rtps_sets.specs.Window.{mark_of, window_place, can_mark};
 ghost use Rattle.rtps_sets.specs.declared.window.Mark.TheVariants as mark;
 ghost use Rattle.rtps_reader.specs.Tracked.{Tracked, Held, fresh, is_named, is_passable, with_data, with_gap, with_heartbeat, SameTracked};
-ghost use Rattle.rtps_reader.specs.Moving.{ArePassable, PassesOver, HandsOn, Moves, run_of, passed_from, HeartbeatMoves, match_of, mark_named, CanMove};
+ghost use Rattle.rtps_reader.specs.Moving.{ArePassable, PassesOver, HandsOn, Moves, HeartbeatMoves, JumpMoves, HasMoved, match_of, mark_named, CanMove};
+ghost use Rattle.rtps_reader.specs.Jump.{run_of, passed_from};
+ghost use Rattle.rtps_reader.specs.Advance.{Stays};
 ghost use Rattle.rtps_reader.specs.HeldChanges.{count_held};
 ghost use Rattle.rtps_reader.specs.Proxy.{tracked, IsProxyReady};
 ghost use Rattle.rtps_reader.specs.Sound.{IsSound, ProxyKeepsRest};
 ghost use Rattle.rtps_reader.specs.Answer.{AnswersHeartbeat, IsIdle, IsSayable, answered, heard_after};
 
-use crate::held_changes::HeldChanges;
+use crate::held_changes::{HeldChanges, forget_below};
 use crate::sink::Sink;
 use crate::step::{AckNackDue, HeartbeatSeen, Step};
 use dds_base::{Arrival, Change, Code, Handle, Moment, PassedRun, Sequence, Sn, is_later};
@@ -144,6 +146,23 @@ fn hear_if<S: Sink>(sink: &mut S, source: &Source, liveliness: bool)
     if liveliness && sink.hear(source.publication, source.moment).is_err() {
         // Room was reserved.
         unreachable!();
+    }
+}
+
+/// The arrival of a change.
+fn arrival_of(source: &Source, number: Sn, change: Change) -> Arrival
+    ensures { result ≡ record {
+      writer = source.now.publication;
+      number = number;
+      change = change;
+      moment = source.now.moment;
+    } }
+{
+    Arrival {
+        writer: source.publication,
+        number,
+        change,
+        moment: source.moment,
     }
 }
 
@@ -439,6 +458,100 @@ impl WriterProxy {
         Ok(self.moved(sink, source))
     }
 
+    /// Nothing was done.
+    fn idle(&self) -> Step
+        ensures { IsIdle (tracked self.now).place result }
+    {
+        Step {
+            to: self.window.place(),
+            passed: Sequence::from_vec(Vec::new(self.alloc)),
+            heard: false,
+            acknack: None,
+        }
+    }
+
+    /// Moves the place up to a number, whatever is known of those below, and lets go of the changes that are held
+    /// there.
+    fn jump(&mut self, to: Sn)
+        requires sound { IsSound self.old }
+        requires forward { window_place self.old.window ≤ to }
+        requires small { to ≤ 2 ^ 62 + 256 }
+        ensures sound { IsSound self.new }
+        ensures place { window_place self.new.window ≡ to }
+        ensures stays { Stays (tracked self.old) (tracked self.new) }
+    {
+        forget_below(&mut self.held, self.window.place().number(), to.number());
+        self.window.pass(to);
+    }
+
+    /// A change comes over all numbers before its own, which are entered as a run.
+    fn come_over<S: Sink>(&mut self, sink: &mut S, source: &Source, arrival: Arrival) -> Step
+        requires sound { IsSound self.old }
+        requires matched { IsMatched (S.qos sink.old) source.now.publication }
+        requires forward { window_place self.old.window ≤ arrival.number }
+        requires small { arrival.number ≤ 2 ^ 62 }
+        requires writer { arrival.writer ≡ source.now.publication }
+        requires moment { arrival.moment ≡ source.now.moment }
+        requires runs { 1 ≤ vec_capacity self.old.runs }
+        requires spare { 2 ≤ S.spare sink.old }
+        ensures sound { IsSound self.new }
+        ensures quiet { (result.heard ≡ false) × (result.acknack ≡ None) }
+        ensures qos { S.qos sink.new ≡ S.qos sink.old }
+        ensures moved { HasMoved (match_of (S.qos sink.old) source.now) (S.stands sink.old)
+            (S.stands sink.new)
+            (tracked self.old) arrival.number arrival.change result.to result.passed
+            (tracked self.new) }
+        ensures few { length result.passed ≤ 1 }
+    {
+        let mut runs = mem::replace(&mut self.runs, Vec::new(self.alloc));
+        runs.clear();
+        let place = self.window.place().number();
+        let number = arrival.number.number();
+        note_run(sink, source, place, number, &mut runs);
+        if sink.come(arrival).is_err() {
+            // Room was reserved.
+            unreachable!();
+        }
+        self.jump(Sn::new(number + 1));
+        Step {
+            to: self.window.place(),
+            passed: Sequence::from_vec(runs),
+            heard: false,
+            acknack: None,
+        }
+    }
+
+    /// A change was received, at a best-effort reader.
+    pub fn on_best_effort_data<S: Sink>(
+        &mut self,
+        sink: &mut S,
+        source: &Source,
+        number: Sn,
+        change: Change,
+    ) -> Result<Step, Code>
+        requires sound { IsSound self.old }
+        requires matched { IsMatched (S.qos sink.old) source.now.publication }
+        requires small { number ≤ 2 ^ 62 }
+        ensures jumps { IfOk result
+            (λ step. JumpMoves (match_of (S.qos sink.old) source.now) (S.stands sink.old)
+            (S.stands sink.new)
+            (tracked self.old) number change step.to step.passed (tracked self.new)) }
+        ensures quiet { IfOk result (λ step. (step.heard ≡ false) × (step.acknack ≡ None)) }
+        ensures few { IfOk result (λ step. length step.passed ≤ 1) }
+        ensures keeps { ProxyKeepsRest S.stands S.qos S.spare
+            self.old self.new sink.old sink.new result }
+    {
+        self.reserve(sink)?;
+        if number.number() < self.window.place().number() {
+            return Ok(self.idle());
+        }
+        let coming = arrival_of(source, number, change);
+        if !sink.room(&coming) {
+            return Ok(self.idle());
+        }
+        Ok(self.come_over(sink, source, coming))
+    }
+
     /// A GAP was received.
     pub fn on_gap<S: Sink>(
         &mut self,
@@ -487,12 +600,7 @@ impl WriterProxy {
             self.old self.new sink.old sink.new result }
     {
         if !is_later(self.count, heartbeat.count) {
-            return Ok(Step {
-                to: self.window.place(),
-                passed: Sequence::from_vec(Vec::new(self.alloc)),
-                heard: false,
-                acknack: None,
-            });
+            return Ok(self.idle());
         }
         self.reserve(sink)?;
         self.accept(heartbeat);

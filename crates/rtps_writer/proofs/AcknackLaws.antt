@@ -1,16 +1,15 @@
 -- What an ACKNACK does to a writer.
-use Rattle.std.proofs.Common.{◌≡◌, ℕ, ◌+◌, ◌<◌, Bool, true, false, ◌&&◌, List, [], length, get_or, set, Option, Some, None, ℤ, ap, sym, subst, ◌∙◌}
-use Rattle.std.specs.Prelude.{if◌then◌else◌, min, nat_le, nat_lt, ◌^◌, ◌-◌}
-use Rattle.std.proofs.lemmas.List.{get_or_default, length-set}
+use Rattle.std.proofs.Common.{◌≡◌, ℕ, ◌+◌, ◌<◌, Bool, true, false, ◌&&◌, List, [], get_or, set, Option, Some, None, ℤ, ap, sym, subst, ◌∙◌}
+use Rattle.std.specs.Prelude.{if◌then◌else◌, nat_le}
+use Rattle.std.proofs.lemmas.List.{get_or_default}
 use Rattle.dds_base.specs.Kept.{acknowledge}
-use Rattle.dds_base.specs.Written.{counts_of}
 use Rattle.dds_base.specs.Counts.{is_later}
 use Rattle.dds_history.specs.Standing.{Held, StandsFor as HistoryStandsFor}
 use Rattle.rtps_sets.specs.NumberSet.{NumberSet}
 use Rattle.rtps_writer.specs.declared.answer.Answer.{Answer}
 use Rattle.rtps_writer.specs.Acknack.{acknack_answers, after_acknack, answers_after, applied, is_applied, newly_acknowledged}
 use Rattle.rtps_writer.specs.Standing.{Kept, StandsFor, reader_count}
-use Rattle.rtps_writer.specs.WriterState.{WriterState, counts_due, history_of, last_of}
+use Rattle.rtps_writer.specs.WriterState.{WriterState, history_of, last_of}
 
 -- whether it is applied, by the last count that is kept
 pub is_applied-at : (kept : Kept) (s : WriterState) (reader base : ℕ) (count : ℤ) (last : Option ℤ) → StandsFor kept s
@@ -32,16 +31,13 @@ pub acknack-stands : (kept : Kept) (s : WriterState) (reader base : ℕ) (count 
     → HistoryStandsFor held (acknowledge (history_of s) reader base) → counts ≡ set kept.counts reader (Some count)
     → StandsFor (record kept { history = held; counts = counts }) (applied s reader base count)
 acknack-stands kept s reader base count held counts given history put =
-    let same : length (acknowledge (history_of s) reader base).acknowledged ≡ length s.acknowledged =
-    length-set s.acknowledged reader _ in
-    let due : counts_due (applied s reader base count) ≡ counts_due s =
-    ap (λ (n : ℕ). length (counts_of (nat_lt 0 n) s.written)) same in
     record {
       history = history;
       registered = given.registered;
       counts = put ∙ ap (λ (cs : List (Option ℤ)). set cs reader (Some count)) given.counts;
-      counts_used = given.counts_used ∙ ap (λ (n : ℕ). min n (2 ^ 31 - 1)) (sym due);
+      counts_used = given.counts_used;
       liveliness = given.liveliness;
+      matched = given.matched;
     }
 
 -- one that is applied, by what came of it

@@ -42,4 +42,5 @@ changes kept now s same given before keys held change reserved noted more live a
       counts = here.counts;
       counts_used = here.counts_used;
       liveliness = asserts here.liveliness;
+      matched = here.matched;
     }

@@ -18,7 +18,7 @@ length_if false xs = omega arith
 
 -- a tick takes a count where some reader is behind
 counts-ticked : (s : WriterState) (now : ℕ) → counts_due (ticked s now) ≡ counts_due s + cond (is_behind s) 1 0
-counts-ticked s now = length_if (is_behind s) (counts_of (nat_lt 0 (length s.acknowledged)) s.written)
+counts-ticked s now = length_if (is_behind s) (counts_of s.matched s.written)
 
 -- what is kept of the liveliness has taken the tick up
 abbrev pub LivesOn : Liveliness → WriterState → ℕ → Type 0
@@ -33,6 +33,7 @@ stands-ticked kept live s now used given lives is = record {
   counts = given.counts;
   counts_used = is;
   liveliness = lives;
+  matched = given.matched;
 }
 
 none_due : (b c : Bool) (h : HeartbeatDue) → (b && c) ≡ false → (if b && c then Some h else None) ≡ None
@@ -110,10 +111,10 @@ due kept s now given behind few =
     ∙ (ap (λ (b : Bool). if b then Some (heartbeat (counts_due (ticked s now))) else None) left
     ∙ ap (λ (n : ℕ). Some (heartbeat n)) count)
 
-counts-asserted : (s : WriterState) (now : ℕ) → nat_lt 0 (length s.acknowledged) ≡ true
+counts-asserted : (s : WriterState) (now : ℕ) → s.matched ≡ true
     → counts_due (asserted s now) ≡ counts_due s + 1
 counts-asserted s now matched =
-    one_more (nat_lt 0 (length s.acknowledged)) (counts_of (nat_lt 0 (length s.acknowledged)) s.written) matched
+    one_more s.matched (counts_of s.matched s.written) matched
   where
     one_more : (b : Bool) (xs : List Bool) → b ≡ true → length (if b then xs ++ true ∷ [] else xs) ≡ length xs + 1
     one_more true xs is = let n = length-append xs (true ∷ []) in omega (arith, n)
@@ -121,7 +122,7 @@ counts-asserted s now matched =
 
 -- where a reader is matched and a count is left, an assertion is not refused, and its HEARTBEAT is due
 pub due-asserted : (kept : Kept) (s : WriterState) (now : ℕ) (heartbeat : HeartbeatDue) → StandsFor kept s
-    → nat_lt 0 (length s.acknowledged) ≡ true → kept.counts_used < 2 ^ 31 - 1
+    → s.matched ≡ true → kept.counts_used < 2 ^ 31 - 1
     → heartbeat ≡ record { first = first_kept (history_of s); last = last_of s; count = pos (kept.counts_used + 1) }
     → (assert_refusal s ≡ None) × (Some heartbeat ≡ heartbeat_asserted s now)
 due-asserted kept s now heartbeat given matched few is =

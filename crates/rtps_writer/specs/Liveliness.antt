@@ -1,5 +1,5 @@
 -- A writer's assertion and its HEARTBEAT (DDS 1.4, 2.2.2.4: assert_liveliness; 2.2.3: LIVELINESS).
-use Rattle.std.specs.Prelude.{ℕ, ◌-◌, ◌^◌, length, nat_le, nat_lt, Option, None, Some, pos, if◌then◌else◌}
+use Rattle.std.specs.Prelude.{ℕ, ◌-◌, ◌^◌, nat_le, Option, None, Some, pos, if◌then◌else◌}
 use Rattle.dds_base.specs.declared.code.Code.{Code}
 use Rattle.dds_base.specs.declared.code.Code.TheVariants.{OutOfResources}
 use Rattle.dds_base.specs.Kept.{first_kept}
@@ -15,10 +15,10 @@ asserted s now = entering s (Asserted now)
 abbrev pub assert_refusal : WriterState → Option Code
 assert_refusal s = if nat_le (2 ^ 31 - 1) (counts_due s) then Some OutOfResources else None
 
--- the HEARTBEAT by which an assertion is told: none where no reader is matched
+-- the HEARTBEAT by which an assertion is told: none where no reader is matched, of either reliability
 abbrev pub heartbeat_asserted : WriterState → ℕ → Option HeartbeatDue
 heartbeat_asserted s now =
-    if nat_lt 0 (length s.acknowledged)
+    if s.matched
     then Some (record {
       first = first_kept (history_of s);
       last = last_of s;

@@ -1,7 +1,7 @@
 -- What a writer keeps, and the state that it stands for.
 --
 -- RTPS 2.5, 8.4.7 (StatefulWriter, ReaderProxy); DDS 1.4, 2.2.3 (HISTORY, LIVELINESS).
-use Rattle.std.specs.Prelude.{◌≡◌, ℕ, ◌-◌, ◌^◌, List, length, min, Option, ℤ}
+use Rattle.std.specs.Prelude.{◌≡◌, ℕ, ◌-◌, ◌^◌, Bool, List, length, min, Option, ℤ}
 use Rattle.dds_base.specs.declared.key.Key.{Key}
 use Rattle.dds_base.specs.Written.{is_key_registered}
 use Rattle.dds_history.specs.Standing.{Held, StandsFor as HistoryStandsFor}
@@ -17,6 +17,7 @@ pub record Kept : Type 0 where
   pub counts : List (Option ℤ)
   pub counts_used : ℕ
   pub liveliness : Liveliness
+  pub matched : Bool
 
 -- how many matched reliable readers there are
 abbrev pub reader_count : Kept → ℕ
@@ -29,3 +30,4 @@ pub record StandsFor (kept : Kept) (s : WriterState) : Type 0 where
   pub counts : kept.counts ≡ s.counts
   pub counts_used : kept.counts_used ≡ min (counts_due s) (2 ^ 31 - 1)
   pub liveliness : IsLiveliness kept.liveliness s.lease s.written
+  pub matched : kept.matched ≡ s.matched

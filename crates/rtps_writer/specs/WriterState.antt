@@ -6,23 +6,27 @@ use Rattle.dds_base.specs.Kept.{WriterHistory, first_kept, is_awaited}
 use Rattle.dds_base.specs.Written.{Written, Ticked, changes_of, counts_of}
 use Rattle.rtps_writer.specs.declared.heartbeat.HeartbeatDue.{HeartbeatDue}
 
--- a writer: its policy, limit and lease, what happened there, the newest first, and of each matched reliable reader the
--- number below which it has acknowledged all, and the count of the last ACKNACK that was applied
+-- a writer: its policy, limit and lease, whether some reader is matched, of either reliability, what happened there, the
+-- newest first, and of each matched reliable reader the number below which it has acknowledged all, and the count of the
+-- last ACKNACK that was applied
 pub record WriterState : Type 0 where
   pub policy : HistoryQos
   pub max_samples : Option ℕ
   pub lease : Option ℕ
+  pub matched : Bool
   pub written : List Written
   pub acknowledged : List ℕ
   pub counts : List (Option ℤ)
 
--- a writer of this policy, limit and lease, and of so many readers, at which nothing has happened
-abbrev pub opening : HistoryQos → Option ℕ → Option ℕ → ℕ → WriterState
-opening policy max_samples lease readers =
+-- a writer of this policy, limit and lease, with a matched reader or none, and with so many reliable ones, at which
+-- nothing has happened
+abbrev pub opening : HistoryQos → Option ℕ → Option ℕ → Bool → ℕ → WriterState
+opening policy max_samples lease matched readers =
     record {
       policy = policy;
       max_samples = max_samples;
       lease = lease;
+      matched = matched;
       written = [];
       acknowledged = replicate readers 1;
       counts = replicate readers None;
@@ -59,7 +63,7 @@ is_behind s = is_awaited (history_of s) (last_of s)
 
 -- how many HEARTBEAT counts were due so far
 abbrev pub counts_due : WriterState → ℕ
-counts_due s = length (counts_of (nat_lt 0 (length s.acknowledged)) s.written)
+counts_due s = length (counts_of s.matched s.written)
 
 -- a tick of its peer: what happened besides
 abbrev pub ticked : WriterState → ℕ → WriterState

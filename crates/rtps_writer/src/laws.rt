@@ -2,7 +2,7 @@
 //!
 //! RTPS 2.5, 8.4.7 (ReaderProxy, requested_changes, acked_changes_set).
 
-ghost use Rattle.std.specs.Prelude.{◌≡◌, ◌≤◌, ◌<◌, ℕ, ℤ, Option, length, true};
+ghost use Rattle.std.specs.Prelude.{◌≡◌, ◌≤◌, ◌<◌, ℕ, ℤ, Bool, Option, length, true};
 ghost use Rattle.std.specs.List.{All, list_any};
 ghost use Rattle.dds_base.specs.declared.qos.HistoryQos.{HistoryQos};
 ghost use Rattle.dds_base.specs.Kept.{is_dropped, is_kept};
@@ -37,8 +37,9 @@ pub fn answers_are_right()
 /// RTPS 2.5, 8.4.7 (ReaderProxy, acked_changes_set).
 pub fn acknowledgements_count_from_1()
     // At the opening each is 1.
-    ensures opening { (policy : HistoryQos) (max_samples lease : Option ℕ) (readers : ℕ)
-        → All (λ n. 0 < n) (opening policy max_samples lease readers).acknowledged }
+    ensures opening { (policy : HistoryQos) (max_samples lease : Option ℕ) (matched : Bool)
+        (readers : ℕ)
+        → All (λ n. 0 < n) (opening policy max_samples lease matched readers).acknowledged }
     // No ACKNACK takes one below 1.
     ensures acknack { (s : WriterState) (reader base : ℕ) (count : ℤ)
         → All (λ n. 0 < n) s.acknowledged

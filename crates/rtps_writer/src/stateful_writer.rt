@@ -1,4 +1,4 @@
-//! A writer with its matched reliable readers.
+//! A writer with its matched reliable readers. Of best-effort ones it knows only whether some reader is matched.
 //!
 //! RTPS 2.5, 8.4.7 (StatefulWriter, ReaderProxy).
 
@@ -55,6 +55,8 @@ pub struct StatefulWriter {
     /// How many HEARTBEAT counts were used.
     counts_used: u32,
     liveliness: Liveliness,
+    /// Whether some reader is matched, of either reliability.
+    matched: bool,
 }
 
 impl Model for StatefulWriter {
@@ -70,6 +72,7 @@ impl Model for StatefulWriter {
       counts = w.counts.items;
       counts_used = w.counts_used;
       liveliness = w.liveliness;
+      matched = w.matched;
     } };
 
     ghost invariant = { λ w. length w.counts.items ≡ history_readers w.history };
@@ -77,8 +80,12 @@ impl Model for StatefulWriter {
 
 impl StatefulWriter {
     /// A writer at which nothing has happened. `max_samples` is how many numbers it may keep, `None` any; `lease` is in
-    /// units of 2^-32 second, `None` never ends (DDS 1.4, 2.2.3, LIVELINESS); `readers` is how many matched reliable
-    /// readers it has, which have acknowledged nothing.
+    /// units of 2^-32 second, `None` never ends (DDS 1.4, 2.2.3, LIVELINESS); `matched` says whether some reader is
+    /// matched, of either reliability; `readers` is how many matched reliable readers it has, which have acknowledged
+    /// nothing.
+    ///
+    /// A writer with best-effort readers alone keeps nothing and never answers `Timeout`, but uses counts for its
+    /// assertions.
     ///
     /// # Errors
     ///
@@ -88,11 +95,12 @@ impl StatefulWriter {
         policy: HistoryQos,
         max_samples: Option<u32>,
         lease: Option<u64>,
+        matched: bool,
         readers: usize,
     ) -> Result<StatefulWriter, Code>
         // It stands for a writer at which nothing has happened.
         ensures ok { IfOk result
-            (λ writer. StandsFor writer (opening policy max_samples lease readers)) }
+            (λ writer. StandsFor writer (opening policy max_samples lease matched readers)) }
         // It has this many readers.
         ensures readers { IfOk result (λ writer. reader_count writer ≡ readers) }
         // The only refusal is for want of memory.
@@ -107,6 +115,7 @@ impl StatefulWriter {
             counts,
             counts_used: 0,
             liveliness: Liveliness::new(lease),
+            matched,
         })
     }
 
@@ -279,7 +288,7 @@ impl StatefulWriter {
     }
 
     /// Asserts the writer's liveliness at this moment, and gives the HEARTBEAT that tells the readers of it, with the
-    /// next count; `None` where no reader is matched.
+    /// next count; `None` where no reader is matched, of either reliability.
     ///
     /// # Errors
     ///
@@ -305,7 +314,7 @@ impl StatefulWriter {
             return Err(Code::OutOfResources);
         }
         self.liveliness.assert_at(now);
-        if self.history.readers() == 0 {
+        if !self.matched {
             return Ok(None);
         }
         Ok(Some(self.next_heartbeat()))

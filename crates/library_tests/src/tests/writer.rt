@@ -87,6 +87,7 @@ fn open(alloc: Global, words: Words<'_>) -> Result<StatefulWriter, Code> {
         policy,
         words.second.parse().ok(),
         words.third.parse().ok(),
+        true,
         2,
     )
 }
@@ -209,7 +210,7 @@ impl Subject for StatefulWriter {
 
 #[test]
 fn writers_send_what_is_asked_for(rt: HostRuntime) {
-    let opened = StatefulWriter::open(rt.alloc(), HistoryQos::KeepAll, None, None, 2);
+    let opened = StatefulWriter::open(rt.alloc(), HistoryQos::KeepAll, None, None, true, 2);
     assert!(rt; opened.is_ok(), "no memory");
     if let Ok(mut writer) = opened {
         expect_rows(&rt, rt.alloc(), &mut writer, WRITERS);

@@ -1,4 +1,4 @@
-use Rattle.dds_protocol.proofs.RunLaws.{keep_all_is_kept}
+use Rattle.dds_protocol.proofs.KeptRuns.{keep_all_is_kept}
 use Rattle.dds_protocol.proofs.laws.keep_all_is_kept.Goals as goal
 
 pub returns : goal.returns

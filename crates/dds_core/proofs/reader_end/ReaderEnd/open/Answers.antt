@@ -8,7 +8,7 @@ use Rattle.dds_core.proofs.ReaderEnds.{opens_reader, rows_fit, qos_as}
 use Rattle.dds_core.proofs.reader_end.ReaderEnd.open.Goals as goal
 
 -- the limits are those of the configuration
-limits : (c : goal.After-result-1)
+limits : (c : goal.After-is_reliable)
     → (c.limit_of.result ≡ limit_of c.args.config.now.max_samples)
     × (c.limit_of-2.result ≡ limit_of c.args.config.now.max_instances)
 limits c =
@@ -26,6 +26,7 @@ invariant_of-result c =
     (c.in-Ok-open.ensures.qos
     ∙ qos_as c.args.config.now c.limit_of.result c.limit_of-2.result _ c.in_ok-names.field-0.qos.items (limits c).0
     (limits c).1 c.from_vec.ensures.elements) c.in_ok-names.ensures.many
+    c.is_reliable.result c.is_reliable.ensures.reliable
 
 pub returns : goal.returns
 returns c =

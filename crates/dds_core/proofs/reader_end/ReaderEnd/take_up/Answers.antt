@@ -2,7 +2,7 @@ use Rattle.std.proofs.Common.{sym, subst}
 use Rattle.dds_core.specs.Kept.{ReaderKept}
 use Rattle.dds_core.specs.declared.reader_end.Told.TheVariants as told
 use Rattle.dds_core.specs.Readiness.{HasMemory}
-use Rattle.dds_core.proofs.Telling.{answer_told, heartbeat_told}
+use Rattle.dds_core.proofs.Telling.{answer_told, heartbeat_told, nothing_told}
 use Rattle.dds_core.proofs.reader_end.ReaderEnd.take_up.Goals as goal
 
 pub done-requires : goal.done-requires
@@ -12,6 +12,11 @@ done-requires c =
 pub done-requires-in-Gap : goal.done-requires-in-Gap
 done-requires-in-Gap c =
     c.on_gap.ensures.keeps.succeeds (subst (λ (k : ReaderKept). HasMemory k) (sym c.self.view_is) c.requires.can.room)
+
+pub done-requires-in-Jump : goal.done-requires-in-Jump
+done-requires-in-Jump c =
+    c.on_best_effort_data.ensures.keeps.succeeds
+    (subst (λ (k : ReaderKept). HasMemory k) (sym c.self.view_is) c.requires.can.room)
 
 pub done-requires-in-Heartbeat : goal.done-requires-in-Heartbeat
 done-requires-in-Heartbeat c =
@@ -30,8 +35,18 @@ returns-in-Gap-clause-told c =
     (told.Gap c.in-Gap.start c.in-Gap.list) c.in-Gap.is c.done-in-Gap.ensures c.on_gap.ensures.moves
     c.on_gap.ensures.keeps.others
 
+pub returns-in-Jump-clause-told : goal.returns-in-Jump-clause-told
+returns-in-Jump-clause-told c =
+    answer_told c.self.view_is c.args.ready c.args.moment c.on_best_effort_data.result c.done-in-Jump.result
+    (told.Jump c.in-Jump.number c.in-Jump.change) c.in-Jump.is c.done-in-Jump.ensures
+    c.on_best_effort_data.ensures.jumps c.on_best_effort_data.ensures.keeps.others
+
 pub returns-in-Heartbeat-clause-told : goal.returns-in-Heartbeat-clause-told
 returns-in-Heartbeat-clause-told c =
     heartbeat_told c.self.view_is c.args.ready c.args.moment c.on_heartbeat.result c.done-in-Heartbeat.result
     c.in-Heartbeat.heartbeat c.in-Heartbeat.is c.done-in-Heartbeat.ensures c.on_heartbeat.ensures.accepted
     c.on_heartbeat.ensures.repeated c.on_heartbeat.ensures.keeps.others
+
+pub returns-in-Nothing-clause-told : goal.returns-in-Nothing-clause-told
+returns-in-Nothing-clause-told c =
+    nothing_told c.args.self.now c.args.ready c.args.moment c.idle.result c.in-Nothing.is c.idle.ensures.idle

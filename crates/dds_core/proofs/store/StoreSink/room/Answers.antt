@@ -13,4 +13,5 @@ returns c = record {
       let s = subst (λ (k : StoreKept). Holds k h) (sym c.self.view_is) given in
       c.has_room.ensures.room h s.cache
       ∙ ap (λ (k : StoreKept). has_room (qos_of k.cache) h (Came c.args.arrival.now)) c.self.view_is;
+  untaken = λ h given. (subst (λ (k : StoreKept). Holds k h) (sym c.self.view_is) given).cache.untaken;
 }

@@ -1,18 +1,26 @@
 use mir.Val.{SFits}
-use Rattle.std.proofs.Common.{◌≡◌, length, rules, ◌∙◌, ap}
+use Rattle.std.proofs.Common.{◌≡◌, ℕ, length, nat_lt, rules, subst, ◌∙◌, ap}
 use Rattle.std.specs.Prelude.{ℤ}
 use Rattle.std.specs.Int.{w32}
 use Rattle.std.proofs.lemmas.Int.{to_z-of_z}
 use Rattle.dds_base.specs.Checked.{limit_of}
+use Rattle.rtps_writer.specs.Standing.{StandsFor as RtpsStandsFor}
+use Rattle.rtps_writer.specs.WriterState.{opening}
 use Rattle.dds_core.proofs.WriterEnds.{opens_writer}
 use Rattle.dds_core.proofs.writer_end.WriterEnd.open.Goals as goal
 
 pub returns : goal.returns
 returns c =
-    let counted : c.len.result ≡ length c.in_ok-readers.readers.items = search rules in
+    let counted : c.len-reliable.result ≡ length c.in_ok-readers.readers.items =
+    c.len-reliable.ensures ∙ c.in_ok-readers.readers.ok.0 in
+    let told : c.len.result ≡ length c.in_ok-destinations.destinations.items =
+    c.len.ensures ∙ c.in_ok-destinations.destinations.ok.0 in
     let fits : SFits w32 c.args.config.now.max_samples = search rules in
     let limit =
     c.limit_of-limit.ensures ∙ ap (λ (z : ℤ). limit_of z) (to_z-of_z w32 c.args.config.now.max_samples fits) in
     opens_writer c.args.peers.now c.args.config.now c.in_ok-destinations.destinations.items
-    c.in_ok-readers.readers.items c.limit_of-limit.result c.in-Ok.writer c.len.result counted
-    c.in_ok-destinations.ensures.names c.in_ok-readers.ensures.names limit c.in-Ok.ensures.ok
+    c.in_ok-readers.readers.items c.limit_of-limit.result c.in-Ok.writer c.len-reliable.result counted
+    c.in_ok-destinations.ensures.names c.in_ok-readers.ensures.names limit
+    (subst (λ (n : ℕ). RtpsStandsFor c.in-Ok.writer
+    (opening c.args.config.now.history c.limit_of-limit.result c.args.config.now.lease (nat_lt 0 n)
+    c.len-reliable.result)) told c.in-Ok.ensures.ok)

@@ -1,11 +1,11 @@
 use Rattle.std.proofs.Common.{◌≡◌, ◌+◌, ◌*◌, ◌≤◌, ◌++◌, drop, length}
-use Rattle.dds_base.specs.Matched.{of_matched_readers}
+use Rattle.dds_base.specs.Matched.{of_reliable_readers}
 use Rattle.dds_core.specs.EndNames.{reader_name, reader_names}
-use Rattle.dds_core.proofs.matching.matched_readers.Given as goal
+use Rattle.dds_core.proofs.matching.reliable_readers.Given as goal
 
 abbrev pub invariant-loop-index : goal.invariant-loop-index
 invariant-loop-index l = record {
-  names : l.all.items ++ of_matched_readers reader_name l.fn.topic (l.index + 1) (drop l.index l.fn.peers)
+  names : l.all.items ++ of_reliable_readers reader_name l.fn.topic (l.index + 1) (drop l.index l.fn.peers)
       ≡ reader_names l.fn.topic l.fn.peers;
   few : length l.all.items ≤ 16 * l.index;
 }
