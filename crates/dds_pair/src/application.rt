@@ -19,6 +19,12 @@ use std::time::{Clock, Duration};
 // The key of each sample.
 const KEY: Key = Key([0, 0, 0, 0, 0, 0, 0, 0, 0, 0, 0, 0, 0, 0, 0, 1]);
 
+// The workers of a pair.
+const WORKERS: u64 = 2;
+
+// How often it looks at most whether the workers have begun, once in a millisecond.
+const MAX_LOOKS: u32 = 2_000;
+
 // How often it takes at most: where nothing comes it takes once in a millisecond, so for an hour or more.
 // `docs/DECISIONS.md`, "Threads and links".
 const MAX_TAKES: u32 = 3_600_000;
@@ -59,6 +65,18 @@ fn sample_count<N: Ledger + HasWord>(pass: &Pass<N>) -> Result<u64, Code> {
         Reply::Refused(code) => Err(*code),
         _ => Ok(0),
     }
+}
+
+// Looks until the workers have begun, once in a millisecond. One that has not begun by then has no thread: where `join` can
+// make none the worker comes behind whoever looks. `docs/DECISIONS.md`, "Threads and links".
+fn await_workers<R: Clock>(rt: &R, task: &Task<'_>) -> Result<(), Code> {
+    for _ in 0..MAX_LOOKS {
+        if task.begun.load(Ordering::SeqCst) == WORKERS {
+            return Ok(());
+        }
+        thread::sleep(rt, Duration::from_millis(1));
+    }
+    Err(Code::Memory)
 }
 
 // Writes the sample of this number. What the peer sends of it is left to repair.
@@ -140,7 +158,7 @@ impl<'a, Near: Named<F, L>, Far: Named<F, L>, F: Filter, L: Listener> Applicatio
     F,
     L,
 > {
-    /// Writes the samples, takes them, and says then that all is done.
+    /// Writes the samples once the workers have begun, takes them, and says then that all is done.
     pub fn run<R: Wait + Clock>(self, rt: &R, task: &Task<'_>) -> Applied<Near, Far> {
         let Application {
             near,
@@ -148,7 +166,11 @@ impl<'a, Near: Named<F, L>, Far: Named<F, L>, F: Filter, L: Listener> Applicatio
             far,
             mut taking,
         } = self;
-        let taken = match write_all(rt, task, near, &mut writing) {
+        let written = match await_workers(rt, task) {
+            Ok(()) => write_all(rt, task, near, &mut writing),
+            Err(code) => Err(code),
+        };
+        let taken = match written {
             Ok(()) => take_all(rt, task, far, &mut taking),
             Err(code) => Err(code),
         };

@@ -22,7 +22,7 @@ use std::fmt;
 use std::io::Write;
 use std::marker::Brand;
 use std::net::Net;
-use std::sync::atomic::AtomicBool;
+use std::sync::atomic::{AtomicBool, AtomicU64};
 use std::sync::{Arc, Wait};
 use std::thread::Threads;
 use std::time::Clock;
@@ -221,10 +221,10 @@ fn report(ending: Ending, output: &mut impl Write) -> Status {
 }
 
 /// Runs two peers of one process, a writer of peer 1 and a reader of peer 2, which keep all. Two workers serve them over
-/// the links, as their gates say, and set `done` when they end. This thread writes `count` samples meanwhile (of one key,
-/// with the numbers from 1 in 8 octets, the most significant first), whose packets are not sent: all samples go by repair.
-/// Then it takes them, until it has all or `done` is set, sleeps for a millisecond wherever none is there, and sets `done`
-/// itself. Once all have ended, both peers are closed, and their traces woven.
+/// the links, as their gates say, and set `done` when they end. Once both have begun this thread writes `count` samples (of
+/// one key, with the numbers from 1 in 8 octets, the most significant first), whose packets are not sent: all samples go by
+/// repair. Then it takes them, until it has all or `done` is set, sleeps for a millisecond wherever none is there, and sets
+/// `done` itself. Once all have ended, both peers are closed, and their traces woven.
 ///
 /// It prints `received N`, `closed ok` and `woven ok`; or, with exit status 1, `stopped at turn T` where the workers
 /// stopped before all was taken, T being the greater number of their turns.
@@ -234,9 +234,9 @@ fn report(ending: Ending, output: &mut impl Write) -> Status {
 /// # Errors
 ///
 /// Its fault is `PairFailed`, with the number of the first code of these: what ended worker 1, what ended worker 2, what
-/// refused a call of this thread, and what refused to close a peer; or `Memory` where no thread or peer can be made. It is
-/// `PairStuck` where the traces have no order in which each packet was sent before it came, and `OutputFailed` where the
-/// output takes no text.
+/// refused a call of this thread, and what refused to close a peer; or `Memory` where no peer can be made, or a worker has
+/// not begun after some two seconds, as it has no thread. It is `PairStuck` where the traces have no order in which each
+/// packet was sent before it came, and `OutputFailed` where the output takes no text.
 pub fn run_pair<
     NearLink: Link + Send,
     NearGate: Gate + Send,
@@ -253,7 +253,13 @@ pub fn run_pair<
     far: (FarLink, FarGate),
     mut output: W,
 ) -> Status {
-    let task = Task { alloc, count, done };
+    let begun = AtomicU64::new(0);
+    let task = Task {
+        alloc,
+        count,
+        begun: &begun,
+        done,
+    };
     let ended = exchange::<
         Box<dyn Filter + Send>,
         Box<dyn Listener + Send>,

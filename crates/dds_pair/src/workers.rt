@@ -13,11 +13,11 @@ use dds_conditions::Filter;
 use dds_front::HasWord;
 use dds_notices::Listener;
 use dds_shared::{Named, Pass, Shared};
-use std::alloc::{AllocError, Global};
+use std::alloc::Global;
 use std::sync::Wait;
-use std::sync::atomic::{AtomicBool, Ordering};
+use std::sync::atomic::{AtomicBool, AtomicU64, Ordering};
 use std::sync::ledger::Ledger;
-use std::thread::{Threads, join, spawn};
+use std::thread::{Threads, join};
 use std::time::Clock;
 
 /// What the threads of a pair have in common.
@@ -26,6 +26,8 @@ pub struct Task<'a> {
     pub alloc: Global,
     /// How many samples are written and taken.
     pub count: u64,
+    /// How many workers have begun.
+    pub begun: &'a AtomicU64,
     /// Set once a worker or the application has ended.
     pub done: &'a AtomicBool,
 }
@@ -57,14 +59,15 @@ impl<'a, N: Named<F, L>, F: Filter, L: Listener, K: Link, G: Gate> Worker<'a, N,
         }
     }
 
-    // Works until its gate stops it or its link breaks, and says then that all is done.
-    fn run<R: Wait>(self, rt: &R, done: &AtomicBool) -> Worked<N> {
+    // Says that it has begun, works until its gate stops it or its link breaks, and says then that all is done.
+    fn run<R: Wait>(self, rt: &R, begun: &AtomicU64, done: &AtomicBool) -> Worked<N> {
         let Worker {
             shared,
             mut pass,
             mut link,
             mut gate,
         } = self;
+        begun.fetch_add(1, Ordering::SeqCst);
         let turns = serve(rt, shared, &mut pass, &mut link, &mut gate);
         done.store(true, Ordering::SeqCst);
         Worked { pass, turns }
@@ -79,7 +82,8 @@ pub struct Ran<Near: Ledger + HasWord, Far: Ledger + HasWord> {
     pub applied: Applied<Near, Far>,
 }
 
-// Runs the far worker in a thread of its own, and the application in this one, until both have ended.
+// Runs the far worker in a thread of its own, and the application in this one, until both have ended. Where no thread can
+// be made the worker comes behind the application, which then has waited for it and said that all is done.
 fn run_far<
     Near: Named<F, L> + Send + Sync,
     Far: Named<F, L> + Send + Sync,
@@ -94,15 +98,16 @@ fn run_far<
     far: Worker<'_, Far, F, L, K, G>,
     application: Application<'_, Near, Far, F, L>,
 ) -> (Worked<Far>, Applied<Near, Far>) {
-    let done = task.done;
+    let (begun, done) = (task.begun, task.done);
     join(
         rt,
-        move || far.run(rt, done),
+        move || far.run(rt, begun, done),
         move || application.run(rt, task),
     )
 }
 
-// Runs both workers in threads of their own, and the application in this one, until all have ended.
+// Runs both workers in threads of their own, and the application in this one, until all have ended. Where no thread can be
+// made for the near worker it comes behind the others.
 fn run_threads<
     Near: Named<F, L> + Send + Sync,
     Far: Named<F, L> + Send + Sync,
@@ -120,10 +125,10 @@ fn run_threads<
     far: Worker<'_, Far, F, L, FarLink, FarGate>,
     application: Application<'_, Near, Far, F, L>,
 ) -> Ran<Near, Far> {
-    let done = task.done;
+    let (begun, done) = (task.begun, task.done);
     let (near, (far, applied)) = join(
         rt,
-        move || near.run(rt, done),
+        move || near.run(rt, begun, done),
         move || -> (Worked<Far>, Applied<Near, Far>)
             requires { IsSend Near.row × IsSend Far.row × IsSend F.row × IsSend L.row
                 × IsSend FarLink.row × IsSend FarGate.row × IsSync Near.row × IsSync Far.row
@@ -131,16 +136,6 @@ fn run_threads<
         { run_far(rt, task, far, application) },
     );
     Ran { near, far, applied }
-}
-
-// Makes two threads, to see that it can be done: where `join` can make none it calls one closure after the other, and the
-// application would wait for workers that come after it. `docs/DECISIONS.md`, "Threads and links".
-fn try_threads<R: Threads>(rt: &R) -> Result<(), AllocError> {
-    let first = spawn(rt, || ())?;
-    let second = spawn(rt, || ())?;
-    first.join(rt);
-    second.join(rt);
-    Ok(())
 }
 
 /// Gives the application passes of its own, and runs it and both workers, until all have ended.
@@ -160,7 +155,6 @@ pub fn run_all<
     mut near: Worker<'_, Near, F, L, NearLink, NearGate>,
     mut far: Worker<'_, Far, F, L, FarLink, FarGate>,
 ) -> Result<Ran<Near, Far>, Code> {
-    try_threads(rt)?;
     let writing = near.shared.split_pass(rt, &mut near.pass)?;
     let taking = far.shared.split_pass(rt, &mut far.pass)?;
     let application = Application {
