@@ -175,8 +175,12 @@ class Peer:
         """What the last event sends: the number of the peer that a packet is for, and its octets."""
         return [(to.value, octets) for to, octets in self._each(_LIBRARY.cw_packet, c.c_uint8)]
 
+    def text(self) -> str:
+        """The reply of the last event in words, as docs/PIPE.md has them."""
+        return (self._fetch(_LIBRARY.cw_text) or b"").decode().rstrip("\n")
+
     def line(self, line: str) -> str:
         """Any event in a line of docs/PIPE.md, and its reply in words."""
         said = line.encode()
         _LIBRARY.cw_line(self._peer, said, len(said))
-        return (self._fetch(_LIBRARY.cw_text) or b"").decode().rstrip("\n")
+        return self.text()
