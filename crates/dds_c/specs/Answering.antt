@@ -1,7 +1,7 @@
 -- What an event does to the session that a caller holds.
 --
 -- The calls are those of DDS 1.4, 2.2.2.4 and 2.2.2.5; that the last answer is kept is this project's own.
-use Rattle.std.specs.Prelude.{◌≡◌, ◌≢◌, ◌⊎◌, ℕ, Option, Some, None, IsSomeAnd}
+use Rattle.std.specs.Prelude.{◌≡◌, ◌⊎◌, ℕ, Option, Some, None, IsSomeAnd}
 use Rattle.dds_base.specs.Code.{number_of_code}
 use Rattle.dds_base.specs.declared.code.Code.{Code}
 use Rattle.dds_base.specs.declared.code.Code.TheVariants.{Ok}
@@ -43,6 +43,6 @@ Happens (Some old) event code new = IsSomeAnd new (Answered old event code)
 abbrev pub HappensCopied : Option Session → Event → ℕ → Option Session → Type 0
 HappensCopied old event code new = Happens old event code new ⊎ ((code ≡ 100) × (new ≡ old))
 
--- one step by some event, or nothing changes and there is a code
+-- one step by some event; or nothing changes, and the line names none, or there is no memory for what it names
 abbrev pub HappensSomething : Option Session → ℕ → Option Session → Type 0
-HappensSomething old code new = ((event : Event) × Happens old event code new) ⊎ ((code ≢ 0) × (new ≡ old))
+HappensSomething old code new = ((event : Event) × Happens old event code new) ⊎ (((code ≡ 3) ⊎ (code ≡ 100)) × (new ≡ old))

@@ -1,16 +1,18 @@
 -- What filters and recorders of a caller are.
 --
 -- DDS 1.4, 2.2.2.1 (Entity, set_listener), 2.2.2.5 (QueryCondition), 2.2.4.1 (communication statuses), 2.3.3 (their bits).
-use Rattle.std.specs.Prelude.{◌≡◌, ℕ, ◌==◌, if◌then◌else◌, pos, List, slice_get, Option, Some, None}
+use Rattle.std.specs.Prelude.{◌≡◌, ◌⊎◌, ℕ, ◌==◌, if◌then◌else◌, pos, List, slice_get, Option, Some, None}
+use Rattle.dds_base.specs.declared.code.Code.{Code}
 use Rattle.dds_base.specs.declared.entity.Entity.{Entity}
 use Rattle.dds_base.specs.declared.entity.Entity.TheVariants.{Participant, Reader, Writer}
-use Rattle.dds_core.specs.Listening.{Adds, Sets}
+use Rattle.dds_core.specs.Listening.{Adds, RefusesFilter, RefusesListener, Sets}
 use Rattle.dds_notices.specs.Notices.{Recording}
 use Rattle.dds_notices.specs.declared.mask.StatusMask.{StatusMask}
 use Rattle.dds_notices.specs.declared.notice.Notice.{Notice}
 use Rattle.dds_notices.specs.declared.notice.Status.{Status}
 use Rattle.dds_notices.specs.declared.notice.Status.TheVariants.{DataAvailable, LivelinessChanged, LivelinessLost, SampleLost}
 use Rattle.dds_script.specs.declared.prefix.Prefix.{Prefix}
+use Rattle.dds_c.specs.Answering.{refusing_number}
 use Rattle.dds_c.specs.Fetching.{changed_of}
 use Rattle.dds_c.specs.Meaning.{recorder_notices, recorder_capacity, recorder_becomes}
 use Rattle.dds_c.specs.declared.out.FlatChanged.{FlatChanged}
@@ -56,6 +58,27 @@ SetAt None mask recorder old new = ⊥
 
 abbrev pub RecorderIsSet : ℕ → ℕ → ℕ → Option Recording → Session → Session → Type 0
 RecorderIsSet kind number mask recorder old new = SetAt (entity_of kind number) (mask_of mask) recorder old new
+
+-- the number of a code that refuses so
+pub record RefusesWith (Refused : Code → Type 0) (number : ℕ) : Type 0 where
+  pub code : Code
+  pub refused : Refused code
+  pub numbered : number ≡ refusing_number code
+
+-- why a filter is not added: for want of a number, or of memory, also for its octets; the number is 4 where no peer is
+-- open
+abbrev pub RefusesToAdd : Option Session → ℕ → Type 0
+RefusesToAdd (Some s) number =
+    RefusesWith (RefusesFilter recorder_notices recorder_capacity recorder_becomes s.core) number ⊎ (number ≡ 100)
+RefusesToAdd None number = (number ≡ 4) ⊎ (number ≡ 100)
+
+-- why a listener is not set at an entity, or not taken away: the number is 3 where there is no such kind, and 4 where no
+-- peer is open
+abbrev pub RefusesToSet : Option Entity → Option Recording → Option Session → ℕ → Type 0
+RefusesToSet None recorder old number = number ≡ 3
+RefusesToSet (Some entity) recorder (Some s) number =
+    RefusesWith (RefusesListener recorder_notices recorder_capacity recorder_becomes s.core entity recorder) number
+RefusesToSet (Some entity) recorder None number = number ≡ 4
 
 -- nothing of a total, or of a change
 abbrev pub no_total : FlatTotal

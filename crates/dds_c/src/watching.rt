@@ -2,9 +2,12 @@
 //!
 //! DDS 1.4, 2.2.2.1 (Entity, set_listener), 2.2.2.5 (QueryCondition), 2.2.4.3 (access through listeners).
 
-ghost use Rattle.std.specs.Prelude.{◌≡◌, ◌≢◌, None, Some, IfOk, IfErr, OnErr};
-ghost use Rattle.dds_notices.specs.Notices.{Recording, opened};
-ghost use Rattle.dds_c.specs.Watching.{Between, FilterIsAdded, ListenerIsSet, NoticeFetched, NoticeWritten, RecorderIsSet, bit_of, changed_in, entity_of, kept_at, kind_of, mask_of, notice_of, prefix_of, number_of, total_in};
+ghost use Rattle.std.specs.Prelude.{◌≡◌, ◌≢◌, ◌⊎◌, None, Some, IfOk, IfErr, OnErr};
+ghost use Rattle.dds_base.specs.Refusal.{Refuses};
+ghost use Rattle.dds_core.specs.Listening.{RefusesFilter, RefusesListener};
+ghost use Rattle.dds_notices.specs.Notices.{Recording, opened, room_refusal};
+ghost use Rattle.dds_c.specs.Meaning.{recorder_notices, recorder_capacity, recorder_becomes};
+ghost use Rattle.dds_c.specs.Watching.{Between, FilterIsAdded, ListenerIsSet, NoticeFetched, NoticeWritten, RecorderIsSet, RefusesToAdd, RefusesToSet, RefusesWith, bit_of, changed_in, entity_of, kept_at, kind_of, mask_of, notice_of, prefix_of, number_of, total_in};
 
 use crate::events::NOT_OPEN;
 use crate::out::{FlatChanged, FlatTotal, changed_of};
@@ -134,6 +137,8 @@ fn add(session: &mut Session, filter: Prefix) -> Result<u32, u8>
     ensures added { IfOk result (λ number. FilterIsAdded filter number session.old session.new) }
     ensures refused { OnErr result (session.new ≡ session.old) }
     ensures code { IfErr result (λ code. code ≢ 0) }
+    ensures cause { IfErr result
+        (RefusesWith (RefusesFilter recorder_notices recorder_capacity recorder_becomes session.old.core)) }
 {
     match session.core.add_filter(filter) {
         Ok(number) => Ok(number),
@@ -160,6 +165,8 @@ pub extern "C" fn cw_add_filter(
     // The filter is the last one, by that number, and nothing else changes.
     ensures added { result ≡ 0
         → Between (FilterIsAdded (prefix_of octets.now) number.new) peer.old.held.session peer.new.held.session }
+    // A refusal is for want of a number, or of memory, or as no peer is open.
+    ensures cause { result ≢ 0 → RefusesToAdd peer.old.held.session result }
     // A refusal changes nothing.
     ensures refused { result ≢ 0 → peer.new.held.session ≡ peer.old.held.session }
 {
@@ -188,6 +195,8 @@ fn status_mask(bits: u32) -> StatusMask
 fn set(session: &mut Session, entity: Entity, mask: StatusMask, recorder: Option<Recorder>) -> u8
     ensures set { result ≡ 0 → ListenerIsSet entity mask recorder session.old session.new }
     ensures refused { result ≢ 0 → session.new ≡ session.old }
+    ensures cause { result ≢ 0 → RefusesWith
+        (RefusesListener recorder_notices recorder_capacity recorder_becomes session.old.core entity recorder) result }
 {
     match session.core.set_listener(entity, mask, recorder) {
         Ok(old) => {
@@ -208,6 +217,8 @@ fn set_at(
 ) -> u8
     ensures set { result ≡ 0 → Between (RecorderIsSet kind number mask recorder)
         peer.old.held.session peer.new.held.session }
+    ensures cause { result ≢ 0
+        → RefusesToSet (entity_of kind number) recorder peer.old.held.session result }
     ensures refused { result ≢ 0 → peer.new.held.session ≡ peer.old.held.session }
 {
     let Some(entity) = entity_of(kind, number) else {
@@ -242,6 +253,9 @@ pub extern "C" fn cw_set_recorder(
     // A recorder that keeps nothing yet is set there, and what was there is kept aside.
     ensures set { result ≡ 0 → Between (RecorderIsSet kind number mask (Some (opened room)))
         peer.old.held.session peer.new.held.session }
+    // A refusal is for the room, or for want of memory for it, or by the first cause that there is.
+    ensures cause { result ≢ 0 → RefusesWith (Refuses (room_refusal room)) result
+        ⊎ RefusesToSet (entity_of kind number) (Some (opened room)) peer.old.held.session result }
     // A refusal changes nothing.
     ensures refused { result ≢ 0 → peer.new.held.session ≡ peer.old.held.session }
 {
@@ -263,6 +277,9 @@ pub extern "C" fn cw_clear_recorder(alloc: Global, peer: &mut Peer, kind: u8, nu
     // None is set there, and what was there is kept aside.
     ensures set { result ≡ 0 → Between (RecorderIsSet kind number 65535 None)
         peer.old.held.session peer.new.held.session }
+    // A refusal is by the first cause that there is.
+    ensures cause { result ≢ 0
+        → RefusesToSet (entity_of kind number) None peer.old.held.session result }
     // A refusal changes nothing.
     ensures refused { result ≢ 0 → peer.new.held.session ≡ peer.old.held.session }
 {
