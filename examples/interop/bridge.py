@@ -109,6 +109,7 @@ class Bridge:
         self.announcement, self.discovering = Timer(ANNOUNCEMENT), Timer(DISCOVERY)
         self.greeting, self.tick = Timer(GREETING), Timer(TICK)
         self.start = time.monotonic()
+        self.peer: Peer | None = None  # until a participant is found
         self.is_answered = self.is_acknowledged = False
         self.place, self.states = 1, {}
 
@@ -171,8 +172,7 @@ class Bridge:
 
     def give(self, datagram: bytes) -> None:
         self.send(self.peer.deliver(datagram))
-        if moved := PLACE.search(self.peer.text()):
-            self.place = int(moved[1])
+        self.place = max([self.place, *(int(it) for it in PLACE.findall(self.peer.text()))])
         for info, value in self.peer.take(1):
             self.print_taken(info, value)
 
@@ -198,7 +198,7 @@ class Bridge:
         for which, datagram in self.network.receive(seconds):
             if which == BUILTIN:
                 self.discovery.take(datagram)
-            elif self.discovery.own_writers.payloads:
+            elif self.peer:
                 self.deliver(datagram)
 
     def run(self, domain: int, changes: list[list[str]], count: int, seconds: float) -> bool:
@@ -207,7 +207,7 @@ class Bridge:
         while time.monotonic() < self.start + seconds and not self.discovery.has_left:
             self.discover(first)
             self.receive(0.002)
-            if not self.discovery.own_writers.payloads:
+            if self.peer is None:
                 if self.is_found():
                     self.open()
                 continue
@@ -215,7 +215,7 @@ class Bridge:
             if self.is_answered and made < len(changes):
                 self.change(changes[made])
                 made += 1
-            if made == len(changes) and self.is_acknowledged and self.place > count:
+            elif made == len(changes) and self.is_acknowledged and self.place > count:
                 return True
         return False
 
@@ -235,7 +235,7 @@ def main() -> int:
     is_complete = bridge.run(options.domain, changes, options.count, options.seconds)
     for key, state in sorted(bridge.states.items()):
         print("state", key, state)
-    if hasattr(bridge, "peer"):
+    if bridge.peer:
         print("reply", bridge.peer.line("call lost r1"))
     print("datagrams", network.carried, network.lost)
     print("complete" if is_complete else "the participant left" if bridge.discovery.has_left else "not all came in time")
