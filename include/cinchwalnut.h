@@ -85,6 +85,7 @@ typedef struct cw_reader_config {
     bool is_exclusive;
     bool keeps_last;
     bool has_lease;
+    bool is_best_effort;   /* RELIABILITY: BEST_EFFORT, else RELIABLE */
     uint32_t topic;
     uint32_t depth;
     int32_t max_samples;

@@ -29,7 +29,7 @@ class WriterConfig(c.Structure):
 class ReaderConfig(c.Structure):
     _fields_ = [
         *[("peer", c.c_uint8), ("entity", c.c_uint8 * 4)],
-        *[(name, c.c_bool) for name in ("is_exclusive", "keeps_last", "has_lease")],
+        *[(name, c.c_bool) for name in ("is_exclusive", "keeps_last", "has_lease", "is_best_effort")],
         *[("topic", c.c_uint32), ("depth", c.c_uint32), ("max_samples", c.c_int32), ("max_instances", c.c_int32)],
         ("lease", c.c_uint64),
     ]

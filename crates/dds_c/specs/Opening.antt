@@ -15,7 +15,8 @@ use Rattle.dds_base.specs.declared.qos.HistoryQos.{HistoryQos}
 use Rattle.dds_base.specs.declared.qos.HistoryQos.TheVariants.{KeepAll, KeepLast}
 use Rattle.dds_base.specs.declared.qos.OwnershipQos.{OwnershipQos}
 use Rattle.dds_base.specs.declared.qos.OwnershipQos.TheVariants.{Exclusive, Shared}
-use Rattle.dds_base.specs.declared.qos.ReliabilityQos.TheVariants.{Reliable}
+use Rattle.dds_base.specs.declared.qos.ReliabilityQos.{ReliabilityQos}
+use Rattle.dds_base.specs.declared.qos.ReliabilityQos.TheVariants.{BestEffort, Reliable}
 use Rattle.dds_core.specs.Listening.{StandsFor, no_listeners}
 use Rattle.dds_core.specs.Opening.{core_refusal, opening_peer}
 use Rattle.dds_core.specs.Ruling.{IsSound}
@@ -43,6 +44,11 @@ abbrev pub ownership_of : Bool → OwnershipQos
 ownership_of true = Exclusive
 ownership_of false = Shared
 
+-- whether a reader goes on over what it misses, or asks for it
+abbrev pub reliability_of : Bool → ReliabilityQos
+reliability_of true = BestEffort
+reliability_of false = Reliable
+
 -- a writer, as peers know it
 abbrev pub writer_of : FlatWriter → WriterConfig
 writer_of w = record {
@@ -62,7 +68,7 @@ reader_of r = record {
   entity = record { 0 = r.entity };
   topic = r.topic;
   ownership = ownership_of r.is_exclusive;
-  reliability = Reliable;
+  reliability = reliability_of r.is_best_effort;
   history = history_of r.keeps_last r.depth;
   max_samples = r.max_samples;
   max_instances = r.max_instances;

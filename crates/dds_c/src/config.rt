@@ -5,7 +5,7 @@
 ghost use Rattle.std.specs.Prelude.{◌≡◌, IfOk, not};
 ghost use Rattle.std.specs.List.{list_any};
 ghost use Rattle.dds_base.specs.Number.{is_number};
-ghost use Rattle.dds_c.specs.Opening.{config_of, history_of, lease_of, names_no_peer, ownership_of, peer_of, reader_of, readers_of, writer_of, writers_of};
+ghost use Rattle.dds_c.specs.Opening.{config_of, history_of, lease_of, names_no_peer, ownership_of, peer_of, reader_of, readers_of, reliability_of, writer_of, writers_of};
 
 use dds_base::{
     Config, EntityId, GuidPrefix, HistoryQos, OwnershipQos, PeerConfig, ReaderConfig,
@@ -69,6 +69,8 @@ pub struct FlatReader {
     pub keeps_last: bool,
     /// Whether it takes only writers whose lease is at most `lease`; else it takes every lease.
     pub has_lease: bool,
+    /// Whether it is best-effort; else it is reliable.
+    pub is_best_effort: bool,
     /// Writers and readers of equal numbers match.
     pub topic: u32,
     /// From 1; it counts only where `keeps_last` is true.
@@ -107,6 +109,16 @@ fn ownership(is_exclusive: bool) -> OwnershipQos
     }
 }
 
+fn reliability(is_best_effort: bool) -> ReliabilityQos
+    ensures { result ≡ reliability_of is_best_effort }
+{
+    if is_best_effort {
+        ReliabilityQos::BestEffort
+    } else {
+        ReliabilityQos::Reliable
+    }
+}
+
 fn writer_config(writer: &FlatWriter) -> WriterConfig
     ensures { result ≡ writer_of writer.now }
 {
@@ -129,7 +141,7 @@ fn reader_config(reader: &FlatReader) -> ReaderConfig
         entity: EntityId(reader.entity),
         topic: reader.topic,
         ownership: ownership(reader.is_exclusive),
-        reliability: ReliabilityQos::Reliable,
+        reliability: reliability(reader.is_best_effort),
         history: history(reader.keeps_last, reader.depth),
         max_samples: reader.max_samples,
         max_instances: reader.max_instances,
