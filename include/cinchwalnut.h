@@ -170,6 +170,7 @@ uint8_t cw_write(cw_peer *peer, uint8_t writer, const uint8_t key[16], const uin
 uint8_t cw_dispose(cw_peer *peer, uint8_t writer, const uint8_t key[16]);
 uint8_t cw_unregister(cw_peer *peer, uint8_t writer, const uint8_t key[16]);
 uint8_t cw_assert_liveliness(cw_peer *peer, uint8_t writer);
+uint8_t cw_set_strength(cw_peer *peer, uint8_t writer, int32_t strength);
 uint8_t cw_get_liveliness_lost_status(cw_peer *peer, uint8_t writer);
 
 /* Calls of a reader, by its number (DDS 1.4, 2.2.2.5). max is how many samples at most, -1 for all; the masks are sums of

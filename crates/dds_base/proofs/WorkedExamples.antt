@@ -1,6 +1,6 @@
 -- What the definitions of a reader give on small lists of what happened, computed.
 use Rattle.std.proofs.Common.{◌≡◌, ℕ, List, [], ◌∷◌, Bool, true, false, refl, Some, None, map, Option}
-use Rattle.std.specs.Prelude.{pos, negsuc}
+use Rattle.std.specs.Prelude.{ℤ, pos, negsuc}
 use Rattle.dds_base.specs.declared.code.Code.TheVariants.{BadParameter}
 use Rattle.dds_base.specs.declared.key.Key.{Key}
 use Rattle.dds_base.specs.declared.change.ChangeKind.{ChangeKind}
@@ -36,7 +36,7 @@ came w n k v =
     Came (record {
       writer = w;
       number = n;
-      change = record { kind = k; key = key; value = v; source_timestamp = 0 };
+      change = record { kind = k; key = key; value = v; source_timestamp = 0; strength = None };
       moment = 0;
     })
 
@@ -153,6 +153,41 @@ read-after_unregister : answer exclusive
     ≡ info R NotNew Alive 0 0 1 0 0 true 2 ∷ info R NotNew Alive 0 0 0 0 0 true 1 ∷ []
 read-after_unregister = refl
 
+-- two writers that are configured with strength 5, of which the second begins with 7: the owner goes by the strength
+-- of each one's last change that came, whichever instance that was of
+abbrev strong : ℕ → ℕ → ℕ → List ℕ → ℤ → Happening
+strong w n i v s =
+    Came (record {
+      writer = w;
+      number = n;
+      change = record {
+        kind = Write;
+        key = record { 0 = i ∷ 0 ∷ [] };
+        value = v;
+        source_timestamp = 0;
+        strength = Some s;
+      };
+      moment = 0;
+    })
+
+abbrev seven_writes : List Happening
+seven_writes =
+    strong 2 3 1 (179 ∷ []) (pos 8) ∷ strong 1 4 2 (193 ∷ []) (negsuc 0) ∷ strong 2 2 1 (178 ∷ []) (pos 8)
+    ∷ strong 1 3 1 (163 ∷ []) (pos 9) ∷ strong 1 2 1 (162 ∷ []) (pos 5) ∷ strong 2 1 1 (177 ∷ []) (pos 7)
+    ∷ strong 1 1 1 (161 ∷ []) (pos 5) ∷ []
+
+abbrev values_of : ReaderQos → List Happening → List (List ℕ)
+values_of q h = map (λ (s : Sample). s.value) (collection_of q h (picked q h None any))
+
+values-by_strength : values_of exclusive seven_writes
+    ≡ (161 ∷ []) ∷ (177 ∷ []) ∷ (163 ∷ []) ∷ (179 ∷ []) ∷ (193 ∷ []) ∷ []
+values-by_strength = refl
+
+-- a change that says no strength leaves it as it was
+owner-silent : values_of exclusive (came 2 2 Write (178 ∷ []) ∷ strong 2 1 1 (177 ∷ []) (pos 7)
+    ∷ came 1 1 Write (161 ∷ []) ∷ []) ≡ (161 ∷ []) ∷ (177 ∷ []) ∷ (178 ∷ []) ∷ []
+owner-silent = refl
+
 -- depth 2: a taken sample does not let an older one back
 abbrev two_writes : List Happening
 two_writes = came 1 2 Write (2 ∷ []) ∷ came 1 1 Write (1 ∷ []) ∷ []
@@ -238,6 +273,7 @@ two_instances =
         value = 2
             ∷ [];
         source_timestamp = 0;
+        strength = None;
       };
       moment = 0;
     }) ∷ one_write

@@ -34,7 +34,8 @@ three = record {
 }
 
 abbrev change : ℕ → Change
-change moment = record { kind = Write; key = record { 0 = 1 ∷ [] }; value = []; source_timestamp = moment }
+change moment =
+    record { kind = Write; key = record { 0 = 1 ∷ [] }; value = []; source_timestamp = moment; strength = None }
 
 -- the first change of a writer came at this moment, whichever its source timestamp is
 abbrev came : ℕ → ℕ → Happening

@@ -2,9 +2,9 @@
 --
 -- DDS 1.4, 2.2.3 (OWNERSHIP, OWNERSHIP_STRENGTH, LIVELINESS), 2.2.2.4 (register_instance,
 -- unregister_instance).
-use Rattle.std.specs.Prelude.{ℕ, zero, suc, ◌+◌, ◌<◌, ◌≤◌, ◌≡◌, ◌≢◌, ℤ, Contains, IsTrue, List, [], ◌∷◌, length, Bool, true, false, ◌&&◌, ◌||◌, ◌==◌, not, Option, None, Some, if◌then◌else◌, filter, find, slice_get}
+use Rattle.std.specs.Prelude.{ℕ, zero, suc, ◌+◌, ◌<◌, ◌≤◌, ◌≡◌, ◌≢◌, ℤ, Contains, IsTrue, List, [], ◌∷◌, length, Bool, true, false, ◌&&◌, ◌||◌, ◌==◌, not, Option, None, Some, if◌then◌else◌, filter, find, slice_get, unwrap_or}
 use Rattle.std.specs.List.{list_all}
-use Rattle.std.specs.Option.{option_map}
+use Rattle.std.specs.Option.{option_map, option_or}
 use Rattle.std.specs.Ordering.{ordering_then, int_cmp, nat_cmp, is_gt}
 use Rattle.std.specs.Cmp.Lexicographic.{slice_cmp}
 use Rattle.std.specs.declared.cmp.Ordering.{Ordering}
@@ -18,6 +18,12 @@ use Rattle.dds_base.specs.declared.qos.ReaderQos.{ReaderQos}
 use Rattle.dds_base.specs.declared.qos.OwnershipQos.{OwnershipQos}
 use Rattle.dds_base.specs.declared.qos.OwnershipQos.TheVariants.{Shared, Exclusive}
 use Rattle.dds_base.specs.Happening.{same_key, is_write_or_dispose, is_unregister}
+
+-- the strength that the changes of a writer carry, where it is configured with this one: none under SHARED (2.2.3,
+-- OWNERSHIP_STRENGTH)
+abbrev pub carried : OwnershipQos → ℤ → Option ℤ
+carried Shared strength = None
+carried Exclusive strength = Some strength
 
 -- the numbers of a list's elements, from k on
 abbrev pub numbered_from : {X : Type 0} → ℕ → List X → List ℕ
@@ -67,10 +73,18 @@ pub record Precedence : Type 0 where
 abbrev pub writer_cmp : Precedence → Precedence → Ordering
 writer_cmp a b = ordering_then (int_cmp a.strength b.strength) (guid_cmp b.guid a.guid)
 
--- the strength of a matched writer, of this publication handle, once h has happened: the one that it was configured
--- with (2.2.3, OWNERSHIP_STRENGTH)
+-- the strength that the newest change of writer w with one had; none where no such change has come (2.2.3,
+-- OWNERSHIP_STRENGTH)
+abbrev pub told_strength : ℕ → List Happening → Option ℤ
+told_strength w [] = None
+told_strength w (Came a ∷ h) =
+    if a.writer == w then option_or a.change.strength (told_strength w h) else told_strength w h
+told_strength w (_ ∷ h) = told_strength w h
+
+-- the strength of a matched writer, of this publication handle, once h has happened: the one that its newest change
+-- had, and the one that it was configured with until one has come
 abbrev pub strength_of : List Happening → ℕ → MatchedWriter → ℤ
-strength_of h w m = m.strength
+strength_of h w m = unwrap_or (told_strength w h) m.strength
 
 -- what the order of writers looks at in this one, once h has happened
 abbrev pub precedence : List Happening → ℕ → MatchedWriter → Precedence

@@ -1,7 +1,7 @@
 -- What happened at a writer, the newest first, and its changes in the order of their numbers
 -- (DDS 1.4, 2.2.2.4: register_instance, write, dispose, unregister_instance, assert_liveliness; 2.2.3: LIVELINESS;
 -- RTPS 2.5, 8.2: HistoryCache, CacheChange).
-use Rattle.std.specs.Prelude.{ℕ, ◌+◌, ◌-◌, ◌^◌, min, nat_le, Option, Some, None, List, [], ◌∷◌, ◌++◌, Bool, true, false, ◌||◌, not, if◌then◌else◌}
+use Rattle.std.specs.Prelude.{ℕ, ◌+◌, ◌-◌, ◌^◌, min, nat_le, Option, Some, None, List, [], ◌∷◌, ◌++◌, Bool, true, false, ◌||◌, not, ℤ, if◌then◌else◌}
 use Rattle.dds_base.specs.declared.key.Key.{Key}
 use Rattle.dds_base.specs.declared.change.Change.{Change}
 use Rattle.dds_base.specs.declared.status.LivelinessLostStatus.{LivelinessLostStatus}
@@ -13,6 +13,7 @@ pub data Written : Type 0 where
   Changed : (change : Change) → Written
   Asserted : (moment : ℕ) → Written
   LookedAt : Written
+  StrengthSet : (strength : ℤ) → Written
   Ticked : (now : ℕ) → (behind : Bool) → Written  -- behind: some matched reliable reader had not acknowledged all
 
 -- the changes, in the order of their numbers, which count from 1
@@ -28,6 +29,17 @@ is_key_registered i (Registered key ∷ c) = same_key key i || is_key_registered
 is_key_registered i (Changed change ∷ c) =
     if same_key change.key i then not (is_unregister change.kind) else is_key_registered i c
 is_key_registered i (_ ∷ c) = is_key_registered i c
+
+-- the strength of a writer that was configured with this one: the one that was set last (2.2.3, OWNERSHIP_STRENGTH)
+abbrev pub last_strength : ℤ → List Written → ℤ
+last_strength configured [] = configured
+last_strength configured (StrengthSet strength ∷ c) = strength
+last_strength configured (_ ∷ c) = last_strength configured c
+
+-- the strength that its next change carries; none of a writer of shared ownership, which was configured with none
+abbrev pub strength_now : Option ℤ → List Written → Option ℤ
+strength_now None c = None
+strength_now (Some configured) c = Some (last_strength configured c)
 
 -- the lease of a writer that was asserted last at this moment has run out (2.2.3, LIVELINESS)
 abbrev pub is_over : Option ℕ → Option ℕ → ℕ → Bool

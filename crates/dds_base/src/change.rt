@@ -63,4 +63,7 @@ pub struct Change {
     pub value: Octets,
     /// The moment of the writer's peer at which the change was made, below 2^63.
     pub source_timestamp: Moment,
+    /// The strength that its writer had when it was made; `None` of a writer of shared ownership (DDS 1.4, 2.2.3,
+    /// OWNERSHIP_STRENGTH).
+    pub strength: Option<i32>,
 }

@@ -6,6 +6,7 @@ ghost use Rattle.std.specs.Prelude.{◌≡◌, None, true, pos, negsuc};
 ghost use Rattle.dds_base.specs.declared.qos.OwnershipQos.TheVariants.{Shared};
 ghost use Rattle.dds_base.specs.declared.qos.HistoryQos.TheVariants.{KeepAll};
 ghost use Rattle.dds_base.specs.declared.qos.ReliabilityQos.TheVariants.{Reliable};
+ghost use Rattle.dds_base.specs.Ownership.{carried};
 
 use crate::guid::{EntityId, GuidPrefix};
 use crate::qos::{HistoryQos, OwnershipQos, ReliabilityQos};
@@ -27,7 +28,8 @@ pub struct WriterConfig {
     /// How many changes it may keep until they are acknowledged: positive, or -1 for no limit (DDS 1.4, 2.2.3,
     /// RESOURCE_LIMITS, LENGTH_UNLIMITED). `docs/DECISIONS.md`, "Types", says why it is no `Option`.
     pub max_samples: i32,
-    /// Of the writers of an exclusive instance the strongest owns it (DDS 1.4, 2.2.3, OWNERSHIP_STRENGTH).
+    /// What it begins with: of the writers of an exclusive instance the strongest owns it (DDS 1.4, 2.2.3,
+    /// OWNERSHIP_STRENGTH). It means nothing where ownership is shared.
     pub strength: i32,
     /// In units of 2^-32 second, from 1 to 2^63 - 1; `None` never ends. At most that of each matched reader (DDS 1.4,
     /// 2.2.3, LIVELINESS).
@@ -86,6 +88,20 @@ impl WriterConfig {
             strength: 0,
             lease: None,
             autodispose: true,
+        }
+    }
+
+    /// The strength that its changes carry at first: `None` of a writer of shared ownership, whose strength means
+    /// nothing.
+    ///
+    /// DDS 1.4, 2.2.3 (OWNERSHIP_STRENGTH).
+    pub fn carried_strength(&self) -> Option<i32>
+        // It is that of the definitions.
+        ensures carried { result ≡ carried self.now.ownership self.now.strength }
+    {
+        match self.ownership {
+            OwnershipQos::Shared => None,
+            OwnershipQos::Exclusive => Some(self.strength),
         }
     }
 }

@@ -60,7 +60,8 @@ impl ReliabilityQos {
 pub struct MatchedWriter {
     /// Its name, which no other writer has.
     pub guid: Guid,
-    /// DDS 1.4, 2.2.3 (OWNERSHIP_STRENGTH).
+    /// What it was configured with: its strength until a change with another one has come (DDS 1.4, 2.2.3,
+    /// OWNERSHIP_STRENGTH).
     pub strength: i32,
     /// The lease of LIVELINESS, in units of 2^-32 second, from 1 to 2^63 - 1; `None` never ends (DDS 1.4, 2.2.3).
     pub lease: Option<u64>,

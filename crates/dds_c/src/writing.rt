@@ -2,7 +2,7 @@
 //!
 //! DDS 1.4, 2.2.2.4 (DataWriter).
 
-ghost use Rattle.dds_machine.specs.declared.call.Call.TheVariants.{AssertLiveliness, Dispose, GetLivelinessLost, Register, Unregister, Write};
+ghost use Rattle.dds_machine.specs.declared.call.Call.TheVariants.{AssertLiveliness, Dispose, GetLivelinessLost, Register, SetStrength, Unregister, Write};
 ghost use Rattle.dds_protocol.specs.declared.event.Event.TheVariants.{Call as Asked};
 ghost use Rattle.dds_c.specs.Answering.{Happens, HappensCopied};
 
@@ -79,6 +79,21 @@ pub extern "C" fn cw_assert_liveliness(alloc: Global, peer: &mut Peer, writer: u
         (Asked (AssertLiveliness writer)) result peer.new.held.session }
 {
     step(alloc, peer, Event::Call(Call::AssertLiveliness { writer }))
+}
+
+/// Sets the strength that a writer's changes carry from now on (DDS 1.4, 2.2.3, OWNERSHIP_STRENGTH). It is refused as
+/// `Call::SetStrength`.
+#[unsafe(no_mangle)]
+pub extern "C" fn cw_set_strength(alloc: Global, peer: &mut Peer, writer: u8, strength: i32) -> u8
+    // It is one step of the peer.
+    ensures step { Happens peer.old.held.session
+        (Asked (SetStrength writer strength)) result peer.new.held.session }
+{
+    step(
+        alloc,
+        peer,
+        Event::Call(Call::SetStrength { writer, strength }),
+    )
 }
 
 /// Looks at LIVELINESS_LOST (DDS 1.4, 2.2.2.4, get_liveliness_lost_status); `cw_total` fetches it. It is refused as

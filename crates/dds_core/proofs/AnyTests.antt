@@ -30,6 +30,7 @@ any_answers tests old (call.Write w key value) reply dds plain a = a
 any_answers tests old (call.Dispose w key) reply dds plain a = a
 any_answers tests old (call.Unregister w key) reply dds plain a = a
 any_answers tests old (call.AssertLiveliness w) reply dds plain a = a
+any_answers tests old (call.SetStrength w strength) reply dds plain a = a
 any_answers tests old (call.Read r selection) reply dds plain a = a
 any_answers tests old (call.Take r selection) reply dds plain a = a
 any_answers tests old (call.GetKeyValue r instance) (KeyValue key) dds plain a = a

@@ -75,6 +75,7 @@ refused_nothing part (call.Write w key value) x = refl
 refused_nothing part (call.Dispose w key) x = refl
 refused_nothing part (call.Unregister w key) x = refl
 refused_nothing part (call.AssertLiveliness w) x = refl
+refused_nothing part (call.SetStrength w strength) x = refl
 refused_nothing part (call.Read r selection) x = refl
 refused_nothing part (call.Take r selection) x = refl
 refused_nothing part (call.GetKeyValue r instance) x = refl
@@ -290,21 +291,21 @@ both_good true false rest h k = refl
 both_good false b rest h k = absurd cc
 
 pub write_makes : (part : Part) (w : ℕ) (key : Key) (value : List ℕ) → has_element part.rtps.writers w ≡ true
-    → length value ≤ 1024 → MakesChange part (call.Write w key value) w (change_made part kind.Write key value)
+    → length value ≤ 1024 → MakesChange part (call.Write w key value) w (change_made part w kind.Write key value)
 write_makes part w key value known short = record {
   answers =
       λ reply dds h. done_as (write_refusal part w key value)
-      (change_refusal part w (change_made part kind.Write key value)) part reply dds
+      (change_refusal part w (change_made part w kind.Write key value)) part reply dds
       (both_good (has_element part.rtps.writers w) (nat_lt 1024 (length value)) _ known (grind (arith, nat_tests))) h;
   enters = refl;
 }
 
 pub dispose_makes : (part : Part) (w : ℕ) (key : Key) → has_element part.rtps.writers w ≡ true
-    → MakesChange part (call.Dispose w key) w (change_made part kind.Dispose key [])
+    → MakesChange part (call.Dispose w key) w (change_made part w kind.Dispose key [])
 dispose_makes part w key known = record {
   answers =
       λ reply dds h. done_as (dispose_refusal part w key)
-      (change_refusal part w (change_made part kind.Dispose key [])) part reply dds
+      (change_refusal part w (change_made part w kind.Dispose key [])) part reply dds
       (first_true (has_element part.rtps.writers w) _ known) h;
   enters = refl;
 }
@@ -312,11 +313,11 @@ dispose_makes part w key known = record {
 pub unregister_makes : (part : Part) (w : ℕ) (key : Key) → has_element part.rtps.writers w ≡ true
     → is_key_registered key (own_writer part w).written ≡ true
     → MakesChange part (call.Unregister w key) w
-    (change_made part (unregister_kind (own_writer part w).autodispose) key [])
+    (change_made part w (unregister_kind (own_writer part w).autodispose) key [])
 unregister_makes part w key known there = record {
   answers =
       λ reply dds h. done_as (unregister_refusal part w key)
-      (change_refusal part w (change_made part (unregister_kind (own_writer part w).autodispose) key [])) part reply dds
+      (change_refusal part w (change_made part w (unregister_kind (own_writer part w).autodispose) key [])) part reply dds
       (first_true (has_element part.rtps.writers w) _ known
       ∙ first_there (is_key_registered key (own_writer part w).written) _ there) h;
   enters = refl;
@@ -560,17 +561,20 @@ unregistered_at kept writer i k key config peer s is lt at none =
 -- what a call of a writer makes, where it is one of the peer's
 pub write_at : (kept : PeerKept) (writer i : ℕ) (key : Key) (value : List ℕ) (config : Config) (peer : Peer)
     → StandsFor kept config peer → writer ≡ i + 1 → i < length kept.writers → length value ≤ 1024
-    → MakesChange peer.part (call.Write writer key value) (i + 1) (change_made peer.part kind.Write key value)
+    → MakesChange peer.part (call.Write writer key value) (i + 1)
+    (change_made peer.part (i + 1) kind.Write key value)
 write_at kept writer i key value config peer s is lt short =
     subst (λ (n : ℕ). MakesChange peer.part (call.Write writer key value) n
-    (change_made peer.part kind.Write key value)) is
+    (change_made peer.part n kind.Write key value)) is
     (write_makes peer.part writer key value (known_writer kept config peer s writer i is lt) short)
 
 pub dispose_at : (kept : PeerKept) (writer i : ℕ) (key : Key) (config : Config) (peer : Peer)
     → StandsFor kept config peer → writer ≡ i + 1 → i < length kept.writers
-    → MakesChange peer.part (call.Dispose writer key) (i + 1) (change_made peer.part kind.Dispose key [])
+    → MakesChange peer.part (call.Dispose writer key) (i + 1)
+    (change_made peer.part (i + 1) kind.Dispose key [])
 dispose_at kept writer i key config peer s is lt =
-    subst (λ (n : ℕ). MakesChange peer.part (call.Dispose writer key) n (change_made peer.part kind.Dispose key [])) is
+    subst (λ (n : ℕ). MakesChange peer.part (call.Dispose writer key) n
+    (change_made peer.part n kind.Dispose key [])) is
     (dispose_makes peer.part writer key (known_writer kept config peer s writer i is lt))
 
 pub unregister_at : (kept : PeerKept) (writer i : ℕ) (k : WriterKept) (key : Key) (made : ChangeKind) (config : Config)
@@ -580,7 +584,7 @@ pub unregister_at : (kept : PeerKept) (writer i : ℕ) (k : WriterKept) (key : K
     → is_key_registered key w.written ≡ true)
     → ((w : Writer) (answered : Endpoint → Option ℤ) → WriterStands k w answered
     → made ≡ unregister_kind w.autodispose)
-    → MakesChange peer.part (call.Unregister writer key) (i + 1) (change_made peer.part made key [])
+    → MakesChange peer.part (call.Unregister writer key) (i + 1) (change_made peer.part (i + 1) made key [])
 unregister_at kept writer i k key made config peer s is lt at there kind_is =
     let w : Writer = own_writer peer.part (suc i) in
     let answered = peer.known.answered (suc i) in
@@ -591,7 +595,8 @@ unregister_at kept writer i k key made config peer s is lt at there kind_is =
     let kinds : unregister_kind (own_writer peer.part writer).autodispose ≡ made =
     subst (λ (n : ℕ). unregister_kind (own_writer peer.part n).autodispose ≡ made) number
     (sym (kind_is w answered ws)) in
-    subst (λ (n : ℕ). MakesChange peer.part (call.Unregister writer key) n (change_made peer.part made key [])) is
+    subst (λ (n : ℕ). MakesChange peer.part (call.Unregister writer key) n
+    (change_made peer.part n made key [])) is
     (subst (λ (x : ChangeKind). MakesChange peer.part (call.Unregister writer key) writer
-    (change_made peer.part x key [])) kinds
+    (change_made peer.part writer x key [])) kinds
     (unregister_makes peer.part writer key (known_writer kept config peer s writer i is lt) registered))

@@ -6,6 +6,7 @@ pub mod Asserting
 pub mod BeatsDue
 pub mod CallSteps
 pub mod AssertSteps
+pub mod StrengthSteps
 pub mod Dying
 pub mod ChangesDue
 pub mod Destinations

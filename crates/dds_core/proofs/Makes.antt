@@ -20,7 +20,7 @@ use Rattle.dds_protocol.specs.declared.event.Output.{Output}
 use Rattle.dds_protocol.specs.declared.event.Packet.{Packet}
 use Rattle.dds_machine.specs.declared.reply.Reply.TheVariants.{Done, Refused}
 use Rattle.dds_machine.specs.Part.{Writer, no_writer, own_writer, history_of, writer_changes}
-use Rattle.dds_machine.specs.Refusals.{change_made, change_refusal}
+use Rattle.dds_machine.specs.Refusals.{change_made, change_refusal, strength_of}
 use Rattle.dds_machine.specs.Calls.{with_written}
 use Rattle.dds_protocol.specs.Claims.{IsWriter}
 use Rattle.dds_protocol.specs.Peer.{Peer}
@@ -96,8 +96,24 @@ own_writer_is config number kept is i k at =
       same_topic = refl;
     }
 
-abbrev pub made_by : ChangeKind → Key → List ℕ → ℕ → Change
-made_by kind key value moment = record { kind = kind; key = key; value = value; source_timestamp = moment }
+abbrev pub made_by : ChangeKind → Key → List ℕ → ℕ → Option ℤ → Change
+made_by kind key value moment strength =
+    record { kind = kind; key = key; value = value; source_timestamp = moment; strength = strength }
+
+-- the writer's changes carry this strength
+abbrev pub Carries : WriterKept → Option ℤ → Type 0
+Carries k strength =
+    (w : Writer) (answered : Endpoint → Option ℤ) → WriterStands k w answered → strength ≡ strength_of w
+
+-- it is the change that a call of the writer of this index makes
+made_is : (old : PeerKept) (i : ℕ) (k : WriterKept) (kind : ChangeKind) (key : Key) (value : List ℕ)
+    (strength : Option ℤ) (config : Config) (peer : Peer) → StandsFor old config peer
+    → slice_get old.writers i ≡ Some k → Carries k strength
+    → made_by kind key value old.moment strength ≡ change_made peer.part (suc i) kind key value
+made_is old i k kind key value strength config peer s at carries =
+    ap (λ (m : ℕ). made_by kind key value m strength) (sym s.moment)
+    ∙ ap (λ (z : Option ℤ). made_by kind key value peer.part.dds.moment z)
+    (carries (own_writer peer.part (suc i)) (peer.known.answered (suc i)) (s.writers.each i k at))
 
 -- the packets announce the change of this number, as this writer of the peer sends it, to its destinations
 abbrev pub Announces : PeerKept → WriterKept → Change → ℕ → List Packet → Type 0
@@ -106,17 +122,17 @@ Announces old k change number packets =
     k.destinations packets
 
 -- the change is made
-made_there : (old : PeerKept) (i : ℕ) (k k' : WriterKept) (kind : ChangeKind) (key : Key) (value : List ℕ) (number : ℕ)
-    (output : Output) (config : Config) (peer : Peer) → StandsFor old config peer
-    → slice_get old.writers i ≡ Some k → Enters k (Changed (made_by kind key value old.moment)) k'
+made_there : (old : PeerKept) (i : ℕ) (k k' : WriterKept) (kind : ChangeKind) (key : Key) (value : List ℕ)
+    (strength : Option ℤ) (number : ℕ) (output : Output) (config : Config) (peer : Peer) → StandsFor old config peer
+    → slice_get old.writers i ≡ Some k → Enters k (Changed (made_by kind key value old.moment strength)) k'
     → ((w : Writer) (answered : Endpoint → Option ℤ) → WriterStands k w answered
-    → (append_refusal (history_of w) (made_by kind key value old.moment) ≡ None)
+    → (append_refusal (history_of w) (made_by kind key value old.moment strength) ≡ None)
     × (number ≡ length (writer_changes w) + 1)) → IsValueOf kind value
     → output.reply ≡ Done → length output.packets + output.unsent ≡ length k.destinations
-    → Announces old k (made_by kind key value old.moment) number output.packets
-    → IsMade config peer (suc i) (made_by kind key value old.moment) output (with_writer old i k')
-made_there old i k k' kind key value number output config peer s at enters accepts valued reply counts announces =
-    let change : Change = made_by kind key value old.moment in
+    → Announces old k (made_by kind key value old.moment strength) number output.packets
+    → IsMade config peer (suc i) (made_by kind key value old.moment strength) output (with_writer old i k')
+made_there old i k k' kind key value strength number output config peer s at enters accepts valued reply counts announces =
+    let change : Change = made_by kind key value old.moment strength in
     let w : Writer = own_writer peer.part (suc i) in
     let ws : WriterStands k w (peer.known.answered (suc i)) = s.writers.each i k at in
     let a = accepts w (peer.known.answered (suc i)) ws in
@@ -181,40 +197,41 @@ made_there old i k k' kind key value number output config peer s at enters accep
     }
 
 -- the same, by the moment of the part
-pub made : (old : PeerKept) (i : ℕ) (k k' : WriterKept) (kind : ChangeKind) (key : Key) (value : List ℕ) (number : ℕ)
-    (output : Output) (config : Config) (peer : Peer) → StandsFor old config peer
-    → slice_get old.writers i ≡ Some k → Enters k (Changed (made_by kind key value old.moment)) k'
+pub made : (old : PeerKept) (i : ℕ) (k k' : WriterKept) (kind : ChangeKind) (key : Key) (value : List ℕ)
+    (strength : Option ℤ) (number : ℕ) (output : Output) (config : Config) (peer : Peer) → StandsFor old config peer
+    → slice_get old.writers i ≡ Some k → Carries k strength → Enters k (Changed (made_by kind key value old.moment strength)) k'
     → ((w : Writer) (answered : Endpoint → Option ℤ) → WriterStands k w answered
-    → (append_refusal (history_of w) (made_by kind key value old.moment) ≡ None)
+    → (append_refusal (history_of w) (made_by kind key value old.moment strength) ≡ None)
     × (number ≡ length (writer_changes w) + 1)) → IsValueOf kind value
     → output.reply ≡ Done → length output.packets + output.unsent ≡ length k.destinations
-    → Announces old k (made_by kind key value old.moment) number output.packets
-    → IsMade config peer (i + 1) (change_made peer.part kind key value) output (with_writer old i k')
-made old i k k' kind key value number output config peer s at enters accepts valued reply counts announces =
+    → Announces old k (made_by kind key value old.moment strength) number output.packets
+    → IsMade config peer (i + 1) (change_made peer.part (i + 1) kind key value) output (with_writer old i k')
+made old i k k' kind key value strength number output config peer s at carries enters accepts valued reply counts
+    announces =
     let index : i + 1 ≡ suc i = omega arith in
-    subst (λ (n : ℕ). IsMade config peer n (change_made peer.part kind key value) output (with_writer old i k'))
+    subst (λ (n : ℕ). IsMade config peer n (change_made peer.part n kind key value) output (with_writer old i k'))
     (sym index)
-    (subst (λ (m : ℕ). IsMade config peer (suc i) (made_by kind key value m) output (with_writer old i k'))
-    (sym s.moment)
-    (made_there old i k k' kind key value number output config peer s at enters accepts valued reply counts announces))
+    (subst (λ (x : Change). IsMade config peer (suc i) x output (with_writer old i k'))
+    (made_is old i k kind key value strength config peer s at carries)
+    (made_there old i k k' kind key value strength number output config peer s at enters accepts valued reply counts announces))
 
 -- the change is refused before anything is done
-pub not_begun : (old : PeerKept) (i : ℕ) (k : WriterKept) (kind : ChangeKind) (key : Key) (value : List ℕ) (code : Code)
-    (output : Output) (config : Config) (peer : Peer) → StandsFor old config peer → slice_get old.writers i ≡ Some k
+pub not_begun : (old : PeerKept) (i : ℕ) (k : WriterKept) (kind : ChangeKind) (key : Key) (value : List ℕ)
+    (strength : Option ℤ) (code : Code) (output : Output) (config : Config) (peer : Peer) → StandsFor old config peer
+    → slice_get old.writers i ≡ Some k → Carries k strength
     → ((w : Writer) (answered : Endpoint → Option ℤ) → WriterStands k w answered
-    → Refuses (append_refusal (history_of w) (made_by kind key value old.moment)) code)
+    → Refuses (append_refusal (history_of w) (made_by kind key value old.moment strength)) code)
     → output ≡ record { reply = Refused code; packets = []; unsent = 0 }
-    → IsNotMade config peer (i + 1) (change_made peer.part kind key value) output old
-not_begun old i k kind key value code output config peer s at refuses is =
+    → IsNotMade config peer (i + 1) (change_made peer.part (i + 1) kind key value) output old
+not_begun old i k kind key value strength code output config peer s at carries refuses is =
     let index : i + 1 ≡ suc i = omega arith in
     record {
       code = code;
       cause =
-          subst (λ (n : ℕ). Refuses (change_refusal peer.part n (change_made peer.part kind key value)) code)
+          subst (λ (n : ℕ). Refuses (change_refusal peer.part n (change_made peer.part n kind key value)) code)
           (sym index)
-          (subst (λ (m : ℕ). Refuses
-          (append_refusal (history_of (own_writer peer.part (suc i))) (made_by kind key value m)) code)
-          (sym s.moment) (refuses (own_writer peer.part (suc i)) (peer.known.answered (suc i))
+          (subst (λ (x : Change). Refuses (append_refusal (history_of (own_writer peer.part (suc i))) x) code)
+          (made_is old i k kind key value strength config peer s at carries) (refuses (own_writer peer.part (suc i)) (peer.known.answered (suc i))
           (s.writers.each i k at)));
       output_is = is;
       stands = s;
@@ -222,13 +239,13 @@ not_begun old i k kind key value code output config peer s at refuses is =
 
 -- the same once the history refused it, and left the writer as it was
 pub not_made : (old : PeerKept) (i : ℕ) (k k' : WriterKept) (kind : ChangeKind) (key : Key) (value : List ℕ)
-    (code : Code) (output : Output) (config : Config) (peer : Peer) → StandsFor old config peer
-    → slice_get old.writers i ≡ Some k → k' ≡ k
+    (strength : Option ℤ) (code : Code) (output : Output) (config : Config) (peer : Peer) → StandsFor old config peer
+    → slice_get old.writers i ≡ Some k → Carries k strength → k' ≡ k
     → ((w : Writer) (answered : Endpoint → Option ℤ) → WriterStands k w answered
-    → Refuses (append_refusal (history_of w) (made_by kind key value old.moment)) code)
+    → Refuses (append_refusal (history_of w) (made_by kind key value old.moment strength)) code)
     → output ≡ record { reply = Refused code; packets = []; unsent = 0 }
-    → IsNotMade config peer (i + 1) (change_made peer.part kind key value) output (with_writer old i k')
-not_made old i k k' kind key value code output config peer s at same refuses is =
-    subst (λ (x : PeerKept). IsNotMade config peer (i + 1) (change_made peer.part kind key value) output x)
+    → IsNotMade config peer (i + 1) (change_made peer.part (i + 1) kind key value) output (with_writer old i k')
+not_made old i k k' kind key value strength code output config peer s at carries same refuses is =
+    subst (λ (x : PeerKept). IsNotMade config peer (i + 1) (change_made peer.part (i + 1) kind key value) output x)
     (sym (unchanged_with old i k k' at same))
-    (not_begun old i k kind key value code output config peer s at refuses is)
+    (not_begun old i k kind key value strength code output config peer s at carries refuses is)

@@ -17,6 +17,7 @@ use Rattle.rtps_sets.specs.NumberSet.{NumberSet, has_number}
 use Rattle.rtps_wire.specs.declared.acknack.AckNack.{AckNack as AckNackBody}
 use Rattle.rtps_wire.specs.declared.submessage.Submessage.{Submessage}
 use Rattle.rtps_wire.specs.declared.submessage.Submessage.TheVariants.{InfoDst}
+use Rattle.rtps_wire.specs.Data.{IsStrength}
 use Rattle.rtps_wire.specs.Messages.{IsWritable}
 use Rattle.rtps_wire.specs.Submessages.{IsSpellable}
 use Rattle.rtps_wire.proofs.ContentLaws.{content_valid}
@@ -82,17 +83,17 @@ spells_more old more new is few h =
     }
 
 pub data_spells : (reader writer : EntityId) (number : ℕ) (change : Change) (old new : List Submessage)
-    → length reader.0 ≡ 4 → length writer.0 ≡ 4 → length change.key.0 ≡ 16 → length change.value ≤ 1024 → 1 ≤ number
-    → number ≤ 2 ^ 62
+    → length reader.0 ≡ 4 → length writer.0 ≡ 4 → length change.key.0 ≡ 16 → length change.value ≤ 1024
+    → IsStrength change.strength → 1 ≤ number → number ≤ 2 ^ 62
     → change.source_timestamp < 2 ^ 64 → new ≡ old ++ data_of reader writer number (Some change) → SpellsMore old new
-data_spells reader writer number change old new of_reader of_writer of_key short first small moment is =
+data_spells reader writer number change old new of_reader of_writer of_key short fits first small moment is =
     spells_more old (data_of reader writer number (Some change)) new is (omega arith) (
       moment,
       (
         (
           record { reader = of_reader; writer = of_writer; first = first; small = small },
           content_valid
-              change.kind change.key change.value of_key short,
+              change.kind change.key change.value change.strength of_key short fits,
         ),
         tt,
       ),

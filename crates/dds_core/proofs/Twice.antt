@@ -7,7 +7,7 @@ use Rattle.std.proofs.lemmas.List.Elements.{All-push, Contains-append_left, Cont
 use Rattle.std.proofs.lemmas.List.Kept.{AllPairs-cons}
 use Rattle.dds_base.specs.declared.change.Change.{Change}
 use Rattle.dds_base.specs.declared.config.Config.{Config}
-use Rattle.dds_base.specs.Written.{Registered, Changed, Asserted, LookedAt, Ticked}
+use Rattle.dds_base.specs.Written.{Registered, Changed, Asserted, LookedAt, StrengthSet, Ticked}
 use Rattle.dds_machine.specs.declared.endpoint.Endpoint.{Endpoint}
 use Rattle.dds_machine.specs.declared.reply.Reply.{Reply}
 use Rattle.dds_machine.specs.Calls.{Effect, nothing, writes, effect_of}
@@ -213,6 +213,7 @@ effect_sent config peer (writes w (Asserted moment)) output less l are =
     dues_sent (assertions_due config (record { peer = peer.number; number = w }) (own_writer peer.part w))
     output less l are
 effect_sent config peer (writes w LookedAt) output less l none = nothing_sent output less l none
+effect_sent config peer (writes w (StrengthSet strength)) output less l none = nothing_sent output less l none
 effect_sent config peer (writes w (Ticked now behind)) output less l none = nothing_sent output less l none
 effect_sent config peer nothing output less l none = nothing_sent output less l none
 

@@ -10,6 +10,7 @@ use Rattle.dds_base.specs.declared.config.PeerConfig.{PeerConfig}
 use Rattle.dds_base.specs.declared.config.WriterConfig.{WriterConfig}
 use Rattle.dds_base.specs.declared.guid.EntityId.{EntityId}
 use Rattle.dds_base.specs.Kept.{append_refusal}
+use Rattle.dds_base.specs.Ownership.{carried}
 use Rattle.dds_base.specs.Refusal.{Refuses}
 use Rattle.dds_base.specs.Written.{Written, Changed, Ticked, changes_of}
 use Rattle.rtps_writer.specs.Standing.{Kept, StandsFor as RtpsStandsFor, reader_count}
@@ -56,12 +57,13 @@ rows_begun (p ∷ ps) (suc count) same = (
     rest a xs ys e = cc
 
 pub opens_writer : (peers : List PeerConfig) (w : WriterConfig) (ds : List Destination) (names : List ReaderName)
-    (limit : Option ℕ) (kept : Kept) (count : ℕ) → count ≡ length names
+    (limit : Option ℕ) (strength : Option ℤ) (kept : Kept) (count : ℕ) → count ≡ length names
     → ds ≡ destinations w.topic 1 peers → names ≡ reader_names w.topic peers → limit ≡ limit_of w.max_samples
-    → RtpsStandsFor kept (opening w.history limit w.lease (nat_lt 0 (length ds)) count)
+    → strength ≡ carried w.ownership w.strength
+    → RtpsStandsFor kept (opening w.history limit w.lease strength (nat_lt 0 (length ds)) count)
     → OpensWriter peers w
     (record { entity = w.entity; autodispose = w.autodispose; destinations = ds; readers = names; writer = kept })
-opens_writer peers w ds names limit kept count counted sent matched limited stands =
+opens_writer peers w ds names limit strength kept count counted sent matched limited carries stands =
     let rows : List ReaderProxy = reliable_readers w.topic 1 peers in
     let many : length (reader_names w.topic peers) ≡ count =
     sym (counted ∙ ap (λ (ns : List ReaderName). length ns) matched) in
@@ -84,11 +86,14 @@ opens_writer peers w ds names limit kept count counted sent matched limited stan
             ∙ map-reliable_readers (λ (n : ReaderName). n.reader) reader_name w.topic 1 peers);
         writer =
             subst (λ (s : WriterState). RtpsStandsFor kept s)
-            (state_as (opening w.history (limit_of w.max_samples) w.lease is_matched count) (replicate count 1) _
+            (state_as (opening w.history (limit_of w.max_samples) w.lease (carried w.ownership w.strength) is_matched count) (replicate count 1) _
             (replicate count none) _ (sym acknowledged) (sym counts))
-            (subst (λ (b : Bool). RtpsStandsFor kept (opening w.history (limit_of w.max_samples) w.lease b count)) told
-            (subst (λ (o : Option ℕ). RtpsStandsFor kept (opening w.history o w.lease (nat_lt 0 (length ds)) count))
-            limited stands));
+            (subst (λ (b : Bool). RtpsStandsFor kept
+            (opening w.history (limit_of w.max_samples) w.lease (carried w.ownership w.strength) b count)) told
+            (subst (λ (z : Option ℤ). RtpsStandsFor kept
+            (opening w.history (limit_of w.max_samples) w.lease z (nat_lt 0 (length ds)) count)) carries
+            (subst (λ (o : Option ℕ). RtpsStandsFor kept
+            (opening w.history o w.lease strength (nat_lt 0 (length ds)) count)) limited stands)));
         begun = All-from_recursion (λ (p : ReaderProxy). 1 ≤ p.acknowledged) rows (rows_begun rows count acknowledged);
       };
     }

@@ -52,5 +52,5 @@ pub record IsMade (config : Config) (peer : Peer) (writer : ℕ) (change : Chang
 -- one or the other, for each state that the old values stand for
 abbrev pub Makes : PeerKept → ℕ → ChangeKind → Key → List ℕ → Output → PeerKept → Type 0
 Makes old index k key value output new = (config : Config) (peer : Peer) → StandsFor old config peer
-    → IsMade config peer (index + 1) (change_made peer.part k key value) output new
-    ⊎ IsNotMade config peer (index + 1) (change_made peer.part k key value) output new
+    → IsMade config peer (index + 1) (change_made peer.part (index + 1) k key value) output new
+    ⊎ IsNotMade config peer (index + 1) (change_made peer.part (index + 1) k key value) output new

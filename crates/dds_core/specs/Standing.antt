@@ -37,6 +37,7 @@ state_of w answered = record {
   policy = w.policy;
   max_samples = w.max_samples;
   lease = w.lease;
+  strength = w.strength;
   matched = has_readers w;
   written = w.written;
   acknowledged = map (λ (p : ReaderProxy). p.acknowledged) w.readers;

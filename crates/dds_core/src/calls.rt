@@ -35,6 +35,7 @@ impl Peer {
             Call::Dispose { writer, key } => self.dispose(writer, key),
             Call::Unregister { writer, key } => self.unregister(writer, key),
             Call::AssertLiveliness { writer } => self.assert_liveliness(writer),
+            Call::SetStrength { writer, strength } => self.set_strength(writer, strength),
             Call::Read { reader, selection } => {
                 self.access(AccessKind::Read, reader, selection, twin)
             }
@@ -132,6 +133,21 @@ impl Peer {
         }
     }
 
+    fn set_strength(&mut self, writer: u8, strength: i32) -> Output
+        ensures step { Steps self.old (event.Call (call.SetStrength writer strength)) result
+            self.new }
+        ensures sends { SendsNothing result }
+        ensures plain { IsPlain result.reply }
+    {
+        let Some(index) = index_of(writer, self.writers.len()) else {
+            return self.refused(Code::BadParameter);
+        };
+        match self.writers[index].set_strength(strength) {
+            Ok(()) => answered(self.alloc, Reply::Done),
+            Err(code) => self.refused(code),
+        }
+    }
+
     fn get_liveliness_lost(&mut self, writer: u8) -> Output
         ensures step { Steps self.old (event.Call (call.GetLivelinessLost writer)) result self.new }
         ensures sends { SendsNothing result }
@@ -203,15 +219,16 @@ impl Peer {
         ensures few { result.unsent ≤ 16 }
         ensures plain { IsPlain result.reply }
     {
+        let writer = &self.writers[index];
         let change = Change {
             kind,
             key,
             value,
             source_timestamp: self.moment,
+            strength: writer.strength(),
         };
         // This shows the prover how many octets there are.
         let _key = key.as_slice();
-        let writer = &self.writers[index];
         let number = match writer.next(&change) {
             Ok(number) => number,
             Err(code) => return self.refused(code),

@@ -2,16 +2,16 @@
 //!
 //! RTPS 2.5, 8.4.7 (StatefulWriter); DDS 1.4, 2.2.2.4 (DataWriter).
 
-ghost use Rattle.std.specs.Prelude.{◌≡◌, ◌+◌, ◌^◌, ◌<◌, ◌≤◌, ℤ, Option, length, map, nat_le, slice_get, slice_index, Some, None, true, false, IfSome, IfNone, IfOk, IfErr, OnOk, OnErr};
+ghost use Rattle.std.specs.Prelude.{◌≡◌, ◌≢◌, ◌+◌, ◌^◌, ◌<◌, ◌≤◌, ℤ, Option, length, map, nat_le, slice_get, slice_index, Some, None, true, false, IfSome, IfNone, IfOk, IfErr, OnOk, OnErr};
 ghost use Rattle.dds_base.specs.Checked.{check_refusal};
-ghost use Rattle.dds_base.specs.declared.code.Code.TheVariants.{Memory, OutOfResources};
+ghost use Rattle.dds_base.specs.declared.code.Code.TheVariants.{Memory, OutOfResources, PreconditionNotMet};
 ghost use Rattle.dds_base.specs.Kept.{append_refusal};
 ghost use Rattle.dds_base.specs.Refusal.{Refuses};
-ghost use Rattle.dds_base.specs.Written.{Asserted, Registered, Changed, LookedAt, is_key_registered, liveliness_lost_status};
+ghost use Rattle.dds_base.specs.Written.{Asserted, Registered, Changed, LookedAt, StrengthSet, is_key_registered, liveliness_lost_status};
 ghost use Rattle.rtps_wire.specs.Content.{content_of};
 ghost use Rattle.dds_machine.specs.declared.endpoint.Endpoint.{Endpoint as EndpointOf};
 ghost use Rattle.dds_machine.specs.Watching.{writer_statuses};
-ghost use Rattle.dds_machine.specs.Refusals.{unregister_kind};
+ghost use Rattle.dds_machine.specs.Refusals.{strength_of, unregister_kind};
 ghost use Rattle.dds_machine.specs.Part.{ReaderProxy, Writer, history_of, writer_changes};
 ghost use Rattle.dds_core.specs.declared.matching.ReaderName.{ReaderName as NameOf};
 ghost use Rattle.dds_core.specs.Answering.{HasRoom, AreRooms, IsAskedAt, IsUnaskedAt, IsUnasked, TakesAckNack};
@@ -87,9 +87,12 @@ impl WriterEnd {
         let readers = reliable_readers(alloc, peers, config.topic)?;
         let limit = limit_of(config.max_samples);
         let (history, lease) = (config.history, config.lease);
+        let strength = config.carried_strength();
         let (matched, reliable) = (destinations.len() > 0, readers.len());
-        let Ok(writer) = StatefulWriter::open(alloc, history, limit, lease, matched, reliable)
-        else {
+        let opened = StatefulWriter::open(
+            alloc, history, limit, lease, strength, matched, reliable,
+        );
+        let Ok(writer) = opened else {
             return Err(AllocError);
         };
         Ok(WriterEnd {
@@ -160,6 +163,33 @@ impl WriterEnd {
         } else {
             ChangeKind::Unregister
         }
+    }
+
+    /// The strength that its next change carries (DDS 1.4, 2.2.3, OWNERSHIP_STRENGTH).
+    pub fn strength(&self) -> Option<i32>
+        ensures { (w : Writer) (answered : EndpointOf → Option ℤ) → WriterStands self.now w answered
+            → result ≡ strength_of w }
+    {
+        self.writer.strength()
+    }
+
+    /// Sets the strength that its changes carry from now on.
+    ///
+    /// # Errors
+    ///
+    /// `PreconditionNotMet` of a writer of shared ownership, which is then as it was.
+    ///
+    /// DDS 1.4, 2.2.3 (OWNERSHIP_STRENGTH).
+    pub fn set_strength(&mut self, strength: i32) -> Result<(), Code>
+        ensures ok { OnOk result (Enters self.old (StrengthSet strength) self.new) }
+        ensures accepted { (w : Writer) (answered : EndpointOf → Option ℤ)
+            → WriterStands self.old w answered → OnOk result (w.strength ≢ None) }
+        ensures refused { (w : Writer) (answered : EndpointOf → Option ℤ)
+            → WriterStands self.old w answered
+            → IfErr result (λ code. (w.strength ≡ None) × (code ≡ PreconditionNotMet)) }
+        ensures err { OnErr result (self.new ≡ self.old) }
+    {
+        self.writer.set_strength(strength)
     }
 
     /// How often its liveliness was lost, in all and since the last look.

@@ -24,7 +24,7 @@ use Rattle.dds_base.specs.Instance.{known_instances, last_accepted, introduced_b
 use Rattle.dds_base.proofs.KeyLaws.{key-same, same_key-refl, same_key-comm}
 use Rattle.dds_instances.specs.declared.track.InstanceTrack.{InstanceTrack}
 use Rattle.dds_instances.specs.declared.known.KnownInstance.{KnownInstance}
-use Rattle.dds_owner.specs.Standing.{Kept, StandsFor, has_writers}
+use Rattle.dds_owner.specs.Standing.{Kept, KeptStrengths, StandsFor, TellsStrengths, has_writers, kept_strength}
 use Rattle.dds_instances.specs.Track.{Tracks, Advances, Fits, fresh, one_if, seen_at, state_of_track}
 use Rattle.dds_instances.specs.Table.{Table, Stands, track_with}
 use Rattle.dds_instances.specs.Following.{key_of, Each, Follows, IsLawful, IsPlaceOf}
@@ -140,35 +140,37 @@ known-at q h ts i at place follows =
     known-kept q h ts i true follows (any-at (map key_of ts) i at place.within (place.is i))
 
 -- a track takes up a change of its instance, of this accepted kind
-pub record Changes (q : ReaderQos) (a : Arrival) (kind : Option ChangeKind) (n : ℕ)
+pub record Changes (q : ReaderQos) (kept : KeptStrengths) (a : Arrival) (kind : Option ChangeKind) (n : ℕ)
     (old new : InstanceTrack) : Type 0 where
   pub advances : Advances kind n old new
-  pub accepted : (h : List Happening) → StandsFor old.owners q a.change.key h
+  pub accepted : (h : List Happening) → StandsFor old.owners q a.change.key h → TellsStrengths kept q h
       → kind ≡ accepted_kind q a.change.key h (Came a)
   pub came : (h : List Happening) → StandsFor old.owners q a.change.key h
       → StandsFor new.owners q a.change.key (Came a ∷ h)
 
 -- one that has followed the instance until then
-tracks-changed : (q : ReaderQos) (h : List Happening) (a : Arrival) (kind : Option ChangeKind) (n : ℕ)
-    (t x : InstanceTrack) → length h + 1 ≡ n → Changes q a kind n t x → IsLawful q h → Tracks q a.change.key h t
+tracks-changed : (q : ReaderQos) (kept : KeptStrengths) (h : List Happening) (a : Arrival) (kind : Option ChangeKind)
+    (n : ℕ) (t x : InstanceTrack) → length h + 1 ≡ n → Changes q kept a kind n t x → TellsStrengths kept q h
+    → IsLawful q h → Tracks q a.change.key h t
     → Tracks q a.change.key (Came a ∷ h) x
-tracks-changed q h a kind n t x len step lawful before =
+tracks-changed q kept h a kind n t x len step tells lawful before =
     let i : Key = a.change.key in
     let advances : Advances kind (length h + 1) t x = subst (λ (m : ℕ). Advances kind m t x) (sym len) step.advances in
-    tracks-next q i h (Came a) kind t x (step.accepted h before.owners_are) (step.came h before.owners_are) (λ j. refl)
-    (lawful.past i (length h + 1) (omega arith)) before advances
+    tracks-next q i h (Came a) kind t x (step.accepted h before.owners_are tells) (step.came h before.owners_are)
+    (λ j. refl) (lawful.past i (length h + 1) (omega arith)) before advances
 
-pub follows-known : (q : ReaderQos) (h : List Happening) (a : Arrival) (ts : List InstanceTrack) (at n : ℕ)
-    (t x : InstanceTrack) (kind : Option ChangeKind) → length h + 1 ≡ n → IsPlaceOf (map key_of ts) a.change.key at
-    → t ≡ get_or ts at t → Changes q a kind n t x → IsLawful q h → Follows q h ts → Follows q (Came a ∷ h) (set ts at x)
-follows-known q h a ts at n t x kind len place is step lawful follows =
+pub follows-known : (q : ReaderQos) (kept : KeptStrengths) (h : List Happening) (a : Arrival) (ts : List InstanceTrack)
+    (at n : ℕ) (t x : InstanceTrack) (kind : Option ChangeKind) → length h + 1 ≡ n → IsPlaceOf (map key_of ts) a.change.key at
+    → t ≡ get_or ts at t → Changes q kept a kind n t x → TellsStrengths kept q h → IsLawful q h
+    → Follows q h ts → Follows q (Came a ∷ h) (set ts at x)
+follows-known q kept h a ts at n t x kind len place is step tells lawful follows =
     let i : Key = a.change.key in
     let inside : at < length ts = omega (arith, place.within, length-map ts key_of) in
     let key : t.key ≡ i = ap (λ (y : InstanceTrack). y.key) is ∙ itself-at ts i at t place inside in
     let before : Tracks q i h t =
     subst (λ (k : Key). Tracks q k h t) key
     (subst (λ (y : InstanceTrack). Tracks q y.key h y) (sym is) (follows.each at t inside)) in
-    let after : Tracks q i (Came a ∷ h) x = tracks-changed q h a kind n t x len step lawful before in
+    let after : Tracks q i (Came a ∷ h) x = tracks-changed q kept h a kind n t x len step tells lawful before in
     let here : Tracks q x.key (Came a ∷ h) x =
     subst (λ (k : Key). Tracks q k (Came a ∷ h) x) (sym after.key_is) after in
     let old : is_some (last_accepted q i h) ≡ true = known-at q h ts i at place follows in
@@ -231,17 +233,18 @@ first-introduced q h a b last data_is =
     ∙ (ap (λ (x : Bool). cond (is_some (cond x (Some a.change.kind) None)) (a.change.key ∷ []) []) data_is
     ∙ some-cond b a.change.kind (a.change.key ∷ [])))
 
-pub follows-new : (q : ReaderQos) (h : List Happening) (a : Arrival) (ts : List InstanceTrack) (n : ℕ) (blank : Kept)
-    (x : InstanceTrack) (kind : Option ChangeKind) → length h + 1 ≡ n → ((i : Key) → StandsFor blank q i [])
+pub follows-new : (q : ReaderQos) (kept : KeptStrengths) (h : List Happening) (a : Arrival) (ts : List InstanceTrack)
+    (n : ℕ) (blank : Kept) (x : InstanceTrack) (kind : Option ChangeKind) → length h + 1 ≡ n → ((i : Key) → StandsFor blank q i [])
     → list_any (same_key a.change.key) (map key_of ts) ≡ false → is_write_or_dispose a.change.kind ≡ true
-    → Changes q a kind n (fresh a.change.key blank) x → IsLawful q h → Follows q h ts
+    → Changes q kept a kind n (fresh a.change.key blank) x → TellsStrengths kept q h → IsLawful q h → Follows q h ts
     → Follows q (Came a ∷ h) (ts ++ x ∷ [])
-follows-new q h a ts n blank x kind len blank_is absent data_is step lawful follows =
+follows-new q kept h a ts n blank x kind len blank_is absent data_is step tells lawful follows =
     let i : Key = a.change.key in
     let last : last_accepted q i h ≡ None = unknown-kept q h ts i absent follows in
     let before : Tracks q i h (fresh i blank) =
     tracks-fresh q i h blank (blank_is i) last (lawful.strangers i 0 last) in
-    let after : Tracks q i (Came a ∷ h) x = tracks-changed q h a kind n (fresh i blank) x len step lawful before in
+    let after : Tracks q i (Came a ∷ h) x =
+    tracks-changed q kept h a kind n (fresh i blank) x len step tells lawful before in
     let here : Tracks q x.key (Came a ∷ h) x =
     subst (λ (k : Key). Tracks q k (Came a ∷ h) x) (sym after.key_is) after in
     record {
@@ -383,6 +386,11 @@ lawful-quiet q h e quiet lawful = record {
 pub follows-of : (q : ReaderQos) (h : List Happening) (table : Table) (ts : List InstanceTrack) → ts ≡ table.tracks
     → Stands q table h → Follows q h ts
 follows-of q h table ts are stands = subst (λ (xs : List InstanceTrack). Follows q h xs) (sym are) stands.follows
+
+-- its strengths
+pub tells-of : (q : ReaderQos) (h : List Happening) (table : Table) (kept : KeptStrengths) → kept ≡ table.strengths
+    → Stands q table h → TellsStrengths kept q h
+tells-of q h table kept are stands = subst (λ (k : KeptStrengths). TellsStrengths k q h) (sym are) stands.strengths_are
 
 -- ---- the handle of an instance, and the instance of a handle
 
@@ -564,12 +572,14 @@ follows-took q h ss ts follows =
 
 -- a table after a read
 pub stands-read : (q : ReaderQos) (h : List Happening) (ss : List SamplePosition) (old new : Table)
-    → new.writers ≡ old.writers → new.happened ≡ old.happened + 1 → map key_of new.tracks ≡ map key_of old.tracks
+    → new.writers ≡ old.writers → new.strengths ≡ old.strengths → new.happened ≡ old.happened + 1
+    → map key_of new.tracks ≡ map key_of old.tracks
     → (Each q (Read [] ∷ h) old.tracks → Each q (Read ss ∷ h) new.tracks) → All (IsReturnable q h) ss → Stands q old h
     → Stands q new (Read ss ∷ h)
-stands-read q h ss old new writers counted keys sees fits stands = record {
+stands-read q h ss old new writers strengths counted keys sees fits stands = record {
   writers_are = writers ∙ stands.writers_are;
   happened_is = omega (arith, counted, stands.happened_is);
+  strengths_are = λ w matched. ap (λ (k : KeptStrengths). kept_strength k w) strengths ∙ stands.strengths_are w matched;
   follows = follows-read q h ss old.tracks new.tracks keys sees stands.follows;
   lawful = lawful-read q h ss fits stands.lawful;
 }
@@ -579,6 +589,7 @@ pub stands-took : (q : ReaderQos) (h : List Happening) (ss : List SamplePosition
 stands-took q h ss table stands = record {
   writers_are = stands.writers_are;
   happened_is = stands.happened_is;
+  strengths_are = stands.strengths_are;
   follows = follows-took q h ss table.tracks stands.follows;
   lawful = lawful-took q h ss stands.lawful;
 }

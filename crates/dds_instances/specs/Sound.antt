@@ -4,6 +4,7 @@
 -- own.
 use Rattle.std.specs.Prelude.{◌≡◌, ◌+◌, ◌<◌, ◌≤◌, ◌^◌, map, count_by, All, vec_len, vec_capacity}
 use Rattle.indexmap.specs.IndexSet.{spare}
+use Rattle.dds_owner.specs.Standing.{strengths_room}
 use Rattle.dds_instances.specs.declared.instances.Instances.TheInside.{Inside}
 use Rattle.dds_instances.specs.Track.{Fits, is_alive_track}
 use Rattle.dds_instances.specs.Table.{Table}
@@ -13,13 +14,14 @@ use Rattle.dds_instances.specs.Following.{key_of, AreBlank}
 abbrev pub table_of : Inside → Table
 table_of a = record {
   writers = a.writers;
+  strengths = a.strengths;
   tracks = a.tracks.items;
   alive = count_by is_alive_track a.tracks.items;
   happened = a.happened;
   room = a.room;
 }
 
--- the index has the keys of the instances, the counts fit, and so many more entries find memory
+-- the index has the keys of the instances, the counts fit, and so many more entries find memory, each with its strength
 pub record IsSound (a : Inside) : Type 0 where
   pub indexed : a.index.keys ≡ map key_of a.tracks.items
   pub fits : All (Fits (a.happened + 1)) a.tracks.items
@@ -27,4 +29,5 @@ pub record IsSound (a : Inside) : Type 0 where
   pub places : a.room ≤ spare a.index
   pub tracks_fit : vec_len a.tracks + a.room ≤ vec_capacity a.tracks
   pub blanks_fit : a.room ≤ vec_len a.blanks
+  pub strengths_fit : 1 ≤ a.room → a.writers ≤ strengths_room a.strengths
   pub counted : a.happened + a.room < 2 ^ 64

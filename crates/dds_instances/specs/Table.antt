@@ -10,13 +10,15 @@ use Rattle.dds_base.specs.declared.code.Code.TheVariants.{Memory}
 use Rattle.dds_base.specs.declared.happening.Happening.{Happening}
 use Rattle.dds_base.specs.declared.qos.ReaderQos.{ReaderQos}
 use Rattle.dds_base.specs.Presence.{is_at}
+use Rattle.dds_owner.specs.Standing.{KeptStrengths, TellsStrengths}
 use Rattle.dds_instances.specs.declared.track.InstanceTrack.{InstanceTrack}
 use Rattle.dds_instances.specs.Following.{Follows, IsLawful}
 
--- what is kept of the instances of a reader: of how many writers, the instances by handle, how many of these are alive,
--- how much happened, and for how many more entries there is memory
+-- what is kept of the instances of a reader: of how many writers, how strong these are, the instances by handle, how
+-- many of these are alive, how much happened, and for how many more entries there is memory
 pub record Table : Type 0 where
   pub writers : ℕ
+  pub strengths : KeptStrengths
   pub tracks : List InstanceTrack
   pub alive : ℕ
   pub happened : ℕ
@@ -53,6 +55,7 @@ pub record TakesEntry (old new : Table) (answer : Result (Unit {0}) Code) : Type
 pub record Stands (q : ReaderQos) (table : Table) (h : List Happening) : Type 0 where
   pub writers_are : table.writers ≡ length q.writers
   pub happened_is : table.happened ≡ length h
+  pub strengths_are : TellsStrengths table.strengths q h
   pub follows : Follows q h table.tracks
   pub lawful : IsLawful q h
 

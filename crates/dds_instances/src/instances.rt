@@ -11,12 +11,12 @@ ghost use Rattle.dds_base.specs.declared.happening.StatusKind.{StatusKind};
 ghost use Rattle.dds_base.specs.declared.qos.ReaderQos.{ReaderQos};
 ghost use Rattle.dds_base.specs.declared.code.Code.TheVariants.{Memory};
 
-use crate::keeping::{add_blanks, bury_all, look_up, see_all, take_up, track_of};
+use crate::keeping::{add_blanks, bury_all, look_up, note_strength, see_all, take_up, track_of};
 use crate::known::{KnownInstance, told, view_of};
 use crate::place::find;
 use crate::track::{InstanceTrack, begins_dead};
 use dds_base::{Arrival, Code, Handle, InstanceState, Key, ReaderQos, SamplePosition, ViewState};
-use dds_owner::Owners;
+use dds_owner::{Owners, Strengths};
 use indexmap::IndexSet;
 use std::alloc::Global;
 use std::marker::Model;
@@ -29,6 +29,8 @@ pub struct Instances {
     alloc: Global,
     /// How many writers are matched.
     writers: usize,
+    /// How strong they are.
+    strengths: Strengths,
     /// How many entries were taken up.
     happened: u64,
     /// For how many more there is memory.
@@ -86,6 +88,7 @@ impl Instances {
         Instances {
             alloc,
             writers: qos.writers.as_slice().len(),
+            strengths: Strengths::new(alloc),
             happened: 0,
             room: 0,
             index: IndexSet::new(alloc),
@@ -126,6 +129,7 @@ impl Instances {
         self.index.reserve(additional)?;
         self.tracks.reserve(additional)?;
         add_blanks(&mut self.blanks, self.alloc, self.writers, additional)?;
+        self.strengths.reserve(self.writers)?;
         self.room = additional;
         Ok(())
     }
@@ -144,9 +148,11 @@ impl Instances {
             &mut self.tracks,
             &mut self.blanks,
             qos,
+            &self.strengths,
             arrival,
             position,
         );
+        note_strength(&mut self.strengths, arrival);
         self.room -= 1;
         self.happened = position;
     }
@@ -157,7 +163,7 @@ impl Instances {
     ///
     /// `Memory` as `reserve` answers it, and never where room was reserved; nothing has changed then.
     ///
-    /// DDS 1.4, 2.2.2.5 (instance_state, generation counts), 2.2.3 (OWNERSHIP).
+    /// DDS 1.4, 2.2.2.5 (instance_state, generation counts), 2.2.3 (OWNERSHIP, OWNERSHIP_STRENGTH).
     pub fn come(&mut self, qos: &ReaderQos, arrival: &Arrival) -> Result<(), Code>
         // The change came.
         ensures ok { OnOk result
@@ -417,7 +423,7 @@ impl Instances {
 
     /// Whether a change would be accepted, if it came at a reader of these policies.
     ///
-    /// DDS 1.4, 2.2.3 (OWNERSHIP).
+    /// DDS 1.4, 2.2.3 (OWNERSHIP, OWNERSHIP_STRENGTH).
     pub fn accepts(&self, qos: &ReaderQos, arrival: &Arrival) -> bool
         // It is so by the definitions.
         ensures accepts { (h : List Happening) → Stands qos.now self.now h
@@ -425,7 +431,10 @@ impl Instances {
     {
         let change = &arrival.change;
         match look_up(&self.index, &self.tracks, change.key) {
-            Some(track) => track.owners.accepted(qos, arrival).is_some(),
+            Some(track) => track
+                .owners
+                .accepted(qos, &self.strengths, arrival)
+                .is_some(),
             None => change.kind.is_write_or_dispose(),
         }
     }
@@ -440,7 +449,7 @@ impl Instances {
     {
         let change = &arrival.change;
         match look_up(&self.index, &self.tracks, change.key) {
-            Some(track) => track.would_mark(qos, arrival),
+            Some(track) => track.would_mark(qos, &self.strengths, arrival),
             None => begins_dead(change.kind, arrival.writer, self.writers),
         }
     }

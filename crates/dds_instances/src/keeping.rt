@@ -1,6 +1,7 @@
 //! What an entry changes at the instances that are kept.
 //!
-//! DDS 1.4, 2.2.2.5 (SampleInfo: instance_state, view_state, the two generation counts), 2.2.3 (LIVELINESS).
+//! DDS 1.4, 2.2.2.5 (SampleInfo: instance_state, view_state, the two generation counts), 2.2.3 (OWNERSHIP_STRENGTH,
+//! LIVELINESS).
 
 ghost use Rattle.std.specs.Prelude.{◌≡◌, ◌+◌, ◌<◌, ◌≤◌, ◌++◌, ◌∷◌, [], List, ℕ, true, false, None, option_copied, is_some, IsTrue, MatchOption, IfSome, IfErr, OnOk, map, count_by, length, All, vec_len, vec_capacity, take};
 ghost use Rattle.std.specs.List.{list_any};
@@ -12,7 +13,7 @@ ghost use Rattle.dds_base.specs.Happening.{same_key, is_write_or_dispose};
 ghost use Rattle.dds_base.specs.declared.code.Code.TheVariants.{Memory};
 ghost use Rattle.dds_base.specs.declared.key.Key.{Key};
 ghost use Rattle.dds_base.specs.Presence.{is_at};
-ghost use Rattle.dds_owner.specs.Standing.{StandsFor};
+ghost use Rattle.dds_owner.specs.Standing.{StandsFor, TellsStrengths, strengths_room};
 ghost use Rattle.dds_base.specs.Instance.{last_accepted};
 ghost use Rattle.dds_instances.specs.Track.{Fits, Tracks, is_alive_track};
 ghost use Rattle.dds_instances.specs.Table.{track_with};
@@ -21,7 +22,7 @@ ghost use Rattle.dds_instances.specs.Following.{key_of, Each, Follows, IsLawful,
 use crate::place::{find, put_last};
 use crate::track::InstanceTrack;
 use dds_base::{Arrival, Code, Handle, Key, ReaderQos, SamplePosition};
-use dds_owner::Owners;
+use dds_owner::{Owners, Strengths};
 use indexmap::IndexSet;
 use std::alloc::Global;
 
@@ -30,6 +31,7 @@ pub fn change_known(
     tracks: &mut Vec<InstanceTrack>,
     at: usize,
     qos: &ReaderQos,
+    strengths: &Strengths,
     arrival: &Arrival,
     position: u64,
 )
@@ -41,11 +43,12 @@ pub fn change_known(
     ensures capacity { vec_capacity tracks.new ≡ vec_capacity tracks.old }
     ensures alive { count_by is_alive_track tracks.new.items
         ≤ count_by is_alive_track tracks.old.items + 1 }
-    ensures follows { (h : List Happening) → length h + 1 ≡ position → IsLawful qos.now h
+    ensures follows { (h : List Happening) → length h + 1 ≡ position
+        → TellsStrengths strengths.now qos.now h → IsLawful qos.now h
         → Follows qos.now h tracks.old.items
         → Follows qos.now (Came arrival.now ∷ h) tracks.new.items }
 {
-    tracks[at].change(qos, arrival, position);
+    tracks[at].change(qos, strengths, arrival, position);
 }
 
 /// An instance becomes known by its first write or dispose, the entry of this position.
@@ -54,6 +57,7 @@ pub fn introduce(
     tracks: &mut Vec<InstanceTrack>,
     blank: Owners,
     qos: &ReaderQos,
+    strengths: &Strengths,
     arrival: &Arrival,
     position: u64,
 )
@@ -72,12 +76,12 @@ pub fn introduce(
     ensures alive { count_by is_alive_track tracks.new.items
         ≤ count_by is_alive_track tracks.old.items + 1 }
     ensures follows { (h : List Happening) → length h + 1 ≡ position
-        → ((i : Key) → StandsFor blank qos.now i [])
+        → ((i : Key) → StandsFor blank qos.now i []) → TellsStrengths strengths.now qos.now h
         → IsLawful qos.now h → Follows qos.now h tracks.old.items
         → Follows qos.now (Came arrival.now ∷ h) tracks.new.items }
 {
     let mut track = InstanceTrack::new(arrival.change.key, blank);
-    track.change(qos, arrival, position);
+    track.change(qos, strengths, arrival, position);
     put_last(index, tracks, track);
 }
 
@@ -141,6 +145,7 @@ pub fn take_up(
     tracks: &mut Vec<InstanceTrack>,
     blanks: &mut Vec<Owners>,
     qos: &ReaderQos,
+    strengths: &Strengths,
     arrival: &Arrival,
     position: u64,
 )
@@ -160,18 +165,31 @@ pub fn take_up(
     ensures blanks_len { vec_len blanks.old ≤ vec_len blanks.new + 1 }
     ensures blanks { (n : ℕ) → AreBlank n blanks.old.items → AreBlank n blanks.new.items }
     ensures follows { (h : List Happening) → length h + 1 ≡ position
-        → AreBlank (length qos.now.writers) blanks.old.items → IsLawful qos.now h
+        → AreBlank (length qos.now.writers) blanks.old.items
+        → TellsStrengths strengths.now qos.now h → IsLawful qos.now h
         → Follows qos.now h tracks.old.items
         → Follows qos.now (Came arrival.now ∷ h) tracks.new.items }
 {
     match find(index, arrival.change.key) {
-        Some(at) => change_known(tracks, at, qos, arrival, position),
+        Some(at) => change_known(tracks, at, qos, strengths, arrival, position),
         None => {
             if arrival.change.kind.is_write_or_dispose() {
                 let blank = blanks.pop().unwrap();
-                introduce(index, tracks, blank, qos, arrival, position);
+                introduce(index, tracks, blank, qos, strengths, arrival, position);
             }
         }
+    }
+}
+
+/// A change came: what it says of its writer's strength is kept, where there is memory for that of each writer.
+pub fn note_strength(strengths: &mut Strengths, arrival: &Arrival)
+    ensures came { (q : ReaderQos) (h : List Happening)
+        → length q.writers ≤ strengths_room strengths.old → TellsStrengths strengths.old q h
+        → TellsStrengths strengths.new q (Came arrival.now ∷ h) }
+    ensures room { strengths_room strengths.new ≡ strengths_room strengths.old }
+{
+    if let Some(strength) = arrival.change.strength {
+        strengths.set_strength(arrival.writer, strength);
     }
 }
 

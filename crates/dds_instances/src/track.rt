@@ -10,11 +10,11 @@ ghost use Rattle.dds_base.specs.declared.qos.ReaderQos.{ReaderQos};
 ghost use Rattle.dds_base.specs.Instance.{or_else, state_after, is_write, is_disposed, is_without_writers};
 ghost use Rattle.dds_base.specs.Ownership.{accepted_kind};
 ghost use Rattle.dds_base.specs.Presence.{becomes_not_alive, marks};
-ghost use Rattle.dds_owner.specs.Standing.{Kept, StandsFor, has_writers};
+ghost use Rattle.dds_owner.specs.Standing.{Kept, StandsFor, TellsStrengths, has_writers};
 ghost use Rattle.dds_instances.specs.Track.{state_of_track, one_if, fresh, seen_at, is_born_dead, Counts, Advances, Fits, Tracks};
 
 use dds_base::{Arrival, ChangeKind, Handle, InstanceState, Key, ReaderQos};
-use dds_owner::Owners;
+use dds_owner::{Owners, Strengths};
 
 /// What is known of an instance after what has happened. `docs/DECISIONS.md`, "A reader's cache", says why it has
 /// owners of its own, and why it is known for good.
@@ -165,11 +165,12 @@ impl InstanceTrack {
     }
 
     /// Whether a change of the instance would turn it to a state that is not alive, from another one.
-    pub fn would_mark(&self, qos: &ReaderQos, arrival: &Arrival) -> bool
+    pub fn would_mark(&self, qos: &ReaderQos, strengths: &Strengths, arrival: &Arrival) -> bool
         ensures { (h : List Happening) → Tracks qos.now arrival.now.change.key h self.now
+            → TellsStrengths strengths.now qos.now h
             → result ≡ marks qos.now arrival.now.change.key h (Came arrival.now) }
     {
-        let accepted = self.owners.accepted(qos, arrival);
+        let accepted = self.owners.accepted(qos, strengths, arrival);
         let last = first_there(accepted, self.last_accepted);
         let nobody = !self.owners.would_have_writers(arrival);
         is_new_end(self.state(), state_by(last, nobody))
@@ -200,6 +201,7 @@ impl InstanceTrack {
     pub fn change(
         &mut self,
         qos: &ReaderQos,
+        strengths: &Strengths,
         arrival: &Arrival,
         position: u64,
     ) -> Option<ChangeKind>
@@ -207,13 +209,14 @@ impl InstanceTrack {
         ensures advances { Advances result position self.old self.new }
         ensures accepted { (h : List Happening)
             → StandsFor self.old.owners qos.now arrival.now.change.key h
+            → TellsStrengths strengths.now qos.now h
             → result ≡ accepted_kind qos.now arrival.now.change.key h (Came arrival.now) }
         ensures came { (h : List Happening)
             → StandsFor self.old.owners qos.now arrival.now.change.key h
             → StandsFor self.new.owners qos.now arrival.now.change.key (Came arrival.now ∷ h) }
     {
         let before = self.state();
-        let accepted = self.owners.accepted(qos, arrival);
+        let accepted = self.owners.accepted(qos, strengths, arrival);
         note(&mut self.owners, arrival);
         self.count(before, accepted, position);
         accepted

@@ -61,7 +61,8 @@ abbrev pub written : ℕ → ℕ → List ℕ → Happening
 written number key value = Came (record {
   writer = 1;
   number = number;
-  change = record { kind = Writes; key = record { 0 = key ∷ [] }; value = value; source_timestamp = 0 };
+  change = record
+      { kind = Writes; key = record { 0 = key ∷ [] }; value = value; source_timestamp = 0; strength = None };
   moment = 0;
 })
 

@@ -21,10 +21,10 @@ use Rattle.dds_base.specs.Liveliness.{alive_count, liveliness_changed_status, no
 use Rattle.dds_base.specs.Refusal.{Refuses}
 use Rattle.dds_base.specs.Selection.{picked_by}
 use Rattle.dds_base.specs.Statuses.{lost_count, sample_lost_status}
-use Rattle.dds_base.specs.Written.{Written, Registered, Changed, Asserted, LookedAt, is_key_registered, liveliness_lost_status}
+use Rattle.dds_base.specs.Written.{Written, Registered, Changed, Asserted, LookedAt, StrengthSet, is_key_registered, liveliness_lost_status}
 use Rattle.dds_base.specs.Number.{at_number}
 use Rattle.dds_machine.specs.declared.call.Call.{Call}
-use Rattle.dds_machine.specs.declared.call.Call.TheVariants.{Register, Write, Dispose, Unregister, AssertLiveliness, Read, Take, GetKeyValue, LookupInstance, GetSampleLost, GetLivelinessChanged, GetLivelinessLost, ReadByCondition, TakeByCondition, CreateReadCondition, CreateQueryCondition, CreateGuardCondition, SetTriggerValue, DeleteCondition, GetTriggerValue, CreateWaitSet, DeleteWaitSet, AttachCondition, DetachCondition, GetConditions, WaitBegin, WaitLook, WaitEnd, SetEnabledStatuses, GetStatusChanges}
+use Rattle.dds_machine.specs.declared.call.Call.TheVariants.{Register, Write, Dispose, Unregister, AssertLiveliness, SetStrength, Read, Take, GetKeyValue, LookupInstance, GetSampleLost, GetLivelinessChanged, GetLivelinessLost, ReadByCondition, TakeByCondition, CreateReadCondition, CreateQueryCondition, CreateGuardCondition, SetTriggerValue, DeleteCondition, GetTriggerValue, CreateWaitSet, DeleteWaitSet, AttachCondition, DetachCondition, GetConditions, WaitBegin, WaitLook, WaitEnd, SetEnabledStatuses, GetStatusChanges}
 use Rattle.dds_machine.specs.declared.reply.Reply.{Reply}
 use Rattle.dds_machine.specs.declared.reply.Reply.TheVariants.{Done, Samples, KeyValue, InstanceHandle, SampleLost, LivelinessChanged, LivelinessLost, Created, TriggerValue, Conditions, Active, Waiting, StatusChanges, Refused}
 use Rattle.dds_conditions.specs.declared.condition.Cond.{Cond}
@@ -34,7 +34,7 @@ use Rattle.dds_conditions.specs.Watched.{Watched, attach_refusal, conditions_of,
 use Rattle.dds_machine.specs.Numbered.{numbered, with_numbered}
 use Rattle.dds_machine.specs.Watching.{Test, Tests, condition_refusal, condition_selection, condition_test, query_condition_refusal, read_condition_refusal, status_changes, trigger_value}
 use Rattle.dds_machine.specs.Part.{Part, Rtps, Dds, Seen, Reader, Writer, no_writer, own_writer, own_reader}
-use Rattle.dds_machine.specs.Refusals.{change_made, unregister_kind, writer_refusal, write_refusal, dispose_refusal, unregister_refusal, assert_refusal, access_refusal, key_of, key_refusal, reader_refusal}
+use Rattle.dds_machine.specs.Refusals.{change_made, unregister_kind, writer_refusal, write_refusal, dispose_refusal, unregister_refusal, assert_refusal, strength_refusal, access_refusal, key_of, key_refusal, reader_refusal}
 
 -- the samples that an access of the peer's reader returns
 abbrev pub picked_at : Test → Part → ℕ → Selection → List SamplePosition
@@ -106,11 +106,12 @@ effect old (writes writer entry) =
 -- what a call that is answered so enters at the peer's writer
 abbrev pub effect_of : Part → Call → Reply → Effect
 effect_of part (Register writer key) Done = writes writer (Registered key)
-effect_of part (Write writer key value) Done = writes writer (Changed (change_made part kind.Write key value))
-effect_of part (Dispose writer key) Done = writes writer (Changed (change_made part kind.Dispose key []))
+effect_of part (Write writer key value) Done = writes writer (Changed (change_made part writer kind.Write key value))
+effect_of part (Dispose writer key) Done = writes writer (Changed (change_made part writer kind.Dispose key []))
 effect_of part (Unregister writer key) Done =
-    writes writer (Changed (change_made part (unregister_kind (own_writer part writer).autodispose) key []))
+    writes writer (Changed (change_made part writer (unregister_kind (own_writer part writer).autodispose) key []))
 effect_of part (AssertLiveliness writer) Done = writes writer (Asserted part.dds.moment)
+effect_of part (SetStrength writer strength) Done = writes writer (StrengthSet strength)
 effect_of part (GetLivelinessLost writer) (LivelinessLost status) = writes writer LookedAt
 effect_of part call reply = nothing
 
@@ -193,6 +194,8 @@ Answers tests old (Unregister writer key) reply dds =
     IsDoneUnless (unregister_refusal old writer key) reply old.dds old.dds dds
 Answers tests old (AssertLiveliness writer) reply dds =
     IsAnswered (assert_refusal old writer) Done old.dds old reply dds
+Answers tests old (SetStrength writer strength) reply dds =
+    IsAnswered (strength_refusal old writer) Done old.dds old reply dds
 Answers tests old (GetLivelinessLost writer) reply dds =
     IsAnswered (writer_refusal old writer) (LivelinessLost (liveliness_lost_at (own_writer old writer))) old.dds old
     reply dds

@@ -12,6 +12,7 @@ use Rattle.dds_base.specs.declared.qos.MatchedWriter.{MatchedWriter}
 use Rattle.dds_base.specs.declared.qos.ReaderQos.{ReaderQos}
 use Rattle.dds_conditions.specs.Watched.{opened as nothing_watched}
 use Rattle.dds_notices.specs.Listeners.{nobody}
+use Rattle.dds_base.specs.Ownership.{carried}
 use Rattle.dds_base.specs.Matched.{of_matched_writers, of_matched_readers, of_reliable_readers}
 use Rattle.dds_machine.specs.declared.endpoint.Endpoint.{Endpoint}
 use Rattle.dds_machine.specs.Part.{ReaderProxy, WriterProxy, Writer, Part, nothing_seen}
@@ -61,6 +62,7 @@ opening_writer peers w =
       policy = w.history;
       max_samples = limit_of w.max_samples;
       lease = w.lease;
+      strength = carried w.ownership w.strength;
       autodispose = w.autodispose;
       written = [];
       matched = matched_readers w.topic 1 peers;

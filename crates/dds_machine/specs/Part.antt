@@ -35,12 +35,14 @@ pub record WriterProxy : Type 0 where
   pub place : ℕ
   pub heard : Option ℤ
 
--- a writer: its policy, limit and lease, whether an unregister disposes too, what happened there, the newest first, its
--- matched readers, and what it knows of those that are reliable
+-- a writer: its policy, limit and lease, the strength that it was configured with, none of a writer of shared ownership,
+-- whether an unregister disposes too, what happened there, the newest first, its matched readers, and what it knows of
+-- those that are reliable
 pub record Writer : Type 0 where
   pub policy : HistoryQos
   pub max_samples : Option ℕ
   pub lease : Option ℕ
+  pub strength : Option ℤ
   pub autodispose : Bool
   pub written : List Written
   pub matched : List Endpoint
@@ -91,6 +93,7 @@ no_writer = record {
   policy = KeepAll;
   max_samples = None;
   lease = None;
+  strength = None;
   autodispose = false;
   written = [];
   matched = [];

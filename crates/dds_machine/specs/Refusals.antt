@@ -2,9 +2,9 @@
 -- none where it takes the call.
 --
 -- DDS 1.4, 2.2.2.4 (register_instance, write, dispose, unregister_instance, assert_liveliness,
--- get_liveliness_lost_status), 2.2.2.5 (the forms of read and take, get_key_value, get_sample_lost_status,
+-- get_liveliness_lost_status), 2.2.3 (OWNERSHIP_STRENGTH), 2.2.2.5 (the forms of read and take, get_key_value, get_sample_lost_status,
 -- get_liveliness_changed_status), 2.2.1.1 (return codes).
-use Rattle.std.specs.Prelude.{ℕ, ◌-◌, ◌^◌, ◌||◌, not, Bool, List, [], length, Option, Some, None, is_some, nat_le, nat_lt, if◌then◌else◌}
+use Rattle.std.specs.Prelude.{ℕ, ◌-◌, ◌^◌, ◌||◌, not, Bool, List, [], length, Option, Some, None, is_some, nat_le, nat_lt, ℤ, if◌then◌else◌}
 use Rattle.dds_base.specs.declared.key.Key.{Key}
 use Rattle.dds_base.specs.declared.change.Change.{Change}
 use Rattle.dds_base.specs.declared.change.ChangeKind.{ChangeKind}
@@ -15,13 +15,23 @@ use Rattle.dds_base.specs.declared.selection.Selection.{Selection}
 use Rattle.dds_base.specs.Access.{instance_of}
 use Rattle.dds_base.specs.Kept.{append_refusal}
 use Rattle.dds_base.specs.Selection.{selection_refusal}
-use Rattle.dds_base.specs.Written.{is_key_registered}
+use Rattle.dds_base.specs.Written.{is_key_registered, strength_now}
 use Rattle.dds_machine.specs.Numbered.{has_element}
-use Rattle.dds_machine.specs.Part.{Part, own_writer, own_reader, heartbeats_used, history_of}
+use Rattle.dds_machine.specs.Part.{Part, Writer, own_writer, own_reader, heartbeats_used, history_of}
 
--- the change that a call makes at the peer's moment
-abbrev pub change_made : Part → ChangeKind → Key → List ℕ → Change
-change_made part kind key value = record { kind = kind; key = key; value = value; source_timestamp = part.dds.moment }
+-- the strength that the next change of a writer carries; none of a writer of shared ownership
+abbrev pub strength_of : Writer → Option ℤ
+strength_of w = strength_now w.strength w.written
+
+-- the change that a call of the peer's writer makes at the peer's moment, with the strength that the writer has then
+abbrev pub change_made : Part → ℕ → ChangeKind → Key → List ℕ → Change
+change_made part writer kind key value = record {
+  kind = kind;
+  key = key;
+  value = value;
+  source_timestamp = part.dds.moment;
+  strength = strength_of (own_writer part writer);
+}
 
 -- what an unregister makes: with autodispose the instance is disposed too (2.2.3, WRITER_DATA_LIFECYCLE)
 abbrev pub unregister_kind : Bool → ChangeKind
@@ -39,26 +49,33 @@ writer_refusal part writer = if not (has_element part.rtps.writers writer) then 
 abbrev pub write_refusal : Part → ℕ → Key → List ℕ → Option Code
 write_refusal part writer key value =
     if not (has_element part.rtps.writers writer) || nat_lt 1024 (length value) then Some BadParameter
-    else change_refusal part writer (change_made part kind.Write key value)
+    else change_refusal part writer (change_made part writer kind.Write key value)
 
 -- why a dispose is refused: no such writer, or as its history says
 abbrev pub dispose_refusal : Part → ℕ → Key → Option Code
 dispose_refusal part writer key =
     if not (has_element part.rtps.writers writer) then Some BadParameter
-    else change_refusal part writer (change_made part kind.Dispose key [])
+    else change_refusal part writer (change_made part writer kind.Dispose key [])
 
 -- why an unregister is refused: no such writer, the instance is not registered there, or as its history says
 abbrev pub unregister_refusal : Part → ℕ → Key → Option Code
 unregister_refusal part writer key =
     if not (has_element part.rtps.writers writer) then Some BadParameter
     else (if not (is_key_registered key (own_writer part writer).written) then Some PreconditionNotMet
-    else change_refusal part writer (change_made part (unregister_kind (own_writer part writer).autodispose) key []))
+    else change_refusal part writer
+    (change_made part writer (unregister_kind (own_writer part writer).autodispose) key []))
 
 -- why an assertion is refused: no such writer, or its HEARTBEAT counts, 1 to 2^31 - 1, are used up
 abbrev pub assert_refusal : Part → ℕ → Option Code
 assert_refusal part writer =
     if not (has_element part.rtps.writers writer) then Some BadParameter
     else (if nat_le (2 ^ 31 - 1) (heartbeats_used (own_writer part writer)) then Some OutOfResources else None)
+
+-- why a strength is not set: no such writer, or one of shared ownership
+abbrev pub strength_refusal : Part → ℕ → Option Code
+strength_refusal part writer =
+    if not (has_element part.rtps.writers writer) then Some BadParameter
+    else (if not (is_some (own_writer part writer).strength) then Some PreconditionNotMet else None)
 
 -- why an access is refused: no such reader, a max that is neither -1 nor positive, or an instance that has to be known
 -- and is not

@@ -46,6 +46,13 @@ pub enum Call {
     AssertLiveliness {
         writer: u8,
     },
+    /// Sets the strength that a writer's changes carry from now on (DDS 1.4, 2.2.3, OWNERSHIP_STRENGTH, which is
+    /// changeable). `PreconditionNotMet` of a writer of shared ownership. It sends nothing, is no assertion, and is
+    /// never refused for want of memory.
+    SetStrength {
+        writer: u8,
+        strength: i32,
+    },
     /// Reads samples, which stay (DDS 1.4, 2.2.2.5, read and its instance, next-instance and next-sample forms).
     /// `BadParameter` for a `max` that is neither -1 nor positive, and for an instance that is not known where it has
     /// to be; `NoData` where there is no such sample.
@@ -215,6 +222,10 @@ impl Clone for Call {
                 key: *key,
             },
             Call::AssertLiveliness { writer } => Call::AssertLiveliness { writer: *writer },
+            Call::SetStrength { writer, strength } => Call::SetStrength {
+                writer: *writer,
+                strength: *strength,
+            },
             Call::Read { reader, selection } => Call::Read {
                 reader: *reader,
                 selection: *selection,

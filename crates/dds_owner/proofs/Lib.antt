@@ -1,2 +1,3 @@
 pub mod RegistrationLaws
+pub mod StrengthLaws
 pub mod RankingLaws

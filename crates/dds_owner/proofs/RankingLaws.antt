@@ -15,22 +15,26 @@ use Rattle.dds_base.specs.declared.happening.Happening.{Happening}
 use Rattle.dds_base.specs.declared.happening.Happening.TheVariants.{Came}
 use Rattle.dds_base.specs.declared.qos.MatchedWriter.{MatchedWriter}
 use Rattle.dds_base.specs.declared.qos.ReaderQos.{ReaderQos}
+use Rattle.dds_base.specs.declared.qos.OwnershipQos.{OwnershipQos}
+use Rattle.dds_base.specs.declared.qos.OwnershipQos.TheVariants.{Shared, Exclusive}
 use Rattle.dds_base.specs.Happening.{is_write_or_dispose}
 use Rattle.dds_base.specs.Ownership.{IsMatched, accepted_kind, admits, is_above, is_registered, numbered_from, outranks, outranks_all, owner_of, Precedence, precedence, precedence_of, publication_handles, registered_writers, writer_cmp, writer_of}
 use Rattle.dds_base.proofs.KeyLaws.{same_key-refl}
 use Rattle.dds_base.proofs.OwnerLaws.{all-at, eqb-refl, is_one_of, matched-writer, outranks-one_way, outranks-trans, owner-is, owner-one, writer_total}
 use Rattle.dds_owner.specs.declared.ranking.Leader.{Leader}
 use Rattle.dds_owner.specs.declared.registration.Registration.{Registration}
-use Rattle.dds_owner.specs.Ranking.{accepted_among, gives_way, leader_after, leader_among}
+use Rattle.dds_owner.specs.Ranking.{accepted_among, gives_way, leader_after, leader_among, order_by}
 use Rattle.dds_owner.specs.Registration.{registration_of}
+use Rattle.dds_owner.specs.Standing.{KeptStrengths, TellsStrengths}
 use Rattle.dds_owner.proofs.RegistrationLaws.{other-than}
+use Rattle.dds_owner.proofs.StrengthLaws.{order-came, order-kept}
 
 -- the leader, if it outranks each other one
 abbrev pub sole : Option Leader → Option ℕ
 sole None = None
 sole (Some l) = if l.is_sole then Some l.writer else None
 
--- ---- what is accepted
+-- ---- who need not give way
 
 all-one : (b good : Bool) (w : ℕ) (ws : List ℕ) (g : ℕ → Bool) (rest : Bool) → g w ≡ good
     → list_all g ws ≡ rest → list_all g (cond b (w ∷ ws) ws) ≡ ((not b || good) && rest)
@@ -39,22 +43,67 @@ all-one false good w ws g rest is e = e
 
 all-each : (q : ReaderQos) (i : Key) (g h : List Happening) (w : ℕ) (ws : List ℕ)
     → outranks_all q g (filter (λ v. is_registered i v h) ws) w
-    ≡ list_all (gives_way q w) (map (registration_of i h) ws)
+    ≡ list_all (gives_way (precedence_of q g) w) (map (registration_of i h) ws)
 all-each q i g h w [] = refl
 all-each q i g h w (v ∷ ws) =
     all-one (is_registered i v h) ((v == w) || outranks q g w v) v (filter (λ x. is_registered i x h) ws)
-    (λ x. (x == w) || outranks q g w x) (list_all (gives_way q w) (map (registration_of i h) ws)) refl
+    (λ x. (x == w) || outranks q g w x) (list_all (gives_way (precedence_of q g) w) (map (registration_of i h) ws)) refl
     (all-each q i g h w ws)
 
+-- ---- orders that look at the same
+
+above-same : (o p : ℕ → Option Precedence) → ((w : ℕ) → o w ≡ p w) → (v w : ℕ) → is_above (o v) (o w)
+    ≡ is_above (p v) (p w)
+above-same o p same v w =
+    ap (λ (x : Option Precedence). is_above x (o w)) (same v)
+    ∙ ap (λ (x : Option Precedence). is_above (p v) x) (same w)
+
+gives-same : (o p : ℕ → Option Precedence) → ((w : ℕ) → o w ≡ p w) → (w : ℕ) (rs : List Registration)
+    → list_all (gives_way o w) rs ≡ list_all (gives_way p w) rs
+gives-same o p same w [] = refl
+gives-same o p same w (r ∷ rs) =
+    ap (λ (b : Bool). (not r.is_registered || ((r.writer == w) || b)) && list_all (gives_way o w) rs)
+    (above-same o p same w r.writer)
+    ∙ ap (λ (b : Bool). gives_way p w r && b) (gives-same o p same w rs)
+
+after-same : (o p : ℕ → Option Precedence) → ((w : ℕ) → o w ≡ p w) → (leader : Option Leader) (w : ℕ)
+    → leader_after o leader w ≡ leader_after p leader w
+after-same o p same None w = refl
+after-same o p same (Some l) w =
+    ap (λ (b : Bool). if b then record { writer = w; is_sole = true }
+    else record { writer = l.writer; is_sole = l.is_sole && is_above (o l.writer) (o w) })
+    (above-same o p same w l.writer)
+    ∙ ap (λ (b : Bool). if is_above (p w) (p l.writer) then record { writer = w; is_sole = true }
+    else record { writer = l.writer; is_sole = l.is_sole && b }) (above-same o p same l.writer w)
+
+among-same : (o p : ℕ → Option Precedence) → ((w : ℕ) → o w ≡ p w) → (leader : Option Leader)
+    (rs : List Registration) → leader_among o leader rs ≡ leader_among p leader rs
+among-same o p same leader [] = refl
+among-same o p same leader (r ∷ rs) =
+    ap (λ (l : Leader). leader_among o (if r.is_registered then Some l else leader) rs)
+    (after-same o p same leader r.writer)
+    ∙ among-same o p same (if r.is_registered then Some (leader_after p leader r.writer) else leader) rs
+
+-- ---- what is accepted
+
+admits-same : (o : OwnershipQos) (b c : Bool) → (o ≡ Exclusive → b ≡ c) → admits o b ≡ admits o c
+admits-same Shared b c same = refl
+admits-same Exclusive b c same = same refl
+
 -- what is accepted among the registrations is what is accepted
-pub accepted-among : (q : ReaderQos) (h : List Happening) (a : Arrival) (rs : List Registration)
+pub accepted-among : (q : ReaderQos) (h : List Happening) (a : Arrival) (kept : KeptStrengths) (rs : List Registration)
+    → (q.ownership ≡ Exclusive → TellsStrengths kept q h)
     → rs ≡ map (registration_of a.change.key h) (publication_handles q)
-    → accepted_among q rs a.writer a.change.kind ≡ accepted_kind q a.change.key h (Came a)
-accepted-among q h a rs is =
-    ap (λ (b : Bool). if is_write_or_dispose a.change.kind && admits q.ownership b
-    then Some a.change.kind else None)
-    (ap (λ (xs : List Registration). list_all (gives_way q a.writer) xs) is
-    ∙ sym (all-each q a.change.key (Came a ∷ h) h a.writer (publication_handles q)))
+    → accepted_among (order_by q kept (Some a)) q rs a.writer a.change.kind
+    ≡ accepted_kind q a.change.key h (Came a)
+accepted-among q h a kept rs tells is =
+    ap (λ (b : Bool). if is_write_or_dispose a.change.kind && b then Some a.change.kind else None)
+    (admits-same q.ownership (list_all (gives_way (order_by q kept (Some a)) a.writer) rs)
+    (outranks_all q (Came a ∷ h) (registered_writers q a.change.key h) a.writer)
+    (λ exclusive. gives-same (order_by q kept (Some a)) (precedence_of q (Came a ∷ h))
+    (order-came q h a kept (tells exclusive)) a.writer rs
+    ∙ (ap (λ (xs : List Registration). list_all (gives_way (precedence_of q (Came a ∷ h)) a.writer) xs) is
+    ∙ sym (all-each q a.change.key (Came a ∷ h) h a.writer (publication_handles q)))))
     ∙ ap (λ (b : Bool). if b && (is_write_or_dispose a.change.kind
     && admits q.ownership (outranks_all q (Came a ∷ h) (registered_writers q a.change.key h) a.writer))
     then Some a.change.kind else None)
@@ -63,12 +112,12 @@ accepted-among q h a rs is =
 -- ---- the order of writers
 
 -- no writer outranks itself
-above-itself : (q : ReaderQos) (w : ℕ) → outranks q [] w w ≡ false
-above-itself q w =
+above-itself : (q : ReaderQos) (g : List Happening) (w : ℕ) → outranks q g w w ≡ false
+above-itself q g w =
     ⊎_elim
-    (λ above. absurd (outranks-one_way (precedence_of q [] w) (precedence_of q [] w) above above))
+    (λ above. absurd (outranks-one_way (precedence_of q g w) (precedence_of q g w) above above))
     (λ no. no)
-    (cases_Bool (outranks q [] w w))
+    (cases_Bool (outranks q g w w))
 
 -- of two writers the one that is above a third, as the other is not, is above that one too
 below-chain : (u v w : Precedence) (o : Ordering) → writer_cmp v u ≡ o → is_gt (writer_cmp v w) ≡ true
@@ -80,32 +129,32 @@ below-chain u v w Less is above not_w not_v =
     absurd (let clash : true ≡ false =
     sym (ap is_gt (writer_total.antisymm u v ∙ ap ordering_reverse is)) ∙ not_v in cc)
 
-outranks-as : (q : ReaderQos) (v w : ℕ) (a b : MatchedWriter) → writer_of q.writers v ≡ Some a
-    → writer_of q.writers w ≡ Some b → outranks q [] v w ≡ is_gt (writer_cmp (precedence [] v a) (precedence [] w b))
-outranks-as q v w a b is_a is_b =
-    ap (λ (x : Option MatchedWriter). is_above (option_map (precedence [] v) x) (precedence_of q [] w)) is_a
-    ∙ ap (λ (x : Option MatchedWriter). is_above (Some (precedence [] v a)) (option_map (precedence [] w) x)) is_b
+outranks-as : (q : ReaderQos) (g : List Happening) (v w : ℕ) (a b : MatchedWriter) → writer_of q.writers v ≡ Some a
+    → writer_of q.writers w ≡ Some b → outranks q g v w ≡ is_gt (writer_cmp (precedence g v a) (precedence g w b))
+outranks-as q g v w a b is_a is_b =
+    ap (λ (x : Option MatchedWriter). is_above (option_map (precedence g v) x) (precedence_of q g w)) is_a
+    ∙ ap (λ (x : Option MatchedWriter). is_above (Some (precedence g v a)) (option_map (precedence g w) x)) is_b
 
 -- who outranks a writer that nobody of some outranks, outranks each of these
-above-others : (q : ReaderQos) (v w u : ℕ) → IsMatched q v → IsMatched q w → IsMatched q u
-    → outranks q [] v w ≡ true → outranks q [] u w ≡ false → outranks q [] v u ≡ true
-above-others q v w u matched_v matched_w matched_u above not_above =
+above-others : (q : ReaderQos) (g : List Happening) (v w u : ℕ) → IsMatched q v → IsMatched q w → IsMatched q u
+    → outranks q g v w ≡ true → outranks q g u w ≡ false → outranks q g v u ≡ true
+above-others q g v w u matched_v matched_w matched_u above not_above =
     let a = matched-writer q v matched_v in
     let b = matched-writer q w matched_w in
     let c = matched-writer q u matched_u in
-    let not_back : outranks q [] u v ≡ false =
+    let not_back : outranks q g u v ≡ false =
     ⊎_elim
     (λ back. absurd (let clash : true ≡ false =
-    sym (outranks-trans (precedence_of q [] u) (precedence_of q [] v) (precedence_of q [] w) back above)
+    sym (outranks-trans (precedence_of q g u) (precedence_of q g v) (precedence_of q g w) back above)
     ∙ not_above in cc))
     (λ no. no)
-    (cases_Bool (outranks q [] u v)) in
-    outranks-as q v u a.0 c.0 a.1 c.1
-    ∙ below-chain (precedence [] u c.0) (precedence [] v a.0) (precedence [] w b.0)
-    (writer_cmp (precedence [] v a.0) (precedence [] u c.0)) refl
-    (sym (outranks-as q v w a.0 b.0 a.1 b.1) ∙ above)
-    (sym (outranks-as q u w c.0 b.0 c.1 b.1) ∙ not_above)
-    (sym (outranks-as q u v c.0 a.0 c.1 a.1) ∙ not_back)
+    (cases_Bool (outranks q g u v)) in
+    outranks-as q g v u a.0 c.0 a.1 c.1
+    ∙ below-chain (precedence g u c.0) (precedence g v a.0) (precedence g w b.0)
+    (writer_cmp (precedence g v a.0) (precedence g u c.0)) refl
+    (sym (outranks-as q g v w a.0 b.0 a.1 b.1) ∙ above)
+    (sym (outranks-as q g u w c.0 b.0 c.1 b.1) ∙ not_above)
+    (sym (outranks-as q g u v c.0 a.0 c.1 a.1) ∙ not_back)
 
 -- ---- searches of a list
 
@@ -147,48 +196,49 @@ one-more ws v u there =
 -- ---- the leader of those that were looked at
 
 -- one of these, which have numbers below k: it is not above writer w
-record Seen (q : ReaderQos) (k w u : ℕ) : Type 0 where
+record Seen (q : ReaderQos) (g : List Happening) (k w u : ℕ) : Type 0 where
   below : u < k
   matched : IsMatched q u
-  not_above : outranks q [] u w ≡ false
+  not_above : outranks q g u w ≡ false
 
-record LeadsBy (q : ReaderQos) (k : ℕ) (seen : List ℕ) (l : Leader) : Type 0 where
+record LeadsBy (q : ReaderQos) (g : List Happening) (k : ℕ) (seen : List ℕ) (l : Leader) : Type 0 where
   among : is_one_of seen l.writer ≡ true
-  sole_is : l.is_sole ≡ outranks_all q [] seen l.writer
-  each : (u : ℕ) → is_one_of seen u ≡ true → Seen q k l.writer u
+  sole_is : l.is_sole ≡ outranks_all q g seen l.writer
+  each : (u : ℕ) → is_one_of seen u ≡ true → Seen q g k l.writer u
 
-abbrev Leads : ReaderQos → ℕ → List ℕ → Option Leader → Type 0
-Leads q k seen None = seen ≡ []
-Leads q k seen (Some l) = LeadsBy q k seen l
+abbrev Leads : ReaderQos → List Happening → ℕ → List ℕ → Option Leader → Type 0
+Leads q g k seen None = seen ≡ []
+Leads q g k seen (Some l) = LeadsBy q g k seen l
 
-seen-itself : (q : ReaderQos) (k : ℕ) → IsMatched q k → Seen q (k + 1) k k
-seen-itself q k matched = record { below = omega arith; matched = matched; not_above = above-itself q k }
+seen-itself : (q : ReaderQos) (g : List Happening) (k : ℕ) → IsMatched q k → Seen q g (k + 1) k k
+seen-itself q g k matched = record { below = omega arith; matched = matched; not_above = above-itself q g k }
 
 -- the first that is looked at
-leads-first : (q : ReaderQos) (k : ℕ) → IsMatched q k
-    → LeadsBy q (k + 1) (k ∷ []) (record { writer = k; is_sole = true })
-leads-first q k matched = record {
+leads-first : (q : ReaderQos) (g : List Happening) (k : ℕ) → IsMatched q k
+    → LeadsBy q g (k + 1) (k ∷ []) (record { writer = k; is_sole = true })
+leads-first q g k matched = record {
   among = or_left (k == k) false (eqb-refl k);
   sole_is = sym
-      (and_from ((k == k) || outranks q [] k k) true (or_left (k == k) (outranks q [] k k) (eqb-refl k)) refl);
+      (and_from ((k == k) || outranks q g k k) true (or_left (k == k) (outranks q g k k) (eqb-refl k)) refl);
   each = λ u there. ⊎_elim
-      (λ same. subst (λ (x : ℕ). Seen q (k + 1) k x) (eqb-true k u same) (seen-itself q k matched))
+      (λ same. subst (λ (x : ℕ). Seen q g (k + 1) k x) (eqb-true k u same) (seen-itself q g k matched))
       (λ none. absurd (let clash : false ≡ true = none in cc))
       (or_cases (k == u) false there);
 }
 
 -- one that outranks the leader takes its place
-takes-over : (q : ReaderQos) (k : ℕ) (seen : List ℕ) (l : Leader) → LeadsBy q k seen l → IsMatched q k
-    → outranks q [] k l.writer ≡ true → LeadsBy q (k + 1) (seen ++ k ∷ []) (record { writer = k; is_sole = true })
-takes-over q k seen l leads matched above = record {
+takes-over : (q : ReaderQos) (g : List Happening) (k : ℕ) (seen : List ℕ) (l : Leader) → LeadsBy q g k seen l
+    → IsMatched q k → outranks q g k l.writer ≡ true
+    → LeadsBy q g (k + 1) (seen ++ k ∷ []) (record { writer = k; is_sole = true })
+takes-over q g k seen l leads matched above = record {
   among = list_any-append (λ x. x == k) seen (k ∷ [])
       ∙ or_right (is_one_of seen k) ((k == k) || false) (or_left (k == k) false (eqb-refl k));
-  sole_is = sym (list_all-append (λ v. (v == k) || outranks q [] k v) seen (k ∷ [])
-      ∙ and_from (outranks_all q [] seen k) (((k == k) || outranks q [] k k) && true)
-      (all-from (λ v. (v == k) || outranks q [] k v) seen (λ u there. or_right (u == k) (outranks q [] k u)
-      (above-others q k l.writer u matched (leads.each l.writer leads.among).matched
+  sole_is = sym (list_all-append (λ v. (v == k) || outranks q g k v) seen (k ∷ [])
+      ∙ and_from (outranks_all q g seen k) (((k == k) || outranks q g k k) && true)
+      (all-from (λ v. (v == k) || outranks q g k v) seen (λ u there. or_right (u == k) (outranks q g k u)
+      (above-others q g k l.writer u matched (leads.each l.writer leads.among).matched
       (leads.each u there).matched above (leads.each u there).not_above)))
-      (and_from ((k == k) || outranks q [] k k) true (or_left (k == k) (outranks q [] k k) (eqb-refl k)) refl));
+      (and_from ((k == k) || outranks q g k k) true (or_left (k == k) (outranks q g k k) (eqb-refl k)) refl));
   each = λ u there. ⊎_elim
       (λ before. let s = leads.each u before in
       record {
@@ -196,13 +246,13 @@ takes-over q k seen l leads matched above = record {
         matched = s.matched;
         not_above = ⊎_elim
             (λ back. absurd (let clash : true ≡ false =
-            sym (outranks-trans (precedence_of q [] u) (precedence_of q [] k) (precedence_of q [] l.writer)
+            sym (outranks-trans (precedence_of q g u) (precedence_of q g k) (precedence_of q g l.writer)
             back above)
             ∙ s.not_above in cc))
             (λ no. no)
-            (cases_Bool (outranks q [] u k));
+            (cases_Bool (outranks q g u k));
       })
-      (λ same. subst (λ (x : ℕ). Seen q (k + 1) k x) same (seen-itself q k matched))
+      (λ same. subst (λ (x : ℕ). Seen q g (k + 1) k x) same (seen-itself q g k matched))
       (one-more seen k u there);
 }
 
@@ -212,49 +262,49 @@ last-only true false = refl
 last-only false x = refl
 
 -- one that does not leaves it there
-stays : (q : ReaderQos) (k : ℕ) (seen : List ℕ) (l : Leader) → LeadsBy q k seen l → IsMatched q k
-    → outranks q [] k l.writer ≡ false
-    → LeadsBy q (k + 1) (seen ++ k ∷ [])
-    (record { writer = l.writer; is_sole = l.is_sole && outranks q [] l.writer k })
-stays q k seen l leads matched not_above =
+stays : (q : ReaderQos) (g : List Happening) (k : ℕ) (seen : List ℕ) (l : Leader) → LeadsBy q g k seen l → IsMatched q k
+    → outranks q g k l.writer ≡ false
+    → LeadsBy q g (k + 1) (seen ++ k ∷ [])
+    (record { writer = l.writer; is_sole = l.is_sole && outranks q g l.writer k })
+stays q g k seen l leads matched not_above =
     let w : ℕ = l.writer in
     let own = leads.each w leads.among in
     let other : (k == w) ≡ false = other-than k w (λ same. omega (arith, same, own.below)) in
     record {
       among = list_any-append (λ x. x == w) seen (k ∷ [])
           ∙ or_left (is_one_of seen w) ((k == w) || false) leads.among;
-      sole_is = ap (λ (b : Bool). b && outranks q [] w k) leads.sole_is
-          ∙ sym (list_all-append (λ v. (v == w) || outranks q [] w v) seen (k ∷ [])
-          ∙ (ap (λ (b : Bool). outranks_all q [] seen w && ((b || outranks q [] w k) && true)) other
-          ∙ last-only (outranks_all q [] seen w) (outranks q [] w k)));
+      sole_is = ap (λ (b : Bool). b && outranks q g w k) leads.sole_is
+          ∙ sym (list_all-append (λ v. (v == w) || outranks q g w v) seen (k ∷ [])
+          ∙ (ap (λ (b : Bool). outranks_all q g seen w && ((b || outranks q g w k) && true)) other
+          ∙ last-only (outranks_all q g seen w) (outranks q g w k)));
       each = λ u there. ⊎_elim
           (λ before. let s = leads.each u before in
           record { below = omega (arith, s.below); matched = s.matched; not_above = s.not_above })
-          (λ same. subst (λ (x : ℕ). Seen q (k + 1) w x) same
+          (λ same. subst (λ (x : ℕ). Seen q g (k + 1) w x) same
           (record { below = omega arith; matched = matched; not_above = not_above }))
           (one-more seen k u there);
     }
 
-leads-next : (q : ReaderQos) (k : ℕ) (seen : List ℕ) (leader : Option Leader) → Leads q k seen leader
-    → IsMatched q k → LeadsBy q (k + 1) (seen ++ k ∷ []) (leader_after q leader k)
-leads-next q k seen None none matched =
-    subst (λ (ws : List ℕ). LeadsBy q (k + 1) (ws ++ k ∷ []) (record { writer = k; is_sole = true }))
-    (sym none) (leads-first q k matched)
-leads-next q k seen (Some l) leads matched =
+leads-next : (q : ReaderQos) (g : List Happening) (k : ℕ) (seen : List ℕ) (leader : Option Leader)
+    → Leads q g k seen leader → IsMatched q k → LeadsBy q g (k + 1) (seen ++ k ∷ []) (leader_after (precedence_of q g) leader k)
+leads-next q g k seen None none matched =
+    subst (λ (ws : List ℕ). LeadsBy q g (k + 1) (ws ++ k ∷ []) (record { writer = k; is_sole = true }))
+    (sym none) (leads-first q g k matched)
+leads-next q g k seen (Some l) leads matched =
     let after : Bool → Leader = λ b. if b then record { writer = k; is_sole = true }
-    else record { writer = l.writer; is_sole = l.is_sole && outranks q [] l.writer k } in
+    else record { writer = l.writer; is_sole = l.is_sole && outranks q g l.writer k } in
     ⊎_elim
-    (λ above. subst (λ (b : Bool). LeadsBy q (k + 1) (seen ++ k ∷ []) (after b)) (sym above)
-    (takes-over q k seen l leads matched above))
-    (λ not_above. subst (λ (b : Bool). LeadsBy q (k + 1) (seen ++ k ∷ []) (after b)) (sym not_above)
-    (stays q k seen l leads matched not_above))
-    (cases_Bool (outranks q [] k l.writer))
+    (λ above. subst (λ (b : Bool). LeadsBy q g (k + 1) (seen ++ k ∷ []) (after b)) (sym above)
+    (takes-over q g k seen l leads matched above))
+    (λ not_above. subst (λ (b : Bool). LeadsBy q g (k + 1) (seen ++ k ∷ []) (after b)) (sym not_above)
+    (stays q g k seen l leads matched not_above))
+    (cases_Bool (outranks q g k l.writer))
 
 -- one that is not registered changes nothing
-leads-still : (q : ReaderQos) (k : ℕ) (seen : List ℕ) (leader : Option Leader) → Leads q k seen leader
-    → Leads q (k + 1) seen leader
-leads-still q k seen None none = none
-leads-still q k seen (Some l) leads = record {
+leads-still : (q : ReaderQos) (g : List Happening) (k : ℕ) (seen : List ℕ) (leader : Option Leader)
+    → Leads q g k seen leader → Leads q g (k + 1) seen leader
+leads-still q g k seen None none = none
+leads-still q g k seen (Some l) leads = record {
   among = leads.among;
   sole_is = leads.sole_is;
   each = λ u there. let s = leads.each u there in
@@ -264,57 +314,60 @@ leads-still q k seen (Some l) leads = record {
 -- ---- the owner
 
 -- the leader is the owner, if it outranks each other one; else there is none
-sole-owns : (q : ReaderQos) (k : ℕ) (seen : List ℕ) (leader : Option Leader) → Leads q k seen leader
-    → sole leader ≡ owner_of q [] seen
-sole-owns q k seen None none = sym (ap (λ (ws : List ℕ). owner_of q [] ws) none)
-sole-owns q k seen (Some l) leads =
+sole-owns : (q : ReaderQos) (g : List Happening) (k : ℕ) (seen : List ℕ) (leader : Option Leader)
+    → Leads q g k seen leader → sole leader ≡ owner_of q g seen
+sole-owns q g k seen None none = sym (ap (λ (ws : List ℕ). owner_of q g ws) none)
+sole-owns q g k seen (Some l) leads =
     let w : ℕ = l.writer in
     ⊎_elim
-    (λ is. let all : outranks_all q [] seen w ≡ true = sym leads.sole_is ∙ is in
+    (λ is. let all : outranks_all q g seen w ≡ true = sym leads.sole_is ∙ is in
     ap (λ (b : Bool). if b then Some w else None) is
-    ∙ sym (find-only (outranks_all q [] seen) seen w leads.among all
-    (λ u there holds. owner-one q [] seen u w (owner-is q [] seen u there holds)
-    (owner-is q [] seen w leads.among all))))
+    ∙ sym (find-only (outranks_all q g seen) seen w leads.among all
+    (λ u there holds. owner-one q g seen u w (owner-is q g seen u there holds)
+    (owner-is q g seen w leads.among all))))
     (λ tied. ap (λ (b : Bool). if b then Some w else None) tied
-    ∙ sym (find-none (outranks_all q [] seen) seen (λ u there. ⊎_elim
+    ∙ sym (find-none (outranks_all q g seen) seen (λ u there. ⊎_elim
     (λ holds. ⊎_elim
-    (λ same. absurd (let clash : true ≡ false = sym holds ∙ (sym (ap (outranks_all q [] seen) (eqb-true w u same))
+    (λ same. absurd (let clash : true ≡ false = sym holds ∙ (sym (ap (outranks_all q g seen) (eqb-true w u same))
     ∙ (sym leads.sole_is ∙ tied)) in cc))
     (λ above. absurd (let clash : true ≡ false = sym above ∙ (leads.each u there).not_above in cc))
-    (or_cases (w == u) (outranks q [] u w)
-    (all-at (λ v. (v == u) || outranks q [] u v) seen w holds leads.among)))
+    (or_cases (w == u) (outranks q g u w)
+    (all-at (λ v. (v == u) || outranks q g u v) seen w holds leads.among)))
     (λ no. no)
-    (cases_Bool (outranks_all q [] seen u)))))
+    (cases_Bool (outranks_all q g seen u)))))
     (cases_Bool l.is_sole)
 
-leader-owns : (q : ReaderQos) (i : Key) (h : List Happening) (k : ℕ) (xs : List MatchedWriter) (seen : List ℕ)
-    (leader : Option Leader) → 0 < k → k + length xs ≤ length q.writers + 1 → Leads q k seen leader
-    → sole (leader_among q leader (map (registration_of i h) (numbered_from k xs)))
-    ≡ owner_of q [] (seen ++ filter (λ w. is_registered i w h) (numbered_from k xs))
-leader-owns q i h k [] seen leader low high leads =
-    sole-owns q k seen leader leads ∙ ap (λ (ws : List ℕ). owner_of q [] ws) (sym (append-nil seen))
-leader-owns q i h k (x ∷ xs) seen leader low high leads =
+leader-owns : (q : ReaderQos) (g : List Happening) (i : Key) (h : List Happening) (k : ℕ) (xs : List MatchedWriter)
+    (seen : List ℕ) (leader : Option Leader) → 0 < k → k + length xs ≤ length q.writers + 1 → Leads q g k seen leader
+    → sole (leader_among (precedence_of q g) leader (map (registration_of i h) (numbered_from k xs)))
+    ≡ owner_of q g (seen ++ filter (λ w. is_registered i w h) (numbered_from k xs))
+leader-owns q g i h k [] seen leader low high leads =
+    sole-owns q g k seen leader leads ∙ ap (λ (ws : List ℕ). owner_of q g ws) (sym (append-nil seen))
+leader-owns q g i h k (x ∷ xs) seen leader low high leads =
     let ws : List ℕ = filter (λ w. is_registered i w h) (numbered_from (k + 1) xs) in
     let rest : List Registration = map (registration_of i h) (numbered_from (k + 1) xs) in
     let next : Bool → Option ℕ =
-    λ b. sole (leader_among q (if b then Some (leader_after q leader k) else leader) rest) in
-    let owner : Bool → Option ℕ = λ b. owner_of q [] (seen ++ cond b (k ∷ ws) ws) in
+    λ b. sole (leader_among (precedence_of q g) (if b then Some (leader_after (precedence_of q g) leader k) else leader)
+    rest) in
+    let owner : Bool → Option ℕ = λ b. owner_of q g (seen ++ cond b (k ∷ ws) ws) in
     ⊎_elim
     (λ there. ap next there
-    ∙ (leader-owns q i h (k + 1) xs (seen ++ k ∷ []) (Some (leader_after q leader k)) (omega arith)
+    ∙ (leader-owns q g i h (k + 1) xs (seen ++ k ∷ []) (Some (leader_after (precedence_of q g) leader k)) (omega arith)
     (omega (arith, high))
-    (leads-next q k seen leader leads (low, omega (arith, high)))
-    ∙ (ap (λ (vs : List ℕ). owner_of q [] vs) (append_assoc seen (k ∷ []) ws) ∙ ap owner (sym there))))
+    (leads-next q g k seen leader leads (low, omega (arith, high)))
+    ∙ (ap (λ (vs : List ℕ). owner_of q g vs) (append_assoc seen (k ∷ []) ws) ∙ ap owner (sym there))))
     (λ gone. ap next gone
-    ∙ (leader-owns q i h (k + 1) xs seen leader (omega arith) (omega (arith, high))
-    (leads-still q k seen leader leads)
+    ∙ (leader-owns q g i h (k + 1) xs seen leader (omega arith) (omega (arith, high))
+    (leads-still q g k seen leader leads)
     ∙ ap owner (sym gone)))
     (cases_Bool (is_registered i k h))
 
 -- the leader among the registrations is the owner
-pub owner-found : (q : ReaderQos) (i : Key) (h : List Happening) (rs : List Registration)
-    → rs ≡ map (registration_of i h) (publication_handles q)
-    → sole (leader_among q None rs) ≡ owner_of q h (registered_writers q i h)
-owner-found q i h rs is =
-    ap (λ (xs : List Registration). sole (leader_among q None xs)) is
-    ∙ leader-owns q i h 1 q.writers [] None (omega arith) (omega arith) refl
+pub owner-found : (q : ReaderQos) (i : Key) (h : List Happening) (kept : KeptStrengths) (rs : List Registration)
+    → TellsStrengths kept q h → rs ≡ map (registration_of i h) (publication_handles q)
+    → sole (leader_among (order_by q kept None) None rs) ≡ owner_of q h (registered_writers q i h)
+owner-found q i h kept rs tells is =
+    ap (λ (l : Option Leader). sole l)
+    (among-same (order_by q kept None) (precedence_of q h) (order-kept q h kept tells) None rs)
+    ∙ (ap (λ (xs : List Registration). sole (leader_among (precedence_of q h) None xs)) is
+    ∙ leader-owns q h i h 1 q.writers [] None (omega arith) (omega arith) refl)

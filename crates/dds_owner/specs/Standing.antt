@@ -1,12 +1,13 @@
--- When what is kept of the registrations for an instance stands for what happened at a reader.
+-- When what is kept of the registrations for an instance, and of the strengths of the matched writers, stands for what
+-- happened at a reader.
 --
--- DDS 1.4, 2.2.3 (OWNERSHIP, LIVELINESS), 2.2.2.4 (register_instance, unregister_instance).
-use Rattle.std.specs.Prelude.{◌≡◌, List, map, Bool}
+-- DDS 1.4, 2.2.3 (OWNERSHIP, OWNERSHIP_STRENGTH, LIVELINESS), 2.2.2.4 (register_instance, unregister_instance).
+use Rattle.std.specs.Prelude.{◌≡◌, ℕ, zero, suc, ℤ, List, length, map, slice_index_or, Bool, Option, None}
 use Rattle.std.specs.List.{list_any}
 use Rattle.dds_base.specs.declared.key.Key.{Key}
 use Rattle.dds_base.specs.declared.happening.Happening.{Happening}
 use Rattle.dds_base.specs.declared.qos.ReaderQos.{ReaderQos}
-use Rattle.dds_base.specs.Ownership.{publication_handles}
+use Rattle.dds_base.specs.Ownership.{IsMatched, publication_handles, told_strength}
 use Rattle.dds_owner.specs.declared.registration.Registration.{Registration}
 use Rattle.dds_owner.specs.Registration.{registration_of}
 
@@ -21,3 +22,21 @@ has_writers kept = list_any (λ (r : Registration). r.is_registered) kept.regist
 -- what happened to instance i at a reader of these policies that this stands for
 abbrev pub StandsFor : Kept → ReaderQos → Key → List Happening → Type 0
 StandsFor kept q i h = kept.registrations ≡ map (registration_of i h) (publication_handles q)
+
+-- what is kept of the strengths; callers see it through strengths_room and TellsStrengths
+pub record KeptStrengths : Type 0 where
+  pub told : List (Option ℤ)
+
+-- of how many writers the strength can be kept
+abbrev pub strengths_room : KeptStrengths → ℕ
+strengths_room kept = length kept.told
+
+-- the strength that is kept of the writer of a publication handle; none where no memory is for it
+abbrev pub kept_strength : KeptStrengths → ℕ → Option ℤ
+kept_strength kept zero = None
+kept_strength kept (suc at) = slice_index_or kept.told at None
+
+-- what happened at a reader of these policies that this stands for: of each matched writer it keeps the strength that
+-- its newest change with one had (2.2.3, OWNERSHIP_STRENGTH)
+abbrev pub TellsStrengths : KeptStrengths → ReaderQos → List Happening → Type 0
+TellsStrengths kept q h = (w : ℕ) → IsMatched q w → kept_strength kept w ≡ told_strength w h

@@ -1,18 +1,18 @@
-//! What holds of registrations: functions that do nothing, and whose clauses are the laws.
+//! What holds of registrations and strengths: functions that do nothing, and whose clauses are the laws.
 //!
-//! DDS 1.4, 2.2.2.4 (register_instance, unregister_instance), 2.2.3 (LIVELINESS).
+//! DDS 1.4, 2.2.2.4 (register_instance, unregister_instance), 2.2.3 (OWNERSHIP_STRENGTH, LIVELINESS).
 
-ghost use Rattle.std.specs.Prelude.{◌≡◌, ◌∷◌, [], ℕ, List, false};
+ghost use Rattle.std.specs.Prelude.{◌≡◌, ◌∷◌, [], ℕ, List, None, false};
 ghost use Rattle.dds_base.specs.declared.happening.Arrival.{Arrival};
 ghost use Rattle.dds_base.specs.declared.happening.Happening.{Happening};
-ghost use Rattle.dds_base.specs.declared.happening.Happening.TheVariants.{Came, Heard, Looked, Passed, Read, Took};
+ghost use Rattle.dds_base.specs.declared.happening.Happening.TheVariants.{Came, Died, Heard, Looked, Passed, Read, Took};
 ghost use Rattle.dds_base.specs.declared.happening.SamplePosition.{SamplePosition};
 ghost use Rattle.dds_base.specs.declared.happening.StatusKind.{StatusKind};
 ghost use Rattle.dds_base.specs.declared.key.Key.{Key};
 ghost use Rattle.dds_base.specs.declared.qos.ReaderQos.{ReaderQos};
 ghost use Rattle.dds_base.specs.Happening.{same_key};
 ghost use Rattle.dds_base.specs.Ownership.{is_registered};
-ghost use Rattle.dds_owner.specs.Standing.{Kept, StandsFor};
+ghost use Rattle.dds_owner.specs.Standing.{Kept, KeptStrengths, StandsFor, TellsStrengths};
 
 /// What stands for an instance of which nothing has come stands too for one of which nobody is registered,
 /// whatever happened.
@@ -46,4 +46,32 @@ pub fn other_entries_change_nothing()
     ensures looked { (kept : Kept) (q : ReaderQos) (i : Key) (h : List Happening)
         (kind : StatusKind)
         → StandsFor kept q i h → StandsFor kept q i (Looked kind ∷ h) }
+{}
+
+/// What is no change with a strength says nothing of how strong a writer is.
+pub fn other_entries_set_no_strength()
+    // A change without a strength came.
+    ensures came { (kept : KeptStrengths) (q : ReaderQos) (h : List Happening) (a : Arrival)
+        → TellsStrengths kept q h → a.change.strength ≡ None → TellsStrengths kept q (Came a ∷ h) }
+    // Changes were passed over.
+    ensures passed { (kept : KeptStrengths) (q : ReaderQos) (h : List Happening) (w first last : ℕ)
+        → TellsStrengths kept q h → TellsStrengths kept q (Passed w first last ∷ h) }
+    // A writer was heard.
+    ensures heard { (kept : KeptStrengths) (q : ReaderQos) (h : List Happening) (w moment : ℕ)
+        → TellsStrengths kept q h → TellsStrengths kept q (Heard w moment ∷ h) }
+    // A writer died.
+    ensures died { (kept : KeptStrengths) (q : ReaderQos) (h : List Happening) (w moment : ℕ)
+        → TellsStrengths kept q h → TellsStrengths kept q (Died w moment ∷ h) }
+    // A read returned samples.
+    ensures read { (kept : KeptStrengths) (q : ReaderQos) (h : List Happening)
+        (samples : List SamplePosition)
+        → TellsStrengths kept q h → TellsStrengths kept q (Read samples ∷ h) }
+    // A take returned samples.
+    ensures took { (kept : KeptStrengths) (q : ReaderQos) (h : List Happening)
+        (samples : List SamplePosition)
+        → TellsStrengths kept q h → TellsStrengths kept q (Took samples ∷ h) }
+    // A status was looked at.
+    ensures looked { (kept : KeptStrengths) (q : ReaderQos) (h : List Happening)
+        (kind : StatusKind)
+        → TellsStrengths kept q h → TellsStrengths kept q (Looked kind ∷ h) }
 {}

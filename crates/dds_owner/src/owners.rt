@@ -12,12 +12,14 @@ ghost use Rattle.dds_base.specs.declared.qos.ReaderQos.{ReaderQos};
 ghost use Rattle.dds_base.specs.Happening.{is_unregister};
 ghost use Rattle.dds_base.specs.Instance.{is_nobody};
 ghost use Rattle.dds_base.specs.Ownership.{IsMatched, accepted_kind, is_registered, owner_of, registered_writers};
-ghost use Rattle.dds_owner.specs.Standing.{StandsFor, has_writers};
+ghost use Rattle.dds_base.specs.declared.qos.OwnershipQos.TheVariants.{Exclusive};
+ghost use Rattle.dds_owner.specs.Standing.{StandsFor, TellsStrengths, has_writers};
 
 use crate::ranking::{accepted_by, leader_of};
 use crate::registration::{
     Registration, blank_items, enter, is_anybody_there, is_writer_there, would_anybody_be_there,
 };
+use crate::strengths::Strengths;
 use dds_base::{Arrival, ChangeKind, Code, Handle, ReaderQos};
 use std::alloc::Global;
 use std::marker::Model;
@@ -102,16 +104,18 @@ impl Owners {
 
     /// The owner under EXCLUSIVE ownership, none where nobody is registered.
     ///
-    /// It is the registered writer of the greatest strength, and of equals the one whose sixteen GUID octets are
-    /// the smaller. Where two matched writers share a GUID, and both come first, there is none.
+    /// It is the registered writer of the greatest strength, by what the writers' changes said, and of equals the one
+    /// whose sixteen GUID octets are the smaller. Where two matched writers share a GUID, and both come first, there is
+    /// none.
     ///
     /// DDS 1.4, 2.2.3 (OWNERSHIP, OWNERSHIP_STRENGTH).
-    pub fn owner(&self, qos: &ReaderQos) -> Option<Handle>
+    pub fn owner(&self, qos: &ReaderQos, strengths: &Strengths) -> Option<Handle>
         // It is the owner among the registered writers.
         ensures owner { (i : Key) (h : List Happening) → StandsFor self.now qos.now i h
+            → TellsStrengths strengths.now qos.now h
             → result ≡ owner_of qos.now h (registered_writers qos.now i h) }
     {
-        let leader = leader_of(qos, &self.registrations)?;
+        let leader = leader_of(qos, strengths, &self.registrations)?;
         if leader.is_sole {
             Some(leader.writer)
         } else {
@@ -163,21 +167,23 @@ impl Owners {
 
     /// The kind of a change of the instance, if it is accepted where it comes now.
     ///
-    /// Under SHARED ownership each write and each dispose is. Under EXCLUSIVE it is if its writer is the owner
-    /// among those that are registered and itself.
+    /// Under SHARED ownership each write and each dispose is, and nothing is asked of the strengths. Under EXCLUSIVE
+    /// it is if its writer is the owner among those that are registered and itself, by the strengths before it and its
+    /// own.
     ///
-    /// DDS 1.4, 2.2.3 (OWNERSHIP).
-    pub fn accepted(&self, qos: &ReaderQos, arrival: &Arrival) -> Option<ChangeKind>
+    /// DDS 1.4, 2.2.3 (OWNERSHIP, OWNERSHIP_STRENGTH).
+    pub fn accepted(
+        &self,
+        qos: &ReaderQos,
+        strengths: &Strengths,
+        arrival: &Arrival,
+    ) -> Option<ChangeKind>
         // It is that of the definitions.
         ensures accepted { (h : List Happening)
             → StandsFor self.now qos.now arrival.now.change.key h
+            → (qos.now.ownership ≡ Exclusive → TellsStrengths strengths.now qos.now h)
             → result ≡ accepted_kind qos.now arrival.now.change.key h (Came arrival.now) }
     {
-        accepted_by(
-            qos,
-            &self.registrations,
-            arrival.writer,
-            arrival.change.kind,
-        )
+        accepted_by(qos, strengths, &self.registrations, arrival)
     }
 }

@@ -2,13 +2,14 @@
 //!
 //! DDS 1.4, 2.2.3 (OWNERSHIP, OWNERSHIP_STRENGTH).
 
-ghost use Rattle.std.specs.Prelude.{◌≡◌, [], None, Some, option_copied, if◌then◌else◌};
+ghost use Rattle.std.specs.Prelude.{◌≡◌, None, Some, option_copied, if◌then◌else◌};
 ghost use Rattle.std.specs.List.{list_all};
-ghost use Rattle.dds_base.specs.Ownership.{is_above, outranks, writer_of};
-ghost use Rattle.dds_owner.specs.Ranking.{accepted_among, gives_way, fixed_precedence, leader_after, leader_among};
+ghost use Rattle.dds_base.specs.Ownership.{is_above, writer_of};
+ghost use Rattle.dds_owner.specs.Ranking.{accepted_among, gives_way, leader_after, leader_among, order_by, own_precedence, strength_by, with_strength, writer_by};
 
 use crate::registration::Registration;
-use dds_base::{ChangeKind, Handle, MatchedWriter, OwnershipQos, ReaderQos};
+use crate::strengths::Strengths;
+use dds_base::{Arrival, ChangeKind, Handle, MatchedWriter, OwnershipQos, ReaderQos};
 use std::cmp::Ordering;
 
 /// The first of some registered writers.
@@ -20,6 +21,34 @@ pub struct Leader {
     pub is_sole: bool,
 }
 
+/// The strength that was told last of a writer: by the change that comes, if one does, or before it.
+fn newest_strength(strengths: &Strengths, coming: Option<&Arrival>, writer: Handle) -> Option<i32>
+    ensures { result ≡ strength_by strengths.now (option_copied coming.entry) writer }
+{
+    let told = strengths.told_of(writer);
+    match coming {
+        None => told,
+        Some(arrival) => {
+            if arrival.writer == writer {
+                arrival.change.strength.or(told)
+            } else {
+                told
+            }
+        }
+    }
+}
+
+/// A writer with the strength that was told of it last, if one was.
+fn strengthened(writer: &MatchedWriter, told: Option<i32>) -> MatchedWriter
+    ensures { result ≡ with_strength told writer.now }
+{
+    MatchedWriter {
+        guid: writer.guid,
+        strength: told.unwrap_or(writer.strength),
+        lease: writer.lease,
+    }
+}
+
 fn matched_writer(writers: &[MatchedWriter], handle: Handle) -> Option<&MatchedWriter>
     ensures { option_copied result ≡ writer_of writers.now handle }
 {
@@ -27,56 +56,100 @@ fn matched_writer(writers: &[MatchedWriter], handle: Handle) -> Option<&MatchedW
     writers.get(at as usize)
 }
 
+/// A matched writer, with the strength that was told of it last.
+fn ranked_writer(
+    qos: &ReaderQos,
+    strengths: &Strengths,
+    coming: Option<&Arrival>,
+    handle: Handle,
+) -> Option<MatchedWriter>
+    ensures { result ≡ writer_by qos.now strengths.now (option_copied coming.entry) handle }
+{
+    let writer = matched_writer(qos.writers.as_slice(), handle)?;
+    Some(strengthened(writer, newest_strength(strengths, coming, handle)))
+}
+
 fn is_stronger(a: &MatchedWriter, b: &MatchedWriter) -> bool
-    ensures { result ≡ is_above (Some (fixed_precedence a.now)) (Some (fixed_precedence b.now)) }
+    ensures { result ≡ is_above (Some (own_precedence a.now)) (Some (own_precedence b.now)) }
 {
     let by_prefix = b.guid.prefix.0.cmp(&a.guid.prefix.0);
     let by_guid = by_prefix.then(b.guid.entity.0.cmp(&a.guid.entity.0));
     a.strength.cmp(&b.strength).then(by_guid) == Ordering::Greater
 }
 
-fn is_outranking(qos: &ReaderQos, first: Handle, second: Handle) -> bool
-    ensures { result ≡ outranks qos.now [] first second }
+fn is_outranking(
+    qos: &ReaderQos,
+    strengths: &Strengths,
+    coming: Option<&Arrival>,
+    first: Handle,
+    second: Handle,
+) -> bool
+    ensures { result ≡ is_above (order_by qos.now strengths.now (option_copied coming.entry) first)
+        (order_by qos.now strengths.now (option_copied coming.entry) second) }
 {
-    let writers = qos.writers.as_slice();
-    match (
-        matched_writer(writers, first),
-        matched_writer(writers, second),
-    ) {
-        (Some(a), Some(b)) => is_stronger(a, b),
-        _ => false,
-    }
+    let Some(a) = ranked_writer(qos, strengths, coming, first) else {
+        return false;
+    };
+    let Some(b) = ranked_writer(qos, strengths, coming, second) else {
+        return false;
+    };
+    is_stronger(&a, &b)
 }
 
 /// Whether the writer need not give way to this one: it is not registered, the same, or outranked.
-fn is_no_rival(qos: &ReaderQos, writer: Handle, other: &Registration) -> bool
-    ensures { result ≡ gives_way qos.now writer other.now }
+fn is_no_rival(
+    qos: &ReaderQos,
+    strengths: &Strengths,
+    coming: Option<&Arrival>,
+    writer: Handle,
+    other: &Registration,
+) -> bool
+    ensures { result ≡ gives_way (order_by qos.now strengths.now (option_copied coming.entry))
+        writer other.now }
 {
-    !other.is_registered || other.writer == writer || is_outranking(qos, writer, other.writer)
+    !other.is_registered
+        || other.writer == writer
+        || is_outranking(qos, strengths, coming, writer, other.writer)
 }
 
-fn is_first(qos: &ReaderQos, writer: Handle, registrations: &[Registration]) -> bool
-    ensures { result ≡ list_all (gives_way qos.now writer) registrations.now }
+fn is_first(
+    qos: &ReaderQos,
+    strengths: &Strengths,
+    coming: Option<&Arrival>,
+    writer: Handle,
+    registrations: &[Registration],
+) -> bool
+    ensures { result ≡ list_all
+        (gives_way (order_by qos.now strengths.now (option_copied coming.entry)) writer)
+        registrations.now }
 {
     registrations
         .iter()
-        .all(|other| is_no_rival(qos, writer, other))
+        .all(|other| is_no_rival(qos, strengths, coming, writer, other))
 }
 
 /// The kind of the change, if it is a write or a dispose of the owner, or of anybody where ownership is shared. Nobody
 /// is asked who owns: `docs/DECISIONS.md`, "A reader's cache".
 pub fn accepted_by(
     qos: &ReaderQos,
+    strengths: &Strengths,
     registrations: &[Registration],
-    writer: Handle,
-    kind: ChangeKind,
+    arrival: &Arrival,
 ) -> Option<ChangeKind>
-    ensures { result ≡ accepted_among qos.now registrations.now writer kind }
+    ensures { result ≡ accepted_among (order_by qos.now strengths.now (Some arrival.now)) qos.now
+        registrations.now arrival.now.writer arrival.now.change.kind }
 {
     let is_admitted = match qos.ownership {
         OwnershipQos::Shared => true,
-        OwnershipQos::Exclusive => is_first(qos, writer, registrations),
+        OwnershipQos::Exclusive => is_first(
+            qos,
+            strengths,
+            Some(arrival),
+            arrival.writer,
+            registrations,
+        ),
     };
+    let kind = arrival.change.kind;
     if kind.is_write_or_dispose() && is_admitted {
         Some(kind)
     } else {
@@ -85,8 +158,13 @@ pub fn accepted_by(
 }
 
 /// The leader once one more writer is registered, which is another one.
-fn followed_by(qos: &ReaderQos, leader: Option<Leader>, writer: Handle) -> Leader
-    ensures { result ≡ leader_after qos.now leader writer }
+fn followed_by(
+    qos: &ReaderQos,
+    strengths: &Strengths,
+    leader: Option<Leader>,
+    writer: Handle,
+) -> Leader
+    ensures { result ≡ leader_after (order_by qos.now strengths.now None) leader writer }
 {
     match leader {
         None => Leader {
@@ -94,15 +172,16 @@ fn followed_by(qos: &ReaderQos, leader: Option<Leader>, writer: Handle) -> Leade
             is_sole: true,
         },
         Some(first) => {
-            if is_outranking(qos, writer, first.writer) {
+            if is_outranking(qos, strengths, None, writer, first.writer) {
                 Leader {
                     writer,
                     is_sole: true,
                 }
             } else {
+                let is_ahead = is_outranking(qos, strengths, None, first.writer, writer);
                 Leader {
                     writer: first.writer,
-                    is_sole: first.is_sole && is_outranking(qos, first.writer, writer),
+                    is_sole: first.is_sole && is_ahead,
                 }
             }
         }
@@ -110,13 +189,17 @@ fn followed_by(qos: &ReaderQos, leader: Option<Leader>, writer: Handle) -> Leade
 }
 
 /// The first of the registered writers.
-pub fn leader_of(qos: &ReaderQos, registrations: &[Registration]) -> Option<Leader>
-    ensures { result ≡ leader_among qos.now None registrations.now }
+pub fn leader_of(
+    qos: &ReaderQos,
+    strengths: &Strengths,
+    registrations: &[Registration],
+) -> Option<Leader>
+    ensures { result ≡ leader_among (order_by qos.now strengths.now None) None registrations.now }
 {
     let mut leader = None;
     for r in registrations {
         if r.is_registered {
-            leader = Some(followed_by(qos, leader, r.writer));
+            leader = Some(followed_by(qos, strengths, leader, r.writer));
         }
     }
     leader

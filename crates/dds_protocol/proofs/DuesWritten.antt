@@ -161,7 +161,8 @@ datable : (w : Writer) → AreSmall (writer_changes w)
 datable w small tellable n c at =
     let early = (tellable n c at).early in
     record {
-      content = content_valid c.kind c.key c.value (small.key n c at) (small.value n c at);
+      content = content_valid c.kind c.key c.value c.strength (small.key n c at) (small.value n c at)
+          (small.strength n c at);
       moment = omega
           (arith, early);
     }

@@ -22,7 +22,7 @@ use Rattle.dds_notices.specs.Listeners.{Places, nobody}
 use Rattle.dds_notices.proofs.ListenerLaws.{nobody_is_told, NobodyTakes}
 use Rattle.dds_conditions.specs.Watched.{Watched, with_enabled}
 use Rattle.dds_machine.specs.declared.call.Call.{Call}
-use Rattle.dds_machine.specs.declared.call.Call.TheVariants.{Register, Write, Dispose, Unregister, AssertLiveliness, Read, Take, GetKeyValue, LookupInstance, GetSampleLost, GetLivelinessChanged, GetLivelinessLost, ReadByCondition, TakeByCondition, CreateReadCondition, CreateQueryCondition, CreateGuardCondition, SetTriggerValue, DeleteCondition, GetTriggerValue, CreateWaitSet, DeleteWaitSet, AttachCondition, DetachCondition, GetConditions, WaitBegin, WaitLook, WaitEnd, SetEnabledStatuses, GetStatusChanges}
+use Rattle.dds_machine.specs.declared.call.Call.TheVariants.{Register, Write, Dispose, Unregister, AssertLiveliness, SetStrength, Read, Take, GetKeyValue, LookupInstance, GetSampleLost, GetLivelinessChanged, GetLivelinessLost, ReadByCondition, TakeByCondition, CreateReadCondition, CreateQueryCondition, CreateGuardCondition, SetTriggerValue, DeleteCondition, GetTriggerValue, CreateWaitSet, DeleteWaitSet, AttachCondition, DetachCondition, GetConditions, WaitBegin, WaitLook, WaitEnd, SetEnabledStatuses, GetStatusChanges}
 use Rattle.dds_protocol.specs.declared.event.Event.{Event}
 use Rattle.dds_protocol.specs.declared.event.Event.TheVariants as event
 use Rattle.dds_protocol.specs.declared.event.Output.{Output}
@@ -121,6 +121,7 @@ answers_keep tests old (GetKeyValue v instance) reply new a = absurd a
 answers_keep tests old (LookupInstance v key) reply new a = answered _ _ old.dds old reply new refl a
 answers_keep tests old (GetSampleLost v) reply new a = answered _ _ _ old reply new refl a
 answers_keep tests old (GetLivelinessChanged v) reply new a = answered _ _ _ old reply new refl a
+answers_keep tests old (SetStrength v strength) reply new a = answered _ Done old.dds old reply new refl a
 answers_keep tests old (GetLivelinessLost v) reply new a = answered _ _ old.dds old reply new refl a
 answers_keep tests old (ReadByCondition v scope c) reply new a = by_condition HasRead _ _ old v _ reply new a
 answers_keep tests old (TakeByCondition v scope c) reply new a = by_condition Took _ _ old v _ reply new a

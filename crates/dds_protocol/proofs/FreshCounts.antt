@@ -9,7 +9,7 @@ use Rattle.dds_base.specs.declared.config.Config.{Config}
 use Rattle.dds_base.specs.declared.guid.EntityId.{EntityId}
 use Rattle.dds_base.specs.declared.guid.GuidPrefix.{GuidPrefix}
 use Rattle.dds_base.specs.Checked.{check_refusal}
-use Rattle.dds_base.specs.Written.{Written, Registered, Changed, Asserted, LookedAt, Ticked, counts_of}
+use Rattle.dds_base.specs.Written.{Written, Registered, Changed, Asserted, LookedAt, StrengthSet, Ticked, counts_of}
 use Rattle.rtps_wire.specs.declared.submessage.Submessage.{Submessage}
 use Rattle.rtps_wire.specs.Messages.{IsWritable, spelling_of}
 use Rattle.dds_machine.specs.declared.call.Call.{Call}
@@ -293,6 +293,8 @@ announced config peer part (writes writer (Asserted moment)) P silent told due a
 announced config peer part (writes writer (Registered key)) P silent told due among =
     let lt = among.1 in absurd (omega (arith, lt))
 announced config peer part (writes writer LookedAt) P silent told due among =
+    let lt = among.1 in absurd (omega (arith, lt))
+announced config peer part (writes writer (StrengthSet strength)) P silent told due among =
     let lt = among.1 in absurd (omega (arith, lt))
 announced config peer part (writes writer (Ticked now behind)) P silent told due among =
     let lt = among.1 in absurd (omega (arith, lt))

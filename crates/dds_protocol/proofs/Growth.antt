@@ -10,7 +10,7 @@ use Rattle.dds_base.specs.declared.change.Change.{Change}
 use Rattle.dds_base.specs.declared.qos.HistoryQos.{HistoryQos}
 use Rattle.dds_base.specs.declared.qos.HistoryQos.TheVariants.{KeepAll, KeepLast}
 use Rattle.dds_base.specs.Happening.{same_key}
-use Rattle.dds_base.specs.Written.{Written, Registered, Changed, Asserted, LookedAt, Ticked, changes_of, counts_of}
+use Rattle.dds_base.specs.Written.{Written, Registered, Changed, Asserted, LookedAt, StrengthSet, Ticked, changes_of, counts_of}
 use Rattle.dds_base.specs.Kept.{change_at, is_dropped, is_dropped_by, later_changes}
 use Rattle.dds_machine.specs.declared.call.Call.{Call}
 use Rattle.dds_machine.specs.declared.endpoint.Endpoint.{Endpoint}
@@ -241,6 +241,7 @@ changes-more [] written = ([], sym (append_nothing (changes_of written)))
 changes-more (Registered key ∷ more) written = changes-more more written
 changes-more (Asserted moment ∷ more) written = changes-more more written
 changes-more (LookedAt ∷ more) written = changes-more more written
+changes-more (StrengthSet strength ∷ more) written = changes-more more written
 changes-more (Ticked now behind ∷ more) written = changes-more more written
 changes-more (Changed change ∷ more) written =
     let r = changes-more more written in (
@@ -310,6 +311,7 @@ pub counts-more : (matched : Bool) (more written : List Written)
 counts-more matched [] written = ([], sym (append_nothing (counts_of matched written)))
 counts-more matched (Registered key ∷ more) written = counts-more matched more written
 counts-more matched (LookedAt ∷ more) written = counts-more matched more written
+counts-more matched (StrengthSet strength ∷ more) written = counts-more matched more written
 counts-more matched (Changed change ∷ more) written = counts-more matched more written
 counts-more matched (Asserted moment ∷ more) written =
     let r =

@@ -22,7 +22,7 @@ use Rattle.dds_base.specs.Matched.{is_reliable}
 use Rattle.dds_conditions.specs.declared.condition.Cond.{Cond}
 use Rattle.dds_conditions.specs.Watched.{Watched}
 use Rattle.dds_machine.specs.declared.call.Call.{Call}
-use Rattle.dds_machine.specs.declared.call.Call.TheVariants.{Register, Write, Dispose, Unregister, AssertLiveliness, Read, Take, GetKeyValue, LookupInstance, GetSampleLost, GetLivelinessChanged, GetLivelinessLost, ReadByCondition, TakeByCondition, CreateReadCondition, CreateQueryCondition, CreateGuardCondition, SetTriggerValue, DeleteCondition, GetTriggerValue, CreateWaitSet, DeleteWaitSet, AttachCondition, DetachCondition, GetConditions, WaitBegin, WaitLook, WaitEnd, SetEnabledStatuses, GetStatusChanges}
+use Rattle.dds_machine.specs.declared.call.Call.TheVariants.{Register, Write, Dispose, Unregister, AssertLiveliness, SetStrength, Read, Take, GetKeyValue, LookupInstance, GetSampleLost, GetLivelinessChanged, GetLivelinessLost, ReadByCondition, TakeByCondition, CreateReadCondition, CreateQueryCondition, CreateGuardCondition, SetTriggerValue, DeleteCondition, GetTriggerValue, CreateWaitSet, DeleteWaitSet, AttachCondition, DetachCondition, GetConditions, WaitBegin, WaitLook, WaitEnd, SetEnabledStatuses, GetStatusChanges}
 use Rattle.dds_machine.specs.declared.endpoint.Endpoint.{Endpoint}
 use Rattle.dds_machine.specs.declared.event.WorldEvent.{WorldEvent}
 use Rattle.dds_machine.specs.declared.event.WorldEvent.TheVariants as world
@@ -384,6 +384,8 @@ answers_came tests old (GetSampleLost v) reply new r a =
     answered_came _ _ _ old reply new r (looked old new v (seen_lost (own_reader old v)) r) a
 answers_came tests old (GetLivelinessChanged v) reply new r a =
     answered_came _ _ _ old reply new r (looked old new v (seen_liveliness (own_reader old v)) r) a
+answers_came tests old (SetStrength v strength) reply new r a =
+    answered_came _ _ old.dds old reply new r (same_came old.dds new r) a
 answers_came tests old (GetLivelinessLost v) reply new r a =
     answered_came _ _ old.dds old reply new r (same_came old.dds new r) a
 answers_came tests old (ReadByCondition v scope c) reply new r a =

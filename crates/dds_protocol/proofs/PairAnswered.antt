@@ -140,6 +140,7 @@ all_answered w r from set is places n has low high =
       policy = w.policy;
       max_samples = w.max_samples;
       lease = w.lease;
+      strength = w.strength;
       matched = has_readers w;
       written = w.written;
       acknowledged = map (λ (p : ReaderProxy). p.acknowledged) w.readers;

@@ -1,7 +1,7 @@
 -- What the submessages of small packets claim, computed: a DATA, GAPs, HEARTBEATs and ACKNACKs between the writer w1 of
 -- peer 1 and the readers r1, r2 and r3 of peer 2, of which r2 is of another topic.
 use Rattle.std.proofs.Common.{◌≡◌, ℕ, Bool, true, false, List, [], ◌∷◌, ◌++◌, replicate, refl, ap, inl, inr, ⊎_elim, arith}
-use Rattle.std.specs.Prelude.{ℤ, pos}
+use Rattle.std.specs.Prelude.{ℤ, pos, Some, None}
 use Rattle.dds_base.specs.declared.change.Change.{Change}
 use Rattle.dds_base.specs.declared.change.ChangeKind.TheVariants as kind
 use Rattle.dds_base.specs.declared.config.WriterConfig.{WriterConfig}
@@ -12,7 +12,7 @@ use Rattle.dds_base.specs.declared.key.Key.{Key}
 use Rattle.rtps_sets.specs.NumberSet.{empty_from}
 use Rattle.rtps_wire.specs.declared.acknack.AckNack.{AckNack as AckNackBody}
 use Rattle.rtps_wire.specs.declared.data.Data.{Data as DataBody}
-use Rattle.rtps_wire.specs.declared.data.DataContent.TheVariants.{Write, Dispose, Unregister, DisposeUnregister}
+use Rattle.rtps_wire.specs.declared.data.ChangeBody.TheVariants.{Write, Dispose, Unregister, DisposeUnregister}
 use Rattle.rtps_wire.specs.declared.gap.Gap.{Gap as GapBody}
 use Rattle.rtps_wire.specs.declared.heartbeat.Heartbeat.{Heartbeat as HeartbeatBody}
 use Rattle.rtps_wire.specs.declared.submessage.Submessage.TheVariants.{Data, Heartbeat, AckNack, Gap}
@@ -32,13 +32,13 @@ data_2 =
       reader_id = every_reader;
       writer_id = w1_id;
       writer_sn = 2;
-      content = Write
-          (record { key = key 1; value = 2 ∷ [] });
+      content = record { body = Write (record { key = key 1; value = 2 ∷ [] }); strength = None };
     }
 
--- a write of this value, made at this moment
+-- a write of this value, made at this moment by a writer of shared ownership
 abbrev pub written : ℕ → List ℕ → ℕ → Change
-written n value moment = record { kind = kind.Write; key = key n; value = value; source_timestamp = moment }
+written n value moment =
+    record { kind = kind.Write; key = key n; value = value; source_timestamp = moment; strength = None }
 
 data-says : Says network prefix_2 (record to_2 { timestamp = 5 }) (Data data_2)
     (ChangeIs w1 r1 2 (written 1 (2 ∷ []) 5))
@@ -57,17 +57,22 @@ data-not_so : (own : GuidPrefix) → Says network own to_2 (Data data_2) (Change
 data-not_so own h = let e = ap (λ (c : Change). c.source_timestamp) h.2 in absurd (omega arith)
 
 -- what it says of the instance: the value of a write alone
-change-dispose : change_in (Dispose (key 1)) 5
-    ≡ record { kind = kind.Dispose; key = key 1; value = []; source_timestamp = 5 }
+change-dispose : change_in (record { body = Dispose (key 1); strength = None }) 5
+    ≡ record { kind = kind.Dispose; key = key 1; value = []; source_timestamp = 5; strength = None }
 change-dispose = refl
 
-change-unregister : change_in (Unregister (key 1)) 5
-    ≡ record { kind = kind.Unregister; key = key 1; value = []; source_timestamp = 5 }
+change-unregister : change_in (record { body = Unregister (key 1); strength = None }) 5
+    ≡ record { kind = kind.Unregister; key = key 1; value = []; source_timestamp = 5; strength = None }
 change-unregister = refl
 
-change-dispose_unregister : change_in (DisposeUnregister (key 1)) 5
-    ≡ record { kind = kind.DisposeUnregister; key = key 1; value = []; source_timestamp = 5 }
+change-dispose_unregister : change_in (record { body = DisposeUnregister (key 1); strength = None }) 5
+    ≡ record { kind = kind.DisposeUnregister; key = key 1; value = []; source_timestamp = 5; strength = None }
 change-dispose_unregister = refl
+
+-- what it says of the strength its change has
+change-strength : change_in (record { body = Dispose (key 1); strength = Some (pos 9) }) 5
+    ≡ record { kind = kind.Dispose; key = key 1; value = []; source_timestamp = 5; strength = Some (pos 9) }
+change-strength = refl
 
 -- ---- GAP
 

@@ -42,6 +42,7 @@ writing policy max_samples happened acknowledged =
       policy = policy;
       max_samples = max_samples;
       lease = None;
+      strength = None;
       autodispose = true;
       written = happened;
       matched = r1 ∷ [];

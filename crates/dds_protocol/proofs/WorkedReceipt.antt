@@ -13,7 +13,7 @@ use Rattle.dds_base.specs.declared.qos.HistoryQos.TheVariants.{KeepAll}
 use Rattle.dds_base.specs.Presence.{has_room}
 use Rattle.dds_base.specs.Written.{Changed}
 use Rattle.rtps_wire.specs.declared.data.Data.{Data as DataBody}
-use Rattle.rtps_wire.specs.declared.data.DataContent.TheVariants.{Write}
+use Rattle.rtps_wire.specs.declared.data.ChangeBody.TheVariants.{Write}
 use Rattle.rtps_wire.specs.declared.submessage.Submessage.{Submessage}
 use Rattle.rtps_wire.specs.declared.submessage.Submessage.TheVariants.{InfoDst, InfoTs, Data}
 use Rattle.dds_conditions.specs.Watched.{opened as nothing_watched}
@@ -69,8 +69,7 @@ data_of number =
       reader_id = r1_id;
       writer_id = w1_id;
       writer_sn = number;
-      content = Write
-          (record { key = key 1; value = number ∷ [] });
+      content = record { body = Write (record { key = key 1; value = number ∷ [] }); strength = None };
     }
 
 abbrev from_data_1 : List Submessage

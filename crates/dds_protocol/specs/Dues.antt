@@ -14,6 +14,7 @@ use Rattle.dds_base.specs.Matched.{of_reliable_readers}
 use Rattle.rtps_wire.specs.declared.submessage.Submessage.{Submessage}
 use Rattle.rtps_wire.specs.declared.submessage.Submessage.TheVariants.{AckNack}
 use Rattle.rtps_wire.specs.Content.{IsEmptyUnlessWrite}
+use Rattle.rtps_wire.specs.Data.{IsStrength}
 use Rattle.rtps_wire.specs.Fields.{IsEntityId}
 use Rattle.rtps_wire.specs.Messages.{IsWritable, spelling_of}
 use Rattle.dds_machine.specs.Opening.{matched_readers}
@@ -62,11 +63,13 @@ pub record IsSized (config : Config) : Type 0 where
   pub reader : (n k : ℕ) (p : PeerConfig) (r : ReaderConfig) → IsNumbered config.peers n p
       → IsNumbered p.readers k r → IsEntityId r.entity
 
--- there are fewer than 2^62 changes, each with a key of 16 octets, and a value of at most 1,024
+-- there are fewer than 2^62 changes, each with a key of 16 octets, a value of at most 1,024, and a strength of 32 bits
+-- where it has one
 pub record AreSmall (changes : List Change) : Type 0 where
   pub few : length changes < 2 ^ 62
   pub key : (number : ℕ) (change : Change) → change_at changes number ≡ Some change → length change.key.0 ≡ 16
   pub value : (number : ℕ) (change : Change) → change_at changes number ≡ Some change → length change.value ≤ 1024
+  pub strength : (number : ℕ) (change : Change) → change_at changes number ≡ Some change → IsStrength change.strength
 
 -- so are the changes of each of the peer's writers
 abbrev pub HasSmallChanges : Part → Type 0

@@ -125,6 +125,16 @@ fn writer_call(operation: &str, words: &[&str]) -> Option<Call> {
     }
 }
 
+/// The strength that a writer's changes carry from now on.
+fn set_strength(words: &[&str]) -> Option<Call> {
+    let [writer, strength] = words else {
+        return None;
+    };
+    let writer = writer_number(writer)?;
+    let strength = decimal_i32(strength)?;
+    Some(Call::SetStrength { writer, strength })
+}
+
 /// A writer and an instance.
 fn writer_and_key(writer: &str, key_word: &str) -> Option<(u8, Key)> {
     Some((writer_number(writer)?, key(key_word)?))
@@ -163,6 +173,7 @@ fn other_call(operation: &str, words: &[&str]) -> Option<Call> {
         "register" | "dispose" | "unregister" => instance_call(operation, words),
         "lost" | "changed" => reader_call(operation, words),
         "livelost" | "assert" => writer_call(operation, words),
+        "strength" => set_strength(words),
         "key" => key_value(words),
         "lookup" => lookup(words),
         _ => access(operation, words),

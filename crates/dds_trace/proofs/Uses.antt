@@ -21,7 +21,7 @@ use Rattle.dds_conditions.specs.declared.condition.Cond.TheVariants.{Made}
 use Rattle.dds_conditions.specs.declared.waiting.Waiting.{Waiting}
 use Rattle.dds_conditions.specs.Watched.{Watched, use_refusal, with_deadline, with_enabled, with_wait_set_at, without, without_condition}
 use Rattle.dds_machine.specs.declared.call.Call.{Call}
-use Rattle.dds_machine.specs.declared.call.Call.TheVariants.{Register, Write, Dispose, Unregister, AssertLiveliness, Read, Take, GetKeyValue, LookupInstance, GetSampleLost, GetLivelinessChanged, GetLivelinessLost, ReadByCondition, TakeByCondition, CreateReadCondition, CreateQueryCondition, CreateGuardCondition, SetTriggerValue, DeleteCondition, GetTriggerValue, CreateWaitSet, DeleteWaitSet, AttachCondition, DetachCondition, GetConditions, WaitBegin, WaitLook, WaitEnd, SetEnabledStatuses, GetStatusChanges}
+use Rattle.dds_machine.specs.declared.call.Call.TheVariants.{Register, Write, Dispose, Unregister, AssertLiveliness, SetStrength, Read, Take, GetKeyValue, LookupInstance, GetSampleLost, GetLivelinessChanged, GetLivelinessLost, ReadByCondition, TakeByCondition, CreateReadCondition, CreateQueryCondition, CreateGuardCondition, SetTriggerValue, DeleteCondition, GetTriggerValue, CreateWaitSet, DeleteWaitSet, AttachCondition, DetachCondition, GetConditions, WaitBegin, WaitLook, WaitEnd, SetEnabledStatuses, GetStatusChanges}
 use Rattle.dds_protocol.specs.declared.event.Event.{Event}
 use Rattle.dds_protocol.specs.declared.event.Event.TheVariants as event
 use Rattle.dds_protocol.specs.declared.event.Output.{Output}
@@ -173,6 +173,8 @@ answers_use tests old (GetKeyValue v instance) reply new a = absurd a
 answers_use tests old (LookupInstance v key) reply new a = answered _ _ old.dds old reply new (same_uses old.dds.watch) a
 answers_use tests old (GetSampleLost v) reply new a = answered _ _ _ old reply new (same_uses old.dds.watch) a
 answers_use tests old (GetLivelinessChanged v) reply new a = answered _ _ _ old reply new (same_uses old.dds.watch) a
+answers_use tests old (SetStrength v strength) reply new a =
+    answered _ Done old.dds old reply new (same_uses old.dds.watch) a
 answers_use tests old (GetLivelinessLost v) reply new a = answered _ _ old.dds old reply new (same_uses old.dds.watch) a
 answers_use tests old (ReadByCondition v scope c) reply new a = by_condition HasRead _ _ old v _ reply new a
 answers_use tests old (TakeByCondition v scope c) reply new a = by_condition Took _ _ old v _ reply new a

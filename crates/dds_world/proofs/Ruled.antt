@@ -1,7 +1,7 @@
 -- A network whose peers keep the rules of the protocol.
 use Rattle.std.proofs.Common.{◌≡◌, ap, ℕ, suc, ◌+◌, ◌-◌, ◌<◌, List, [], Some, length, get_or, slice_get, subst, sym, ◌∙◌, refl, arith}
 use Rattle.dds_base.specs.declared.config.Config.{Config}
-use Rattle.dds_base.specs.Written.{Registered, Changed, Asserted, LookedAt, Ticked}
+use Rattle.dds_base.specs.Written.{Registered, Changed, Asserted, LookedAt, StrengthSet, Ticked}
 use Rattle.rtps_wire.specs.Messages.{HasSubmessage}
 use Rattle.dds_machine.specs.declared.call.Call.{Call}
 use Rattle.dds_protocol.specs.declared.event.Event.TheVariants as event
@@ -87,6 +87,7 @@ effect_due config peer (writes w (Changed change)) output one = one.are_sent
 effect_due config peer (writes w (Registered key)) output none = (none.packets, none.unsent)
 effect_due config peer (writes w (Asserted moment)) output are = are
 effect_due config peer (writes w LookedAt) output none = (none.packets, none.unsent)
+effect_due config peer (writes w (StrengthSet strength)) output none = (none.packets, none.unsent)
 effect_due config peer (writes w (Ticked now behind)) output none = (none.packets, none.unsent)
 effect_due config peer nothing output none = (none.packets, none.unsent)
 

@@ -2,7 +2,7 @@
 use Rattle.std.proofs.Common.{◌≡◌, ℕ, suc, ◌+◌, List, Some, inl, inr, length, get_or, slice_get, subst, sym, ◌∙◌, refl, arith}
 use Rattle.dds_base.specs.declared.change.Change.{Change}
 use Rattle.dds_base.specs.declared.config.Config.{Config}
-use Rattle.dds_base.specs.Written.{Registered, Changed, Asserted, LookedAt, Ticked}
+use Rattle.dds_base.specs.Written.{Registered, Changed, Asserted, LookedAt, StrengthSet, Ticked}
 use Rattle.dds_machine.specs.declared.call.Call.{Call}
 use Rattle.dds_machine.specs.declared.endpoint.Endpoint.{Endpoint}
 use Rattle.dds_protocol.specs.declared.event.Event.TheVariants as event
@@ -99,6 +99,8 @@ effect_sends kept new config peer (writes w (Asserted moment)) output posts coun
     output posts counts are
 effect_sends kept new config peer (writes w LookedAt) output posts counts quiet none =
     same_traffic kept new output quiet none
+effect_sends kept new config peer (writes w (StrengthSet strength)) output posts counts quiet none =
+    same_traffic kept new output quiet none
 effect_sends kept new config peer (writes w (Ticked now behind)) output posts counts quiet none =
     same_traffic kept new output quiet none
 effect_sends kept new config peer nothing output posts counts quiet none = same_traffic kept new output quiet none
@@ -111,6 +113,7 @@ machine_sends config old new network peer (writes w (Changed change)) h = h
 machine_sends config old new network peer (writes w (Registered key)) h = h
 machine_sends config old new network peer (writes w (Asserted moment)) h = h
 machine_sends config old new network peer (writes w LookedAt) h = h
+machine_sends config old new network peer (writes w (StrengthSet strength)) h = h
 machine_sends config old new network peer (writes w (Ticked now behind)) h = h
 machine_sends config old new network peer nothing h = h
 

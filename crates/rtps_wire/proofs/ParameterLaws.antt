@@ -1,21 +1,23 @@
 -- The parameters that are read are those that stand there, and those that stand there are read.
-use Rattle.std.proofs.Common.{◌≡◌, ◌≢◌, ℕ, zero, suc, ◌%◌, ◌^◌, ◌<◌, Bool, true, false, cond, eqb, List, [], ◌∷◌, ◌++◌, length, Option, Some, None, refl, sym, ap, subst, ◌∙◌, append_assoc, arith, ◌⊎◌, inl, inr, eq-eqb}
-use Rattle.std.specs.Prelude.{slice_index}
+use Rattle.std.proofs.Common.{◌≡◌, ◌≢◌, ℕ, zero, suc, ◌%◌, ◌^◌, ◌<◌, Bool, true, false, cond, eqb, List, [], ◌∷◌, ◌++◌, length, Option, Some, None, refl, sym, ap, subst, ◌∙◌, append_assoc, arith, ◌⊎◌, inl, inr, eq-eqb, take, drop, ltb, ℤ, pos}
+use Rattle.std.specs.Prelude.{slice_index, unwrap_or, FitsSigned}
 use Rattle.std.specs.Option.{option_or, option_map}
-use Rattle.std.specs.Int.{w16}
-use Rattle.std.proofs.lemmas.Bool.{eqb-true, eqb-false, ne_eqb}
-use Rattle.std.proofs.lemmas.List.{length-append, append-nil}
+use Rattle.std.specs.Int.{w16, w32, cast_signed, cast_unsigned}
+use Rattle.std.proofs.lemmas.Bool.{eqb-true, eqb-false, ne_eqb, le-ltb}
+use Rattle.std.proofs.lemmas.List.{length-append, append-nil, take_at}
 use Rattle.std.proofs.lemmas.Option.{option_and_then_some}
 use Rattle.dds_base.specs.declared.endianness.Endianness.{Endianness}
 use Rattle.dds_base.specs.declared.key.Key.{Key}
-use Rattle.dds_base.specs.Fields.{number, number_at, octets_at, ◌>>=◌}
+use Rattle.dds_base.specs.Fields.{number, number_of, number_at, octets_at, ◌>>=◌}
 use Rattle.dds_base.specs.DatumAt.{key_at}
-use Rattle.dds_base.proofs.FieldLaws.{AreOctets, cond_is, some_is, field_u16, field_octets}
+use Rattle.dds_base.proofs.FieldLaws.{AreOctets, AreOctets-take, cond_is, some_is, field_u16, field_octets}
 use Rattle.dds_base.proofs.DatumLaws.{field_key}
 use Rattle.rtps_wire.specs.declared.parameters.Parameters.{Parameters}
 use Rattle.rtps_wire.specs.Parameters.{Parameter, parameter_text, IsParameter, ReadsParameters, parameter_value}
 use Rattle.rtps_wire.specs.ParametersAt.{parameter_at, noted_at, parameters_from, parameters_at}
-use Rattle.rtps_wire.proofs.WireFields.{len_16}
+use Rattle.rtps_wire.specs.Fields.{count_text}
+use Rattle.rtps_wire.specs.FieldAt.{count_at}
+use Rattle.rtps_wire.proofs.WireFields.{len_16, len_32, field_count}
 
 -- ---- what parameters say
 
@@ -25,19 +27,25 @@ key_seen value = record { 0 = value }
 abbrev last_octet : List ℕ → ℕ
 last_octet value = slice_index value 3
 
+abbrev strength_seen : Endianness → List ℕ → ℤ
+strength_seen order value = (unwrap_or (count_at order value) (pos 0, [])).0
+
 -- what was found before, or else what these say
-abbrev pub summed : Parameters → List Parameter → Parameters
-summed found ps =
+abbrev pub summed : Endianness → Parameters → List Parameter → Parameters
+summed order found ps =
     record {
       key_hash = option_or found.key_hash
           (option_map key_seen (parameter_value 112 ps));
       status = option_or found.status
           (option_map last_octet (parameter_value 113 ps));
+      strength = option_or found.strength
+          (option_map (strength_seen order) (parameter_value 6 ps));
     }
 
-parameters_are : (a b : Option Key) (c d : Option ℕ) → a ≡ b → c ≡ d
-    → ◌≡◌ {A = Parameters} (record { key_hash = a; status = c }) (record { key_hash = b; status = d })
-parameters_are a b c d e f = cc
+parameters_are : (a b : Option Key) (c d : Option ℕ) (e f : Option ℤ) → a ≡ b → c ≡ d → e ≡ f
+    → ◌≡◌ {A = Parameters}
+    (record { key_hash = a; status = c; strength = e }) (record { key_hash = b; status = d; strength = f })
+parameters_are a b c d e f x y z = cc
 
 or_none : {A : Type 0} (a : Option A) → option_or a None ≡ a
 or_none None = refl
@@ -53,26 +61,24 @@ first_or : {A B : Type 0} (f : A → B) (b : Bool) (v : A) (o : Option A)
 first_or f true v o = refl
 first_or f false v o = refl
 
-summed_none : (found : Parameters) → found ≡ summed found []
-summed_none found =
-    parameters_are found.key_hash _ found.status _ (sym (or_none found.key_hash)) (sym (or_none found.status))
+summed_none : (order : Endianness) (found : Parameters) → found ≡ summed order found []
+summed_none order found =
+    parameters_are found.key_hash _ found.status _ found.strength _ (sym (or_none found.key_hash))
+    (sym (or_none found.status)) (sym (or_none found.strength))
 
-summed_more : (found : Parameters) (p : Parameter) (ps : List Parameter)
-    → summed (summed found (p ∷ [])) ps ≡ summed found (p ∷ ps)
-summed_more found p ps =
-    let key : option_or (option_or found.key_hash (option_map key_seen (parameter_value 112 (p ∷ []))))
-    (option_map key_seen (parameter_value 112 ps))
-    ≡ option_or found.key_hash (option_map key_seen (parameter_value 112 (p ∷ ps))) =
-    or_assoc found.key_hash (option_map key_seen (parameter_value 112 (p ∷ [])))
-    (option_map key_seen (parameter_value 112 ps))
-    ∙ ap (option_or found.key_hash) (sym (first_or key_seen (eqb p.id 112) p.value (parameter_value 112 ps))) in
-    let status : option_or (option_or found.status (option_map last_octet (parameter_value 113 (p ∷ []))))
-    (option_map last_octet (parameter_value 113 ps))
-    ≡ option_or found.status (option_map last_octet (parameter_value 113 (p ∷ ps))) =
-    or_assoc found.status (option_map last_octet (parameter_value 113 (p ∷ [])))
-    (option_map last_octet (parameter_value 113 ps))
-    ∙ ap (option_or found.status) (sym (first_or last_octet (eqb p.id 113) p.value (parameter_value 113 ps))) in
-    parameters_are _ _ _ _ key status
+-- of a repeated parameter the first counts
+first_counts : {A : Type 0} (f : List ℕ → A) (found : Option A) (id : ℕ) (p : Parameter) (ps : List Parameter)
+    → option_or (option_or found (option_map f (parameter_value id (p ∷ [])))) (option_map f (parameter_value id ps))
+    ≡ option_or found (option_map f (parameter_value id (p ∷ ps)))
+first_counts f found id p ps =
+    or_assoc found (option_map f (parameter_value id (p ∷ []))) (option_map f (parameter_value id ps))
+    ∙ ap (option_or found) (sym (first_or f (eqb p.id id) p.value (parameter_value id ps)))
+
+summed_more : (order : Endianness) (found : Parameters) (p : Parameter) (ps : List Parameter)
+    → summed order (summed order found (p ∷ [])) ps ≡ summed order found (p ∷ ps)
+summed_more order found p ps =
+    parameters_are _ _ _ _ _ _ (first_counts key_seen found.key_hash 112 p ps)
+    (first_counts last_octet found.status 113 p ps) (first_counts (strength_seen order) found.strength 6 p ps)
 
 -- ---- one parameter
 
@@ -83,22 +89,42 @@ by_test m n false e = inr e
 is_or_not : (m n : ℕ) → (m ≡ n) ⊎ (eqb m n ≡ false)
 is_or_not m n = by_test m n (eqb m n) refl
 
-noted_only : (found : Parameters) (p : Parameter) → IsParameter p
-    → noted_at found p.id p.value ≡ Some (summed found (p ∷ []))
+-- a strength stands in four octets
+count_there : (order : Endianness) (value : List ℕ) → length value ≡ 4
+    → (z : ℤ) × (rest : List ℕ) × (count_at order value ≡ Some (z, rest))
+unfolding count_at number_at
+count_there order value len =
+    let long : ltb (length value) 4 ≡ false = le-ltb _ _ (omega (arith, len)) in
+    (cast_signed w32 (number_of order w32 (take 4 value)), drop 4 value, rw long refl)
+
+noted_only : (order : Endianness) (found : Parameters) (p : Parameter) → IsParameter p
+    → noted_at order found p.id p.value ≡ Some (summed order found (p ∷ []))
 unfolding noted_at
-noted_only found p valid =
+noted_only order found p valid =
     let whole : eqb (length p.value % 4) 0 ≡ true = eq-eqb _ 0 valid.whole in
     elim (is_or_not p.id 112) [
       | inl is ↦
           let long : eqb (length p.value) 16 ≡ true = eq-eqb _ 16 (valid.key_hash is) in
           let key : key_at p.value ≡ Some (key_seen p.value, []) =
           ap key_at (sym (append-nil p.value)) ∙ field_key.again (key_seen p.value) [] (valid.key_hash is) in
-          rw (whole, is, long, key) (ap Some (parameters_are _ _ _ _ refl (sym (or_none found.status))))
+          rw (whole, is, long, key) (ap Some
+          (parameters_are _ _ _ _ _ _ refl (sym (or_none found.status)) (sym (or_none found.strength))))
       | inr other ↦ elim (is_or_not p.id 113) [
         | inl is ↦
             let short : eqb (length p.value) 4 ≡ true = eq-eqb _ 4 (valid.status is) in
-            rw (whole, is, short) (ap Some (parameters_are _ _ _ _ (sym (or_none found.key_hash)) refl))
-        | inr neither ↦ rw (whole, other, neither) (ap Some (summed_none found))
+            rw (whole, is, short) (ap Some
+            (parameters_are _ _ _ _ _ _ (sym (or_none found.key_hash)) refl (sym (or_none found.strength))))
+        | inr neither ↦ elim (is_or_not p.id 6) [
+          | inl is ↦
+              let short : eqb (length p.value) 4 ≡ true = eq-eqb _ 4 (valid.strength is) in
+              let there = count_there order p.value (valid.strength is) in
+              let seen : there.0 ≡ strength_seen order p.value =
+              ap (λ (o : Option (ℤ × List ℕ)). (unwrap_or o (pos 0, [])).0) (sym there.2) in
+              rw (whole, is, short, there.2) (ap Some
+              (parameters_are _ _ _ _ _ _ (sym (or_none found.key_hash)) (sym (or_none found.status))
+              (ap (λ (z : ℤ). option_or found.strength (Some z)) seen)))
+          | inr none ↦ rw (whole, other, neither, none) (ap Some (summed_none order found))
+        ]
       ]
     ]
 
@@ -106,31 +132,40 @@ passes : {A : Type 0} (b : Bool) (o : Option A) (x : A) → cond b o None ≡ So
 passes true o x e = (refl, e)
 passes false o x e = absurd cc
 
-noted_whole : (found more : Parameters) (id : ℕ) (value : List ℕ) → noted_at found id value ≡ Some more
-    → length value % 4 ≡ 0
+noted_whole : (order : Endianness) (found more : Parameters) (id : ℕ) (value : List ℕ)
+    → noted_at order found id value ≡ Some more → length value % 4 ≡ 0
 unfolding noted_at
-noted_whole found more id value e = eqb-true _ 0 (passes (eqb (length value % 4) 0) _ more e).0
+noted_whole order found more id value e = eqb-true _ 0 (passes (eqb (length value % 4) 0) _ more e).0
 
-noted_key : (found more : Parameters) (value : List ℕ) → noted_at found 112 value ≡ Some more → length value ≡ 16
+noted_key : (order : Endianness) (found more : Parameters) (value : List ℕ)
+    → noted_at order found 112 value ≡ Some more → length value ≡ 16
 unfolding noted_at
-noted_key found more value e =
+noted_key order found more value e =
     eqb-true _ 16 (passes (eqb (length value) 16) _ more (passes (eqb (length value % 4) 0) _ more e).1).0
 
-noted_status : (found more : Parameters) (value : List ℕ) → noted_at found 113 value ≡ Some more → length value ≡ 4
+noted_status : (order : Endianness) (found more : Parameters) (value : List ℕ)
+    → noted_at order found 113 value ≡ Some more → length value ≡ 4
 unfolding noted_at
-noted_status found more value e =
+noted_status order found more value e =
     eqb-true _ 4 (passes (eqb (length value) 4) _ more (passes (eqb (length value % 4) 0) _ more e).1).0
 
-noted_valid : (found more : Parameters) (id : ℕ) (value : List ℕ) → id < 2 ^ 16 → id ≢ 1 → length value < 2 ^ 16
-    → noted_at found id value ≡ Some more
+noted_strength : (order : Endianness) (found more : Parameters) (value : List ℕ)
+    → noted_at order found 6 value ≡ Some more → length value ≡ 4
+unfolding noted_at
+noted_strength order found more value e =
+    eqb-true _ 4 (passes (eqb (length value) 4) _ more (passes (eqb (length value % 4) 0) _ more e).1).0
+
+noted_valid : (order : Endianness) (found more : Parameters) (id : ℕ) (value : List ℕ) → id < 2 ^ 16 → id ≢ 1
+    → length value < 2 ^ 16 → noted_at order found id value ≡ Some more
     → IsParameter (record { id = id; value = value })
-noted_valid found more id value small no_sentinel short e = record {
+noted_valid order found more id value small no_sentinel short e = record {
   small = small;
   no_sentinel = no_sentinel;
   short = short;
-  whole = noted_whole found more id value e;
-  key_hash = λ is. noted_key found more value (rw is at e);
-  status = λ is. noted_status found more value (rw is at e);
+  whole = noted_whole order found more id value e;
+  key_hash = λ is. noted_key order found more value (rw is at e);
+  status = λ is. noted_status order found more value (rw is at e);
+  strength = λ is. noted_strength order found more value (rw is at e);
 }
 
 -- ---- at the front of bytes
@@ -141,7 +176,12 @@ record TakesParameter (order : Endianness) (bytes : List ℕ) (x : ℕ × List �
   id_small : x.0 < 2 ^ 16
   text : bytes ≡ number order w16 x.0 ++ (number order w16 len ++ (x.1 ++ x.2))
   extent : length x.1 ≡ cond (eqb x.0 1) 0 len
+  value : AreOctets x.1
   octets : AreOctets x.2
+
+front_octets : (a b : List ℕ) → AreOctets (a ++ b) → AreOctets a
+front_octets a b h =
+    subst (λ (z : List ℕ). AreOctets z) (take_at a b (length a) refl) (AreOctets-take (length a) (a ++ b) h)
 
 parameter_found : (order : Endianness) (bytes : List ℕ) (x : ℕ × List ℕ × List ℕ) → AreOctets bytes
     → parameter_at order bytes ≡ Some x
@@ -167,6 +207,8 @@ parameter_found order bytes x octets e =
           t0.0.parts ∙ ap (λ (z : List ℕ). number order w16 id.0 ++ z)
           (t1.0.parts ∙ ap (λ (z : List ℕ). number order w16 len.0 ++ z) t2.0.parts);
       extent = t2.1;
+      value =
+          front_octets value.0 value.1 (subst (λ (z : List ℕ). AreOctets z) t2.0.parts t1.0.octets);
       octets = t2.0.octets;
     }))))
 
@@ -227,11 +269,26 @@ sentinel_again order len rest small =
 
 -- ---- the parameters up to the sentinel
 
+-- a strength that stands there has four octets
+abbrev pub IsStrengthOctets : List Parameter → Type 0
+IsStrengthOctets ps = (v : List ℕ) → parameter_value 6 ps ≡ Some v → AreOctets v × (length v ≡ 4)
+
+more_octets : (p : Parameter) (ps : List Parameter) → AreOctets p.value → IsParameter p → IsStrengthOctets ps
+    → IsStrengthOctets (p ∷ ps)
+more_octets p ps octets valid later v e =
+    elim (is_or_not p.id 6) [
+      | inl is ↦
+          let same : p.value ≡ v = some_is p.value v (rw is at e) in
+          subst (λ (w : List ℕ). AreOctets w × (length w ≡ 4)) same (octets, valid.strength is)
+      | inr other ↦ later v (rw other at e)
+    ]
+
 pub record FindsParameters (order : Endianness) (bytes : List ℕ) (found : Parameters)
     (x : Parameters × List ℕ) : Type 0 where
   pub parameters : List Parameter
   pub reads : ReadsParameters order bytes parameters x.1
-  pub sum : x.0 ≡ summed found parameters
+  pub sum : x.0 ≡ summed order found parameters
+  pub strength : IsStrengthOctets parameters
   pub octets : AreOctets x.1
 
 from_found : (fuel : ℕ) (order : Endianness) (found : Parameters) (bytes : List ℕ) (x : Parameters × List ℕ)
@@ -241,33 +298,36 @@ unfolding parameters_from
 from_found zero order found bytes x octets e = absurd cc
 from_found (suc fuel) order found bytes x octets e =
     option_and_then_some (λ p. cond (eqb p.0 1) (Some (found, p.2))
-    (noted_at found p.0 p.1 >>= λ more. parameters_from fuel order more p.2)) (parameter_at order bytes) x e
+    (noted_at order found p.0 p.1 >>= λ more. parameters_from fuel order more p.2)) (parameter_at order bytes) x e
     (λ p q1 e1.
     let t = parameter_found order bytes p octets q1 in
     let whole : Parameters × List ℕ = (found, p.2) in
     cond_is {P = FindsParameters order bytes found x} (eqb p.0 1) (Some whole)
-    (noted_at found p.0 p.1 >>= λ more. parameters_from fuel order more p.2) (Some x) e1
+    (noted_at order found p.0 p.1 >>= λ more. parameters_from fuel order more p.2) (Some x) e1
     (λ is s. subst (λ (y : Parameters × List ℕ). FindsParameters order bytes found y) (some_is whole x s)
     (record {
       parameters = [];
       reads = sentinel_found order bytes p t
           (eqb-true p.0 1 is);
-      sum = summed_none found;
+      sum = summed_none order found;
+      strength = λ v none. absurd cc;
       octets = t.octets;
     }))
-    (λ other s. option_and_then_some (λ more. parameters_from fuel order more p.2) (noted_at found p.0 p.1) x s
+    (λ other s. option_and_then_some (λ more. parameters_from fuel order more p.2) (noted_at order found p.0 p.1) x s
     (λ more q2 e2.
     let rest = from_found fuel order more p.2 x t.octets e2 in
     let parameter : Parameter = record { id = p.0; value = p.1 } in
     let there = value_found order bytes p t other in
-    let valid = noted_valid found more p.0 p.1 t.id_small (eqb-false p.0 1 other) there.0 q2 in
-    let more-is : more ≡ summed found (parameter ∷ []) = some_is more _ (sym q2 ∙ noted_only found parameter valid) in
+    let valid = noted_valid order found more p.0 p.1 t.id_small (eqb-false p.0 1 other) there.0 q2 in
+    let more-is : more ≡ summed order found (parameter ∷ []) =
+    some_is more _ (sym q2 ∙ noted_only order found parameter valid) in
     record {
       parameters = parameter ∷ rest.parameters;
       reads = (p.2, valid, there.1, rest.reads);
       sum =
-          rest.sum ∙ ap (λ (y : Parameters). summed y rest.parameters) more-is
-          ∙ summed_more found parameter rest.parameters;
+          rest.sum ∙ ap (λ (y : Parameters). summed order y rest.parameters) more-is
+          ∙ summed_more order found parameter rest.parameters;
+      strength = more_octets parameter rest.parameters t.value valid rest.strength;
       octets = rest.octets;
     })))
 
@@ -287,12 +347,12 @@ shorter order p bytes after e =
 
 from_only : (ps : List Parameter) (fuel : ℕ) (order : Endianness) (found : Parameters) (bytes rest : List ℕ)
     → ReadsParameters order bytes ps rest
-    → length bytes < fuel → parameters_from fuel order found bytes ≡ Some (summed found ps, rest)
+    → length bytes < fuel → parameters_from fuel order found bytes ≡ Some (summed order found ps, rest)
 unfolding parameters_from
 from_only [] zero order found bytes rest r lt = absurd (omega arith)
 from_only [] (suc fuel) order found bytes rest r lt =
     ap (parameters_from (suc fuel) order found) r.2
-    ∙ rw (sentinel_again order r.0 rest r.1) (ap (λ (y : Parameters). Some (y, rest)) (summed_none found))
+    ∙ rw (sentinel_again order r.0 rest r.1) (ap (λ (y : Parameters). Some (y, rest)) (summed_none order found))
 from_only (p ∷ ps) zero order found bytes rest r lt = absurd (omega arith)
 from_only (p ∷ ps) (suc fuel) order found bytes rest r lt =
     let other : eqb p.id 1 ≡ false = ne_eqb p.id 1 r.1.no_sentinel in
@@ -301,14 +361,14 @@ from_only (p ∷ ps) (suc fuel) order found bytes rest r lt =
     ∙ rw (
       parameter_again order p r.0 r.1,
       other,
-      noted_only found p r.1,
+      noted_only order found p r.1,
       from_only ps fuel order
-          (summed found (p ∷ [])) r.0 rest r.3 (omega arith),
+          (summed order found (p ∷ [])) r.0 rest r.3 (omega arith),
     )
-    (ap (λ (y : Parameters). Some (y, rest)) (summed_more found p ps))
+    (ap (λ (y : Parameters). Some (y, rest)) (summed_more order found p ps))
 
 abbrev pub nothing : Parameters
-nothing = record { key_hash = None; status = None }
+nothing = record { key_hash = None; status = None; strength = None }
 
 pub parameters_found : (order : Endianness) (bytes : List ℕ) (x : Parameters × List ℕ) → AreOctets bytes
     → parameters_at order bytes ≡ Some x
@@ -318,9 +378,50 @@ parameters_found order bytes x octets e = from_found (suc (length bytes)) order 
 
 pub parameters_only : (order : Endianness) (bytes : List ℕ) (ps : List Parameter) (rest : List ℕ)
     → ReadsParameters order bytes ps rest
-    → parameters_at order bytes ≡ Some (summed nothing ps, rest)
+    → parameters_at order bytes ≡ Some (summed order nothing ps, rest)
 unfolding parameters_at
 parameters_only order bytes ps rest r = from_only ps (suc (length bytes)) order nothing bytes rest r (omega arith)
+
+-- ---- the strength
+
+empty_after : (order : Endianness) (v : List ℕ) (z : ℤ) (rest : List ℕ) → length v ≡ 4
+    → v ≡ count_text order z ++ rest → v ≡ count_text order z
+empty_after order v z rest len parts =
+    let none : rest ≡ [] = empty_is rest (omega (
+      arith,
+      len,
+      ap length parts,
+      length-append (count_text order z) rest,
+      len_32 order (cast_unsigned w32 z),
+    )) in
+    parts ∙ ap (λ (t : List ℕ). count_text order z ++ t) none ∙ append-nil (count_text order z)
+
+pub seen_found : (order : Endianness) (o : Option (List ℕ)) (z : ℤ)
+    → ((v : List ℕ) → o ≡ Some v → AreOctets v × (length v ≡ 4)) → option_map (strength_seen order) o ≡ Some z
+    → FitsSigned w32 z × (o ≡ Some (count_text order z))
+seen_found order None z octets e = absurd cc
+seen_found order (Some v) z octets e =
+    let there = count_there order v (octets v refl).1 in
+    let seen : there.0 ≡ z =
+    ap (λ (o : Option (ℤ × List ℕ)). (unwrap_or o (pos 0, [])).0) (sym there.2) ∙ some_is (strength_seen order v) z e in
+    let taken = (field_count order).takes v there.0 there.1 (octets v refl).0 there.2 in
+    let text : v ≡ count_text order there.0 =
+    empty_after order v there.0 there.1 (octets v refl).1 taken.0.parts in (
+      subst (λ (x : ℤ). FitsSigned w32 x) seen taken.1,
+      ap Some (text ∙ ap (count_text order) seen),
+    )
+
+pub none_found : (order : Endianness) (o : Option (List ℕ)) → option_map (strength_seen order) o ≡ None → o ≡ None
+none_found order None e = refl
+none_found order (Some v) e = absurd cc
+
+pub seen_only : (order : Endianness) (o : Option (List ℕ)) (z : ℤ) → FitsSigned w32 z
+    → o ≡ Some (count_text order z) → option_map (strength_seen order) o ≡ Some z
+seen_only order o z fits e =
+    let again : count_at order (count_text order z) ≡ Some (z, []) =
+    ap (count_at order) (sym (append-nil (count_text order z))) ∙ (field_count order).again z [] fits in
+    ap (option_map (strength_seen order)) e
+    ∙ ap (λ (o : Option (ℤ × List ℕ)). Some (unwrap_or o (pos 0, [])).0) again
 
 -- ---- the loop
 
@@ -336,7 +437,7 @@ may_begin order bytes = record { fuel = suc (length bytes); enough = omega arith
 
 pub may_go_on : (order : Endianness) (bytes : List ℕ) (found : Parameters) (left : List ℕ) (id : ℕ)
     (value rest : List ℕ) (more : Parameters)
-    → parameter_at order left ≡ Some (id, value, rest) → id ≢ 1 → noted_at found id value ≡ Some more
+    → parameter_at order left ≡ Some (id, value, rest) → id ≢ 1 → noted_at order found id value ≡ Some more
     → length rest < length left
     → MayGoOn order bytes found left → MayGoOn order bytes more rest
 unfolding parameters_from
@@ -379,7 +480,7 @@ ends_at_sentinel order bytes found left id value rest e is on = step on.fuel on.
 
 pub ends_at_invalid : (order : Endianness) (bytes : List ℕ) (found : Parameters) (left : List ℕ) (id : ℕ)
     (value rest : List ℕ)
-    → parameter_at order left ≡ Some (id, value, rest) → id ≢ 1 → noted_at found id value ≡ None
+    → parameter_at order left ≡ Some (id, value, rest) → id ≢ 1 → noted_at order found id value ≡ None
     → MayGoOn order bytes found left
     → None ≡ parameters_at order bytes
 unfolding parameters_from

@@ -1,15 +1,16 @@
 -- What is written is read as itself.
-use Rattle.std.proofs.Common.{◌≡◌, ℕ, zero, suc, ◌+◌, ◌^◌, ◌<◌, ◌≤◌, Bool, true, false, cond, eqb, ◌&&◌, not, List, [], ◌∷◌, ◌++◌, length, get_or, take, Some, None, refl, sym, subst, append_assoc, arith, ◌⊎◌, inl, inr}
+use Rattle.std.proofs.Common.{◌≡◌, ℕ, zero, suc, ◌+◌, ◌^◌, ◌<◌, ◌≤◌, Bool, true, false, cond, eqb, ◌&&◌, not, List, [], ◌∷◌, ◌++◌, length, get_or, take, Some, None, refl, sym, subst, append_assoc, arith, ◌⊎◌, inl, inr, Option, ℤ}
 use Rattle.std.specs.List.{flat_map, AllByRecursion}
 use Rattle.std.specs.Int.{w16}
 use Rattle.std.proofs.lemmas.List.{length-append}
 use Rattle.dds_base.specs.declared.endianness.Endianness.TheVariants.{Little}
 use Rattle.dds_base.specs.declared.key.Key.{Key}
 use Rattle.dds_base.specs.Fields.{number}
-use Rattle.dds_base.specs.DatumText.{ReadsKey, spelling_of_key}
+use Rattle.dds_base.specs.declared.datum.Datum.{Datum}
+use Rattle.dds_base.specs.DatumText.{IsDatum, ReadsDatum, ReadsKey, spelling_of_datum, spelling_of_key}
+use Rattle.rtps_wire.specs.declared.data.ChangeBody.{ChangeBody}
+use Rattle.rtps_wire.specs.declared.data.ChangeBody.TheVariants.{Write, Dispose, Unregister, DisposeUnregister}
 use Rattle.rtps_wire.specs.declared.data.Data.{Data}
-use Rattle.rtps_wire.specs.declared.data.DataContent.{DataContent}
-use Rattle.rtps_wire.specs.declared.data.DataContent.TheVariants.{Write, Dispose, Unregister, DisposeUnregister}
 use Rattle.rtps_wire.specs.declared.message.Message.{Message}
 use Rattle.rtps_wire.specs.declared.submessage.Submessage.{Submessage}
 use Rattle.rtps_wire.specs.declared.submessage.Submessage.TheVariants as submessages
@@ -20,7 +21,7 @@ use Rattle.rtps_wire.specs.Parameters.{Parameter, parameter_text, ReadsParameter
 use Rattle.rtps_wire.specs.Heartbeat.{heartbeat_text}
 use Rattle.rtps_wire.specs.Gap.{gap_head}
 use Rattle.rtps_wire.specs.AckNack.{text_of_acknack}
-use Rattle.rtps_wire.specs.Data.{data_head, SaysContent, ReadsData, IsContent, content_flags, text_of_end, text_of_content}
+use Rattle.rtps_wire.specs.Data.{data_head, SaysContent, HasStrength, ReadsData, IsBody, IsStrength, content_flags, flags_with, strength_text, sentinel_text, text_of_end, text_of_write, text_with, text_of_content}
 use Rattle.rtps_wire.specs.Submessages.{id_of, flags_of, body_of, padding, IsSpellable, IsKnownKind, spelling_of_submessage}
 use Rattle.rtps_wire.specs.Messages.{ReadsAll, ReadsMessage, IsWritable, spelling_of, header_text}
 use Rattle.rtps_wire.proofs.SetSpelling.{set_field_valid, set_again, text_of_set_len}
@@ -59,18 +60,43 @@ one_little false = refl
 
 -- ---- DATA
 
--- the parameters of a change that is no write
-abbrev parameters_of : ℕ → Key → List Parameter
-parameters_of status k = record { id = 112; value = k.0 } ∷ record { id = 113; value = 0 ∷ 0 ∷ 0 ∷ status ∷ [] } ∷ []
+-- the parameter of a strength
+abbrev strength_parameters : Option ℤ → List Parameter
+strength_parameters None = []
+strength_parameters (Some z) = record { id = 6; value = count_text Little z } ∷ []
 
-end_parameters : (status : ℕ) (k : Key) (rest : List ℕ) → length k.0 ≡ 16
-    → ReadsParameters Little (text_of_end status k ++ rest) (parameters_of status k) (spelling_of_key k ++ rest)
-end_parameters status k rest len =
+strength_known : (strength : Option ℤ) (rest : List ℕ)
+    → ReadsParameters Little (strength_text strength ++ (sentinel_text ++ rest)) (strength_parameters strength) rest
+strength_known None rest = (0, omega arith, refl)
+strength_known (Some z) rest = (
+  sentinel_text ++ rest,
+  record {
+    small = omega arith;
+    no_sentinel = λ e. omega (arith, e);
+    short = omega arith;
+    whole = refl;
+    key_hash = λ e. omega (arith, e);
+    status = λ e. refl;
+    strength = λ e. refl;
+  },
+  refl,
+  (0, omega arith, refl),
+)
+
+-- the parameters of a change that is no write
+abbrev parameters_of : ℕ → Key → Option ℤ → List Parameter
+parameters_of status k strength =
+    record { id = 112; value = k.0 } ∷ record { id = 113; value = 0 ∷ 0 ∷ 0 ∷ status ∷ [] }
+    ∷ strength_parameters strength
+
+end_parameters : (status : ℕ) (k : Key) (strength : Option ℤ) (rest : List ℕ) → length k.0 ≡ 16
+    → ReadsParameters Little (text_of_end status k strength ++ rest) (parameters_of status k strength)
+    (spelling_of_key k ++ rest)
+end_parameters status k strength rest len =
     let hash : Parameter = record { id = 112; value = k.0 } in
     let info : Parameter = record { id = 113; value = 0 ∷ 0 ∷ 0 ∷ status ∷ [] } in
-    let sentinel = number Little w16 1 ++ number Little w16 0 in
-    let after : List ℕ = parameter_text Little info ++ (sentinel ++ (spelling_of_key k ++ rest)) in (
-      after,
+    let last : List ℕ = strength_text strength ++ (sentinel_text ++ (spelling_of_key k ++ rest)) in (
+      parameter_text Little info ++ last,
       record {
         small = omega arith;
         no_sentinel = λ e. omega (arith, e);
@@ -79,10 +105,12 @@ end_parameters status k rest len =
             refl;
         key_hash = λ e. len;
         status = λ e. omega (arith, e);
+        strength = λ e. omega (arith, e);
       },
-      regroup (parameter_text Little hash) (parameter_text Little info) sentinel (spelling_of_key k) rest,
+      regroup (parameter_text Little hash) (parameter_text Little info) (strength_text strength) sentinel_text
+          (spelling_of_key k) rest,
       (
-        sentinel ++ (spelling_of_key k ++ rest),
+        last,
         record {
           small = omega arith;
           no_sentinel = λ e. omega (arith, e);
@@ -90,29 +118,31 @@ end_parameters status k rest len =
           whole = refl;
           key_hash = λ e. omega (arith, e);
           status = λ e. refl;
+          strength = λ e. refl;
         },
         refl,
-        (0, omega arith, refl),
+        strength_known strength (spelling_of_key k ++ rest),
       ),
     )
   where
-    regroup : (a b c d e : List ℕ) → (a ++ b ++ c ++ d) ++ e ≡ a ++ (b ++ (c ++ (d ++ e)))
-    regroup a b c d e = simp append_assoc
+    regroup : (a b c d e f : List ℕ) → (a ++ b ++ c ++ d ++ e) ++ f ≡ a ++ (b ++ (c ++ (d ++ (e ++ f))))
+    regroup a b c d e f = simp append_assoc
 
 -- what a change that is no write says, where its status is as meant
-end_known : (d : Data) (zeros : List ℕ) (status : ℕ) (k : Key) → length k.0 ≡ 16
-    → SaysContent 11 (parameters_of status k) (spelling_of_key k ++ zeros) d.content
-    → ReadsData 11 (data_head Little 0 16 d.reader_id d.writer_id d.writer_sn ++ (text_of_end status k ++ zeros)) d
-end_known d zeros status k len says = record {
+end_known : (d : Data) (zeros : List ℕ) (status : ℕ) (k : Key) (strength : Option ℤ) → length k.0 ≡ 16
+    → SaysContent 11 (parameters_of status k strength) (spelling_of_key k ++ zeros) d.content
+    → ReadsData 11 (data_head Little 0 16 d.reader_id d.writer_id d.writer_sn
+    ++ (text_of_end status k strength ++ zeros)) d
+end_known d zeros status k strength len says = record {
   extra = 0;
   skipped = [];
-  from_parameters = text_of_end status k ++ zeros;
-  parameters = parameters_of status k;
+  from_parameters = text_of_end status k strength ++ zeros;
+  parameters = parameters_of status k strength;
   payload = spelling_of_key k ++ zeros;
   extra_small = omega arith;
   skipped_small = omega arith;
   text = refl;
-  inline = end_parameters status k zeros len;
+  inline = end_parameters status k strength zeros len;
   says = says;
 }
 
@@ -120,46 +150,67 @@ key_known : (k : Key) (zeros : List ℕ) → length k.0 ≡ 16 → ReadsKey (spe
 key_known k zeros len =
     record { order = Little; options = 0 ∷ 0 ∷ []; rest = zeros; two = refl; text = refl; valid = len }
 
-content_known : (d : Data) (zeros : List ℕ) (c : DataContent) → d.content ≡ c → IsContent c
-    → ReadsData (content_flags c) (data_head Little 0 16 d.reader_id d.writer_id d.writer_sn
-    ++ (text_of_content c ++ zeros)) d
-content_known d zeros (Write x) is valid = record {
+datum_known : (x : Datum) (zeros : List ℕ) → IsDatum x → ReadsDatum (spelling_of_datum x ++ zeros) x
+datum_known x zeros valid =
+    record { order = Little; options = 0 ∷ 0 ∷ []; rest = zeros; two = refl; text = refl; valid = valid }
+
+end_strength : (status : ℕ) (k : Key) (strength : Option ℤ) → IsStrength strength
+    → HasStrength Little (parameters_of status k strength) strength
+end_strength status k None fits = refl
+end_strength status k (Some z) fits = (fits, refl)
+
+regroup_write : (a b c d : List ℕ) → (a ++ (b ++ c)) ++ d ≡ a ++ (b ++ (c ++ d))
+regroup_write a b c d = simp append_assoc
+
+body_known : (d : Data) (zeros : List ℕ) (b : ChangeBody) (strength : Option ℤ)
+    → d.content ≡ record { body = b; strength = strength } → IsBody b → IsStrength strength
+    → ReadsData (flags_with b strength) (data_head Little 0 16 d.reader_id d.writer_id d.writer_sn
+    ++ (text_with b strength ++ zeros)) d
+body_known d zeros (Write x) None is valid fits = record {
   extra = 0;
   skipped = [];
-  from_parameters = text_of_content (Write x) ++ zeros;
+  from_parameters = spelling_of_datum x ++ zeros;
   parameters = [];
-  payload = text_of_content (Write x) ++ zeros;
+  payload = spelling_of_datum x ++ zeros;
   extra_small = omega arith;
   skipped_small = omega arith;
   text = refl;
   inline = (refl, refl);
   says =
-      rw is (
-        (refl, refl),
-        refl,
-        refl,
-        record {
-          order = Little;
-          options = 0 ∷ 0
-              ∷ [];
-          rest = zeros;
-          two = refl;
-          text = refl;
-          valid = valid;
-        },
-      );
+      rw is (record { body = ((refl, refl), refl, refl, datum_known x zeros valid); strength = refl });
 }
-content_known d zeros (Dispose k) is valid = end_known d zeros 1 k valid (rw is ((refl, refl), key_known k zeros valid))
-content_known d zeros (Unregister k) is valid =
-    end_known d zeros 2 k valid (rw is ((refl, refl), key_known k zeros valid))
-content_known d zeros (DisposeUnregister k) is valid =
-    end_known d zeros 3 k valid (rw is ((refl, refl), key_known k zeros valid))
+body_known d zeros (Write x) (Some z) is valid fits = record {
+  extra = 0;
+  skipped = [];
+  from_parameters = text_of_write x (Some z) ++ zeros;
+  parameters = strength_parameters (Some z);
+  payload = spelling_of_datum x ++ zeros;
+  extra_small = omega arith;
+  skipped_small = omega arith;
+  text = refl;
+  inline =
+      subst (λ (t : List ℕ). ReadsParameters Little t (strength_parameters (Some z)) (spelling_of_datum x ++ zeros))
+      (sym (regroup_write (strength_text (Some z)) sentinel_text (spelling_of_datum x) zeros))
+      (strength_known (Some z) (spelling_of_datum x ++ zeros));
+  says =
+      rw is (record { body = ((refl, refl), refl, refl, datum_known x zeros valid); strength = (fits, refl) });
+}
+body_known d zeros (Dispose k) strength is valid fits =
+    end_known d zeros 1 k strength valid
+    (rw is (record { body = ((refl, refl), key_known k zeros valid); strength = end_strength 1 k strength fits }))
+body_known d zeros (Unregister k) strength is valid fits =
+    end_known d zeros 2 k strength valid
+    (rw is (record { body = ((refl, refl), key_known k zeros valid); strength = end_strength 2 k strength fits }))
+body_known d zeros (DisposeUnregister k) strength is valid fits =
+    end_known d zeros 3 k strength valid
+    (rw is (record { body = ((refl, refl), key_known k zeros valid); strength = end_strength 3 k strength fits }))
 
-standard : (c : DataContent) → has_flag (content_flags c) 16 ≡ false
-standard (Write d) = refl
-standard (Dispose k) = refl
-standard (Unregister k) = refl
-standard (DisposeUnregister k) = refl
+standard : (b : ChangeBody) (strength : Option ℤ) → has_flag (flags_with b strength) 16 ≡ false
+standard (Write d) None = refl
+standard (Write d) (Some z) = refl
+standard (Dispose k) strength = refl
+standard (Unregister k) strength = refl
+standard (DisposeUnregister k) strength = refl
 
 -- ---- each submessage
 
@@ -182,10 +233,11 @@ spelled_known (submessages.Data d) valid =
     padding (length (data_head Little 0 16 d.reader_id d.writer_id d.writer_sn ++ text_of_content d.content)) in
     record {
       kind = refl;
-      flags_are = standard d.content;
+      flags_are = standard d.content.body d.content.strength;
       body_is =
           subst (λ (z : List ℕ). ReadsData (content_flags d.content) z d)
-          (sym (append_assoc head (text_of_content d.content) zeros)) (content_known d zeros d.content refl valid.1);
+          (sym (append_assoc head (text_of_content d.content) zeros))
+          (body_known d zeros d.content.body d.content.strength refl valid.1.body valid.1.strength);
       valid = valid.0;
     }
 spelled_known (submessages.AckNack a) valid =

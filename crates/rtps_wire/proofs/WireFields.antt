@@ -15,10 +15,14 @@ use Rattle.dds_base.proofs.FieldLaws.{AreOctets, Takes, Takes-then, IsField, gua
 use Rattle.rtps_wire.specs.FieldAt.{entity_id_at, prefix_at, sn_at, count_at}
 use Rattle.rtps_wire.specs.Fields.{sn_text, count_text}
 
--- a length of a submessage, or of a parameter, takes two octets
+-- a length of a submessage, or of a parameter, takes two octets, and a strength four
 pub len_16 : (order : Endianness) (n : ℕ) → length (number order w16 n) ≡ 2
 len_16 Big n = refl
 len_16 Little n = refl
+
+pub len_32 : (order : Endianness) (n : ℕ) → length (number order w32 n) ≡ 4
+len_32 Big n = refl
+len_32 Little n = refl
 
 pub field_entity_id : IsField (λ (e : EntityId). e.0) (λ e. length e.0 ≡ 4) entity_id_at
 unfolding entity_id_at

@@ -1,4 +1,4 @@
--- DATA: what a writer says of an instance (RTPS 2.5, 9.4.5: Data; 9.6: key hash and status info).
+-- DATA: what a writer says of an instance (RTPS 2.5, 9.4.5: Data; 9.6: strength, key hash and status info).
 --
 -- 0...............8...............16..............24.............31
 -- |          extraFlags           |       octetsToInlineQos       |
@@ -8,20 +8,22 @@
 -- |    octets that are skipped: octetsToInlineQos less 16         |
 -- |         parameters up to the sentinel, with flag Q            |
 -- |      a datum with flag D, or a key form with flag K           |
-use Rattle.std.specs.Prelude.{◌≡◌, ℕ, ◌+◌, ◌≤◌, ◌<◌, ◌^◌, Bool, true, false, List, [], ◌∷◌, ◌++◌, length, Some, MatchBool}
-use Rattle.std.specs.Int.{w16}
+use Rattle.std.specs.Prelude.{◌≡◌, ℕ, ◌+◌, ◌≤◌, ◌<◌, ◌^◌, Bool, true, false, List, [], ◌∷◌, ◌++◌, length, Option, Some, None, MatchBool, IfSome, FitsSigned, ℤ}
+use Rattle.std.specs.Int.{w16, w32}
 use Rattle.dds_base.specs.declared.endianness.Endianness.{Endianness}
 use Rattle.dds_base.specs.declared.endianness.Endianness.TheVariants.{Little}
 use Rattle.dds_base.specs.declared.guid.EntityId.{EntityId}
 use Rattle.dds_base.specs.declared.key.Key.{Key}
 use Rattle.dds_base.specs.Fields.{number}
 use Rattle.dds_base.specs.DatumText.{IsDatum, ReadsDatum, ReadsKey, spelling_of_datum, spelling_of_key}
+use Rattle.dds_base.specs.declared.datum.Datum.{Datum}
+use Rattle.rtps_wire.specs.declared.data.ChangeBody.{ChangeBody}
+use Rattle.rtps_wire.specs.declared.data.ChangeBody.TheVariants.{Write, Dispose, Unregister, DisposeUnregister}
 use Rattle.rtps_wire.specs.declared.data.Data.{Data}
 use Rattle.rtps_wire.specs.declared.data.DataContent.{DataContent}
-use Rattle.rtps_wire.specs.declared.data.DataContent.TheVariants.{Write, Dispose, Unregister, DisposeUnregister}
-use Rattle.rtps_wire.specs.Fields.{has_flag, order_of, sn_text, IsEntityId}
+use Rattle.rtps_wire.specs.Fields.{has_flag, order_of, sn_text, count_text, IsEntityId}
 use Rattle.rtps_wire.specs.Parameters.{Parameter, parameter_text, ReadsParameters, parameter_value, status_of}
-use Rattle.rtps_wire.specs.Names.{extra_flags, flag_data, flag_endianness, flag_inline_qos, flag_key, least_octets_to_inline_qos, len_key, max_sn, pid_key_hash, pid_sentinel, pid_status_info, status_disposed, status_unregistered}
+use Rattle.rtps_wire.specs.Names.{extra_flags, flag_data, flag_endianness, flag_inline_qos, flag_key, least_octets_to_inline_qos, len_key, max_sn, pid_key_hash, pid_ownership_strength, pid_sentinel, pid_status_info, status_disposed, status_unregistered}
 
 -- extraFlags, octetsToInlineQos, readerId, writerId, writerSN
 abbrev pub data_head : Endianness → ℕ → ℕ → EntityId → EntityId → ℕ → List ℕ
@@ -40,17 +42,28 @@ ShowsKey true false ps payload k = (value : List ℕ) × ReadsDatum payload (rec
 ShowsKey false true ps payload k = ReadsKey payload k
 ShowsKey false false ps payload k = parameter_value pid_key_hash ps ≡ Some k.0
 
--- What is said, by the flags D and K, the parameters and the payload.
-abbrev pub SaysContent : ℕ → List Parameter → List ℕ → DataContent → Type 0
-SaysContent flags ps payload (Write d) =
+-- What the change does to its instance, by the flags D and K, the parameters and the payload.
+abbrev pub SaysBody : ℕ → List Parameter → List ℕ → ChangeBody → Type 0
+SaysBody flags ps payload (Write d) =
     HasStatus ps false false × (has_flag flags flag_data ≡ true) × (has_flag flags flag_key ≡ false)
     × ReadsDatum payload d
-SaysContent flags ps payload (Dispose k) =
+SaysBody flags ps payload (Dispose k) =
     HasStatus ps true false × ShowsKey (has_flag flags flag_data) (has_flag flags flag_key) ps payload k
-SaysContent flags ps payload (Unregister k) =
+SaysBody flags ps payload (Unregister k) =
     HasStatus ps false true × ShowsKey (has_flag flags flag_data) (has_flag flags flag_key) ps payload k
-SaysContent flags ps payload (DisposeUnregister k) =
+SaysBody flags ps payload (DisposeUnregister k) =
     HasStatus ps true true × ShowsKey (has_flag flags flag_data) (has_flag flags flag_key) ps payload k
+
+-- The strength is what its parameter says, none where there is no such parameter.
+abbrev pub HasStrength : Endianness → List Parameter → Option ℤ → Type 0
+HasStrength order ps None = parameter_value pid_ownership_strength ps ≡ None
+HasStrength order ps (Some z) =
+    FitsSigned w32 z × (parameter_value pid_ownership_strength ps ≡ Some (count_text order z))
+
+-- What is said: of the instance, and of the writer.
+pub record SaysContent (flags : ℕ) (ps : List Parameter) (payload : List ℕ) (c : DataContent) : Type 0 where
+  pub body : SaysBody flags ps payload c.body
+  pub strength : HasStrength (order_of flags) ps c.strength
 
 -- Octets may stand between the number and what follows: octetsToInlineQos, counted from its own end, says how many.
 -- Parameters follow where flag Q is set, and then the payload.
@@ -77,34 +90,67 @@ pub record IsData (d : Data) : Type 0 where
   pub first : 1 ≤ d.writer_sn
   pub small : d.writer_sn ≤ max_sn
 
+-- the body of a change that has a written form
+abbrev pub IsBody : ChangeBody → Type 0
+IsBody (Write d) = IsDatum d
+IsBody (Dispose k) = length k.0 ≡ len_key
+IsBody (Unregister k) = length k.0 ≡ len_key
+IsBody (DisposeUnregister k) = length k.0 ≡ len_key
+
+-- A strength has 32 bits with a sign.
+abbrev pub IsStrength : Option ℤ → Type 0
+IsStrength strength = IfSome strength (λ z. FitsSigned w32 z)
+
 -- what has a written form
-abbrev pub IsContent : DataContent → Type 0
-IsContent (Write d) = IsDatum d
-IsContent (Dispose k) = length k.0 ≡ len_key
-IsContent (Unregister k) = length k.0 ≡ len_key
-IsContent (DisposeUnregister k) = length k.0 ≡ len_key
+pub record IsContent (c : DataContent) : Type 0 where
+  pub body : IsBody c.body
+  pub strength : IsStrength c.strength
 
 -- ---- as written
 
--- E and D for a write, E, Q and K for the others
-abbrev pub content_flags : DataContent → ℕ
-content_flags (Write d) = flag_endianness + flag_data
-content_flags _ = flag_endianness + flag_inline_qos + flag_key
+-- E and D for a write, with Q where there is a strength; E, Q and K for the others
+abbrev pub flags_with : ChangeBody → Option ℤ → ℕ
+flags_with (Write d) None = flag_endianness + flag_data
+flags_with (Write d) (Some z) = flag_endianness + flag_inline_qos + flag_data
+flags_with body strength = flag_endianness + flag_inline_qos + flag_key
 
--- key hash, status info, sentinel, key form
-abbrev pub text_of_end : ℕ → Key → List ℕ
-text_of_end status k =
+-- the flags of a content
+abbrev pub content_flags : DataContent → ℕ
+content_flags c = flags_with c.body c.strength
+
+-- the parameter of a strength, where there is one
+abbrev pub strength_text : Option ℤ → List ℕ
+strength_text None = []
+strength_text (Some z) = parameter_text Little (record { id = pid_ownership_strength; value = count_text Little z })
+
+-- the end of parameters
+abbrev pub sentinel_text : List ℕ
+sentinel_text = parameter_text Little (record { id = pid_sentinel; value = [] })
+
+-- a datum, after strength and sentinel where there is a strength
+abbrev pub text_of_write : Datum → Option ℤ → List ℕ
+text_of_write d None = spelling_of_datum d
+text_of_write d (Some z) = strength_text (Some z) ++ (sentinel_text ++ spelling_of_datum d)
+
+-- key hash, status info, strength if there is one, sentinel, key form
+abbrev pub text_of_end : ℕ → Key → Option ℤ → List ℕ
+text_of_end status k strength =
     parameter_text Little (record { id = pid_key_hash; value = k.0 })
     ++ parameter_text Little (record { id = pid_status_info; value = 0 ∷ 0 ∷ 0 ∷ status ∷ [] })
-    ++ parameter_text Little (record { id = pid_sentinel; value = [] })
+    ++ strength_text strength
+    ++ sentinel_text
     ++ spelling_of_key k
 
--- what follows the head of a DATA: the datum of a write, or the parameters and the key form of the others
+-- what follows the head of a DATA, by what the change does and the strength
+abbrev pub text_with : ChangeBody → Option ℤ → List ℕ
+text_with (Write d) strength = text_of_write d strength
+text_with (Dispose k) strength = text_of_end status_disposed k strength
+text_with (Unregister k) strength = text_of_end status_unregistered k strength
+text_with (DisposeUnregister k) strength = text_of_end (status_disposed + status_unregistered) k strength
+
+-- what follows the head of a DATA
 abbrev pub text_of_content : DataContent → List ℕ
-text_of_content (Write d) = spelling_of_datum d
-text_of_content (Dispose k) = text_of_end status_disposed k
-text_of_content (Unregister k) = text_of_end status_unregistered k
-text_of_content (DisposeUnregister k) = text_of_end (status_disposed + status_unregistered) k
+text_of_content c = text_with c.body c.strength
 
 -- the body as written
 abbrev pub text_of_data : Data → List ℕ

@@ -87,6 +87,10 @@ flag_non_standard = 0x10
 abbrev pub pid_sentinel : ℕ
 pid_sentinel = 0x0001
 
+-- the strength of the writer, in 4 octets
+abbrev pub pid_ownership_strength : ℕ
+pid_ownership_strength = 0x0006
+
 -- the key, in 16 octets
 abbrev pub pid_key_hash : ℕ
 pid_key_hash = 0x0070
@@ -120,6 +124,10 @@ len_key = 16
 -- the value of a status info
 abbrev pub len_status_info : ℕ
 len_status_info = 4
+
+-- the value of a strength
+abbrev pub len_ownership_strength : ℕ
+len_ownership_strength = 4
 
 -- parameters have lengths that are multiples of this, and bodies as they are written
 abbrev pub len_aligned : ℕ

@@ -1,4 +1,4 @@
--- The inline parameters of a DATA (RTPS 2.5, 9.4.2: ParameterList; 9.6: key hash and status info).
+-- The inline parameters of a DATA (RTPS 2.5, 9.4.2: ParameterList; 9.6: strength, key hash and status info).
 --
 -- 0...............8...............16..............24.............31
 -- |              id               |            length             |
@@ -9,7 +9,7 @@ use Rattle.std.specs.Prelude.{◌≡◌, ◌≢◌, ℕ, ◌<◌, ◌%◌, ◌^�
 use Rattle.std.specs.Int.{w16}
 use Rattle.dds_base.specs.declared.endianness.Endianness.{Endianness}
 use Rattle.dds_base.specs.Fields.{number}
-use Rattle.rtps_wire.specs.Names.{len_aligned, len_key, len_status_info, pid_key_hash, pid_sentinel, pid_status_info}
+use Rattle.rtps_wire.specs.Names.{len_aligned, len_key, len_ownership_strength, len_status_info, pid_key_hash, pid_ownership_strength, pid_sentinel, pid_status_info}
 
 -- a parameter before the sentinel
 pub record Parameter : Type 0 where
@@ -20,7 +20,8 @@ pub record Parameter : Type 0 where
 abbrev pub parameter_text : Endianness → Parameter → List ℕ
 parameter_text order p = number order w16 p.id ++ number order w16 (length p.value) ++ p.value
 
--- A length is a multiple of 4. PID_KEY_HASH has the 16 octets of a key, PID_STATUS_INFO has 4.
+-- A length is a multiple of 4. PID_KEY_HASH has the 16 octets of a key, PID_STATUS_INFO and
+-- PID_OWNERSHIP_STRENGTH have 4.
 pub record IsParameter (p : Parameter) : Type 0 where
   pub small : p.id < 2 ^ 16
   pub no_sentinel : p.id ≢ pid_sentinel
@@ -28,6 +29,7 @@ pub record IsParameter (p : Parameter) : Type 0 where
   pub whole : length p.value % len_aligned ≡ 0
   pub key_hash : p.id ≡ pid_key_hash → length p.value ≡ len_key
   pub status : p.id ≡ pid_status_info → length p.value ≡ len_status_info
+  pub strength : p.id ≡ pid_ownership_strength → length p.value ≡ len_ownership_strength
 
 -- The bytes begin with these parameters and the sentinel, whose length is not looked at; rest follows.
 abbrev pub ReadsParameters : Endianness → List ℕ → List Parameter → List ℕ → Type 0

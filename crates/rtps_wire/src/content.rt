@@ -5,22 +5,26 @@
 ghost use Rattle.std.specs.Prelude.{◌≡◌, [], IfOk};
 ghost use Rattle.rtps_wire.specs.Content.{content_of, change_in};
 
-use crate::data::DataContent;
+use crate::data::{ChangeBody, DataContent};
 use dds_base::{Change, ChangeKind, DatumRef, Moment, Octets};
 use std::alloc::{AllocError, Global};
 
 impl<'a> DataContent<'a> {
-    /// What a DATA says of a change: its kind and its key, and of a write the value, which the change lends. Takes no
-    /// memory.
+    /// What a DATA says of a change: its kind, its key, the strength of its writer, and of a write the value, which the
+    /// change lends. Takes no memory.
     pub fn of_change(change: &'a Change) -> DataContent<'a>
         ensures says { result ≡ content_of change.now }
     {
         let key = change.key;
-        match change.kind {
-            ChangeKind::Write => DataContent::Write(DatumRef::new(key, change.value.as_slice())),
-            ChangeKind::Dispose => DataContent::Dispose(key),
-            ChangeKind::Unregister => DataContent::Unregister(key),
-            ChangeKind::DisposeUnregister => DataContent::DisposeUnregister(key),
+        let body = match change.kind {
+            ChangeKind::Write => ChangeBody::Write(DatumRef::new(key, change.value.as_slice())),
+            ChangeKind::Dispose => ChangeBody::Dispose(key),
+            ChangeKind::Unregister => ChangeBody::Unregister(key),
+            ChangeKind::DisposeUnregister => ChangeBody::DisposeUnregister(key),
+        };
+        DataContent {
+            body,
+            strength: change.strength,
         }
     }
 
@@ -32,15 +36,15 @@ impl<'a> DataContent<'a> {
     pub fn to_change(&self, alloc: Global, source_timestamp: Moment) -> Result<Change, AllocError>
         ensures means { IfOk result (λ change. change ≡ change_in self.now source_timestamp) }
     {
-        let (kind, key, value) = match self {
-            DataContent::Write(datum) => (
+        let (kind, key, value) = match &self.body {
+            ChangeBody::Write(datum) => (
                 ChangeKind::Write,
                 datum.key(),
                 Octets::from_vec(Vec::from_slice(alloc, datum.value())?),
             ),
-            DataContent::Dispose(key) => (ChangeKind::Dispose, *key, no_octets(alloc)),
-            DataContent::Unregister(key) => (ChangeKind::Unregister, *key, no_octets(alloc)),
-            DataContent::DisposeUnregister(key) => {
+            ChangeBody::Dispose(key) => (ChangeKind::Dispose, *key, no_octets(alloc)),
+            ChangeBody::Unregister(key) => (ChangeKind::Unregister, *key, no_octets(alloc)),
+            ChangeBody::DisposeUnregister(key) => {
                 (ChangeKind::DisposeUnregister, *key, no_octets(alloc))
             }
         };
@@ -49,6 +53,7 @@ impl<'a> DataContent<'a> {
             key,
             value,
             source_timestamp,
+            strength: self.strength,
         })
     }
 }

@@ -2,19 +2,20 @@
 //!
 //! `specs/Data.antt` draws it.
 //!
-//! RTPS 2.5, 9.4.5 (Data) and 9.6 (status info).
+//! RTPS 2.5, 9.4.5 (Data) and 9.6 (strength, status info).
 
 ghost use Rattle.std.specs.Prelude.{◌≡◌, ◌≤◌, ◌++◌, length, OnOk, IfErr, IsTrue, ◌↔◌};
 ghost use Rattle.std.specs.Option.{option_map};
 ghost use Rattle.dds_base.specs.DatumText.{IsDatum};
-ghost use Rattle.rtps_wire.specs.Data.{IsData, IsContent, content_flags, text_of_end, text_of_content, text_of_data};
-ghost use Rattle.rtps_wire.specs.DataAt.{data_head_at, shown_key_at, ended_at, content_by, content_at, inline_at, data_at};
+ghost use Rattle.rtps_wire.specs.Data.{IsData, IsBody, IsContent, IsStrength, content_flags, strength_text, sentinel_text, text_of_write, text_of_end, text_of_content, text_of_data};
+ghost use Rattle.rtps_wire.specs.DataAt.{data_head_at, shown_key_at, ended_at, body_by, body_at, inline_at, data_at};
 
 use crate::field::{Ids, MAX_SN, has_flag, order_of, put_ids, put_u16, put_u64, take_ids, take_sn};
 use crate::names::{
     EXTRA_FLAGS, FLAG_DATA, FLAG_ENDIANNESS, FLAG_INLINE_QOS, FLAG_KEY, FLAG_NON_STANDARD,
-    LEAST_OCTETS_TO_INLINE_QOS, LEN_DATUM_HEAD, LEN_KEY_FORM, LEN_PARAMETERS, MAX_CONTENT,
-    PID_KEY_HASH, PID_SENTINEL, PID_STATUS_INFO, STATUS_DISPOSED, STATUS_UNREGISTERED,
+    LEAST_OCTETS_TO_INLINE_QOS, LEN_DATUM_HEAD, LEN_KEY_FORM, LEN_PARAMETER_HEAD, LEN_PARAMETERS,
+    LEN_STRENGTH, MAX_CONTENT, PID_KEY_HASH, PID_OWNERSHIP_STRENGTH, PID_SENTINEL, PID_STATUS_INFO,
+    STATUS_DISPOSED, STATUS_UNREGISTERED,
 };
 use crate::parameters::{Parameters, put_parameter, take_parameters};
 use crate::payload::{put_datum, put_key_form};
@@ -28,7 +29,7 @@ use dds_base::{
 ///
 /// RTPS 2.5, 8.2 (ChangeKind_t): a change that is no write carries the key alone.
 #[derive(Debug, Drop)]
-pub enum DataContent<'a> {
+pub enum ChangeBody<'a> {
     /// The instance has this value.
     Write(DatumRef<'a>),
     /// The instance exists no more.
@@ -37,6 +38,17 @@ pub enum DataContent<'a> {
     Unregister(Key),
     /// The instance exists no more, and the writer has nothing more to say of it.
     DisposeUnregister(Key),
+}
+
+/// What a DATA says of a change: all but its moment.
+#[derive(Debug, Drop)]
+pub struct DataContent<'a> {
+    /// What the change does, and to which instance.
+    pub body: ChangeBody<'a>,
+    /// The strength of its writer, as the parameter says; `None` where there is none.
+    ///
+    /// RTPS 2.5, 9.6 (PID_OWNERSHIP_STRENGTH); DDS 1.4, 2.2.3 (OWNERSHIP_STRENGTH).
+    pub strength: Option<i32>,
 }
 
 /// A change of a writer.
@@ -50,7 +62,7 @@ pub struct Data<'a> {
     pub writer_id: EntityId,
     /// From 1 to 2^62.
     pub writer_sn: Sn,
-    /// What the change says, and of which instance.
+    /// What it says of the change.
     pub content: DataContent<'a>,
 }
 
@@ -98,23 +110,23 @@ fn shown_key(has_datum: bool, has_key: bool, key_hash: Option<Key>, payload: &[u
 }
 
 #[tactic(auto, unfolding(crate::specs::DataAt::ended_at))]
-fn ended(disposed: bool, unregistered: bool, key: Key) -> DataContent<'static>
+fn ended(disposed: bool, unregistered: bool, key: Key) -> ChangeBody<'static>
     ensures { result ≡ ended_at disposed unregistered key }
 {
     if !disposed {
-        DataContent::Unregister(key)
+        ChangeBody::Unregister(key)
     } else if unregistered {
-        DataContent::DisposeUnregister(key)
+        ChangeBody::DisposeUnregister(key)
     } else {
-        DataContent::Dispose(key)
+        ChangeBody::Dispose(key)
     }
 }
 
 /// What is said, by the table of `docs/WIRE.md`, "What a DATA means". `docs/DECISIONS.md`, "Types", says why its flags
 /// are booleans.
-#[tactic(auto, unfolding(crate::specs::DataAt::content_by, crate::specs::DataAt::content_at))]
-fn content_of(flags: u8, found: Parameters, payload: &[u8]) -> Option<DataContent<'_>>
-    ensures { result ≡ content_at flags found payload.now }
+#[tactic(auto, unfolding(crate::specs::DataAt::body_by, crate::specs::DataAt::body_at))]
+fn body_of(flags: u8, found: Parameters, payload: &[u8]) -> Option<ChangeBody<'_>>
+    ensures { result ≡ body_at flags found payload.now }
 {
     let status = found.status.unwrap_or(0);
     let disposed = has_flag(status, STATUS_DISPOSED);
@@ -126,7 +138,7 @@ fn content_of(flags: u8, found: Parameters, payload: &[u8]) -> Option<DataConten
         return key.map(|key| ended(disposed, unregistered, key));
     }
     if has_datum && !has_key {
-        return decode_datum_ref(payload).map(DataContent::Write);
+        return decode_datum_ref(payload).map(ChangeBody::Write);
     }
     None
 }
@@ -157,7 +169,7 @@ pub fn data_of(flags: u8, body: &[u8]) -> Option<Data<'_>>
     let skipped = head.octets_to_inline_qos - LEAST_OCTETS_TO_INLINE_QOS;
     let (_, rest) = take_octets(rest, skipped as usize)?;
     let (found, payload) = take_inline(flags, rest)?;
-    let content = content_of(flags, found, payload)?;
+    let body = body_of(flags, found, payload)?;
     if head.writer_sn < 1 {
         return None;
     }
@@ -165,7 +177,10 @@ pub fn data_of(flags: u8, body: &[u8]) -> Option<Data<'_>>
         reader_id: head.ids.reader,
         writer_id: head.ids.writer,
         writer_sn: Sn::new(head.writer_sn),
-        content,
+        content: DataContent {
+            body,
+            strength: found.strength,
+        },
     })
 }
 
@@ -173,20 +188,58 @@ pub fn data_of(flags: u8, body: &[u8]) -> Option<Data<'_>>
 pub fn content_flags(content: &DataContent) -> u8
     ensures { result ≡ content_flags content.now }
 {
-    match content {
-        DataContent::Write(_) => FLAG_ENDIANNESS + FLAG_DATA,
+    match &content.body {
+        ChangeBody::Write(_) if content.strength.is_none() => FLAG_ENDIANNESS + FLAG_DATA,
+        ChangeBody::Write(_) => FLAG_ENDIANNESS + FLAG_INLINE_QOS + FLAG_DATA,
         _ => FLAG_ENDIANNESS + FLAG_INLINE_QOS + FLAG_KEY,
     }
 }
 
+/// Appends the parameter of a strength, where there is one.
+fn put_strength(out: &mut Vec<u8>, strength: Option<i32>) -> Result<(), Code>
+    ensures ok { OnOk result (out.new.items ≡ out.old.items ++ strength_text strength) }
+    ensures memory { IfErr result (λ e. e ≡ Code.Memory) }
+{
+    match strength {
+        Some(strength) => {
+            let octets = strength.cast_unsigned().to_le_bytes();
+            put_parameter(out, PID_OWNERSHIP_STRENGTH, &octets)
+        }
+        None => Ok(()),
+    }
+}
+
+/// Appends the last parameters: a strength, where there is one, and the sentinel.
+fn put_last(out: &mut Vec<u8>, strength: Option<i32>) -> Result<(), Code>
+    ensures ok { OnOk result
+        (out.new.items ≡ out.old.items ++ (strength_text strength ++ sentinel_text)) }
+    ensures memory { IfErr result (λ e. e ≡ Code.Memory) }
+{
+    put_strength(out, strength)?;
+    put_parameter(out, PID_SENTINEL, &[])
+}
+
+/// Appends a write: where there is a strength, that and the sentinel, and the datum.
+fn put_write(out: &mut Vec<u8>, datum: &DatumRef, strength: Option<i32>) -> Result<(), Code>
+    requires { IsDatum datum.now }
+    ensures ok { OnOk result (out.new.items ≡ out.old.items ++ text_of_write datum.now strength) }
+    ensures memory { IfErr result (λ e. e ≡ Code.Memory) }
+{
+    if strength.is_some() {
+        put_last(out, strength)?;
+    }
+    put_datum(out, datum)
+}
+
 /// Appends the parameters and the key form of a change that is no write.
-fn put_end(out: &mut Vec<u8>, status: u8, key: &Key) -> Result<(), Code>
-    ensures ok { OnOk result (out.new.items ≡ out.old.items ++ text_of_end status key.now) }
+fn put_end(out: &mut Vec<u8>, status: u8, key: &Key, strength: Option<i32>) -> Result<(), Code>
+    ensures ok { OnOk result
+        (out.new.items ≡ out.old.items ++ text_of_end status key.now strength) }
     ensures memory { IfErr result (λ e. e ≡ Code.Memory) }
 {
     put_parameter(out, PID_KEY_HASH, key.as_slice())?;
     put_parameter(out, PID_STATUS_INFO, &[0, 0, 0, status])?;
-    put_parameter(out, PID_SENTINEL, &[])?;
+    put_last(out, strength)?;
     put_key_form(out, key)
 }
 
@@ -195,12 +248,13 @@ fn put_content(out: &mut Vec<u8>, content: &DataContent) -> Result<(), Code>
     ensures ok { OnOk result (out.new.items ≡ out.old.items ++ text_of_content content.now) }
     ensures memory { IfErr result (λ e. e ≡ Code.Memory) }
 {
-    match content {
-        DataContent::Write(datum) => put_datum(out, datum),
-        DataContent::Dispose(key) => put_end(out, STATUS_DISPOSED, key),
-        DataContent::Unregister(key) => put_end(out, STATUS_UNREGISTERED, key),
-        DataContent::DisposeUnregister(key) => {
-            put_end(out, STATUS_DISPOSED + STATUS_UNREGISTERED, key)
+    let strength = content.strength;
+    match &content.body {
+        ChangeBody::Write(datum) => put_write(out, datum, strength),
+        ChangeBody::Dispose(key) => put_end(out, STATUS_DISPOSED, key, strength),
+        ChangeBody::Unregister(key) => put_end(out, STATUS_UNREGISTERED, key, strength),
+        ChangeBody::DisposeUnregister(key) => {
+            put_end(out, STATUS_DISPOSED + STATUS_UNREGISTERED, key, strength)
         }
     }
 }
@@ -224,9 +278,13 @@ pub fn content_len(content: &DataContent) -> usize
     ensures len { result ≡ length (text_of_content content.now) }
     ensures small { result ≤ MAX_CONTENT }
 {
-    match content {
-        DataContent::Write(datum) => LEN_DATUM_HEAD + datum.value().len(),
-        _ => LEN_PARAMETERS + LEN_KEY_FORM,
+    match (&content.body, content.strength) {
+        (ChangeBody::Write(datum), None) => LEN_DATUM_HEAD + datum.value().len(),
+        (ChangeBody::Write(datum), Some(_)) => {
+            LEN_STRENGTH + LEN_PARAMETER_HEAD + LEN_DATUM_HEAD + datum.value().len()
+        }
+        (_, None) => LEN_PARAMETERS + LEN_KEY_FORM,
+        (_, Some(_)) => LEN_PARAMETERS + LEN_STRENGTH + LEN_KEY_FORM,
     }
 }
 
@@ -240,20 +298,41 @@ fn is_datum(d: &DatumRef) -> bool
     d.value().len() <= MAX_VALUE
 }
 
-/// Whether a content has a written form.
-pub fn is_content(content: &DataContent) -> bool
-    ensures { IsTrue result ↔ IsContent content.now }
+/// Whether the body of a change has a written form.
+fn is_body(body: &ChangeBody) -> bool
+    ensures { IsTrue result ↔ IsBody body.now }
 {
-    match content {
-        DataContent::Write(datum) => is_datum(datum),
-        DataContent::Dispose(key)
-        | DataContent::Unregister(key)
-        | DataContent::DisposeUnregister(key) => {
+    match body {
+        ChangeBody::Write(datum) => is_datum(datum),
+        ChangeBody::Dispose(key)
+        | ChangeBody::Unregister(key)
+        | ChangeBody::DisposeUnregister(key) => {
             // This shows the prover how many octets there are.
             let _octets = key.as_slice();
             true
         }
     }
+}
+
+/// Whether a strength has a written form.
+fn is_strength(strength: Option<i32>) -> bool
+    ensures { IsTrue result ↔ IsStrength strength }
+{
+    match strength {
+        None => true,
+        Some(strength) => {
+            // This shows the prover the range of the strength.
+            let _strength = strength;
+            true
+        }
+    }
+}
+
+/// Whether a content has a written form.
+pub fn is_content(content: &DataContent) -> bool
+    ensures { IsTrue result ↔ IsContent content.now }
+{
+    is_body(&content.body) && is_strength(content.strength)
 }
 
 /// Whether it has a valid form, its content aside.

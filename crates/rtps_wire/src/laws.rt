@@ -42,13 +42,13 @@ pub fn limits_are_of_the_grammar()
     ensures heartbeat { (h : Heartbeat) → IsHeartbeat h → h.last_sn ≤ MAX_SN }
 {}
 
-/// At most 61 submessages that can be written one by one can be written together: each takes at most 1,072 octets.
+/// At most 60 submessages that can be written one by one can be written together: each takes at most 1,084 octets.
 pub fn few_are_writable()
-    // A submessage takes at most 1,072 octets.
-    ensures each { (s : Submessage) → IsSpellable s → length (spelling_of_submessage s) ≤ 1072 }
-    // At most 61 of those that can be written can be written together.
+    // A submessage takes at most 1,084 octets.
+    ensures each { (s : Submessage) → IsSpellable s → length (spelling_of_submessage s) ≤ 1084 }
+    // At most 60 of those that can be written can be written together.
     ensures few { (m : Message) → length m.prefix.0 ≡ 12 → AllByRecursion IsSpellable m.submessages
-        → length m.submessages ≤ 61 → IsWritable m }
+        → length m.submessages ≤ 60 → IsWritable m }
 {}
 
 /// What a DATA says of a change means that change, and what a DATA says is what it says of the change that it means.

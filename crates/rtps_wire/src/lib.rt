@@ -11,7 +11,8 @@
 //! ```rust
 //! use dds_base::{DatumRef, EntityId, GuidPrefix, Key, Sn};
 //! use rtps_wire::{
-//!     Data, DataContent, Message, Submessage, Submessages, is_writable, read_message, write_message,
+//!     ChangeBody, Data, DataContent, Message, Submessage, Submessages, is_writable, read_message,
+//!     write_message,
 //! };
 //!
 //! let value = [0x61, 0x62];
@@ -19,7 +20,10 @@
 //!     reader_id: EntityId::UNKNOWN,
 //!     writer_id: EntityId::writer([0, 0, 1]),
 //!     writer_sn: Sn::new(1),
-//!     content: DataContent::Write(DatumRef::new(Key([7; 16]), &value)),
+//!     content: DataContent {
+//!         body: ChangeBody::Write(DatumRef::new(Key([7; 16]), &value)),
+//!         strength: None,
+//!     },
 //! };
 //! let message = Message {
 //!     prefix: GuidPrefix([1; 12]),
@@ -54,7 +58,7 @@ mod submessage;
 mod write;
 
 pub use acknack::AckNack;
-pub use data::{Data, DataContent};
+pub use data::{ChangeBody, Data, DataContent};
 pub use field::MAX_SN;
 pub use gap::Gap;
 pub use header::MAX_MESSAGE;

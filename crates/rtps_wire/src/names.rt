@@ -72,6 +72,9 @@ pub const FLAG_NON_STANDARD: u8 = 0x10;
 /// Ends the parameters.
 pub const PID_SENTINEL: u16 = 0x0001;
 
+/// The strength of the writer, in 4 octets.
+pub const PID_OWNERSHIP_STRENGTH: u16 = 0x0006;
+
 /// The key, in 16 octets.
 pub const PID_KEY_HASH: u16 = 0x0070;
 
@@ -112,6 +115,9 @@ pub const LEN_KEY: usize = 16;
 
 /// The value of a status info.
 pub const LEN_STATUS_INFO: usize = 4;
+
+/// The value of a strength.
+pub const LEN_OWNERSHIP_STRENGTH: usize = 4;
 
 /// The id of a parameter and its length.
 pub const LEN_PARAMETER_HEAD: usize = 4;
@@ -160,13 +166,16 @@ pub const LEN_DATUM_HEAD: usize = LEN_KEY_FORM + 4;
 /// Key hash, status info and sentinel.
 pub const LEN_PARAMETERS: usize = 3 * LEN_PARAMETER_HEAD + LEN_KEY + LEN_STATUS_INFO;
 
+/// The parameter of a strength.
+pub const LEN_STRENGTH: usize = LEN_PARAMETER_HEAD + LEN_OWNERSHIP_STRENGTH;
+
 // ---- the longest that is written
 
 /// The longest set: of 256 bits.
 pub const MAX_SET: usize = LEN_SET_HEAD + 8 * LEN_WORD;
 
-/// The longest content of a DATA: a datum of the longest value.
-pub const MAX_CONTENT: usize = LEN_DATUM_HEAD + MAX_VALUE;
+/// The longest content of a DATA: a strength, the sentinel, and a datum of the longest value.
+pub const MAX_CONTENT: usize = LEN_STRENGTH + LEN_PARAMETER_HEAD + LEN_DATUM_HEAD + MAX_VALUE;
 
 /// The longest fields of a submessage: those of a DATA.
 pub const MAX_FIELDS: usize = LEN_DATA_HEAD + MAX_CONTENT;

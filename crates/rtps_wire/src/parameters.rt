@@ -2,7 +2,7 @@
 //!
 //! `specs/Parameters.antt` draws them.
 //!
-//! RTPS 2.5, 9.4.2 (ParameterList) and 9.6 (key hash, status info).
+//! RTPS 2.5, 9.4.2 (ParameterList) and 9.6 (strength, key hash, status info).
 
 ghost use Rattle.std.specs.Prelude.{◌≡◌, ◌<◌, ◌^◌, ◌++◌, length, IfSome, OnOk, IfErr};
 ghost use Rattle.std.specs.Option.{option_map};
@@ -10,9 +10,10 @@ ghost use Rattle.dds_base.specs.declared.endianness.Endianness.TheVariants.{Litt
 ghost use Rattle.rtps_wire.specs.Parameters.{parameter_text};
 ghost use Rattle.rtps_wire.specs.ParametersAt.{parameter_at, noted_at, parameters_at};
 
-use crate::field::put_u16;
+use crate::field::{put_u16, take_count};
 use crate::names::{
-    LEN_ALIGNED, LEN_KEY, LEN_STATUS_INFO, PID_KEY_HASH, PID_SENTINEL, PID_STATUS_INFO,
+    LEN_ALIGNED, LEN_KEY, LEN_OWNERSHIP_STRENGTH, LEN_STATUS_INFO, PID_KEY_HASH,
+    PID_OWNERSHIP_STRENGTH, PID_SENTINEL, PID_STATUS_INFO,
 };
 use dds_base::{Code, Endianness, Key, take_key, take_octets, take_u16};
 
@@ -22,6 +23,7 @@ pub struct Parameters {
     pub key_hash: Option<Key>,
     /// The last octet of the status info.
     pub status: Option<u8>,
+    pub strength: Option<i32>,
 }
 
 impl Parameters {
@@ -29,6 +31,7 @@ impl Parameters {
     pub const NONE: Parameters = Parameters {
         key_hash: None,
         status: None,
+        strength: None,
     };
 }
 
@@ -56,8 +59,8 @@ fn take_parameter(order: Endianness, bytes: &[u8]) -> Option<(Parameter<'_>, &[u
 
 /// What was found, with one more parameter: of a repeated one the first counts. `None` where it is not valid.
 #[tactic(auto, unfolding(crate::specs::ParametersAt::noted_at))]
-fn noted(found: Parameters, id: u16, value: &[u8]) -> Option<Parameters>
-    ensures { result ≡ noted_at found id value.now }
+fn noted(order: Endianness, found: Parameters, id: u16, value: &[u8]) -> Option<Parameters>
+    ensures { result ≡ noted_at order found id value.now }
 {
     if value.len() % LEN_ALIGNED != 0 {
         return None;
@@ -70,6 +73,7 @@ fn noted(found: Parameters, id: u16, value: &[u8]) -> Option<Parameters>
         return Some(Parameters {
             key_hash: found.key_hash.or(Some(key)),
             status: found.status,
+            strength: found.strength,
         });
     }
     if id == PID_STATUS_INFO {
@@ -79,6 +83,18 @@ fn noted(found: Parameters, id: u16, value: &[u8]) -> Option<Parameters>
         return Some(Parameters {
             key_hash: found.key_hash,
             status: found.status.or(Some(value[3])),
+            strength: found.strength,
+        });
+    }
+    if id == PID_OWNERSHIP_STRENGTH {
+        if value.len() != LEN_OWNERSHIP_STRENGTH {
+            return None;
+        }
+        let (strength, _) = take_count(order, value)?;
+        return Some(Parameters {
+            key_hash: found.key_hash,
+            status: found.status,
+            strength: found.strength.or(Some(strength)),
         });
     }
     Some(found)
@@ -95,7 +111,7 @@ pub fn take_parameters(order: Endianness, bytes: &[u8]) -> Option<(Parameters, &
         if parameter.id == PID_SENTINEL {
             return Some((found, rest));
         }
-        found = noted(found, parameter.id, parameter.value)?;
+        found = noted(order, found, parameter.id, parameter.value)?;
         left = rest;
     }
     None

@@ -37,6 +37,7 @@ acknack-stands kept s reader base count held counts given history put =
       counts = put ∙ ap (λ (cs : List (Option ℤ)). set cs reader (Some count)) given.counts;
       counts_used = given.counts_used;
       liveliness = given.liveliness;
+      strength = given.strength;
       matched = given.matched;
     }
 

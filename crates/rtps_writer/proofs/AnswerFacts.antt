@@ -306,6 +306,6 @@ acknack-from-1 s reader base count from =
     after_if s (applied s reader base count) (is_applied s reader base count) from
     (moved-from-1 s.acknowledged reader base from)
 
-pub opening-from-1 : (policy : HistoryQos) (most lease : Option ℕ) (matched : Bool) (readers : ℕ)
-    → AreFrom1 (opening policy most lease matched readers).acknowledged
-opening-from-1 policy most lease matched readers = All-replicate (λ n. 0 < n) readers 1 (omega arith)
+pub opening-from-1 : (policy : HistoryQos) (most lease : Option ℕ) (strength : Option ℤ) (matched : Bool)
+    (readers : ℕ) → AreFrom1 (opening policy most lease strength matched readers).acknowledged
+opening-from-1 policy most lease strength matched readers = All-replicate (λ n. 0 < n) readers 1 (omega arith)

@@ -1,11 +1,11 @@
 -- The parts of what a writer keeps, and what they stand for.
-use Rattle.std.proofs.Common.{◌≡◌, Bool, not, List, ◌∷◌, sym, ap, ◌∙◌, subst}
+use Rattle.std.proofs.Common.{◌≡◌, Bool, not, List, ◌∷◌, Option, Some, None, ℤ, refl, sym, ap, ◌∙◌, subst}
 use Rattle.std.specs.Prelude.{if◌then◌else◌}
 use Rattle.dds_base.specs.declared.change.Change.{Change}
 use Rattle.dds_base.specs.declared.key.Key.{Key}
 use Rattle.dds_base.specs.Happening.{same_key, is_unregister}
 use Rattle.dds_base.specs.Kept.{appended}
-use Rattle.dds_base.specs.Written.{Changed}
+use Rattle.dds_base.specs.Written.{Written, Changed, last_strength, strength_now}
 use Rattle.dds_history.specs.Standing.{Held, StandsFor as HistoryStandsFor}
 use Rattle.rtps_writer.specs.declared.liveliness.Liveliness.{Liveliness}
 use Rattle.rtps_writer.specs.LivelinessKept.{IsLiveliness}
@@ -20,6 +20,13 @@ stands_as a b s same given = subst (λ (k : Kept). StandsFor k s) same given
 pub history_at : (kept now : Kept) (s : WriterState) → kept ≡ now → StandsFor now s
     → HistoryStandsFor kept.history (history_of s)
 history_at kept now s same given = (stands_as now kept s (sym same) given).history
+
+-- an entry that sets no strength leaves it as it was
+pub other-strength : (configured : Option ℤ) (c : List Written) (entry : Written)
+    → ((z : ℤ) → last_strength z c ≡ last_strength z (entry ∷ c))
+    → strength_now configured c ≡ strength_now configured (entry ∷ c)
+other-strength None c entry same = refl
+other-strength (Some z) c entry same = ap (λ (x : ℤ). Some x) (same z)
 
 -- a writer with one more change
 pub changes : (kept now : Kept) (s : WriterState) → kept ≡ now → StandsFor now s
@@ -42,5 +49,6 @@ changes kept now s same given before keys held change reserved noted more live a
       counts = here.counts;
       counts_used = here.counts_used;
       liveliness = asserts here.liveliness;
+      strength = here.strength ∙ other-strength s.strength s.written (Changed change) (λ configured. refl);
       matched = here.matched;
     }

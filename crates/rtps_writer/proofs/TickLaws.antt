@@ -10,6 +10,7 @@ use Rattle.rtps_writer.specs.declared.liveliness.Liveliness.{Liveliness}
 use Rattle.rtps_writer.specs.Liveliness.{assert_refusal, asserted, heartbeat_asserted}
 use Rattle.rtps_writer.specs.LivelinessKept.{IsLiveliness}
 use Rattle.rtps_writer.specs.Standing.{Kept, StandsFor}
+use Rattle.rtps_writer.proofs.Parts.{other-strength}
 use Rattle.rtps_writer.specs.WriterState.{WriterState, counts_due, heartbeat_due, history_of, is_behind, last_of, ticked}
 
 length_if : (b : Bool) (xs : List Bool) → length (if b then xs ++ false ∷ [] else xs) ≡ length xs + cond b 1 0
@@ -33,6 +34,7 @@ stands-ticked kept live s now used given lives is = record {
   counts = given.counts;
   counts_used = is;
   liveliness = lives;
+  strength = given.strength ∙ other-strength s.strength s.written (Ticked now (is_behind s)) (λ configured. refl);
   matched = given.matched;
 }
 

@@ -1,9 +1,9 @@
 -- What a writer keeps, and the state that it stands for.
 --
--- RTPS 2.5, 8.4.7 (StatefulWriter, ReaderProxy); DDS 1.4, 2.2.3 (HISTORY, LIVELINESS).
+-- RTPS 2.5, 8.4.7 (StatefulWriter, ReaderProxy); DDS 1.4, 2.2.3 (HISTORY, LIVELINESS, OWNERSHIP_STRENGTH).
 use Rattle.std.specs.Prelude.{◌≡◌, ℕ, ◌-◌, ◌^◌, Bool, List, length, min, Option, ℤ}
 use Rattle.dds_base.specs.declared.key.Key.{Key}
-use Rattle.dds_base.specs.Written.{is_key_registered}
+use Rattle.dds_base.specs.Written.{is_key_registered, strength_now}
 use Rattle.dds_history.specs.Standing.{Held, StandsFor as HistoryStandsFor}
 use Rattle.rtps_writer.specs.declared.liveliness.Liveliness.{Liveliness}
 use Rattle.rtps_writer.specs.LivelinessKept.{IsLiveliness}
@@ -17,6 +17,7 @@ pub record Kept : Type 0 where
   pub counts : List (Option ℤ)
   pub counts_used : ℕ
   pub liveliness : Liveliness
+  pub strength : Option ℤ
   pub matched : Bool
 
 -- how many matched reliable readers there are
@@ -30,4 +31,5 @@ pub record StandsFor (kept : Kept) (s : WriterState) : Type 0 where
   pub counts : kept.counts ≡ s.counts
   pub counts_used : kept.counts_used ≡ min (counts_due s) (2 ^ 31 - 1)
   pub liveliness : IsLiveliness kept.liveliness s.lease s.written
+  pub strength : kept.strength ≡ strength_now s.strength s.written
   pub matched : kept.matched ≡ s.matched

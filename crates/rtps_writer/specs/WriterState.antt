@@ -6,26 +6,28 @@ use Rattle.dds_base.specs.Kept.{WriterHistory, first_kept, is_awaited}
 use Rattle.dds_base.specs.Written.{Written, Ticked, changes_of, counts_of}
 use Rattle.rtps_writer.specs.declared.heartbeat.HeartbeatDue.{HeartbeatDue}
 
--- a writer: its policy, limit and lease, whether some reader is matched, of either reliability, what happened there, the
--- newest first, and of each matched reliable reader the number below which it has acknowledged all, and the count of the
--- last ACKNACK that was applied
+-- a writer: its policy, limit and lease, the strength that it was configured with, none of a writer of shared ownership,
+-- whether some reader is matched, of either reliability, what happened there, the newest first, and of each matched
+-- reliable reader the number below which it has acknowledged all, and the count of the last ACKNACK that was applied
 pub record WriterState : Type 0 where
   pub policy : HistoryQos
   pub max_samples : Option ℕ
   pub lease : Option ℕ
+  pub strength : Option ℤ
   pub matched : Bool
   pub written : List Written
   pub acknowledged : List ℕ
   pub counts : List (Option ℤ)
 
--- a writer of this policy, limit and lease, with a matched reader or none, and with so many reliable ones, at which
--- nothing has happened
-abbrev pub opening : HistoryQos → Option ℕ → Option ℕ → Bool → ℕ → WriterState
-opening policy max_samples lease matched readers =
+-- a writer of this policy, limit, lease and strength, with a matched reader or none, and with so many reliable ones, at
+-- which nothing has happened
+abbrev pub opening : HistoryQos → Option ℕ → Option ℕ → Option ℤ → Bool → ℕ → WriterState
+opening policy max_samples lease strength matched readers =
     record {
       policy = policy;
       max_samples = max_samples;
       lease = lease;
+      strength = strength;
       matched = matched;
       written = [];
       acknowledged = replicate readers 1;

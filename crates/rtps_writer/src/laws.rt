@@ -37,9 +37,10 @@ pub fn answers_are_right()
 /// RTPS 2.5, 8.4.7 (ReaderProxy, acked_changes_set).
 pub fn acknowledgements_count_from_1()
     // At the opening each is 1.
-    ensures opening { (policy : HistoryQos) (max_samples lease : Option ℕ) (matched : Bool)
-        (readers : ℕ)
-        → All (λ n. 0 < n) (opening policy max_samples lease matched readers).acknowledged }
+    ensures opening { (policy : HistoryQos) (max_samples lease : Option ℕ)
+        (strength : Option ℤ) (matched : Bool) (readers : ℕ)
+        → All (λ n. 0 < n)
+        (opening policy max_samples lease strength matched readers).acknowledged }
     // No ACKNACK takes one below 1.
     ensures acknack { (s : WriterState) (reader base : ℕ) (count : ℤ)
         → All (λ n. 0 < n) s.acknowledged

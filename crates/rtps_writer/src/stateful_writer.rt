@@ -2,12 +2,12 @@
 //!
 //! RTPS 2.5, 8.4.7 (StatefulWriter, ReaderProxy).
 
-ghost use Rattle.std.specs.Prelude.{◌≡◌, ◌≤◌, ◌<◌, ◌+◌, ◌-◌, ◌^◌, pos, true, false, [], nat_lt, length, vec_capacity, None, Some, IfOk, IfErr, OnOk, OnErr};
+ghost use Rattle.std.specs.Prelude.{◌≡◌, ◌≢◌, ◌≤◌, ◌<◌, ◌+◌, ◌-◌, ◌^◌, pos, true, false, [], nat_lt, length, vec_capacity, None, Some, IfOk, IfErr, OnOk, OnErr};
 ghost use Rattle.std.specs.Option.{option_copied};
-ghost use Rattle.dds_base.specs.declared.code.Code.TheVariants.{Memory};
+ghost use Rattle.dds_base.specs.declared.code.Code.TheVariants.{Memory, PreconditionNotMet};
 ghost use Rattle.dds_base.specs.Kept.{WriterHistory, append_refusal, first_kept, kept_change};
 ghost use Rattle.dds_base.specs.Refusal.{Refuses};
-ghost use Rattle.dds_base.specs.Written.{Registered, Changed, LookedAt, is_key_registered, liveliness_lost_status};
+ghost use Rattle.dds_base.specs.Written.{Registered, Changed, LookedAt, StrengthSet, is_key_registered, liveliness_lost_status, strength_now};
 ghost use Rattle.dds_base.specs.Counts.{is_later};
 ghost use Rattle.dds_history.specs.Standing.{StandsFor as HistoryStandsFor};
 ghost use Rattle.rtps_sets.specs.NumberSet.{span};
@@ -55,6 +55,8 @@ pub struct StatefulWriter {
     /// How many HEARTBEAT counts were used.
     counts_used: u32,
     liveliness: Liveliness,
+    /// `None` of a writer of shared ownership.
+    strength: Option<i32>,
     /// Whether some reader is matched, of either reliability.
     matched: bool,
 }
@@ -72,6 +74,7 @@ impl Model for StatefulWriter {
       counts = w.counts.items;
       counts_used = w.counts_used;
       liveliness = w.liveliness;
+      strength = w.strength;
       matched = w.matched;
     } };
 
@@ -80,9 +83,9 @@ impl Model for StatefulWriter {
 
 impl StatefulWriter {
     /// A writer at which nothing has happened. `max_samples` is how many numbers it may keep, `None` any; `lease` is in
-    /// units of 2^-32 second, `None` never ends (DDS 1.4, 2.2.3, LIVELINESS); `matched` says whether some reader is
-    /// matched, of either reliability; `readers` is how many matched reliable readers it has, which have acknowledged
-    /// nothing.
+    /// units of 2^-32 second, `None` never ends (DDS 1.4, 2.2.3, LIVELINESS); `strength` is what its changes carry at
+    /// first, `None` of a writer of shared ownership (OWNERSHIP_STRENGTH); `matched` says whether some reader is matched,
+    /// of either reliability; `readers` is how many matched reliable readers it has, which have acknowledged nothing.
     ///
     /// A writer with best-effort readers alone keeps nothing and never answers `Timeout`, but uses counts for its
     /// assertions.
@@ -95,12 +98,14 @@ impl StatefulWriter {
         policy: HistoryQos,
         max_samples: Option<u32>,
         lease: Option<u64>,
+        strength: Option<i32>,
         matched: bool,
         readers: usize,
     ) -> Result<StatefulWriter, Code>
         // It stands for a writer at which nothing has happened.
         ensures ok { IfOk result
-            (λ writer. StandsFor writer (opening policy max_samples lease matched readers)) }
+            (λ writer. StandsFor writer
+            (opening policy max_samples lease strength matched readers)) }
         // It has this many readers.
         ensures readers { IfOk result (λ writer. reader_count writer ≡ readers) }
         // The only refusal is for want of memory.
@@ -115,6 +120,7 @@ impl StatefulWriter {
             counts,
             counts_used: 0,
             liveliness: Liveliness::new(lease),
+            strength,
             matched,
         })
     }
@@ -318,6 +324,46 @@ impl StatefulWriter {
             return Ok(None);
         }
         Ok(Some(self.next_heartbeat()))
+    }
+
+    /// The strength that its next change carries; `None` of a writer of shared ownership.
+    ///
+    /// DDS 1.4, 2.2.3 (OWNERSHIP_STRENGTH).
+    pub fn strength(&self) -> Option<i32>
+        // It is that of the definitions.
+        ensures strength { (s : WriterState) → StandsFor self.now s
+            → result ≡ strength_now s.strength s.written }
+    {
+        self.strength
+    }
+
+    /// Sets the strength that its changes carry from now on. Those that were made keep theirs. It asserts nothing, and
+    /// takes no memory.
+    ///
+    /// # Errors
+    ///
+    /// `PreconditionNotMet` of a writer of shared ownership, which is then as it was.
+    ///
+    /// DDS 1.4, 2.2.3 (OWNERSHIP_STRENGTH).
+    pub fn set_strength(&mut self, strength: i32) -> Result<(), Code>
+        // The strength is entered.
+        ensures ok { (s : WriterState) → StandsFor self.old s
+            → OnOk result (StandsFor self.new (entering s (StrengthSet strength))) }
+        // It is taken by a writer of exclusive ownership.
+        ensures accepted { (s : WriterState) → StandsFor self.old s → OnOk result (s.strength ≢ None) }
+        // It is refused by one of shared ownership.
+        ensures refused { (s : WriterState) → StandsFor self.old s
+            → IfErr result (λ code. (s.strength ≡ None) × (code ≡ PreconditionNotMet)) }
+        // The readers stay the same ones.
+        ensures readers { reader_count self.new ≡ reader_count self.old }
+        // A refusal leaves the writer as it was.
+        ensures err { OnErr result (self.new ≡ self.old) }
+    {
+        let Some(carried) = &mut self.strength else {
+            return Err(Code::PreconditionNotMet);
+        };
+        *carried = strength;
+        Ok(())
     }
 
     /// What LIVELINESS_LOST says of the writer. This does not look at it: the change is told again.

@@ -65,11 +65,13 @@ fn change_of(alloc: Global, name: &str, words: Words<'_>) -> Change {
         "dispose" => ChangeKind::Dispose,
         _ => ChangeKind::Unregister,
     };
+    let key = words.fourth.parse().unwrap_or(1);
     Change {
         kind,
-        key: Key([0, 0, 0, 0, 0, 0, 0, 0, 0, 0, 0, 0, 0, 0, 0, 1]),
+        key: Key([0, 0, 0, 0, 0, 0, 0, 0, 0, 0, 0, 0, 0, 0, 0, key]),
         value: Octets::from_vec(octets_of(alloc, words.second)),
         source_timestamp: Moment::new(0),
+        strength: words.third.parse().ok(),
     }
 }
 
@@ -232,6 +234,7 @@ fn numbered(alloc: Global, number: u16) -> Arrival
             key: Key([0, 0, 0, 0, 0, 0, 0, 0, 0, 0, 0, 0, 0, 0, high, low]),
             value: Octets::from_vec(Vec::new(alloc)),
             source_timestamp: Moment::new(0),
+            strength: None,
         },
         moment: Moment::new(0),
     }

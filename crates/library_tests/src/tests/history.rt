@@ -72,6 +72,7 @@ fn write_of(alloc: Global, words: Words<'_>) -> Change {
         key: Key([0, 0, 0, 0, 0, 0, 0, 0, 0, 0, 0, 0, 0, 0, 0, key]),
         value: Octets::from_vec(octets_of(alloc, words.second)),
         source_timestamp: Moment::new(0),
+        strength: None,
     }
 }
 

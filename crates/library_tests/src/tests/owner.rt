@@ -5,13 +5,14 @@ use dds_base::{
     Arrival, Change, ChangeKind, EntityId, Guid, GuidPrefix, Handle, HistoryQos, Key,
     MatchedWriter, Moment, Octets, OwnershipQos, ReaderQos, ReliabilityQos, Sequence, Sn,
 };
-use dds_owner::Owners;
+use dds_owner::{Owners, Strengths};
 use std::alloc::Global;
 
 /// `open` begins anew, with the strength of each matched writer, and after a dot the octet by which its GUID differs.
-/// `register`, `unregister` and `drop` have a writer: who owns then, 0 for nobody. `registered` has a writer, `anybody`
-/// nothing, `accepts` and `leaves` a writer and a kind: whether its change would be accepted, and whether anybody would
-/// be registered then.
+/// `register`, `unregister` and `drop` have a writer: who owns then, 0 for nobody. `other` registers one for another
+/// instance, and says who owns that. `strength` has a writer and the strength that a change of it said: who owns the
+/// one instance, and who the other. `registered` has a writer, `anybody` nothing, `accepts` and `leaves` a writer, a
+/// kind and perhaps a strength: whether its change would be accepted, and whether anybody would be registered then.
 const OWNERS: &str = "\
 # Nobody is registered before anything came, and nobody owns.
 open 5.2 9.3 5.1 5.1 => 0
@@ -66,12 +67,41 @@ unregister 3 => 0
 anybody => false
 accepts 1 dispose => true
 leaves 1 unregister => false
+
+# What a change said of strength makes its writer the owner of each instance for which it is registered.
+open 5.2 9.3 5.1 => 0
+register 1 => 1
+register 2 => 2
+other 1 => 1
+other 3 => 3
+strength 1 10 => 1 1
+
+# A change without a strength leaves it as it was.
+register 1 => 1
+register 2 => 1
+other 1 => 1
+
+# The newest strength counts, and of equals the smaller GUID owns still.
+strength 1 9 => 1 1
+strength 1 -1 => 2 3
+
+# A change is judged by its own strength, where it has one.
+accepts 1 write => false
+accepts 1 write 10 => true
+accepts 2 write => true
+accepts 2 write -2 => false
+
+# The strength of a handle that names no matched writer is nobody's.
+strength 4 99 => 2 3
+strength 0 99 => 2 3
 ";
 
-/// Owners of one instance, at a reader of EXCLUSIVE ownership.
+/// Owners of one instance and of another one, at a reader of EXCLUSIVE ownership.
 #[derive(Drop)]
 struct OwnedInstance {
     owners: Owners,
+    others: Owners,
+    strengths: Strengths,
     qos: ReaderQos,
 }
 
@@ -111,7 +141,7 @@ fn kind_of(word: &str) -> ChangeKind {
     }
 }
 
-fn change_by(alloc: Global, writer: Handle, kind: ChangeKind) -> Arrival {
+fn change_by(alloc: Global, writer: Handle, kind: ChangeKind, strength: Option<i32>) -> Arrival {
     Arrival {
         writer,
         number: Sn::new(1),
@@ -120,6 +150,7 @@ fn change_by(alloc: Global, writer: Handle, kind: ChangeKind) -> Arrival {
             key: Key([0; 16]),
             value: Octets::from_vec(Vec::new(alloc)),
             source_timestamp: Moment::new(0),
+            strength,
         },
         moment: Moment::new(0),
     }
@@ -128,16 +159,36 @@ fn change_by(alloc: Global, writer: Handle, kind: ChangeKind) -> Arrival {
 impl OwnedInstance {
     fn open(alloc: Global, operands: &str) -> Option<OwnedInstance> {
         let qos = qos_of(alloc, operands);
-        let owners = Owners::open(alloc, qos.writers.as_slice().len()).ok()?;
-        Some(OwnedInstance { owners, qos })
+        let writers = qos.writers.as_slice().len();
+        let owners = Owners::open(alloc, writers).ok()?;
+        let others = Owners::open(alloc, writers).ok()?;
+        let mut strengths = Strengths::new(alloc);
+        strengths.reserve(writers).ok()?;
+        Some(OwnedInstance {
+            owners,
+            others,
+            strengths,
+            qos,
+        })
     }
 
-    fn push_owner(&self, text: &mut String) {
-        let number = match self.owners.owner(&self.qos) {
+    fn push_owner_of(&self, text: &mut String, owners: &Owners) {
+        let number = match owners.owner(&self.qos, &self.strengths) {
             Some(writer) => writer.number(),
             None => 0,
         };
         let _ = write!(text, "{number}");
+    }
+
+    fn push_owner(&self, text: &mut String) {
+        self.push_owner_of(text, &self.owners);
+    }
+
+    fn set_strength(&mut self, text: &mut String, writer: Handle, strength: i32) {
+        self.strengths.set_strength(writer, strength);
+        self.push_owner(text);
+        let _ = text.push_str(" ");
+        self.push_owner_of(text, &self.others);
     }
 
     fn enter(&mut self, name: &str, writer: Handle) {
@@ -152,7 +203,10 @@ impl OwnedInstance {
         match name {
             "registered" => self.owners.is_registered(arrival.writer),
             "anybody" => self.owners.has_writers(),
-            "accepts" => self.owners.accepted(&self.qos, arrival).is_some(),
+            "accepts" => self
+                .owners
+                .accepted(&self.qos, &self.strengths, arrival)
+                .is_some(),
             _ => self.owners.would_have_writers(arrival),
         }
     }
@@ -173,8 +227,15 @@ impl Subject for OwnedInstance {
                 self.enter(name, writer);
                 self.push_owner(text);
             }
+            "other" => {
+                self.others.register(writer);
+                self.push_owner_of(text, &self.others);
+            }
+            "strength" => self.set_strength(text, writer, words.second.parse().unwrap_or(0)),
             _ => {
-                let is_so = self.is_so(name, &change_by(alloc, writer, kind_of(words.second)));
+                let strength = words.third.parse().ok();
+                let change = change_by(alloc, writer, kind_of(words.second), strength);
+                let is_so = self.is_so(name, &change);
                 let _ = write!(text, "{is_so}");
             }
         }

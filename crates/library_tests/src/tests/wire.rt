@@ -14,7 +14,7 @@ use dds_base::{DatumRef, EntityId, GuidPrefix, Key, Sn};
 use headers::{CUT, HEADERS};
 use other_forms::OTHER_FORMS;
 use rtps_wire::{
-    AckNack, Data, DataContent, Gap, Heartbeat, Message, Read, Submessage, Submessages,
+    AckNack, ChangeBody, Data, DataContent, Gap, Heartbeat, Message, Read, Submessage, Submessages,
     is_writable, read_message, write_message,
 };
 use std::alloc::Global;
@@ -44,16 +44,23 @@ fn push_key(text: &mut String, kind: &str, key: &Key) {
     push_hex(text, key.as_slice());
 }
 
-fn push_content(text: &mut String, content: &DataContent) {
-    match content {
-        DataContent::Write(datum) => {
+fn push_body(text: &mut String, body: &ChangeBody) {
+    match body {
+        ChangeBody::Write(datum) => {
             push_key(text, " write ", &datum.key());
             let _ = text.push(' ');
             push_hex(text, datum.value());
         }
-        DataContent::Dispose(key) => push_key(text, " dispose ", key),
-        DataContent::Unregister(key) => push_key(text, " unregister ", key),
-        DataContent::DisposeUnregister(key) => push_key(text, " dispose and unregister ", key),
+        ChangeBody::Dispose(key) => push_key(text, " dispose ", key),
+        ChangeBody::Unregister(key) => push_key(text, " unregister ", key),
+        ChangeBody::DisposeUnregister(key) => push_key(text, " dispose and unregister ", key),
+    }
+}
+
+fn push_content(text: &mut String, content: &DataContent) {
+    push_body(text, &content.body);
+    if let Some(strength) = content.strength {
+        let _ = write!(text, " strength {strength}");
     }
 }
 
@@ -179,11 +186,23 @@ fn push_cuts(alloc: Global, text: &mut String, octets: &[u8]) {
     }
 }
 
-fn content_of<'a>(words: Words<'_>, value: &'a [u8]) -> DataContent<'a> {
+fn body_of<'a>(words: Words<'_>, value: &'a [u8]) -> ChangeBody<'a> {
     if words.first == "dispose" {
-        return DataContent::Dispose(ONE);
+        return ChangeBody::Dispose(ONE);
     }
-    DataContent::Write(DatumRef::new(ONE, value))
+    ChangeBody::Write(DatumRef::new(ONE, value))
+}
+
+fn content_of<'a>(words: Words<'_>, value: &'a [u8]) -> DataContent<'a> {
+    let strength = if words.first == "strong" {
+        Some(5)
+    } else {
+        None
+    };
+    DataContent {
+        body: body_of(words, value),
+        strength,
+    }
 }
 
 fn submessage_of<'a>(words: Words<'_>, value: &'a [u8]) -> Submessage<'a> {

@@ -6,11 +6,12 @@ use rtps_sets::SnSet;
 use rtps_writer::StatefulWriter;
 use std::alloc::Global;
 
-/// `open` begins anew, for two matched readers, with a depth or `all`, with the most that may be kept or `any`, and
-/// perhaps with a lease. `write`, `unregister` and `refusal` have the key and the value of a change, `registered` and
-/// `register` a key. `get` has a number: whether it is kept. `behind` and `acknowledged` have a reader. `tick` and
-/// `assert` may have a moment: the HEARTBEAT that is due. `lost` is LIVELINESS_LOST. `acknack` has a reader, the base
-/// and the count, and perhaps the number of a member and one of those after it.
+/// `open` begins anew, for two matched readers, with a depth or `all`, with the most that may be kept or `any`, perhaps
+/// with a lease or `endless`, and of exclusive ownership perhaps with a strength. `strength` is what its changes carry,
+/// `set_strength` has another one. `write`, `unregister` and `refusal` have the key and the value of a change,
+/// `registered` and `register` a key. `get` has a number: whether it is kept. `behind` and `acknowledged` have a reader.
+/// `tick` and `assert` may have a moment: the HEARTBEAT that is due. `lost` is LIVELINESS_LOST. `acknack` has a reader,
+/// the base and the count, and perhaps the number of a member and one of those after it.
 const WRITERS: &str = "\
 # A change is awaited by both readers, until each has acknowledged it.
 open all 2 => 0
@@ -75,6 +76,20 @@ lost => LivelinessLostStatus { total_count: 1, total_count_change: 0 }
 write 1 01 => Ok(Sn { number: 1 })
 tick 10 => Some(HeartbeatDue { first: Sn { number: 1 }, last: Sn { number: 1 }, count: 2 })
 lost => LivelinessLostStatus { total_count: 2, total_count_change: 1 }
+
+# A strength is set at a writer of exclusive ownership alone, and asserts nothing.
+open all any 10 => 0
+strength => None
+set_strength 5 => Err(PreconditionNotMet)
+strength => None
+open all any 10 -5 => 0
+strength => Some(-5)
+write 1 01 => Ok(Sn { number: 1 })
+set_strength 7 => Ok(())
+set_strength -2147483648 => Ok(())
+strength => Some(-2147483648)
+tick 10 => Some(HeartbeatDue { first: Sn { number: 1 }, last: Sn { number: 1 }, count: 1 })
+lost => LivelinessLostStatus { total_count: 1, total_count_change: 1 }
 ";
 
 fn open(alloc: Global, words: Words<'_>) -> Result<StatefulWriter, Code> {
@@ -87,6 +102,7 @@ fn open(alloc: Global, words: Words<'_>) -> Result<StatefulWriter, Code> {
         policy,
         words.second.parse().ok(),
         words.third.parse().ok(),
+        words.fourth.parse().ok(),
         true,
         2,
     )
@@ -103,6 +119,7 @@ fn change_of(alloc: Global, kind: ChangeKind, words: Words<'_>) -> Change {
         key: key_of(words.first),
         value: Octets::from_vec(octets_of(alloc, words.second)),
         source_timestamp: Moment::new(0),
+        strength: None,
     }
 }
 
@@ -128,6 +145,16 @@ fn push_tick(text: &mut String, writer: &mut StatefulWriter, now: Moment) {
 
 fn push_assert(text: &mut String, writer: &mut StatefulWriter, now: Moment) {
     let answer = writer.assert(now);
+    let _ = write!(text, "{answer:?}");
+}
+
+fn push_strength(text: &mut String, writer: &StatefulWriter) {
+    let strength = writer.strength();
+    let _ = write!(text, "{strength:?}");
+}
+
+fn push_set_strength(text: &mut String, writer: &mut StatefulWriter, strength: i32) {
+    let answer = writer.set_strength(strength);
     let _ = write!(text, "{answer:?}");
 }
 
@@ -202,6 +229,8 @@ impl Subject for StatefulWriter {
             "tick" => push_tick(text, self, Moment::new(number_of(words.first))),
             "assert" => push_assert(text, self, Moment::new(number_of(words.first))),
             "lost" => push_lost(text, self),
+            "strength" => push_strength(text, self),
+            "set_strength" => push_set_strength(text, self, words.first.parse().unwrap_or(0)),
             "acknack" => push_acknack(text, self, operands),
             _ => {}
         }
@@ -210,7 +239,7 @@ impl Subject for StatefulWriter {
 
 #[test]
 fn writers_send_what_is_asked_for(rt: HostRuntime) {
-    let opened = StatefulWriter::open(rt.alloc(), HistoryQos::KeepAll, None, None, true, 2);
+    let opened = StatefulWriter::open(rt.alloc(), HistoryQos::KeepAll, None, None, None, true, 2);
     assert!(rt; opened.is_ok(), "no memory");
     if let Ok(mut writer) = opened {
         expect_rows(&rt, rt.alloc(), &mut writer, WRITERS);

@@ -29,7 +29,8 @@ returns-clause-keys c =
 
 pub returns-clause-follows : goal.returns-clause-follows
 returns-clause-follows c =
-    λ h len lawful follows. follows-known c.args.qos.now h c.args.arrival.now c.args.tracks.now.items c.args.at
+    λ h len tells lawful follows. follows-known c.args.qos.now c.args.strengths.now h
+    c.args.arrival.now c.args.tracks.now.items c.args.at
     c.args.position c.index_mut.result.now c.change.new.self c.change.result len c.requires.place
     c.index_mut.ensures.value
     (record {
@@ -38,7 +39,7 @@ returns-clause-follows c =
       came =
           c.change.ensures.came;
     })
-    lawful follows
+    tells lawful follows
 
 pub returns-clause-alive : goal.returns-clause-alive
 returns-clause-alive c = alive-changed c.args.tracks.now.items c.args.at c.change.new.self

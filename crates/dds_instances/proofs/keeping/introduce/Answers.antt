@@ -12,14 +12,14 @@ use Rattle.dds_instances.proofs.MarkerLaws.{alive-added}
 use Rattle.dds_instances.proofs.keeping.introduce.Goals as goal
 
 pub returns-clause-follows : goal.returns-clause-follows
-returns-clause-follows c = λ h len blank lawful follows.
+returns-clause-follows c = λ h len blank tells lawful follows.
     let absent : list_any (same_key c.args.arrival.now.change.key) (map key_of c.args.tracks.now.items) ≡ false =
     ap (λ (ks : List Key). list_any (same_key c.args.arrival.now.change.key) ks) (sym c.requires.indexed)
     ∙ c.requires.absent in
-    let step : Changes c.args.qos.now c.args.arrival.now c.change.result c.args.position
+    let step : Changes c.args.qos.now c.args.strengths.now c.args.arrival.now c.change.result c.args.position
     (fresh c.args.arrival.now.change.key c.args.blank) c.change.new.self =
-    subst (λ (t : InstanceTrack). Changes c.args.qos.now c.args.arrival.now c.change.result c.args.position t
-    c.change.new.self) c.new-track.ensures
+    subst (λ (t : InstanceTrack). Changes c.args.qos.now c.args.strengths.now c.args.arrival.now c.change.result
+    c.args.position t c.change.new.self) c.new-track.ensures
     (record {
       advances = c.change.ensures.advances;
       accepted = c.change.ensures.accepted;
@@ -28,8 +28,8 @@ returns-clause-follows c = λ h len blank lawful follows.
     }) in
     subst (λ (ts : List InstanceTrack). Follows c.args.qos.now (Came c.args.arrival.now ∷ h) ts)
     (sym c.put_last.ensures.tracks)
-    (follows-new c.args.qos.now h c.args.arrival.now c.args.tracks.now.items c.args.position c.args.blank
-    c.change.new.self c.change.result len blank absent c.requires.kind step lawful follows)
+    (follows-new c.args.qos.now c.args.strengths.now h c.args.arrival.now c.args.tracks.now.items c.args.position
+    c.args.blank c.change.new.self c.change.result len blank absent c.requires.kind step tells lawful follows)
 
 pub returns-clause-alive : goal.returns-clause-alive
 returns-clause-alive c =

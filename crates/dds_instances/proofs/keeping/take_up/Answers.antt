@@ -10,14 +10,14 @@ use Rattle.dds_instances.proofs.StandingLaws.{follows-nothing}
 use Rattle.dds_instances.proofs.keeping.take_up.Goals as goal
 
 pub returns-then-is_write_or_dispose-clause-follows : goal.returns-then-is_write_or_dispose-clause-follows
-returns-then-is_write_or_dispose-clause-follows c = λ h len blanks lawful follows.
+returns-then-is_write_or_dispose-clause-follows c = λ h len blanks tells lawful follows.
     let B : Kept → Type 0 = IsBlank (length c.args.qos.now.writers) in
     let parts = All-pop B c.args.blanks.now.items c.pop.new.self.items c.pop.result c.pop.ensures.items blanks in
     let first : B c.unwrap-blank.result = subst (λ (r : Option Kept). IfSome r B) c.unwrap-blank.ensures parts.1 in
-    c.introduce.ensures.follows h len (λ i. first c.args.qos.now i refl) lawful follows
+    c.introduce.ensures.follows h len (λ i. first c.args.qos.now i refl) tells lawful follows
 
 pub returns-else-is_write_or_dispose-clause-follows : goal.returns-else-is_write_or_dispose-clause-follows
-returns-else-is_write_or_dispose-clause-follows c = λ h len blanks lawful follows.
+returns-else-is_write_or_dispose-clause-follows c = λ h len blanks tells lawful follows.
     let absent : list_any (same_key c.args.arrival.now.change.key) (map key_of c.args.tracks.now.items) ≡ false =
     ap (λ (ks : List Key). list_any (same_key c.args.arrival.now.change.key) ks) (sym c.requires.indexed)
     ∙ c.in-None.ensures in

@@ -41,6 +41,7 @@ calls = of_variants enum_of_calls _
     ⨾ more Decides-eqb (last keys)  -- Dispose
     ⨾ more Decides-eqb (last keys)  -- Unregister
     ⨾ last Decides-eqb  -- AssertLiveliness
+    ⨾ more Decides-eqb (last Decides-int_eq)  -- SetStrength
     ⨾ more Decides-eqb (last selections)  -- Read
     ⨾ more Decides-eqb (last selections)  -- Take
     ⨾ more Decides-eqb (last Decides-eqb)  -- GetKeyValue

@@ -1,8 +1,9 @@
-//! What happens at readers of two writers of one strength, and what they answer.
+//! What happens at readers of two writers that are configured with one strength, and what they answer.
 
-/// `open` begins anew, with the ownership and a depth or `all`. `write` (with a value in hex digits), `dispose`,
-/// `unregister` and `died` (with a moment) name the handle of the writer; all changes are of key 1. `read` and `take`
-/// have the most samples that they may give, or `all`, and whether only those that were not read (`unread`) or `any`.
+/// `open` begins anew, with the ownership and a depth or `all`. `write` (with a value in hex digits, and perhaps a
+/// strength, and a key other than 1), `dispose`, `unregister` and `died` (with a moment) name the handle of the writer;
+/// all changes but such are of key 1, and have no strength. `read` and `take` have the most samples that they may give,
+/// or `all`, and whether only those that were not read (`unread`) or `any`.
 ///
 /// A sample is its key, its value, and whether that is valid; the states of the sample, of the view and of the
 /// instance; the counts disposed_generation_count and no_writers_generation_count; the ranks sample_rank,
@@ -42,6 +43,20 @@ unregister 1 => Ok(())
 read all any => \
 (key 1 value [177] valid true, Read NotNew Alive, counts 0 0, ranks 1 0 0, moment 0, handles 1 2)\
 (key 1 value [161] valid true, Read NotNew Alive, counts 0 0, ranks 0 0 0, moment 0, handles 1 1)
+
+# The owner goes by the strength that each writer's changes said last, whichever instance they were of.
+open exclusive all => opened
+write 1 a1 => Ok(())
+write 2 b1 7 => Ok(())
+write 1 a2 => Ok(())
+write 1 a3 9 2 => Ok(())
+write 2 b2 => Ok(())
+write 1 a4 => Ok(())
+read all any => \
+(key 1 value [161] valid true, NotRead New Alive, counts 0 0, ranks 2 0 0, moment 0, handles 1 1)\
+(key 1 value [177] valid true, NotRead New Alive, counts 0 0, ranks 1 0 0, moment 0, handles 1 2)\
+(key 1 value [164] valid true, NotRead New Alive, counts 0 0, ranks 0 0 0, moment 0, handles 1 1)\
+(key 2 value [163] valid true, NotRead New Alive, counts 0 0, ranks 0 0 0, moment 0, handles 2 1)
 
 # A death leaves a sample without data.
 open shared 1 => opened

@@ -25,6 +25,18 @@ read 150b 4800 0000 1000 00000000 00000102 00000000 02000000 \
 read 150b 4800 0000 1000 00000000 00000102 00000000 02000000 \
 7000 1000 00000000000000000000000000000001 7100 0400 00000003 0100 0000 0001 0000 00000000000000000000000000000001 \
 => 96; DATA writer 00000102 reader 00000000 sn 2 dispose and unregister 00000000000000000000000000000001; written so
+# A write of a writer with strength 5: the flag Q, and PID_OWNERSHIP_STRENGTH (06) before the sentinel.
+read 1507 3c00 0000 1000 00000000 00000102 00000000 01000000 0600 0400 05000000 0100 0000 \
+0001 0000 00000000000000000000000000000001 01000000 a1 000000 \
+=> 84; DATA writer 00000102 reader 00000000 sn 1 write 00000000000000000000000000000001 a1 strength 5; written so
+# A strength is a number with a sign: -1.
+read 1507 3c00 0000 1000 00000000 00000102 00000000 01000000 0600 0400 ffffffff 0100 0000 \
+0001 0000 00000000000000000000000000000001 01000000 a1 000000 \
+=> 84; DATA writer 00000102 reader 00000000 sn 1 write 00000000000000000000000000000001 a1 strength -1; written so
+# A dispose of that writer: the strength stands after the status info.
+read 150b 5000 0000 1000 00000000 00000102 00000000 02000000 \
+7000 1000 00000000000000000000000000000001 7100 0400 00000001 0600 0400 05000000 0100 0000 0001 0000 00000000000000000000000000000001 \
+=> 104; DATA writer 00000102 reader 00000000 sn 2 dispose 00000000000000000000000000000001 strength 5; written so
 # A HEARTBEAT: readerId, writerId, firstSN, lastSN, count.
 read 0701 1c00 00000000 00000102 00000000 01000000 00000000 03000000 01000000 \
 => 52; HEARTBEAT writer 00000102 reader 00000000 first 1 last 3 count 1 final false liveliness false; written so
@@ -46,8 +58,8 @@ read 0101 0000 => 24; PAD; written so
 read 0903 0000 => 24; INFO_TS none; written so
 ";
 
-/// Messages that are made of one submessage so many times: its kind, its number and its value; and how many there are,
-/// and whether the message can be written.
+/// Messages that are made of one submessage so many times: its kind (`strong` is a write of a writer with a strength),
+/// its number and its value; and how many there are, and whether the message can be written.
 pub const WRITABLE: &str = "\
 # What is not known is never written.
 make other 1 - 1 => 1 false
@@ -60,4 +72,7 @@ make write 1 07x1025 1 => 1 false
 # A message has at most 65,535: 61 of the longest values take 65,412 with the header, 62 take 66,484.
 make write 1 07x1024 61 => 61 true
 make write 1 07x1024 62 => 62 false
+# With a strength 60 of them take 65,060, and 61 take 66,144.
+make strong 1 07x1024 60 => 60 true
+make strong 1 07x1024 61 => 61 false
 ";

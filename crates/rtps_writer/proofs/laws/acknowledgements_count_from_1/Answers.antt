@@ -2,7 +2,8 @@ use Rattle.rtps_writer.proofs.AnswerFacts.{acknack-from-1, opening-from-1}
 use Rattle.rtps_writer.proofs.laws.acknowledgements_count_from_1.Goals as goal
 
 pub returns-clause-opening : goal.returns-clause-opening
-returns-clause-opening c = λ policy most lease matched readers. opening-from-1 policy most lease matched readers
+returns-clause-opening c = λ policy most lease strength matched readers.
+    opening-from-1 policy most lease strength matched readers
 
 pub returns-clause-acknack : goal.returns-clause-acknack
 returns-clause-acknack c = λ s reader base count from. acknack-from-1 s reader base count from

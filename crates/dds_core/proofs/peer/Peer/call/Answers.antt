@@ -1,4 +1,11 @@
-use Rattle.std.proofs.Common.{refl}
+use mir.Val.{SFits}
+use Rattle.std.proofs.Common.{refl, rules, subst}
+use Rattle.std.specs.Prelude.{ℤ}
+use Rattle.std.specs.Int.{w32}
+use Rattle.std.proofs.lemmas.Int.{to_z-of_z}
+use Rattle.dds_machine.specs.declared.call.Call.TheVariants as call
+use Rattle.dds_protocol.specs.declared.event.Event.TheVariants as event
+use Rattle.dds_core.specs.Stepping.{Steps}
 use Rattle.dds_core.proofs.AnyTests.{called, plainly_called}
 use Rattle.dds_core.proofs.Twice.{plain_twin}
 use Rattle.dds_core.proofs.peer.Peer.call.Goals as goal
@@ -18,6 +25,14 @@ returns-in-Unregister-clause-step g c = plainly_called _ _ _ _ _ _ c.in-Unregist
 pub returns-in-AssertLiveliness-clause-step : goal.returns-in-AssertLiveliness-clause-step
 returns-in-AssertLiveliness-clause-step g c =
     plainly_called _ _ _ _ _ _ c.in-AssertLiveliness.is c.assert_liveliness.ensures.step refl
+
+pub returns-in-SetStrength-clause-step : goal.returns-in-SetStrength-clause-step
+returns-in-SetStrength-clause-step g c =
+    let fits : SFits w32 c.in-SetStrength.strength = search rules in
+    plainly_called _ _ _ _ _ _ c.in-SetStrength.is
+    (subst (λ (z : ℤ). Steps c.args.self.now (event.Call (call.SetStrength c.in-SetStrength.writer z))
+    c.set_strength.result c.set_strength.new.self) (to_z-of_z w32 c.in-SetStrength.strength fits)
+    c.set_strength.ensures.step) refl
 
 pub returns-in-Read-clause-step : goal.returns-in-Read-clause-step
 returns-in-Read-clause-step g c = plainly_called _ _ _ _ _ _ c.in-Read.is c.access.ensures.step refl
@@ -127,6 +142,9 @@ returns-in-Unregister-clause-twin g c = plain_twin c.args.twin.now c.unregister.
 
 pub returns-in-AssertLiveliness-clause-twin : goal.returns-in-AssertLiveliness-clause-twin
 returns-in-AssertLiveliness-clause-twin g c = plain_twin c.args.twin.now c.assert_liveliness.result.reply c.assert_liveliness.ensures.plain
+
+pub returns-in-SetStrength-clause-twin : goal.returns-in-SetStrength-clause-twin
+returns-in-SetStrength-clause-twin g c = plain_twin c.args.twin.now c.set_strength.result.reply c.set_strength.ensures.plain
 
 pub returns-in-GetKeyValue-clause-twin : goal.returns-in-GetKeyValue-clause-twin
 returns-in-GetKeyValue-clause-twin g c = plain_twin c.args.twin.now c.get_key_value.result.reply c.get_key_value.ensures.plain

@@ -19,8 +19,10 @@ returns c =
     let limit =
     c.limit_of-limit.ensures ∙ ap (λ (z : ℤ). limit_of z) (to_z-of_z w32 c.args.config.now.max_samples fits) in
     opens_writer c.args.peers.now c.args.config.now c.in_ok-destinations.destinations.items
-    c.in_ok-readers.readers.items c.limit_of-limit.result c.in-Ok.writer c.len-reliable.result counted
-    c.in_ok-destinations.ensures.names c.in_ok-readers.ensures.names limit
+    c.in_ok-readers.readers.items c.limit_of-limit.result c.carried_strength-strength.result c.in-Ok.writer
+    c.len-reliable.result counted c.in_ok-destinations.ensures.names c.in_ok-readers.ensures.names limit
+    c.carried_strength-strength.ensures.carried
     (subst (λ (n : ℕ). RtpsStandsFor c.in-Ok.writer
-    (opening c.args.config.now.history c.limit_of-limit.result c.args.config.now.lease (nat_lt 0 n)
+    (opening c.args.config.now.history c.limit_of-limit.result c.args.config.now.lease
+    c.carried_strength-strength.result (nat_lt 0 n)
     c.len-reliable.result)) told c.in-Ok.ensures.ok)

@@ -2,7 +2,7 @@ use Rattle.std.proofs.Common.{ap, ◌∙◌, Option}
 use Rattle.dds_instances.specs.Table.{Table}
 use Rattle.std.specs.Prelude.{is_some}
 use Rattle.dds_base.specs.declared.change.ChangeKind.{ChangeKind}
-use Rattle.dds_instances.proofs.StandingLaws.{follows-of, accepts-first}
+use Rattle.dds_instances.proofs.StandingLaws.{follows-of, tells-of, accepts-first}
 use Rattle.dds_instances.proofs.instances.Instances.accepts.Goals as goal
 
 pub returns-in-Some : goal.returns-in-Some
@@ -13,7 +13,9 @@ returns-in-Some c =
           (c.accepted.ensures.accepted h
           ((c.in-Some.ensures.kept c.args.qos.now h
           (follows-of c.args.qos.now h c.args.self.now c.deref.result.now
-          (c.deref.ensures.value ∙ ap (λ (t : Table). t.tracks) c.self.view_is) stands)).0).owners_are));
+          (c.deref.ensures.value ∙ ap (λ (t : Table). t.tracks) c.self.view_is) stands)).0).owners_are
+          (λ exclusive. tells-of c.args.qos.now h c.args.self.now c.self.inside.strengths
+          (ap (λ (t : Table). t.strengths) c.self.view_is) stands)));
     }
 
 pub returns-in-None : goal.returns-in-None

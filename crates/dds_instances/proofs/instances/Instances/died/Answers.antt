@@ -11,6 +11,7 @@ returns-clause-ok c = λ q h moment stands.
     record {
       writers_are = s.writers_are;
       happened_is = omega (arith, s.happened_is);
+      strengths_are = s.strengths_are;
       follows = c.bury_all.ensures.follows q h moment (omega (arith, s.happened_is)) s.lawful s.follows;
       lawful = lawful-quiet q h (Died c.args.writer moment) (λ i j. refl) s.lawful;
     }

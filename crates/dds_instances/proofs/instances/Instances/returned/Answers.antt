@@ -21,18 +21,19 @@ invariant_of-self c = record {
         c.see_all.ensures.capacity,
       );
   blanks_fit = omega (arith, c.self.invariant.blanks_fit, c.in_ok-self-inside.ensures.less);
+  strengths_fit = λ some. c.self.invariant.strengths_fit (omega (arith, some, c.in_ok-self-inside.ensures.less));
   counted = c.in_ok-self-inside.ensures.fits;
 }
 
 pub returns-clause-read : goal.returns-clause-read
 returns-clause-read c = λ q h stands fits.
     let old : Stands q (table_of c.self.inside) h = subst (λ (t : Table). Stands q t h) (sym c.self.view_is) stands in
-    stands-read q h c.args.samples.now (table_of c.self.inside) _ refl refl c.see_all.ensures.keys
+    stands-read q h c.args.samples.now (table_of c.self.inside) _ refl refl refl c.see_all.ensures.keys
     (c.see_all.ensures.sees q h) fits old
 
 pub returns-clause-took : goal.returns-clause-took
 returns-clause-took c = λ q h stands fits.
     let old : Stands q (table_of c.self.inside) h = subst (λ (t : Table). Stands q t h) (sym c.self.view_is) stands in
     stands-took q h c.args.samples.now _
-    (stands-read q h c.args.samples.now (table_of c.self.inside) _ refl refl c.see_all.ensures.keys
+    (stands-read q h c.args.samples.now (table_of c.self.inside) _ refl refl refl c.see_all.ensures.keys
     (c.see_all.ensures.sees q h) fits old)

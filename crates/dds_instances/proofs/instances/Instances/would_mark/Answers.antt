@@ -1,7 +1,7 @@
 use Rattle.std.proofs.Common.{ℕ, ap, ◌∙◌}
 use Rattle.dds_instances.specs.Table.{Table}
 use Rattle.dds_instances.specs.Track.{is_born_dead}
-use Rattle.dds_instances.proofs.StandingLaws.{follows-of}
+use Rattle.dds_instances.proofs.StandingLaws.{follows-of, tells-of}
 use Rattle.dds_instances.proofs.ForesightLaws.{marks-first}
 use Rattle.dds_instances.proofs.instances.Instances.would_mark.Goals as goal
 
@@ -11,7 +11,9 @@ returns-in-Some c =
       marks = λ h stands. c.would_mark.ensures h
           ((c.in-Some.ensures.kept c.args.qos.now h
           (follows-of c.args.qos.now h c.args.self.now c.deref.result.now
-          (c.deref.ensures.value ∙ ap (λ (t : Table). t.tracks) c.self.view_is) stands)).0);
+          (c.deref.ensures.value ∙ ap (λ (t : Table). t.tracks) c.self.view_is) stands)).0)
+          (tells-of c.args.qos.now h c.args.self.now c.self.inside.strengths
+          (ap (λ (t : Table). t.strengths) c.self.view_is) stands);
     }
 
 pub returns-in-None : goal.returns-in-None

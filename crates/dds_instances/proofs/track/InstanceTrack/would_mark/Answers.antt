@@ -8,7 +8,7 @@ use Rattle.dds_instances.proofs.ForesightLaws.{marks-tracked}
 use Rattle.dds_instances.proofs.track.InstanceTrack.would_mark.Goals as goal
 
 pub returns : goal.returns
-returns c = λ h tracks.
+returns c = λ h tracks tells.
     let after : Option ChangeKind → Option InstanceState =
     λ last. state_after last (not c.would_have_writers-nobody.result) in
     c.is_new_end.ensures
@@ -16,5 +16,6 @@ returns c = λ h tracks.
     ∙ (ap (λ (s : Option InstanceState). becomes_not_alive (state_of_track c.args.self.now) s)
     (c.state_by.ensures ∙ ap after c.first_there-last.ensures)
     ∙ marks-tracked c.args.qos.now h c.args.arrival.now c.args.self.now c.accepted-accepted.result
-    c.would_have_writers-nobody.result tracks (c.accepted-accepted.ensures.accepted h tracks.owners_are)
+    c.would_have_writers-nobody.result tracks
+    (c.accepted-accepted.ensures.accepted h tracks.owners_are (λ exclusive. tells))
     (c.would_have_writers-nobody.ensures.anybody c.args.qos.now h tracks.owners_are)))
