@@ -122,7 +122,7 @@ def take_parameters(order: str, body: bytes, at: int) -> Tuple[Optional[bytes], 
         if name == 1:
             return found.get(0x70), found.get(0x71, bytes(4))[3] & 3, at + 4
         value = body[at + 4 : at + 4 + length]
-        if length % 4 or len(value) < length or length != {0x70: 16, 0x71: 4}.get(name, length):
+        if length % 4 or len(value) < length or length != {0x06: 4, 0x70: 16, 0x71: 4}.get(name, length):
             raise ValueError
         found.setdefault(name, value)
         at += 4 + length
