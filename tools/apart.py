@@ -2,10 +2,11 @@
 """apart.py FOLDER [WORD..]: proves and builds a program that lies apart from the crates of the gate, and runs it with these words.
 
 FOLDER has `crate.txt`, the one line that crates.txt would have of it, and the files of its src/ and proofs/, each with the
-suffix `.txt`: the gate allows no file of such a name outside crates/. The libraries that it uses are proved and built in
-crates/*/out where they are not there, which takes as long as their proofs; the program itself in a copy of the repository,
-in which it is one of the crates. It stays in FOLDER/out, and is built again where a source changed. RT_JOBS says how many
-processors the proofs may use. bench/run and bench/udp/run build by this too."""
+suffix `.txt`: the gate allows no file of such a name outside crates/. Where it has `modules.txt`, this names files of other
+folders that it has as modules too, each by its path from the top of the repository. The libraries that it uses are proved and
+built in crates/*/out where they are not there, which takes as long as their proofs; the program itself in a copy of the
+repository, in which it is one of the crates. It stays in FOLDER/out, and is built again where a source changed. RT_JOBS says
+how many processors the proofs may use. bench/udp/run builds by this too."""
 import dataclasses
 import hashlib
 import os
@@ -41,6 +42,17 @@ class Program:
         own = [it for part in PARTS for it in sorted((self.folder / part).rglob(f"*{SUFFIX}"))]
         places = {str(it.relative_to(self.folder).with_suffix("")): it for it in own}
         return places | {f"src/{it.stem}": it for it in self.shared}
+
+
+def program_at(folder: pathlib.Path) -> Program:
+    """The program of a folder, with the files that its `modules.txt` names."""
+    named = folder / "modules.txt"
+    return Program(folder, tuple(TOP / it for it in named.read_text().split()) if named.exists() else ())
+
+
+def jobs_said() -> list[str]:
+    """How many jobs `rt` may use, where RT_JOBS says it."""
+    return ["--jobs", os.environ["RT_JOBS"]] if "RT_JOBS" in os.environ else []
 
 
 def dependencies(line: str) -> list[str]:
@@ -107,8 +119,7 @@ def main(words: list[str]) -> int:
     if not words or words[0].startswith("-"):
         print(__doc__)
         return 2
-    jobs = ["--jobs", os.environ["RT_JOBS"]] if "RT_JOBS" in os.environ else []
-    built = build(Program(pathlib.Path(words[0]).resolve()), jobs)
+    built = build(program_at(pathlib.Path(words[0]).resolve()), jobs_said())
     return subprocess.run([built, *words[1:]]).returncode
 
 
