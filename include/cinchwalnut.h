@@ -74,7 +74,7 @@ typedef struct cw_writer_config {
     uint32_t topic;       /* writers and readers of equal numbers match */
     uint32_t depth;       /* from 1, where keeps_last */
     int32_t max_samples;  /* RESOURCE_LIMITS: positive, or -1 for no limit */
-    int32_t strength;     /* OWNERSHIP_STRENGTH */
+    int32_t strength;     /* OWNERSHIP_STRENGTH at first, where is_exclusive */
     uint64_t lease;       /* in units of 2^-32 second, from 1 to 2^63 - 1, where has_lease */
 } cw_writer_config;
 
