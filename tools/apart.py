@@ -6,7 +6,7 @@ suffix `.txt`: the gate allows no file of such a name outside crates/. Where it 
 folders that it has as modules too, each by its path from the top of the repository. The libraries that it uses are proved and
 built in crates/*/out where they are not there, which takes as long as their proofs; the program itself in a copy of the
 repository, in which it is one of the crates. It stays in FOLDER/out, and is built again where a source changed. RT_JOBS says
-how many processors the proofs may use. bench/udp/run builds by this too."""
+how many processors the proofs may use. bench/run and bench/udp/run build by this too."""
 import dataclasses
 import hashlib
 import os
