@@ -1,7 +1,7 @@
 -- What is fetched of the last answer, and into which memory.
 --
 -- DDS 1.4, 2.2.2.5 (SampleInfo), 2.2.4.1 (communication statuses), 2.3.3 (the bits of states).
-use Rattle.std.specs.Prelude.{◌≡◌, ℕ, List, ◌++◌, length, drop, slice_get, nat_lt, if◌then◌else◌, Option, Some, None}
+use Rattle.std.specs.Prelude.{◌≡◌, ◌⊎◌, ℕ, List, ◌++◌, length, drop, slice_get, nat_lt, if◌then◌else◌, Option, Some, None}
 use Rattle.dds_base.specs.declared.sample.InstanceState.{InstanceState}
 use Rattle.dds_base.specs.declared.sample.InstanceState.TheVariants.{Alive, NotAliveDisposed, NotAliveNoWriters}
 use Rattle.dds_base.specs.declared.sample.Sample.{Sample}
@@ -146,3 +146,13 @@ changed_said _ = None
 abbrev pub unsent_of : Option Session → ℕ
 unsent_of (Some s) = s.last.unsent
 unsent_of None = 0
+
+-- some text is copied, whatever it says, or nothing for want of memory (code 100)
+abbrev pub TextWritten : List ℕ → List ℕ → ℕ → ℕ → Type 0
+TextWritten old new needed code =
+    ((octets : List ℕ) × Copies octets old new needed code) ⊎ CopiesNothing old new 100 code
+
+-- the same where a peer is open; else nothing is copied (code 4)
+abbrev pub TextFetched : Option Session → List ℕ → List ℕ → ℕ → ℕ → Type 0
+TextFetched None old new needed code = CopiesNothing old new 4 code
+TextFetched (Some session) old new needed code = TextWritten old new needed code

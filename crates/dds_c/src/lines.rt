@@ -4,6 +4,7 @@
 
 ghost use Rattle.std.specs.Prelude.{◌≡◌};
 ghost use Rattle.dds_c.specs.Answering.{HappensSomething};
+ghost use Rattle.dds_c.specs.Fetching.{TextFetched, TextWritten};
 
 use crate::events::{NOT_OPEN, step};
 use crate::out::copy_out;
@@ -105,7 +106,9 @@ fn reply_text(alloc: Global, session: &Session) -> Result<String, AllocError> {
     text.finish()
 }
 
-fn text_out(alloc: Global, session: &Session, buffer: &mut [u8], needed: &mut usize) -> u8 {
+fn text_out(alloc: Global, session: &Session, buffer: &mut [u8], needed: &mut usize) -> u8
+    ensures written { TextWritten buffer.old buffer.new needed.new result }
+{
     match reply_text(alloc, session) {
         Ok(text) => copy_out(text.as_bytes(), buffer, needed),
         Err(_) => Code::Memory.number(),
@@ -126,6 +129,8 @@ pub extern "C" fn cw_text(
     buffer: &mut [u8],
     needed: &mut usize,
 ) -> u8
+    // Some text is copied as far as it fits, which no clause spells, or nothing for its cause.
+    ensures text { TextFetched peer.old.held.session buffer.old buffer.new needed.new result }
     // Nothing happens to the peer.
     ensures keeps { peer.new.held.session ≡ peer.old.held.session }
 {
