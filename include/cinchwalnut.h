@@ -97,7 +97,7 @@ typedef struct cw_reader_config {
 typedef struct cw_sample_info {
     uint8_t key[16];
     uint64_t source_timestamp; /* in units of 2^-32 second */
-    uint64_t instance_handle;
+    uint64_t instance_handle; /* of the life of its instance: no handle is given to two, and it is unknown once that ended */
     uint64_t publication_handle;
     uint64_t disposed_generation_count;
     uint64_t no_writers_generation_count;

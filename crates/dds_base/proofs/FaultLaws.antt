@@ -21,7 +21,7 @@ use Rattle.dds_base.specs.Matched.{matched_writers_of}
 use Rattle.dds_base.specs.Checked.{same_prefix, unknown_prefix, has_kind, prefix_count, entity_count, has_no_depth, is_maximum, is_bad_lease, is_bad_writer, is_bad_reader, is_bad_peer, has_bad_parameter, exceeds_limit, differ, is_longer, are_incompatible, is_inconsistent_peer, has_inconsistent_policy, check_refusal}
 use Rattle.dds_base.specs.Faults.{code_of_rule, breaks_as_peer, breaks_as_writer, breaks_as_reader, passes_at, breaks_at, Breaks}
 use Rattle.dds_base.specs.FaultAt.{first_broken, writer_rules, reader_rules, peer_rules, whole_rules, fault_at, first_at, writer_fault, reader_fault, writers_fault, readers_fault, peer_fault, pass_fault, config_fault}
-use Rattle.dds_base.specs.Instance.{or_else}
+use Rattle.dds_base.specs.Life.{or_else}
 
 -- ---- tests
 

@@ -25,7 +25,8 @@ use Rattle.dds_base.specs.declared.qos.HistoryQos.TheVariants.{KeepAll, KeepLast
 use Rattle.dds_base.specs.declared.selection.Selection.{Selection}
 use Rattle.dds_base.specs.declared.selection.Selection.TheVariants as selection
 use Rattle.dds_base.specs.Presence.{has_room}
-use Rattle.dds_base.specs.Access.{picked_samples, no_filter, collection_of}
+use Rattle.dds_base.specs.Access.{picked_samples, no_filter, collection_of, handle_of, instance_of}
+use Rattle.dds_base.specs.Instance.{instance_state_of, known_instances}
 use Rattle.dds_base.specs.Selection.{picked_by, selection_refusal}
 
 abbrev key : Key
@@ -333,3 +334,97 @@ take-known = refl
 
 take-any_previous : selection_refusal shared two_instances (after_instance 12) ≡ None
 take-any_previous = refl
+
+-- ---- lives
+
+-- what is picked, with the handle that it has
+abbrev handles : List Happening → List ℕ
+handles h = map (λ (s : Sample). s.info.instance_handle) (collection_of shared h (picked shared h None any))
+
+-- a write and an unregister, of which both samples are taken: then nobody is registered and nothing is present
+abbrev left : List Happening
+left = came 1 2 Unregister [] ∷ came 1 1 Write (1 ∷ []) ∷ []
+
+abbrev forgotten : List Happening
+forgotten = Took (picked shared left None any) ∷ left
+
+left-still : answer shared left None any
+    ≡ info NR New NotAliveNoWriters 0 0 1 0 0 true 1 ∷ info NR New NotAliveNoWriters 0 0 0 0 0 false 1 ∷ []
+left-still = refl
+
+forgotten-unknown : instance_state_of shared key forgotten ≡ None
+forgotten-unknown = refl
+
+forgotten-handle : handle_of shared forgotten key ≡ 0
+forgotten-handle = refl
+
+forgotten-instance : instance_of shared forgotten 1 ≡ None
+forgotten-instance = refl
+
+-- while a marker is present, or somebody is registered, an instance stays known
+marked-known : instance_of shared (Took (picked shared left (Some 1) any) ∷ left) 1 ≡ Some key
+marked-known = refl
+
+registered-known : instance_of shared (Took (picked shared one_write None any) ∷ one_write) 1 ≡ Some key
+registered-known = refl
+
+-- an unregister ends a life where the last sample was taken before
+abbrev disposed_taken : List Happening
+disposed_taken =
+    Took (picked shared (came 1 2 Dispose [] ∷ one_write) None any) ∷ came 1 2 Dispose [] ∷ one_write
+
+disposed-known : instance_of shared disposed_taken 1 ≡ Some key
+disposed-known = refl
+
+disposed-unregistered : known_instances shared (came 1 3 Unregister [] ∷ disposed_taken) ≡ []
+disposed-unregistered = refl
+
+-- so does the death of the last writer
+disposed-died : known_instances shared (Died 1 0 ∷ disposed_taken) ≡ []
+disposed-died = refl
+
+-- a new life begins with the next handle, with counts of 0 and the view NEW
+abbrev reborn : List Happening
+reborn = came 1 3 Write (2 ∷ []) ∷ forgotten
+
+reborn-handle : handles reborn ≡ 2 ∷ []
+reborn-handle = refl
+
+reborn-instance : instance_of shared reborn 2 ≡ Some key
+reborn-instance = refl
+
+reborn-old_handle : instance_of shared reborn 1 ≡ None
+reborn-old_handle = refl
+
+reborn-new : map (λ (s : Sample). s.info.view_state) (collection_of shared reborn (picked shared reborn None any))
+    ≡ New ∷ []
+reborn-new = refl
+
+reborn-counts : map (λ (s : Sample). s.info.no_writers_generation_count)
+    (collection_of shared reborn (picked shared reborn None any)) ≡ 0 ∷ []
+reborn-counts = refl
+
+-- an instance that is forgotten counts against no limit
+abbrev one_instance : ReaderQos
+one_instance = record shared { max_instances = Some 1 }
+
+abbrev another : Happening
+another =
+    Came (record {
+      writer = 1;
+      number = 3;
+      change = record {
+        kind = Write;
+        key = record { 0 = 2 ∷ 0 ∷ [] };
+        value = [];
+        source_timestamp = 0;
+        strength = None;
+      };
+      moment = 0;
+    })
+
+has_room-left : has_room one_instance left another ≡ false
+has_room-left = refl
+
+has_room-forgotten : has_room one_instance forgotten another ≡ true
+has_room-forgotten = refl

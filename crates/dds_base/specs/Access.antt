@@ -1,7 +1,7 @@
 -- What a read or a take returns: which samples, and what it says of each.
 --
 -- DDS 1.4, 2.2.2.5 (read, take and their instance forms; SampleInfo).
-use Rattle.std.specs.Prelude.{ℕ, zero, suc, slice_get, ◌+◌, ◌-◌, List, [], ◌∷◌, take, Bool, true, false, ◌&&◌, ◌==◌, nat_lt, Option, None, Some, if◌then◌else◌, filter, map, count_by}
+use Rattle.std.specs.Prelude.{ℕ, zero, suc, ◌+◌, ◌-◌, List, [], ◌∷◌, length, take, find, Bool, true, false, ◌&&◌, ◌==◌, not, nat_lt, Option, None, Some, if◌then◌else◌, filter, map, count_by}
 use Rattle.std.specs.Int.RustNames.{bit_and}
 use Rattle.std.specs.List.{list_any}
 use Rattle.dds_base.specs.declared.key.Key.{Key}
@@ -24,8 +24,9 @@ use Rattle.dds_base.specs.declared.sample.Sample.{Sample}
 use Rattle.dds_base.specs.declared.qos.ReaderQos.{ReaderQos}
 use Rattle.dds_base.specs.Happening.{same_key, as_of, is_read}
 use Rattle.dds_base.specs.Ownership.{accepted_kind}
-use Rattle.dds_base.specs.Instance.{instance_state_of, view_state_of, is_write, disposed_generations, no_writers_generations, generations_of, known_instances}
-use Rattle.dds_base.specs.Presence.{ends_with_write, present_samples}
+use Rattle.dds_base.specs.Instance.{instance_state_of, view_state_of, disposed_generations, no_writers_generations, generations_of, is_known, introduces, introduced_by, known_instances}
+use Rattle.dds_base.specs.Life.{ends_with_write, is_write}
+use Rattle.dds_base.specs.Presence.{present_samples}
 
 -- READ if some read holds the sample (2.2.2.5, sample_state)
 abbrev pub sample_state_of : List Happening → SamplePosition → SampleState
@@ -111,20 +112,23 @@ not_read = record { samples = record { 0 = 2 }; views = record { 0 = 65535 }; in
 abbrev pub picked_next_sample : ReaderQos → List Happening → List SamplePosition
 picked_next_sample q h = picked_samples q h (Some 1) not_read no_filter
 
+-- how many lives of instances have begun
+abbrev pub lives_begun : ReaderQos → List Happening → ℕ
+lives_begun q [] = 0
+lives_begun q (e ∷ h) = lives_begun q h + length (introduced_by q h e)
+
+-- the handle of an instance: how many lives had begun with its own, HANDLE_NIL for an unknown one (2.2.2.5,
+-- instance_handle)
+abbrev pub handle_of : ReaderQos → List Happening → Key → ℕ
+handle_of q [] i = 0
+handle_of q (e ∷ h) i =
+    if not (is_known q (e ∷ h) i) then 0
+    else (if introduces q i h e then lives_begun q (e ∷ h) else handle_of q h i)
+
 -- the instance of a handle, none for an unknown one (2.2.2.5, get_key_value)
 abbrev pub instance_of : ReaderQos → List Happening → ℕ → Option Key
 instance_of q h zero = None
-instance_of q h (suc at) = slice_get (known_instances q h) at
-
--- the first number of the key in a list that is numbered from n on, 0 for none
-abbrev pub number_from : ℕ → Key → List Key → ℕ
-number_from n i [] = 0
-number_from n i (k ∷ ks) = if same_key k i then n else number_from (n + 1) i ks
-
--- the handle of an instance: 1 plus the number of those known before it, HANDLE_NIL for an unknown one (2.2.2.5,
--- instance_handle)
-abbrev pub handle_of : ReaderQos → List Happening → Key → ℕ
-handle_of q h i = number_from 1 i (known_instances q h)
+instance_of q h (suc n) = find (λ i. handle_of q h i == suc n) (known_instances q h)
 
 -- the same of one instance (2.2.2.5, read_instance)
 abbrev pub picked_of_instance : ReaderQos → List Happening → Option ℕ → Masks → (Key → List ℕ → Bool) → ℕ

@@ -16,7 +16,7 @@ use Rattle.dds_base.specs.declared.config_fault.ConfigRule.TheVariants.{PeerCoun
 use Rattle.dds_base.specs.declared.config_fault.ConfigPlace.{ConfigPlace}
 use Rattle.dds_base.specs.declared.config_fault.ConfigPlace.TheVariants.{Whole, Peer, Writer, Reader}
 use Rattle.dds_base.specs.declared.config_fault.ConfigFault.{ConfigFault}
-use Rattle.dds_base.specs.Instance.{or_else}
+use Rattle.dds_base.specs.Life.{or_else}
 use Rattle.dds_base.specs.Matched.{matched_writers_of}
 use Rattle.dds_base.specs.Checked.{same_prefix, unknown_prefix, has_kind, prefix_count, entity_count, has_no_depth, is_maximum, is_bad_lease, exceeds_limit, differ, is_longer}
 

@@ -1,7 +1,7 @@
 -- The state, the generation counts and the view of an instance, from what happened.
 --
 -- DDS 1.4, 2.2.2.5 (SampleInfo: instance_state, view_state, the two generation counts, instance_handle).
-use Rattle.std.specs.Prelude.{ℕ, ◌+◌, List, [], ◌∷◌, ◌++◌, length, Bool, true, false, ◌&&◌, ◌||◌, nat_le, not, Option, None, Some, is_some, if◌then◌else◌}
+use Rattle.std.specs.Prelude.{ℕ, ◌+◌, List, [], ◌∷◌, ◌++◌, length, Bool, true, false, ◌&&◌, ◌||◌, nat_le, not, Option, None, Some, is_some, if◌then◌else◌, filter}
 use Rattle.std.specs.List.{list_any}
 use Rattle.dds_base.specs.declared.key.Key.{Key}
 use Rattle.dds_base.specs.declared.change.ChangeKind.{ChangeKind}
@@ -15,42 +15,12 @@ use Rattle.dds_base.specs.declared.sample.ViewState.{ViewState}
 use Rattle.dds_base.specs.declared.sample.ViewState.TheVariants.{New, NotNew}
 use Rattle.dds_base.specs.declared.qos.ReaderQos.{ReaderQos}
 use Rattle.dds_base.specs.Happening.{same_key, read_by, taken_by}
+use Rattle.dds_base.specs.Life.{is_nobody, is_write, state_after, last_accepted, ends_life}
 use Rattle.dds_base.specs.Ownership.{accepted_kind, registered_writers}
-
--- the first, or else the second
-abbrev pub or_else : {X : Type 0} → Option X → Option X → Option X
-or_else None b = b
-or_else (Some x) b = Some x
-
--- the entry ends the life of i: what came of i up to it counts no more, and i is unknown again. None does: an instance
--- that is known stays known
-abbrev pub ends_life : ReaderQos → Key → List Happening → Happening → Bool
-ends_life q i h e = false
-
--- the kind of the last accepted write or dispose of i in its life
-abbrev pub last_accepted : ReaderQos → Key → List Happening → Option ChangeKind
-last_accepted q i [] = None
-last_accepted q i (e ∷ h) = if ends_life q i h e then None else or_else (accepted_kind q i h e) (last_accepted q i h)
-
--- nobody is in the list
-abbrev pub is_nobody : List ℕ → Bool
-is_nobody [] = true
-is_nobody (w ∷ ws) = false
-
--- a write makes it ALIVE, or NO_WRITERS once nobody is registered; a dispose makes it DISPOSED
-abbrev pub state_after : Option ChangeKind → Bool → Option InstanceState
-state_after None nobody = None
-state_after (Some Write) nobody = Some (if nobody then NotAliveNoWriters else Alive)
-state_after (Some _) nobody = Some NotAliveDisposed
 
 -- the state of i; none while it is unknown, as nothing of it was accepted (2.2.2.5, instance_state)
 abbrev pub instance_state_of : ReaderQos → Key → List Happening → Option InstanceState
 instance_state_of q i h = state_after (last_accepted q i h) (is_nobody (registered_writers q i h))
-
--- an accepted write
-abbrev pub is_write : Option ChangeKind → Bool
-is_write (Some Write) = true
-is_write _ = false
 
 -- the state is NOT_ALIVE_DISPOSED
 abbrev pub is_disposed : Option InstanceState → Bool
@@ -90,10 +60,19 @@ generations_of q i h = disposed_generations q i h + no_writers_generations q i h
 abbrev pub is_rebirth : ReaderQos → Key → List Happening → Happening → Bool
 is_rebirth q i h e = revives_disposed q i h e || revives_without_writers q i h e
 
--- the position of i's latest rebirth, or else that where its life began
+-- i is known: something of it was accepted in its life
+abbrev pub is_known : ReaderQos → List Happening → Key → Bool
+is_known q h i = is_some (last_accepted q i h)
+
+-- the entry makes i known: the first accepted write or dispose of its life
+abbrev pub introduces : ReaderQos → Key → List Happening → Happening → Bool
+introduces q i h e = not (is_known q h i) && is_some (accepted_kind q i h e)
+
+-- the position of i's latest rebirth, or else that where its life began, or its last one ended
 abbrev pub latest_rebirth : ReaderQos → Key → List Happening → ℕ
 latest_rebirth q i [] = 0
-latest_rebirth q i (e ∷ h) = if ends_life q i h e || is_rebirth q i h e then length h + 1 else latest_rebirth q i h
+latest_rebirth q i (e ∷ h) =
+    if ends_life q i h e || (introduces q i h e || is_rebirth q i h e) then length h + 1 else latest_rebirth q i h
 
 -- a sample of i at this position or a later one
 abbrev pub is_since : Key → ℕ → SamplePosition → Bool
@@ -107,16 +86,12 @@ accesses i j e = list_any (is_since i j) (read_by e) || list_any (is_since i j) 
 abbrev pub view_state_of : ReaderQos → Key → List Happening → ViewState
 view_state_of q i h = if list_any (accesses i (latest_rebirth q i h)) h then NotNew else New
 
--- the entry makes i known: the first accepted write or dispose of its life
-abbrev pub introduces : ReaderQos → Key → List Happening → Happening → Bool
-introduces q i h e = not (is_some (last_accepted q i h)) && is_some (accepted_kind q i h e)
-
 -- the key that the entry makes known, if there is one
 abbrev pub introduced_by : ReaderQos → List Happening → Happening → List Key
 introduced_by q h (Came a) = if introduces q a.change.key h (Came a) then a.change.key ∷ [] else []
 introduced_by q h _ = []
 
--- the known instances in the order of their handles: of first acceptance (2.2.2.5, instance_handle)
+-- the known instances in the order of their handles: that in which their lives began (2.2.2.5, instance_handle)
 abbrev pub known_instances : ReaderQos → List Happening → List Key
 known_instances q [] = []
-known_instances q (e ∷ h) = known_instances q h ++ introduced_by q h e
+known_instances q (e ∷ h) = filter (is_known q (e ∷ h)) (known_instances q h ++ introduced_by q h e)

@@ -10,6 +10,7 @@ pub mod Happening
 pub mod Statuses
 pub mod StatusFlags
 pub mod Ownership
+pub mod Life
 pub mod Instance
 pub mod Presence
 pub mod Liveliness

@@ -8,7 +8,7 @@ use Rattle.dds_base.specs.declared.happening.Happening.TheVariants.{Came, Heard,
 use Rattle.dds_base.specs.declared.qos.MatchedWriter.{MatchedWriter}
 use Rattle.dds_base.specs.declared.qos.ReaderQos.{ReaderQos}
 use Rattle.dds_base.specs.declared.status.LivelinessChangedStatus.{LivelinessChangedStatus}
-use Rattle.dds_base.specs.Instance.{or_else}
+use Rattle.dds_base.specs.Life.{or_else}
 use Rattle.dds_base.specs.Ownership.{publication_handles, writer_of}
 use Rattle.dds_base.specs.Written.{is_over}
 

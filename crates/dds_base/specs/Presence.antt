@@ -14,65 +14,18 @@ use Rattle.dds_base.specs.declared.qos.HistoryQos.{HistoryQos}
 use Rattle.dds_base.specs.declared.qos.HistoryQos.TheVariants.{KeepAll, KeepLast}
 use Rattle.dds_base.specs.Happening.{as_of, is_taken, arrivals}
 use Rattle.dds_base.specs.Ownership.{accepted_kind}
-use Rattle.dds_base.specs.Instance.{instance_state_of, is_write, known_instances}
-
--- not alive, and not as it was before
-abbrev pub becomes_not_alive : Option InstanceState → Option InstanceState → Bool
-becomes_not_alive (Some NotAliveDisposed) (Some NotAliveDisposed) = false
-becomes_not_alive (Some NotAliveNoWriters) (Some NotAliveNoWriters) = false
-becomes_not_alive _ (Some NotAliveDisposed) = true
-becomes_not_alive _ (Some NotAliveNoWriters) = true
-becomes_not_alive _ _ = false
+use Rattle.dds_base.specs.Instance.{known_instances}
+use Rattle.dds_base.specs.Life.{ends_with_write, is_there, last_accepted, last_marker, marks_from, up_to}
 
 -- the entry turns i to a not-alive state, from another one or from unknown: it leaves a marker, a sample without data
 -- (2.2.2.5, valid_data)
 abbrev pub marks : ReaderQos → Key → List Happening → Happening → Bool
-marks q i h e = becomes_not_alive (instance_state_of q i h) (instance_state_of q i (e ∷ h))
-
--- the position of i's last marker
-abbrev pub last_marker : ReaderQos → Key → List Happening → Option ℕ
-last_marker q i [] = None
-last_marker q i (e ∷ h) = if marks q i h e then Some (length h + 1) else last_marker q i h
-
--- how many writes of i were accepted
-abbrev pub accepted_writes : ReaderQos → Key → List Happening → ℕ
-accepted_writes q i [] = 0
-accepted_writes q i (e ∷ h) = accepted_writes q i h + (if is_write (accepted_kind q i h e) then 1 else 0)
-
--- the newest entry is an accepted write of i
-abbrev pub ends_with_write : ReaderQos → Key → List Happening → Bool
-ends_with_write q i [] = false
-ends_with_write q i (e ∷ h) = is_write (accepted_kind q i h e)
-
--- KEEP_ALL keeps every write; KEEP_LAST keeps one that fewer than depth accepted writes of its instance have followed
--- (2.2.3, HISTORY)
-abbrev pub keeps : HistoryQos → ℕ → Bool
-keeps KeepAll later = true
-keeps (KeepLast depth) later = nat_lt later depth
-
--- how many writes of i were accepted after position j
-abbrev pub later_writes : ReaderQos → List Happening → Key → ℕ → ℕ
-later_writes q h i j = accepted_writes q i h - accepted_writes q i (as_of j h)
-
--- an accepted write of i at position j, which the history keeps
-abbrev pub is_kept_write : ReaderQos → List Happening → Key → ℕ → Bool
-is_kept_write q h i j = ends_with_write q i (as_of j h) && keeps q.history (later_writes q h i j)
-
--- the position is this one
-abbrev pub is_at : Option ℕ → ℕ → Bool
-is_at None j = false
-is_at (Some at) j = at == j
+marks q i h e = marks_from q i h e (last_accepted q i h)
 
 -- the sample of i at position j is present: not taken, and a write that the history keeps or i's last marker (2.2.2.5;
 -- 2.2.3, HISTORY)
 abbrev pub is_present : ReaderQos → List Happening → Key → ℕ → Bool
-is_present q h i j = not (is_taken (record { key = i; position = j }) h)
-    && (is_kept_write q h i j || is_at (last_marker q i h) j)
-
--- the positions 1 to n, in order
-abbrev pub up_to : ℕ → List ℕ
-up_to zero = []
-up_to (suc n) = up_to n ++ suc n ∷ []
+is_present q h i j = is_there q h i (last_marker q i h) j
 
 -- the present samples of one instance, by position
 abbrev pub present_of : ReaderQos → List Happening → Key → List SamplePosition

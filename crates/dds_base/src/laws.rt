@@ -3,12 +3,14 @@
 //! DDS 1.4, 2.2.2.5 (masks, handles), 2.2.3 (OWNERSHIP); RTPS 2.5, 9.3 (entity kinds), clause 10
 //! (SerializedPayload).
 
-ghost use Rattle.std.specs.Prelude.{◌≡◌, ◌≢◌, ◌↔◌, ◌≤◌, ◌+◌, ℕ, List, [], ◌∷◌, IsTrue, IsSome, Some, None, length, replicate, true};
-ghost use Rattle.dds_base.specs.Access.{sample_state_bit, view_state_bit, instance_state_bit, meets, instance_of, not_read};
+ghost use Rattle.std.specs.Prelude.{◌≡◌, ◌≢◌, ◌↔◌, ◌≤◌, ◌<◌, ◌+◌, ◌∷◌, ℕ, List, [], IsTrue, IsSome, Some, None, length, replicate, true, false};
+ghost use Rattle.dds_base.specs.Access.{sample_state_bit, view_state_bit, instance_state_bit, meets, handle_of, instance_of, lives_begun, not_read};
 ghost use Rattle.dds_base.specs.Checked.{unknown_prefix};
 ghost use Rattle.dds_base.specs.DatumText.{ReadsDatum, ReadsKey, IsDatum, spelling_of_datum, spelling_of_key};
-ghost use Rattle.dds_base.specs.Instance.{instance_state_of};
+ghost use Rattle.dds_base.specs.Instance.{disposed_generations, instance_state_of, introduces, is_known, no_writers_generations};
+ghost use Rattle.dds_base.specs.Life.{ends_life, is_life_over, last_marker};
 ghost use Rattle.dds_base.specs.Ownership.{IsMatched, IsOwner, HaveOwnGuids, owner_of, outranks_all, registered_writers};
+ghost use Rattle.dds_base.specs.Presence.{is_present};
 ghost use Rattle.dds_base.specs.declared.datum.Datum.{Datum};
 ghost use Rattle.dds_base.specs.declared.happening.Happening.{Happening};
 ghost use Rattle.dds_base.specs.declared.happening.SamplePosition.{SamplePosition};
@@ -70,6 +72,42 @@ pub fn unknown_names_are_zeros()
     ensures writer_kind { EntityId.WRITER_KIND ≡ 2 }
     // A reader with a key is of kind 0x07.
     ensures reader_kind { EntityId.READER_KIND ≡ 7 }
+{}
+
+/// Of an instance whose life is over nothing is left: it is unknown and has no handle, its counts begin anew, and none of
+/// its samples is present. While an instance is known, its life is not over.
+pub fn an_ended_life_leaves_nothing()
+    // It is unknown.
+    ensures unknown { (q : ReaderQos) (i : Key) (h : List Happening) (e : Happening) → ends_life q i h e ≡ true
+        → instance_state_of q i (e ∷ h) ≡ None }
+    // It has no handle.
+    ensures handle { (q : ReaderQos) (i : Key) (h : List Happening) (e : Happening) → ends_life q i h e ≡ true
+        → handle_of q (e ∷ h) i ≡ 0 }
+    // Its rebirths after a dispose are forgotten.
+    ensures disposed { (q : ReaderQos) (i : Key) (h : List Happening) (e : Happening) → ends_life q i h e ≡ true
+        → disposed_generations q i (e ∷ h) ≡ 0 }
+    // So are those after it had no writers.
+    ensures no_writers { (q : ReaderQos) (i : Key) (h : List Happening) (e : Happening) → ends_life q i h e ≡ true
+        → no_writers_generations q i (e ∷ h) ≡ 0 }
+    // None of its samples is present.
+    ensures absent { (q : ReaderQos) (i : Key) (h : List Happening) (e : Happening) → ends_life q i h e ≡ true
+        → (j : ℕ) → 1 ≤ j → j ≤ length h + 1 → is_present q (e ∷ h) i j ≡ false }
+    // The life of a known instance is not over.
+    ensures goes_on { (q : ReaderQos) (i : Key) (h : List Happening) → is_known q h i ≡ true
+        → is_life_over q h i (last_marker q i h) ≡ false }
+{}
+
+/// No handle is given to two lives: a known instance keeps its own, and that of a life that begins is greater than each
+/// that was given before.
+pub fn no_handle_is_given_again()
+    // A known instance keeps its handle.
+    ensures kept { (q : ReaderQos) (i : Key) (h : List Happening) (e : Happening) → is_known q h i ≡ true
+        → is_known q (e ∷ h) i ≡ true → handle_of q (e ∷ h) i ≡ handle_of q h i }
+    // No handle is greater than the number of lives that have begun.
+    ensures given { (q : ReaderQos) (i : Key) (h : List Happening) → handle_of q h i ≤ lives_begun q h }
+    // That of a life that begins is.
+    ensures new { (q : ReaderQos) (i : Key) (h : List Happening) (e : Happening) → introduces q i h e ≡ true
+        → is_known q (e ∷ h) i ≡ true → lives_begun q h < handle_of q (e ∷ h) i }
 {}
 
 /// HANDLE_NIL, which has the number 0: the handle of no instance and of no matched writer, since they count from 1.

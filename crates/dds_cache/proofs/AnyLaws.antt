@@ -30,7 +30,7 @@ use Rattle.dds_cache.specs.Picking.{IsAccess, TellsAny, masks_in, test_in}
 use Rattle.dds_cache.specs.Standing.{AccessAnswers, Stored, picked, qos_of, refusal}
 use Rattle.dds_cache.specs.Twice.{first_of}
 use Rattle.dds_cache.proofs.CountLaws.{present-any}
-use Rattle.dds_cache.proofs.FindingLaws.{handle-bounds}
+use Rattle.dds_cache.proofs.EndLaws.{handle-bounds}
 use Rattle.dds_cache.proofs.GroupLaws.{unequal}
 
 -- ---- some of those that pass

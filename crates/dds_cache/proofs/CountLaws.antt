@@ -5,7 +5,7 @@ use Rattle.std.specs.Prelude.{if◌then◌else◌, nat_lt}
 use Rattle.std.proofs.lemmas.Bool.{cases_Bool, lt-ltb}
 use Rattle.std.proofs.lemmas.List.{length-append, length-map}
 use Rattle.std.proofs.lemmas.List.Sums.{length-filter, sum_by-cons}
-use Rattle.std.proofs.lemmas.List.Elements.{All-cons, All-head, All-tail, All-weaker}
+use Rattle.std.proofs.lemmas.List.Elements.{All-head, All-tail, All-weaker}
 use Rattle.std.proofs.lemmas.List.Folds.{list_any_none}
 use Rattle.std.proofs.lemmas.List.Concat.{flat_map-cons}
 use Rattle.std.proofs.lemmas.Map.Keys.{IsDistinct-head, IsDistinct-tail}
@@ -18,13 +18,15 @@ use Rattle.dds_base.specs.declared.sample.SampleState.TheVariants.{Read as HasBe
 use Rattle.dds_base.specs.Access.{asks_for_instance_state, asks_for_sample_state, asks_for_view_state, has_match, value_of}
 use Rattle.dds_base.specs.Happening.{same_key}
 use Rattle.dds_base.specs.Instance.{instance_state_of, known_instances, view_state_of}
-use Rattle.dds_base.specs.Presence.{is_present, present_of, present_samples, up_to}
+use Rattle.dds_base.specs.Presence.{is_present, present_of, present_samples}
+use Rattle.dds_base.specs.Life.{up_to}
 use Rattle.dds_base.proofs.KeyLaws.{key-same, same_key-comm}
 use Rattle.dds_cache.specs.declared.kept.Kept.{Kept}
 use Rattle.dds_cache.specs.Kept.{IsKept, WasRead, positions_in, sample_at}
 use Rattle.dds_cache.specs.Finding.{is_asked_for, passes, sample_of}
+use Rattle.dds_cache.proofs.EndLaws.{known-distinct}
 use Rattle.dds_cache.proofs.GroupLaws.{flat_map-same}
-use Rattle.dds_cache.proofs.FindingLaws.{filter-flat_map, known-distinct, wanted-of}
+use Rattle.dds_cache.proofs.FindingLaws.{filter-flat_map, passing-all, wanted-of}
 
 -- those of instance i
 abbrev of_key : List SamplePosition → Key → List SamplePosition
@@ -91,19 +93,6 @@ groups-count ks (s ∷ ss) distinct all =
     group-one ks s ss distinct (All-head (λ (x : SamplePosition). list_any (λ k. same_key k x.key) ks ≡ true) s ss all)
     ∙ ap suc (groups-count ks ss distinct
     (All-tail (λ (x : SamplePosition). list_any (λ k. same_key k x.key) ks ≡ true) s ss all))
-
--- those that pass a test, as samples
-passing-all : (P : SamplePosition → Type 0) (test : Kept → Bool) (ks : List Kept) → All (λ (k : Kept). P k.sample) ks
-    → All P (map sample_of (filter test ks))
-passing-all P test [] all = λ k d within. absurd (omega (arith, within))
-passing-all P test (k ∷ ks) all =
-    one (test k) k (map sample_of (filter test ks)) (filter test ks) refl (All-head (λ (x : Kept). P x.sample) k ks all)
-    (passing-all P test ks (All-tail (λ (x : Kept). P x.sample) k ks all))
-  where
-    one : (b : Bool) (k : Kept) (ss : List SamplePosition) (xs : List Kept) → map sample_of xs ≡ ss → P k.sample
-        → All P (map sample_of xs) → All P (map sample_of (cond b (k ∷ xs) xs))
-    one true k ss xs is first rest = All-cons P k.sample (map sample_of xs) first rest
-    one false k ss xs is first rest = rest
 
 -- the present samples that pass a test are as many as among those kept
 pub present-count : (q : ReaderQos) (h : List Happening) (test : SamplePosition → Bool) (ks : List Kept)

@@ -10,7 +10,8 @@ use Rattle.dds_base.specs.declared.key.Key.{Key}
 use Rattle.dds_base.specs.declared.happening.SamplePosition.{SamplePosition}
 use Rattle.dds_base.specs.declared.happening.Happening.{Happening}
 use Rattle.dds_base.specs.declared.qos.ReaderQos.{ReaderQos}
-use Rattle.dds_base.specs.Presence.{is_present, up_to}
+use Rattle.dds_base.specs.Presence.{is_present}
+use Rattle.dds_base.specs.Life.{up_to}
 use Rattle.dds_base.specs.StatusFlags.{brings_sample}
 use Rattle.dds_cache.specs.declared.kept.Kept.{Kept}
 use Rattle.dds_cache.specs.Finding.{passes}

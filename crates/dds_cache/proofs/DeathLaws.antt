@@ -1,5 +1,5 @@
 -- A death adds the samples that it leaves, one instance after another.
-use Rattle.std.proofs.Common.{◌≡◌, ℕ, ◌+◌, ◌≤◌, List, [], ◌∷◌, ◌++◌, length, take, Bool, true, false, ◌&&◌, ◌||◌, sym, ap, ◌∙◌, refl, cond, Option, Some, None, zero, suc, ⊎_elim, append_assoc, arith}
+use Rattle.std.proofs.Common.{◌≡◌, ℕ, ◌+◌, ◌≤◌, List, [], ◌∷◌, ◌++◌, length, take, Bool, true, false, not, ◌-◌, ◌&&◌, ◌||◌, sym, ap, ◌∙◌, refl, cond, Option, Some, None, zero, suc, ⊎_elim, append_assoc, arith}
 use Rattle.std.specs.Prelude.{slice_get, is_some, count_by}
 use Rattle.std.specs.List.{list_any, IsDistinct, AllByRecursion}
 use Rattle.std.proofs.lemmas.Bool.{cases_Bool}
@@ -16,23 +16,28 @@ use Rattle.dds_base.specs.declared.happening.Happening.TheVariants.{Died}
 use Rattle.dds_base.specs.declared.qos.ReaderQos.{ReaderQos}
 use Rattle.dds_base.specs.Happening.{same_key}
 use Rattle.dds_base.specs.Ownership.{registered_writers}
-use Rattle.dds_base.specs.Instance.{known_instances, last_accepted, state_after, is_nobody, instance_state_of, disposed_generations, no_writers_generations}
-use Rattle.dds_base.specs.Presence.{accepted_writes, is_at, is_present}
+use Rattle.dds_base.specs.Instance.{known_instances, instance_state_of, disposed_generations, no_writers_generations}
+use Rattle.dds_base.specs.Life.{last_accepted, state_after, is_nobody, is_at, accepted_writes, ends_with_write, keeps, last_marker}
+use Rattle.dds_base.specs.Presence.{is_present}
 use Rattle.dds_base.specs.Access.{handle_of}
+use Rattle.dds_base.specs.Happening.{is_taken}
 use Rattle.dds_base.proofs.KeyLaws.{key-same}
+use Rattle.dds_base.proofs.LifeLaws.{as_of-newest}
 use Rattle.dds_instances.specs.declared.known.KnownInstance.{KnownInstance}
 use Rattle.dds_instances.specs.declared.track.InstanceTrack.{InstanceTrack}
-use Rattle.dds_instances.specs.Known.{IsKnown}
+use Rattle.dds_instances.specs.Known.{IsKnown, writes_in_life}
 use Rattle.dds_instances.specs.Table.{Table, has_marked, marked_of}
 use Rattle.dds_instances.specs.Track.{one_if}
-use Rattle.dds_instances.proofs.KnownLaws.{known}
 use Rattle.dds_cache.specs.declared.kept.Kept.{Kept}
-use Rattle.dds_cache.specs.Kept.{Adds, IsKept, IsKeptAt, IsNewAt, positions_in}
+use Rattle.dds_cache.specs.Kept.{Adds, IsKept, IsKeptAt, IsNewAt, positions_in, sample_at}
 use Rattle.dds_cache.specs.Dying.{AddsOf}
 use Rattle.dds_cache.proofs.PresenceLaws.{here-append, unknown-absent}
 use Rattle.dds_cache.proofs.KeptLaws.{IsNewest}
 use Rattle.dds_cache.proofs.StandingLaws.{new-at, one-position}
-use Rattle.dds_cache.proofs.FindingLaws.{known-distinct}
+use Rattle.dds_cache.proofs.EndLaws.{known, known-distinct}
+
+pub some-same : (a b : Key) → Some a ≡ Some b → a ≡ b
+some-same a b e = cc
 
 -- ---- the sample of one instance
 
@@ -42,16 +47,16 @@ pub newest-died : (q : ReaderQos) (w moment : ℕ) (h : List Happening) (known_i
     → k.number ≡ known_is.accepted_writes → k.disposed_generation_count ≡ known_is.disposed_generations
     → k.no_writers_generation_count ≡ known_is.no_writers_generations → k.source_timestamp ≡ moment
     → k.publication_handle ≡ w → k.value ≡ [] → k.is_read ≡ false
-    → k.handle ≡ handle_of q (Died w moment ∷ h) k.sample.key → IsNewest q (Died w moment ∷ h) k
+    → k.handle ≡ known_is.handle → IsNewest q (Died w moment ∷ h) k
 newest-died q w moment h known_is k is_known same valid number disposed no_writers timestamp publication value unread
     handle =
     let g : List Happening = Died w moment ∷ h in
     record {
-      handle_is = handle;
+      handle_is = handle ∙ (is_known.handle_is ∙ ap (λ (x : Key). handle_of q g x) same);
+      number_is = number ∙ (is_known.writes_are ∙ ap (λ (x : Key). writes_in_life q x g) same);
       read_is = unread;
       is_of = record {
         valid_is = valid;
-        number_is = number ∙ (is_known.writes_are ∙ ap (λ (x : Key). accepted_writes q x g) same);
         disposed_is = disposed ∙ (is_known.disposed_is ∙ ap (λ (x : Key). disposed_generations q x g) same);
         no_writers_is = no_writers ∙ (is_known.no_writers_is ∙ ap (λ (x : Key). no_writers_generations q x g) same);
         timestamp_is = timestamp;
@@ -59,6 +64,33 @@ newest-died q w moment h known_is k is_known same valid number disposed no_write
         value_is = value;
       };
     }
+
+-- where the newest entry is not the last marker, a death has left none
+pub died-absent : (q : ReaderQos) (w moment : ℕ) (h : List Happening) (i : Key)
+    → is_at (last_marker q i (Died w moment ∷ h)) (length h + 1) ≡ false
+    → is_present q (Died w moment ∷ h) i (length h + 1) ≡ false
+died-absent q w moment h i off =
+    let g : List Happening = Died w moment ∷ h in
+    let n : ℕ = length h + 1 in
+    ap (λ (x : List Happening). not (is_taken (sample_at i n) g) && ((ends_with_write q i x
+    && keeps q.history (accepted_writes q i g - accepted_writes q i x)) || is_at (last_marker q i g) n))
+    (as_of-newest (Died w moment) h)
+    ∙ (ap (λ (b : Bool). not (is_taken (sample_at i n) g) && (false || b)) off
+    ∙ and-false (not (is_taken (sample_at i n) g)))
+  where
+    and-false : (b : Bool) → (b && false) ≡ false
+    and-false true = refl
+    and-false false = refl
+
+-- of no instance
+pub adds-of-none : (q : ReaderQos) (g : List Happening) (n : ℕ) (ks : List Kept) → AddsOf q g n [] ks ks
+adds-of-none q g n ks = record {
+  added = [];
+  are = sym (append-nil ks);
+  each = All-nil (IsKept q g);
+  present = λ i. refl;
+  new_are = All-nil (IsNewAt q g n);
+}
 
 or-none : (b : Bool) → (b || false) ≡ b
 or-none true = refl
@@ -191,20 +223,18 @@ abbrev pub marked_among : Table → ℕ → ℕ
 marked_among table n = count_by (λ (t : InstanceTrack). is_at t.last_marker table.happened) (take n table.tracks)
 
 -- of one more it left one, or not
-pub marked-more : (table : Table) (at w : ℕ) → w ≡ at + 1
-    → marked_among table (at + 1) ≡ marked_among table at + one_if (has_marked table w)
-marked-more table at w is =
+pub marked-more : (table : Table) (at : ℕ)
+    → marked_among table (at + 1) ≡ marked_among table at + one_if (has_marked table at)
+marked-more table at =
     let next : at + 1 ≡ suc at = omega arith in
-    ap (λ (m : ℕ). count_by test (take m table.tracks)) next
-    ∙ (one_more at table.tracks
-    ∙ ap (λ (m : ℕ). count_by test (take at table.tracks) + one_if (has_marked table m)) (sym (is ∙ next)))
+    ap (λ (m : ℕ). count_by test (take m table.tracks)) next ∙ one_more at table.tracks
   where
     test : InstanceTrack → Bool
     test t = is_at t.last_marker table.happened
 
     one_more : (k : ℕ) (ts : List InstanceTrack)
         → count_by test (take (suc k) ts)
-        ≡ count_by test (take k ts) + one_if (has_marked (record table { tracks = ts }) (suc k))
+        ≡ count_by test (take k ts) + one_if (has_marked (record table { tracks = ts }) k)
     one_more zero [] = omega arith
     one_more (suc k) [] = omega arith
     one_more zero (t ∷ ts) = omega arith

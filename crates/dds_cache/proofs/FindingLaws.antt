@@ -1,16 +1,13 @@
 -- The samples that an access finds are those that the definitions say.
-use Rattle.std.proofs.Common.{◌≡◌, ℕ, ◌+◌, ◌≤◌, ◌<◌, ◌^◌, List, [], ◌∷◌, ◌++◌, length, get_or, take, map, filter, Bool, true, false, not, ◌==◌, ◌&&◌, ◌||◌, sym, ap, ◌∙◌, refl, subst, cond, arith, zero, suc, ⊎_elim, Option, Some}
-use Rattle.std.specs.Prelude.{if◌then◌else◌, is_some, slice_get}
-use Rattle.std.specs.List.{list_any, All, flat_map, range_with_len, IsDistinct, AllByRecursion}
+use Rattle.std.proofs.Common.{◌≡◌, ℕ, ◌+◌, ◌≤◌, ◌<◌, List, [], ◌∷◌, ◌++◌, length, get_or, take, map, filter, Bool, true, false, not, ◌==◌, ◌&&◌, sym, ap, ◌∙◌, refl, subst, cond, arith, zero, suc, ⊎_elim, ◌⊎◌, inr, Option, Some}
+use Rattle.std.specs.Prelude.{if◌then◌else◌}
+use Rattle.std.specs.List.{list_any, All, flat_map, range_with_len}
 use Rattle.std.specs.List.Sorted.{IsNonDecreasingBy, IsPermutation, IsStableByKey, ties}
 use Rattle.std.specs.Ordering.{nat_cmp, is_lt}
 use Rattle.std.proofs.lemmas.Bool.{cases_Bool}
 use Rattle.std.proofs.lemmas.Bool.Decides.{nat_tests}
-use Rattle.dds_base.specs.declared.happening.Happening.TheVariants.{Came, Passed, Heard, Died, Read, Took, Looked}
-use Rattle.dds_base.specs.Ownership.{accepted_kind}
-use Rattle.dds_instances.proofs.KnownLaws.{known}
 use Rattle.std.proofs.lemmas.List.{map-append, append-nil, take_more, get_or_default}
-use Rattle.std.proofs.lemmas.List.Elements.{filter-append, All-head, All-tail, All-push, All-weaker}
+use Rattle.std.proofs.lemmas.List.Elements.{filter-append, All-cons, All-head, All-tail, All-push, All-weaker}
 use Rattle.std.proofs.lemmas.List.Sorted.{All-permutation}
 use Rattle.std.proofs.lemmas.List.Concat.{flat_map-cons}
 use Rattle.dds_base.specs.declared.key.Key.{Key}
@@ -23,9 +20,10 @@ use Rattle.dds_base.specs.declared.sample.InstanceState.{InstanceState}
 use Rattle.dds_base.specs.declared.sample.Picked.{Picked}
 use Rattle.dds_base.specs.declared.qos.ReaderQos.{ReaderQos}
 use Rattle.dds_base.specs.Happening.{same_key, as_of}
-use Rattle.dds_base.specs.Instance.{known_instances, introduces, last_accepted, instance_state_of, view_state_of, disposed_generations, no_writers_generations, generations_of}
-use Rattle.dds_base.specs.Presence.{is_present, ends_with_write, present_of}
-use Rattle.dds_base.specs.Access.{sample_state_of, picked_of, own_generations, handle_of, instance_of, state_of_known, timestamp_of, publication_of, meets, matching_samples}
+use Rattle.dds_base.specs.Instance.{known_instances, instance_state_of, view_state_of, disposed_generations, no_writers_generations, generations_of}
+use Rattle.dds_base.specs.Life.{ends_with_write}
+use Rattle.dds_base.specs.Presence.{is_present, present_of}
+use Rattle.dds_base.specs.Access.{sample_state_of, picked_of, handle_of, lives_begun, state_of_known, timestamp_of, publication_of, meets, matching_samples}
 use Rattle.dds_base.specs.declared.sample.ViewState.TheVariants.{New}
 use Rattle.dds_base.specs.declared.sample.InstanceState.TheVariants.{Alive}
 use Rattle.dds_instances.specs.Table.{Table}
@@ -36,9 +34,10 @@ use Rattle.dds_cache.specs.declared.access.Candidate.{Candidate}
 use Rattle.dds_cache.specs.Kept.{IsKept, is_live, sample_at, position_of, positions_in, is_here}
 use Rattle.dds_cache.specs.Finding.{are_asked_for, is_asked_for, is_wanted, described_by, IsFound, IsCandidate, AreCandidates, Holds, sample_in, sample_of, handle_in, passes}
 use Rattle.dds_base.proofs.KeyLaws.{key-same, same_key-comm}
-use Rattle.dds_cache.proofs.KeptLaws.{live-present, instance-of-handle, NumberAt, number-there}
-use Rattle.dds_cache.proofs.PresenceLaws.{count-grew}
-use Rattle.dds_cache.proofs.GroupLaws.{group, groups, grouped, by-key, flat_map-same, distinct-push, distinct-nil}
+use Rattle.dds_cache.proofs.EndLaws.{handle-bounds, handles-rise}
+use Rattle.dds_cache.proofs.KeptLaws.{live-present}
+use Rattle.dds_cache.proofs.RiseLaws.{by-key}
+use Rattle.dds_cache.proofs.GroupLaws.{group, groups, grouped, flat_map-same}
 
 -- what the masks ask for, by what is kept and known
 pub asked-is : (q : ReaderQos) (h : List Happening) (masks : Masks) (known_is : KnownInstance) (k : Kept)
@@ -90,31 +89,6 @@ described-is q h known_is k is_known key kept =
     let valid : k.valid_data ≡ ends_with_write q s.key past = kept.is_of.valid_is in
     let handle : k.handle ≡ handle_of q h s.key = kept.handle_is in
     cc
-
-pub small-now : (q : ReaderQos) (h : List Happening) (known_is : KnownInstance) (k : Kept) → IsKnown q h known_is
-    → known_is.key ≡ k.sample.key → IsKept q h k → known_is.disposed_generations + known_is.no_writers_generations
-    < 2 ^ 64 → own_generations (described_by k known_is) < 2 ^ 64
-small-now q h known_is k is_known key kept small =
-    let i : Key = k.sample.key in
-    let j : ℕ = k.sample.position in
-    let a : known_is.disposed_generations ≡ disposed_generations q i h =
-    is_known.disposed_is ∙ ap (λ (x : Key). disposed_generations q x h) key in
-    let b : known_is.no_writers_generations ≡ no_writers_generations q i h =
-    is_known.no_writers_is ∙ ap (λ (x : Key). no_writers_generations q x h) key in
-    let c : disposed_generations q i (as_of j h) ≤ disposed_generations q i h =
-    count-grew (λ g. disposed_generations q i g) (λ e g. omega arith) j h in
-    let d : no_writers_generations q i (as_of j h) ≤ no_writers_generations q i h =
-    count-grew (λ g. no_writers_generations q i g) (λ e g. omega arith) j h in
-    omega (arith, a, b, c, d, kept.is_of.disposed_is, kept.is_of.no_writers_is, small)
-
-pub some-same : (a b : Key) → Some a ≡ Some b → a ≡ b
-some-same a b e = cc
-
--- the instance of a kept sample's handle is its own
-pub key-of-handle : (q : ReaderQos) (h : List Happening) (k : Kept) (x : Option Key) → IsKept q h k
-    → x ≡ instance_of q h k.handle → x ≡ Some k.sample.key
-key-of-handle q h k x kept is =
-    is ∙ (ap (λ (n : ℕ). instance_of q h n) kept.handle_is ∙ instance-of-handle q h k.sample.key kept.is_known)
 
 -- ---- one kept sample after another
 
@@ -252,51 +226,6 @@ wanted-of q h test i (k ∷ ks) =
         ∙ ap (λ (s : SamplePosition). cond (p s) (s ∷ filter p (map (sample_at i) (map position_of ys)))
         (filter p (map (sample_at i) (map position_of ys)))) (sym sample))
 
--- ---- the known instances are distinct
-
-flip-apart : (ks : List Key) (k : Key) → list_any (λ x. same_key x k) ks ≡ false
-    → AllByRecursion (λ x. same_key x k ≡ false) ks
-flip-apart [] k none = tt
-flip-apart (x ∷ ks) k none = (
-  first-false (same_key x k) (list_any (λ y. same_key y k) ks) none,
-  flip-apart ks k
-      (rest-false (same_key x k) (list_any (λ y. same_key y k) ks) none),
-)
-  where
-    first-false : (a b : Bool) → (a || b) ≡ false → a ≡ false
-    first-false true b e = e
-    first-false false b e = refl
-
-    rest-false : (a b : Bool) → (a || b) ≡ false → b ≡ false
-    rest-false true b e = absurd (let clash : true ≡ false = e in cc)
-    rest-false false b e = e
-
-still-distinct : (ks : List Key) → IsDistinct same_key ks → IsDistinct same_key (ks ++ [])
-still-distinct ks distinct = subst (λ (xs : List Key). IsDistinct same_key xs) (sym (append-nil ks)) distinct
-
-and-first : (a b : Bool) → (not a && b) ≡ true → a ≡ false
-and-first true b e = absurd (let clash : false ≡ true = e in cc)
-and-first false b e = refl
-
-pub known-distinct : (q : ReaderQos) (h : List Happening) → IsDistinct same_key (known_instances q h)
-known-distinct q [] = distinct-nil
-known-distinct q (Came a ∷ h) =
-    ⊎_elim
-    (λ new. subst (λ (b : Bool). IsDistinct same_key (known_instances q h ++ cond b (a.change.key ∷ []) [])) (sym new)
-    (distinct-push (known_instances q h) a.change.key (known-distinct q h)
-    (flip-apart (known_instances q h) a.change.key
-    (known q h a.change.key ∙ and-first (is_some (last_accepted q a.change.key h))
-    (is_some (accepted_kind q a.change.key h (Came a))) new))))
-    (λ old. subst (λ (b : Bool). IsDistinct same_key (known_instances q h ++ cond b (a.change.key ∷ []) [])) (sym old)
-    (still-distinct (known_instances q h) (known-distinct q h)))
-    (cases_Bool (introduces q a.change.key h (Came a)))
-known-distinct q (Passed w first last ∷ h) = still-distinct (known_instances q h) (known-distinct q h)
-known-distinct q (Heard w m ∷ h) = still-distinct (known_instances q h) (known-distinct q h)
-known-distinct q (Died w m ∷ h) = still-distinct (known_instances q h) (known-distinct q h)
-known-distinct q (Read s ∷ h) = still-distinct (known_instances q h) (known-distinct q h)
-known-distinct q (Took s ∷ h) = still-distinct (known_instances q h) (known-distinct q h)
-known-distinct q (Looked s ∷ h) = still-distinct (known_instances q h) (known-distinct q h)
-
 -- ---- candidates in the order of their handles are the matching samples
 
 tie-is : (x y : Candidate) → ties (λ a b. is_lt (nat_cmp (handle_in a) (handle_in b))) x y
@@ -346,21 +275,18 @@ nothing = record {
   at = 0;
 }
 
-pub handle-bounds : (q : ReaderQos) (h : List Happening) (i : Key)
-    → list_any (λ k. same_key k i) (known_instances q h) ≡ true
-    → (1 ≤ handle_of q h i) × (handle_of q h i < 1 + length (known_instances q h))
-handle-bounds q h i known_is = bounds-of (number-there 1 (known_instances q h) i known_is)
+-- those that pass a test, as samples
+pub passing-all : (P : SamplePosition → Type 0) (test : Kept → Bool) (ks : List Kept) → All (λ (k : Kept). P k.sample) ks
+    → All P (map sample_of (filter test ks))
+passing-all P test [] all = λ k d within. absurd (omega (arith, within))
+passing-all P test (k ∷ ks) all =
+    one (test k) k (map sample_of (filter test ks)) (filter test ks) refl (All-head (λ (x : Kept). P x.sample) k ks all)
+    (passing-all P test ks (All-tail (λ (x : Kept). P x.sample) k ks all))
   where
-    inside : (ks : List Key) (at : ℕ) (k : Key) → slice_get ks at ≡ Some k → at < length ks
-    inside [] at k e = absurd cc
-    inside (x ∷ ks) zero k e = omega arith
-    inside (x ∷ ks) (suc at) k e = let less : at < length ks = inside ks at k e in omega (arith, less)
-
-    bounds-of : NumberAt 1 (known_instances q h) i → (1 ≤ handle_of q h i)
-        × (handle_of q h i < 1 + length (known_instances q h))
-    bounds-of place =
-        let less : place.at < length (known_instances q h) = inside (known_instances q h) place.at i place.there in
-        (omega (arith, place.number_is), omega (arith, place.number_is, less))
+    one : (b : Bool) (k : Kept) (ss : List SamplePosition) (xs : List Kept) → map sample_of xs ≡ ss → P k.sample
+        → All P (map sample_of xs) → All P (map sample_of (cond b (k ∷ xs) xs))
+    one true k ss xs is first rest = All-cons P k.sample (map sample_of xs) first rest
+    one false k ss xs is first rest = rest
 
 -- the samples of the candidates in the order of their handles
 pub matched : (q : ReaderQos) (table : Table) (h : List Happening) (masks : Masks) (test : Key → List ℕ → Bool)
@@ -369,7 +295,7 @@ pub matched : (q : ReaderQos) (table : Table) (h : List Happening) (masks : Mask
     → map sample_in after ≡ matching_samples q h masks test
 matched q table h masks test ks before after holds candidates permuted sorted stable =
     let known_is : List Key = known_instances q h in
-    let n : ℕ = length known_is in
+    let n : ℕ = lives_begun q h in
     let H : SamplePosition → ℕ = λ s. handle_of q h s.key in
     let S : List SamplePosition = map sample_of (filter (is_wanted q h masks test) ks) in
     let bounds : (c : Candidate) → IsCandidate q h ks c → (1 ≤ handle_in c) × (handle_in c < 1 + n) =
@@ -389,7 +315,12 @@ matched q table h masks test ks before after holds candidates permuted sorted st
     (λ m. stable-group before after nothing m stable))
     ∙ (map-groups before H 1 n handles
     ∙ (ap (λ (ss : List SamplePosition). groups H ss 1 n) candidates.samples_are
-    ∙ (by-key 1 known_is S (omega arith) (known-distinct q h)
+    ∙ (by-key (λ i. handle_of q h i) 1 n known_is S (handles-rise q h)
+    (All-weaker (λ (s : SamplePosition). list_any (λ k. same_key k s.key) known_is ≡ true)
+    (λ (s : SamplePosition). (handle_of q h s.key < 1) ⊎ (list_any (λ k. same_key k s.key) known_is ≡ true))
+    (λ s there. inr there) S (passing-all (λ (s : SamplePosition). list_any (λ k. same_key k s.key) known_is ≡ true)
+    (is_wanted q h masks test) ks (All-weaker (IsKept q h)
+    (λ (k : Kept). list_any (λ i. same_key i k.sample.key) known_is ≡ true) (λ k kept. kept.is_known) ks holds.each)))
     ∙ (flat_map-same (λ i. filter (λ (s : SamplePosition). same_key i s.key) S)
     (λ i. filter (is_asked_for q h masks test) (present_of q h i)) known_is
     (λ i. wanted-of q h (is_asked_for q h masks test) i ks

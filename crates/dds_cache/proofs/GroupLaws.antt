@@ -1,18 +1,10 @@
 -- A list that is sorted by a number is its groups, one number after another.
-use Rattle.std.proofs.Common.{◌≡◌, ℕ, ◌+◌, ◌≤◌, ◌<◌, List, [], ◌∷◌, ◌++◌, length, get_or, filter, Bool, true, false, ◌==◌, sym, ap, ◌∙◌, refl, cond, arith, zero, suc, ⊎_elim, ◌⊎◌, inl, inr}
-use Rattle.std.specs.Prelude.{if◌then◌else◌}
-use Rattle.std.specs.List.{All, flat_map, range_with_len, IsDistinct, AllByRecursion}
+use Rattle.std.proofs.Common.{◌≡◌, ℕ, ◌+◌, ◌≤◌, ◌<◌, List, [], ◌∷◌, ◌++◌, get_or, filter, Bool, false, ◌==◌, sym, ap, ◌∙◌, refl, cond, arith, zero, suc, ⊎_elim}
+use Rattle.std.specs.List.{All, flat_map, range_with_len}
 use Rattle.std.specs.List.Sorted.{IsNonDecreasingBy}
 use Rattle.std.proofs.lemmas.Bool.{cases_Bool, eqb-true, eqb-false}
-use Rattle.std.proofs.lemmas.Bool.Decides.{nat_tests}
 use Rattle.std.proofs.lemmas.List.Elements.{All-head, All-tail}
 use Rattle.std.proofs.lemmas.List.Concat.{flat_map-cons}
-use Rattle.std.proofs.lemmas.Map.Keys.{IsDistinct-head, IsDistinct-tail, IsDistinct-cons}
-use Rattle.dds_base.specs.declared.key.Key.{Key}
-use Rattle.dds_base.specs.declared.happening.SamplePosition.{SamplePosition}
-use Rattle.dds_base.specs.Happening.{same_key}
-use Rattle.dds_base.specs.Access.{number_from}
-use Rattle.dds_base.proofs.KeyLaws.{key-same, same_key-comm}
 
 -- those whose number is m
 abbrev pub group : {X : Type 0} → (X → ℕ) → List X → ℕ → List X
@@ -49,7 +41,7 @@ group-skip {X = X} key x xs a n below =
     (λ m above. ap (λ (b : Bool). cond b (x ∷ group key xs m) (group key xs m))
     (unequal (key x) m (λ same. omega (arith, same, below, above))))
 
-filter-none : {X : Type 0} (key : X → ℕ) (xs : List X) (a : ℕ) → All (λ y. a < key y) xs → group key xs a ≡ []
+pub filter-none : {X : Type 0} (key : X → ℕ) (xs : List X) (a : ℕ) → All (λ y. a < key y) xs → group key xs a ≡ []
 filter-none key [] a all = refl
 filter-none {X = X} key (x ∷ xs) a all =
     ap (λ (b : Bool). cond b (x ∷ group key xs a) (group key xs a))
@@ -92,85 +84,3 @@ grouped {X = X} key (x ∷ xs) a n sorted all =
     ∙ ap (λ (ys : List X). x ∷ ys)
     (grouped key xs a n (λ i j d le within. sorted (suc i) (suc j) d (omega (arith, le)) (omega (arith, within)))
     (All-tail (λ (y : X). (a ≤ key y) × (key y < a + n)) x xs all))
-
--- ---- groups by handle are groups by key
-
-all-push : (P : Key → Type 0) (ks : List Key) (k : Key) → AllByRecursion P ks → P k → AllByRecursion P (ks ++ k ∷ [])
-all-push P [] k all p = (p, tt)
-all-push P (x ∷ ks) k all p = (all.0, all-push P ks k all.1 p)
-
-pub distinct-nil : IsDistinct same_key []
-unfolding IsDistinct
-distinct-nil = tt
-
--- one more key, that is not there
-pub distinct-push : (ks : List Key) (k : Key) → IsDistinct same_key ks → AllByRecursion (λ x. same_key x k ≡ false) ks
-    → IsDistinct same_key (ks ++ k ∷ [])
-distinct-push [] k distinct apart = IsDistinct-cons same_key k [] tt distinct
-distinct-push (x ∷ ks) k distinct apart =
-    IsDistinct-cons same_key x (ks ++ k ∷ [])
-    (all-push (λ (y : Key). same_key x y ≡ false) ks k (IsDistinct-head same_key x ks distinct) apart.0)
-    (distinct-push ks k (IsDistinct-tail same_key x ks distinct) apart.1)
-
-number-above : (n : ℕ) (i : Key) (ks : List Key) → (number_from n i ks ≡ 0) ⊎ (n ≤ number_from n i ks)
-number-above n i [] = inl refl
-number-above n i (k ∷ ks) =
-    ⊎_elim
-    (λ same. let is : number_from n i (k ∷ ks)
-    ≡ n = ap (λ (b : Bool). if b then n else number_from (n + 1) i ks) same in inr (omega (arith, is)))
-    (λ other. let is : number_from n i (k ∷ ks)
-    ≡ number_from (n + 1) i ks = ap (λ (b : Bool). if b then n else number_from (n + 1) i ks) other in
-    ⊎_elim (λ none. inl (is ∙ none)) (λ above. inr (omega (arith, is, above))) (number-above (n + 1) i ks))
-    (cases_Bool (same_key k i))
-
--- a key that is not there has no number
-number-absent : (n : ℕ) (i x : Key) (ks : List Key) → i ≡ x → AllByRecursion (λ y. same_key i y ≡ false) ks
-    → number_from n x ks ≡ 0
-number-absent n i x [] is apart = refl
-number-absent n i x (k ∷ ks) is apart =
-    ap (λ (b : Bool). if b then n else number_from (n + 1) x ks)
-    (same_key-comm k x ∙ (ap (λ (y : Key). same_key y k) (sym is) ∙ apart.0)) ∙ number-absent (n + 1) i x ks is apart.1
-
-filter-pointwise : (f g : SamplePosition → Bool) (ss : List SamplePosition) → ((s : SamplePosition) → f s ≡ g s)
-    → filter f ss ≡ filter g ss
-filter-pointwise f g [] same = refl
-filter-pointwise f g (s ∷ ss) same =
-    ap (λ (b : Bool). cond b (s ∷ filter f ss) (filter f ss)) (same s)
-    ∙ ap (λ (xs : List SamplePosition). cond (g s) (s ∷ xs) xs) (filter-pointwise f g ss same)
-
-eqb-refl : (n : ℕ) → (n == n) ≡ true
-eqb-refl n = grind (arith, nat_tests)
-
-pub by-key : (k : ℕ) (ks : List Key) (ss : List SamplePosition) → 0 < k → IsDistinct same_key ks
-    → groups (λ (s : SamplePosition). number_from k s.key ks) ss k (length ks)
-    ≡ flat_map (λ i. filter (λ (s : SamplePosition). same_key i s.key) ss) ks
-by-key k [] ss positive distinct = refl
-by-key k (i ∷ ks) ss positive distinct =
-    let own : (s : SamplePosition) → (number_from k s.key (i ∷ ks) == k) ≡ same_key i s.key = λ s. ⊎_elim
-    (λ same. ap (λ (b : Bool). (if b then k else number_from (k + 1) s.key ks) == k) same ∙ (eqb-refl k ∙ sym same))
-    (λ other. ap (λ (b : Bool). (if b then k else number_from (k + 1) s.key ks) == k) other
-    ∙ (unequal (number_from (k + 1) s.key ks) k
-    (λ e. ⊎_elim (λ none. omega (arith, e, none, positive)) (λ above. omega (arith, e, above))
-    (number-above (k + 1) s.key ks)) ∙ sym other))
-    (cases_Bool (same_key i s.key)) in
-    let rest : (m : ℕ) → k + 1 ≤ m → (s : SamplePosition) → (number_from k s.key (i ∷ ks) == m)
-    ≡ (number_from (k + 1) s.key ks == m) = λ m above s. ⊎_elim
-    (λ same. let none : number_from (k + 1) s.key ks
-    ≡ 0 = number-absent (k + 1) i s.key ks (key-same i s.key same) (IsDistinct-head same_key i ks distinct) in
-    ap (λ (b : Bool). (if b then k else number_from (k + 1) s.key ks) == m) same
-    ∙ (unequal k m (λ e. omega (arith, e, above))
-    ∙ sym (unequal (number_from (k + 1) s.key ks) m (λ e. omega (arith, e, none, above)))))
-    (λ other. ap (λ (b : Bool). (if b then k else number_from (k + 1) s.key ks) == m) other)
-    (cases_Bool (same_key i s.key)) in
-    flat_map-cons (group (λ (s : SamplePosition). number_from k s.key (i ∷ ks)) ss) k
-    (range_with_len (k + 1) (length ks))
-    ∙ (ap (λ (xs : List SamplePosition). xs ++ flat_map
-    (group (λ (s : SamplePosition). number_from k s.key (i ∷ ks)) ss) (range_with_len (k + 1) (length ks)))
-    (filter-pointwise (λ s. number_from k s.key (i ∷ ks) == k) (λ s. same_key i s.key) ss own)
-    ∙ (ap (λ (xs : List SamplePosition). filter (λ (s : SamplePosition). same_key i s.key) ss ++ xs)
-    (flat_map-from (group (λ (s : SamplePosition). number_from k s.key (i ∷ ks)) ss)
-    (group (λ (s : SamplePosition). number_from (k + 1) s.key ks) ss) (k + 1) (length ks)
-    (λ m above. filter-pointwise (λ s. number_from k s.key (i ∷ ks) == m)
-    (λ s. number_from (k + 1) s.key ks == m) ss (rest m above))
-    ∙ by-key (k + 1) ks ss (omega arith) (IsDistinct-tail same_key i ks distinct))
-    ∙ sym (flat_map-cons (λ (x : Key). filter (λ (s : SamplePosition). same_key x s.key) ss) i ks)))

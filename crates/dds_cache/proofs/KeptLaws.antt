@@ -1,9 +1,7 @@
 -- What is kept of a sample stays true of it, and says whether it is present.
-use Rattle.std.proofs.Common.{◌≡◌, ℕ, ◌+◌, ◌-◌, List, [], ◌∷◌, ◌++◌, length, Bool, true, false, not, ◌&&◌, ◌||◌, sym, ap, ◌∙◌, refl, subst, Option, Some, None, arith, zero, suc, ⊎_elim}
-use Rattle.std.specs.Prelude.{if◌then◌else◌, slice_get, is_some}
+use Rattle.std.proofs.Common.{◌≡◌, ℕ, ◌+◌, ◌-◌, List, [], ◌∷◌, length, Bool, true, false, not, ◌&&◌, ◌||◌, sym, ap, ◌∙◌, refl, subst, Option, Some, None, arith}
+use Rattle.std.specs.Prelude.{if◌then◌else◌, is_some, IfSome, MatchOption}
 use Rattle.std.specs.List.{list_any}
-use Rattle.std.proofs.lemmas.Bool.{cases_Bool}
-use Rattle.std.proofs.lemmas.List.Folds.{list_any-append}
 use Rattle.dds_base.specs.declared.key.Key.{Key}
 use Rattle.dds_base.specs.declared.happening.Arrival.{Arrival}
 use Rattle.dds_base.specs.declared.happening.Happening.TheVariants.{Came}
@@ -13,96 +11,51 @@ use Rattle.dds_base.specs.declared.qos.ReaderQos.{ReaderQos}
 use Rattle.dds_base.specs.Happening.{same_key, as_of, is_read, is_taken, read_by, taken_by, same_sample}
 use Rattle.dds_base.specs.declared.change.ChangeKind.{ChangeKind}
 use Rattle.dds_base.specs.declared.sample.InstanceState.{InstanceState}
-use Rattle.dds_base.specs.Ownership.{registered_writers}
-use Rattle.dds_base.specs.Instance.{known_instances, introduced_by, instance_state_of, state_after, is_nobody, last_accepted, disposed_generations, no_writers_generations}
-use Rattle.dds_base.specs.Presence.{is_present, is_kept_write, keeps, is_at, last_marker, accepted_writes, ends_with_write}
-use Rattle.dds_base.specs.Access.{handle_of, instance_of, number_from, newest_value}
-use Rattle.dds_base.proofs.KeyLaws.{key-same}
+use Rattle.dds_base.specs.Ownership.{accepted_kind, registered_writers}
+use Rattle.dds_base.specs.Instance.{is_known, known_instances, instance_state_of, disposed_generations, no_writers_generations}
+use Rattle.dds_base.specs.Life.{state_after, is_nobody, is_write, last_accepted, is_kept_write, keeps, is_at, last_marker, accepted_writes, ends_life, ends_with_write}
+use Rattle.dds_base.specs.Presence.{is_present}
+use Rattle.dds_base.specs.Access.{handle_of, newest_value}
+use Rattle.dds_base.proofs.LifeLaws.{as_of-older, as_of-newest, handle-kept}
 use Rattle.dds_instances.specs.declared.known.KnownInstance.{KnownInstance}
-use Rattle.dds_instances.specs.Known.{IsKnown}
+use Rattle.dds_instances.specs.Known.{IsKnown, writes_in_life}
 use Rattle.dds_cache.specs.declared.kept.Kept.{Kept}
-use Rattle.dds_cache.specs.Kept.{IsKept, IsOf, IsFresh, is_live, sample_at, value_if}
-use Rattle.dds_cache.proofs.PresenceLaws.{as_of-older, as_of-newest}
-use Rattle.dds_instances.proofs.KnownLaws.{known}
-
--- a known instance keeps its handle
-number-still : (n : ℕ) (ks xs : List Key) (i : Key) → list_any (λ k. same_key k i) ks ≡ true
-    → number_from n i (ks ++ xs) ≡ number_from n i ks
-number-still n [] xs i known = absurd (let clash : false ≡ true = known in cc)
-number-still n (k ∷ ks) xs i known =
-    ⊎_elim
-    (λ same. ap (λ (b : Bool). if b then n else number_from (n + 1) i (ks ++ xs)) same
-    ∙ sym (ap (λ (b : Bool). if b then n else number_from (n + 1) i ks) same))
-    (λ other. ap (λ (b : Bool). if b then n else number_from (n + 1) i (ks ++ xs)) other
-    ∙ (number-still (n + 1) ks xs i (sym (ap (λ (b : Bool). b || list_any (λ x. same_key x i) ks) other) ∙ known)
-    ∙ sym (ap (λ (b : Bool). if b then n else number_from (n + 1) i ks) other)))
-    (cases_Bool (same_key k i))
-
-pub handle-still : (q : ReaderQos) (e : Happening) (h : List Happening) (i : Key)
-    → list_any (λ k. same_key k i) (known_instances q h) ≡ true → handle_of q (e ∷ h) i ≡ handle_of q h i
-handle-still q e h i known = number-still 1 (known_instances q h) (introduced_by q h e) i known
-
-pub known-still : (q : ReaderQos) (e : Happening) (h : List Happening) (i : Key)
-    → list_any (λ k. same_key k i) (known_instances q h) ≡ true
-    → list_any (λ k. same_key k i) (known_instances q (e ∷ h)) ≡ true
-known-still q e h i known =
-    list_any-append (λ k. same_key k i) (known_instances q h) (introduced_by q h e)
-    ∙ ap (λ (b : Bool). b || list_any (λ k. same_key k i) (introduced_by q h e)) known
-
--- where the number of a key stands
-pub record NumberAt (n : ℕ) (ks : List Key) (i : Key) : Type 0 where
-  pub at : ℕ
-  pub number_is : number_from n i ks ≡ n + at
-  pub there : slice_get ks at ≡ Some i
-
-pub number-there : (n : ℕ) (ks : List Key) (i : Key) → list_any (λ k. same_key k i) ks ≡ true → NumberAt n ks i
-number-there n [] i known = absurd (let clash : false ≡ true = known in cc)
-number-there n (k ∷ ks) i known =
-    ⊎_elim
-    (λ same. record {
-      at = zero;
-      number_is = ap (λ (b : Bool). if b then n else number_from (n + 1) i ks) same
-          ∙ (let plus : n ≡ n + 0 = omega arith in plus);
-      there = ap (λ (x : Key). Some x) (key-same k i same);
-    })
-    (λ other. let rest : NumberAt (n + 1) ks i = number-there (n + 1) ks i
-    (sym (ap (λ (b : Bool). b || list_any (λ x. same_key x i) ks) other) ∙ known) in
-    record {
-      at = suc rest.at;
-      number_is = ap (λ (b : Bool). if b then n else number_from (n + 1) i ks) other
-          ∙ (rest.number_is ∙ (let plus : n + 1 + rest.at ≡ n + suc rest.at = omega arith in plus));
-      there = rest.there;
-    })
-    (cases_Bool (same_key k i))
-
--- the instance of the handle of a known instance
-pub instance-of-handle : (q : ReaderQos) (h : List Happening) (i : Key)
-    → list_any (λ k. same_key k i) (known_instances q h) ≡ true → instance_of q h (handle_of q h i) ≡ Some i
-instance-of-handle q h i known =
-    let place : NumberAt 1 (known_instances q h) i = number-there 1 (known_instances q h) i known in
-    let number : handle_of q h i ≡ suc place.at =
-    place.number_is ∙ (let plus : 1 + place.at ≡ suc place.at = omega arith in plus) in
-    ap (λ (n : ℕ). instance_of q h n) number ∙ place.there
+use Rattle.dds_cache.specs.Kept.{IsKept, IsOf, IsFresh, is_live, is_live_by, sample_at, value_if}
+use Rattle.dds_cache.proofs.EndLaws.{known, known-lives}
+use Rattle.dds_cache.proofs.PresenceLaws.{unstated}
 
 -- ---- one more entry
 
+-- a count that goes on keeps its distance from one that is never reset
+number-next : (ends : Bool) (more all own past number : ℕ) → ends ≡ false → all + number ≡ own + past
+    → all + more + number ≡ (if ends then 0 else own + more) + past
+number-next true more all own past number is before = absurd (let clash : true ≡ false = is in cc)
+number-next false more all own past number is before = omega (arith, before)
+
+-- of an instance that is still known
 pub kept-next : (q : ReaderQos) (e : Happening) (h : List Happening) (k : Kept) (r : Bool)
-    → list_any (same_sample k.sample) (taken_by e) ≡ false
+    → is_known q (e ∷ h) k.sample.key ≡ true → list_any (same_sample k.sample) (taken_by e) ≡ false
     → r ≡ (list_any (same_sample k.sample) (read_by e) || k.is_read) → IsKept q h k
     → IsKept q (e ∷ h) (record k { is_read = r })
-kept-next q e h k r untaken read_is kept =
+kept-next q e h k r lives untaken read_is kept =
+    let i : Key = k.sample.key in
+    let older : as_of k.sample.position (e ∷ h) ≡ as_of k.sample.position h =
+    as_of-older e h k.sample.position kept.in_past in
     let past : IsOf q (as_of k.sample.position (e ∷ h)) k =
-    subst (λ (g : List Happening). IsOf q g k) (sym (as_of-older e h k.sample.position kept.in_past)) kept.is_of in
+    subst (λ (g : List Happening). IsOf q g k) (sym older) kept.is_of in
     record {
       in_past = omega (arith, kept.in_past);
-      is_known = known-still q e h k.sample.key kept.is_known;
-      handle_is = kept.handle_is ∙ sym (handle-still q e h k.sample.key kept.is_known);
+      is_known = known q (e ∷ h) i ∙ lives;
+      handle_is = kept.handle_is ∙ sym (handle-kept q i h e lives (sym (known q h i) ∙ kept.is_known));
+      numbered =
+          number-next (ends_life q i h e) (if is_write (accepted_kind q i h e) then 1 else 0) _ _ _ k.number
+          (known-lives q e h i lives) kept.numbered
+          ∙ ap (λ (g : List Happening). writes_in_life q i (e ∷ h) + accepted_writes q i g) (sym older);
       untaken = ap (λ (b : Bool). b || is_taken k.sample h) untaken ∙ kept.untaken;
       read_is = read_is ∙ ap (λ (b : Bool). list_any (same_sample k.sample) (read_by e) || b) kept.read_is;
       is_of =
           record {
             valid_is = past.valid_is;
-            number_is = past.number_is;
             disposed_is = past.disposed_is;
             no_writers_is =
                 past.no_writers_is;
@@ -113,37 +66,42 @@ kept-next q e h k r untaken read_is kept =
           };
     }
 
--- an entry that is no access
-pub kept-quiet : (q : ReaderQos) (e : Happening) (h : List Happening) (k : Kept) → taken_by e ≡ [] → read_by e ≡ []
-    → IsKept q h k → IsKept q (e ∷ h) k
-kept-quiet q e h k taken read kept =
-    kept-next q e h k k.is_read (ap (λ (ss : List SamplePosition). list_any (same_sample k.sample) ss) taken)
-    (sym (ap (λ (ss : List SamplePosition). list_any (same_sample k.sample) ss || k.is_read) read)) kept
-
 -- ---- whether a kept sample is present
+
+-- by how many writes of its instance were accepted in its life, and its last marker
+pub live-by-present : (q : ReaderQos) (h : List Happening) (k : Kept) → IsKept q h k
+    → is_live_by q (writes_in_life q k.sample.key h) (last_marker q k.sample.key h) k
+    ≡ is_present q h k.sample.key k.sample.position
+live-by-present q h k kept =
+    let i : Key = k.sample.key in
+    let j : ℕ = k.sample.position in
+    let later : writes_in_life q i h - k.number ≡ accepted_writes q i h - accepted_writes q i (as_of j h) =
+    omega (arith, kept.numbered) in
+    ap (λ (b : Bool). (b && keeps q.history (writes_in_life q i h - k.number)) || is_at (last_marker q i h) j)
+    kept.is_of.valid_is
+    ∙ (ap (λ (n : ℕ). (ends_with_write q i (as_of j h) && keeps q.history n) || is_at (last_marker q i h) j) later
+    ∙ sym (ap (λ (b : Bool). not b && (is_kept_write q h i j || is_at (last_marker q i h) j)) kept.untaken))
+
+-- what is known of an instance says of a kept sample of it whether it is live
+pub live-known : (q : ReaderQos) (h : List Happening) (known : KnownInstance) (k : Kept) → IsKnown q h known
+    → known.key ≡ k.sample.key
+    → is_live q known k ≡ is_live_by q (writes_in_life q k.sample.key h) (last_marker q k.sample.key h) k
+live-known q h known k is_known key =
+    ap (λ (n : ℕ). is_live_by q n known.last_marker k)
+    (is_known.writes_are ∙ ap (λ (x : Key). writes_in_life q x h) key)
+    ∙ ap (λ (m : Option ℕ). is_live_by q (writes_in_life q k.sample.key h) m k)
+    (is_known.marker_is ∙ ap (λ (x : Key). last_marker q x h) key)
 
 pub live-present : (q : ReaderQos) (h : List Happening) (known : KnownInstance) (k : Kept) → IsKnown q h known
     → known.key ≡ k.sample.key → IsKept q h k → is_live q known k ≡ is_present q h k.sample.key k.sample.position
-live-present q h known k is_known key kept =
-    let i : Key = k.sample.key in
-    let j : ℕ = k.sample.position in
-    let writes : known.accepted_writes ≡ accepted_writes q i h =
-    is_known.writes_are ∙ ap (λ (x : Key). accepted_writes q x h) key in
-    let marker : known.last_marker ≡ last_marker q i h = is_known.marker_is ∙ ap (λ (x : Key). last_marker q x h) key in
-    ap (λ (b : Bool). (b && keeps q.history (known.accepted_writes - k.number)) || is_at known.last_marker j)
-    kept.is_of.valid_is
-    ∙ (ap (λ (n : ℕ). (ends_with_write q i (as_of j h) && keeps q.history (n - k.number)) || is_at known.last_marker j)
-    writes
-    ∙ (ap (λ (n : ℕ). (ends_with_write q i (as_of j h) && keeps q.history (accepted_writes q i h - n)) || is_at
-    known.last_marker j) kept.is_of.number_is
-    ∙ (ap (λ (m : Option ℕ). is_kept_write q h i j || is_at m j) marker
-    ∙ sym (ap (λ (b : Bool). not b && (is_kept_write q h i j || is_at (last_marker q i h) j)) kept.untaken))))
+live-present q h known k is_known key kept = live-known q h known k is_known key ∙ live-by-present q h k kept
 
 -- ---- the newest sample
 
 -- what is known of the newest entry's sample of an instance
 pub record IsNewest (q : ReaderQos) (g : List Happening) (k : Kept) : Type 0 where
   pub handle_is : k.handle ≡ handle_of q g k.sample.key
+  pub number_is : k.number ≡ writes_in_life q k.sample.key g
   pub read_is : k.is_read ≡ false
   pub is_of : IsOf q g k
 
@@ -156,6 +114,25 @@ state-some (Some k) nobody s e = refl
 pub known-stated : (q : ReaderQos) (g : List Happening) (i : Key) (s : InstanceState) → instance_state_of q i g ≡ Some s
     → list_any (λ k. same_key k i) (known_instances q g) ≡ true
 known-stated q g i s is = known q g i ∙ state-some (last_accepted q i g) (is_nobody (registered_writers q i g)) s is
+
+-- an instance is known exactly where something is told of it
+pub known-told : (q : ReaderQos) (h : List Happening) (i : Key) (told : Option KnownInstance)
+    → MatchOption told (instance_state_of q i h ≡ None) (λ (k : KnownInstance). k.key ≡ i) → IfSome told (IsKnown q h)
+    → is_known q h i ≡ is_some told
+known-told q h i None none is =
+    ap (λ (l : Option ChangeKind). is_some l) (unstated (last_accepted q i h) (is_nobody (registered_writers q i h)) none)
+known-told q h i (Some k) key is =
+    ap (λ (x : Key). is_known q h x) (sym key)
+    ∙ (sym (known q h k.key) ∙ known-stated q h k.key k.state is.state_is)
+
+-- the instance of a kept sample has a state
+pub kept-stated : (q : ReaderQos) (h : List Happening) (k : Kept) → IsKept q h k
+    → instance_state_of q k.sample.key h ≡ None → ⊥
+kept-stated q h k kept none =
+    let last : last_accepted q k.sample.key h ≡ None =
+    unstated (last_accepted q k.sample.key h) (is_nobody (registered_writers q k.sample.key h)) none in
+    let is : true ≡ is_some (last_accepted q k.sample.key h) = sym kept.is_known ∙ known q h k.sample.key in
+    let clash : true ≡ false = is ∙ ap (λ (l : Option ChangeKind). is_some l) last in cc
 
 pub kept-newest : (q : ReaderQos) (e : Happening) (h : List Happening) (i : Key) (known_is : KnownInstance) (k : Kept)
     → taken_by e ≡ [] → read_by e ≡ [] → IsFresh h i → k.sample ≡ sample_at i (length h + 1)
@@ -177,6 +154,12 @@ kept-newest q e h i known_is k taken read fresh sample is_known key newest =
           newest.read_is
           ∙ sym (ap (λ (ss : List SamplePosition). list_any (same_sample k.sample) ss || is_read k.sample h) read
           ∙ (ap (λ (s : SamplePosition). is_read s h) sample ∙ fresh.unread));
+      numbered =
+          (let sum : accepted_writes q k.sample.key (e ∷ h) + k.number
+          ≡ writes_in_life q k.sample.key (e ∷ h) + accepted_writes q k.sample.key (e ∷ h) =
+          omega (arith, newest.number_is) in sum)
+          ∙ ap (λ (g : List Happening). writes_in_life q k.sample.key (e ∷ h) + accepted_writes q k.sample.key g)
+          (sym now);
       is_of = subst (λ (g : List Happening). IsOf q g k) (sym now) newest.is_of;
     }
 
@@ -196,17 +179,17 @@ pub newest-came : (q : ReaderQos) (a : Arrival) (h : List Happening) (known_is :
     → k.disposed_generation_count ≡ known_is.disposed_generations
     → k.no_writers_generation_count ≡ known_is.no_writers_generations → k.source_timestamp ≡ a.change.source_timestamp
     → k.publication_handle ≡ a.writer → k.value ≡ value_if k.valid_data a.change.value → k.is_read ≡ false
-    → k.handle ≡ handle_of q (Came a ∷ h) a.change.key → IsNewest q (Came a ∷ h) k
+    → k.handle ≡ known_is.handle → IsNewest q (Came a ∷ h) k
 newest-came q a h known_is k is_known key sample valid number disposed no_writers timestamp publication value unread
     handle =
     let g : List Happening = Came a ∷ h in
     let same : known_is.key ≡ k.sample.key = key ∙ sym sample in
     record {
-      handle_is = handle ∙ ap (λ (x : Key). handle_of q g x) (sym sample);
+      handle_is = handle ∙ (is_known.handle_is ∙ ap (λ (x : Key). handle_of q g x) same);
+      number_is = number ∙ (is_known.writes_are ∙ ap (λ (x : Key). writes_in_life q x g) same);
       read_is = unread;
       is_of = record {
         valid_is = valid ∙ ap (λ (x : Key). ends_with_write q x g) (sym sample);
-        number_is = number ∙ (is_known.writes_are ∙ ap (λ (x : Key). accepted_writes q x g) same);
         disposed_is = disposed ∙ (is_known.disposed_is ∙ ap (λ (x : Key). disposed_generations q x g) same);
         no_writers_is = no_writers ∙ (is_known.no_writers_is ∙ ap (λ (x : Key). no_writers_generations q x g) same);
         timestamp_is = timestamp;

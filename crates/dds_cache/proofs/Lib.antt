@@ -1,4 +1,6 @@
 pub mod PresenceLaws
+pub mod RiseLaws
+pub mod EndLaws
 pub mod KeptLaws
 pub mod StandingLaws
 pub mod GroupLaws
@@ -11,3 +13,4 @@ pub mod DataLaws
 pub mod RoomLaws
 pub mod DeathLaws
 pub mod SweepLaws
+pub mod HoldLaws

@@ -2,7 +2,7 @@
 use Rattle.std.proofs.Common.{◌≡◌, ℕ, ◌+◌, ◌-◌, ◌≤◌, ◌<◌, List, [], ◌∷◌, ◌++◌, length, map, filter, Bool, true, false, not, ◌&&◌, ◌||◌, sym, ap, ◌∙◌, refl, cond, Option, Some, None, arith, zero, suc, add-one, ⊎_elim}
 use Rattle.std.specs.Prelude.{if◌then◌else◌, nat_le}
 use Rattle.std.specs.List.{list_any, All}
-use Rattle.std.proofs.lemmas.Bool.{cases_Bool, le-leb, lt-leb, lt-ltb, ltb-true, eqb-true, and_parts, or_cases}
+use Rattle.std.proofs.lemmas.Bool.{cases_Bool, lt-ltb, ltb-true, eqb-true, and_parts, or_cases}
 use Rattle.std.proofs.lemmas.List.{map-append}
 use Rattle.std.proofs.lemmas.List.Elements.{filter-append, All-head, All-tail, All-nil, All-push, All-weaker}
 use Rattle.dds_base.specs.declared.key.Key.{Key}
@@ -15,21 +15,14 @@ use Rattle.dds_base.specs.declared.change.ChangeKind.{ChangeKind}
 use Rattle.dds_base.specs.declared.change.ChangeKind.TheVariants.{Write, Dispose, Unregister, DisposeUnregister}
 use Rattle.dds_base.specs.declared.happening.Arrival.{Arrival}
 use Rattle.dds_base.specs.declared.happening.Happening.TheVariants.{Came}
-use Rattle.dds_base.specs.declared.sample.InstanceState.{InstanceState}
-use Rattle.dds_base.specs.declared.sample.InstanceState.TheVariants.{Alive, NotAliveDisposed, NotAliveNoWriters}
 use Rattle.dds_base.specs.Ownership.{accepted_kind, is_registered, registered_writers, publication_handles}
-use Rattle.dds_base.specs.Instance.{is_write, or_else, state_after, is_nobody, last_accepted, instance_state_of}
-use Rattle.dds_instances.proofs.TrackLaws.{accepted-other, registered-other}
-use Rattle.dds_base.specs.Presence.{becomes_not_alive, is_present, is_kept_write, keeps, later_writes, is_at, last_marker, marks, accepted_writes, ends_with_write, up_to}
+use Rattle.dds_base.specs.Instance.{instance_state_of}
+use Rattle.dds_base.specs.Life.{is_write, or_else, state_after, is_nobody, last_accepted, becomes_not_alive, is_kept_write, is_there, has_there, ends_life, keeps, later_writes, is_at, last_marker, accepted_writes, ends_with_write, up_to}
+use Rattle.dds_base.proofs.LifeLaws.{accepted-other, registered-other, as_of-older, as_of-newest, marker-next, over-absent, quiet-unmarked, up_to-at}
+use Rattle.dds_base.specs.Presence.{is_present, marks}
 use Rattle.dds_cache.specs.declared.kept.Kept.{Kept}
 use Rattle.dds_cache.specs.Kept.{sample_at, is_here, position_of, positions_in}
-
-pub as_of-older : (e : Happening) (h : List Happening) (j : ℕ) → j ≤ length h → as_of j (e ∷ h) ≡ as_of j h
-as_of-older e h j older = ap (λ (b : Bool). if b then as_of j h else e ∷ h) (le-leb j (length h) older)
-
-pub as_of-newest : (e : Happening) (h : List Happening) → as_of (length h + 1) (e ∷ h) ≡ e ∷ h
-as_of-newest e h =
-    ap (λ (b : Bool). if b then as_of (length h + 1) h else e ∷ h) (lt-leb (length h + 1) (length h) (omega arith))
+use Rattle.dds_cache.proofs.GroupLaws.{unequal}
 
 -- a count that never falls was no greater as of a position
 pub count-grew : (count : List Happening → ℕ) → ((e : Happening) (h : List Happening) → count h ≤ count (e ∷ h))
@@ -53,25 +46,84 @@ keeps-fewer KeepAll m n fewer is = refl
 keeps-fewer (KeepLast depth) m n fewer is =
     let within : n < depth = ltb-true n depth is in lt-ltb m depth (omega (arith, fewer, within))
 
--- the last marker is in the past
-marker-past : (q : ReaderQos) (i : Key) (h : List Happening) (j : ℕ) → is_at (last_marker q i h) j ≡ true → j ≤ length h
-marker-past q i [] j is = absurd (let clash : false ≡ true = is in cc)
-marker-past q i (e ∷ h) j is =
-    ⊎_elim
-    (λ marked. let at : (length h + 1) ≡ j = eqb-true (length h + 1) j
-    (sym (ap (λ (b : Bool). is_at (if b then Some (length h + 1) else last_marker q i h) j) marked)
-    ∙ is) in omega (arith, at))
-    (λ unmarked. let before : j ≤ length h = marker-past q i h j
-    (sym (ap (λ (b : Bool). is_at (if b then Some (length h + 1) else last_marker q i h) j) unmarked)
-    ∙ is) in omega (arith, before))
-    (cases_Bool (marks q i h e))
+-- ---- what an entry leaves, whether or not it ends a life
 
--- it is not what comes next
-pub marker-future : (q : ReaderQos) (i : Key) (h : List Happening) → is_at (last_marker q i h) (length h + 1) ≡ false
-marker-future q i h =
-    ⊎_elim (λ there. absurd (let past : length h + 1
-    ≤ length h = marker-past q i h (length h + 1) there in omega (arith, past))) (λ none. none)
-    (cases_Bool (is_at (last_marker q i h) (length h + 1)))
+and-false : (b : Bool) → (b && false) ≡ false
+and-false true = refl
+and-false false = refl
+
+-- the last marker once the entry has happened, unless the life is over then
+abbrev pub reached : ReaderQos → Key → List Happening → Happening → Option ℕ
+reached q i h e = if marks q i h e then Some (length h + 1) else last_marker q i h
+
+as_of-start : (h : List Happening) → as_of 0 h ≡ []
+as_of-start [] = refl
+as_of-start (e ∷ h) = as_of-older e h 0 (omega arith) ∙ as_of-start h
+
+-- no marker is at the start
+unmarked-start : (q : ReaderQos) (i : Key) (h : List Happening) → is_at (last_marker q i h) 0 ≡ false
+unmarked-start q i [] = refl
+unmarked-start q i (e ∷ h) =
+    one (ends_life q i h e) (marks q i h e) (length h) (last_marker q i h) (unmarked-start q i h)
+  where
+    one : (ends marked : Bool) (n : ℕ) (m : Option ℕ) → is_at m 0 ≡ false
+        → is_at (if ends then None else (if marked then Some (n + 1) else m)) 0 ≡ false
+    one true marked n m off = refl
+    one false true n m off = unequal (n + 1) 0 (λ same. omega (arith, same))
+    one false false n m off = off
+
+-- nothing is there at the start
+there-start : (q : ReaderQos) (i : Key) (h : List Happening) (e : Happening)
+    → is_there q (e ∷ h) i (reached q i h e) 0 ≡ false
+there-start q i h e =
+    let off : is_at (reached q i h e) 0 ≡ false =
+    one (marks q i h e) (length h) (last_marker q i h) (unmarked-start q i h) in
+    ap (λ (g : List Happening). not (is_taken (sample_at i 0) (e ∷ h))
+    && ((ends_with_write q i g && keeps q.history (accepted_writes q i (e ∷ h) - accepted_writes q i g))
+    || is_at (reached q i h e) 0)) (as_of-start (e ∷ h))
+    ∙ (ap (λ (b : Bool). not (is_taken (sample_at i 0) (e ∷ h)) && (false || b)) off
+    ∙ and-false (not (is_taken (sample_at i 0) (e ∷ h))))
+  where
+    one : (marked : Bool) (n : ℕ) (m : Option ℕ) → is_at m 0 ≡ false
+        → is_at (if marked then Some (n + 1) else m) 0 ≡ false
+    one true n m off = unequal (n + 1) 0 (λ same. omega (arith, same))
+    one false n m off = off
+
+-- what is present after an entry: by the last marker that it reaches, also where it ends the life
+pub present-reached : (q : ReaderQos) (e : Happening) (h : List Happening) (i : Key) (j : ℕ) → j ≤ length h + 1
+    → is_present q (e ∷ h) i j ≡ is_there q (e ∷ h) i (reached q i h e) j
+present-reached q e h i j within =
+    ⊎_elim
+    (λ over. let none : is_there q (e ∷ h) i (reached q i h e) j ≡ false =
+    absent q e h i j within (nothing (is_nobody (registered_writers q i (e ∷ h))) _ over) in
+    ap (λ (b : Bool). is_there q (e ∷ h) i (if b then None else reached q i h e) j) over
+    ∙ (fewer (not (is_taken (sample_at i j) (e ∷ h))) (is_kept_write q (e ∷ h) i j) (is_at (reached q i h e) j) none
+    ∙ sym none))
+    (λ goes_on. ap (λ (b : Bool). is_there q (e ∷ h) i (if b then None else reached q i h e) j) goes_on)
+    (cases_Bool (ends_life q i h e))
+  where
+    nothing : (a b : Bool) → (a && not b) ≡ true → b ≡ false
+    nothing true true e = absurd cc
+    nothing true false e = refl
+    nothing false b e = absurd cc
+
+    fewer : (a b c : Bool) → (a && (b || c)) ≡ false → (a && (b || false)) ≡ false
+    fewer true true c e = absurd cc
+    fewer true false c e = refl
+    fewer false b c e = refl
+
+    absent : (q : ReaderQos) (e : Happening) (h : List Happening) (i : Key) (j : ℕ) → j ≤ length h + 1
+        → has_there q (e ∷ h) i (reached q i h e) ≡ false → is_there q (e ∷ h) i (reached q i h e) j ≡ false
+    absent q e h i zero within none = there-start q i h e
+    absent q e h i (suc j) within none =
+        up_to-at (is_there q (e ∷ h) i (reached q i h e)) (suc (length h)) (suc j) (omega arith) (omega (arith, within))
+        none
+
+-- of a life that is over nothing is present
+pub ended-absent : (q : ReaderQos) (e : Happening) (h : List Happening) (i : Key) (j : ℕ) → ends_life q i h e ≡ true
+    → j ≤ length h + 1 → is_present q (e ∷ h) i j ≡ false
+ended-absent q e h i zero over within = present-reached q e h i 0 within ∙ there-start q i h e
+ended-absent q e h i (suc j) over within = over-absent q i h e over (suc j) (omega arith) within
 
 not-or : (a b : Bool) → not (a || b) ≡ true → b ≡ false
 not-or true b e = absurd (let clash : false ≡ true = e in cc)
@@ -83,8 +135,8 @@ pub present-before : (q : ReaderQos) (e : Happening) (h : List Happening) (i : K
     → is_present q (e ∷ h) i j ≡ true → is_present q h i j ≡ true
 present-before q e h i j older is =
     let parts =
-    and_parts (not (is_taken (sample_at i j) (e ∷ h)))
-    (is_kept_write q (e ∷ h) i j || is_at (last_marker q i (e ∷ h)) j) is in
+    and_parts (not (is_taken (sample_at i j) (e ∷ h))) (is_kept_write q (e ∷ h) i j || is_at (reached q i h e) j)
+    (sym (present-reached q e h i j (omega (arith, older))) ∙ is) in
     let untaken : is_taken (sample_at i j) h ≡ false =
     not-or (list_any (same_sample (sample_at i j)) (taken_by e)) (is_taken (sample_at i j) h) parts.0 in
     let past : as_of j (e ∷ h) ≡ as_of j h = as_of-older e h j older in
@@ -103,14 +155,14 @@ present-before q e h i j older is =
     (keeps-fewer q.history (later_writes q h i j) (accepted_writes q i (e ∷ h) - accepted_writes q i (as_of j h))
     (omega (arith, more)) later))
     (λ at. or-right (is_kept_write q h i j) (is_at (last_marker q i h) j) (marker-before q e h i j older at))
-    (or_cases (is_kept_write q (e ∷ h) i j) (is_at (last_marker q i (e ∷ h)) j) parts.1)
+    (or_cases (is_kept_write q (e ∷ h) i j) (is_at (reached q i h e) j) parts.1)
   where
     or-right : (a b : Bool) → b ≡ true → (a || b) ≡ true
     or-right true b is = refl
     or-right false b is = is
 
     marker-before : (q : ReaderQos) (e : Happening) (h : List Happening) (i : Key) (j : ℕ) → j ≤ length h
-        → is_at (last_marker q i (e ∷ h)) j ≡ true → is_at (last_marker q i h) j ≡ true
+        → is_at (reached q i h e) j ≡ true → is_at (last_marker q i h) j ≡ true
     marker-before q e h i j older is =
         ⊎_elim
         (λ marked. let at : (length h + 1) ≡ j = eqb-true (length h + 1) j
@@ -128,15 +180,12 @@ newest-absent q e h i written marked =
     let kept : is_kept_write q (e ∷ h) i n ≡ false =
     ap (λ (g : List Happening). ends_with_write q i g && keeps q.history (later_writes q (e ∷ h) i n))
     (as_of-newest e h) ∙ ap (λ (b : Bool). b && keeps q.history (later_writes q (e ∷ h) i n)) written in
-    let at : is_at (last_marker q i (e ∷ h)) n ≡ false =
-    ap (λ (b : Bool). is_at (if b then Some n else last_marker q i h) n) marked ∙ marker-future q i h in
-    ap (λ (b : Bool). not (is_taken (sample_at i n) (e ∷ h)) && (b || is_at (last_marker q i (e ∷ h)) n)) kept
+    let at : is_at (reached q i h e) n ≡ false =
+    ap (λ (b : Bool). is_at (if b then Some n else last_marker q i h) n) marked ∙ marker-next q i h in
+    present-reached q e h i n (omega arith)
+    ∙ (ap (λ (b : Bool). not (is_taken (sample_at i n) (e ∷ h)) && (b || is_at (reached q i h e) n)) kept
     ∙ (ap (λ (b : Bool). not (is_taken (sample_at i n) (e ∷ h)) && b) at
-    ∙ and-false (not (is_taken (sample_at i n) (e ∷ h))))
-  where
-    and-false : (b : Bool) → (b && false) ≡ false
-    and-false true = refl
-    and-false false = refl
+    ∙ and-false (not (is_taken (sample_at i n) (e ∷ h)))))
 
 -- ---- lists that are narrowed
 
@@ -235,19 +284,11 @@ present-dropped q h i keep ks all =
 
 -- ---- what the newest entry leaves
 
-unmarked : (s : Option InstanceState) → becomes_not_alive s s ≡ false
-unmarked None = refl
-unmarked (Some Alive) = refl
-unmarked (Some NotAliveDisposed) = refl
-unmarked (Some NotAliveNoWriters) = refl
-
--- an entry that changes no state of i leaves no sample of it
+-- an entry that changes nothing of i leaves no sample of it
 pub quiet-absent : (q : ReaderQos) (e : Happening) (h : List Happening) (i : Key) → accepted_kind q i h e ≡ None
-    → instance_state_of q i (e ∷ h) ≡ instance_state_of q i h → is_present q (e ∷ h) i (length h + 1) ≡ false
+    → registered_writers q i (e ∷ h) ≡ registered_writers q i h → is_present q (e ∷ h) i (length h + 1) ≡ false
 quiet-absent q e h i none same =
-    newest-absent q e h i (ap (λ (k : Option ChangeKind). is_write k) none)
-    (ap (λ (s : Option InstanceState). becomes_not_alive (instance_state_of q i h) s) same
-    ∙ unmarked (instance_state_of q i h))
+    newest-absent q e h i (ap (λ (k : Option ChangeKind). is_write k) none) (quiet-unmarked q i h e none same)
 
 filter-same : (f g : ℕ → Bool) (ws : List ℕ) → ((w : ℕ) → f w ≡ g w) → filter f ws ≡ filter g ws
 filter-same f g [] same = refl
@@ -255,29 +296,25 @@ filter-same f g (w ∷ ws) same =
     ap (λ (b : Bool). cond b (w ∷ filter f ws) (filter f ws)) (same w)
     ∙ ap (λ (xs : List ℕ). cond (g w) (w ∷ xs) xs) (filter-same f g ws same)
 
--- a change of another instance leaves the state of i as it was
-state-other : (q : ReaderQos) (a : Arrival) (h : List Happening) (i : Key) → same_key a.change.key i ≡ false
-    → instance_state_of q i (Came a ∷ h) ≡ instance_state_of q i h
-state-other q a h i other =
-    ap (λ (k : Option ChangeKind). state_after (or_else k (last_accepted q i h))
-    (is_nobody (registered_writers q i (Came a ∷ h)))) (accepted-other q i h a other)
-    ∙ ap (λ (ws : List ℕ). state_after (last_accepted q i h) (is_nobody ws))
-    (filter-same (λ w. is_registered i w (Came a ∷ h)) (λ w. is_registered i w h) (publication_handles q)
-    (λ w. registered-other i w h a other))
+-- a change of another instance leaves those who are registered for i
+pub writers-other : (q : ReaderQos) (a : Arrival) (h : List Happening) (i : Key) → same_key a.change.key i ≡ false
+    → registered_writers q i (Came a ∷ h) ≡ registered_writers q i h
+writers-other q a h i other =
+    filter-same (λ w. is_registered i w (Came a ∷ h)) (λ w. is_registered i w h) (publication_handles q)
+    (λ w. registered-other i w h a other)
 
 -- it leaves no marker of i
 pub unmarked-other : (q : ReaderQos) (a : Arrival) (h : List Happening) (i : Key) → same_key a.change.key i ≡ false
     → marks q i h (Came a) ≡ false
 unmarked-other q a h i other =
-    ap (λ (s : Option InstanceState). becomes_not_alive (instance_state_of q i h) s) (state-other q a h i other)
-    ∙ unmarked (instance_state_of q i h)
+    quiet-unmarked q i h (Came a) (accepted-other q i h a other) (writers-other q a h i other)
 
 -- it leaves no sample of i
 pub other-absent : (q : ReaderQos) (a : Arrival) (h : List Happening) (i : Key) → same_key a.change.key i ≡ false
     → is_present q (Came a ∷ h) i (length h + 1) ≡ false
-other-absent q a h i other = quiet-absent q (Came a) h i (accepted-other q i h a other) (state-other q a h i other)
+other-absent q a h i other = quiet-absent q (Came a) h i (accepted-other q i h a other) (writers-other q a h i other)
 
-unstated : (last : Option ChangeKind) (nobody : Bool) → state_after last nobody ≡ None → last ≡ None
+pub unstated : (last : Option ChangeKind) (nobody : Bool) → state_after last nobody ≡ None → last ≡ None
 unstated None nobody e = refl
 unstated (Some Write) nobody e = absurd cc
 unstated (Some Dispose) nobody e = absurd cc
@@ -288,12 +325,20 @@ or_else-none : (a b : Option ChangeKind) → or_else a b ≡ None → (a ≡ Non
 or_else-none None b e = (refl, e)
 or_else-none (Some x) b e = absurd cc
 
--- of an instance that is still unknown the entry leaves no sample
+-- of an instance that is unknown then the entry leaves no sample
 pub unknown-absent : (q : ReaderQos) (e : Happening) (h : List Happening) (i : Key)
     → instance_state_of q i (e ∷ h) ≡ None → is_present q (e ∷ h) i (length h + 1) ≡ false
 unknown-absent q e h i none =
     let last : last_accepted q i (e ∷ h) ≡ None =
     unstated (last_accepted q i (e ∷ h)) (is_nobody (registered_writers q i (e ∷ h))) none in
-    let parts = or_else-none (accepted_kind q i h e) (last_accepted q i h) last in
-    quiet-absent q e h i parts.0
-    (none ∙ sym (ap (λ (k : Option ChangeKind). state_after k (is_nobody (registered_writers q i h))) parts.1))
+    ⊎_elim
+    (λ over. ended-absent q e h i (length h + 1) over (omega arith))
+    (λ goes_on. let parts = or_else-none (accepted_kind q i h e) (last_accepted q i h)
+    (sym (ap (λ (b : Bool). if b then None else or_else (accepted_kind q i h e) (last_accepted q i h)) goes_on)
+    ∙ last) in
+    newest-absent q e h i (ap (λ (k : Option ChangeKind). is_write k) parts.0)
+    (ap (λ (k : Option ChangeKind). becomes_not_alive (state_after k (is_nobody (registered_writers q i h)))
+    (state_after (or_else (accepted_kind q i h e) k) (is_nobody (registered_writers q i (e ∷ h))))) parts.1
+    ∙ ap (λ (k : Option ChangeKind). becomes_not_alive None
+    (state_after (or_else k None) (is_nobody (registered_writers q i (e ∷ h))))) parts.0))
+    (cases_Bool (ends_life q i h e))

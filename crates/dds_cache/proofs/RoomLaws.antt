@@ -1,12 +1,12 @@
 -- How many writes are present after a change.
 use Rattle.std.proofs.Common.{◌≡◌, ℕ, ◌+◌, ◌-◌, ◌^◌, ◌≤◌, ◌<◌, min, List, [], ◌∷◌, ◌++◌, length, filter, Bool, true, false, not, ◌==◌, ◌&&◌, ◌||◌, sym, ap, ◌∙◌, refl, subst, cond, Option, Some, None, arith, ⊎_elim}
-use Rattle.std.specs.Prelude.{if◌then◌else◌, is_some}
+use Rattle.std.specs.Prelude.{if◌then◌else◌}
 use Rattle.std.specs.List.{list_any, All, count_by}
-use Rattle.std.proofs.lemmas.Bool.{cases_Bool, le-leb, leb-true, lt-ltb}
+use Rattle.std.proofs.lemmas.Bool.{and_parts, cases_Bool, le-leb, leb-true, lt-ltb}
 use Rattle.std.proofs.lemmas.Bool.Decides.{nat_tests}
-use Rattle.std.proofs.lemmas.List.{length-append}
-use Rattle.std.proofs.lemmas.List.Sums.{sum_by-append, sum_by-cons, count_by-le-length}
-use Rattle.std.proofs.lemmas.List.Elements.{All-append, All-weaker}
+use Rattle.std.proofs.lemmas.List.{append-nil, length-append}
+use Rattle.std.proofs.lemmas.List.Sums.{sum_by-append, sum_by-cons, count_by-le-length, length-filter}
+use Rattle.std.proofs.lemmas.List.Elements.{All-weaker}
 use Rattle.dds_base.specs.declared.key.Key.{Key}
 use Rattle.dds_base.specs.declared.change.ChangeKind.{ChangeKind}
 use Rattle.dds_base.specs.declared.happening.Arrival.{Arrival}
@@ -14,32 +14,33 @@ use Rattle.dds_base.specs.declared.happening.SamplePosition.{SamplePosition}
 use Rattle.dds_base.specs.declared.happening.Happening.{Happening}
 use Rattle.dds_base.specs.declared.happening.Happening.TheVariants.{Came}
 use Rattle.dds_base.specs.declared.qos.ReaderQos.{ReaderQos}
-use Rattle.dds_base.specs.Happening.{arrivals, same_key, as_of}
+use Rattle.dds_base.specs.Happening.{arrivals, same_key, as_of, read_by, taken_by}
 use Rattle.dds_base.specs.Ownership.{accepted_kind}
-use Rattle.dds_base.specs.Instance.{introduces, is_write, known_instances, last_accepted, or_else, disposed_generations, no_writers_generations}
-use Rattle.dds_base.specs.Presence.{accepted_writes, ends_with_write, has_room, is_accepted, is_at, is_kept_write, is_present, is_within, keeps, last_marker, later_writes, marks, present_writes, up_to}
+use Rattle.dds_base.specs.Instance.{introduces, is_known, known_instances, disposed_generations, no_writers_generations}
+use Rattle.dds_base.specs.Life.{is_write, accepted_writes, ends_life, ends_with_write, is_at, is_kept_write, keeps, last_marker, later_writes, up_to}
+use Rattle.dds_base.specs.Presence.{has_room, is_accepted, is_present, is_within, marks, present_writes}
 use Rattle.dds_base.specs.Access.{handle_of, timestamp_of, publication_of, newest_value}
-use Rattle.dds_base.proofs.KeyLaws.{key-same, same_key-comm}
+use Rattle.dds_base.proofs.KeyLaws.{key-same, same_key-comm, same_key-refl}
+use Rattle.dds_base.proofs.LifeLaws.{accepted-other, as_of-newest, as_of-older, marker-next}
 use Rattle.dds_instances.specs.declared.known.KnownInstance.{KnownInstance}
-use Rattle.dds_instances.specs.Known.{IsKnown}
+use Rattle.dds_instances.specs.Known.{IsKnown, writes_in_life}
 use Rattle.dds_instances.specs.Track.{one_if}
-use Rattle.dds_instances.proofs.KnownLaws.{known}
-use Rattle.dds_instances.proofs.TrackLaws.{accepted-other}
 use Rattle.dds_cache.specs.declared.kept.Kept.{Kept}
-use Rattle.dds_cache.specs.Kept.{Adds, IsFresh, IsKept, IsKeptAt, IsOf, positions_in, position_of, sample_at}
+use Rattle.dds_cache.specs.Kept.{Adds, IsFresh, IsKept, IsKeptAt, IsOf, positions_in, sample_at}
 use Rattle.dds_cache.specs.Room.{is_present_write, is_write_after}
-use Rattle.dds_cache.proofs.PresenceLaws.{as_of-newest, as_of-older, count-grew, marker-future, present-next}
-use Rattle.dds_cache.proofs.PresenceLaws.{unmarked-other}
-use Rattle.dds_cache.proofs.KeptLaws.{kept-quiet}
-use Rattle.dds_cache.proofs.StandingLaws.{adds-nothing, adds-one}
+use Rattle.dds_cache.specs.Sweeping.{stays}
+use Rattle.dds_cache.proofs.EndLaws.{known, known-accepted, short}
+use Rattle.dds_cache.proofs.PresenceLaws.{count-grew, ended-absent, filter-narrow, present-reached, reached, unmarked-other}
+use Rattle.dds_cache.proofs.StandingLaws.{adds-nothing, adds-one, each-after, present-after}
+use Rattle.dds_cache.proofs.SweepLaws.{Leaves, apart-quiet, leaves-swept, present-stays}
 use Rattle.dds_cache.proofs.GroupLaws.{unequal}
 use Rattle.dds_cache.proofs.CountLaws.{present-count}
 
 -- ---- what is kept, after a change
 
--- the last marker at an older position
+-- the last marker that the entry reaches, at an older position
 marker-older : (q : ReaderQos) (e : Happening) (h : List Happening) (i : Key) (j : ℕ) → j ≤ length h
-    → is_at (last_marker q i (e ∷ h)) j ≡ (not (marks q i h e) && is_at (last_marker q i h) j)
+    → is_at (reached q i h e) j ≡ (not (marks q i h e) && is_at (last_marker q i h) j)
 marker-older q e h i j older =
     ⊎_elim
     (λ marked. ap (λ (b : Bool). is_at (if b then Some (length h + 1) else last_marker q i h) j) marked
@@ -67,34 +68,36 @@ write-next q a h known k is_known key kept =
     let j : ℕ = k.sample.position in
     let w : Bool = is_write (accepted_kind q i h e) in
     let m : Bool = marks q i h e in
-    let writes : known.accepted_writes ≡ accepted_writes q i h =
-    is_known.writes_are ∙ ap (λ (x : Key). accepted_writes q x h) key in
+    let writes : known.accepted_writes ≡ writes_in_life q i h =
+    is_known.writes_are ∙ ap (λ (x : Key). writes_in_life q x h) key in
     let marker : known.last_marker ≡ last_marker q i h = is_known.marker_is ∙ ap (λ (x : Key). last_marker q x h) key in
     let past : as_of j (e ∷ h) ≡ as_of j h = as_of-older e h j kept.in_past in
     let grew : accepted_writes q i (as_of j h) ≤ accepted_writes q i h =
     count-grew (λ g. accepted_writes q i g) (λ e g. omega arith) j h in
-    let number : k.number ≡ accepted_writes q i (as_of j h) = kept.is_of.number_is in
     let later : (known.accepted_writes - k.number) + one_if w
     ≡ accepted_writes q i (e ∷ h) - accepted_writes q i
     (as_of j h) = ap (λ (n : ℕ). (n - k.number) + one_if w) writes
-    ∙ (let sum : (accepted_writes q i h - k.number) + one_if w
-    ≡ (accepted_writes q i h + one_if w) - accepted_writes q i (as_of j h) = omega (arith, number, grew) in sum) in
-    let at : (not m && is_at known.last_marker j) ≡ is_at (last_marker q i (e ∷ h)) j =
+    ∙ (let sum : (writes_in_life q i h - k.number) + one_if w
+    ≡ (accepted_writes q i h + one_if w) - accepted_writes q i (as_of j h) = omega (arith, kept.numbered, grew) in sum)
+    in
+    let m' : Option ℕ = reached q i h e in
+    let at : (not m && is_at known.last_marker j) ≡ is_at m' j =
     ap (λ (x : Option ℕ). not m && is_at x j) marker ∙ sym (marker-older q e h i j kept.in_past) in
     let valid : k.valid_data ≡ ends_with_write q i (as_of j h) = kept.is_of.valid_is in
     ap (λ (n : ℕ). k.valid_data && (keeps q.history n || (not m && is_at known.last_marker j))) later
     ∙ (ap (λ (b : Bool). k.valid_data && (keeps q.history
     (accepted_writes q i (e ∷ h) - accepted_writes q i (as_of j h)) || b)) at
     ∙ (ap (λ (b : Bool). b && (keeps q.history (accepted_writes q i (e ∷ h) - accepted_writes q i (as_of j h)) || is_at
-    (last_marker q i (e ∷ h)) j)) valid
+    m' j)) valid
     ∙ (write-table (ends_with_write q i (as_of j h))
-    (keeps q.history (accepted_writes q i (e ∷ h) - accepted_writes q i (as_of j h)))
-    (is_at (last_marker q i (e ∷ h)) j)
+    (keeps q.history (accepted_writes q i (e ∷ h) - accepted_writes q i (as_of j h))) (is_at m' j)
     ∙ (ap (λ (g : List Happening).
-    ((ends_with_write q i g && keeps q.history (accepted_writes q i (e ∷ h) - accepted_writes q i g)) || is_at
-    (last_marker q i (e ∷ h)) j) && ends_with_write q i g) (sym past)
-    ∙ sym (ap (λ (b : Bool). (not b && (is_kept_write q (e ∷ h) i j || is_at (last_marker q i (e ∷ h)) j))
-    && ends_with_write q i (as_of j (e ∷ h))) kept.untaken)))))
+    ((ends_with_write q i g && keeps q.history (accepted_writes q i (e ∷ h) - accepted_writes q i g)) || is_at m' j)
+    && ends_with_write q i g) (sym past)
+    ∙ (sym (ap (λ (b : Bool). (not b && (is_kept_write q (e ∷ h) i j || is_at m' j))
+    && ends_with_write q i (as_of j (e ∷ h))) kept.untaken)
+    ∙ sym (ap (λ (b : Bool). b && ends_with_write q i (as_of j (e ∷ h)))
+    (present-reached q e h i j (omega (arith, kept.in_past)))))))))
 
 -- the same, by whether the change is of its instance
 pub write-after : (q : ReaderQos) (a : Arrival) (h : List Happening) (known : KnownInstance) (k : Kept) (w m : Bool)
@@ -129,7 +132,7 @@ newest : ReaderQos → Happening → List Happening → Key → Kept
 newest q e h i = record {
   sample = sample_at i (length h + 1);
   handle = handle_of q (e ∷ h) i;
-  number = accepted_writes q i (e ∷ h);
+  number = writes_in_life q i (e ∷ h);
   is_read = false;
   valid_data = ends_with_write q i (e ∷ h);
   disposed_generation_count = disposed_generations q i (e ∷ h);
@@ -150,7 +153,6 @@ newest-kept q a h fresh known present =
     let now : IsOf q g k =
     record {
       valid_is = refl;
-      number_is = refl;
       disposed_is = refl;
       no_writers_is = refl;
       timestamp_is = refl;
@@ -165,6 +167,11 @@ newest-kept q a h fresh known present =
         handle_is = refl;
         untaken = fresh.untaken;
         read_is = sym fresh.unread;
+        numbered =
+            (let sum : accepted_writes q a.change.key g + writes_in_life q a.change.key g
+            ≡ writes_in_life q a.change.key g + accepted_writes q a.change.key g = omega arith in sum)
+            ∙ ap (λ (x : List Happening). writes_in_life q a.change.key g + accepted_writes q a.change.key x)
+            (sym (as_of-newest (Came a) h));
         is_of = subst (λ (x : List Happening). IsOf q x k) (sym (as_of-newest (Came a) h)) now;
       };
       present = present;
@@ -179,41 +186,62 @@ count-one : (p : Kept → Bool) (k : Kept) → count_by p (k ∷ []) ≡ one_if 
 count-one p k =
     sum_by-cons (λ x. cond (p x) 1 0) k [] ∙ (let none : cond (p k) 1 0 + 0 ≡ one_if (p k) = omega arith in none)
 
+-- samples that are not present need not be counted
+count-swept : (q : ReaderQos) (e : Happening) (h : List Happening) (ks : List Kept) → taken_by e ≡ [] → read_by e ≡ []
+    → All (IsKept q h) ks
+    → count_by (is_present_write q (e ∷ h)) (filter (stays q (e ∷ h)) ks) ≡ count_by (is_present_write q (e ∷ h)) ks
+count-swept q e h ks taken read each =
+    let p : Kept → Bool = is_present_write q (e ∷ h) in
+    sym (length-filter p (filter (stays q (e ∷ h)) ks))
+    ∙ (ap length (filter-narrow (stays q (e ∷ h)) p ks
+    (All-weaker (IsKept q h) (λ (k : Kept). p k ≡ true → stays q (e ∷ h) k ≡ true)
+    (λ k kept there. present-stays q e h k.sample.key k (apart-quiet e k taken read) kept
+    (ap (λ (b : Bool). b && is_present q (e ∷ h) k.sample.key k.sample.position) (same_key-refl k.sample.key)
+    ∙ (and_parts (is_present q (e ∷ h) k.sample.key k.sample.position) _ there).0)) ks each))
+    ∙ length-filter p ks)
+
 -- the present writes after a change, among what is then kept
-added-count : (q : ReaderQos) (a : Arrival) (h : List Happening) (ks ns : List Kept) → All (IsKept q h) ks
+added-count : (q : ReaderQos) (a : Arrival) (h : List Happening) (ks ns added : List Kept) → All (IsKept q h) ks
     → ((i : Key) → filter (is_present q h i) (up_to (length h)) ≡ positions_in q h i ks)
-    → (adds : Adds q (Came a) h ks ns) → present_writes q (Came a ∷ h) ≡ count_by (is_present_write q (Came a ∷ h)) ns
-added-count q a h ks ns each present adds =
+    → ns ≡ filter (stays q (Came a ∷ h)) ks ++ added → Adds q (Came a) h (filter (stays q (Came a ∷ h)) ks) ns
+    → present_writes q (Came a ∷ h)
+    ≡ count_by (is_present_write q (Came a ∷ h)) ks + count_by (is_present_write q (Came a ∷ h)) added
+added-count q a h ks ns added each present are adds =
     let g : List Happening = Came a ∷ h in
-    let all : All (IsKept q g) (ks ++ adds.added) =
-    All-append (IsKept q g) ks adds.added
-    (All-weaker (IsKept q h) (IsKept q g) (λ k kept. kept-quiet q (Came a) h k refl refl kept) ks each) adds.each in
-    present-count q g (λ (s : SamplePosition). ends_with_write q s.key (as_of s.position g)) (ks ++ adds.added)
+    let left : List Kept = filter (stays q g) ks in
+    let leaves : Leaves q (Came a) h ks left =
+    leaves-swept q (Came a) h ks (λ n d within. record { untaken = refl; unread = refl }) each in
+    let all : All (IsKept q g) ns = each-after q (Came a) h ks left ns leaves adds in
+    present-count q g (λ (s : SamplePosition). ends_with_write q s.key (as_of s.position g)) ns
     (All-weaker (IsKept q g) (λ (k : Kept). list_any (λ i. same_key i k.sample.key) (known_instances q g) ≡ true)
-    (λ k kept. kept.is_known) (ks ++ adds.added) all)
-    (λ i. present-next q (Came a) h i ks adds.added
-    (All-weaker (IsKept q h) (λ (k : Kept). position_of k ≤ length h) (λ k kept. kept.in_past) ks each) (present i)
-    (adds.present i))
-    ∙ ap (λ (xs : List Kept). count_by (is_present_write q g) xs) (sym adds.are)
+    (λ k kept. kept.is_known) ns all)
+    (present-after q (Came a) h ks left ns leaves adds each present)
+    ∙ (ap (λ (xs : List Kept). count_by (is_present_write q g) xs) are
+    ∙ (sum_by-append (λ x. cond (is_present_write q g x) 1 0) left added
+    ∙ ap (λ (n : ℕ). n + count_by (is_present_write q g) added) (count-swept q (Came a) h ks refl refl each)))
 
 -- the present writes after a change are those kept that still are, and its own
 pub writes-after : (q : ReaderQos) (a : Arrival) (h : List Happening) (ks : List Kept) → All (IsKept q h) ks
     → ((i : Key) → filter (is_present q h i) (up_to (length h)) ≡ positions_in q h i ks) → IsFresh h a.change.key
-    → list_any (λ k. same_key k a.change.key) (known_instances q (Came a ∷ h)) ≡ true
+    → is_accepted q h (Came a) ≡ true
     → present_writes q (Came a ∷ h) ≡ count_by (is_present_write q (Came a ∷ h)) ks + one_if (leaves_write q a h)
-writes-after q a h ks each present fresh known =
+writes-after q a h ks each present fresh accepted =
+    let p : Kept → Bool = is_present_write q (Came a ∷ h) in
+    let left : List Kept = filter (stays q (Came a ∷ h)) ks in
     ⊎_elim
     (λ there. let k : Kept = newest q (Came a) h a.change.key in
-    let at : IsKeptAt q (Came a ∷ h) a.change.key (length h + 1) k = newest-kept q a h fresh known there in
-    added-count q a h ks (ks ++ k ∷ []) each present (adds-one q a h ks k at)
-    ∙ (sum_by-append (λ x. cond (is_present_write q (Came a ∷ h) x) 1 0) ks (k ∷ [])
-    ∙ ap (λ (n : ℕ). count_by (is_present_write q (Came a ∷ h)) ks + n)
-    (count-one (is_present_write q (Came a ∷ h)) k ∙ own q a h k at.sample_is)))
-    (λ gone. added-count q a h ks ks each present (adds-nothing q a h ks gone)
-    ∙ ((let same : count_by (is_present_write q (Came a ∷ h)) ks
-    ≡ count_by (is_present_write q (Came a ∷ h)) ks + 0 = omega arith in same)
-    ∙ ap (λ (b : Bool). count_by (is_present_write q (Came a ∷ h)) ks + one_if
-    (b && ends_with_write q a.change.key (Came a ∷ h))) (sym gone)))
+    let known_then : list_any (λ x. same_key x a.change.key) (known_instances q (Came a ∷ h)) ≡ true =
+    known q (Came a ∷ h) a.change.key ∙ (known-accepted q (Came a) h a.change.key accepted
+    ∙ ap (λ (b : Bool). not b) (⊎_elim
+    (λ over. absurd (let clash : false ≡ true =
+    sym (ended-absent q (Came a) h a.change.key (length h + 1) over (omega arith)) ∙ there in cc))
+    (λ goes_on. goes_on)
+    (cases_Bool (ends_life q a.change.key h (Came a))))) in
+    let at : IsKeptAt q (Came a ∷ h) a.change.key (length h + 1) k = newest-kept q a h fresh known_then there in
+    added-count q a h ks (left ++ k ∷ []) (k ∷ []) each present refl (adds-one q a h left k at)
+    ∙ ap (λ (n : ℕ). count_by p ks + n) (count-one p k ∙ own q a h k at.sample_is))
+    (λ gone. added-count q a h ks left [] each present (sym (append-nil left)) (adds-nothing q a h left gone)
+    ∙ ap (λ (b : Bool). count_by p ks + one_if (b && ends_with_write q a.change.key (Came a ∷ h))) (sym gone))
     (cases_Bool (is_present q (Came a ∷ h) a.change.key (length h + 1)))
   where
     own : (q : ReaderQos) (a : Arrival) (h : List Happening) (k : Kept)
@@ -235,33 +263,33 @@ leaves-write q a h w m written marked fresh =
     let i : Key = a.change.key in
     let n : ℕ = length h + 1 in
     let g : List Happening = Came a ∷ h in
-    let marker : m ≡ is_at (last_marker q i g) n = marked ∙ marker-newest q (Came a) h i in
+    let m' : Option ℕ = reached q i h (Came a) in
+    let marker : m ≡ is_at m' n = marked ∙ marker-newest q (Came a) h i in
     let later : later_writes q g i n ≡ 0 =
     ap (λ (x : List Happening). accepted_writes q i g - accepted_writes q i x) (as_of-newest (Came a) h)
     ∙ (let none : accepted_writes q i g - accepted_writes q i g ≡ 0 = omega arith in none) in
     ap (λ (b : Bool). b && (keeps q.history 0 || m)) written
     ∙ (ap (λ (b : Bool). ends_with_write q i g && (keeps q.history 0 || b)) marker
-    ∙ (write-table (ends_with_write q i g) (keeps q.history 0) (is_at (last_marker q i g) n)
-    ∙ (ap (λ (x : ℕ). ((ends_with_write q i g && keeps q.history x) || is_at (last_marker q i g) n) && ends_with_write q
-    i g) (sym later)
+    ∙ (write-table (ends_with_write q i g) (keeps q.history 0) (is_at m' n)
+    ∙ (ap (λ (x : ℕ). ((ends_with_write q i g && keeps q.history x) || is_at m' n) && ends_with_write q i g) (sym later)
     ∙ (ap (λ (x : List Happening).
-    ((ends_with_write q i x && keeps q.history (later_writes q g i n)) || is_at (last_marker q i g) n)
-    && ends_with_write q i g) (sym (as_of-newest (Came a) h))
-    ∙ sym (ap (λ (b : Bool). (not b && (is_kept_write q g i n || is_at (last_marker q i g) n)) && ends_with_write q i g)
-    fresh.untaken)))))
+    ((ends_with_write q i x && keeps q.history (later_writes q g i n)) || is_at m' n) && ends_with_write q i g)
+    (sym (as_of-newest (Came a) h))
+    ∙ (sym (ap (λ (b : Bool). (not b && (is_kept_write q g i n || is_at m' n)) && ends_with_write q i g) fresh.untaken)
+    ∙ sym (ap (λ (b : Bool). b && ends_with_write q i g) (present-reached q (Came a) h i n (omega arith))))))))
   where
     eqb-refl : (n : ℕ) → true ≡ (n == n)
     eqb-refl n = grind (arith, nat_tests)
 
     marker-newest : (q : ReaderQos) (e : Happening) (h : List Happening) (i : Key)
-        → marks q i h e ≡ is_at (last_marker q i (e ∷ h)) (length h + 1)
+        → marks q i h e ≡ is_at (reached q i h e) (length h + 1)
     marker-newest q e h i =
         ⊎_elim
         (λ marked. marked ∙ (eqb-refl (length h + 1)
         ∙ sym (ap (λ (b : Bool). is_at (if b then Some (length h + 1) else last_marker q i h) (length h + 1))
         marked)))
         (λ unmarked. unmarked
-        ∙ (sym (marker-future q i h)
+        ∙ (sym (marker-next q i h)
         ∙ sym (ap (λ (b : Bool). is_at (if b then Some (length h + 1) else last_marker q i h) (length h + 1))
         unmarked)))
         (cases_Bool (marks q i h e))
@@ -270,24 +298,13 @@ within-less : (limit : Option ℕ) (n m : ℕ) → n ≤ m → is_within limit m
 within-less None n m less within = refl
 within-less (Some most) n m less within = le-leb n most (omega (arith, less, leb-true m most within))
 
--- an instance is known of which a change was accepted
-pub known-accepted : (q : ReaderQos) (a : Arrival) (h : List Happening) → is_accepted q h (Came a) ≡ true
-    → list_any (λ k. same_key k a.change.key) (known_instances q (Came a ∷ h)) ≡ true
-known-accepted q a h accepted =
-    known q (Came a ∷ h) a.change.key
-    ∙ some-first (accepted_kind q a.change.key h (Came a)) (last_accepted q a.change.key h) accepted
-  where
-    some-first : (a b : Option ChangeKind) → is_some a ≡ true → is_some (or_else a b) ≡ true
-    some-first None b e = absurd cc
-    some-first (Some k) b e = refl
-
 -- with fewer samples than may be present, there is room for one more
 pub spare-fits : (q : ReaderQos) (a : Arrival) (h : List Happening) (ks : List Kept) → All (IsKept q h) ks
     → ((i : Key) → filter (is_present q h i) (up_to (length h)) ≡ positions_in q h i ks) → IsFresh h a.change.key
     → is_accepted q h (Came a) ≡ true → is_within q.max_samples (length ks + 1) ≡ true
     → is_within q.max_samples (present_writes q (Came a ∷ h)) ≡ true
 spare-fits q a h ks each present fresh accepted within =
-    let count = writes-after q a h ks each present fresh (known-accepted q a h accepted) in
+    let count = writes-after q a h ks each present fresh accepted in
     let few = count_by-le-length (is_present_write q (Came a ∷ h)) ks in
     let one = at-most-one (leaves_write q a h) in
     within-less q.max_samples (present_writes q (Came a ∷ h)) (length ks + 1) (omega (arith, count, few, one)) within
@@ -295,6 +312,26 @@ spare-fits q a h ks each present fresh accepted within =
     at-most-one : (b : Bool) → one_if b ≤ 1
     at-most-one true = omega arith
     at-most-one false = omega arith
+
+-- one instance more is known after a change, at most
+pub instances-spare : (q : ReaderQos) (a : Arrival) (h : List Happening) (before : ℕ)
+    → before ≡ length (known_instances q h) → is_within q.max_instances (before + 1) ≡ true
+    → is_within q.max_instances (length (known_instances q (Came a ∷ h))) ≡ true
+instances-spare q a h before counted within =
+    within-less q.max_instances (length (known_instances q (Came a ∷ h))) (before + 1)
+    (one-more (introduces q a.change.key h (Came a)) (is_known q (Came a ∷ h)) (known_instances q h) a.change.key before
+    counted) within
+  where
+    one-more : (b : Bool) (p : Key → Bool) (ks : List Key) (k : Key) (n : ℕ) → n ≡ length ks
+        → length (filter p (ks ++ (if b then k ∷ [] else []))) ≤ n + 1
+    one-more b p ks k n is =
+        let sum : length (ks ++ (if b then k ∷ [] else [])) ≡ length ks + length (if b then k ∷ [] else []) =
+        length-append ks (if b then k ∷ [] else []) in
+        omega (arith, is, sum, one b k, short p (ks ++ (if b then k ∷ [] else [])))
+      where
+        one : (b : Bool) (k : Key) → length (if b then k ∷ [] else []) ≤ 1
+        one true k = omega arith
+        one false k = omega arith
 
 -- where one sample and one instance more keep to the limits, there is room for each change
 pub spare-is-room : (q : ReaderQos) (a : Arrival) (h : List Happening) (ks : List Kept) (came known : ℕ)
@@ -309,22 +346,10 @@ spare-is-room q a h ks came known each present fresh counted few known_is sample
     (λ accepted. ap fits accepted
     ∙ (ap (λ (b : Bool). b && is_within q.max_instances (length (known_instances q (Came a ∷ h))))
     (spare-fits q a h ks each present fresh accepted samples)
-    ∙ within-less q.max_instances (length (known_instances q (Came a ∷ h))) (known + 1)
-    (one-more (introduces q a.change.key h (Came a)) (known_instances q h) a.change.key known known_is) instances))
+    ∙ instances-spare q a h known known_is instances))
     (λ refused. ap fits refused)
     (cases_Bool (is_accepted q h (Came a))))
   where
     fits : Bool → Bool
     fits accepted = not accepted || (is_within q.max_samples (present_writes q (Came a ∷ h))
         && is_within q.max_instances (length (known_instances q (Came a ∷ h))))
-
-    one-more : (b : Bool) (ks : List Key) (k : Key) (n : ℕ) → n ≡ length ks
-        → length (ks ++ (if b then k ∷ [] else [])) ≤ n + 1
-    one-more b ks k n is =
-        let sum : length (ks ++ (if b then k ∷ [] else [])) ≡ length ks + length (if b then k ∷ [] else []) =
-        length-append ks (if b then k ∷ [] else []) in
-        omega (arith, is, sum, one b k)
-      where
-        one : (b : Bool) (k : Key) → length (if b then k ∷ [] else []) ≤ 1
-        one true k = omega arith
-        one false k = omega arith

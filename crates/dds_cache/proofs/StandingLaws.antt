@@ -12,7 +12,8 @@ use Rattle.dds_base.specs.declared.happening.Happening.{Happening}
 use Rattle.dds_base.specs.declared.happening.Happening.TheVariants.{Came, Read, Took}
 use Rattle.dds_base.specs.declared.qos.ReaderQos.{ReaderQos}
 use Rattle.dds_base.specs.Happening.{same_key, is_read, is_taken, read_by, taken_by, same_sample, arrivals}
-use Rattle.dds_base.specs.Presence.{is_present, up_to}
+use Rattle.dds_base.specs.Presence.{is_present}
+use Rattle.dds_base.specs.Life.{up_to}
 use Rattle.dds_base.proofs.KeyLaws.{key-same}
 use Rattle.dds_base.specs.declared.selection.Selection.{Selection}
 use Rattle.dds_base.specs.declared.sample.Sample.{Sample}
@@ -28,11 +29,16 @@ use Rattle.dds_cache.specs.Kept.{IsKept, IsKeptAt, IsFresh, IsNewAt, Adds, sampl
 use Rattle.dds_cache.specs.declared.access_kind.AccessKind.{AccessKind}
 use Rattle.dds_cache.specs.declared.access_kind.AccessKind.TheVariants.{Read as Reading, Take as Taking}
 use Rattle.dds_cache.specs.Settling.{settled}
+use Rattle.dds_cache.specs.Sweeping.{left_since, stays}
+use Rattle.dds_base.specs.Instance.{known_instances}
 use Rattle.dds_cache.specs.Standing.{Stored, StandsFor, entry_of}
-use Rattle.dds_cache.proofs.PresenceLaws.{present-next, present-dropped, quiet-absent, other-absent}
-use Rattle.dds_cache.proofs.KeptLaws.{kept-quiet, kept-next}
+use Rattle.dds_cache.proofs.PresenceLaws.{here-append, present-next, present-dropped, quiet-absent, other-absent}
+use Rattle.dds_cache.proofs.EndLaws.{known, still-quiet}
+use Rattle.dds_cache.proofs.KeptLaws.{kept-next}
+use Rattle.dds_cache.proofs.SweepLaws.{IsApart, Leaves, all-filtered, apart-quiet, here-stays, leaves-all, leaves-since, past-kept}
 use Rattle.dds_cache.proofs.GroupLaws.{unequal}
-use Rattle.dds_cache.proofs.DataLaws.{brings-added}
+use Rattle.dds_cache.proofs.DataLaws.{brings-added, none-noted}
+use Rattle.dds_base.specs.Ownership.{accepted_kind, registered_writers}
 
 -- no access returned what has not happened yet
 pub fresh : (stored : Stored) (h : List Happening) (i : Key) → StandsFor stored h → IsFresh h i
@@ -43,47 +49,71 @@ fresh stored h i stands =
           (omega arith);
     }
 
+-- what is kept holds for what it stands for
+pub holds : (stored : Stored) (h : List Happening) → StandsFor stored h
+    → Holds stored.qos stored.instances stored.samples h
+holds stored h stands = record { instances = stands.instances; each = stands.each; present = stands.present }
+
 -- one more change is counted
 pub counts-more : (n m : ℕ) → n ≡ min m (2 ^ 31 - 1) → min (n + 1) (2 ^ 31 - 1) ≡ min (m + 1) (2 ^ 31 - 1)
 counts-more n m is = omega (arith, is)
 
--- the samples that an entry leaves are added
-pub stands-added : (q : ReaderQos) (e : Happening) (h : List Happening) (old new : Stored) → old.qos ≡ q → new.qos ≡ q
+-- what is kept says what is true after one more entry
+pub each-after : (q : ReaderQos) (e : Happening) (h : List Happening) (old left new : List Kept)
+    → Leaves q e h old left → Adds q e h left new → All (IsKept q (e ∷ h)) new
+each-after q e h old left new leaves adds =
+    subst (λ (ks : List Kept). All (IsKept q (e ∷ h)) ks) (sym adds.are)
+    (All-append (IsKept q (e ∷ h)) left adds.added leaves.each adds.each)
+
+-- and each present sample is kept
+pub present-after : (q : ReaderQos) (e : Happening) (h : List Happening) (old left new : List Kept)
+    → Leaves q e h old left → Adds q e h left new → All (IsKept q h) old
+    → ((i : Key) → filter (is_present q h i) (up_to (length h)) ≡ positions_in q h i old) → (i : Key)
+    → filter (is_present q (e ∷ h) i) (up_to (length (e ∷ h))) ≡ positions_in q (e ∷ h) i new
+present-after q e h old left new leaves adds each present i =
+    present-next q e h i old adds.added (past-kept q h old each) (present i) (adds.present i)
+    ∙ (here-append q (e ∷ h) i old adds.added
+    ∙ (ap (λ (ps : List ℕ). ps ++ positions_in q (e ∷ h) i adds.added) (sym (leaves.same i))
+    ∙ (sym (here-append q (e ∷ h) i left adds.added)
+    ∙ ap (λ (ks : List Kept). positions_in q (e ∷ h) i ks) (sym adds.are))))
+
+-- what is kept holds after one more entry, once the samples that it leaves are added to those that are left
+pub holds-next : (q : ReaderQos) (e : Happening) (h : List Happening) (before table : Table) (old left new : List Kept)
+    → Stands q table (e ∷ h) → Leaves q e h old left → Adds q e h left new → Holds q before old h
+    → Holds q table new (e ∷ h)
+holds-next q e h before table old left new stands leaves adds holds = record {
+  instances = stands;
+  each = each-after q e h old left new leaves adds;
+  present = present-after q e h old left new leaves adds holds.each holds.present;
+}
+
+-- the samples that an entry leaves are added to those that are left
+pub stands-added : (q : ReaderQos) (e : Happening) (h : List Happening) (left : List Kept) (old new : Stored)
+    → old.qos ≡ q → new.qos ≡ q
     → taken_by e ≡ [] → read_by e ≡ [] → new.arrivals ≡ min (arrivals (e ∷ h)) (2 ^ 31 - 1)
     → data_available_at q (e ∷ h) ≡ (if brings_sample q (e ∷ h) then Some (length h + 1) else data_available_at q h)
-    → new.data_at ≡ (if nat_lt (length old.samples) (length new.samples) then Some (length h + 1) else old.data_at)
-    → Stands q new.instances (e ∷ h) → Adds q e h old.samples new.samples → StandsFor old h → StandsFor new (e ∷ h)
-stands-added q e h old new old_qos new_qos taken read counted raised noted instances adds stands =
-    let each : All (IsKept q h) old.samples =
-    subst (λ (r : ReaderQos). All (IsKept r h) old.samples) old_qos stands.each in
-    let present : (i : Key) → filter (is_present q h i) (up_to (length h)) ≡ positions_in q h i old.samples =
-    λ i. subst (λ (r : ReaderQos). filter (is_present r h i) (up_to (length h))
-    ≡ positions_in r h i old.samples) old_qos (stands.present i) in
-    let all : All (IsKept q (e ∷ h)) new.samples =
-    subst (λ (ks : List Kept). All (IsKept q (e ∷ h)) ks) (sym adds.are)
-    (All-append (IsKept q (e ∷ h)) old.samples adds.added
-    (All-weaker (IsKept q h) (IsKept q (e ∷ h)) (λ k kept. kept-quiet q e h k taken read kept) old.samples each)
-    adds.each) in
-    let next : (i : Key) → filter (is_present q (e ∷ h) i) (up_to (length (e ∷ h)))
-    ≡ positions_in q (e ∷ h) i new.samples = λ i. present-next q e h i old.samples adds.added
-    (All-weaker (IsKept q h) (λ (k : Kept). position_of k ≤ length h) (λ k kept. kept.in_past) old.samples each)
-    (present i) (adds.present i) ∙ ap (λ (ks : List Kept). positions_in q (e ∷ h) i ks) (sym adds.are) in
-    let past : All (λ (k : Kept). position_of k ≤ length h) old.samples =
-    All-weaker (IsKept q h) (λ (k : Kept). position_of k ≤ length h) (λ k kept. kept.in_past) old.samples each in
-    let brings : brings_sample q (e ∷ h) ≡ nat_lt (length old.samples) (length new.samples) =
-    brings-added q e h old.samples new.samples past adds all next in
-    let before : old.data_at ≡ data_available_at q h =
+    → new.data_at ≡ (if nat_lt (length left) (length new.samples) then Some (length h + 1) else old.data_at)
+    → Stands q new.instances (e ∷ h) → Leaves q e h old.samples left → Adds q e h left new.samples → StandsFor old h
+    → StandsFor new (e ∷ h)
+stands-added q e h left old new old_qos new_qos taken read counted raised noted instances leaves adds stands =
+    let before : Holds q old.instances old.samples h =
+    subst (λ (r : ReaderQos). Holds r old.instances old.samples h) old_qos (holds old h stands) in
+    let next : Holds q new.instances new.samples (e ∷ h) =
+    holds-next q e h old.instances new.instances old.samples left new.samples instances leaves adds before in
+    let brings : brings_sample q (e ∷ h) ≡ nat_lt (length left) (length new.samples) =
+    brings-added q e h left new.samples leaves.past adds next.each next.present in
+    let known : old.data_at ≡ data_available_at q h =
     subst (λ (r : ReaderQos). old.data_at ≡ data_available_at r h) old_qos stands.data_is in
     let is : new.data_at ≡ data_available_at q (e ∷ h) =
     noted
-    ∙ (ap (λ (n : Option ℕ). if nat_lt (length old.samples) (length new.samples) then Some (length h + 1) else n) before
+    ∙ (ap (λ (n : Option ℕ). if nat_lt (length left) (length new.samples) then Some (length h + 1) else n) known
     ∙ (ap (λ (b : Bool). if b then Some (length h + 1) else data_available_at q h) (sym brings) ∙ sym raised)) in
+    let now : Holds new.qos new.instances new.samples (e ∷ h) =
+    subst (λ (r : ReaderQos). Holds r new.instances new.samples (e ∷ h)) (sym new_qos) next in
     record {
-      instances = subst (λ (r : ReaderQos). Stands r new.instances (e ∷ h)) (sym new_qos) instances;
-      each = subst (λ (r : ReaderQos). All (IsKept r (e ∷ h)) new.samples) (sym new_qos) all;
-      present =
-          λ i. subst (λ (r : ReaderQos). filter (is_present r (e ∷ h) i) (up_to (length (e ∷ h)))
-          ≡ positions_in r (e ∷ h) i new.samples) (sym new_qos) (next i);
+      instances = now.instances;
+      each = now.each;
+      present = now.present;
       unread =
           λ i j later. ap (λ (ss : List SamplePosition). list_any (same_sample (sample_at i j)) ss || is_read
           (sample_at i j) h) read ∙ stands.unread i j (omega (arith, later));
@@ -104,6 +134,29 @@ adds-none q e h ks absent = record {
   present = λ i. ap (λ (b : Bool). cond b ((length h + 1) ∷ []) []) (absent i);
   new_are = All-nil (IsNewAt q (e ∷ h) (length h + 1));
 }
+
+-- an entry that says nothing of any instance leaves what is kept
+pub stands-quiet : (q : ReaderQos) (e : Happening) (h : List Happening) (old new : Stored) → old.qos ≡ q → new.qos ≡ q
+    → taken_by e ≡ [] → read_by e ≡ [] → ((i : Key) → accepted_kind q i h e ≡ None)
+    → ((i : Key) → registered_writers q i (e ∷ h) ≡ registered_writers q i h)
+    → new.arrivals ≡ min (arrivals (e ∷ h)) (2 ^ 31 - 1)
+    → data_available_at q (e ∷ h) ≡ (if brings_sample q (e ∷ h) then Some (length h + 1) else data_available_at q h)
+    → new.data_at ≡ old.data_at → new.samples ≡ old.samples → Stands q new.instances (e ∷ h) → StandsFor old h
+    → StandsFor new (e ∷ h)
+stands-quiet q e h old new old_qos new_qos taken read refused writers counted raised noted samples instances stands =
+    let ks : List Kept = old.samples in
+    let each : All (IsKept q h) ks = subst (λ (r : ReaderQos). All (IsKept r h) ks) old_qos stands.each in
+    stands-added q e h ks old new old_qos new_qos taken read counted raised
+    (noted
+    ∙ (none-noted (length ks) (Some (length h + 1)) old.data_at
+    ∙ ap (λ (xs : List Kept). if nat_lt (length ks) (length xs) then Some (length h + 1) else old.data_at)
+    (sym samples)))
+    instances
+    (leaves-all q e h ks (λ i. still-quiet q e h i (refused i) (writers i)
+    (ap (λ (ss : List SamplePosition). list_any (λ (s : SamplePosition). same_key s.key i) ss) taken))
+    (λ n d within. apart-quiet e (get_or ks n d) taken read) each)
+    (subst (λ (xs : List Kept). Adds q e h ks xs) (sym samples)
+    (adds-none q e h ks (λ i. quiet-absent q e h i (refused i) (writers i)))) stands
 
 map-one : (b : Bool) (k : Kept) (n : ℕ) → position_of k ≡ n → map position_of (cond b (k ∷ []) []) ≡ cond b (n ∷ []) []
 map-one true k n is = ap (λ (m : ℕ). m ∷ []) is
@@ -208,62 +261,32 @@ none-later h i j (s ∷ ss) later past =
     and-false false = refl
 
 -- the samples that a read returned are marked
-pub stands-read : (q : ReaderQos) (ss : List SamplePosition) (h : List Happening) (old new : Stored) → old.qos ≡ q
-    → new.qos ≡ q → new.arrivals ≡ old.arrivals → new.data_at ≡ None
-    → All (λ (s : SamplePosition). s.position ≤ length h) ss → Stands q new.instances (Read ss ∷ h)
-    → new.samples ≡ map (marked ss) old.samples → StandsFor old h → StandsFor new (Read ss ∷ h)
-stands-read q ss h old new old_qos new_qos counted lowered past instances samples stands =
+pub holds-read : (q : ReaderQos) (ss : List SamplePosition) (h : List Happening) (before table : Table) (ks : List Kept)
+    → Stands q table (Read ss ∷ h) → Holds q before ks h → Holds q table (map (marked ss) ks) (Read ss ∷ h)
+holds-read q ss h before table ks stands kept =
     let e : Happening = Read ss in
-    let each : All (IsKept q h) old.samples =
-    subst (λ (r : ReaderQos). All (IsKept r h) old.samples) old_qos stands.each in
-    let present : (i : Key) → filter (is_present q h i) (up_to (length h)) ≡ positions_in q h i old.samples =
-    λ i. subst (λ (r : ReaderQos). filter (is_present r h i) (up_to (length h))
-    ≡ positions_in r h i old.samples) old_qos (stands.present i) in
-    let all : All (IsKept q (e ∷ h)) new.samples =
-    subst (λ (ks : List Kept). All (IsKept q (e ∷ h)) ks) (sym samples)
-    (All-map (IsKept q (e ∷ h)) (marked ss) old.samples
-    (All-weaker (IsKept q h) (λ (k : Kept). IsKept q (e ∷ h) (marked ss k))
-    (λ k kept. kept-next q e h k (is_among ss k || k.is_read) refl refl kept) old.samples each)) in
-    let next : (i : Key) → filter (is_present q (e ∷ h) i) (up_to (length (e ∷ h)))
-    ≡ positions_in q (e ∷ h) i new.samples = λ i.
-    present-next q e h i old.samples []
-    (All-weaker (IsKept q h) (λ (k : Kept). position_of k ≤ length h) (λ k kept. kept.in_past) old.samples each)
-    (present i) (ap (λ (b : Bool). cond b ((length h + 1) ∷ []) []) (quiet-absent q e h i refl refl))
-    ∙ (ap (λ (ks : List Kept). positions_in q (e ∷ h) i ks) (append-nil old.samples)
-    ∙ (sym (positions-marked q (e ∷ h) i ss old.samples)
-    ∙ ap (λ (ks : List Kept). positions_in q (e ∷ h) i ks) (sym samples))) in
-    record {
-      instances = subst (λ (r : ReaderQos). Stands r new.instances (e ∷ h)) (sym new_qos) instances;
-      each = subst (λ (r : ReaderQos). All (IsKept r (e ∷ h)) new.samples) (sym new_qos) all;
-      present =
-          λ i. subst (λ (r : ReaderQos). filter (is_present r (e ∷ h) i) (up_to (length (e ∷ h)))
-          ≡ positions_in r (e ∷ h) i new.samples) (sym new_qos) (next i);
-      unread =
-          λ i j later. ap (λ (b : Bool). b || is_read (sample_at i j) h)
-          (none-later h i j ss (omega (arith, later)) past) ∙ stands.unread i j (omega (arith, later));
-      untaken = λ i j later. stands.untaken i j (omega (arith, later));
-      arrivals_are = counted ∙ stands.arrivals_are;
-      data_is = lowered;
-    }
+    holds-next q e h before table ks (map (marked ss) ks) (map (marked ss) ks) stands
+    (record {
+      each =
+          All-map (IsKept q (e ∷ h)) (marked ss) ks
+          (All-weaker (IsKept q h) (λ (k : Kept). IsKept q (e ∷ h) (marked ss k))
+          (λ k is. kept-next q e h k (is_among ss k || k.is_read)
+          (still-quiet q e h k.sample.key refl refl refl (sym (known q h k.sample.key) ∙ is.is_known)) refl refl is)
+          ks kept.each);
+      past =
+          All-map (λ (k : Kept). position_of k ≤ length h) (marked ss) ks
+          (All-weaker (λ (k : Kept). position_of k ≤ length h) (λ (k : Kept). position_of (marked ss k) ≤ length h)
+          (λ k is. is) ks (past-kept q h ks kept.each));
+      same = λ i. positions-marked q (e ∷ h) i ss ks;
+    })
+    (adds-none q e h (map (marked ss) ks) (λ i. quiet-absent q e h i refl refl))
+    kept
 
 -- ---- a take
 
 not-true : (b : Bool) → not b ≡ true → b ≡ false
 not-true true e = absurd (let clash : false ≡ true = e in cc)
 not-true false e = refl
-
--- what is kept passes the test
-all-filtered : (p : Kept → Bool) (P : Kept → Type 0) (ks : List Kept) → All P ks
-    → All (λ (k : Kept). P k × (p k ≡ true)) (filter p ks)
-all-filtered p P [] all = All-nil (λ (k : Kept). P k × (p k ≡ true))
-all-filtered p P (k ∷ ks) all =
-    let rest : All (λ (x : Kept). P x × (p x ≡ true)) (filter p ks) = all-filtered p P ks (All-tail P k ks all) in
-    ⊎_elim
-    (λ passes. subst (λ (b : Bool). All (λ (x : Kept). P x × (p x ≡ true)) (cond b (k ∷ filter p ks) (filter p ks)))
-    (sym passes) (All-cons (λ (x : Kept). P x × (p x ≡ true)) k (filter p ks) (All-head P k ks all, passes) rest))
-    (λ fails. subst (λ (b : Bool). All (λ (x : Kept). P x × (p x ≡ true)) (cond b (k ∷ filter p ks) (filter p ks)))
-    (sym fails) rest)
-    (cases_Bool (p k))
 
 -- a sample that is there after a take was not among those it returned
 here-untaken : (q : ReaderQos) (ss : List SamplePosition) (h : List Happening) (i : Key) (k : Kept)
@@ -282,46 +305,46 @@ here-untaken q ss h i k here =
     first-false true b e = e
     first-false false b e = refl
 
--- the samples that a take returned are gone
-pub stands-took : (q : ReaderQos) (ss : List SamplePosition) (h : List Happening) (old new : Stored) → old.qos ≡ q
-    → new.qos ≡ q → new.arrivals ≡ old.arrivals → new.data_at ≡ None
-    → All (λ (s : SamplePosition). s.position ≤ length h) ss → Stands q new.instances (Took ss ∷ h)
-    → new.samples ≡ filter (λ k. not (is_among ss k)) old.samples → StandsFor old h → StandsFor new (Took ss ∷ h)
-stands-took q ss h old new old_qos new_qos counted lowered past instances samples stands =
+-- those that a take did not return are apart from it
+pub apart-taken : (ss : List SamplePosition) (ks : List Kept)
+    → All (IsApart (Took ss)) (filter (λ k. not (is_among ss k)) ks)
+apart-taken ss ks =
+    All-weaker (λ (k : Kept). Unit × (not (is_among ss k) ≡ true)) (IsApart (Took ss))
+    (λ k is. record { untaken = not-true (is_among ss k) is.1; unread = refl }) (filter (λ k. not (is_among ss k)) ks)
+    (all-filtered (λ k. not (is_among ss k)) (λ (k : Kept). Unit) ks (λ n d within. tt))
+
+-- of the present samples of an instance after a take, none is among those that it returned
+pub holds-apart : (q : ReaderQos) (ss : List SamplePosition) (h : List Happening) (table : Table) (i : Key)
+    (ks : List Kept) → Holds q table ks h
+    → filter (is_present q (Took ss ∷ h) i) (up_to (length (Took ss ∷ h)))
+    ≡ positions_in q (Took ss ∷ h) i (filter (λ k. not (is_among ss k)) ks)
+holds-apart q ss h table i ks kept =
+    present-next q (Took ss) h i ks [] (past-kept q h ks kept.each) (kept.present i)
+    (ap (λ (b : Bool). cond b ((length h + 1) ∷ []) []) (quiet-absent q (Took ss) h i refl refl))
+    ∙ (ap (λ (xs : List Kept). positions_in q (Took ss ∷ h) i xs) (append-nil ks)
+    ∙ sym (present-dropped q (Took ss ∷ h) i (λ k. not (is_among ss k)) ks
+    (λ k d within. here-untaken q ss h i (get_or ks k d))))
+
+-- the samples that a take returned are gone, and those of the lives that it ended
+pub holds-took : (q : ReaderQos) (ss : List SamplePosition) (h : List Happening) (before table : Table) (known : ℕ)
+    (ks : List Kept) → known ≡ length (known_instances q h) → Stands q table (Took ss ∷ h) → Holds q before ks h
+    → Holds q table (left_since q (Took ss ∷ h) known (filter (λ k. not (is_among ss k)) ks)) (Took ss ∷ h)
+holds-took q ss h before table known ks counted stands kept =
     let e : Happening = Took ss in
     let keep : Kept → Bool = λ k. not (is_among ss k) in
-    let each : All (IsKept q h) old.samples =
-    subst (λ (r : ReaderQos). All (IsKept r h) old.samples) old_qos stands.each in
-    let present : (i : Key) → filter (is_present q h i) (up_to (length h)) ≡ positions_in q h i old.samples =
-    λ i. subst (λ (r : ReaderQos). filter (is_present r h i) (up_to (length h))
-    ≡ positions_in r h i old.samples) old_qos (stands.present i) in
-    let all : All (IsKept q (e ∷ h)) new.samples =
-    subst (λ (ks : List Kept). All (IsKept q (e ∷ h)) ks) (sym samples)
-    (All-weaker (λ (k : Kept). IsKept q h k × (keep k ≡ true)) (IsKept q (e ∷ h))
-    (λ k both. kept-next q e h k k.is_read (not-true (is_among ss k) both.1) refl both.0) (filter keep old.samples)
-    (all-filtered keep (IsKept q h) old.samples each)) in
-    let next : (i : Key) → filter (is_present q (e ∷ h) i) (up_to (length (e ∷ h)))
-    ≡ positions_in q (e ∷ h) i new.samples = λ i.
-    present-next q e h i old.samples []
-    (All-weaker (IsKept q h) (λ (k : Kept). position_of k ≤ length h) (λ k kept. kept.in_past) old.samples each)
-    (present i) (ap (λ (b : Bool). cond b ((length h + 1) ∷ []) []) (quiet-absent q e h i refl refl))
-    ∙ (ap (λ (ks : List Kept). positions_in q (e ∷ h) i ks) (append-nil old.samples)
-    ∙ (sym (present-dropped q (e ∷ h) i keep old.samples
-    (λ k d within. here-untaken q ss h i (get_or old.samples k d)))
-    ∙ ap (λ (ks : List Kept). positions_in q (e ∷ h) i ks) (sym samples))) in
-    record {
-      instances = subst (λ (r : ReaderQos). Stands r new.instances (e ∷ h)) (sym new_qos) instances;
-      each = subst (λ (r : ReaderQos). All (IsKept r (e ∷ h)) new.samples) (sym new_qos) all;
-      present =
-          λ i. subst (λ (r : ReaderQos). filter (is_present r (e ∷ h) i) (up_to (length (e ∷ h)))
-          ≡ positions_in r (e ∷ h) i new.samples) (sym new_qos) (next i);
-      unread = λ i j later. stands.unread i j (omega (arith, later));
-      untaken =
-          λ i j later. ap (λ (b : Bool). b || is_taken (sample_at i j) h)
-          (none-later h i j ss (omega (arith, later)) past) ∙ stands.untaken i j (omega (arith, later));
-      arrivals_are = counted ∙ stands.arrivals_are;
-      data_is = lowered;
-    }
+    let left : Leaves q e h (filter keep ks) (left_since q (e ∷ h) known (filter keep ks)) =
+    leaves-since q e h known (filter keep ks) counted (apart-taken ss ks) (All-filter keep (IsKept q h) ks kept.each) in
+    holds-next q e h before table ks (left_since q (e ∷ h) known (filter keep ks))
+    (left_since q (e ∷ h) known (filter keep ks)) stands
+    (record {
+      each = left.each;
+      past = left.past;
+      same = λ i.
+          left.same i
+          ∙ present-dropped q (e ∷ h) i keep ks (λ k d within. here-untaken q ss h i (get_or ks k d));
+    })
+    (adds-none q e h (left_since q (e ∷ h) known (filter keep ks)) (λ i. quiet-absent q e h i refl refl))
+    kept
 
 -- samples that are no longer present can be swept out
 pub stands-swept : (h : List Happening) (old new : Stored) (keep : Kept → Bool) → new.qos ≡ old.qos
@@ -351,12 +374,17 @@ stands-swept h old new keep qos instances samples counted noted kept stands =
       data_is = noted ∙ (stands.data_is ∙ ap (λ (r : ReaderQos). data_available_at r h) (sym qos));
     }
 
--- ---- an access
+-- a cache that is swept stands for what it stood for
+pub stands-stays : (h : List Happening) (old new : Stored) → new.qos ≡ old.qos → new.instances ≡ old.instances
+    → new.samples ≡ filter (stays old.qos h) old.samples → new.arrivals ≡ old.arrivals → new.data_at ≡ old.data_at
+    → StandsFor old h → StandsFor new h
+stands-stays h old new qos instances samples counted noted stands =
+    stands-swept h old new (stays old.qos h) qos instances samples counted noted
+    (λ i. All-weaker (IsKept old.qos h) (λ (k : Kept). is_here old.qos h i k ≡ true → stays old.qos h k ≡ true)
+    (λ k kept. here-stays old.qos h i k kept) old.samples stands.each)
+    stands
 
--- what is kept holds for what it stands for
-pub holds : (stored : Stored) (h : List Happening) → StandsFor stored h
-    → Holds stored.qos stored.instances stored.samples h
-holds stored h stands = record { instances = stands.instances; each = stands.each; present = stands.present }
+-- ---- an access
 
 -- a candidate is a sample of a known instance, of what has happened
 returnable : (q : ReaderQos) (h : List Happening) (ks : List Kept) (c : Candidate) → All (IsKept q h) ks
@@ -421,38 +449,10 @@ pub past-all : (q : ReaderQos) (h : List Happening) (ss : List SamplePosition) �
 past-all q h ss each =
     All-weaker (IsReturnable q h) (λ (s : SamplePosition). s.position ≤ length h) (λ s is. is.in_past) ss each
 
--- an access is entered in a cache that is open, once its instances have entered it
-pub entered-as : (entry : List SamplePosition → Happening) (inside now : Stored) (ss xs : List SamplePosition)
-    (new : Table) (after : Stored) (h : List Happening) → inside ≡ now → xs ≡ ss → StandsFor now h
-    → All (IsReturnable now.qos h) ss
-    → ((q : ReaderQos) (g : List Happening) → Stands q inside.instances g → All (IsReturnable q g) xs
-    → Stands q new (entry xs ∷ g))
-    → (All (λ (s : SamplePosition). s.position ≤ length h) ss → Stands inside.qos new (entry ss ∷ h)
-    → StandsFor inside h → StandsFor after (entry ss ∷ h))
-    → StandsFor after (entry ss ∷ h)
-entered-as entry inside now ss xs new after h view same stands each enter make =
-    let old : StandsFor inside h = subst (λ (t : Stored). StandsFor t h) (sym view) stands in
-    let fits : All (IsReturnable inside.qos h) ss =
-    subst (λ (t : Stored). All (IsReturnable t.qos h) ss) (sym view) each in
-    let came : Stands inside.qos new (entry ss ∷ h) =
-    subst (λ (ys : List SamplePosition). Stands inside.qos new (entry ys ∷ h)) same
-    (enter inside.qos h old.instances
-    (subst (λ (ys : List SamplePosition). All (IsReturnable inside.qos h) ys) (sym same) fits)) in
-    make (past-all inside.qos h ss fits) came old
-
 -- a mark leaves the counts
 pub small-marked : (ss : List SamplePosition) (ks : List Kept) → All IsSmall ks → All IsSmall (map (marked ss) ks)
 small-marked ss ks small =
     All-map IsSmall (marked ss) ks (All-weaker IsSmall (λ (k : Kept). IsSmall (marked ss k)) (λ k is. is) ks small)
-
--- what an access returned has entered the instances, by its kind
-pub returned-as : {old new : Table} {ss : List SamplePosition} (kind : AccessKind)
-    → ((q : ReaderQos) (h : List Happening) → Stands q old h → All (IsReturnable q h) ss → Stands q new (Read ss ∷ h))
-    → ((q : ReaderQos) (h : List Happening) → Stands q old h → All (IsReturnable q h) ss → Stands q new (Took ss ∷ h))
-    → (q : ReaderQos) (h : List Happening) → Stands q old h → All (IsReturnable q h) ss
-    → Stands q new (entry_of kind ss ∷ h)
-returned-as Reading read took = read
-returned-as Taking read took = took
 
 -- an access by the same samples leaves the same
 pub settled-same : (kind : AccessKind) (ss ts : List SamplePosition) (ks : List Kept) → HaveSame ss ts
@@ -466,11 +466,41 @@ pub small-settled : (kind : AccessKind) (ss : List SamplePosition) (ks : List Ke
 small-settled Reading = small-marked
 small-settled Taking = λ ss. All-filter (λ (k : Kept). not (is_among ss k)) IsSmall
 
--- a cache stands for one access more, by its kind
-pub stands-entered : (kind : AccessKind) (q : ReaderQos) (ss : List SamplePosition) (h : List Happening)
-    (old new : Stored)
-    → old.qos ≡ q → new.qos ≡ q → new.arrivals ≡ old.arrivals → new.data_at ≡ None
-    → All (λ (s : SamplePosition). s.position ≤ length h) ss → Stands q new.instances (entry_of kind ss ∷ h)
-    → new.samples ≡ settled kind ss old.samples → StandsFor old h → StandsFor new (entry_of kind ss ∷ h)
-stands-entered Reading = stands-read
-stands-entered Taking = stands-took
+-- what had not happened was not returned, also not by an access of what had
+later-apart : (kind : AccessKind) (ss : List SamplePosition) (h : List Happening) (i : Key) (j : ℕ) → length h < j
+    → All (λ (s : SamplePosition). s.position ≤ length h) ss
+    → (list_any (same_sample (sample_at i j)) (read_by (entry_of kind ss)) ≡ false)
+    × (list_any (same_sample (sample_at i j)) (taken_by (entry_of kind ss)) ≡ false)
+later-apart Reading ss h i j later past = (none-later h i j ss later past, refl)
+later-apart Taking ss h i j later past = (refl, none-later h i j ss later past)
+
+arrivals-access : (kind : AccessKind) (ss : List SamplePosition) (h : List Happening)
+    → arrivals (entry_of kind ss ∷ h) ≡ arrivals h
+arrivals-access Reading ss h = refl
+arrivals-access Taking ss h = refl
+
+data-access : (kind : AccessKind) (q : ReaderQos) (ss : List SamplePosition) (h : List Happening)
+    → data_available_at q (entry_of kind ss ∷ h) ≡ None
+data-access Reading q ss h = refl
+data-access Taking q ss h = refl
+
+-- a cache stands for one access more, once what it keeps holds after it
+pub stands-entered : (kind : AccessKind) (ss : List SamplePosition) (h : List Happening) (old new : Stored)
+    → new.arrivals ≡ old.arrivals → new.data_at ≡ None → All (λ (s : SamplePosition). s.position ≤ length h) ss
+    → Holds new.qos new.instances new.samples (entry_of kind ss ∷ h) → StandsFor old h
+    → StandsFor new (entry_of kind ss ∷ h)
+stands-entered kind ss h old new counted lowered past now stands = record {
+  instances = now.instances;
+  each = now.each;
+  present = now.present;
+  unread = λ i j later.
+      ap (λ (b : Bool). b || is_read (sample_at i j) h)
+      (later-apart kind ss h i j (omega (arith, later)) past).0 ∙ stands.unread i j (omega (arith, later));
+  untaken = λ i j later.
+      ap (λ (b : Bool). b || is_taken (sample_at i j) h)
+      (later-apart kind ss h i j (omega (arith, later)) past).1 ∙ stands.untaken i j (omega (arith, later));
+  arrivals_are =
+      counted
+      ∙ (stands.arrivals_are ∙ ap (λ (n : ℕ). min n (2 ^ 31 - 1)) (sym (arrivals-access kind ss h)));
+  data_is = lowered ∙ sym (data-access kind new.qos ss h);
+}

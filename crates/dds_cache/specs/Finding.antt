@@ -19,7 +19,8 @@ use Rattle.dds_base.specs.declared.selection.Selection.{Selection}
 use Rattle.dds_base.specs.declared.selection.Selection.TheVariants.{Any, Instance, NextInstance, NextSample}
 use Rattle.dds_base.specs.Happening.{same_key}
 use Rattle.dds_base.specs.Instance.{known_instances}
-use Rattle.dds_base.specs.Presence.{is_present, up_to}
+use Rattle.dds_base.specs.Presence.{is_present}
+use Rattle.dds_base.specs.Life.{up_to}
 use Rattle.dds_base.specs.Access.{asks_for_sample_state, asks_for_view_state, asks_for_instance_state, meets, picked_of, own_generations, handle_of, value_of, matching_samples}
 use Rattle.dds_cache.specs.declared.kept.Kept.{Kept}
 use Rattle.dds_cache.specs.declared.access.Candidate.{Candidate}

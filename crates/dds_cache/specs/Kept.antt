@@ -10,9 +10,11 @@ use Rattle.dds_base.specs.declared.happening.Happening.{Happening}
 use Rattle.dds_base.specs.declared.qos.ReaderQos.{ReaderQos}
 use Rattle.dds_base.specs.Happening.{same_key, same_sample, as_of, is_read, is_taken}
 use Rattle.dds_base.specs.Instance.{disposed_generations, no_writers_generations, known_instances}
-use Rattle.dds_base.specs.Presence.{accepted_writes, ends_with_write, is_present, keeps, is_at}
+use Rattle.dds_base.specs.Presence.{is_present}
+use Rattle.dds_base.specs.Life.{accepted_writes, ends_with_write, keeps, is_at}
 use Rattle.dds_base.specs.Access.{handle_of, timestamp_of, publication_of, newest_value}
 use Rattle.dds_cache.specs.declared.kept.Kept.{Kept}
+use Rattle.dds_instances.specs.Known.{writes_in_life}
 use Rattle.dds_instances.specs.declared.known.KnownInstance.{KnownInstance}
 
 -- the sample of i at a position
@@ -22,20 +24,22 @@ sample_at i j = record { key = i; position = j }
 -- what is kept of a sample by what had happened when its entry was the newest
 pub record IsOf (q : ReaderQos) (past : List Happening) (k : Kept) : Type 0 where
   pub valid_is : k.valid_data ≡ ends_with_write q k.sample.key past
-  pub number_is : k.number ≡ accepted_writes q k.sample.key past
   pub disposed_is : k.disposed_generation_count ≡ disposed_generations q k.sample.key past
   pub no_writers_is : k.no_writers_generation_count ≡ no_writers_generations q k.sample.key past
   pub timestamp_is : k.source_timestamp ≡ timestamp_of past
   pub publication_is : k.publication_handle ≡ publication_of past
   pub value_is : k.value ≡ newest_value q k.sample.key past
 
--- a sample that no take returned, of a known instance, with what is kept of it
+-- a sample that no take returned, of a known instance, with what is kept of it; as many writes were accepted since it as
+-- its number says
 pub record IsKept (q : ReaderQos) (h : List Happening) (k : Kept) : Type 0 where
   pub in_past : k.sample.position ≤ length h
   pub is_known : IsTrue (list_any (λ i. same_key i k.sample.key) (known_instances q h))
   pub handle_is : k.handle ≡ handle_of q h k.sample.key
   pub untaken : is_taken k.sample h ≡ false
   pub read_is : k.is_read ≡ is_read k.sample h
+  pub numbered : accepted_writes q k.sample.key h + k.number
+      ≡ writes_in_life q k.sample.key h + accepted_writes q k.sample.key (as_of k.sample.position h)
   pub is_of : IsOf q (as_of k.sample.position h) k
 
 -- a kept sample is of instance i and present
@@ -50,7 +54,7 @@ position_of k = k.sample.position
 abbrev pub positions_in : ReaderQos → List Happening → Key → List Kept → List ℕ
 positions_in q h i ks = map position_of (filter (is_here q h i) ks)
 
--- by how many writes of its instance were accepted, and its last marker, a kept sample is a write that the history
+-- by how many writes of its instance were accepted in its life, and its last marker, a kept sample is a write that the history
 -- keeps, or that marker
 abbrev pub is_live_by : ReaderQos → ℕ → Option ℕ → Kept → Bool
 is_live_by q accepted marker k =

@@ -6,7 +6,8 @@ use Rattle.std.specs.Prelude.{◌+◌, ◌-◌, List, Bool, ◌&&◌, ◌||◌, 
 use Rattle.dds_base.specs.declared.happening.Happening.{Happening}
 use Rattle.dds_base.specs.declared.qos.ReaderQos.{ReaderQos}
 use Rattle.dds_base.specs.Happening.{as_of}
-use Rattle.dds_base.specs.Presence.{ends_with_write, is_at, is_present, keeps}
+use Rattle.dds_base.specs.Presence.{is_present}
+use Rattle.dds_base.specs.Life.{ends_with_write, is_at, keeps}
 use Rattle.dds_instances.specs.declared.known.KnownInstance.{KnownInstance}
 use Rattle.dds_instances.specs.Track.{one_if}
 use Rattle.dds_cache.specs.declared.kept.Kept.{Kept}

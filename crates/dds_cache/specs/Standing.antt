@@ -14,7 +14,8 @@ use Rattle.dds_base.specs.declared.qos.ReaderQos.{ReaderQos}
 use Rattle.dds_base.specs.declared.selection.Selection.{Selection}
 use Rattle.dds_base.specs.declared.key.Key.{Key}
 use Rattle.dds_base.specs.Happening.{is_read, is_taken, arrivals}
-use Rattle.dds_base.specs.Presence.{is_present, up_to}
+use Rattle.dds_base.specs.Presence.{is_present}
+use Rattle.dds_base.specs.Life.{up_to}
 use Rattle.dds_base.specs.Access.{collection_of}
 use Rattle.dds_base.specs.Refusal.{Refuses}
 use Rattle.dds_base.specs.Selection.{picked_by, selection_refusal}

@@ -109,7 +109,7 @@ fn is_match<T: Test>(
         → IsKept qos.now h kept.now
         → result ≡ is_wanted qos.now h masks (T.meaning test.now) kept.now }
 {
-    match instances.at(kept.handle) {
+    match instances.known(kept.sample.key) {
         None => false,
         Some(known) => is_found(kept, qos, masks, test, &known),
     }
@@ -182,7 +182,7 @@ fn as_candidate<T: Test>(
         → MatchOption result (is_wanted qos.now h masks (T.meaning test.now) kept.now ≡ false)
         (IsFound qos.now h masks (T.meaning test.now) kept.now at) }
 {
-    match instances.at(kept.handle) {
+    match instances.known(kept.sample.key) {
         None => None,
         Some(known) => {
             if is_found(kept, qos, masks, test, &known) {

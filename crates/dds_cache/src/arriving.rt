@@ -7,7 +7,8 @@ ghost use Rattle.dds_base.specs.declared.happening.Happening.{Happening};
 ghost use Rattle.dds_base.specs.declared.happening.Happening.TheVariants.{Came};
 ghost use Rattle.dds_base.specs.Happening.{is_read, is_taken};
 ghost use Rattle.dds_base.specs.Instance.{instance_state_of};
-ghost use Rattle.dds_base.specs.Presence.{ends_with_write, is_present};
+ghost use Rattle.dds_base.specs.Presence.{is_present};
+ghost use Rattle.dds_base.specs.Life.{ends_with_write};
 ghost use Rattle.dds_instances.specs.Table.{Stands};
 ghost use Rattle.dds_cache.specs.Kept.{IsKeptAt, IsFresh, value_if, Adds};
 ghost use Rattle.dds_cache.specs.Finding.{IsSmall};
@@ -65,7 +66,7 @@ pub fn left_by(
                     key,
                     position: instances.happened(),
                 },
-                handle: instances.handle(key),
+                handle: known.handle,
                 number: known.accepted_writes,
                 is_read: false,
                 valid_data: is_write,

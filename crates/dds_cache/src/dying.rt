@@ -2,12 +2,11 @@
 //!
 //! DDS 1.4, 2.2.2.5 (instance_state), 2.2.3 (LIVELINESS).
 
-ghost use Rattle.std.specs.Prelude.{◌≡◌, ◌+◌, ◌∷◌, [], ℕ, List, Some, true, false, length, All, MatchOption, IfSome, ◌<◌, ◌≤◌, vec_len, vec_capacity};
+ghost use Rattle.std.specs.Prelude.{◌≡◌, ◌+◌, ◌∷◌, [], ℕ, List, Some, true, false, length, All, MatchOption, IfSome, ◌<◌, ◌≤◌, vec_len, vec_capacity, slice_get};
 ghost use Rattle.dds_base.specs.declared.happening.Happening.{Happening};
 ghost use Rattle.dds_base.specs.declared.happening.Happening.TheVariants.{Died};
 ghost use Rattle.dds_base.specs.declared.key.Key.{Key};
 ghost use Rattle.dds_base.specs.declared.qos.ReaderQos.{ReaderQos};
-ghost use Rattle.dds_base.specs.Access.{instance_of};
 ghost use Rattle.dds_base.specs.Instance.{known_instances};
 ghost use Rattle.dds_base.specs.Presence.{is_present};
 ghost use Rattle.dds_instances.specs.Table.{Stands, has_marked, marked_of};
@@ -21,23 +20,23 @@ use dds_base::{Handle, Moment, Octets, SamplePosition};
 use dds_instances::Instances;
 use std::alloc::Global;
 
-/// The sample that a death has left of the instance of a handle, if it left one. The instances have taken the death up.
+/// The sample that a death has left of the instance at a place, if it left one. The instances have taken the death up.
 fn marker_of(
     alloc: Global,
     instances: &Instances,
-    handle: Handle,
+    place: usize,
     writer: Handle,
     moment: Moment,
 ) -> Option<Kept>
     ensures left { (q : ReaderQos) (h : List Happening) (i : Key)
         → Stands q instances.now (Died writer moment ∷ h)
-        → instance_of q (Died writer moment ∷ h) handle ≡ Some i → IsFresh h i
+        → slice_get (known_instances q (Died writer moment ∷ h)) place ≡ Some i → IsFresh h i
         → MatchOption result (is_present q (Died writer moment ∷ h) i (length h + 1) ≡ false)
         (IsKeptAt q (Died writer moment ∷ h) i (length h + 1)) }
-    ensures marked { IfSome result (λ _. has_marked instances.now handle ≡ true) }
+    ensures marked { IfSome result (λ _. has_marked instances.now place ≡ true) }
     ensures small { IfSome result IsSmall }
 {
-    let known = instances.at(handle)?;
+    let known = instances.at(place)?;
     let position = instances.happened();
     if !is_position(known.last_marker, position) {
         return None;
@@ -47,7 +46,7 @@ fn marker_of(
             key: known.key,
             position,
         },
-        handle: instances.handle(known.key),
+        handle: known.handle,
         number: known.accepted_writes,
         is_read: false,
         valid_data: false,
@@ -59,28 +58,28 @@ fn marker_of(
     })
 }
 
-/// Adds the sample that a death has left of the instance of a handle, if it left one.
+/// Adds the sample that a death has left of the instance at a place, if it left one.
 fn add_marker(
     alloc: Global,
     instances: &Instances,
     samples: &mut Vec<Kept>,
-    handle: Handle,
+    place: usize,
     writer: Handle,
     moment: Moment,
 )
-    requires room { vec_len samples.old + one_if (has_marked instances.now handle)
+    requires room { vec_len samples.old + one_if (has_marked instances.now place)
         ≤ vec_capacity samples.old }
     ensures len { vec_len samples.new
-        ≤ vec_len samples.old + one_if (has_marked instances.now handle) }
+        ≤ vec_len samples.old + one_if (has_marked instances.now place) }
     ensures capacity { vec_capacity samples.old ≤ vec_capacity samples.new }
     ensures samples { (q : ReaderQos) (h : List Happening) (i : Key)
         → Stands q instances.now (Died writer moment ∷ h)
-        → instance_of q (Died writer moment ∷ h) handle ≡ Some i → IsFresh h i
+        → slice_get (known_instances q (Died writer moment ∷ h)) place ≡ Some i → IsFresh h i
         → AddsOf q (Died writer moment ∷ h) (length h + 1)
         (i ∷ []) samples.old.items samples.new.items }
     ensures small { All IsSmall samples.old.items → All IsSmall samples.new.items }
 {
-    if let Some(kept) = marker_of(alloc, instances, handle, writer, moment) {
+    if let Some(kept) = marker_of(alloc, instances, place, writer, moment) {
         if samples.push(kept).is_err() {
             // Room was reserved.
             unreachable!();
@@ -88,12 +87,11 @@ fn add_marker(
     }
 }
 
-/// Adds the samples that a death has left, of so many instances. The instances have taken the death up.
+/// Adds the samples that a death has left. The instances have taken the death up.
 pub fn add_markers(
     alloc: Global,
     instances: &Instances,
     samples: &mut Vec<Kept>,
-    count: usize,
     writer: Handle,
     moment: Moment,
 )
@@ -102,12 +100,11 @@ pub fn add_markers(
     ensures capacity { vec_capacity samples.old ≤ vec_capacity samples.new }
     ensures samples { (q : ReaderQos) (h : List Happening)
         → Stands q instances.now (Died writer moment ∷ h)
-        → count ≡ length (known_instances q (Died writer moment ∷ h)) → ((i : Key) → IsFresh h i)
+        → ((i : Key) → IsFresh h i)
         → Adds q (Died writer moment) h samples.old.items samples.new.items }
     ensures small { All IsSmall samples.old.items → All IsSmall samples.new.items }
 {
-    for at in 0..count {
-        let handle = Handle::new(at as u64 + 1);
-        add_marker(alloc, instances, samples, handle, writer, moment);
+    for place in 0..instances.len() {
+        add_marker(alloc, instances, samples, place, writer, moment);
     }
 }

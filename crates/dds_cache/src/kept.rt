@@ -3,7 +3,7 @@
 //! DDS 1.4, 2.2.2.5 (sample_state), 2.2.3 (HISTORY).
 
 ghost use Rattle.std.specs.Prelude.{◌≡◌, ◌+◌, true, All};
-ghost use Rattle.dds_base.specs.Presence.{keeps, is_at};
+ghost use Rattle.dds_base.specs.Life.{keeps, is_at};
 ghost use Rattle.dds_instances.specs.Track.{one_if};
 ghost use Rattle.dds_cache.specs.Kept.{is_live, marked, WasRead};
 ghost use Rattle.dds_cache.specs.Room.{is_write_after};
@@ -18,7 +18,7 @@ pub struct Kept {
     pub sample: SamplePosition,
     /// The handle of its instance.
     pub handle: Handle,
-    /// How many writes of its instance were accepted, up to it.
+    /// How many writes of its instance were accepted in its life, up to it.
     pub number: u64,
     /// Whether a read returned it.
     pub is_read: bool,

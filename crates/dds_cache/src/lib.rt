@@ -10,6 +10,8 @@ mod access_kind;
 mod arriving;
 mod collection;
 mod dying;
+mod ending;
+mod entering;
 mod kept;
 mod masks;
 mod pick;

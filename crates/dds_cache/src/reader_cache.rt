@@ -24,12 +24,13 @@ use crate::access_kind::AccessKind;
 use crate::arriving::{add_left, is_accepted_write};
 use crate::collection::{Access, gather};
 use crate::dying::add_markers;
+use crate::ending::{hold_present, is_end};
+use crate::entering::enter_access;
 use crate::kept::{Kept, are_read};
 use crate::masks::asks_for_sample;
 use crate::pick::{pick, picks_any};
-use crate::returned::settle;
 use crate::room::{count_arrival, is_room};
-use crate::sweeping::{next_sweep, sweep};
+use crate::sweeping::{let_go, next_sweep, sweep};
 use crate::test::Test;
 use dds_base::{
     Arrival, Code, Handle, Key, Masks, Moment, ReaderQos, Sample, SamplePosition, SampleState,
@@ -43,13 +44,15 @@ use std::marker::Model;
 ///
 /// A change takes about the same time however many samples and instances there are; now and then the samples that are
 /// no longer present are swept out. A read or a take goes once over the samples, and sorts those that it returns by
-/// handle.
+/// handle. An entry that may end the life of an instance goes over the samples too, and once more where it does, to let
+/// those go that it leaves behind.
 #[derive(Drop)]
 pub struct ReaderCache {
     alloc: Global,
     qos: ReaderQos,
     instances: Instances,
-    /// The present samples, and some that are no longer present, but none that was taken.
+    /// The present samples, and some that are no longer present, but none that was taken, and none of an instance that is
+    /// not known any more.
     samples: Vec<Kept>,
     /// How many changes came: at most `MAX_ARRIVALS`, where it stays.
     arrivals: u32,
@@ -143,14 +146,15 @@ impl ReaderCache {
         ensures room { room_of self.old ≤ room_of self.new + 1 }
         ensures deaths { deaths_of self.new + 1 ≡ deaths_of self.old }
     {
-        let count = self.instances.len();
-        let before = self.samples.len();
+        let known = self.instances.len();
+        hold_present(&mut self.instances, &self.qos, &self.samples);
         self.instances.died(writer).unwrap();
+        let_go(&self.instances, &self.qos, known, &mut self.samples);
+        let before = self.samples.len();
         add_markers(
             self.alloc,
             &self.instances,
             &mut self.samples,
-            count,
             writer,
             moment,
         );
@@ -169,8 +173,11 @@ impl ReaderCache {
         ensures room { room_of self.new + 1 ≡ room_of self.old }
     {
         let is_write = is_accepted_write(&self.instances, &self.qos, &arrival);
+        let is_end = is_end(&self.instances, &self.qos, &self.samples, &arrival);
+        let known = self.instances.len();
+        self.instances.come(&self.qos, &arrival, is_end).unwrap();
+        let_go(&self.instances, &self.qos, known, &mut self.samples);
         let before = self.samples.len();
-        self.instances.come(&self.qos, &arrival).unwrap();
         add_left(
             self.alloc,
             &self.instances,
@@ -283,7 +290,8 @@ impl ReaderCache {
         Ok(())
     }
 
-    /// Takes up that the lease of a matched writer ran out, at a moment of the reader's peer. It takes no memory.
+    /// Takes up that the lease of a matched writer ran out, at a moment of the reader's peer. It takes no memory, and
+    /// goes over the samples and the instances.
     ///
     /// # Errors
     ///
@@ -313,7 +321,8 @@ impl ReaderCache {
     /// Whether there is room for a change by the limits of the policies: fewer than 2^31 - 1 changes came with it, and
     /// if it is accepted, the present writes and the known instances are as many as they may be. It needs no memory.
     ///
-    /// It goes once over the samples, where as many are kept as may be present.
+    /// It goes once over the samples where as many are kept as may be present, and where as many instances are known as
+    /// may be.
     ///
     /// DDS 1.4, 2.2.3 (RESOURCE_LIMITS).
     pub fn has_room(&self, arrival: &Arrival) -> bool
@@ -402,8 +411,18 @@ impl ReaderCache {
             → IsOk result }
         ensures entry { TakesEntry room_of self.old self.new result }
     {
-        self.instances.returned(&access.positions)?;
-        settle(kind, &mut self.samples, &access.returned);
+        // An entry that has room can be counted, and one that has none is counted as a death is.
+        if self.room == 0 && !self.counts_deaths(1) {
+            return Err(Code::Memory);
+        }
+        enter_access(
+            kind,
+            &mut self.instances,
+            &self.qos,
+            &mut self.samples,
+            &access.positions,
+            &access.returned,
+        );
         self.all_read = are_read(&self.samples);
         self.room = self.room.saturating_sub(1);
         self.data_at = None;
@@ -497,7 +516,7 @@ impl ReaderCache {
     ///
     /// DDS 1.4, 2.2.2.5 (lookup_instance).
     pub fn lookup(&self, key: Key) -> Handle
-        // It is 1 plus the number of the instances that became known before it, or 0.
+        // It is how many lives of instances had begun with its own, or 0.
         ensures handle { (h : List Happening) → StandsFor self.now h
             → result ≡ handle_of (qos_of self.now) h key }
     {

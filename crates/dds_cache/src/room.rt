@@ -8,7 +8,8 @@ ghost use Rattle.dds_base.specs.declared.happening.Happening.{Happening};
 ghost use Rattle.dds_base.specs.declared.happening.Happening.TheVariants.{Came};
 ghost use Rattle.dds_base.specs.Happening.{arrivals as arrivals_of};
 ghost use Rattle.dds_base.specs.Instance.{known_instances};
-ghost use Rattle.dds_base.specs.Presence.{ends_with_write, has_room, is_accepted, is_within, marks, present_writes};
+ghost use Rattle.dds_base.specs.Presence.{has_room, is_accepted, is_within, marks, present_writes};
+ghost use Rattle.dds_base.specs.Life.{ends_with_write};
 ghost use Rattle.dds_instances.specs.Table.{Stands};
 ghost use Rattle.dds_instances.specs.Track.{one_if};
 ghost use Rattle.dds_cache.specs.Finding.{Holds};
@@ -16,6 +17,7 @@ ghost use Rattle.dds_cache.specs.Kept.{IsFresh, IsKept};
 ghost use Rattle.dds_cache.specs.Room.{is_present_write};
 
 use crate::arriving::is_accepted_write;
+use crate::ending::is_end;
 use crate::kept::{Kept, is_kept_after};
 use dds_base::{Arrival, ReaderQos};
 use dds_instances::Instances;
@@ -51,15 +53,30 @@ fn keeps_to(limit: Option<u32>, count: usize, one_more: bool) -> bool
 }
 
 /// Whether there may be so many instances after an accepted change.
-fn instances_fit(instances: &Instances, qos: &ReaderQos, arrival: &Arrival) -> bool
-    ensures { (h : List Happening) → Stands qos.now instances.now h
+fn instances_fit(
+    instances: &Instances,
+    qos: &ReaderQos,
+    arrival: &Arrival,
+    samples: &[Kept],
+) -> bool
+    ensures { (h : List Happening) → Holds qos.now instances.now samples.now h
+        → IsFresh h arrival.now.change.key
         → is_accepted qos.now h (Came arrival.now) ≡ true
         → result
         ≡ is_within qos.now.max_instances
         (length (known_instances qos.now (Came arrival.now ∷ h))) }
 {
-    let is_new = instances.known(arrival.change.key).is_none();
-    keeps_to(qos.max_instances, instances.len(), is_new)
+    // With fewer instances than may be known, there is room for one more.
+    if keeps_to(qos.max_instances, instances.len(), true) {
+        return true;
+    }
+    let others = if instances.known(arrival.change.key).is_none() {
+        instances.len()
+    } else {
+        instances.len().saturating_sub(1)
+    };
+    let stays = !is_end(instances, qos, samples, arrival);
+    keeps_to(qos.max_instances, others, stays)
 }
 
 /// Whether a kept sample is a write that is present after a change.
@@ -77,7 +94,7 @@ fn is_write_then(
         → IsKept qos.now h kept.now
         → result ≡ is_present_write qos.now (Came arrival.now ∷ h) kept.now }
 {
-    match instances.at(kept.handle) {
+    match instances.known(kept.sample.key) {
         None => false,
         Some(known) => {
             let is_own = kept.sample.key == arrival.change.key;
@@ -157,5 +174,6 @@ pub fn is_room(
         return true;
     }
     !instances.accepts(qos, arrival)
-        || samples_fit(instances, qos, arrival, samples) && instances_fit(instances, qos, arrival)
+        || samples_fit(instances, qos, arrival, samples)
+            && instances_fit(instances, qos, arrival, samples)
 }

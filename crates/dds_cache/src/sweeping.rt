@@ -7,7 +7,7 @@ ghost use Rattle.dds_base.specs.declared.happening.Happening.{Happening};
 ghost use Rattle.dds_instances.specs.Table.{Stands};
 ghost use Rattle.dds_cache.specs.Finding.{IsSmall};
 ghost use Rattle.dds_cache.specs.Kept.{WasRead};
-ghost use Rattle.dds_cache.specs.Sweeping.{stays};
+ghost use Rattle.dds_cache.specs.Sweeping.{left_since, stays};
 
 use crate::kept::Kept;
 use dds_base::ReaderQos;
@@ -17,12 +17,12 @@ use dds_instances::Instances;
 const SWEPT_FROM: usize = 16;
 
 /// Whether a kept sample may still be present.
-fn is_still_live(instances: &Instances, qos: &ReaderQos, kept: &Kept) -> bool
+pub fn is_still_live(instances: &Instances, qos: &ReaderQos, kept: &Kept) -> bool
     ensures { (h : List Happening) → Stands qos.now instances.now h
         → result ≡ stays qos.now h kept.now }
 {
-    match instances.at(kept.handle) {
-        None => true,
+    match instances.known(kept.sample.key) {
+        None => false,
         Some(known) => kept.is_live(qos, &known),
     }
 }
@@ -37,6 +37,20 @@ pub fn sweep(instances: &Instances, qos: &ReaderQos, samples: &mut Vec<Kept>)
     ensures capacity { vec_capacity samples.new ≡ vec_capacity samples.old }
 {
     samples.retain(|k| is_still_live(instances, qos, k));
+}
+
+/// Lets the samples go that are no longer present, where fewer instances are known than before: lives have ended then,
+/// and their samples are none of what a new life brings.
+pub fn let_go(instances: &Instances, qos: &ReaderQos, before: usize, samples: &mut Vec<Kept>)
+    ensures items { (h : List Happening) → Stands qos.now instances.now h
+        → samples.new.items ≡ left_since qos.now h before samples.old.items }
+    ensures small { All IsSmall samples.old.items → All IsSmall samples.new.items }
+    ensures len { vec_len samples.new ≤ vec_len samples.old }
+    ensures capacity { vec_capacity samples.new ≡ vec_capacity samples.old }
+{
+    if instances.len() < before {
+        sweep(instances, qos, samples);
+    }
 }
 
 /// At how many samples the next sweep is due, where so many were left: when their number has doubled.

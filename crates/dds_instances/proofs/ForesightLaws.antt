@@ -15,15 +15,16 @@ use Rattle.dds_base.specs.declared.sample.InstanceState.TheVariants.{Alive, NotA
 use Rattle.dds_base.specs.declared.qos.MatchedWriter.{MatchedWriter}
 use Rattle.dds_base.specs.declared.qos.ReaderQos.{ReaderQos}
 use Rattle.dds_base.specs.Happening.{same_key, is_write_or_dispose, is_unregister}
-use Rattle.dds_base.specs.Ownership.{accepted_kind, numbered_from, is_registered, registered_writers}
-use Rattle.dds_base.specs.Instance.{or_else, state_after, is_nobody, last_accepted, instance_state_of}
-use Rattle.dds_base.specs.Presence.{becomes_not_alive, marks}
+use Rattle.dds_base.specs.Ownership.{accepted_kind, numbered_from, is_registered, publication_handles, registered_writers}
+use Rattle.dds_base.specs.Instance.{instance_state_of}
+use Rattle.dds_base.specs.Life.{or_else, state_after, is_nobody, last_accepted, becomes_not_alive}
+use Rattle.dds_base.specs.Presence.{marks}
 use Rattle.dds_base.proofs.KeyLaws.{same_key-refl}
 use Rattle.dds_instances.specs.declared.track.InstanceTrack.{InstanceTrack}
-use Rattle.dds_instances.specs.Track.{Tracks, is_born_dead, state_of_track}
+use Rattle.dds_instances.specs.Track.{Tracks, is_born_dead, is_left_at_first, state_of_track}
 use Rattle.dds_owner.proofs.RegistrationLaws.{not-not}
 use Rattle.dds_instances.proofs.TrackLaws.{state-tracked}
-use Rattle.dds_instances.proofs.KnownLaws.{unknown}
+use Rattle.dds_instances.proofs.KnownLaws.{fewer-pass, registered-before, unknown}
 use Rattle.dds_instances.proofs.StandingLaws.{first-accepted}
 
 -- of an instance that is kept, by the accepted kind and whether anybody is registered then
@@ -40,27 +41,38 @@ marks-tracked q h a t kind left tracks kind_is left_is =
     (state_after (or_else k t.last_accepted) (not left))) kind_is
     ∙ (ap (λ (l : Option ChangeKind). becomes_not_alive (instance_state_of q i h)
     (state_after (or_else (accepted_kind q i h (Came a)) l) (not left))) tracks.last_is
-    ∙ ap (λ (b : Bool). becomes_not_alive (instance_state_of q i h) (state_after (last_accepted q i (Came a ∷ h)) b))
-    (sym (not-not _ _ left_is))))
+    ∙ ap (λ (b : Bool). becomes_not_alive (instance_state_of q i h)
+    (state_after (or_else (accepted_kind q i h (Came a)) (last_accepted q i h)) b)) (sym (not-not _ _ left_is))))
 
 -- ---- of an instance that is unknown
 
-nobody-but : (p : ℕ → Bool) (w k : ℕ) (xs : List MatchedWriter) → ((v : ℕ) → p v ≡ (w == v))
+-- of numbers at which one test gives no true, the other gives it at w alone
+nobody-but : (p g : ℕ → Bool) (w k : ℕ) (xs : List MatchedWriter) → ((v : ℕ) → p v ≡ ((w == v) || g v))
+    → filter g (numbered_from k xs) ≡ []
     → is_nobody (filter p (numbered_from k xs)) ≡ not (nat_le k w && nat_lt w (k + length xs))
-nobody-but p w k [] is = none k w
+nobody-but p g w k [] is before = none k w
   where
     none : (k w : ℕ) → true ≡ not (nat_le k w && nat_lt w (k + 0))
     none k w = grind (arith, nat_tests)
-nobody-but p w k (x ∷ xs) is =
+nobody-but p g w k (x ∷ xs) is before =
+    let rest : List ℕ = filter p (numbered_from (k + 1) xs) in
+    let parts = head-gone (g k) (filter g (numbered_from (k + 1) xs)) before in
+    let own : p k ≡ (w == k) = is k ∙ (ap (λ (b : Bool). (w == k) || b) parts.0 ∙ or-none (w == k)) in
     ⊎_elim
-    (λ same. ap (λ (b : Bool). is_nobody
-    (cond b (k ∷ filter p (numbered_from (k + 1) xs)) (filter p (numbered_from (k + 1) xs)))) (is k ∙ same)
+    (λ same. ap (λ (b : Bool). is_nobody (cond b (k ∷ rest) rest)) (own ∙ same)
     ∙ here k w (length xs) (eqb-true w k same))
-    (λ other. ap (λ (b : Bool). is_nobody
-    (cond b (k ∷ filter p (numbered_from (k + 1) xs)) (filter p (numbered_from (k + 1) xs)))) (is k ∙ other)
-    ∙ (nobody-but p w (k + 1) xs is ∙ later k w (length xs) (eqb-false w k other)))
+    (λ other. ap (λ (b : Bool). is_nobody (cond b (k ∷ rest) rest)) (own ∙ other)
+    ∙ (nobody-but p g w (k + 1) xs is parts.1 ∙ later k w (length xs) (eqb-false w k other)))
     (cases_Bool (w == k))
   where
+    head-gone : (b : Bool) (ys : List ℕ) → cond b (k ∷ ys) ys ≡ [] → (b ≡ false) × (ys ≡ [])
+    head-gone true ys e = absurd cc
+    head-gone false ys e = (refl, e)
+
+    or-none : (b : Bool) → (b || false) ≡ b
+    or-none true = refl
+    or-none false = refl
+
     here : (k w n : ℕ) → w ≡ k → false ≡ not (nat_le k w && nat_lt w (k + suc n))
     here k w n e = grind (arith, nat_tests)
 
@@ -71,21 +83,49 @@ nobody-but p w k (x ∷ xs) is =
 within-is : (w n : ℕ) → not (nat_le 1 w && nat_lt w (1 + n)) ≡ not (nat_lt 0 w && nat_le w n)
 within-is w n = grind (arith, nat_tests)
 
-registered-one : (s x u d r : Bool) → s ≡ true → u ≡ false → d ≡ true → r ≡ false
-    → (not ((s && x) && u) && (((s && x) && d) || r)) ≡ x
-registered-one s true u d r s_is u_is d_is r_is = cc
-registered-one s false u d r s_is u_is d_is r_is = cc
+registered-too : (s x u d r : Bool) → s ≡ true → u ≡ false → d ≡ true → (not ((s && x) && u) && (((s && x) && d) || r)) ≡ (x || r)
+registered-too s true u d r s_is u_is d_is = cc
+registered-too s false u d r s_is u_is d_is = cc
 
--- after a write of an instance of which nobody was registered its writer is, if it is matched
-nobody-written : (q : ReaderQos) (h : List Happening) (a : Arrival) → ((w : ℕ) → is_registered a.change.key w h ≡ false)
-    → a.change.kind ≡ Write → is_nobody (registered_writers q a.change.key (Came a ∷ h))
+writes-or-ends : (kind : ChangeKind) → is_unregister kind ≡ false → is_write_or_dispose kind ≡ true
+writes-or-ends Write e = refl
+writes-or-ends Dispose e = refl
+writes-or-ends Unregister e = absurd cc
+writes-or-ends DisposeUnregister e = absurd cc
+
+-- after a change that does not unregister, where nobody was registered, its writer is, if it is matched
+nobody-written : (q : ReaderQos) (h : List Happening) (a : Arrival) → registered_writers q a.change.key h ≡ []
+    → is_unregister a.change.kind ≡ false → is_nobody (registered_writers q a.change.key (Came a ∷ h))
     ≡ not (nat_lt 0 a.writer && nat_le a.writer (length q.writers))
 nobody-written q h a none kind =
-    nobody-but (λ v. is_registered a.change.key v (Came a ∷ h)) a.writer 1 q.writers
-    (λ v. registered-one (same_key a.change.key a.change.key) (a.writer == v) (is_unregister a.change.kind)
+    nobody-but (λ v. is_registered a.change.key v (Came a ∷ h)) (λ v. is_registered a.change.key v h) a.writer 1 q.writers
+    (λ v. registered-too (same_key a.change.key a.change.key) (a.writer == v) (is_unregister a.change.kind)
     (is_write_or_dispose a.change.kind) (is_registered a.change.key v h) (same_key-refl a.change.key)
-    (ap is_unregister kind) (ap is_write_or_dispose kind) (none v))
+    kind (writes-or-ends a.change.kind kind))
+    none
     ∙ within-is a.writer (length q.writers)
+
+-- after one that does, nobody is
+nobody-unregistered : (q : ReaderQos) (h : List Happening) (a : Arrival) → registered_writers q a.change.key h ≡ []
+    → is_unregister a.change.kind ≡ true → registered_writers q a.change.key (Came a ∷ h) ≡ []
+nobody-unregistered q h a none kind =
+    let i : Key = a.change.key in
+    fewer-pass (λ w. is_registered i w h) (λ w. is_registered i w (Came a ∷ h)) (publication_handles q)
+    (λ w after. registered-before (same_key i i) (a.writer == w) (is_write_or_dispose a.change.kind)
+    (is_unregister a.change.kind) (is_registered i w h)
+    (λ there. ap (λ (b : Bool). b && is_unregister a.change.kind) (same_key-refl i) ∙ kind) after) none
+
+-- whether nobody is registered for an unknown instance after a change of it
+pub left-first : (q : ReaderQos) (h : List Happening) (a : Arrival) → last_accepted q a.change.key h ≡ None
+    → is_left_at_first (length q.writers) a.writer a.change.kind ≡ is_nobody (registered_writers q a.change.key (Came a ∷ h))
+left-first q h a last =
+    let none : registered_writers q a.change.key h ≡ [] = (unknown q a.change.key h last).registered in
+    let matched : Bool = not (nat_lt 0 a.writer && nat_le a.writer (length q.writers)) in
+    ⊎_elim
+    (λ ends. ap (λ (b : Bool). b || matched) ends
+    ∙ sym (ap (λ (ws : List ℕ). is_nobody ws) (nobody-unregistered q h a none ends)))
+    (λ stays. ap (λ (b : Bool). b || matched) stays ∙ sym (nobody-written q h a none stays))
+    (cases_Bool (is_unregister a.change.kind))
 
 ends : (n : Bool) → n ≡ becomes_not_alive None (Some (if n then NotAliveNoWriters else Alive))
 ends true = refl
@@ -104,7 +144,8 @@ pub marks-first : (q : ReaderQos) (h : List Happening) (a : Arrival) → last_ac
 marks-first q h a last =
     let i : Key = a.change.key in
     let n : Bool = is_nobody (registered_writers q i (Came a ∷ h)) in
-    first-table a.change.kind (length q.writers) a.writer n (nobody-written q h a (unknown q i h last).registered)
+    first-table a.change.kind (length q.writers) a.writer n
+    (λ kind. nobody-written q h a (unknown q i h last).registered (ap is_unregister kind))
     ∙ (ap (λ (k : Option ChangeKind). becomes_not_alive None (state_after (or_else k None) n))
     (sym (first-accepted q h a last))
     ∙ ap (λ (l : Option ChangeKind). becomes_not_alive (state_after l (is_nobody (registered_writers q i h)))

@@ -1,90 +1,121 @@
--- An instance is among the known ones exactly where a change of it was accepted, and of an unknown one nothing counts.
-use Rattle.std.proofs.Common.{◌≡◌, ℕ, ◌+◌, List, [], ◌∷◌, ◌++◌, length, Bool, true, false, not, ◌&&◌, ◌||◌, ◌==◌, sym, ap, ◌∙◌, refl, Option, Some, None, subst, ⊎_elim, cond, arith}
+-- An instance is among the known ones exactly where a change of it was accepted in its life, and of an unknown one
+-- nothing counts.
+use Rattle.std.proofs.Common.{◌≡◌, ℕ, ◌+◌, ◌<◌, ◌≤◌, List, [], ◌∷◌, ◌++◌, map, length, Bool, true, false, not, ◌&&◌, ◌||◌, ◌==◌, sym, ap, ◌∙◌, refl, Option, Some, None, subst, ⊎_elim, cond, arith}
 use Rattle.std.specs.Prelude.{is_some, if◌then◌else◌}
-use Rattle.std.specs.List.{filter, list_any}
-use Rattle.std.proofs.lemmas.Bool.{cases_Bool}
+use Rattle.std.specs.List.{filter, list_any, All}
+use Rattle.std.proofs.lemmas.Bool.{cases_Bool, cases_eq}
+use Rattle.std.proofs.lemmas.List.Elements.{All-nil, filter_passes}
 use Rattle.std.proofs.lemmas.List.Folds.{list_any-append}
+use Rattle.dds_base.proofs.LifeLaws.{accepted-other}
 use Rattle.dds_base.specs.declared.key.Key.{Key}
 use Rattle.dds_base.specs.declared.change.ChangeKind.{ChangeKind}
 use Rattle.dds_base.specs.declared.happening.Arrival.{Arrival}
 use Rattle.dds_base.specs.declared.happening.Happening.{Happening}
 use Rattle.dds_base.specs.declared.happening.Happening.TheVariants.{Came, Passed, Heard, Died, Read, Took, Looked}
-use Rattle.dds_base.specs.declared.sample.InstanceState.{InstanceState}
 use Rattle.dds_base.specs.declared.qos.ReaderQos.{ReaderQos}
+use Rattle.dds_base.specs.declared.qos.MatchedWriter.{MatchedWriter}
 use Rattle.dds_base.specs.declared.qos.OwnershipQos.{OwnershipQos}
 use Rattle.dds_base.specs.declared.qos.OwnershipQos.TheVariants.{Shared, Exclusive}
 use Rattle.dds_base.specs.Happening.{same_key, is_write_or_dispose, is_unregister}
-use Rattle.dds_base.specs.Ownership.{accepted_kind, publication_handles, is_registered, registered_writers, admits, outranks_all}
-use Rattle.dds_base.specs.Instance.{or_else, is_write, is_disposed, is_without_writers, state_after, is_nobody, last_accepted, instance_state_of, disposed_generations, no_writers_generations, latest_rebirth, known_instances, introduces, introduced_by, accesses}
-use Rattle.dds_base.specs.Presence.{becomes_not_alive, last_marker, accepted_writes}
+use Rattle.dds_base.specs.Ownership.{IsMatched, accepted_kind, numbered_from, publication_handles, is_registered, registered_writers, admits, outranks_all}
+use Rattle.dds_base.specs.Instance.{is_disposed, is_without_writers, instance_state_of, is_known, disposed_generations, no_writers_generations, latest_rebirth, known_instances, introduces, introduced_by, accesses}
+use Rattle.dds_base.specs.Life.{becomes_not_alive, state_after, or_else, is_write, is_nobody, last_accepted, last_marker, marker_reached, ends_life, has_there}
 use Rattle.dds_base.proofs.KeyLaws.{key-same}
 use Rattle.dds_owner.specs.Standing.{Kept, StandsFor}
-use Rattle.dds_owner.proofs.RegistrationLaws.{other-stands}
-use Rattle.dds_instances.specs.Track.{Tracks, fresh}
-use Rattle.dds_instances.proofs.TrackLaws.{accepted-other}
+use Rattle.dds_owner.specs.declared.registration.Registration.{Registration}
+use Rattle.dds_owner.specs.Registration.{registration_of}
+use Rattle.dds_instances.specs.Known.{writes_in_life}
+use Rattle.dds_instances.specs.Track.{Tracks, fresh, one_if}
+use Rattle.dds_instances.proofs.LivesLaws.{begins, disposed-on, disposed-over, last-on, marker-on, marker-over, no_writers-on, no_writers-over, writes-on, writes-over}
 
 or-none : (b : Bool) → (b || false) ≡ b
 or-none true = refl
 or-none false = refl
 
--- a list of one key, where it is there
-any-one : (b : Bool) (k i : Key) → list_any (λ x. same_key x i) (cond b (k ∷ []) []) ≡ (b && same_key k i)
-any-one true k i = or-none (same_key k i)
-any-one false k i = refl
+or-true : (b : Bool) → (b || true) ≡ true
+or-true true = refl
+or-true false = refl
 
-known-table : (new last : Option ChangeKind) → (is_some last || ((not (is_some last) && is_some new) && true))
-    ≡ is_some (or_else new last)
-known-table None None = refl
-known-table None (Some l) = refl
-known-table (Some k) None = refl
-known-table (Some k) (Some l) = refl
+-- a list that is filtered by a test has a key where the list has it and it passes
+any-filtered : (p : Key → Bool) (i : Key) (ks : List Key)
+    → list_any (λ k. same_key k i) (filter p ks) ≡ (list_any (λ k. same_key k i) ks && p i)
+any-filtered p i [] = refl
+any-filtered p i (k ∷ ks) =
+    let rest = list_any (λ x. same_key x i) ks in
+    one (p k) (same_key k i) (p i) rest k (filter p ks) refl (any-filtered p i ks)
+    (λ same. ap p (key-same k i same))
+  where
+    one : (b s r a : Bool) (k : Key) (xs : List Key) → same_key k i ≡ s → list_any (λ x. same_key x i) xs ≡ (a && r)
+        → (s ≡ true → b ≡ r) → list_any (λ x. same_key x i) (cond b (k ∷ xs) xs) ≡ ((s || a) && r)
+    one true true r a k xs s_is any same =
+        ap (λ (x : Bool). x || list_any (λ y. same_key y i) xs) s_is ∙ same refl
+    one true false r a k xs s_is any same = ap (λ (x : Bool). x || list_any (λ y. same_key y i) xs) s_is ∙ any
+    one false true r a k xs s_is any same = any ∙ (ap (λ (x : Bool). a && x) (sym (same refl)) ∙ (no-and a ∙ same refl))
+      where
+        no-and : (x : Bool) → (x && false) ≡ false
+        no-and true = refl
+        no-and false = refl
+    one false false r a k xs s_is any same = any
 
-other-table : (l x : Bool) → (l || (x && false)) ≡ l
-other-table true x = refl
-other-table false true = refl
-other-table false false = refl
+nothing : (known : Bool) → (not known && false) ≡ true → ⊥
+nothing true e = cc
+nothing false e = cc
 
-quiet : (q : ReaderQos) (h : List Happening) (i : Key) → list_any (λ k. same_key k i) (known_instances q h)
-    ≡ is_some (last_accepted q i h) → list_any (λ k. same_key k i) (known_instances q h ++ [])
-    ≡ is_some (last_accepted q i h)
-quiet q h i before = list_any-append (λ k. same_key k i) (known_instances q h) [] ∙ (or-none _ ∙ before)
+-- what an entry makes known is the instance that it introduces
+introduced-any : (q : ReaderQos) (h : List Happening) (i : Key) (e : Happening) → introduces q i h e ≡ true
+    → list_any (λ k. same_key k i) (introduced_by q h e) ≡ true
+introduced-any q h i (Came a) new =
+    ⊎_elim
+    (λ same. let is : a.change.key ≡ i = key-same a.change.key i same in
+    ap (λ (b : Bool). list_any (λ k. same_key k i) (cond b (a.change.key ∷ []) []))
+    (subst (λ (k : Key). introduces q k h (Came a) ≡ true) (sym is) new)
+    ∙ ap (λ (b : Bool). b || false) same)
+    (λ other. absurd (none (is_known q h i) (accepted_kind q i h (Came a)) (accepted-other q i h a other) new))
+    (cases_Bool (same_key a.change.key i))
+  where
+    none : (known : Bool) (kind : Option ChangeKind) → kind ≡ None → (not known && is_some kind) ≡ true → ⊥
+    none true kind is some = cc
+    none false kind is some = let clash : false ≡ true = sym (ap (λ (k : Option ChangeKind). is_some k) is) ∙ some in cc
+introduced-any q h i (Passed w first last) new = absurd (nothing (is_known q h i) new)
+introduced-any q h i (Heard w m) new = absurd (nothing (is_known q h i) new)
+introduced-any q h i (Died w m) new = absurd (nothing (is_known q h i) new)
+introduced-any q h i (Read s) new = absurd (nothing (is_known q h i) new)
+introduced-any q h i (Took s) new = absurd (nothing (is_known q h i) new)
+introduced-any q h i (Looked s) new = absurd (nothing (is_known q h i) new)
 
 pub known : (q : ReaderQos) (h : List Happening) (i : Key)
     → list_any (λ k. same_key k i) (known_instances q h) ≡ is_some (last_accepted q i h)
 known q [] i = refl
-known q (Came a ∷ h) i =
-    list_any-append (λ k. same_key k i) (known_instances q h) (introduced_by q h (Came a))
-    ∙ (ap (λ (b : Bool). b || list_any (λ k. same_key k i) (introduced_by q h (Came a))) (known q h i)
-    ∙ (ap (λ (b : Bool). is_some (last_accepted q i h) || b)
-    (any-one (introduces q a.change.key h (Came a)) a.change.key i)
+known q (e ∷ h) i =
+    any-filtered (is_known q (e ∷ h)) i (known_instances q h ++ introduced_by q h e)
+    ∙ both (list_any (λ k. same_key k i) (known_instances q h ++ introduced_by q h e)) (is_known q (e ∷ h) i)
+    (λ after. list_any-append (λ k. same_key k i) (known_instances q h) (introduced_by q h e)
     ∙ ⊎_elim
-    (λ e. let is : a.change.key ≡ i = key-same a.change.key i e in
-    ap (λ (b : Bool). is_some (last_accepted q i h) || (introduces q a.change.key h (Came a) && b)) e
-    ∙ subst (λ (k : Key). (is_some (last_accepted q i h) || (introduces q k h (Came a) && true))
-    ≡ is_some (or_else (accepted_kind q i h (Came a)) (last_accepted q i h))) (sym is)
-    (known-table (accepted_kind q i h (Came a)) (last_accepted q i h)))
-    (λ e. ap (λ (b : Bool). is_some (last_accepted q i h) || (introduces q a.change.key h (Came a) && b)) e
-    ∙ (other-table (is_some (last_accepted q i h)) (introduces q a.change.key h (Came a))
-    ∙ sym (ap (λ (k : Option ChangeKind). is_some (or_else k (last_accepted q i h))) (accepted-other q i h a e))))
-    (cases_Bool (same_key a.change.key i))))
-known q (Passed w first last ∷ h) i = quiet q h i (known q h i)
-known q (Heard w m ∷ h) i = quiet q h i (known q h i)
-known q (Died w m ∷ h) i = quiet q h i (known q h i)
-known q (Read s ∷ h) i = quiet q h i (known q h i)
-known q (Took s ∷ h) i = quiet q h i (known q h i)
-known q (Looked s ∷ h) i = quiet q h i (known q h i)
+    (λ was. ap (λ (b : Bool). b || list_any (λ k. same_key k i) (introduced_by q h e)) (known q h i ∙ was))
+    (λ new. ap (λ (b : Bool). list_any (λ k. same_key k i) (known_instances q h) || b)
+    (introduced-any q h i e (begins q i h e after new)) ∙ or-true (list_any (λ k. same_key k i) (known_instances q h)))
+    (cases_Bool (is_known q h i)))
+  where
+    both : (a b : Bool) → (b ≡ true → a ≡ true) → (a && b) ≡ b
+    both true b there = refl
+    both false true there = there refl
+    both false false there = refl
+
+-- each of the known instances is known
+pub known-all : (q : ReaderQos) (h : List Happening) → All (λ (k : Key). is_known q h k ≡ true) (known_instances q h)
+known-all q [] = All-nil (λ (k : Key). is_known q [] k ≡ true)
+known-all q (e ∷ h) = filter_passes (is_known q (e ∷ h)) (known_instances q h ++ introduced_by q h e)
 
 -- ---- of an unknown instance nothing counts
 
 pub record IsUnknown (q : ReaderQos) (i : Key) (h : List Happening) : Type 0 where
-  pub registered : (w : ℕ) → is_registered i w h ≡ false
+  pub registered : registered_writers q i h ≡ []
   pub disposed : disposed_generations q i h ≡ 0
   pub no_writers : no_writers_generations q i h ≡ 0
-  pub rebirth : latest_rebirth q i h ≡ 0
   pub marker : last_marker q i h ≡ None
-  pub writes : accepted_writes q i h ≡ 0
+  pub writes : writes_in_life q i h ≡ 0
 
-or_else-none : (a b : Option ChangeKind) → or_else a b ≡ None → (a ≡ None) × (b ≡ None)
+pub or_else-none : (a b : Option ChangeKind) → or_else a b ≡ None → (a ≡ None) × (b ≡ None)
 or_else-none None b e = (refl, e)
 or_else-none (Some x) b e = absurd cc
 
@@ -102,101 +133,186 @@ and-true true true = refl
 and-true true false = refl
 and-true false b = refl
 
--- where nobody is registered, no writer is
-nobody-filtered : (i : Key) (h : List Happening) (ws : List ℕ) → ((w : ℕ) → is_registered i w h ≡ false)
-    → filter (λ w. is_registered i w h) ws ≡ []
-nobody-filtered i h [] none = refl
-nobody-filtered i h (w ∷ ws) none =
-    ap (λ (b : Bool). cond b (w ∷ filter (λ v. is_registered i v h) ws) (filter (λ v. is_registered i v h) ws)) (none w)
-    ∙ nobody-filtered i h ws none
-
 -- a change that is not accepted where nobody is registered is no write or dispose of the instance
-pub rejected : (q : ReaderQos) (i : Key) (h : List Happening) (a : Arrival) → ((w : ℕ) → is_registered i w h ≡ false)
+pub rejected : (q : ReaderQos) (i : Key) (h : List Happening) (a : Arrival) → registered_writers q i h ≡ []
     → accepted_kind q i h (Came a)
     ≡ (if same_key a.change.key i && is_write_or_dispose a.change.kind then Some a.change.kind else None)
 rejected q i h a none =
     ap (λ (ws : List ℕ). if same_key a.change.key i && (is_write_or_dispose a.change.kind && admits q.ownership
-    (outranks_all q (Came a ∷ h) ws a.writer)) then Some a.change.kind else None)
-    (nobody-filtered i h (publication_handles q) none)
+    (outranks_all q (Came a ∷ h) ws a.writer)) then Some a.change.kind else None) none
     ∙ (ap (λ (b : Bool). if same_key a.change.key i && (is_write_or_dispose a.change.kind && b) then Some a.change.kind
     else None) (admits-all q.ownership)
     ∙ ap (λ (b : Bool). if b then Some a.change.kind else None)
     (and-true (same_key a.change.key i) (is_write_or_dispose a.change.kind)))
 
-no-registration : (s w d u : Bool) → (s && d) ≡ false → (not ((s && w) && u) && (((s && w) && d) || false)) ≡ false
-no-registration true true true u e = absurd cc
-no-registration true true false true e = refl
-no-registration true true false false e = refl
-no-registration true false d u e = refl
-no-registration false w d u e = refl
+-- a stricter test lets nobody through either
+pub fewer-pass : (p r : ℕ → Bool) (ws : List ℕ) → ((w : ℕ) → r w ≡ true → p w ≡ true) → filter p ws ≡ []
+    → filter r ws ≡ []
+fewer-pass p r [] stricter none = refl
+fewer-pass p r (w ∷ ws) stricter none =
+    one (p w) (r w) (filter p ws) (filter r ws) (stricter w) (fewer-pass p r ws stricter) none
+  where
+    one : (a b : Bool) (xs ys : List ℕ) → (b ≡ true → a ≡ true) → (xs ≡ [] → ys ≡ []) → cond a (w ∷ xs) xs ≡ []
+        → cond b (w ∷ ys) ys ≡ []
+    one true b xs ys more rest none = absurd cc
+    one false true xs ys more rest none = absurd (let clash : false ≡ true = more refl in cc)
+    one false false xs ys more rest none = rest none
 
-unregistered-still : (q : ReaderQos) (i : Key) (h : List Happening) (e : Happening)
-    → ((w : ℕ) → is_registered i w h ≡ false) → accepted_kind q i h e ≡ None → (w : ℕ)
-    → is_registered i w (e ∷ h) ≡ false
-unregistered-still q i h (Came a) none refused w =
-    ap (λ (b : Bool). not ((same_key a.change.key i && (a.writer == w)) && is_unregister a.change.kind)
-    && (((same_key a.change.key i && (a.writer == w)) && is_write_or_dispose a.change.kind) || b)) (none w)
-    ∙ no-registration (same_key a.change.key i) (a.writer == w) (is_write_or_dispose a.change.kind)
-    (is_unregister a.change.kind)
-    (some-if (same_key a.change.key i && is_write_or_dispose a.change.kind) a.change.kind
-    (sym (rejected q i h a none) ∙ refused))
-unregistered-still q i h (Passed v first last) none refused w = none w
-unregistered-still q i h (Heard v m) none refused w = none w
-unregistered-still q i h (Died v m) none refused w =
-    ap (λ (b : Bool). not (v == w) && b) (none w)
-    ∙ (let off : (b : Bool) → (b && false) ≡ false = λ b. elim b as (λ x. (x && false) ≡ false)
-    [ true ↦ refl | false ↦ refl ] in off (not (v == w)))
-unregistered-still q i h (Read s) none refused w = none w
-unregistered-still q i h (Took s) none refused w = none w
-unregistered-still q i h (Looked k) none refused w = none w
+and-right : (a b : Bool) → (a && b) ≡ true → b ≡ true
+and-right true b e = e
+and-right false b e = absurd cc
+
+-- who is registered after a change that registers nobody, or unregisters, was so before
+pub registered-before : (s w d u r : Bool) → ((s && d) ≡ true → (s && u) ≡ true)
+    → (not ((s && w) && u) && (((s && w) && d) || r)) ≡ true → r ≡ true
+registered-before s w d u true ends after = refl
+registered-before true true true true false ends after = absurd cc
+registered-before true true true false false ends after = absurd (let clash : false ≡ true = ends refl in cc)
+registered-before true true false true false ends after = absurd cc
+registered-before true true false false false ends after = absurd cc
+registered-before true false d u false ends after = absurd cc
+registered-before false w d u false ends after = absurd cc
+
+nobody-still : (q : ReaderQos) (i : Key) (h : List Happening) (e : Happening) → registered_writers q i h ≡ []
+    → accepted_kind q i h e ≡ None → registered_writers q i (e ∷ h) ≡ []
+nobody-still q i h (Came a) none refused =
+    let no_data : (same_key a.change.key i && is_write_or_dispose a.change.kind) ≡ false =
+    some-if (same_key a.change.key i && is_write_or_dispose a.change.kind) a.change.kind
+    (sym (rejected q i h a none) ∙ refused) in
+    fewer-pass (λ w. is_registered i w h) (λ w. is_registered i w (Came a ∷ h)) (publication_handles q)
+    (λ w after. registered-before (same_key a.change.key i) (a.writer == w) (is_write_or_dispose a.change.kind)
+    (is_unregister a.change.kind) (is_registered i w h)
+    (λ writes. absurd (let clash : false ≡ true = sym no_data ∙ writes in cc)) after) none
+nobody-still q i h (Passed v first last) none refused = none
+nobody-still q i h (Heard v m) none refused = none
+nobody-still q i h (Died v m) none refused =
+    fewer-pass (λ w. is_registered i w h) (λ w. is_registered i w (Died v m ∷ h)) (publication_handles q)
+    (λ w after. and-right (not (v == w)) (is_registered i w h) after) none
+nobody-still q i h (Read s) none refused = none
+nobody-still q i h (Took s) none refused = none
+nobody-still q i h (Looked k) none refused = none
+
+pub nobody-there : (ws : List ℕ) → is_nobody ws ≡ true → ws ≡ []
+nobody-there [] e = refl
+nobody-there (w ∷ ws) e = absurd cc
+
+and-left : (a b : Bool) → (a && b) ≡ true → a ≡ true
+and-left true b e = refl
+and-left false b e = absurd cc
+
+-- whose life an entry ends has nobody registered then
+pub nobody-over : (q : ReaderQos) (i : Key) (h : List Happening) (e : Happening) → ends_life q i h e ≡ true
+    → registered_writers q i (e ∷ h) ≡ []
+nobody-over q i h e over =
+    nobody-there (registered_writers q i (e ∷ h))
+    (and-left (is_nobody (registered_writers q i (e ∷ h)))
+    (not (has_there q (e ∷ h) i (marker_reached q i h e (last_accepted q i h) (last_marker q i h)))) over)
+
+unknown-on : (q : ReaderQos) (i : Key) (h : List Happening) (e : Happening) → ends_life q i h e ≡ false
+    → accepted_kind q i h e ≡ None → last_accepted q i h ≡ None → IsUnknown q i h → IsUnknown q i (e ∷ h)
+unknown-on q i h e on refused last before = record {
+  registered = nobody-still q i h e before.registered refused;
+  disposed =
+      disposed-on q i h e on
+      ∙ (ap (λ (k : Option ChangeKind). disposed_generations q i h
+      + one_if (is_write k && is_disposed (instance_state_of q i h))) refused
+      ∙ (let more : disposed_generations q i h + 0 ≡ 0 = omega (arith, before.disposed) in more));
+  no_writers =
+      no_writers-on q i h e on
+      ∙ (ap (λ (k : Option ChangeKind). no_writers_generations q i h
+      + one_if (is_write k && is_without_writers (instance_state_of q i h))) refused
+      ∙ (let more : no_writers_generations q i h + 0 ≡ 0 = omega (arith, before.no_writers) in more));
+  marker =
+      marker-on q i h e on
+      ∙ (ap (λ (l : Option ChangeKind). marker_reached q i h e l (last_marker q i h)) last
+      ∙ (still (accepted_kind q i h e) (is_nobody (registered_writers q i (e ∷ h))) refused ∙ before.marker));
+  writes =
+      writes-on q i h e on
+      ∙ (ap (λ (k : Option ChangeKind). writes_in_life q i h + one_if (is_write k)) refused
+      ∙ (let more : writes_in_life q i h + 0 ≡ 0 = omega (arith, before.writes) in more));
+}
+  where
+    still : (kind : Option ChangeKind) (nobody : Bool) → kind ≡ None
+        → (if becomes_not_alive None (state_after (or_else kind None) nobody) then Some (length h + 1) else last_marker q i h)
+        ≡ last_marker q i h
+    still None nobody none = refl
+    still (Some k) nobody none = absurd cc
 
 pub unknown : (q : ReaderQos) (i : Key) (h : List Happening) → last_accepted q i h ≡ None → IsUnknown q i h
 unknown q i [] e =
-    record { registered = λ w. refl; disposed = refl; no_writers = refl; rebirth = refl; marker = refl; writes = refl }
+    record { registered = nobody-yet (publication_handles q); disposed = refl; no_writers = refl; marker = refl; writes = refl }
+  where
+    nobody-yet : (ws : List ℕ) → filter (λ w. is_registered i w []) ws ≡ []
+    nobody-yet [] = refl
+    nobody-yet (w ∷ ws) = nobody-yet ws
 unknown q i (e ∷ h) last =
-    let parts = or_else-none (accepted_kind q i h e) (last_accepted q i h) last in
-    let before : IsUnknown q i h = unknown q i h parts.1 in
-    let state : instance_state_of q i h ≡ None =
-    ap (λ (k : Option ChangeKind). state_after k (is_nobody (registered_writers q i h))) parts.1 in
-    let after : instance_state_of q i (e ∷ h) ≡ None =
-    ap (λ (k : Option ChangeKind). state_after k (is_nobody (registered_writers q i (e ∷ h)))) last in
-    record {
-      registered = unregistered-still q i h e before.registered parts.0;
-      disposed =
-          ap (λ (k : Option ChangeKind). disposed_generations q i h
-          + (if is_write k && is_disposed (instance_state_of q i h) then 1 else 0)) parts.0
-          ∙ (let more : disposed_generations q i h + 0 ≡ 0 = omega (arith, before.disposed) in more);
-      no_writers =
-          ap (λ (k : Option ChangeKind). no_writers_generations q i h
-          + (if is_write k && is_without_writers (instance_state_of q i h) then 1 else 0)) parts.0
-          ∙ (let more : no_writers_generations q i h + 0 ≡ 0 = omega (arith, before.no_writers) in more);
-      rebirth =
-          ap (λ (k : Option ChangeKind). if (is_write k && is_disposed (instance_state_of q i h))
-          || (is_write k && is_without_writers (instance_state_of q i h)) then length h + 1 else latest_rebirth q i h)
-          parts.0 ∙ before.rebirth;
-      marker =
-          ap (λ (s : Option InstanceState). if becomes_not_alive s (instance_state_of q i (e ∷ h)) then Some
-          (length h + 1) else last_marker q i h) state
-          ∙ (ap (λ (s : Option InstanceState). if becomes_not_alive None s then Some
-          (length h + 1) else last_marker q i h) after ∙ before.marker);
-      writes =
-          ap (λ (k : Option ChangeKind). accepted_writes q i h + (if is_write k then 1 else 0)) parts.0
-          ∙ (let more : accepted_writes q i h + 0 ≡ 0 = omega (arith, before.writes) in more);
-    }
+    ⊎_elim
+    (λ over. record {
+      registered = nobody-over q i h e over;
+      disposed = disposed-over q i h e over;
+      no_writers = no_writers-over q i h e over;
+      marker = marker-over q i h e over;
+      writes = writes-over q i h e over;
+    })
+    (λ on. let parts = or_else-none (accepted_kind q i h e) (last_accepted q i h) (sym (last-on q i h e on) ∙ last) in
+    unknown-on q i h e on parts.0 parts.1 (unknown q i h parts.1))
+    (cases_Bool (ends_life q i h e))
+
+-- where nobody is registered, no matched writer is
+pub unregistered : (q : ReaderQos) (i : Key) (h : List Happening) (w : ℕ) → registered_writers q i h ≡ [] → IsMatched q w
+    → is_registered i w h ≡ false
+unregistered q i h w none matched = within 1 q.writers none matched.0 (omega (arith, matched.1))
+  where
+    within : (k : ℕ) (xs : List MatchedWriter) → filter (λ v. is_registered i v h) (numbered_from k xs) ≡ [] → k ≤ w
+        → w < k + length xs → is_registered i w h ≡ false
+    within k [] none above below = absurd (omega (arith, above, below))
+    within k (x ∷ xs) none above below =
+        let parts = head-gone k (is_registered i k h) (filter (λ v. is_registered i v h) (numbered_from (k + 1) xs)) none in
+        ⊎_elim
+        (λ same. ap (λ (v : ℕ). is_registered i v h) same ∙ parts.0)
+        (λ differ. within (k + 1) xs parts.1 (omega (arith, above, differ)) (omega (arith, below)))
+        (cases_eq w k)
+      where
+        head-gone : (v : ℕ) (b : Bool) (ys : List ℕ) → cond b (v ∷ ys) ys ≡ [] → (b ≡ false) × (ys ≡ [])
+        head-gone v true ys e = absurd cc
+        head-gone v false ys e = (refl, e)
+
+pub unknown-last : (q : ReaderQos) (i : Key) (h : List Happening) → is_known q h i ≡ false → last_accepted q i h ≡ None
+unknown-last q i h unknown = none (last_accepted q i h) unknown
+  where
+    none : (o : Option ChangeKind) → is_some o ≡ false → o ≡ None
+    none None e = refl
+    none (Some k) e = absurd cc
+
+-- the registrations of an instance for which nobody is registered are those of one of which nothing has come
+nobody-stands : (i : Key) (h : List Happening) (ws : List ℕ) → filter (λ w. is_registered i w h) ws ≡ []
+    → map (registration_of i []) ws ≡ map (registration_of i h) ws
+nobody-stands i h [] none = refl
+nobody-stands i h (w ∷ ws) none =
+    let parts = head-gone (is_registered i w h) (filter (λ v. is_registered i v h) ws) none in
+    ap (λ (b : Bool). (record { writer = w; is_registered = b }) ∷ map (registration_of i []) ws) (sym parts.0)
+    ∙ ap (λ (rs : List Registration). registration_of i h w ∷ rs) (nobody-stands i h ws parts.1)
+  where
+    head-gone : (b : Bool) (xs : List ℕ) → cond b (w ∷ xs) xs ≡ [] → (b ≡ false) × (xs ≡ [])
+    head-gone true xs e = absurd cc
+    head-gone false xs e = (refl, e)
 
 -- a fresh track has followed an unknown instance
-pub tracks-fresh : (q : ReaderQos) (i : Key) (h : List Happening) (kept : Kept) → StandsFor kept q i []
-    → last_accepted q i h ≡ None → list_any (accesses i 0) h ≡ false → Tracks q i h (fresh i kept)
-tracks-fresh q i h kept blank last unseen =
+pub tracks-fresh : (q : ReaderQos) (i : Key) (h : List Happening) (handle : ℕ) (kept : Kept) → StandsFor kept q i []
+    → last_accepted q i h ≡ None → list_any (accesses i (latest_rebirth q i h)) h ≡ false
+    → Tracks q i h (fresh i handle kept)
+tracks-fresh q i h handle kept blank last unseen =
     let none : IsUnknown q i h = unknown q i h last in
+    let unknown_is : is_known q h i ≡ false = ap (λ (k : Option ChangeKind). is_some k) last in
     record {
       key_is = refl;
-      owners_are = other-stands kept q i [] h none.registered blank;
+      handle_is = λ known. absurd (let clash : false ≡ true = sym unknown_is ∙ known in cc);
+      owners_are = blank ∙ nobody-stands i h (publication_handles q) none.registered;
       last_is = sym last;
       disposed_is = sym none.disposed;
       no_writers_is = sym none.no_writers;
-      rebirth_is = sym none.rebirth;
+      rebirth_is = λ known. absurd (let clash : false ≡ true = sym unknown_is ∙ known in cc);
       marker_is = sym none.marker;
       writes_are = sym none.writes;
-      seen_is = sym (ap (λ (j : ℕ). list_any (accesses i j) h) none.rebirth ∙ unseen);
+      seen_is = sym unseen;
     }

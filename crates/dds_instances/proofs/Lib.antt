@@ -1,6 +1,10 @@
+pub mod LivesLaws
 pub mod TrackLaws
 pub mod KnownLaws
 pub mod PlaceLaws
 pub mod StandingLaws
+pub mod EndingLaws
+pub mod HoldingLaws
+pub mod SeeingLaws
 pub mod MarkerLaws
 pub mod ForesightLaws

@@ -1,19 +1,18 @@
 -- Of how many instances a death leaves a marker.
-use Rattle.std.proofs.Common.{◌≡◌, ℕ, suc, ◌+◌, ◌<◌, ◌≤◌, List, [], ◌∷◌, ◌++◌, zero, length, get_or, set, Bool, true, false, not, ◌==◌, ap, sym, ◌∙◌, refl, cond, Option, Some, None, arith, ⊎_elim}
+use Rattle.std.proofs.Common.{◌≡◌, ℕ, suc, ◌+◌, ◌<◌, ◌≤◌, List, [], ◌∷◌, ◌++◌, zero, length, get_or, set, Bool, true, false, not, ◌==◌, ap, sym, ◌∙◌, refl, subst, cond, Option, Some, None, arith, ⊎_elim}
 use Rattle.std.specs.Prelude.{if◌then◌else◌, count_by, IfSome}
-use Rattle.std.specs.List.{All}
+use Rattle.std.specs.List.{All, filter}
 use Rattle.std.proofs.lemmas.Bool.{cases_Bool, eqb-true}
-use Rattle.std.proofs.lemmas.List.Elements.{All-head, All-tail}
+use Rattle.std.proofs.lemmas.List.Elements.{All-filter, All-head, All-tail}
 use Rattle.std.proofs.lemmas.List.Sums.{sum_by-cons, sum_by-append}
 use Rattle.dds_base.specs.declared.change.ChangeKind.{ChangeKind}
 use Rattle.dds_base.specs.declared.change.ChangeKind.TheVariants.{Write}
 use Rattle.dds_base.specs.declared.sample.InstanceState.{InstanceState}
-use Rattle.dds_base.specs.Instance.{state_after}
-use Rattle.dds_base.specs.Presence.{becomes_not_alive, is_at}
+use Rattle.dds_base.specs.Life.{state_after, becomes_not_alive, is_at}
 use Rattle.dds_instances.specs.declared.track.InstanceTrack.{InstanceTrack}
 use Rattle.dds_owner.specs.Standing.{has_writers}
 use Rattle.dds_instances.specs.Track.{Fits, is_alive_state, is_alive_track, state_of_track}
-use Rattle.dds_instances.proofs.StandingLaws.{Buries}
+use Rattle.dds_instances.proofs.EndingLaws.{Buries}
 use Rattle.dds_instances.proofs.TrackLaws.{one_if-bound}
 
 -- ---- one instance
@@ -126,3 +125,29 @@ alive-added ts x =
     let last = sum_by-cons alive_in x [] in
     let one = one_if-bound (is_alive_track x) in
     omega (arith, whole, last, one)
+
+-- ---- where some are forgotten
+
+-- among those that are kept no more pass a test
+pub fewer-kept : (p keep : InstanceTrack → Bool) (ts : List InstanceTrack) → count_by p (filter keep ts) ≤ count_by p ts
+fewer-kept p keep [] = omega arith
+fewer-kept p keep (t ∷ ts) =
+    let rest = fewer-kept p keep ts in
+    let whole = sum_by-cons (λ (y : InstanceTrack). cond (p y) 1 0) t ts in
+    one (keep t) (filter keep ts) (count_by p ts) (count_by p (t ∷ ts)) rest whole
+  where
+    one : (b : Bool) (xs : List InstanceTrack) (n m : ℕ) → count_by p xs ≤ n → m ≡ cond (p t) 1 0 + n
+        → count_by p (cond b (t ∷ xs) xs) ≤ m
+    one true xs n m below is =
+        let own = sum_by-cons (λ (y : InstanceTrack). cond (p y) 1 0) t xs in omega (arith, own, below, is)
+    one false xs n m below is = omega (arith, below, is)
+
+pub fewer-of : (p keep : InstanceTrack → Bool) (ts xs : List InstanceTrack) → xs ≡ filter keep ts
+    → count_by p xs ≤ count_by p ts
+fewer-of p keep ts xs are =
+    subst (λ (ys : List InstanceTrack). count_by p ys ≤ count_by p ts) (sym are) (fewer-kept p keep ts)
+
+pub fits-of : (keep : InstanceTrack → Bool) (ts xs : List InstanceTrack) → xs ≡ filter keep ts → (n : ℕ) → All (Fits n) ts
+    → All (Fits n) xs
+fits-of keep ts xs are n fits =
+    subst (λ (ys : List InstanceTrack). All (Fits n) ys) (sym are) (All-filter keep (Fits n) ts fits)

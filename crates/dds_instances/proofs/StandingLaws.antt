@@ -1,37 +1,39 @@
--- What is kept of the instances follows one more entry.
-use Rattle.std.proofs.Common.{◌≡◌, ◌≢◌, ℕ, ◌+◌, ◌<◌, ◌≤◌, List, [], ◌∷◌, ◌++◌, length, get_or, set, map, Bool, true, false, not, ◌&&◌, ◌||◌, sym, ap, ◌∙◌, refl, subst, Option, Some, None, cond, arith, ⊎_elim, zero, suc}
-use Rattle.std.specs.Prelude.{is_some, if◌then◌else◌, nat_le, slice_get, IfSome}
+-- What is kept of the instances follows one more change.
+use Rattle.std.proofs.Common.{◌≡◌, ◌≢◌, ℕ, ◌+◌, ◌<◌, ◌≤◌, List, [], ◌∷◌, ◌++◌, length, get_or, set, map, Bool, true, false, not, ◌&&◌, ◌||◌, ◌==◌, sym, ap, ◌∙◌, refl, subst, Option, Some, None, cond, arith, ⊎_elim, zero, suc}
+use Rattle.std.specs.Prelude.{is_some, if◌then◌else◌, find, slice_get, IfSome}
 use Rattle.std.specs.Option.{option_map}
-use Rattle.std.specs.List.{All, list_any}
-use Rattle.std.proofs.lemmas.Bool.{cases_eq, cases_Bool, lt-leb}
+use Rattle.std.specs.List.{All, filter, list_any}
+use Rattle.std.proofs.lemmas.Bool.{cases_eq, cases_Bool}
 use Rattle.std.proofs.lemmas.List.{append-nil, map-append, map-set, set-get_or, length-set, length-map, get_or-set_same, get_or-set_other, get_or-map, get_or_default}
-use Rattle.std.proofs.lemmas.List.Elements.{All-append, All-cons, All-nil, All-weaker, All-set, All-head, All-tail}
+use Rattle.std.proofs.lemmas.Option.{slice_get-map}
+use Rattle.std.proofs.lemmas.List.Elements.{All-append, All-cons, All-filter, All-nil, All-weaker, All-set, All-head, All-tail, filter_agree, filter_passes}
 use Rattle.dds_base.specs.declared.key.Key.{Key}
 use Rattle.dds_base.specs.declared.change.ChangeKind.{ChangeKind}
 use Rattle.dds_base.specs.declared.change.ChangeKind.TheVariants.{Write, Dispose, Unregister, DisposeUnregister}
 use Rattle.dds_base.specs.declared.happening.Arrival.{Arrival}
-use Rattle.dds_base.specs.declared.happening.SamplePosition.{SamplePosition}
 use Rattle.dds_base.specs.declared.happening.Happening.{Happening}
-use Rattle.dds_base.specs.declared.happening.Happening.TheVariants.{Came, Died, Read, Took}
+use Rattle.dds_base.specs.declared.happening.Happening.TheVariants.{Came}
 use Rattle.dds_base.specs.declared.sample.InstanceState.{InstanceState}
 use Rattle.dds_base.specs.declared.sample.ViewState.TheVariants.{New, NotNew}
 use Rattle.dds_base.specs.declared.qos.ReaderQos.{ReaderQos}
 use Rattle.dds_base.specs.Happening.{same_key, is_write_or_dispose}
-use Rattle.dds_base.specs.Ownership.{accepted_kind, registered_writers}
-use Rattle.dds_base.specs.Presence.{becomes_not_alive, is_accepted}
-use Rattle.dds_base.specs.Access.{handle_of, instance_of, number_from, state_of_known}
-use Rattle.dds_base.specs.Instance.{known_instances, last_accepted, introduced_by, accesses, is_since, or_else, is_write, is_disposed, is_without_writers, state_after, is_nobody}
+use Rattle.dds_base.specs.Ownership.{accepted_kind, is_registered, publication_handles, registered_writers}
+use Rattle.dds_base.specs.Presence.{is_accepted}
+use Rattle.dds_base.specs.Life.{becomes_not_alive, last_accepted, or_else, is_write, state_after, is_nobody, ends_life}
+use Rattle.dds_base.specs.Access.{handle_of, instance_of, lives_begun, state_of_known}
+use Rattle.dds_base.specs.Instance.{known_instances, introduced_by, introduces, is_known, is_disposed, is_without_writers}
 use Rattle.dds_base.proofs.KeyLaws.{key-same, same_key-refl, same_key-comm}
+use Rattle.dds_base.proofs.LifeLaws.{accepted-other, quiet-goes-on, registered-other}
 use Rattle.dds_instances.specs.declared.track.InstanceTrack.{InstanceTrack}
 use Rattle.dds_instances.specs.declared.known.KnownInstance.{KnownInstance}
-use Rattle.dds_owner.specs.Standing.{Kept, KeptStrengths, StandsFor, TellsStrengths, has_writers, kept_strength}
-use Rattle.dds_instances.specs.Track.{Tracks, Advances, Fits, fresh, one_if, seen_at, state_of_track}
-use Rattle.dds_instances.specs.Table.{Table, Stands, track_with}
-use Rattle.dds_instances.specs.Following.{key_of, Each, Follows, IsLawful, IsPlaceOf}
-use Rattle.dds_instances.specs.Known.{IsKnown, IsReturnable}
-use Rattle.dds_instances.proofs.TrackLaws.{state-tracked, tracks-next, tracks-other, tracks-stranger, tracks-read, tracks-took, one-rebirth, one_if-bound}
-use Rattle.dds_instances.proofs.PlaceLaws.{number-at, number-none}
-use Rattle.dds_instances.proofs.KnownLaws.{known, unknown, rejected, tracks-fresh}
+use Rattle.dds_owner.specs.Standing.{Kept, KeptStrengths, StandsFor, TellsStrengths}
+use Rattle.dds_instances.specs.Track.{Tracks, Advances, Fits, fresh, is_other, one_if, state_of_track}
+use Rattle.dds_instances.specs.Table.{Table, Stands}
+use Rattle.dds_instances.specs.Following.{key_of, Follows, IsLawful, IsPlaceOf, Reaches, track_with}
+use Rattle.dds_instances.specs.Known.{IsKnown}
+use Rattle.dds_instances.proofs.LivesLaws.{known-on, or-some}
+use Rattle.dds_instances.proofs.TrackLaws.{HandsOut, state-tracked, tracks-next, tracks-stranger, one-rebirth, one_if-bound}
+use Rattle.dds_instances.proofs.KnownLaws.{known, known-all, unknown, rejected, tracks-fresh}
 
 -- ---- the counts fit
 
@@ -83,7 +85,7 @@ keys-set ts at t within same =
 -- ---- a change of a known instance
 
 -- the others are other instances
-stranger-at : (ts : List InstanceTrack) (i : Key) (at k : ℕ) (d : InstanceTrack) → IsPlaceOf (map key_of ts) i at
+pub stranger-at : (ts : List InstanceTrack) (i : Key) (at k : ℕ) (d : InstanceTrack) → IsPlaceOf (map key_of ts) i at
     → k < length ts → k ≢ at → same_key i (get_or ts k d).key ≡ false
 stranger-at ts i at k d place within differ =
     sym (ap (λ (x : Key). same_key i x) (get_or-map key_of ts k d d.key within))
@@ -94,19 +96,22 @@ itself-at : (ts : List InstanceTrack) (i : Key) (at : ℕ) (d : InstanceTrack) �
     → at < length ts → (get_or ts at d).key ≡ i
 itself-at ts i at d place within = sym (get_or-map key_of ts at d d.key within) ∙ place.is d.key
 
--- one track has followed its instance through an entry that says nothing of the others
-each-set : (q : ReaderQos) (h g : List Happening) (ts : List InstanceTrack) (at : ℕ) (x : InstanceTrack)
-    → at < length ts → Tracks q x.key g x
-    → ((k : ℕ) (d : InstanceTrack) → k < length ts → k ≢ at → Tracks q (get_or ts k d).key g (get_or ts k d))
-    → Each q g (set ts at x)
-each-set q h g ts at x inside here others = λ k d within.
+pub itself-same : (ts : List InstanceTrack) (i : Key) (at : ℕ) (d : InstanceTrack) → IsPlaceOf (map key_of ts) i at
+    → at < length ts → same_key i (get_or ts at d).key ≡ true
+itself-same ts i at d place within =
+    ap (λ (k : Key). same_key i k) (itself-at ts i at d place within) ∙ same_key-refl i
+
+-- one track was put among the others
+pub all-set : (P : InstanceTrack → Type 0) (ts : List InstanceTrack) (at : ℕ) (x : InstanceTrack) → at < length ts → P x
+    → ((k : ℕ) (d : InstanceTrack) → k < length ts → k ≢ at → P (get_or ts k d)) → All P (set ts at x)
+all-set P ts at x inside here others = λ k d within.
     let within' : k < length ts = omega (arith, within, length-set ts at x) in
     ⊎_elim
     (λ same. let is : get_or (set ts at x) k d ≡ x = ap (λ (n : ℕ). get_or (set ts at x) n d) same
     ∙ get_or-set_same ts at x d inside in
-    subst (λ (t : InstanceTrack). Tracks q t.key g t) (sym is) here)
+    subst P (sym is) here)
     (λ differ. let is : get_or (set ts at x) k d ≡ get_or ts k d = get_or-set_other ts at k x d differ in
-    subst (λ (t : InstanceTrack). Tracks q t.key g t) (sym is) (others k d within' differ))
+    subst P (sym is) (others k d within' differ))
     (cases_eq k at)
 
 list-flip : (ks : List Key) (i : Key) → list_any (same_key i) ks ≡ list_any (λ k. same_key k i) ks
@@ -122,22 +127,70 @@ known-kept q h ts i b follows is =
     sym (known q h i) ∙ (sym (list-flip (known_instances q h) i)
     ∙ (sym (ap (λ (ks : List Key). list_any (same_key i) ks) follows.keys_are) ∙ is))
 
-or-true : (b : Bool) → (b || true) ≡ true
-or-true true = refl
-or-true false = refl
+-- what is true of each key is of that of each track
+pub all-keys : (P : Key → Type 0) (ts : List InstanceTrack) → All P (map key_of ts)
+    → All (λ (t : InstanceTrack). P t.key) ts
+all-keys P ts all = λ k d within. subst P (get_or-map key_of ts k d d.key within)
+    (all k d.key (omega (arith, within, length-map ts key_of)))
 
-any-at : (ks : List Key) (i : Key) (at : ℕ) → at < length ks → get_or ks at i ≡ i → list_any (same_key i) ks ≡ true
-any-at [] i at within is = absurd (omega (arith, within))
-any-at (k ∷ ks) i zero within is =
-    ap (λ (x : Key). same_key i x || list_any (same_key i) ks) is
-    ∙ ap (λ (b : Bool). b || list_any (same_key i) ks) (same_key-refl i)
-any-at (k ∷ ks) i (suc at) within is =
-    ap (λ (b : Bool). same_key i k || b) (any-at ks i at (omega (arith, within)) is) ∙ or-true (same_key i k)
+-- each instance that is kept is known
+pub known-of : (q : ReaderQos) (h : List Happening) (ts : List InstanceTrack) → Follows q h ts
+    → All (λ (t : InstanceTrack). is_known q h t.key ≡ true) ts
+known-of q h ts follows =
+    all-keys (λ (k : Key). is_known q h k ≡ true) ts
+    (subst (λ (ks : List Key). All (λ (k : Key). is_known q h k ≡ true) ks) (sym follows.keys_are) (known-all q h))
 
+-- so is that of a key among theirs
 pub known-at : (q : ReaderQos) (h : List Happening) (ts : List InstanceTrack) (i : Key) (at : ℕ)
-    → IsPlaceOf (map key_of ts) i at → Follows q h ts → is_some (last_accepted q i h) ≡ true
+    → IsPlaceOf (map key_of ts) i at → Follows q h ts → is_known q h i ≡ true
 known-at q h ts i at place follows =
-    known-kept q h ts i true follows (any-at (map key_of ts) i at place.within (place.is i))
+    subst (λ (k : Key). is_known q h k ≡ true) (place.is i)
+    (subst (λ (ks : List Key). All (λ (k : Key). is_known q h k ≡ true) ks) (sym follows.keys_are) (known-all q h) at i
+    place.within)
+
+-- ---- the tracks that stay
+
+pub filter-keys : (keep : InstanceTrack → Bool) (p : Key → Bool) (ts : List InstanceTrack)
+    → All (λ (t : InstanceTrack). keep t ≡ p t.key) ts → map key_of (filter keep ts) ≡ filter p (map key_of ts)
+filter-keys keep p [] same = refl
+filter-keys keep p (t ∷ ts) same =
+    one (keep t) (filter keep ts)
+    ∙ (ap (λ (b : Bool). cond b (t.key ∷ map key_of (filter keep ts)) (map key_of (filter keep ts)))
+    (All-head (λ (x : InstanceTrack). keep x ≡ p x.key) t ts same)
+    ∙ ap (λ (ks : List Key). cond (p t.key) (t.key ∷ ks) ks)
+    (filter-keys keep p ts (All-tail (λ (x : InstanceTrack). keep x ≡ p x.key) t ts same)))
+  where
+    one : (b : Bool) (xs : List InstanceTrack) → map key_of (cond b (t ∷ xs) xs) ≡ cond b (t.key ∷ map key_of xs) (map key_of xs)
+    one true xs = refl
+    one false xs = refl
+
+-- those of the instances that are known stay
+pub follows-kept : (q : ReaderQos) (h : List Happening) (e : Happening) (keep : InstanceTrack → Bool)
+    (ts : List InstanceTrack) → Reaches q h e ts → All (λ (t : InstanceTrack). keep t ≡ is_known q (e ∷ h) t.key) ts
+    → Follows q (e ∷ h) (filter keep ts)
+follows-kept q h e keep ts reaches right = record {
+  keys_are =
+      filter-keys keep (is_known q (e ∷ h)) ts right
+      ∙ ap (λ (ks : List Key). filter (is_known q (e ∷ h)) ks) reaches.keys_are;
+  each = λ k d within.
+      All-filter keep (λ (t : InstanceTrack). is_known q (e ∷ h) t.key ≡ true → Tracks q t.key (e ∷ h) t) ts reaches.each
+      k d within
+      (sym (All-filter keep (λ (t : InstanceTrack). keep t ≡ is_known q (e ∷ h) t.key) ts right k d within)
+      ∙ filter_passes keep ts k d within);
+}
+
+filter-all : (ts : List InstanceTrack) → filter (λ (t : InstanceTrack). true) ts ≡ ts
+filter-all [] = refl
+filter-all (t ∷ ts) = ap (λ (xs : List InstanceTrack). t ∷ xs) (filter-all ts)
+
+-- all of them stay where all are known
+pub follows-whole : (q : ReaderQos) (h : List Happening) (e : Happening) (ts : List InstanceTrack) → Reaches q h e ts
+    → All (λ (t : InstanceTrack). is_known q (e ∷ h) t.key ≡ true) ts → Follows q (e ∷ h) ts
+follows-whole q h e ts reaches known =
+    subst (λ (xs : List InstanceTrack). Follows q (e ∷ h) xs) (filter-all ts)
+    (follows-kept q h e (λ t. true) ts reaches (λ k d within. sym (known k d within)))
+
+-- ---- a change of a known instance
 
 -- a track takes up a change of its instance, of this accepted kind
 pub record Changes (q : ReaderQos) (kept : KeptStrengths) (a : Arrival) (kind : Option ChangeKind) (n : ℕ)
@@ -151,41 +204,52 @@ pub record Changes (q : ReaderQos) (kept : KeptStrengths) (a : Arrival) (kind : 
 -- one that has followed the instance until then
 tracks-changed : (q : ReaderQos) (kept : KeptStrengths) (h : List Happening) (a : Arrival) (kind : Option ChangeKind)
     (n : ℕ) (t x : InstanceTrack) → length h + 1 ≡ n → Changes q kept a kind n t x → TellsStrengths kept q h
-    → IsLawful q h → Tracks q a.change.key h t
-    → Tracks q a.change.key (Came a ∷ h) x
-tracks-changed q kept h a kind n t x len step tells lawful before =
+    → IsLawful q h → HandsOut q a.change.key h (Came a) t.handle → Tracks q a.change.key h t
+    → is_known q (Came a ∷ h) a.change.key ≡ true → Tracks q a.change.key (Came a ∷ h) x
+tracks-changed q kept h a kind n t x len step tells lawful hands before known =
     let i : Key = a.change.key in
     let advances : Advances kind (length h + 1) t x = subst (λ (m : ℕ). Advances kind m t x) (sym len) step.advances in
     tracks-next q i h (Came a) kind t x (step.accepted h before.owners_are tells) (step.came h before.owners_are)
-    (λ j. refl) (lawful.past i (length h + 1) (omega arith)) before advances
+    (λ j. refl) (lawful.past i (length h + 1) (omega arith)) hands before advances known
 
-pub follows-known : (q : ReaderQos) (kept : KeptStrengths) (h : List Happening) (a : Arrival) (ts : List InstanceTrack)
+-- a change of a known instance makes none known
+pub known-introduced : (q : ReaderQos) (h : List Happening) (a : Arrival) → is_known q h a.change.key ≡ true
+    → introduced_by q h (Came a) ≡ []
+known-introduced q h a known =
+    ap (λ (b : Bool). cond (not b && is_some (accepted_kind q a.change.key h (Came a))) (a.change.key ∷ []) []) known
+
+pub reaches-known : (q : ReaderQos) (kept : KeptStrengths) (h : List Happening) (a : Arrival) (ts : List InstanceTrack)
     (at n : ℕ) (t x : InstanceTrack) (kind : Option ChangeKind) → length h + 1 ≡ n → IsPlaceOf (map key_of ts) a.change.key at
     → t ≡ get_or ts at t → Changes q kept a kind n t x → TellsStrengths kept q h → IsLawful q h
-    → Follows q h ts → Follows q (Came a ∷ h) (set ts at x)
-follows-known q kept h a ts at n t x kind len place is step tells lawful follows =
+    → Follows q h ts → Reaches q h (Came a) (set ts at x) × (introduced_by q h (Came a) ≡ [])
+reaches-known q kept h a ts at n t x kind len place is step tells lawful follows =
     let i : Key = a.change.key in
     let inside : at < length ts = omega (arith, place.within, length-map ts key_of) in
     let key : t.key ≡ i = ap (λ (y : InstanceTrack). y.key) is ∙ itself-at ts i at t place inside in
     let before : Tracks q i h t =
     subst (λ (k : Key). Tracks q k h t) key
     (subst (λ (y : InstanceTrack). Tracks q y.key h y) (sym is) (follows.each at t inside)) in
-    let after : Tracks q i (Came a ∷ h) x = tracks-changed q kept h a kind n t x len step tells lawful before in
-    let here : Tracks q x.key (Came a ∷ h) x =
-    subst (λ (k : Key). Tracks q k (Came a ∷ h) x) (sym after.key_is) after in
-    let old : is_some (last_accepted q i h) ≡ true = known-at q h ts i at place follows in
-    record {
-      keys_are =
-          keys-set ts at x inside (step.advances.key
-          ∙ ap (λ (y : InstanceTrack). y.key) (is ∙ get_or_default ts at t x inside))
-          ∙ (follows.keys_are ∙ (sym (append-nil (known_instances q h))
-          ∙ ap (λ (b : Bool). known_instances q h ++ cond (not b && is_some (accepted_kind q i h (Came a))) (i ∷ [])
-          []) (sym old)));
-      each =
-          each-set q h (Came a ∷ h) ts at x inside here
-          (λ k d within differ. tracks-stranger q (get_or ts k d).key h a (get_or ts k d)
-          (stranger-at ts i at k d place within differ) (follows.each k d within));
-    }
+    let old : is_known q h i ≡ true = known-at q h ts i at place follows in
+    let none : introduced_by q h (Came a) ≡ [] = known-introduced q h a old in
+    let here : is_known q (Came a ∷ h) i ≡ true → Tracks q i (Came a ∷ h) x =
+    tracks-changed q kept h a kind n t x len step tells lawful
+    (λ unknown new. absurd (let clash : true ≡ false = sym old ∙ unknown in cc)) before in (
+      record {
+        keys_are =
+            keys-set ts at x inside (step.advances.key
+            ∙ ap (λ (y : InstanceTrack). y.key) (is ∙ get_or_default ts at t x inside))
+            ∙ (follows.keys_are ∙ (sym (append-nil (known_instances q h))
+            ∙ ap (λ (ks : List Key). known_instances q h ++ ks) (sym none)));
+        each =
+            all-set (λ (y : InstanceTrack). is_known q (Came a ∷ h) y.key ≡ true → Tracks q y.key (Came a ∷ h) y) ts at x
+            inside
+            (subst (λ (k : Key). is_known q (Came a ∷ h) k ≡ true → Tracks q k (Came a ∷ h) x)
+            (sym (step.advances.key ∙ key)) here)
+            (λ k d within differ. tracks-stranger q (get_or ts k d).key h a (get_or ts k d)
+            (stranger-at ts i at k d place within differ) (known-of q h ts follows k d within) (follows.each k d within));
+      },
+      none,
+    )
 
 -- ---- an instance becomes known
 
@@ -202,7 +266,7 @@ some-cond true k ks = refl
 some-cond false k ks = refl
 
 -- the others are other instances
-strangers-all : (i : Key) (ts : List InstanceTrack) → list_any (same_key i) (map key_of ts) ≡ false
+pub strangers-all : (i : Key) (ts : List InstanceTrack) → list_any (same_key i) (map key_of ts) ≡ false
     → (k : ℕ) (d : InstanceTrack) → k < length ts → same_key i (get_or ts k d).key ≡ false
 strangers-all i [] none k d within = absurd (omega (arith, within))
 strangers-all i (t ∷ ts) none zero d within =
@@ -233,120 +297,148 @@ first-introduced q h a b last data_is =
     ∙ (ap (λ (x : Bool). cond (is_some (cond x (Some a.change.kind) None)) (a.change.key ∷ []) []) data_is
     ∙ some-cond b a.change.kind (a.change.key ∷ [])))
 
-pub follows-new : (q : ReaderQos) (kept : KeptStrengths) (h : List Happening) (a : Arrival) (ts : List InstanceTrack)
-    (n : ℕ) (blank : Kept) (x : InstanceTrack) (kind : Option ChangeKind) → length h + 1 ≡ n → ((i : Key) → StandsFor blank q i [])
+-- whoever an unmatched list of keys does not have is another one
+strangers-reach : (q : ReaderQos) (h : List Happening) (a : Arrival) (ts : List InstanceTrack)
+    → list_any (same_key a.change.key) (map key_of ts) ≡ false → Follows q h ts
+    → All (λ (t : InstanceTrack). is_known q (Came a ∷ h) t.key ≡ true → Tracks q t.key (Came a ∷ h) t) ts
+strangers-reach q h a ts absent follows = λ k d within. tracks-stranger q (get_or ts k d).key h a (get_or ts k d)
+    (strangers-all a.change.key ts absent k d within) (known-of q h ts follows k d within) (follows.each k d within)
+
+pub reaches-new : (q : ReaderQos) (kept : KeptStrengths) (h : List Happening) (a : Arrival) (ts : List InstanceTrack)
+    (n handle : ℕ) (blank : Kept) (x : InstanceTrack) (kind : Option ChangeKind) → length h + 1 ≡ n
+    → handle ≡ lives_begun q h + 1 → ((i : Key) → StandsFor blank q i [])
     → list_any (same_key a.change.key) (map key_of ts) ≡ false → is_write_or_dispose a.change.kind ≡ true
-    → Changes q kept a kind n (fresh a.change.key blank) x → TellsStrengths kept q h → IsLawful q h → Follows q h ts
-    → Follows q (Came a ∷ h) (ts ++ x ∷ [])
-follows-new q kept h a ts n blank x kind len blank_is absent data_is step tells lawful follows =
+    → Changes q kept a kind n (fresh a.change.key handle blank) x → TellsStrengths kept q h → IsLawful q h
+    → Follows q h ts
+    → Reaches q h (Came a) (ts ++ x ∷ []) × (introduced_by q h (Came a) ≡ a.change.key ∷ [])
+reaches-new q kept h a ts n handle blank x kind len handle_is blank_is absent data_is step tells lawful follows =
     let i : Key = a.change.key in
     let last : last_accepted q i h ≡ None = unknown-kept q h ts i absent follows in
-    let before : Tracks q i h (fresh i blank) =
-    tracks-fresh q i h blank (blank_is i) last (lawful.strangers i 0 last) in
-    let after : Tracks q i (Came a ∷ h) x =
-    tracks-changed q kept h a kind n (fresh i blank) x len step tells lawful before in
-    let here : Tracks q x.key (Came a ∷ h) x =
-    subst (λ (k : Key). Tracks q k (Came a ∷ h) x) (sym after.key_is) after in
-    record {
-      keys_are =
-          map-append key_of ts (x ∷ [])
-          ∙ (ap (λ (ks : List Key). ks ++ x.key ∷ []) follows.keys_are
-          ∙ (ap (λ (k : Key). known_instances q h ++ k ∷ []) after.key_is
-          ∙ ap (λ (ks : List Key). known_instances q h ++ ks) (sym (first-introduced q h a true last data_is))));
-      each = All-append (λ (t : InstanceTrack). Tracks q t.key (Came a ∷ h) t) ts (x ∷ [])
-          (λ k d within. tracks-stranger q (get_or ts k d).key h a (get_or ts k d)
-          (strangers-all i ts absent k d within) (follows.each k d within))
-          (All-cons (λ (t : InstanceTrack). Tracks q t.key (Came a ∷ h) t) x [] here
-          (All-nil (λ (t : InstanceTrack). Tracks q t.key (Came a ∷ h) t)));
-    }
+    let unknown_is : is_known q h i ≡ false = ap (λ (k : Option ChangeKind). is_some k) last in
+    let new : introduced_by q h (Came a) ≡ i ∷ [] = first-introduced q h a true last data_is in
+    let before : Tracks q i h (fresh i handle blank) =
+    tracks-fresh q i h handle blank (blank_is i) last (lawful.strangers i unknown_is) in
+    let here : is_known q (Came a ∷ h) i ≡ true → Tracks q i (Came a ∷ h) x =
+    tracks-changed q kept h a kind n (fresh i handle blank) x len step tells lawful
+    (λ unknown begins. handle_is ∙ ap (λ (ks : List Key). lives_begun q h + length ks) (sym new)) before in
+    let goes_on : InstanceTrack → Type 0 =
+    λ t. is_known q (Came a ∷ h) t.key ≡ true → Tracks q t.key (Came a ∷ h) t in (
+      record {
+        keys_are =
+            map-append key_of ts (x ∷ [])
+            ∙ (ap (λ (ks : List Key). ks ++ x.key ∷ []) follows.keys_are
+            ∙ (ap (λ (k : Key). known_instances q h ++ k ∷ []) step.advances.key
+            ∙ ap (λ (ks : List Key). known_instances q h ++ ks) (sym new)));
+        each = All-append goes_on ts (x ∷ []) (strangers-reach q h a ts absent follows)
+            (All-cons goes_on x []
+            (subst (λ (k : Key). is_known q (Came a ∷ h) k ≡ true → Tracks q k (Came a ∷ h) x) (sym step.advances.key) here)
+            (All-nil goes_on));
+      },
+      new,
+    )
 
 -- an unregister of an unknown instance says nothing
-pub follows-nothing : (q : ReaderQos) (h : List Happening) (a : Arrival) (ts : List InstanceTrack)
+pub reaches-nothing : (q : ReaderQos) (h : List Happening) (a : Arrival) (ts : List InstanceTrack)
     → list_any (same_key a.change.key) (map key_of ts) ≡ false → is_write_or_dispose a.change.kind ≡ false
-    → Follows q h ts → Follows q (Came a ∷ h) ts
-follows-nothing q h a ts absent data_is follows =
+    → Follows q h ts → Reaches q h (Came a) ts × (introduced_by q h (Came a) ≡ [])
+reaches-nothing q h a ts absent data_is follows =
+    let last : last_accepted q a.change.key h ≡ None = unknown-kept q h ts a.change.key absent follows in
+    let none : introduced_by q h (Came a) ≡ [] = first-introduced q h a false last data_is in (
+      record {
+        keys_are =
+            follows.keys_are ∙ (sym (append-nil (known_instances q h))
+            ∙ ap (λ (ks : List Key). known_instances q h ++ ks) (sym none));
+        each = strangers-reach q h a ts absent follows;
+      },
+      none,
+    )
+
+-- ---- whose life a change ends
+
+-- of one key, where this is that of the change
+came-one : (q : ReaderQos) (h : List Happening) (a : Arrival) (k : Key) → same_key k a.change.key ≡ true
+    → is_some (or_else (accepted_kind q a.change.key h (Came a)) (last_accepted q a.change.key h)) ≡ true
+    → not (ends_life q a.change.key h (Came a) && same_key k a.change.key) ≡ is_known q (Came a ∷ h) k
+came-one q h a k same there =
     let i : Key = a.change.key in
-    let last : last_accepted q i h ≡ None = unknown-kept q h ts i absent follows in
-    record {
-      keys_are =
-          follows.keys_are ∙ (sym (append-nil (known_instances q h))
-          ∙ ap (λ (ks : List Key). known_instances q h ++ ks) (sym (first-introduced q h a false last data_is)));
-      each =
-          λ k d within. tracks-stranger q (get_or ts k d).key h a (get_or ts k d) (strangers-all i ts absent k d within)
-          (follows.each k d within);
-    }
+    ap (λ (b : Bool). not (ends_life q i h (Came a) && b)) same
+    ∙ (table (ends_life q i h (Came a))
+    ∙ sym (ap (λ (x : Key). is_known q (Came a ∷ h) x) (key-same k i same)))
+  where
+    table : (b : Bool) → not (b && true)
+        ≡ is_some (if b then None else or_else (accepted_kind q a.change.key h (Came a)) (last_accepted q a.change.key h))
+    table true = refl
+    table false = sym there
 
--- ---- a death
+-- of one that was known
+came-known : (q : ReaderQos) (h : List Happening) (a : Arrival) (k : Key) → is_known q h k ≡ true
+    → not (ends_life q a.change.key h (Came a) && same_key k a.change.key) ≡ is_known q (Came a ∷ h) k
+came-known q h a k known =
+    let i : Key = a.change.key in
+    ⊎_elim
+    (λ same. came-one q h a k same
+    (or-some (accepted_kind q i h (Came a)) (last_accepted q i h)
+    (ap (λ (x : Key). is_known q h x) (sym (key-same k i same)) ∙ known)))
+    (λ other. let another : same_key i k ≡ false = same_key-comm i k ∙ other in
+    ap (λ (b : Bool). not (ends_life q i h (Came a) && b)) other
+    ∙ (off (ends_life q i h (Came a))
+    ∙ sym (known-on q k h (Came a) known
+    (quiet-goes-on q k h (Came a) (accepted-other q k h a another)
+    (filter_agree (λ w. is_registered k w (Came a ∷ h)) (λ w. is_registered k w h)
+    (λ w. registered-other k w h a another) (publication_handles q)) refl known))))
+    (cases_Bool (same_key k i))
+  where
+    off : (b : Bool) → not (b && false) ≡ true
+    off true = refl
+    off false = refl
 
--- a track that takes a death up
-pub record Buries (n w : ℕ) (old new : InstanceTrack) : Type 0 where
-  pub advances : Advances None n old new
-  pub died : (q : ReaderQos) (i : Key) (h : List Happening) (moment : ℕ) → StandsFor old.owners q i h
-      → StandsFor new.owners q i (Died w moment ∷ h)
-  pub fewer : has_writers new.owners ≡ true → has_writers old.owners ≡ true
+-- of one that becomes so
+came-introduced : (q : ReaderQos) (h : List Happening) (a : Arrival)
+    → All (λ (k : Key). not (ends_life q a.change.key h (Came a) && same_key k a.change.key) ≡ is_known q (Came a ∷ h) k)
+    (introduced_by q h (Came a))
+came-introduced q h a =
+    let i : Key = a.change.key in
+    let P : Key → Type 0 =
+    λ k. not (ends_life q i h (Came a) && same_key k i) ≡ is_known q (Came a ∷ h) k in
+    ⊎_elim
+    (λ new. subst (λ (b : Bool). All P (cond b (i ∷ []) [])) (sym new)
+    (All-cons P i [] (came-one q h a i (same_key-refl i)
+    (some-then (is_known q h i) (accepted_kind q i h (Came a)) (last_accepted q i h) new)) (All-nil P)))
+    (λ old. subst (λ (b : Bool). All P (cond b (i ∷ []) [])) (sym old) (All-nil P))
+    (cases_Bool (introduces q i h (Came a)))
+  where
+    some-then : (b : Bool) (x l : Option ChangeKind) → (not b && is_some x) ≡ true → is_some (or_else x l) ≡ true
+    some-then true x l e = absurd cc
+    some-then false None l e = absurd cc
+    some-then false (Some x) l e = refl
 
-pub follows-died : (q : ReaderQos) (h : List Happening) (w now n : ℕ) (ts xs : List InstanceTrack) → length h + 1 ≡ n
-    → length xs ≡ length ts → map key_of xs ≡ map key_of ts
-    → ((k : ℕ) (d : InstanceTrack) → k < length ts → Buries n w (get_or ts k d) (get_or xs k d)) → IsLawful q h
-    → Follows q h ts → Follows q (Died w now ∷ h) xs
-follows-died q h w now n ts xs len same keys steps lawful follows = record {
-  keys_are = keys ∙ (follows.keys_are ∙ sym (append-nil (known_instances q h)));
-  each = λ k d within.
-      let within' : k < length ts = omega (arith, within, same) in
-      let t : InstanceTrack = get_or ts k d in
-      let x : InstanceTrack = get_or xs k d in
-      let before : Tracks q t.key h t = follows.each k d within' in
-      let step : Buries (length h + 1) w t x = subst (λ (m : ℕ). Buries m w t x) (sym len) (steps k d within') in
-      let after : Tracks q t.key (Died w now ∷ h) x =
-      tracks-next q t.key h (Died w now) None t x refl (step.died q t.key h now before.owners_are) (λ j. refl)
-      (lawful.past t.key (length h + 1) (omega arith)) before step.advances in
-      subst (λ (i : Key). Tracks q i (Died w now ∷ h) x) (sym after.key_is) after;
-}
+came-keeps : (q : ReaderQos) (h : List Happening) (a : Arrival) (ts : List InstanceTrack) → Reaches q h (Came a) ts
+    → All (λ (t : InstanceTrack). not (ends_life q a.change.key h (Came a) && same_key t.key a.change.key)
+    ≡ is_known q (Came a ∷ h) t.key) ts
+came-keeps q h a ts reaches =
+    let P : Key → Type 0 =
+    λ k. not (ends_life q a.change.key h (Came a) && same_key k a.change.key) ≡ is_known q (Came a ∷ h) k in
+    all-keys P ts (subst (λ (ks : List Key). All P ks) (sym reaches.keys_are)
+    (All-append P (known_instances q h) (introduced_by q h (Came a))
+    (All-weaker (λ (k : Key). is_known q h k ≡ true) P (came-known q h a) (known_instances q h) (known-all q h))
+    (came-introduced q h a)))
 
--- ---- samples that were returned
+-- a change that ends the life of its instance
+pub follows-over : (q : ReaderQos) (h : List Happening) (a : Arrival) (ts : List InstanceTrack)
+    → true ≡ ends_life q a.change.key h (Came a) → Reaches q h (Came a) ts
+    → Follows q (Came a ∷ h) (filter (is_other a.change.key) ts)
+follows-over q h a ts over reaches =
+    follows-kept q h (Came a) (is_other a.change.key) ts reaches
+    (λ k d within. ap (λ (b : Bool). not (b && same_key (get_or ts k d).key a.change.key)) over
+    ∙ came-keeps q h a ts reaches k d within)
 
-no-more : (b x : Bool) → b ≡ (b || (false && x))
-no-more true x = refl
-no-more false x = refl
-
-read-stranger : (q : ReaderQos) (h : List Happening) (ss : List SamplePosition) (s : SamplePosition) (t : InstanceTrack)
-    → same_key s.key t.key ≡ false → Tracks q t.key (Read ss ∷ h) t → Tracks q t.key (Read (ss ++ s ∷ []) ∷ h) t
-read-stranger q h ss s t other tracks =
-    tracks-read q t.key h ss s t t.is_seen (no-more t.is_seen (nat_le t.latest_rebirth s.position)
-    ∙ ap (λ (b : Bool). t.is_seen || (b && nat_le t.latest_rebirth s.position)) (sym other)) tracks
-
--- one more sample, of an instance that is kept
-pub each-saw : (q : ReaderQos) (h : List Happening) (ss : List SamplePosition) (s : SamplePosition)
-    (ts : List InstanceTrack) (at : ℕ) (t x : InstanceTrack) → IsPlaceOf (map key_of ts) s.key at → t ≡ get_or ts at t
-    → x ≡ seen_at s.position t → Each q (Read ss ∷ h) ts → Each q (Read (ss ++ s ∷ []) ∷ h) (set ts at x)
-each-saw q h ss s ts at t x place is sees each =
-    let inside : at < length ts = omega (arith, place.within, length-map ts key_of) in
-    let key : t.key ≡ s.key = ap (λ (y : InstanceTrack). y.key) is ∙ itself-at ts s.key at t place inside in
-    let before : Tracks q t.key (Read ss ∷ h) t =
-    subst (λ (y : InstanceTrack). Tracks q y.key (Read ss ∷ h) y) (sym is) (each at t inside) in
-    let its : same_key s.key t.key ≡ true = ap (λ (k : Key). same_key s.key k) key ∙ same_key-refl s.key in
-    let after : Tracks q t.key (Read (ss ++ s ∷ []) ∷ h) (seen_at s.position t) =
-    tracks-read q t.key h ss s t (t.is_seen || nat_le t.latest_rebirth s.position)
-    (ap (λ (b : Bool). t.is_seen || (b && nat_le t.latest_rebirth s.position)) (sym its)) before in
-    each-set q (Read ss ∷ h) (Read (ss ++ s ∷ []) ∷ h) ts at x inside
-    (subst (λ (y : InstanceTrack). Tracks q y.key (Read (ss ++ s ∷ []) ∷ h) y) (sym sees) after)
-    (λ k d within differ. read-stranger q h ss s (get_or ts k d) (stranger-at ts s.key at k d place within differ)
-    (each k d within))
-
--- one more sample, of an instance that is not
-pub each-passed : (q : ReaderQos) (h : List Happening) (ss : List SamplePosition) (s : SamplePosition)
-    (ts : List InstanceTrack) → list_any (same_key s.key) (map key_of ts) ≡ false → Each q (Read ss ∷ h) ts
-    → Each q (Read (ss ++ s ∷ []) ∷ h) ts
-each-passed q h ss s ts absent each =
-    λ k d within. read-stranger q h ss s (get_or ts k d) (strangers-all s.key ts absent k d within) (each k d within)
-
-pub fits-saw : (n : ℕ) (ts : List InstanceTrack) (at position : ℕ) (t x : InstanceTrack) → at < length ts
-    → t ≡ get_or ts at t → x ≡ seen_at position t → All (Fits n) ts → All (Fits n) (set ts at x)
-fits-saw n ts at position t x inside is sees fits =
-    let before : Fits n t = subst (λ (y : InstanceTrack). Fits n y) (sym is) (fits at t inside) in
-    let after : Fits n (seen_at position t) =
-    record { writes = before.writes; generations = before.generations; marker = before.marker } in
-    All-set (Fits n) ts at x (subst (λ (y : InstanceTrack). Fits n y) (sym sees) after) fits
+-- and one that does not
+pub follows-on : (q : ReaderQos) (h : List Happening) (a : Arrival) (ts : List InstanceTrack)
+    → false ≡ ends_life q a.change.key h (Came a) → Reaches q h (Came a) ts → Follows q (Came a ∷ h) ts
+follows-on q h a ts on reaches =
+    follows-whole q h (Came a) ts reaches
+    (λ k d within. sym (came-keeps q h a ts reaches k d within)
+    ∙ ap (λ (b : Bool). not (b && same_key (get_or ts k d).key a.change.key)) (sym on))
 
 -- ---- what is kept of a key
 
@@ -364,24 +456,6 @@ pub nothing-at : (q : ReaderQos) (h : List Happening) (ts : List InstanceTrack) 
 nothing-at q h ts ks i indexed absent follows =
     unknown-kept q h ts i (ap (λ (xs : List Key). list_any (same_key i) xs) (sym indexed) ∙ absent) follows
 
--- ---- reads and takes are lawful
-
-or_else-later : (a b : Option ChangeKind) → or_else a b ≡ None → b ≡ None
-or_else-later None b e = e
-or_else-later (Some x) b e = absurd cc
-
--- an entry that is no access leaves them so
-pub lawful-quiet : (q : ReaderQos) (h : List Happening) (e : Happening) → ((i : Key) (j : ℕ) → accesses i j e ≡ false)
-    → IsLawful q h → IsLawful q (e ∷ h)
-lawful-quiet q h e quiet lawful = record {
-  past =
-      λ i j later. ap (λ (b : Bool). b || list_any (accesses i j) h) (quiet i j)
-      ∙ lawful.past i j (omega (arith, later));
-  strangers =
-      λ i j none. ap (λ (b : Bool). b || list_any (accesses i j) h) (quiet i j)
-      ∙ lawful.strangers i j (or_else-later (accepted_kind q i h e) (last_accepted q i h) none);
-}
-
 -- the tracks of a table that stands for what happened
 pub follows-of : (q : ReaderQos) (h : List Happening) (table : Table) (ts : List InstanceTrack) → ts ≡ table.tracks
     → Stands q table h → Follows q h ts
@@ -391,49 +465,6 @@ follows-of q h table ts are stands = subst (λ (xs : List InstanceTrack). Follow
 pub tells-of : (q : ReaderQos) (h : List Happening) (table : Table) (kept : KeptStrengths) → kept ≡ table.strengths
     → Stands q table h → TellsStrengths kept q h
 tells-of q h table kept are stands = subst (λ (k : KeptStrengths). TellsStrengths k q h) (sym are) stands.strengths_are
-
--- ---- the handle of an instance, and the instance of a handle
-
-pub handle-at : (q : ReaderQos) (h : List Happening) (ts : List InstanceTrack) (ks : List Key) (i : Key) (at : ℕ)
-    → ks ≡ map key_of ts → IsPlaceOf ks i at → Follows q h ts → at + 1 ≡ handle_of q h i
-handle-at q h ts ks i at indexed place follows =
-    (let flip : at + 1 ≡ 1 + at = omega arith in flip)
-    ∙ (sym (number-at 1 ks i at place) ∙ ap (λ (xs : List Key). number_from 1 i xs) (indexed ∙ follows.keys_are))
-
-pub handle-none : (q : ReaderQos) (h : List Happening) (ts : List InstanceTrack) (ks : List Key) (i : Key)
-    → ks ≡ map key_of ts → list_any (same_key i) ks ≡ false → Follows q h ts → 0 ≡ handle_of q h i
-handle-none q h ts ks i indexed none follows =
-    sym (number-none 1 ks i none) ∙ ap (λ (xs : List Key). number_from 1 i xs) (indexed ∙ follows.keys_are)
-
-slice_get-map : (ts : List InstanceTrack) (at : ℕ) → option_map key_of (slice_get ts at) ≡ slice_get (map key_of ts) at
-slice_get-map [] at = refl
-slice_get-map (t ∷ ts) zero = refl
-slice_get-map (t ∷ ts) (suc at) = slice_get-map ts at
-
-pub instance-with : (q : ReaderQos) (h : List Happening) (ts : List InstanceTrack) (handle : ℕ) → Follows q h ts
-    → option_map key_of (track_with ts handle) ≡ instance_of q h handle
-instance-with q h ts zero follows = refl
-instance-with q h ts (suc at) follows = slice_get-map ts at ∙ ap (λ (ks : List Key). slice_get ks at) follows.keys_are
-
--- what is kept at an index has every fact of all that is kept
-at-index : (P : InstanceTrack → Type 0) (ts : List InstanceTrack) (at : ℕ) (t : InstanceTrack) → All P ts
-    → slice_get ts at ≡ Some t → P t
-at-index P [] at t all is = absurd cc
-at-index P (x ∷ ts) zero t all is = let same : x ≡ t = cc in subst P same (All-head P x ts all)
-at-index P (x ∷ ts) (suc at) t all is = at-index P ts at t (All-tail P x ts all) is
-
-pub with-handle : (P : InstanceTrack → Type 0) (ts : List InstanceTrack) (handle : ℕ) (t : InstanceTrack) → All P ts
-    → track_with ts handle ≡ Some t → P t
-with-handle P ts zero t all is = absurd cc
-with-handle P ts (suc at) t all is = at-index P ts at t all is
-
--- each instance that is kept is known
-all-known : (ts : List InstanceTrack)
-    → All (λ (t : InstanceTrack). list_any (λ k. same_key k t.key) (map key_of ts) ≡ true) ts
-all-known ts =
-    λ k d within. sym (list-flip (map key_of ts) (get_or ts k d).key)
-    ∙ any-at (map key_of ts) (get_or ts k d).key k (omega (arith, within, length-map ts key_of))
-    (get_or-map key_of ts k d (get_or ts k d).key within)
 
 some-known : (last : Option ChangeKind) (nobody : Bool) → is_some last ≡ true
     → state_after last nobody ≡ Some (state_of_known (state_after last nobody))
@@ -446,14 +477,15 @@ some-known (Some DisposeUnregister) nobody e = refl
 
 -- what is told of the track of a known instance
 pub told-tracked : (q : ReaderQos) (h : List Happening) (t : InstanceTrack) (k : KnownInstance) → Tracks q t.key h t
-    → is_some (last_accepted q t.key h) ≡ true → k.key ≡ t.key → k.state ≡ state_of_known (state_of_track t)
+    → is_some (last_accepted q t.key h) ≡ true → k.key ≡ t.key → k.handle ≡ t.handle → k.state ≡ state_of_known (state_of_track t)
     → k.view ≡ (if t.is_seen then NotNew else New) → k.disposed_generations ≡ t.disposed_generations
     → k.no_writers_generations ≡ t.no_writers_generations → k.accepted_writes ≡ t.accepted_writes
     → k.last_marker ≡ t.last_marker → IsKnown q h k
-told-tracked q h t k tracked there key state view disposed no_writers writes marker =
+told-tracked q h t k tracked there key handle state view disposed no_writers writes marker =
     let tracks : Tracks q k.key h t = subst (λ (i : Key). Tracks q i h t) (sym key) tracked in
     let last : is_some (last_accepted q k.key h) ≡ true = ap (λ (i : Key). is_some (last_accepted q i h)) key ∙ there in
     record {
+      handle_is = handle ∙ tracks.handle_is last;
       state_is =
           some-known (last_accepted q k.key h) (is_nobody (registered_writers q k.key h)) last
           ∙ ap (λ (s : InstanceState). Some s)
@@ -465,15 +497,50 @@ told-tracked q h t k tracked there key state view disposed no_writers writes mar
       marker_is = marker ∙ tracks.marker_is;
     }
 
--- each instance that is kept at a handle is known
-pub known-with : (q : ReaderQos) (h : List Happening) (ts : List InstanceTrack) (handle : ℕ) (t : InstanceTrack)
-    → track_with ts handle ≡ Some t → Follows q h ts → is_some (last_accepted q t.key h) ≡ true
-known-with q h ts handle t there follows =
-    let in_keys : list_any (λ i. same_key i t.key) (map key_of ts) ≡ true =
-    with-handle (λ (x : InstanceTrack). list_any (λ i. same_key i x.key) (map key_of ts) ≡ true) ts handle t
-    (all-known ts) there in
-    sym (known q h t.key) ∙ (sym (ap (λ (ks : List Key). list_any (λ i. same_key i t.key) ks) follows.keys_are)
-    ∙ in_keys)
+-- ---- the handle of an instance, and the instance of a handle
+
+-- the instance at a place
+pub instance-at : (q : ReaderQos) (h : List Happening) (ts : List InstanceTrack) (place : ℕ) → Follows q h ts
+    → option_map key_of (slice_get ts place) ≡ slice_get (known_instances q h) place
+instance-at q h ts place follows =
+    sym (slice_get-map key_of ts place) ∙ ap (λ (ks : List Key). slice_get ks place) follows.keys_are
+
+-- what is kept at a place has every fact of all that is kept
+pub at-place : (P : InstanceTrack → Type 0) (ts : List InstanceTrack) (at : ℕ) (t : InstanceTrack) → All P ts
+    → slice_get ts at ≡ Some t → P t
+at-place P [] at t all is = absurd cc
+at-place P (x ∷ ts) zero t all is = let same : x ≡ t = cc in subst P same (All-head P x ts all)
+at-place P (x ∷ ts) (suc at) t all is = at-place P ts at t (All-tail P x ts all) is
+
+find-keys : (p : InstanceTrack → Bool) (r : Key → Bool) (ts : List InstanceTrack)
+    → All (λ (t : InstanceTrack). p t ≡ r t.key) ts → option_map key_of (find p ts) ≡ find r (map key_of ts)
+find-keys p r [] same = refl
+find-keys p r (t ∷ ts) same =
+    one (p t) (find p ts)
+    ∙ (ap (λ (b : Bool). cond b (Some t.key) (option_map key_of (find p ts)))
+    (All-head (λ (x : InstanceTrack). p x ≡ r x.key) t ts same)
+    ∙ ap (λ (k : Option Key). cond (r t.key) (Some t.key) k)
+    (find-keys p r ts (All-tail (λ (x : InstanceTrack). p x ≡ r x.key) t ts same)))
+  where
+    one : (b : Bool) (o : Option InstanceTrack) → option_map key_of (cond b (Some t) o) ≡ cond b (Some t.key) (option_map key_of o)
+    one true o = refl
+    one false o = refl
+
+pub instance-with : (q : ReaderQos) (h : List Happening) (ts : List InstanceTrack) (handle : ℕ) → Follows q h ts
+    → option_map key_of (track_with ts handle) ≡ instance_of q h handle
+instance-with q h ts zero follows = refl
+instance-with q h ts (suc n) follows =
+    find-keys (λ t. t.handle == suc n) (λ i. handle_of q h i == suc n) ts
+    (λ k d within. ap (λ (m : ℕ). m == suc n)
+    ((follows.each k d within).handle_is (known-of q h ts follows k d within)))
+    ∙ ap (λ (ks : List Key). find (λ i. handle_of q h i == suc n) ks) follows.keys_are
+
+-- an unknown instance has no handle
+pub handle-none : (q : ReaderQos) (h : List Happening) (i : Key) → last_accepted q i h ≡ None → 0 ≡ handle_of q h i
+handle-none q [] i last = refl
+handle-none q (e ∷ h) i last =
+    sym (ap (λ (k : Option ChangeKind). if not (is_some k) then 0
+    else (if introduces q i h e then lives_begun q (e ∷ h) else handle_of q h i)) last)
 
 -- ---- whether a change is accepted
 
@@ -486,110 +553,3 @@ pub accepts-first : (q : ReaderQos) (h : List Happening) (a : Arrival) → last_
 accepts-first q h a last =
     some-test (is_write_or_dispose a.change.kind) a.change.kind
     ∙ sym (ap (λ (k : Option ChangeKind). is_some k) (first-accepted q h a last))
-
--- ---- a read or a take of returnable samples
-
-none-since : (q : ReaderQos) (h : List Happening) (i : Key) (j : ℕ) (ss : List SamplePosition)
-    → All (λ (s : SamplePosition). is_since i j s ≡ false) ss → list_any (is_since i j) ss ≡ false
-none-since q h i j [] all = refl
-none-since q h i j (s ∷ ss) all =
-    ap (λ (b : Bool). b || list_any (is_since i j) ss)
-    (All-head (λ (x : SamplePosition). is_since i j x ≡ false) s ss all)
-    ∙ none-since q h i j ss (All-tail (λ (x : SamplePosition). is_since i j x ≡ false) s ss all)
-
-and-false : (b : Bool) → (b && false) ≡ false
-and-false true = refl
-and-false false = refl
-
-since-later : (q : ReaderQos) (h : List Happening) (i : Key) (j : ℕ) (s : SamplePosition) → IsReturnable q h s
-    → length h < j → is_since i j s ≡ false
-since-later q h i j s fits later =
-    ap (λ (b : Bool). same_key s.key i && b) (lt-leb j s.position (omega (arith, fits.in_past, later)))
-    ∙ and-false (same_key s.key i)
-
-since-stranger : (q : ReaderQos) (h : List Happening) (i : Key) (j : ℕ) (s : SamplePosition) → IsReturnable q h s
-    → last_accepted q i h ≡ None → is_since i j s ≡ false
-since-stranger q h i j s fits none =
-    ⊎_elim
-    (λ same. let its : is_some (last_accepted q s.key h) ≡ true = sym (known q h s.key) ∙ fits.is_known in
-    let gone : is_some (last_accepted q s.key h) ≡ false =
-    ap (λ (k : Key). is_some (last_accepted q k h)) (key-same s.key i same)
-    ∙ ap (λ (l : Option ChangeKind). is_some l) none in
-    absurd (let clash : true ≡ false = sym its ∙ gone in cc))
-    (λ other. ap (λ (b : Bool). b && nat_le j s.position) other)
-    (cases_Bool (same_key s.key i))
-
-pub lawful-read : (q : ReaderQos) (h : List Happening) (ss : List SamplePosition) → All (IsReturnable q h) ss
-    → IsLawful q h → IsLawful q (Read ss ∷ h)
-lawful-read q h ss all lawful = record {
-  past =
-      λ i j later. ap (λ (b : Bool). (b || false) || list_any (accesses i j) h)
-      (none-since q h i j ss (All-weaker (IsReturnable q h) (λ (s : SamplePosition). is_since i j s ≡ false)
-      (λ s fits. since-later q h i j s fits (omega (arith, later))) ss all)) ∙ lawful.past i j (omega (arith, later));
-  strangers =
-      λ i j none. ap (λ (b : Bool). (b || false) || list_any (accesses i j) h)
-      (none-since q h i j ss (All-weaker (IsReturnable q h) (λ (s : SamplePosition). is_since i j s ≡ false)
-      (λ s fits. since-stranger q h i j s fits none) ss all)) ∙ lawful.strangers i j none;
-}
-
-or-none : (b : Bool) → (b || false) ≡ b
-or-none true = refl
-or-none false = refl
-
-pub lawful-took : (q : ReaderQos) (h : List Happening) (ss : List SamplePosition) → IsLawful q (Read ss ∷ h)
-    → IsLawful q (Took ss ∷ h)
-lawful-took q h ss lawful = record {
-  past =
-      λ i j later. sym (ap (λ (b : Bool). b || list_any (accesses i j) h) (or-none (list_any (is_since i j) ss)))
-      ∙ lawful.past i j later;
-  strangers =
-      λ i j none. sym (ap (λ (b : Bool). b || list_any (accesses i j) h) (or-none (list_any (is_since i j) ss)))
-      ∙ lawful.strangers i j none;
-}
-
-pub each-read-nothing : (q : ReaderQos) (h : List Happening) (ts : List InstanceTrack) → Each q h ts
-    → Each q (Read [] ∷ h) ts
-each-read-nothing q h ts each =
-    λ k d within. tracks-other q (get_or ts k d).key h (Read []) (get_or ts k d) refl (λ w. refl) (λ j. refl)
-    (each k d within)
-
-pub follows-read : (q : ReaderQos) (h : List Happening) (ss : List SamplePosition) (ts xs : List InstanceTrack)
-    → map key_of xs ≡ map key_of ts → (Each q (Read [] ∷ h) ts → Each q (Read ss ∷ h) xs) → Follows q h ts
-    → Follows q (Read ss ∷ h) xs
-follows-read q h ss ts xs keys sees follows = record {
-  keys_are = keys ∙ (follows.keys_are ∙ sym (append-nil (known_instances q h)));
-  each = sees (each-read-nothing q h ts follows.each);
-}
-
-pub follows-took : (q : ReaderQos) (h : List Happening) (ss : List SamplePosition) (ts : List InstanceTrack)
-    → Follows q (Read ss ∷ h) ts → Follows q (Took ss ∷ h) ts
-follows-took q h ss ts follows =
-    record {
-      keys_are = follows.keys_are;
-      each = λ k d within. tracks-took q (get_or ts k d).key h ss (get_or ts k d)
-          (follows.each k d within);
-    }
-
--- a table after a read
-pub stands-read : (q : ReaderQos) (h : List Happening) (ss : List SamplePosition) (old new : Table)
-    → new.writers ≡ old.writers → new.strengths ≡ old.strengths → new.happened ≡ old.happened + 1
-    → map key_of new.tracks ≡ map key_of old.tracks
-    → (Each q (Read [] ∷ h) old.tracks → Each q (Read ss ∷ h) new.tracks) → All (IsReturnable q h) ss → Stands q old h
-    → Stands q new (Read ss ∷ h)
-stands-read q h ss old new writers strengths counted keys sees fits stands = record {
-  writers_are = writers ∙ stands.writers_are;
-  happened_is = omega (arith, counted, stands.happened_is);
-  strengths_are = λ w matched. ap (λ (k : KeptStrengths). kept_strength k w) strengths ∙ stands.strengths_are w matched;
-  follows = follows-read q h ss old.tracks new.tracks keys sees stands.follows;
-  lawful = lawful-read q h ss fits stands.lawful;
-}
-
-pub stands-took : (q : ReaderQos) (h : List Happening) (ss : List SamplePosition) (table : Table)
-    → Stands q table (Read ss ∷ h) → Stands q table (Took ss ∷ h)
-stands-took q h ss table stands = record {
-  writers_are = stands.writers_are;
-  happened_is = stands.happened_is;
-  strengths_are = stands.strengths_are;
-  follows = follows-took q h ss table.tracks stands.follows;
-  lawful = lawful-took q h ss stands.lawful;
-}

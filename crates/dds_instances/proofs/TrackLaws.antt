@@ -1,8 +1,9 @@
 -- A track that takes up one more entry has followed its instance through it.
-use Rattle.std.proofs.Common.{◌≡◌, ℕ, ◌+◌, ◌≤◌, List, [], ◌∷◌, ◌++◌, length, Bool, true, false, not, ◌&&◌, ◌||◌, sym, ap, ◌∙◌, refl, Option, Some, None, arith}
-use Rattle.std.specs.Prelude.{if◌then◌else◌}
+use Rattle.std.proofs.Common.{◌≡◌, ℕ, ◌+◌, ◌≤◌, List, ◌∷◌, length, Bool, true, false, not, ◌&&◌, ◌||◌, sym, ap, ◌∙◌, refl, Option, Some, None, arith, ⊎_elim}
+use Rattle.std.specs.Prelude.{is_some, if◌then◌else◌}
 use Rattle.std.specs.List.{list_any}
-use Rattle.std.proofs.lemmas.List.Folds.{list_any-append}
+use Rattle.std.proofs.lemmas.Bool.{cases_Bool}
+use Rattle.std.proofs.lemmas.List.Elements.{filter_agree}
 use Rattle.dds_base.specs.declared.key.Key.{Key}
 use Rattle.dds_base.specs.declared.change.ChangeKind.{ChangeKind}
 use Rattle.dds_base.specs.declared.happening.Arrival.{Arrival}
@@ -12,14 +13,19 @@ use Rattle.dds_base.specs.declared.happening.Happening.TheVariants.{Came, Read, 
 use Rattle.dds_base.specs.declared.sample.InstanceState.{InstanceState}
 use Rattle.dds_base.specs.declared.sample.InstanceState.TheVariants.{Alive, NotAliveDisposed, NotAliveNoWriters}
 use Rattle.dds_base.specs.declared.qos.ReaderQos.{ReaderQos}
+use Rattle.dds_base.specs.Access.{lives_begun}
 use Rattle.dds_base.specs.Happening.{same_key}
-use Rattle.dds_base.specs.Ownership.{is_registered, accepted_kind}
-use Rattle.dds_base.specs.Instance.{or_else, is_write, is_disposed, is_without_writers, last_accepted, state_after, instance_state_of, disposed_generations, no_writers_generations, latest_rebirth, accesses, is_since}
-use Rattle.dds_base.specs.Presence.{becomes_not_alive, accepted_writes}
+use Rattle.dds_base.specs.Ownership.{is_registered, accepted_kind, publication_handles}
+use Rattle.dds_base.specs.Instance.{is_disposed, is_without_writers, instance_state_of, is_known, introduces, is_rebirth, disposed_generations, no_writers_generations, latest_rebirth, accesses, is_since}
+use Rattle.dds_base.specs.Life.{or_else, is_write, last_accepted, last_marker, state_after, state_reached, becomes_not_alive, ends_life}
+use Rattle.dds_base.specs.Presence.{marks}
+use Rattle.dds_base.proofs.LifeLaws.{accepted-other, quiet-unmarked, registered-other}
 use Rattle.dds_instances.specs.declared.track.InstanceTrack.{InstanceTrack}
 use Rattle.dds_owner.specs.Standing.{StandsFor, has_writers}
 use Rattle.dds_owner.proofs.RegistrationLaws.{nobody-kept, other-stands}
-use Rattle.dds_instances.specs.Track.{Tracks, Advances, state_of_track, one_if, is_revival}
+use Rattle.dds_instances.specs.Known.{writes_in_life}
+use Rattle.dds_instances.specs.Track.{Tracks, Advances, held_as, is_beginning, one_if, seen_in, state_of_track}
+use Rattle.dds_instances.proofs.LivesLaws.{begins, disposed-on, handle-new, handle-on, last-on, marker-on, no_writers-on, on-known, rebirth-on, writes-on}
 
 -- the state of a track is that of its instance
 pub state-tracked : (q : ReaderQos) (i : Key) (h : List Happening) (t : InstanceTrack) → Tracks q i h t
@@ -39,13 +45,6 @@ counted-same m n k l test s t counts kinds states =
     ∙ (ap (λ (x : Option ChangeKind). counted n x test s) kinds
     ∙ ap (λ (x : Option InstanceState). counted n l test x) states)
 
-rebirth-same : (k l : Option ChangeKind) (s t : Option InstanceState) (n a b : ℕ) → k ≡ l → s ≡ t → a ≡ b
-    → (if is_revival k s then n else a) ≡ (if is_revival l t then n else b)
-rebirth-same k l s t n a b kinds states olds =
-    ap (λ (x : Option ChangeKind). if is_revival x s then n else a) kinds
-    ∙ (ap (λ (x : Option InstanceState). if is_revival l x then n else a) states
-    ∙ ap (λ (x : ℕ). if is_revival l t then n else x) olds)
-
 marker-same : (s t s' t' : Option InstanceState) (n : ℕ) (a b : Option ℕ) → s ≡ t → s' ≡ t' → a ≡ b
     → (if becomes_not_alive s s' then Some n else a) ≡ (if becomes_not_alive t t' then Some n else b)
 marker-same s t s' t' n a b befores afters olds =
@@ -59,42 +58,100 @@ seen-next : (b old : Bool) (since now : ℕ → Bool) (n latest : ℕ) → ((j :
 seen-next true old since now n latest quiet past is = sym (ap (λ (x : Bool). x || since n) (quiet n) ∙ past)
 seen-next false old since now n latest quiet past is = is ∙ sym (ap (λ (x : Bool). x || since latest) (quiet latest))
 
--- a track that takes up an entry that is no access has followed its instance through it
+-- the test of a beginning, of the track and of the definitions
+beginning-same : (k l m n : Option ChangeKind) (s t : Option InstanceState) → k ≡ l → m ≡ n → s ≡ t
+    → is_beginning k m s ≡ is_beginning l n t
+beginning-same k l m n s t kinds lasts states =
+    ap (λ (x : Option ChangeKind). is_beginning x m s) kinds
+    ∙ (ap (λ (x : Option ChangeKind). is_beginning l x s) lasts
+    ∙ ap (λ (x : Option InstanceState). is_beginning l n x) states)
+
+-- the position of the latest beginning, where the old one is right of a known instance
+rebirth-next : (known begins : Bool) (r : Bool) (n old was : ℕ) → (begins ≡ false → known ≡ true) → (known ≡ true → old ≡ was)
+    → (if begins || r then n else old) ≡ (if begins || r then n else was)
+rebirth-next known true r n old was there same = refl
+rebirth-next known false true n old was there same = refl
+rebirth-next known false false n old was there same = same (there refl)
+
+-- what begins no life then was known
+was-known : (known some begins : Bool) → begins ≡ (not known && some) → (known ≡ false → begins ≡ true) → begins ≡ false
+    → known ≡ true
+was-known true some begins is gives none = refl
+was-known false some begins is gives none = absurd (let clash : true ≡ false = sym (gives refl) ∙ none in cc)
+
+-- what is kept of the last accepted change, and the state, once the entry was taken up
+last-next : (q : ReaderQos) (i : Key) (h : List Happening) (e : Happening) (kind : Option ChangeKind)
+    (old new : InstanceTrack) → kind ≡ accepted_kind q i h e → Tracks q i h old
+    → new.last_accepted ≡ or_else kind old.last_accepted
+    → new.last_accepted ≡ or_else (accepted_kind q i h e) (last_accepted q i h)
+last-next q i h e kind old new kind_is tracks accepts =
+    accepts ∙ (ap (λ (k : Option ChangeKind). or_else k old.last_accepted) kind_is
+    ∙ ap (λ (k : Option ChangeKind). or_else (accepted_kind q i h e) k) tracks.last_is)
+
+pub state-next : (q : ReaderQos) (i : Key) (h : List Happening) (e : Happening) (kind : Option ChangeKind)
+    (old new : InstanceTrack) → kind ≡ accepted_kind q i h e → StandsFor new.owners q i (e ∷ h) → Tracks q i h old
+    → new.last_accepted ≡ or_else kind old.last_accepted
+    → state_of_track new ≡ state_reached q i h e (last_accepted q i h)
+state-next q i h e kind old new kind_is owners tracks accepts =
+    ap (λ (k : Option ChangeKind). state_after k (not (has_writers new.owners)))
+    (last-next q i h e kind old new kind_is tracks accepts)
+    ∙ ap (λ (b : Bool). state_after (or_else (accepted_kind q i h e) (last_accepted q i h)) b)
+    (sym (nobody-kept new.owners q i (e ∷ h) owners))
+
+-- the handle of a life that begins with an entry
+abbrev pub HandsOut : ReaderQos → Key → List Happening → Happening → ℕ → Type 0
+HandsOut q i h e handle = is_known q h i ≡ false → introduces q i h e ≡ true → handle ≡ lives_begun q (e ∷ h)
+
+-- a track that takes up an entry that is no access has followed its instance through it, if its life goes on
 pub tracks-next : (q : ReaderQos) (i : Key) (h : List Happening) (e : Happening) (kind : Option ChangeKind)
     (old new : InstanceTrack) → kind ≡ accepted_kind q i h e → StandsFor new.owners q i (e ∷ h)
-    → ((j : ℕ) → accesses i j e ≡ false) → list_any (accesses i (length h + 1)) h ≡ false → Tracks q i h old
-    → Advances kind (length h + 1) old new → Tracks q i (e ∷ h) new
-tracks-next q i h e kind old new kind_is owners quiet past tracks step =
+    → ((j : ℕ) → accesses i j e ≡ false) → list_any (accesses i (length h + 1)) h ≡ false → HandsOut q i h e old.handle
+    → Tracks q i h old → Advances kind (length h + 1) old new → is_known q (e ∷ h) i ≡ true → Tracks q i (e ∷ h) new
+tracks-next q i h e kind old new kind_is owners quiet past hands tracks step known =
+    let on : ends_life q i h e ≡ false = on-known q i h e known in
     let before : state_of_track old ≡ instance_state_of q i h = state-tracked q i h old tracks in
-    let last : new.last_accepted ≡ last_accepted q i (e ∷ h) =
-    step.accepts ∙ (ap (λ (k : Option ChangeKind). or_else k old.last_accepted) kind_is
-    ∙ ap (λ (k : Option ChangeKind). or_else (accepted_kind q i h e) k) tracks.last_is) in
-    let after : state_of_track new ≡ instance_state_of q i (e ∷ h) =
-    ap (λ (k : Option ChangeKind). state_after k (not (has_writers new.owners))) last
-    ∙ ap (λ (b : Bool). state_after (last_accepted q i (e ∷ h)) b) (sym (nobody-kept new.owners q i (e ∷ h) owners)) in
-    let revives : is_revival kind (state_of_track old) ≡ is_revival (accepted_kind q i h e) (instance_state_of q i h) =
-    ap (λ (k : Option ChangeKind). is_revival k (state_of_track old)) kind_is
-    ∙ ap (λ (s : Option InstanceState). is_revival (accepted_kind q i h e) s) before in
+    let last : new.last_accepted ≡ or_else (accepted_kind q i h e) (last_accepted q i h) =
+    last-next q i h e kind old new kind_is tracks step.accepts in
+    let after : state_of_track new ≡ state_reached q i h e (last_accepted q i h) =
+    state-next q i h e kind old new kind_is owners tracks step.accepts in
+    let starts : is_beginning kind old.last_accepted (state_of_track old) ≡ (introduces q i h e || is_rebirth q i h e) =
+    beginning-same _ _ _ _ _ _ kind_is tracks.last_is before in
     record {
       key_is = step.key ∙ tracks.key_is;
+      handle_is =
+          λ there. step.handle ∙ ⊎_elim
+          (λ was. tracks.handle_is was ∙ sym (handle-on q i h e known was))
+          (λ was. hands was (begins q i h e known was) ∙ sym (handle-new q i h e known (begins q i h e known was)))
+          (cases_Bool (is_known q h i));
       owners_are = owners;
-      last_is = last;
+      last_is = last ∙ sym (last-on q i h e on);
       disposed_is =
-          step.disposed ∙ counted-same old.disposed_generations
-          (disposed_generations q i h) _ _ is_disposed _ _ tracks.disposed_is kind_is before;
+          step.disposed ∙ (counted-same old.disposed_generations
+          (disposed_generations q i h) _ _ is_disposed _ _ tracks.disposed_is kind_is before
+          ∙ sym (disposed-on q i h e on));
       no_writers_is =
-          step.no_writers ∙ counted-same old.no_writers_generations
-          (no_writers_generations q i h) _ _ is_without_writers _ _ tracks.no_writers_is kind_is before;
-      rebirth_is = step.rebirth ∙ rebirth-same _ _ _ _ (length h + 1) _ _ kind_is before tracks.rebirth_is;
-      marker_is = step.marker ∙ marker-same _ _ _ _ (length h + 1) _ _ before after tracks.marker_is;
+          step.no_writers ∙ (counted-same old.no_writers_generations
+          (no_writers_generations q i h) _ _ is_without_writers _ _ tracks.no_writers_is kind_is before
+          ∙ sym (no_writers-on q i h e on));
+      rebirth_is =
+          λ there. step.rebirth ∙ (ap (λ (b : Bool). if b then length h + 1 else old.latest_rebirth) starts
+          ∙ (rebirth-next (is_known q h i) (introduces q i h e) (is_rebirth q i h e) (length h + 1) old.latest_rebirth
+          (latest_rebirth q i h)
+          (was-known (is_known q h i) (is_some (accepted_kind q i h e)) (introduces q i h e) refl (begins q i h e known))
+          tracks.rebirth_is ∙ sym (rebirth-on q i h e on)));
+      marker_is =
+          step.marker ∙ (marker-same _ _ _ _ (length h + 1) _ _ before after tracks.marker_is
+          ∙ sym (marker-on q i h e on));
       writes_are =
           step.writes ∙ (ap (λ (n : ℕ). n + one_if (is_write kind)) tracks.writes_are
-          ∙ ap (λ (k : Option ChangeKind). accepted_writes q i h + one_if (is_write k)) kind_is);
+          ∙ (ap (λ (k : Option ChangeKind). writes_in_life q i h + one_if (is_write k)) kind_is
+          ∙ sym (writes-on q i h e on)));
       seen_is =
-          step.seen ∙ (ap (λ (b : Bool). not b && old.is_seen) revives
-          ∙ seen-next (is_revival (accepted_kind q i h e) (instance_state_of q i h)) old.is_seen
+          step.seen ∙ (ap (λ (b : Bool). not b && old.is_seen) starts
+          ∙ (seen-next (introduces q i h e || is_rebirth q i h e) old.is_seen
           (λ j. list_any (accesses i j) h) (λ j. accesses i j e) (length h + 1)
-          (latest_rebirth q i h) quiet past tracks.seen_is);
+          (latest_rebirth q i h) quiet past tracks.seen_is
+          ∙ sym (ap (λ (n : ℕ). list_any (accesses i n) (e ∷ h)) (rebirth-on q i h e on))));
     }
 
 pub one_if-bound : (b : Bool) → one_if b ≤ 1
@@ -109,114 +166,67 @@ one-rebirth true (Some Alive) = omega arith
 one-rebirth true (Some NotAliveDisposed) = omega arith
 one-rebirth true (Some NotAliveNoWriters) = omega arith
 
-no-marker : (s : Option InstanceState) (n : ℕ) (a : Option ℕ) → a ≡ (if becomes_not_alive s s then Some n else a)
-no-marker None n a = refl
-no-marker (Some Alive) n a = refl
-no-marker (Some NotAliveDisposed) n a = refl
-no-marker (Some NotAliveNoWriters) n a = refl
-
-nothing-counted : (n : ℕ) (test : Option InstanceState → Bool) (s : Option InstanceState) → n ≡ counted n None test s
-nothing-counted n test s = omega arith
-
--- a track of an entry that says nothing of its instance
-pub tracks-other : (q : ReaderQos) (i : Key) (h : List Happening) (e : Happening) (t : InstanceTrack)
+-- a track of an entry by which nothing is accepted for its known instance, and nobody is registered or let go: it may
+-- have been seen
+pub tracks-other : (q : ReaderQos) (i : Key) (h : List Happening) (e : Happening) (t : InstanceTrack) (x : Bool)
     → accepted_kind q i h e ≡ None → ((w : ℕ) → is_registered i w (e ∷ h) ≡ is_registered i w h)
-    → ((j : ℕ) → accesses i j e ≡ false) → Tracks q i h t → Tracks q i (e ∷ h) t
-tracks-other q i h e t accepts_none same quiet tracks =
-    let none : None ≡ accepted_kind q i h e = sym accepts_none in
-    let owners : StandsFor t.owners q i (e ∷ h) = other-stands t.owners q i h (e ∷ h) same tracks.owners_are in
-    let last : t.last_accepted ≡ last_accepted q i (e ∷ h) =
-    tracks.last_is ∙ ap (λ (k : Option ChangeKind). or_else k (last_accepted q i h)) none in
-    let before : state_of_track t ≡ instance_state_of q i h = state-tracked q i h t tracks in
-    let after : state_of_track t ≡ instance_state_of q i (e ∷ h) =
-    ap (λ (k : Option ChangeKind). state_after k (not (has_writers t.owners))) last
-    ∙ ap (λ (b : Bool). state_after (last_accepted q i (e ∷ h)) b) (sym (nobody-kept t.owners q i (e ∷ h) owners)) in
-    let alive : is_revival (accepted_kind q i h e) (instance_state_of q i h) ≡ false =
-    ap (λ (k : Option ChangeKind). is_revival k (instance_state_of q i h)) accepts_none in
+    → x ≡ (accesses i (latest_rebirth q i h) e || t.is_seen) → is_known q h i ≡ true → is_known q (e ∷ h) i ≡ true
+    → Tracks q i h t → Tracks q i (e ∷ h) (record t { is_seen = x })
+tracks-other q i h e t x none same x_is before known tracks =
+    let on : ends_life q i h e ≡ false = on-known q i h e known in
+    let unmarked : marks q i h e ≡ false =
+    quiet-unmarked q i h e none (filter_agree (λ w. is_registered i w (e ∷ h)) (λ w. is_registered i w h) same
+    (publication_handles q)) in
+    let latest : latest_rebirth q i (e ∷ h) ≡ latest_rebirth q i h =
+    rebirth-on q i h e on
+    ∙ (ap (λ (k : Option ChangeKind). if is_beginning k (last_accepted q i h) (instance_state_of q i h) then length h + 1
+    else latest_rebirth q i h) none
+    ∙ ap (λ (b : Bool). if (not b && false) || false then length h + 1 else latest_rebirth q i h) before) in
     record {
       key_is = tracks.key_is;
-      owners_are = owners;
-      last_is = last;
+      handle_is = λ there. tracks.handle_is before ∙ sym (handle-on q i h e known before);
+      owners_are = other-stands t.owners q i h (e ∷ h) same tracks.owners_are;
+      last_is =
+          tracks.last_is ∙ sym (last-on q i h e on
+          ∙ ap (λ (k : Option ChangeKind). or_else k (last_accepted q i h)) none);
       disposed_is =
-          nothing-counted t.disposed_generations is_disposed (state_of_track t)
-          ∙ counted-same t.disposed_generations
-          (disposed_generations q i h) _ _ is_disposed _ _ tracks.disposed_is none before;
+          tracks.disposed_is ∙ sym (disposed-on q i h e on
+          ∙ (ap (λ (k : Option ChangeKind). disposed_generations q i h
+          + one_if (is_write k && is_disposed (instance_state_of q i h))) none ∙ plus-nothing _));
       no_writers_is =
-          nothing-counted t.no_writers_generations is_without_writers (state_of_track t)
-          ∙ counted-same t.no_writers_generations
-          (no_writers_generations q i h) _ _ is_without_writers _ _ tracks.no_writers_is none before;
-      rebirth_is =
-          rebirth-same None _ (state_of_track t) _ (length h + 1) t.latest_rebirth _ none before tracks.rebirth_is;
+          tracks.no_writers_is ∙ sym (no_writers-on q i h e on
+          ∙ (ap (λ (k : Option ChangeKind). no_writers_generations q i h
+          + one_if (is_write k && is_without_writers (instance_state_of q i h))) none ∙ plus-nothing _));
+      rebirth_is = λ there. tracks.rebirth_is before ∙ sym latest;
       marker_is =
-          no-marker (state_of_track t) (length h + 1) t.last_marker
-          ∙ marker-same _ _ _ _ (length h + 1) _ _ before after tracks.marker_is;
+          tracks.marker_is ∙ sym (marker-on q i h e on
+          ∙ ap (λ (b : Bool). if b then Some (length h + 1) else last_marker q i h) unmarked);
       writes_are =
-          (let zero-more : t.accepted_writes ≡ t.accepted_writes + one_if (is_write None) = omega arith in zero-more)
-          ∙ (ap (λ (n : ℕ). n + one_if (is_write None)) tracks.writes_are
-          ∙ ap (λ (k : Option ChangeKind). accepted_writes q i h + one_if (is_write k)) none);
+          tracks.writes_are ∙ sym (writes-on q i h e on
+          ∙ (ap (λ (k : Option ChangeKind). writes_in_life q i h + one_if (is_write k)) none ∙ plus-nothing _));
       seen_is =
-          tracks.seen_is
-          ∙ (sym (ap (λ (x : Bool). x || list_any (accesses i (latest_rebirth q i h)) h) (quiet (latest_rebirth q i h)))
-          ∙ ap (λ (b : Bool). accesses i (if b then length h + 1 else latest_rebirth q i h) e || list_any
-          (accesses i (if b then length h + 1 else latest_rebirth q i h)) h) (sym alive));
+          x_is ∙ (ap (λ (b : Bool). accesses i (latest_rebirth q i h) e || b) tracks.seen_is
+          ∙ sym (ap (λ (n : ℕ). list_any (accesses i n) (e ∷ h)) latest));
     }
-
--- a change of another instance is not accepted for this one
-pub accepted-other : (q : ReaderQos) (i : Key) (h : List Happening) (a : Arrival) → same_key a.change.key i ≡ false
-    → accepted_kind q i h (Came a) ≡ None
-accepted-other q i h a other = rw other refl
-
-pub registered-other : (i : Key) (w : ℕ) (h : List Happening) (a : Arrival) → same_key a.change.key i ≡ false
-    → is_registered i w (Came a ∷ h) ≡ is_registered i w h
-registered-other i w h a other = rw other refl
+  where
+    plus-nothing : (n : ℕ) → n + 0 ≡ n
+    plus-nothing n = omega arith
 
 -- a track of another instance than that of a change
 pub tracks-stranger : (q : ReaderQos) (i : Key) (h : List Happening) (a : Arrival) (t : InstanceTrack)
-    → same_key a.change.key i ≡ false → Tracks q i h t → Tracks q i (Came a ∷ h) t
-tracks-stranger q i h a t other tracks =
-    tracks-other q i h (Came a) t (accepted-other q i h a other) (λ w. registered-other i w h a other)
-    (λ j. refl) tracks
+    → same_key a.change.key i ≡ false → is_known q h i ≡ true → Tracks q i h t → is_known q (Came a ∷ h) i ≡ true
+    → Tracks q i (Came a ∷ h) t
+tracks-stranger q i h a t other before tracks known =
+    tracks-other q i h (Came a) t t.is_seen (accepted-other q i h a other) (λ w. registered-other i w h a other)
+    refl before known tracks
 
--- ---- reads and takes, one returned sample after another
+-- ---- what is noted of a track besides
 
-seen-more : (a x b : Bool) → (((a || false) || b) || x) ≡ (((a || (x || false)) || false) || b)
-seen-more true x b = refl
-seen-more false true true = refl
-seen-more false true false = refl
-seen-more false false true = refl
-seen-more false false false = refl
-
--- a track that was told of one more sample that a read returned
-pub tracks-read : (q : ReaderQos) (i : Key) (h : List Happening) (ss : List SamplePosition) (s : SamplePosition)
-    (t : InstanceTrack) (x : Bool) → x ≡ (t.is_seen || is_since i t.latest_rebirth s) → Tracks q i (Read ss ∷ h) t
-    → Tracks q i (Read (ss ++ s ∷ []) ∷ h) (record t { is_seen = x })
-tracks-read q i h ss s t x x_is tracks =
-    let latest : ℕ = latest_rebirth q i (Read ss ∷ h) in
-    record {
-      key_is = tracks.key_is;
-      owners_are = tracks.owners_are;
-      last_is = tracks.last_is;
-      disposed_is = tracks.disposed_is;
-      no_writers_is = tracks.no_writers_is;
-      rebirth_is = tracks.rebirth_is;
-      marker_is = tracks.marker_is;
-      writes_are = tracks.writes_are;
-      seen_is = x_is ∙ (ap (λ (b : Bool). b || is_since i t.latest_rebirth s) tracks.seen_is
-          ∙ (ap (λ (n : ℕ). list_any (accesses i latest) (Read ss ∷ h) || is_since i n s) tracks.rebirth_is
-          ∙ (seen-more (list_any (is_since i latest) ss) (is_since i latest s) (list_any (accesses i latest) h)
-          ∙ ap (λ (b : Bool). (b || false) || list_any (accesses i latest) h)
-          (sym (list_any-append (is_since i latest) ss (s ∷ []))))));
-    }
-
-or-none : (b : Bool) → (b || false) ≡ b
-or-none true = refl
-or-none false = refl
-
--- of a take as much is known as of a read of the same samples
-pub tracks-took : (q : ReaderQos) (i : Key) (h : List Happening) (ss : List SamplePosition) (t : InstanceTrack)
-    → Tracks q i (Read ss ∷ h) t → Tracks q i (Took ss ∷ h) t
-tracks-took q i h ss t tracks = record {
+pub tracks-held : (q : ReaderQos) (i : Key) (h : List Happening) (t : InstanceTrack) (held : Bool) → Tracks q i h t
+    → Tracks q i h (held_as held t)
+tracks-held q i h t held tracks = record {
   key_is = tracks.key_is;
+  handle_is = tracks.handle_is;
   owners_are = tracks.owners_are;
   last_is = tracks.last_is;
   disposed_is = tracks.disposed_is;
@@ -224,7 +234,39 @@ tracks-took q i h ss t tracks = record {
   rebirth_is = tracks.rebirth_is;
   marker_is = tracks.marker_is;
   writes_are = tracks.writes_are;
-  seen_is =
-      tracks.seen_is ∙ ap (λ (b : Bool). b || list_any (accesses i (latest_rebirth q i h)) h)
-      (or-none (list_any (is_since i (latest_rebirth q i h)) ss));
+  seen_is = tracks.seen_is;
 }
+
+-- ---- samples that a read or a take returned
+
+or-comm : (a b : Bool) → (a || b) ≡ (b || a)
+or-comm true true = refl
+or-comm true false = refl
+or-comm false true = refl
+or-comm false false = refl
+
+or-none : (b : Bool) → (b || false) ≡ b
+or-none true = refl
+or-none false = refl
+
+-- which of them are of the instance of a track, and since its latest beginning
+seen-by : (q : ReaderQos) (i : Key) (h : List Happening) (ss : List SamplePosition) (t : InstanceTrack) → Tracks q i h t
+    → is_known q h i ≡ true
+    → (t.is_seen || list_any (is_since t.key t.latest_rebirth) ss) ≡ (list_any (is_since i (latest_rebirth q i h)) ss || t.is_seen)
+seen-by q i h ss t tracks known =
+    ap (λ (k : Key). t.is_seen || list_any (is_since k t.latest_rebirth) ss) tracks.key_is
+    ∙ (ap (λ (n : ℕ). t.is_seen || list_any (is_since i n) ss) (tracks.rebirth_is known)
+    ∙ or-comm t.is_seen (list_any (is_since i (latest_rebirth q i h)) ss))
+
+pub tracks-read : (q : ReaderQos) (i : Key) (h : List Happening) (ss : List SamplePosition) (t : InstanceTrack)
+    → is_known q h i ≡ true → is_known q (Read ss ∷ h) i ≡ true → Tracks q i h t → Tracks q i (Read ss ∷ h) (seen_in ss t)
+tracks-read q i h ss t before known tracks =
+    tracks-other q i h (Read ss) t _ refl (λ w. refl)
+    (seen-by q i h ss t tracks before
+    ∙ ap (λ (b : Bool). b || t.is_seen) (sym (or-none (list_any (is_since i (latest_rebirth q i h)) ss))))
+    before known tracks
+
+pub tracks-took : (q : ReaderQos) (i : Key) (h : List Happening) (ss : List SamplePosition) (t : InstanceTrack)
+    → is_known q h i ≡ true → is_known q (Took ss ∷ h) i ≡ true → Tracks q i h t → Tracks q i (Took ss ∷ h) (seen_in ss t)
+tracks-took q i h ss t before known tracks =
+    tracks-other q i h (Took ss) t _ refl (λ w. refl) (seen-by q i h ss t tracks before) before known tracks

@@ -17,6 +17,7 @@ table_of a = record {
   strengths = a.strengths;
   tracks = a.tracks.items;
   alive = count_by is_alive_track a.tracks.items;
+  begun = a.begun;
   happened = a.happened;
   room = a.room;
 }
@@ -30,4 +31,5 @@ pub record IsSound (a : Inside) : Type 0 where
   pub tracks_fit : vec_len a.tracks + a.room ≤ vec_capacity a.tracks
   pub blanks_fit : a.room ≤ vec_len a.blanks
   pub strengths_fit : 1 ≤ a.room → a.writers ≤ strengths_room a.strengths
+  pub begun_fits : a.begun ≤ a.happened
   pub counted : a.happened + a.room < 2 ^ 64

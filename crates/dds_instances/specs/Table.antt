@@ -2,25 +2,34 @@
 -- name the counts of it, and look no further into it.
 --
 -- DDS 1.4, 2.2.2.5 (SampleInfo: instance_handle, instance_state, view_state, the two generation counts).
-use Rattle.std.specs.Prelude.{◌≡◌, ℕ, zero, suc, slice_get, ◌+◌, ◌≤◌, List, length, count_by, Bool, Option, None}
+use Rattle.std.specs.Prelude.{◌≡◌, ℕ, slice_get, ◌+◌, ◌≤◌, List, ◌∷◌, length, count_by, Bool, true, ◌&&◌}
+use Rattle.std.specs.List.{list_any}
 use Rattle.std.specs.Prelude.{Result, IsOk, OnErr, IfErr}
 use Rattle.std.specs.Option.{option_and_then}
 use Rattle.dds_base.specs.declared.code.Code.{Code}
 use Rattle.dds_base.specs.declared.code.Code.TheVariants.{Memory}
+use Rattle.dds_base.specs.declared.key.Key.{Key}
+use Rattle.dds_base.specs.declared.happening.SamplePosition.{SamplePosition}
 use Rattle.dds_base.specs.declared.happening.Happening.{Happening}
+use Rattle.dds_base.specs.declared.happening.Happening.TheVariants.{Took}
 use Rattle.dds_base.specs.declared.qos.ReaderQos.{ReaderQos}
-use Rattle.dds_base.specs.Presence.{is_at}
+use Rattle.dds_base.specs.Access.{lives_begun}
+use Rattle.dds_base.specs.Happening.{same_key}
+use Rattle.dds_base.specs.Instance.{is_known}
+use Rattle.dds_base.specs.Life.{has_there, is_at, is_nobody, last_marker}
+use Rattle.dds_base.specs.Ownership.{registered_writers}
 use Rattle.dds_owner.specs.Standing.{KeptStrengths, TellsStrengths}
 use Rattle.dds_instances.specs.declared.track.InstanceTrack.{InstanceTrack}
 use Rattle.dds_instances.specs.Following.{Follows, IsLawful}
 
 -- what is kept of the instances of a reader: of how many writers, how strong these are, the instances by handle, how
--- many of these are alive, how much happened, and for how many more entries there is memory
+-- many of these are alive, how many lives have begun, how much happened, and for how many more entries there is memory
 pub record Table : Type 0 where
   pub writers : ℕ
   pub strengths : KeptStrengths
   pub tracks : List InstanceTrack
   pub alive : ℕ
+  pub begun : ℕ
   pub happened : ℕ
   pub room : ℕ
 
@@ -56,15 +65,30 @@ pub record Stands (q : ReaderQos) (table : Table) (h : List Happening) : Type 0 
   pub writers_are : table.writers ≡ length q.writers
   pub happened_is : table.happened ≡ length h
   pub strengths_are : TellsStrengths table.strengths q h
+  pub begun_is : table.begun ≡ lives_begun q h
   pub follows : Follows q h table.tracks
   pub lawful : IsLawful q h
 
--- the track of the instance of a handle
-abbrev pub track_with : List InstanceTrack → ℕ → Option InstanceTrack
-track_with ts zero = None
-track_with ts (suc at) = slice_get ts at
-
--- the newest entry left a marker of the instance of a handle
+-- the newest entry left a marker of the instance at a place among the known ones, counted from 0
 abbrev pub has_marked : Table → ℕ → Bool
-has_marked table handle =
-    is_at (option_and_then (λ (t : InstanceTrack). t.last_marker) (track_with table.tracks handle)) table.happened
+has_marked table place =
+    is_at (option_and_then (λ (t : InstanceTrack). t.last_marker) (slice_get table.tracks place)) table.happened
+
+-- the instance is noted as one of which something is held
+abbrev pub is_held : Table → Key → Bool
+is_held table i = list_any (λ (t : InstanceTrack). same_key t.key i && t.is_held) table.tracks
+
+-- it is noted right of each known instance whether something of it is present
+abbrev pub HoldsPresent : ReaderQos → List Happening → Table → Type 0
+HoldsPresent q h table =
+    (i : Key) → is_known q h i ≡ true → is_held table i ≡ has_there q h i (last_marker q i h)
+
+-- it is noted right of each known instance whether something of it is present once a take has returned these samples
+abbrev pub HoldsLeft : ReaderQos → List Happening → List SamplePosition → Table → Type 0
+HoldsLeft q h samples table =
+    (i : Key) → is_known q h i ≡ true → is_held table i ≡ has_there q (Took samples ∷ h) i (last_marker q i h)
+
+-- nobody is registered for the instance of some of these samples
+abbrev pub is_any_left : ReaderQos → List Happening → List SamplePosition → Bool
+is_any_left q h samples =
+    list_any (λ (s : SamplePosition). is_nobody (registered_writers q s.key h)) samples

@@ -2,8 +2,10 @@
 //!
 //! DDS 1.4, 2.2.2.5 (SampleInfo: instance_handle, instance_state, view_state, the two generation counts).
 
-ghost use Rattle.std.specs.Prelude.{◌≡◌, ◌+◌, ◌≤◌, ◌<◌, ◌^◌, ◌∷◌, [], List, ℕ, length, All, IsOk, OnOk, OnErr, IfErr, IfOk, IfSome, None, MatchOption};
+ghost use Rattle.std.specs.Prelude.{◌≡◌, ◌||◌, ◌+◌, ◌≤◌, ◌<◌, ◌^◌, ◌∷◌, [], List, ℕ, length, slice_get, true, false, All, IsOk, OnOk, OnErr, IfErr, IfOk, IfSome, None, MatchOption};
 ghost use Rattle.std.specs.Option.{option_map};
+ghost use Rattle.dds_base.specs.declared.key.Key.{Key};
+ghost use Rattle.dds_base.specs.Happening.{same_key};
 ghost use Rattle.dds_base.specs.declared.happening.Happening.{Happening};
 ghost use Rattle.dds_base.specs.declared.happening.Happening.TheVariants.{Came, Passed, Heard, Died, Read, Took, Looked};
 ghost use Rattle.dds_base.specs.declared.happening.SamplePosition.{SamplePosition};
@@ -11,10 +13,12 @@ ghost use Rattle.dds_base.specs.declared.happening.StatusKind.{StatusKind};
 ghost use Rattle.dds_base.specs.declared.qos.ReaderQos.{ReaderQos};
 ghost use Rattle.dds_base.specs.declared.code.Code.TheVariants.{Memory};
 
-use crate::keeping::{add_blanks, bury_all, look_up, note_strength, see_all, take_up, track_of};
+use crate::keeping::{
+    add_blanks, bury_all, forget, forget_left, hold, hold_none, is_any_left, look_up,
+    note_strength, see_all, take_up, track_of,
+};
 use crate::known::{KnownInstance, told, view_of};
-use crate::place::find;
-use crate::track::{InstanceTrack, begins_dead};
+use crate::track::{InstanceTrack, begins_dead, begins_left, count_if};
 use dds_base::{Arrival, Code, Handle, InstanceState, Key, ReaderQos, SamplePosition, ViewState};
 use dds_owner::{Owners, Strengths};
 use indexmap::IndexSet;
@@ -23,7 +27,8 @@ use std::marker::Model;
 
 /// The known instances of a reader, by handle, and what follows of each from what happened at the reader.
 ///
-/// A change takes about the same time however many instances there are. A writer's death takes up all of them.
+/// A change takes about the same time however many instances there are. A writer's death takes up all of them, and where
+/// the life of some ends, so does what ends it. Of a life that has ended nothing is kept.
 #[derive(Drop)]
 pub struct Instances {
     alloc: Global,
@@ -31,11 +36,15 @@ pub struct Instances {
     writers: usize,
     /// How strong they are.
     strengths: Strengths,
+    /// How many lives have begun.
+    begun: u64,
     /// How many entries were taken up.
     happened: u64,
     /// For how many more there is memory.
     room: usize,
+    /// The keys of the known instances.
     index: IndexSet<Key>,
+    /// These, in the order of their handles.
     tracks: Vec<InstanceTrack>,
     /// Owners of the instances to come.
     blanks: Vec<Owners>,
@@ -71,12 +80,13 @@ fn room_after(happened: u64, room: usize) -> Result<usize, Code>
 }
 
 impl Instances {
-    ghost use Rattle.dds_base.specs.Ownership.{IsMatched, is_registered};
-    ghost use Rattle.dds_base.specs.Presence.{is_accepted, is_at, marks};
+    ghost use Rattle.dds_base.specs.Life.{ends_life, is_at, is_nobody};
+    ghost use Rattle.dds_base.specs.Ownership.{IsMatched, is_registered, registered_writers};
+    ghost use Rattle.dds_base.specs.Presence.{is_accepted, marks};
     ghost use Rattle.dds_instances.specs.Known.{IsKnown, IsReturnable};
     ghost use Rattle.dds_base.specs.Access.{handle_of, instance_of};
-    ghost use Rattle.dds_base.specs.Instance.{instance_state_of, view_state_of, disposed_generations, no_writers_generations, known_instances};
-    ghost use Rattle.dds_instances.specs.Table.{Stands, TakesEntry, alive_of, happened_of, has_marked, marked_of, room_of};
+    ghost use Rattle.dds_base.specs.Instance.{instance_state_of, view_state_of, disposed_generations, no_writers_generations, is_known, known_instances};
+    ghost use Rattle.dds_instances.specs.Table.{HoldsLeft, HoldsPresent, Stands, TakesEntry, alive_of, happened_of, has_marked, is_any_left, is_held, marked_of, room_of};
 
     /// Of a reader at which nothing has happened.
     pub fn open(alloc: Global, qos: &ReaderQos) -> Self
@@ -89,6 +99,7 @@ impl Instances {
             alloc,
             writers: qos.writers.as_slice().len(),
             strengths: Strengths::new(alloc),
+            begun: 0,
             happened: 0,
             room: 0,
             index: IndexSet::new(alloc),
@@ -135,15 +146,16 @@ impl Instances {
     }
 
     /// Takes up a change, in the room that there is.
-    fn change(&mut self, qos: &ReaderQos, arrival: &Arrival)
+    fn change(&mut self, qos: &ReaderQos, arrival: &Arrival, is_end: bool)
         requires room { 1 ≤ room_of self.old }
         ensures stands { (h : List Happening) → Stands qos.now self.old h
+            → is_end ≡ ends_life qos.now arrival.now.change.key h (Came arrival.now)
             → Stands qos.now self.new (Came arrival.now ∷ h) }
         ensures room { room_of self.new + 1 ≡ room_of self.old }
         ensures alive { alive_of self.new ≤ alive_of self.old + 1 }
     {
         let position = self.happened + 1;
-        take_up(
+        let is_beginning = take_up(
             &mut self.index,
             &mut self.tracks,
             &mut self.blanks,
@@ -151,23 +163,30 @@ impl Instances {
             &self.strengths,
             arrival,
             position,
+            self.begun + 1,
         );
+        self.begun += count_if(is_beginning);
+        if is_end {
+            forget(&mut self.index, &mut self.tracks, arrival.change.key);
+        }
         note_strength(&mut self.strengths, arrival);
         self.room -= 1;
         self.happened = position;
     }
 
-    /// Takes up a change that came at a reader of these policies.
+    /// Takes up a change that came at a reader of these policies. Whether it ends the life of its instance, the caller
+    /// has to say, who knows which samples are present.
     ///
     /// # Errors
     ///
     /// `Memory` as `reserve` answers it, and never where room was reserved; nothing has changed then.
     ///
     /// DDS 1.4, 2.2.2.5 (instance_state, generation counts), 2.2.3 (OWNERSHIP, OWNERSHIP_STRENGTH).
-    pub fn come(&mut self, qos: &ReaderQos, arrival: &Arrival) -> Result<(), Code>
-        // The change came.
+    pub fn come(&mut self, qos: &ReaderQos, arrival: &Arrival, is_end: bool) -> Result<(), Code>
+        // The change came, where it was said right whether it ends a life.
         ensures ok { OnOk result
             ((h : List Happening) → Stands qos.now self.old h
+            → is_end ≡ ends_life qos.now arrival.now.change.key h (Came arrival.now)
             → Stands qos.now self.new (Came arrival.now ∷ h)) }
         // One more is alive at most.
         ensures alive { alive_of self.new ≤ alive_of self.old + 1 }
@@ -176,11 +195,45 @@ impl Instances {
         ensures entry { TakesEntry self.old self.new result }
     {
         self.reserve(1)?;
-        self.change(qos, arrival);
+        self.change(qos, arrival, is_end);
         Ok(())
     }
 
-    /// Takes up the death of a writer, at whichever moment.
+    /// Notes that nothing is held of any instance.
+    pub fn hold_none(&mut self)
+        // It stands for what it stood for.
+        ensures same { (q : ReaderQos) (h : List Happening) → Stands q self.old h → Stands q self.new h }
+        // Of no instance something is held.
+        ensures held { (i : Key) → is_held self.new i ≡ false }
+        // There is as much room as before.
+        ensures room { room_of self.new ≡ room_of self.old }
+        // As many are alive as before.
+        ensures alive { alive_of self.new ≡ alive_of self.old }
+        // As much happened.
+        ensures happened { happened_of self.new ≡ happened_of self.old }
+    {
+        hold_none(&mut self.tracks);
+    }
+
+    /// Notes that something is held of an instance, if that is known.
+    pub fn hold(&mut self, key: Key)
+        // It stands for what it stood for.
+        ensures same { (q : ReaderQos) (h : List Happening) → Stands q self.old h → Stands q self.new h }
+        // It is noted of this instance, and of those of which it was.
+        ensures held { (q : ReaderQos) (h : List Happening) (i : Key) → Stands q self.old h → is_known q h i ≡ true
+            → is_held self.new i ≡ (same_key key i || is_held self.old i) }
+        // There is as much room as before.
+        ensures room { room_of self.new ≡ room_of self.old }
+        // As many are alive as before.
+        ensures alive { alive_of self.new ≡ alive_of self.old }
+        // As much happened.
+        ensures happened { happened_of self.new ≡ happened_of self.old }
+    {
+        hold(&self.index, &mut self.tracks, key);
+    }
+
+    /// Takes up the death of a writer, at whichever moment. It ends the life of each instance for which nobody is
+    /// registered then, unless it leaves a marker of it, or something of it is held.
     ///
     /// # Errors
     ///
@@ -188,9 +241,10 @@ impl Instances {
     ///
     /// DDS 1.4, 2.2.3 (LIVELINESS).
     pub fn died(&mut self, writer: Handle) -> Result<(), Code>
-        // The writer died.
+        // The writer died, where it was noted right of which instances something is present.
         ensures ok { OnOk result
             ((q : ReaderQos) (h : List Happening) (moment : ℕ) → Stands q self.old h
+            → HoldsPresent q h self.old
             → Stands q self.new (Died writer moment ∷ h)) }
         // It is one entry more.
         ensures happened { OnOk result (happened_of self.new ≡ happened_of self.old + 1) }
@@ -205,6 +259,7 @@ impl Instances {
         let room = room_after(self.happened, self.room)?;
         let position = self.happened + 1;
         bury_all(&mut self.tracks, writer, position);
+        forget_left(&mut self.index, &mut self.tracks);
         self.room = room;
         self.happened = position;
         Ok(())
@@ -240,24 +295,19 @@ impl Instances {
         Ok(())
     }
 
-    /// Takes up that a read or a take returned these samples, each of a known instance and of what has happened.
+    /// Takes up that a read returned these samples, each of a known instance and of what has happened.
     ///
     /// # Errors
     ///
     /// `Memory` after 2^64 - 1 entries, and never where room was reserved; nothing has changed then.
     ///
     /// DDS 1.4, 2.2.2.5 (view_state).
-    pub fn returned(&mut self, samples: &[SamplePosition]) -> Result<(), Code>
+    pub fn read(&mut self, samples: &[SamplePosition]) -> Result<(), Code>
         // A read returned them.
         ensures read { OnOk result
             ((q : ReaderQos) (h : List Happening) → Stands q self.old h
             → All (IsReturnable q h) samples.now
             → Stands q self.new (Read samples.now ∷ h)) }
-        // A take returned them.
-        ensures took { OnOk result
-            ((q : ReaderQos) (h : List Happening) → Stands q self.old h
-            → All (IsReturnable q h) samples.now
-            → Stands q self.new (Took samples.now ∷ h)) }
         // As many are alive as before.
         ensures alive { alive_of self.new ≡ alive_of self.old }
         // It is taken up before 2^64 - 1 entries were.
@@ -269,6 +319,49 @@ impl Instances {
         self.room = room_after(self.happened, self.room)?;
         self.happened += 1;
         see_all(&self.index, &mut self.tracks, samples);
+        Ok(())
+    }
+
+    /// Whether nobody is registered for the instance of some of these samples: then a take of them may end its life.
+    pub fn is_any_left(&self, samples: &[SamplePosition]) -> bool
+        // It is so by the definitions.
+        ensures left { (q : ReaderQos) (h : List Happening) → Stands q self.now h
+            → result ≡ is_any_left q h samples.now }
+    {
+        is_any_left(&self.index, &self.tracks, samples)
+    }
+
+    /// Takes up that a take returned these samples, each of a known instance and of what has happened. It ends the life
+    /// of each instance for which nobody is registered and of which nothing is held.
+    ///
+    /// # Errors
+    ///
+    /// `Memory` after 2^64 - 1 entries, and never where room was reserved; nothing has changed then.
+    ///
+    /// DDS 1.4, 2.2.2.5 (take, view_state).
+    pub fn took(&mut self, samples: &[SamplePosition]) -> Result<(), Code>
+        // A take returned them, where it was noted right of which instances something is left: it need not be where
+        // somebody is registered for the instance of each.
+        ensures took { OnOk result
+            ((q : ReaderQos) (h : List Happening) → Stands q self.old h
+            → All (IsReturnable q h) samples.now
+            → (is_any_left q h samples.now ≡ true → HoldsLeft q h samples.now self.old)
+            → Stands q self.new (Took samples.now ∷ h)) }
+        // No more are alive than before.
+        ensures alive { alive_of self.new ≤ alive_of self.old }
+        // It is taken up before 2^64 - 1 entries were.
+        ensures counted { happened_of self.old + 1 < 2 ^ 64 → IsOk result }
+        // It is an entry as each is: where there is room it is taken up, it takes the room of one at most, and it is
+        // refused for want of memory alone, and then changes nothing.
+        ensures entry { TakesEntry self.old self.new result }
+    {
+        self.room = room_after(self.happened, self.room)?;
+        self.happened += 1;
+        let is_any_left = is_any_left(&self.index, &self.tracks, samples);
+        see_all(&self.index, &mut self.tracks, samples);
+        if is_any_left {
+            forget_left(&mut self.index, &mut self.tracks);
+        }
         Ok(())
     }
 
@@ -347,8 +440,8 @@ impl Instances {
         ensures handle { (q : ReaderQos) (h : List Happening) → Stands q self.now h
             → result ≡ handle_of q h key }
     {
-        match find(&self.index, key) {
-            Some(at) => Handle::new(at as u64 + 1),
+        match look_up(&self.index, &self.tracks, key) {
+            Some(track) => Handle::new(track.handle),
             None => Handle::NIL,
         }
     }
@@ -367,22 +460,23 @@ impl Instances {
         }
     }
 
-    /// What is known of the instance of a handle, none for a handle that names none.
-    pub fn at(&self, handle: Handle) -> Option<KnownInstance>
-        // It is of the instance of the handle.
+    /// What is known of the instance at a place among the known ones, which stand by handle, counted from 0; none behind
+    /// the last.
+    pub fn at(&self, place: usize) -> Option<KnownInstance>
+        // It is of the instance at the place.
         ensures key { (q : ReaderQos) (h : List Happening) → Stands q self.now h
-            → option_map (λ known. known.key) result ≡ instance_of q h handle }
+            → option_map (λ known. known.key) result ≡ slice_get (known_instances q h) place }
         // What is told is what the definitions say.
         ensures known { (q : ReaderQos) (h : List Happening) → Stands q self.now h
             → IfSome result (IsKnown q h) }
         // Its last marker is of the newest entry, if that left one.
         ensures marker { IfSome result
-            (λ known. is_at known.last_marker (happened_of self.now) ≡ has_marked self.now handle) }
+            (λ known. is_at known.last_marker (happened_of self.now) ≡ has_marked self.now place) }
         // The two generation counts can be added.
         ensures small { IfSome result
             (λ known. known.disposed_generations + known.no_writers_generations < 2 ^ 64) }
     {
-        match track_of(&self.tracks, handle) {
+        match self.tracks.get(place) {
             Some(track) => Some(told(track)),
             None => None,
         }
@@ -418,6 +512,21 @@ impl Instances {
         match look_up(&self.index, &self.tracks, key) {
             Some(track) => track.owners.is_registered(writer),
             None => false,
+        }
+    }
+
+    /// Whether nobody would be registered for its instance, if a change came at a reader of these policies.
+    ///
+    /// DDS 1.4, 2.2.2.4 (register_instance, unregister_instance).
+    pub fn would_be_left(&self, arrival: &Arrival) -> bool
+        // It is so by the definitions.
+        ensures left { (q : ReaderQos) (h : List Happening) → Stands q self.now h
+            → result ≡ is_nobody (registered_writers q arrival.now.change.key (Came arrival.now ∷ h)) }
+    {
+        let change = &arrival.change;
+        match look_up(&self.index, &self.tracks, change.key) {
+            Some(track) => !track.owners.would_have_writers(arrival),
+            None => begins_left(change.kind, arrival.writer, self.writers),
         }
     }
 

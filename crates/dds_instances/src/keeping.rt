@@ -3,21 +3,25 @@
 //! DDS 1.4, 2.2.2.5 (SampleInfo: instance_state, view_state, the two generation counts), 2.2.3 (OWNERSHIP_STRENGTH,
 //! LIVELINESS).
 
-ghost use Rattle.std.specs.Prelude.{◌≡◌, ◌+◌, ◌<◌, ◌≤◌, ◌++◌, ◌∷◌, [], List, ℕ, true, false, None, option_copied, is_some, IsTrue, MatchOption, IfSome, IfErr, OnOk, map, count_by, length, All, vec_len, vec_capacity, take};
-ghost use Rattle.std.specs.List.{list_any};
-ghost use Rattle.indexmap.specs.IndexSet.{spare};
+ghost use Rattle.std.specs.Prelude.{Bool, ◌≡◌, ◌+◌, ◌<◌, ◌≤◌, ◌++◌, ◌∷◌, [], List, ℕ, true, false, None, option_copied, is_some, IsTrue, MatchOption, IfSome, IfErr, OnOk, map, count_by, length, All, vec_len, vec_capacity, filter};
+ghost use Rattle.std.specs.List.{list_any, IsDistinct};
+ghost use Rattle.indexmap.specs.IndexSet.{index_set_len, spare};
 ghost use Rattle.dds_base.specs.declared.happening.Happening.{Happening};
-ghost use Rattle.dds_base.specs.declared.happening.Happening.TheVariants.{Came, Died, Read};
+ghost use Rattle.dds_base.specs.declared.happening.Happening.TheVariants.{Came, Died};
 ghost use Rattle.dds_base.specs.declared.qos.ReaderQos.{ReaderQos};
 ghost use Rattle.dds_base.specs.Happening.{same_key, is_write_or_dispose};
 ghost use Rattle.dds_base.specs.declared.code.Code.TheVariants.{Memory};
 ghost use Rattle.dds_base.specs.declared.key.Key.{Key};
-ghost use Rattle.dds_base.specs.Presence.{is_at};
+ghost use Rattle.dds_base.specs.Access.{lives_begun};
+ghost use Rattle.dds_base.specs.Instance.{introduced_by, is_known};
+ghost use Rattle.dds_base.specs.Life.{is_at, is_nobody, last_accepted};
+ghost use Rattle.dds_base.specs.Ownership.{registered_writers};
 ghost use Rattle.dds_owner.specs.Standing.{StandsFor, TellsStrengths, strengths_room};
-ghost use Rattle.dds_base.specs.Instance.{last_accepted};
-ghost use Rattle.dds_instances.specs.Track.{Fits, Tracks, is_alive_track};
-ghost use Rattle.dds_instances.specs.Table.{track_with};
-ghost use Rattle.dds_instances.specs.Following.{key_of, Each, Follows, IsLawful, IsPlaceOf, AreBlank};
+ghost use Rattle.dds_base.specs.declared.happening.SamplePosition.{SamplePosition};
+ghost use Rattle.dds_instances.specs.Track.{Fits, Tracks, is_alive_track, held_as, held_too, is_other, lives_on, one_if, seen_in};
+ghost use Rattle.dds_instances.specs.Table.{is_any_left};
+ghost use Rattle.dds_instances.specs.declared.track.InstanceTrack.{InstanceTrack};
+ghost use Rattle.dds_instances.specs.Following.{key_of, Follows, HeldRight, IsLawful, IsPlaceOf, AreBlank, Reaches, track_with};
 
 use crate::place::{find, put_last};
 use crate::track::InstanceTrack;
@@ -46,12 +50,14 @@ pub fn change_known(
     ensures follows { (h : List Happening) → length h + 1 ≡ position
         → TellsStrengths strengths.now qos.now h → IsLawful qos.now h
         → Follows qos.now h tracks.old.items
-        → Follows qos.now (Came arrival.now ∷ h) tracks.new.items }
+        → Reaches qos.now h (Came arrival.now) tracks.new.items
+        × (introduced_by qos.now h (Came arrival.now) ≡ []) }
 {
     tracks[at].change(qos, strengths, arrival, position);
 }
 
-/// An instance becomes known by its first write or dispose, the entry of this position.
+/// An instance becomes known by the first write or dispose of a life, the entry of this position, which is to have this
+/// handle.
 pub fn introduce(
     index: &mut IndexSet<Key>,
     tracks: &mut Vec<InstanceTrack>,
@@ -60,6 +66,7 @@ pub fn introduce(
     strengths: &Strengths,
     arrival: &Arrival,
     position: u64,
+    handle: u64,
 )
     requires place { 0 < spare index.old }
     requires room { vec_len tracks.old < vec_capacity tracks.old }
@@ -76,11 +83,13 @@ pub fn introduce(
     ensures alive { count_by is_alive_track tracks.new.items
         ≤ count_by is_alive_track tracks.old.items + 1 }
     ensures follows { (h : List Happening) → length h + 1 ≡ position
+        → handle ≡ lives_begun qos.now h + 1
         → ((i : Key) → StandsFor blank qos.now i []) → TellsStrengths strengths.now qos.now h
         → IsLawful qos.now h → Follows qos.now h tracks.old.items
-        → Follows qos.now (Came arrival.now ∷ h) tracks.new.items }
+        → Reaches qos.now h (Came arrival.now) tracks.new.items
+        × (introduced_by qos.now h (Came arrival.now) ≡ arrival.now.change.key ∷ []) }
 {
-    let mut track = InstanceTrack::new(arrival.change.key, blank);
+    let mut track = InstanceTrack::new(arrival.change.key, handle, blank);
     track.change(qos, strengths, arrival, position);
     put_last(index, tracks, track);
 }
@@ -95,9 +104,10 @@ pub fn bury_all(tracks: &mut Vec<InstanceTrack>, writer: Handle, position: u64)
     ensures marked { count_by is_alive_track tracks.new.items + count_by
         (λ t. is_at t.last_marker position) tracks.new.items
         ≤ count_by is_alive_track tracks.old.items }
-    ensures follows { (q : ReaderQos) (h : List Happening) (now : ℕ) → length h + 1 ≡ position
-        → IsLawful q h
-        → Follows q h tracks.old.items → Follows q (Died writer now ∷ h) tracks.new.items }
+    ensures reaches { (q : ReaderQos) (h : List Happening) (now : ℕ) → length h + 1 ≡ position
+        → IsLawful q h → Follows q h tracks.old.items → HeldRight q h tracks.old.items
+        → Reaches q h (Died writer now) tracks.new.items
+        × All (λ t. lives_on t ≡ is_known q (Died writer now ∷ h) t.key) tracks.new.items }
 {
     for at in 0..tracks.len() {
         tracks[at].bury(writer, position);
@@ -113,9 +123,7 @@ fn see_sample(index: &IndexSet<Key>, tracks: &mut Vec<InstanceTrack>, sample: Sa
     ensures capacity { vec_capacity tracks.new ≡ vec_capacity tracks.old }
     ensures alive { count_by is_alive_track tracks.new.items
         ≡ count_by is_alive_track tracks.old.items }
-    ensures sees { (q : ReaderQos) (h : List Happening) (samples : List SamplePosition)
-        → Each q (Read samples ∷ h) tracks.old.items
-        → Each q (Read (samples ++ sample ∷ []) ∷ h) tracks.new.items }
+    ensures sees { tracks.new.items ≡ map (seen_in (sample ∷ [])) tracks.old.items }
 {
     if let Some(at) = find(index, sample.key) {
         tracks[at].see(sample.position);
@@ -131,15 +139,15 @@ pub fn see_all(index: &IndexSet<Key>, tracks: &mut Vec<InstanceTrack>, samples: 
     ensures capacity { vec_capacity tracks.new ≡ vec_capacity tracks.old }
     ensures alive { count_by is_alive_track tracks.new.items
         ≡ count_by is_alive_track tracks.old.items }
-    ensures sees { (q : ReaderQos) (h : List Happening) → Each q (Read [] ∷ h) tracks.old.items
-        → Each q (Read samples.now ∷ h) tracks.new.items }
+    ensures sees { tracks.new.items ≡ map (seen_in samples.now) tracks.old.items }
 {
     for sample in samples {
         see_sample(index, tracks, *sample);
     }
 }
 
-/// The instances take up a change that came, the entry of this position.
+/// The instances take up a change that came, the entry of this position, and it is told whether a life begins with it,
+/// which has this handle then.
 pub fn take_up(
     index: &mut IndexSet<Key>,
     tracks: &mut Vec<InstanceTrack>,
@@ -148,7 +156,8 @@ pub fn take_up(
     strengths: &Strengths,
     arrival: &Arrival,
     position: u64,
-)
+    handle: u64,
+) -> bool
     requires place { 0 < spare index.old }
     requires room { vec_len tracks.old < vec_capacity tracks.old }
     requires spare_blank { 0 < vec_len blanks.old }
@@ -165,20 +174,134 @@ pub fn take_up(
     ensures blanks_len { vec_len blanks.old ≤ vec_len blanks.new + 1 }
     ensures blanks { (n : ℕ) → AreBlank n blanks.old.items → AreBlank n blanks.new.items }
     ensures follows { (h : List Happening) → length h + 1 ≡ position
+        → handle ≡ lives_begun qos.now h + 1
         → AreBlank (length qos.now.writers) blanks.old.items
         → TellsStrengths strengths.now qos.now h → IsLawful qos.now h
         → Follows qos.now h tracks.old.items
-        → Follows qos.now (Came arrival.now ∷ h) tracks.new.items }
+        → Reaches qos.now h (Came arrival.now) tracks.new.items
+        × (length (introduced_by qos.now h (Came arrival.now)) ≡ one_if result) }
 {
-    match find(index, arrival.change.key) {
-        Some(at) => change_known(tracks, at, qos, strengths, arrival, position),
-        None => {
-            if arrival.change.kind.is_write_or_dispose() {
-                let blank = blanks.pop().unwrap();
-                introduce(index, tracks, blank, qos, strengths, arrival, position);
-            }
+    if let Some(at) = find(index, arrival.change.key) {
+        change_known(tracks, at, qos, strengths, arrival, position);
+        return false;
+    }
+    if !arrival.change.kind.is_write_or_dispose() {
+        return false;
+    }
+    let blank = blanks.pop().unwrap();
+    introduce(
+        index, tracks, blank, qos, strengths, arrival, position, handle,
+    );
+    true
+}
+
+/// Notes that nothing is held of any instance.
+pub fn hold_none(tracks: &mut Vec<InstanceTrack>)
+    ensures held { tracks.new.items ≡ map (held_as false) tracks.old.items }
+    ensures keys { map key_of tracks.new.items ≡ map key_of tracks.old.items }
+    ensures fits { (n : ℕ) → All (Fits n) tracks.old.items → All (Fits n) tracks.new.items }
+    ensures alive { count_by is_alive_track tracks.new.items
+        ≡ count_by is_alive_track tracks.old.items }
+    ensures len { vec_len tracks.new ≡ vec_len tracks.old }
+    ensures capacity { vec_capacity tracks.new ≡ vec_capacity tracks.old }
+{
+    for at in 0..tracks.len() {
+        tracks[at].is_held = false;
+    }
+}
+
+/// Notes that something is held of the instance of a key, if it is kept.
+pub fn hold(index: &IndexSet<Key>, tracks: &mut Vec<InstanceTrack>, key: Key)
+    requires indexed { index.now.keys ≡ map key_of tracks.old.items }
+    ensures held { tracks.new.items ≡ map (held_too key) tracks.old.items }
+    ensures keys { map key_of tracks.new.items ≡ map key_of tracks.old.items }
+    ensures fits { (n : ℕ) → All (Fits n) tracks.old.items → All (Fits n) tracks.new.items }
+    ensures alive { count_by is_alive_track tracks.new.items
+        ≡ count_by is_alive_track tracks.old.items }
+    ensures len { vec_len tracks.new ≡ vec_len tracks.old }
+    ensures capacity { vec_capacity tracks.new ≡ vec_capacity tracks.old }
+{
+    if let Some(at) = find(index, key) {
+        tracks[at].is_held = true;
+    }
+}
+
+/// Whether nobody is registered for the instance of a key: nobody is for one that is not kept.
+fn is_left(index: &IndexSet<Key>, tracks: &[InstanceTrack], key: Key) -> bool
+    requires indexed { index.now.keys ≡ map key_of tracks.now }
+    ensures { (q : ReaderQos) (h : List Happening) → Follows q h tracks.now
+        → result ≡ is_nobody (registered_writers q key h) }
+{
+    match look_up(index, tracks, key) {
+        Some(track) => !track.owners.has_writers(),
+        None => true,
+    }
+}
+
+/// Whether nobody is registered for the instance of some of these samples.
+pub fn is_any_left(
+    index: &IndexSet<Key>,
+    tracks: &[InstanceTrack],
+    samples: &[SamplePosition],
+) -> bool
+    requires indexed { index.now.keys ≡ map key_of tracks.now }
+    ensures { (q : ReaderQos) (h : List Happening) → Follows q h tracks.now
+        → result ≡ is_any_left q h samples.now }
+{
+    for sample in samples {
+        if is_left(index, tracks, sample.key) {
+            return true;
         }
     }
+    false
+}
+
+/// Makes an index anew of these instances, in the room that it has.
+fn index_anew(index: &mut IndexSet<Key>, tracks: &[InstanceTrack])
+    requires distinct { IsDistinct same_key (map key_of tracks.now) }
+    requires room { length tracks.now ≤ index_set_len index.old }
+    ensures indexed { index.new.keys ≡ map key_of tracks.now }
+    ensures spare { spare index.old ≤ spare index.new }
+{
+    index.clear();
+    for track in tracks {
+        if index.insert(track.key).is_err() {
+            // No more keys are there than there were.
+            unreachable!();
+        }
+    }
+}
+
+/// Forgets the instances for which nobody is registered and of which nothing is held.
+pub fn forget_left(index: &mut IndexSet<Key>, tracks: &mut Vec<InstanceTrack>)
+    requires indexed { index.old.keys ≡ map key_of tracks.old.items }
+    ensures kept { tracks.new.items ≡ filter lives_on tracks.old.items }
+    ensures fits { (n : ℕ) → All (Fits n) tracks.old.items → All (Fits n) tracks.new.items }
+    ensures fewer { (p : InstanceTrack → Bool) → count_by p tracks.new.items ≤ count_by p tracks.old.items }
+    ensures indexed { index.new.keys ≡ map key_of tracks.new.items }
+    ensures spare { spare index.old ≤ spare index.new }
+    ensures len { vec_len tracks.new ≤ vec_len tracks.old }
+    ensures capacity { vec_capacity tracks.new ≡ vec_capacity tracks.old }
+    ensures distinct { IsDistinct same_key (map key_of tracks.old.items) }
+{
+    let _ = index.len(); // its contract says that no two keys are one
+    tracks.retain(|track| track.is_held || track.owners.has_writers());
+    index_anew(index, tracks);
+}
+
+/// Forgets the instance of a key, if it is kept.
+pub fn forget(index: &mut IndexSet<Key>, tracks: &mut Vec<InstanceTrack>, key: Key)
+    requires indexed { index.old.keys ≡ map key_of tracks.old.items }
+    ensures kept { tracks.new.items ≡ filter (is_other key) tracks.old.items }
+    ensures fits { (n : ℕ) → All (Fits n) tracks.old.items → All (Fits n) tracks.new.items }
+    ensures fewer { (p : InstanceTrack → Bool) → count_by p tracks.new.items ≤ count_by p tracks.old.items }
+    ensures indexed { index.new.keys ≡ map key_of tracks.new.items }
+    ensures spare { spare index.old ≤ spare index.new }
+    ensures len { vec_len tracks.new ≤ vec_len tracks.old }
+    ensures capacity { vec_capacity tracks.new ≡ vec_capacity tracks.old }
+{
+    tracks.retain(|track| track.key != key);
+    index.retain(|other| *other != key);
 }
 
 /// A change came: what it says of its writer's strength is kept, where there is memory for that of each writer.
@@ -235,6 +358,8 @@ pub fn look_up<'a>(
 pub fn track_of(tracks: &[InstanceTrack], handle: Handle) -> Option<&InstanceTrack>
     ensures { option_copied result ≡ track_with tracks.now handle }
 {
-    let at = handle.number().checked_sub(1)?;
-    tracks.get(at as usize)
+    if handle == Handle::NIL {
+        return None;
+    }
+    tracks.iter().find(|track| track.handle == handle.number())
 }

@@ -8,7 +8,7 @@ ghost use Rattle.dds_base.specs.declared.sample.ViewState.TheVariants.{New, NotN
 ghost use Rattle.dds_instances.specs.Track.{state_of_track};
 
 use crate::track::InstanceTrack;
-use dds_base::{InstanceState, Key, ViewState};
+use dds_base::{Handle, InstanceState, Key, ViewState};
 
 /// What is known of an instance.
 ///
@@ -17,6 +17,8 @@ use dds_base::{InstanceState, Key, ViewState};
 pub struct KnownInstance {
     /// Its key.
     pub key: Key,
+    /// Its handle.
+    pub handle: Handle,
     /// Whether it is alive, or why not.
     pub state: InstanceState,
     /// Whether the reader has seen it since its latest rebirth.
@@ -25,7 +27,7 @@ pub struct KnownInstance {
     pub disposed_generations: u64,
     /// How often it was reborn after it had no writers.
     pub no_writers_generations: u64,
-    /// How many writes of it were accepted.
+    /// How many writes of it were accepted in its life.
     pub accepted_writes: u64,
     /// The number of the entry that left its last sample without data.
     pub last_marker: Option<u64>,
@@ -45,6 +47,7 @@ pub fn view_of(track: &InstanceTrack) -> ViewState
 /// What is known of the instance that a track has followed.
 pub fn told(track: &InstanceTrack) -> KnownInstance
     ensures key { result.key ≡ track.now.key }
+    ensures handle { result.handle ≡ track.now.handle }
     ensures state { result.state ≡ state_of_known (state_of_track track.now) }
     ensures view { result.view ≡ (if track.now.is_seen then NotNew else New) }
     ensures disposed { result.disposed_generations ≡ track.now.disposed_generations }
@@ -54,6 +57,7 @@ pub fn told(track: &InstanceTrack) -> KnownInstance
 {
     KnownInstance {
         key: track.key,
+        handle: Handle::new(track.handle),
         state: track.state().unwrap_or(InstanceState::Alive),
         view: view_of(track),
         disposed_generations: track.disposed_generations,

@@ -7,32 +7,37 @@ ghost use Rattle.dds_base.specs.declared.happening.Happening.{Happening};
 ghost use Rattle.dds_base.specs.declared.happening.Happening.TheVariants.{Came, Died};
 ghost use Rattle.dds_base.specs.declared.key.Key.{Key};
 ghost use Rattle.dds_base.specs.declared.qos.ReaderQos.{ReaderQos};
-ghost use Rattle.dds_base.specs.Instance.{or_else, state_after, is_write, is_disposed, is_without_writers};
+ghost use Rattle.dds_base.specs.Instance.{is_disposed, is_without_writers};
+ghost use Rattle.dds_base.specs.Life.{or_else, state_after, is_write, becomes_not_alive};
 ghost use Rattle.dds_base.specs.Ownership.{accepted_kind};
-ghost use Rattle.dds_base.specs.Presence.{becomes_not_alive, marks};
+ghost use Rattle.dds_base.specs.Presence.{marks};
 ghost use Rattle.dds_owner.specs.Standing.{Kept, StandsFor, TellsStrengths, has_writers};
-ghost use Rattle.dds_instances.specs.Track.{state_of_track, one_if, fresh, seen_at, is_born_dead, Counts, Advances, Fits, Tracks};
+ghost use Rattle.dds_instances.specs.Track.{state_of_track, one_if, fresh, seen_at, is_born_dead, is_left_at_first, Counts, Advances, Fits, Tracks};
 
 use dds_base::{Arrival, ChangeKind, Handle, InstanceState, Key, ReaderQos};
 use dds_owner::{Owners, Strengths};
 
 /// What is known of an instance after what has happened. `docs/DECISIONS.md`, "A reader's cache", says why it has
-/// owners of its own, and why it is known for good.
+/// owners of its own.
 #[derive(Drop)]
 pub struct InstanceTrack {
     pub key: Key,
+    /// The handle of its life.
+    pub handle: u64,
     pub owners: Owners,
     /// The kind of the last accepted write or dispose.
     pub last_accepted: Option<ChangeKind>,
     pub disposed_generations: u64,
     pub no_writers_generations: u64,
-    /// Where its present life begins: the position of the latest rebirth, or 0, the start.
+    /// The position of the latest rebirth, or else that at which its life began.
     pub latest_rebirth: u64,
     /// The position of the last marker.
     pub last_marker: Option<u64>,
     pub accepted_writes: u64,
     /// Whether a read or a take returned a sample of it since its latest rebirth.
     pub is_seen: bool,
+    /// Whether something of it is noted as held: then its life goes on, though nobody be registered for it.
+    pub is_held: bool,
 }
 
 fn state_by(last: Option<ChangeKind>, nobody: bool) -> Option<InstanceState>
@@ -51,7 +56,7 @@ fn state_by(last: Option<ChangeKind>, nobody: bool) -> Option<InstanceState>
     }
 }
 
-/// Whether the first change of an instance turns it to a state that is not alive, where so many writers are matched.
+/// Whether the first change of a life turns its instance to a state that is not alive, where so many writers are matched.
 pub fn begins_dead(kind: ChangeKind, writer: Handle, writers: usize) -> bool
     ensures { result ≡ is_born_dead writers writer kind }
 {
@@ -60,6 +65,13 @@ pub fn begins_dead(kind: ChangeKind, writer: Handle, writers: usize) -> bool
         ChangeKind::Unregister => false,
         _ => true,
     }
+}
+
+/// Whether nobody is registered for an unknown instance once a change of it came, where so many writers are matched.
+pub fn begins_left(kind: ChangeKind, writer: Handle, writers: usize) -> bool
+    ensures { result ≡ is_left_at_first writers writer kind }
+{
+    kind.is_unregister() || !(0 < writer.number() && writer.number() <= writers as u64)
 }
 
 fn is_written(kind: Option<ChangeKind>) -> bool
@@ -105,7 +117,8 @@ fn is_new_end(before: Option<InstanceState>, after: Option<InstanceState>) -> bo
     }
 }
 
-fn count_if(is_so: bool) -> u64
+/// 1 where it is so.
+pub fn count_if(is_so: bool) -> u64
     ensures count { result ≡ one_if is_so }
     ensures bound { result < 2 }
 {
@@ -140,12 +153,13 @@ fn note(owners: &mut Owners, arrival: &Arrival)
 }
 
 impl InstanceTrack {
-    /// Of an instance of which nothing has come.
-    pub fn new(key: Key, owners: Owners) -> Self
-        ensures { result ≡ fresh key owners }
+    /// Of an instance of whose life nothing has come, where it is to have this handle.
+    pub fn new(key: Key, handle: u64, owners: Owners) -> Self
+        ensures { result ≡ fresh key handle owners }
     {
         InstanceTrack {
             key,
+            handle,
             owners,
             last_accepted: None,
             disposed_generations: 0,
@@ -154,6 +168,7 @@ impl InstanceTrack {
             last_marker: None,
             accepted_writes: 0,
             is_seen: false,
+            is_held: false,
         }
     }
 
@@ -183,17 +198,19 @@ impl InstanceTrack {
             < position }
         ensures { Counts before kind position self.old self.new }
     {
+        let is_birth = self.last_accepted.is_none() && kind.is_some();
         self.last_accepted = first_there(kind, self.last_accepted);
         let is_write = is_written(kind);
         let revives_disposed = is_write && is_disposed_state(before);
         let revives_without_writers = is_write && is_without_writers_state(before);
         self.disposed_generations += count_if(revives_disposed);
         self.no_writers_generations += count_if(revives_without_writers);
-        let is_rebirth = revives_disposed || revives_without_writers;
-        self.latest_rebirth = chosen(is_rebirth, position, self.latest_rebirth);
-        self.is_seen = !is_rebirth && self.is_seen;
+        let begins = is_birth || (revives_disposed || revives_without_writers);
+        self.latest_rebirth = chosen(begins, position, self.latest_rebirth);
+        self.is_seen = !begins && self.is_seen;
         let is_marked = is_new_end(before, self.state());
         self.last_marker = chosen(is_marked, Some(position), self.last_marker);
+        self.is_held = is_marked || self.is_held;
         self.accepted_writes += count_if(is_write);
     }
 

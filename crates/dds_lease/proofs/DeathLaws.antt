@@ -8,7 +8,7 @@ use Rattle.dds_base.specs.declared.happening.Happening.{Happening}
 use Rattle.dds_base.specs.declared.happening.Happening.TheVariants.{Died}
 use Rattle.dds_base.specs.declared.qos.MatchedWriter.{MatchedWriter}
 use Rattle.dds_base.specs.declared.qos.ReaderQos.{ReaderQos}
-use Rattle.dds_base.specs.Instance.{or_else}
+use Rattle.dds_base.specs.Life.{or_else}
 use Rattle.dds_base.specs.Liveliness.{after_deaths, alive_since, dead_at, is_overdue, lease_of, with_deaths}
 use Rattle.dds_base.specs.Ownership.{numbered_from, publication_handles, writer_of}
 use Rattle.dds_base.specs.Written.{is_over}

@@ -8,7 +8,7 @@ use Rattle.dds_base.specs.declared.happening.Happening.{Happening}
 use Rattle.dds_base.specs.declared.happening.Happening.TheVariants.{Came, Heard, Died}
 use Rattle.dds_base.specs.declared.qos.MatchedWriter.{MatchedWriter}
 use Rattle.dds_base.specs.declared.qos.ReaderQos.{ReaderQos}
-use Rattle.dds_base.specs.Instance.{or_else}
+use Rattle.dds_base.specs.Life.{or_else}
 use Rattle.dds_base.specs.Liveliness.{lease_of}
 use Rattle.dds_base.specs.Ownership.{numbered_from, publication_handles, writer_of}
 use Rattle.dds_lease.specs.declared.track.LeaseTrack.{LeaseTrack}

@@ -13,7 +13,7 @@ use Rattle.dds_base.specs.declared.qos.MatchedWriter.{MatchedWriter}
 use Rattle.dds_base.specs.declared.qos.ReaderQos.{ReaderQos}
 use Rattle.dds_base.specs.Happening.{is_write_or_dispose, is_unregister, same_key}
 use Rattle.dds_base.specs.Ownership.{IsMatched, numbered_from, publication_handles, is_registered, registered_writers}
-use Rattle.dds_base.specs.Instance.{is_nobody}
+use Rattle.dds_base.specs.Life.{is_nobody}
 use Rattle.dds_base.proofs.KeyLaws.{same_key-refl}
 use Rattle.dds_owner.specs.declared.registration.Registration.{Registration}
 use Rattle.dds_owner.specs.Registration.{registration_of, is_there, has_writer, entered, unregistered, blank_registrations}

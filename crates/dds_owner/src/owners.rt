@@ -10,7 +10,7 @@ ghost use Rattle.dds_base.specs.declared.happening.Happening.TheVariants.{Came, 
 ghost use Rattle.dds_base.specs.declared.key.Key.{Key};
 ghost use Rattle.dds_base.specs.declared.qos.ReaderQos.{ReaderQos};
 ghost use Rattle.dds_base.specs.Happening.{is_unregister};
-ghost use Rattle.dds_base.specs.Instance.{is_nobody};
+ghost use Rattle.dds_base.specs.Life.{is_nobody};
 ghost use Rattle.dds_base.specs.Ownership.{IsMatched, accepted_kind, is_registered, owner_of, registered_writers};
 ghost use Rattle.dds_base.specs.declared.qos.OwnershipQos.TheVariants.{Exclusive};
 ghost use Rattle.dds_owner.specs.Standing.{StandsFor, TellsStrengths, has_writers};

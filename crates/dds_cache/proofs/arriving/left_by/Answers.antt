@@ -1,7 +1,7 @@
 use Rattle.std.proofs.Common.{◌≡◌, ◌+◌, ◌∷◌, List, length, true, sym, ap, ◌∙◌, refl, arith, false}
 use Rattle.dds_base.specs.declared.happening.Happening.{Happening}
 use Rattle.dds_base.specs.declared.happening.Happening.TheVariants.{Came}
-use Rattle.dds_base.specs.Presence.{ends_with_write}
+use Rattle.dds_base.specs.Life.{ends_with_write}
 use Rattle.dds_instances.specs.Known.{IsKnown}
 use Rattle.dds_instances.specs.Table.{Stands}
 use Rattle.dds_cache.specs.declared.kept.Kept.{Kept}
@@ -15,7 +15,7 @@ use Rattle.dds_cache.proofs.arriving.left_by.Goals.{After-is_live}
 abbrev left_of : After-is_live → Kept
 left_of c = record {
   sample = record { key = c.args.arrival.change.key; position = c.happened.result };
-  handle = c.handle.result;
+  handle = c.in-Some.known.handle;
   number = c.in-Some.known.accepted_writes;
   is_read = false;
   valid_data = c.args.is_write;
@@ -47,7 +47,7 @@ left c h stands valid fresh =
     let key_is = c.in-Some.ensures.key q g stands in
     let newest =
     newest-came q c.args.arrival h c.in-Some.known (left_of c) known key_is refl valid refl refl refl refl refl
-    c.value_of.ensures refl (c.handle.ensures.handle q g stands) in
+    c.value_of.ensures refl refl in
     record {
       sample = sample;
       known = known;

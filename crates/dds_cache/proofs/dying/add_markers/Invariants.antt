@@ -1,5 +1,5 @@
 -- the samples of the instances so far are added
-use Rattle.std.proofs.Common.{◌≡◌, ◌+◌, ◌≤◌, ◌∷◌, List, length, take}
+use Rattle.std.proofs.Common.{◌+◌, ◌≤◌, ◌∷◌, List, length, take}
 use Rattle.std.specs.Prelude.{vec_len, vec_capacity}
 use Rattle.dds_base.specs.declared.key.Key.{Key}
 use Rattle.dds_base.specs.declared.happening.Happening.{Happening}
@@ -14,13 +14,13 @@ use Rattle.dds_cache.specs.Dying.{AddsOf}
 use Rattle.dds_cache.proofs.DeathLaws.{marked_among}
 use Rattle.dds_cache.proofs.dying.add_markers.Given as goal
 
-abbrev pub invariant-loop-at : goal.invariant-loop-at
-invariant-loop-at l = record {
-  len : vec_len l.samples ≤ vec_len l.fn.samples + marked_among l.instances l.at;
+abbrev pub invariant-loop-place : goal.invariant-loop-place
+invariant-loop-place l = record {
+  len : vec_len l.samples ≤ vec_len l.fn.samples + marked_among l.instances l.place;
   capacity : vec_capacity l.fn.samples ≤ vec_capacity l.samples;
   small : All IsSmall l.fn.samples.items → All IsSmall l.samples.items;
   added : (q : ReaderQos) (h : List Happening) → Stands q l.instances (Died l.writer l.moment ∷ h)
-      → l.count ≡ length (known_instances q (Died l.writer l.moment ∷ h)) → ((i : Key) → IsFresh h i)
+      → ((i : Key) → IsFresh h i)
       → AddsOf q (Died l.writer l.moment ∷ h) (length h + 1)
-      (take l.at (known_instances q (Died l.writer l.moment ∷ h))) l.fn.samples.items l.samples.items;
+      (take l.place (known_instances q (Died l.writer l.moment ∷ h))) l.fn.samples.items l.samples.items;
 }

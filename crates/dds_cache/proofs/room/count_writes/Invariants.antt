@@ -3,7 +3,8 @@ use Rattle.std.proofs.Common.{◌≡◌, ◌≤◌, ◌∷◌, List, take}
 use Rattle.std.specs.List.{All, count_by}
 use Rattle.dds_base.specs.declared.happening.Happening.{Happening}
 use Rattle.dds_base.specs.declared.happening.Happening.TheVariants.{Came}
-use Rattle.dds_base.specs.Presence.{ends_with_write, marks}
+use Rattle.dds_base.specs.Presence.{marks}
+use Rattle.dds_base.specs.Life.{ends_with_write}
 use Rattle.dds_instances.specs.Table.{Stands}
 use Rattle.dds_cache.specs.Kept.{IsKept}
 use Rattle.dds_cache.specs.Room.{is_present_write}

@@ -1,24 +1,21 @@
-use Rattle.std.proofs.Common.{◌≡◌, Bool, ◌&&◌, sym, ap, ◌∙◌, Some, None}
+use Rattle.std.proofs.Common.{◌≡◌, Bool, ◌&&◌, sym, ap, ◌∙◌}
 use Rattle.dds_base.specs.Happening.{same_key}
 use Rattle.dds_instances.specs.Known.{IsKnown}
 use Rattle.dds_cache.specs.Room.{is_write_after}
-use Rattle.dds_cache.proofs.FindingLaws.{key-of-handle, some-same}
+use Rattle.dds_cache.proofs.KeptLaws.{kept-stated}
 use Rattle.dds_cache.proofs.RoomLaws.{write-after}
 use Rattle.dds_cache.proofs.room.is_write_then.Goals as goal
 use Rattle.dds_cache.proofs.room.is_write_then.Goals.{then-is_own, else-is_own, then-is_own-2, else-is_own-2}
 
 pub returns-in-None : goal.returns-in-None
 returns-in-None c =
-    λ h stands written marked kept. absurd (let clash : None
-    ≡ Some c.args.kept.now.sample.key = key-of-handle c.args.qos.now h c.args.kept.now None kept
-    (c.in-None.ensures.key c.args.qos.now h stands) in cc)
+    λ h stands written marked kept. absurd (kept-stated c.args.qos.now h c.args.kept.now kept
+    (c.in-None.ensures.key c.args.qos.now h stands))
 
 pub returns-after-is_own-2 : goal.returns-after-is_own-2
 returns-after-is_own-2 c = λ h stands written marked kept.
     let known : IsKnown c.args.qos.now h c.in-Some.known = c.in-Some.ensures.known c.args.qos.now h stands in
-    let key : c.in-Some.known.key ≡ c.args.kept.now.sample.key =
-    some-same _ _ (key-of-handle c.args.qos.now h c.args.kept.now (Some c.in-Some.known.key) kept
-    (c.in-Some.ensures.key c.args.qos.now h stands)) in
+    let key : c.in-Some.known.key ≡ c.args.kept.now.sample.key = c.in-Some.ensures.key c.args.qos.now h stands in
     let own : c.eq-is_own.result ≡ same_key c.args.kept.now.sample.key c.args.arrival.now.change.key =
     c.eq-is_own.ensures in
     let one_more : c.if-is_own.is_write_after ≡ (c.eq-is_own.result && c.args.is_write) = elim c.if-is_own.branch [

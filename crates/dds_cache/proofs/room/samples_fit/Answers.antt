@@ -1,12 +1,13 @@
-use Rattle.std.proofs.Common.{◌≡◌, ℕ, ◌+◌, List, ◌∷◌, Bool, true, ◌&&◌, ◌||◌, sym, ap, ◌∙◌, refl, Option, Some, None}
+use Rattle.std.proofs.Common.{◌≡◌, ℕ, ◌+◌, List, ◌∷◌, Bool, ◌&&◌, ◌||◌, sym, ap, ◌∙◌}
 use Rattle.std.specs.List.{count_by}
 use Rattle.dds_base.specs.declared.happening.Happening.{Happening}
 use Rattle.dds_base.specs.declared.happening.Happening.TheVariants.{Came}
 use Rattle.dds_base.specs.declared.qos.ReaderQos.{ReaderQos}
-use Rattle.dds_base.specs.Presence.{ends_with_write, is_within, keeps, marks}
+use Rattle.dds_base.specs.Presence.{is_within, marks}
+use Rattle.dds_base.specs.Life.{ends_with_write, keeps}
 use Rattle.dds_instances.specs.Track.{one_if}
 use Rattle.dds_cache.specs.Room.{is_present_write}
-use Rattle.dds_cache.proofs.RoomLaws.{known-accepted, leaves_write, leaves-write, spare-fits, writes-after}
+use Rattle.dds_cache.proofs.RoomLaws.{leaves_write, leaves-write, spare-fits, writes-after}
 use Rattle.dds_cache.proofs.room.samples_fit.Goals as goal
 use Rattle.dds_cache.proofs.room.samples_fit.Goals.{then-is_write+then-is_kept_after, then-is_write+else-is_kept_after, else-is_write}
 
@@ -49,5 +50,4 @@ returns c = λ h holds fresh accepted.
     c.keeps_to-2.ensures
     ∙ ap (λ (n : ℕ). is_within q.max_samples n) (ap (λ (n : ℕ). n + one_if c.if-is_write.is_left) count
     ∙ (ap (λ (b : Bool). count_by (is_present_write q g) c.args.samples.now + one_if b) leaves
-    ∙ sym (writes-after q c.args.arrival.now h c.args.samples.now holds.each holds.present fresh
-    (known-accepted q c.args.arrival.now h accepted))))
+    ∙ sym (writes-after q c.args.arrival.now h c.args.samples.now holds.each holds.present fresh accepted)))

@@ -2,7 +2,7 @@
 use Rattle.std.proofs.Common.{◌≡◌, ℕ, ◌<◌, ◌≤◌, length, get_or, map}
 use Rattle.dds_instances.specs.declared.track.InstanceTrack.{InstanceTrack}
 use Rattle.dds_instances.specs.Following.{key_of}
-use Rattle.dds_instances.proofs.StandingLaws.{Buries}
+use Rattle.dds_instances.proofs.EndingLaws.{Buries}
 use Rattle.std.specs.Prelude.{vec_len, vec_capacity}
 use Rattle.dds_instances.proofs.keeping.bury_all.Given as goal
 

@@ -3,7 +3,7 @@ use Rattle.std.proofs.lemmas.List.{length-map, get_or_default}
 use Rattle.dds_instances.specs.declared.track.InstanceTrack.{InstanceTrack}
 use Rattle.dds_instances.specs.Track.{Fits}
 use Rattle.dds_instances.specs.Following.{key_of}
-use Rattle.dds_instances.proofs.StandingLaws.{fits-advanced, fits-set, keys-set, follows-known}
+use Rattle.dds_instances.proofs.StandingLaws.{fits-advanced, fits-set, keys-set, reaches-known}
 use Rattle.dds_instances.proofs.MarkerLaws.{alive-changed}
 use Rattle.dds_instances.proofs.keeping.change_known.Goals as goal
 
@@ -29,7 +29,7 @@ returns-clause-keys c =
 
 pub returns-clause-follows : goal.returns-clause-follows
 returns-clause-follows c =
-    λ h len tells lawful follows. follows-known c.args.qos.now c.args.strengths.now h
+    λ h len tells lawful follows. reaches-known c.args.qos.now c.args.strengths.now h
     c.args.arrival.now c.args.tracks.now.items c.args.at
     c.args.position c.index_mut.result.now c.change.new.self c.change.result len c.requires.place
     c.index_mut.ensures.value

@@ -1,12 +1,9 @@
 -- the instances were told of the samples so far
-use Rattle.std.proofs.Common.{◌≡◌, ℕ, List, [], ◌∷◌, map, take}
+use Rattle.std.proofs.Common.{◌≡◌, ℕ, map, take}
 use Rattle.std.specs.List.{All}
 use Rattle.std.specs.Prelude.{count_by, vec_len, vec_capacity}
-use Rattle.dds_base.specs.declared.happening.Happening.{Happening}
-use Rattle.dds_base.specs.declared.happening.Happening.TheVariants.{Read}
-use Rattle.dds_base.specs.declared.qos.ReaderQos.{ReaderQos}
-use Rattle.dds_instances.specs.Track.{Fits, is_alive_track}
-use Rattle.dds_instances.specs.Following.{key_of, Each}
+use Rattle.dds_instances.specs.Track.{Fits, is_alive_track, seen_in}
+use Rattle.dds_instances.specs.Following.{key_of}
 use Rattle.dds_instances.proofs.keeping.see_all.Given as goal
 
 abbrev pub invariant-loop-sample : goal.invariant-loop-sample
@@ -16,6 +13,5 @@ invariant-loop-sample l = record {
   len : vec_len l.tracks ≡ vec_len l.fn.tracks;
   capacity : vec_capacity l.tracks ≡ vec_capacity l.fn.tracks;
   alive : count_by is_alive_track l.tracks.items ≡ count_by is_alive_track l.fn.tracks.items;
-  sees : (q : ReaderQos) (h : List Happening) → Each q (Read [] ∷ h) l.fn.tracks.items
-      → Each q (Read (take l.sample-index l.samples) ∷ h) l.tracks.items;
+  sees : l.tracks.items ≡ map (seen_in (take l.sample-index l.samples)) l.fn.tracks.items;
 }

@@ -1,12 +1,14 @@
-use Rattle.std.proofs.Common.{◌≡◌, ◌<◌, List, length, map, subst, sym, ap, ◌∙◌, false, arith}
+use Rattle.std.proofs.Common.{◌≡◌, ◌<◌, List, [], ◌∷◌, length, get_or, map, subst, sym, ap, ◌∙◌, false, true, arith}
 use Rattle.std.specs.List.{list_any}
 use Rattle.std.proofs.lemmas.List.{length-map, get_or_default}
 use Rattle.dds_base.specs.declared.key.Key.{Key}
 use Rattle.dds_base.specs.Happening.{same_key}
 use Rattle.dds_instances.specs.declared.track.InstanceTrack.{InstanceTrack}
-use Rattle.dds_instances.specs.Track.{is_alive_track}
+use Rattle.dds_instances.specs.Track.{is_alive_track, seen_at, seen_in}
 use Rattle.dds_instances.specs.Following.{key_of, IsPlaceOf}
-use Rattle.dds_instances.proofs.StandingLaws.{keys-set, each-saw, each-passed, fits-saw}
+use Rattle.dds_instances.proofs.StandingLaws.{itself-same, keys-set, stranger-at, strangers-all}
+use Rattle.dds_instances.proofs.SeeingLaws.{fits-saw, saw-one}
+use Rattle.dds_instances.proofs.HoldingLaws.{map-none, set-map}
 use Rattle.dds_instances.proofs.MarkerLaws.{alive-kept}
 use Rattle.dds_instances.proofs.keeping.see_sample.Goals as goal
 
@@ -30,19 +32,28 @@ returns-in-Some-clause-keys c =
     ∙ get_or_default ts c.in-Some.at c.index_mut.result.now c.see.new.self inside))
 
 pub returns-in-Some-clause-sees : goal.returns-in-Some-clause-sees
-returns-in-Some-clause-sees c = λ q h samples each.
+returns-in-Some-clause-sees c =
     let ts : List InstanceTrack = c.args.tracks.now.items in
-    let place : IsPlaceOf (map key_of ts) c.args.sample.key c.in-Some.at =
-    subst (λ (ks : List Key). IsPlaceOf ks c.args.sample.key c.in-Some.at) c.requires.indexed c.in-Some.ensures in
-    each-saw q h samples c.args.sample ts c.in-Some.at c.index_mut.result.now c.see.new.self place
-    c.index_mut.ensures.value c.see.ensures each
+    let at = c.in-Some.at in
+    let t : InstanceTrack = c.index_mut.result.now in
+    let place : IsPlaceOf (map key_of ts) c.args.sample.key at =
+    subst (λ (ks : List Key). IsPlaceOf ks c.args.sample.key at) c.requires.indexed c.in-Some.ensures in
+    let inside : at < length ts = omega (arith, place.within, length-map ts key_of) in
+    set-map (seen_in (c.args.sample ∷ [])) ts at c.see.new.self inside
+    (λ d. c.see.ensures
+    ∙ (ap (λ (u : InstanceTrack). seen_at c.args.sample.position u) (c.index_mut.ensures.value ∙ get_or_default ts at t d inside)
+    ∙ saw-one c.args.sample (get_or ts at d) true (itself-same ts c.args.sample.key at d place inside)))
+    (λ k d within differ. sym (saw-one c.args.sample (get_or ts k d) false
+    (stranger-at ts c.args.sample.key at k d place within differ)))
 
 pub returns-in_default-clause-sees : goal.returns-in_default-clause-sees
-returns-in_default-clause-sees c = λ q h samples each.
-    let absent : list_any (same_key c.args.sample.key) (map key_of c.args.tracks.now.items) ≡ false =
+returns-in_default-clause-sees c =
+    let ts : List InstanceTrack = c.args.tracks.now.items in
+    let absent : list_any (same_key c.args.sample.key) (map key_of ts) ≡ false =
     ap (λ (ks : List Key). list_any (same_key c.args.sample.key) ks) (sym c.requires.indexed) ∙ c.in_default.ensures
     in
-    each-passed q h samples c.args.sample c.args.tracks.now.items absent each
+    map-none (seen_in (c.args.sample ∷ [])) ts
+    (λ k d within. sym (saw-one c.args.sample (get_or ts k d) false (strangers-all c.args.sample.key ts absent k d within)))
 
 pub returns-in-Some-clause-alive : goal.returns-in-Some-clause-alive
 returns-in-Some-clause-alive c =

@@ -1,7 +1,7 @@
 use Rattle.std.proofs.Common.{sym, subst, refl}
 use Rattle.dds_cache.specs.Standing.{Stored, StandsFor}
 use Rattle.dds_cache.specs.Sound.{stored_of}
-use Rattle.dds_cache.proofs.SweepLaws.{stands-stays}
+use Rattle.dds_cache.proofs.StandingLaws.{stands-stays}
 use Rattle.dds_cache.proofs.reader_cache.ReaderCache.sweep_if_due.Goals as goal
 
 pub returns-then-len-self-clause-same : goal.returns-then-len-self-clause-same

@@ -1,7 +1,7 @@
 use Rattle.std.proofs.Common.{sym, ap, ◌∙◌}
 use Rattle.dds_instances.specs.Table.{Table}
 use Rattle.dds_instances.proofs.StandingLaws.{follows-of}
-use Rattle.dds_instances.proofs.KnownLaws.{unknown}
+use Rattle.dds_instances.proofs.KnownLaws.{unknown, unregistered}
 use Rattle.dds_instances.proofs.instances.Instances.is_registered.Goals as goal
 
 pub returns-in-Some : goal.returns-in-Some
@@ -17,8 +17,9 @@ pub returns-in-None : goal.returns-in-None
 returns-in-None c =
     record {
       registered = λ q h stands matched.
-          sym ((unknown q c.args.key h
+          sym (unregistered q c.args.key h c.args.writer
+          (unknown q c.args.key h
           (c.in-None.ensures.kept q h
           (follows-of q h c.args.self.now c.deref.result.now
-          (c.deref.ensures.value ∙ ap (λ (t : Table). t.tracks) c.self.view_is) stands))).registered c.args.writer);
+          (c.deref.ensures.value ∙ ap (λ (t : Table). t.tracks) c.self.view_is) stands))).registered matched);
     }

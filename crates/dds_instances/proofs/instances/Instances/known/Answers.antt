@@ -3,7 +3,7 @@ use Rattle.std.specs.Prelude.{is_some}
 use Rattle.dds_base.specs.declared.key.Key.{Key}
 use Rattle.dds_base.specs.declared.change.ChangeKind.{ChangeKind}
 use Rattle.dds_base.specs.Ownership.{registered_writers}
-use Rattle.dds_base.specs.Instance.{last_accepted, state_after, is_nobody}
+use Rattle.dds_base.specs.Life.{last_accepted, state_after, is_nobody}
 use Rattle.dds_instances.specs.declared.track.InstanceTrack.{InstanceTrack}
 use Rattle.std.specs.List.{All}
 use Rattle.dds_instances.specs.Track.{Tracks, Fits}
@@ -28,7 +28,7 @@ returns-in-Some-clause-known c = λ q h stands.
     let tracked : Tracks q t.key h t = subst (λ (i : Key). Tracks q i h t) (sym both.0.key_is) both.0 in
     let there : is_some (last_accepted q t.key h) ≡ true =
     ap (λ (i : Key). is_some (last_accepted q i h)) both.0.key_is ∙ both.1 in
-    told-tracked q h t c.told.result tracked there c.told.ensures.key c.told.ensures.state c.told.ensures.view
+    told-tracked q h t c.told.result tracked there c.told.ensures.key c.told.ensures.handle c.told.ensures.state c.told.ensures.view
     c.told.ensures.disposed c.told.ensures.no_writers c.told.ensures.writes c.told.ensures.marker
 
 pub returns-in-None-clause-key : goal.returns-in-None-clause-key

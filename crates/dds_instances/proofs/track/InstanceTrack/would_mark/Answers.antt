@@ -1,8 +1,7 @@
 use Rattle.std.proofs.Common.{not, Option, ap, ◌∙◌}
 use Rattle.dds_base.specs.declared.change.ChangeKind.{ChangeKind}
 use Rattle.dds_base.specs.declared.sample.InstanceState.{InstanceState}
-use Rattle.dds_base.specs.Instance.{state_after}
-use Rattle.dds_base.specs.Presence.{becomes_not_alive}
+use Rattle.dds_base.specs.Life.{state_after, becomes_not_alive}
 use Rattle.dds_instances.specs.Track.{state_of_track}
 use Rattle.dds_instances.proofs.ForesightLaws.{marks-tracked}
 use Rattle.dds_instances.proofs.track.InstanceTrack.would_mark.Goals as goal

@@ -1,0 +1,67 @@
+use Rattle.std.proofs.Common.{◌≡◌, ℕ, ◌+◌, List, ◌∷◌, refl, subst, sym, ap, ◌∙◌, arith}
+use Rattle.dds_base.specs.declared.happening.Happening.{Happening}
+use Rattle.dds_base.specs.declared.happening.Happening.TheVariants.{Came}
+use Rattle.dds_base.specs.Access.{lives_begun}
+use Rattle.dds_owner.specs.Standing.{KeptStrengths, TellsStrengths, strengths_room}
+use Rattle.dds_instances.specs.declared.instances.Instances.TheInside.{Inside}
+use Rattle.dds_instances.specs.declared.track.InstanceTrack.{InstanceTrack}
+use Rattle.dds_instances.specs.Following.{AreBlank, Follows}
+use Rattle.dds_instances.specs.Table.{Table, Stands}
+use Rattle.dds_instances.specs.Sound.{table_of}
+use Rattle.dds_instances.proofs.EndingLaws.{lawful-quiet}
+use Rattle.dds_instances.proofs.StandingLaws.{follows-on, follows-over}
+use Rattle.dds_instances.proofs.instances.Instances.change.Goals as goal
+use Rattle.dds_instances.proofs.instances.Instances.change.Goals.{then-is_end, else-is_end}
+
+pub returns-clause-stands : goal.returns-clause-stands
+returns-clause-stands c = λ h stands end_is.
+    let q = c.args.qos.now in
+    let e : Happening = Came c.args.arrival.now in
+    let s : Stands q (table_of c.self.inside) h = subst (λ (t : Table). Stands q t h) (sym c.self.view_is) stands in
+    let both =
+    c.take_up-is_beginning.ensures.follows h (omega (arith, s.happened_is)) (omega (arith, s.begun_is))
+    (subst (λ (n : ℕ). AreBlank n c.self.inside.blanks.items) s.writers_are c.self.invariant.blank)
+    s.strengths_are s.lawful s.follows in
+    let kept : (c.if-is_end.self-inside.writers ≡ c.self.inside.writers)
+    × (c.if-is_end.self-inside.strengths ≡ c.self.inside.strengths)
+    × (c.if-is_end.self-inside.begun ≡ c.self.inside.begun + c.count_if.result) =
+    elim c.if-is_end.branch [
+      | then-is_end w ↦ (
+        ap (λ (a : Inside). a.writers) w.self-inside-is,
+        ap (λ (a : Inside). a.strengths) w.self-inside-is,
+        ap (λ (a : Inside). a.begun) w.self-inside-is,
+      )
+      | else-is_end w ↦ (
+        ap (λ (a : Inside). a.writers) w.self-inside-is,
+        ap (λ (a : Inside). a.strengths) w.self-inside-is,
+        ap (λ (a : Inside). a.begun) w.self-inside-is,
+      )
+    ] in
+    let follows : Follows q (e ∷ h) c.if-is_end.self-inside.tracks.items =
+    elim c.if-is_end.branch [
+      | then-is_end w ↦ subst (λ (ts : List InstanceTrack). Follows q (e ∷ h) ts)
+          (sym (ap (λ (a : Inside). a.tracks.items) w.self-inside-is ∙ w.forget.ensures.kept))
+          (follows-over q h c.args.arrival.now c.take_up-is_beginning.new.tracks.items (sym w.if-is_end.true ∙ end_is) both.0)
+      | else-is_end w ↦ subst (λ (ts : List InstanceTrack). Follows q (e ∷ h) ts)
+          (sym (ap (λ (a : Inside). a.tracks.items) w.self-inside-is))
+          (follows-on q h c.args.arrival.now c.take_up-is_beginning.new.tracks.items (sym w.if-is_end.false ∙ end_is) both.0)
+    ] in
+    record {
+      writers_are = kept.0 ∙ s.writers_are;
+      happened_is = omega (arith, s.happened_is);
+      strengths_are = c.note_strength.ensures.came q h
+          (omega (
+            arith,
+            ap (λ (k : KeptStrengths). strengths_room k) kept.1,
+            c.self.invariant.strengths_fit,
+            s.writers_are,
+            c.requires.room,
+            ap (λ (t : Table). t.room) c.self.view_is,
+          ))
+          (subst (λ (k : KeptStrengths). TellsStrengths k q h) (sym kept.1) s.strengths_are);
+      begun_is =
+          kept.2 ∙ (ap (λ (n : ℕ). n + c.count_if.result) s.begun_is
+          ∙ ap (λ (n : ℕ). lives_begun q h + n) (c.count_if.ensures.count ∙ sym both.1));
+      follows = follows;
+      lawful = lawful-quiet q h e (λ i j. refl) s.lawful;
+    }
