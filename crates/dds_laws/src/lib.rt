@@ -14,8 +14,9 @@ ghost use Rattle.dds_base.specs.declared.happening.Happening.{Happening};
 ghost use Rattle.dds_base.specs.declared.key.Key.{Key};
 ghost use Rattle.dds_base.specs.declared.qos.ReaderQos.{ReaderQos};
 
-/// Where an entry ends no life, what is said of instances goes on as if no life ever ended. So where none has ended, it is
-/// what it would be if an instance that is known stayed known.
+/// Where an entry ends no life, the last accepted change of an instance, its last marker, its counts and which instances
+/// are known go on as if no life ever ended. So where none has ended, they are what they would be if an instance that is
+/// known stayed known.
 pub fn where_no_life_ends_all_goes_on()
     // The last accepted change of an instance is that of the entry, or else the one before.
     ensures accepted { (q : ReaderQos) (i : Key) (h : List Happening) (e : Happening) → ends_life q i h e ≡ false
@@ -36,7 +37,7 @@ pub fn where_no_life_ends_all_goes_on()
     ensures known { (q : ReaderQos) (h : List Happening) (e : Happening)
         → ((i : Key) → is_known q (e ∷ h) i ≡ (is_known q h i || is_some (accepted_kind q i h e)))
         → known_instances q (e ∷ h) ≡ known_instances q h ++ introduced_by q h e }
-    // Then a handle is a place among the known instances as long as it was one.
+    // Then as many lives have begun as instances are known, if it was so before.
     ensures begun { (q : ReaderQos) (h : List Happening) (e : Happening)
         → ((i : Key) → is_known q (e ∷ h) i ≡ (is_known q h i || is_some (accepted_kind q i h e)))
         → lives_begun q h ≡ length (known_instances q h)
