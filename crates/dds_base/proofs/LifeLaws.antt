@@ -1,6 +1,6 @@
 -- When the life of an instance goes on, and when it ends.
-use Rattle.std.proofs.Common.{◌≡◌, ℕ, ◌+◌, ◌-◌, ◌≤◌, ◌<◌, List, [], ◌∷◌, ◌++◌, length, Bool, true, false, not, ◌&&◌, ◌||◌, ◌==◌, sym, ap, ◌∙◌, refl, cond, Option, Some, None, arith, zero, suc, add-one, ⊎_elim}
-use Rattle.std.specs.Prelude.{if◌then◌else◌, nat_le, is_some, IfSome}
+use Rattle.std.proofs.Common.{◌≡◌, ℕ, ◌+◌, ◌-◌, ◌≤◌, ◌<◌, List, [], ◌∷◌, length, Bool, true, false, not, ◌&&◌, ◌||◌, ◌==◌, sym, ap, ◌∙◌, refl, Option, Some, None, arith, zero, suc, add-one, ⊎_elim}
+use Rattle.std.specs.Prelude.{if◌then◌else◌, is_some, IfSome}
 use Rattle.std.specs.List.{list_any}
 use Rattle.std.proofs.lemmas.Bool.{cases_Bool, cases_lt, le-leb, lt-leb, eqb-true}
 use Rattle.std.proofs.lemmas.Bool.Decides.{Decides-eqb}
@@ -17,7 +17,7 @@ use Rattle.dds_base.specs.declared.qos.ReaderQos.{ReaderQos}
 use Rattle.dds_base.specs.Access.{handle_of, lives_begun}
 use Rattle.dds_base.specs.Happening.{same_key, same_sample, as_of, is_taken, taken_by}
 use Rattle.dds_base.specs.Instance.{instance_state_of, is_known, introduces, introduced_by}
-use Rattle.dds_base.specs.Life.{or_else, is_nobody, is_write, state_after, becomes_not_alive, accepted_writes, ends_with_write, keeps, is_kept_write, is_at, up_to, is_there, has_there, is_life_over, marks_from, marker_reached, last_accepted, last_marker, ends_life}
+use Rattle.dds_base.specs.Life.{or_else, is_nobody, is_write, state_after, becomes_not_alive, accepted_writes, ends_with_write, keeps, is_kept_write, is_at, up_to, is_there, has_there, is_life_over, marker_reached, last_accepted, last_marker, ends_life}
 use Rattle.dds_base.specs.Ownership.{accepted_kind, is_registered, registered_writers}
 use Rattle.dds_base.specs.Presence.{is_present, marks}
 use Rattle.dds_base.proofs.KeyLaws.{key-same, same_key-comm}

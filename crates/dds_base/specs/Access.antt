@@ -22,7 +22,7 @@ use Rattle.dds_base.specs.declared.sample.Picked.{Picked}
 use Rattle.dds_base.specs.declared.sample.SampleInfo.{SampleInfo}
 use Rattle.dds_base.specs.declared.sample.Sample.{Sample}
 use Rattle.dds_base.specs.declared.qos.ReaderQos.{ReaderQos}
-use Rattle.dds_base.specs.Happening.{same_key, as_of, is_read}
+use Rattle.dds_base.specs.Happening.{as_of, is_read}
 use Rattle.dds_base.specs.Ownership.{accepted_kind}
 use Rattle.dds_base.specs.Instance.{instance_state_of, view_state_of, disposed_generations, no_writers_generations, generations_of, is_known, introduces, introduced_by, known_instances}
 use Rattle.dds_base.specs.Life.{ends_with_write, is_write}

@@ -1,16 +1,14 @@
 -- The state, the generation counts and the view of an instance, from what happened.
 --
 -- DDS 1.4, 2.2.2.5 (SampleInfo: instance_state, view_state, the two generation counts, instance_handle).
-use Rattle.std.specs.Prelude.{ℕ, ◌+◌, List, [], ◌∷◌, ◌++◌, length, Bool, true, false, ◌&&◌, ◌||◌, nat_le, not, Option, None, Some, is_some, if◌then◌else◌, filter}
+use Rattle.std.specs.Prelude.{ℕ, ◌+◌, List, [], ◌∷◌, ◌++◌, length, Bool, true, false, ◌&&◌, ◌||◌, nat_le, not, Option, Some, is_some, if◌then◌else◌, filter}
 use Rattle.std.specs.List.{list_any}
 use Rattle.dds_base.specs.declared.key.Key.{Key}
-use Rattle.dds_base.specs.declared.change.ChangeKind.{ChangeKind}
-use Rattle.dds_base.specs.declared.change.ChangeKind.TheVariants.{Write}
 use Rattle.dds_base.specs.declared.happening.SamplePosition.{SamplePosition}
 use Rattle.dds_base.specs.declared.happening.Happening.{Happening}
 use Rattle.dds_base.specs.declared.happening.Happening.TheVariants.{Came}
 use Rattle.dds_base.specs.declared.sample.InstanceState.{InstanceState}
-use Rattle.dds_base.specs.declared.sample.InstanceState.TheVariants.{Alive, NotAliveDisposed, NotAliveNoWriters}
+use Rattle.dds_base.specs.declared.sample.InstanceState.TheVariants.{NotAliveDisposed, NotAliveNoWriters}
 use Rattle.dds_base.specs.declared.sample.ViewState.{ViewState}
 use Rattle.dds_base.specs.declared.sample.ViewState.TheVariants.{New, NotNew}
 use Rattle.dds_base.specs.declared.qos.ReaderQos.{ReaderQos}

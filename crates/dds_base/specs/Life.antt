@@ -7,7 +7,6 @@ use Rattle.std.specs.List.{list_any}
 use Rattle.dds_base.specs.declared.key.Key.{Key}
 use Rattle.dds_base.specs.declared.change.ChangeKind.{ChangeKind}
 use Rattle.dds_base.specs.declared.change.ChangeKind.TheVariants.{Write}
-use Rattle.dds_base.specs.declared.happening.SamplePosition.{SamplePosition}
 use Rattle.dds_base.specs.declared.happening.Happening.{Happening}
 use Rattle.dds_base.specs.declared.sample.InstanceState.{InstanceState}
 use Rattle.dds_base.specs.declared.sample.InstanceState.TheVariants.{Alive, NotAliveDisposed, NotAliveNoWriters}
@@ -110,20 +109,33 @@ marks_from q i h e before =
 abbrev pub marker_reached : ReaderQos → Key → List Happening → Happening → Option ChangeKind → Option ℕ → Option ℕ
 marker_reached q i h e before marker = if marks_from q i h e before then Some (length h + 1) else marker
 
-abbrev mutual
-  -- the kind of the last accepted write or dispose of i in its life
-  pub last_accepted : ReaderQos → Key → List Happening → Option ChangeKind
-  last_accepted q i [] = None
-  last_accepted q i (e ∷ h) =
-      if is_life_over q (e ∷ h) i (marker_reached q i h e (last_accepted q i h) (last_marker q i h)) then None
-      else or_else (accepted_kind q i h e) (last_accepted q i h)
+-- what the life of an instance has so far: the kind of its last accepted write or dispose, and the position of its last
+-- marker; none of both where it is unknown
+pub record LifeSoFar : Type 0 where
+  pub accepted : Option ChangeKind
+  pub marker : Option ℕ
 
-  -- the position of i's last marker in its life
-  pub last_marker : ReaderQos → Key → List Happening → Option ℕ
-  last_marker q i [] = None
-  last_marker q i (e ∷ h) =
-      if is_life_over q (e ∷ h) i (marker_reached q i h e (last_accepted q i h) (last_marker q i h)) then None
-      else marker_reached q i h e (last_accepted q i h) (last_marker q i h)
+-- the same once the entry has happened: none where the life is over with it
+abbrev pub life_after : ReaderQos → Key → List Happening → Happening → LifeSoFar → LifeSoFar
+life_after q i h e life = record {
+  accepted = if is_life_over q (e ∷ h) i (marker_reached q i h e life.accepted life.marker) then None
+      else or_else (accepted_kind q i h e) life.accepted;
+  marker = if is_life_over q (e ∷ h) i (marker_reached q i h e life.accepted life.marker) then None
+      else marker_reached q i h e life.accepted life.marker;
+}
+
+-- what the life of i has after what happened
+abbrev pub life_of : ReaderQos → Key → List Happening → LifeSoFar
+life_of q i [] = record { accepted = None; marker = None }
+life_of q i (e ∷ h) = life_after q i h e (life_of q i h)
+
+-- the kind of the last accepted write or dispose of i in its life
+abbrev pub last_accepted : ReaderQos → Key → List Happening → Option ChangeKind
+last_accepted q i h = (life_of q i h).accepted
+
+-- the position of i's last marker in its life
+abbrev pub last_marker : ReaderQos → Key → List Happening → Option ℕ
+last_marker q i h = (life_of q i h).marker
 
 -- with the entry the life of i is over: what came of i up to it counts no more, and i is unknown
 abbrev pub ends_life : ReaderQos → Key → List Happening → Happening → Bool
