@@ -2,12 +2,17 @@
 //!
 //! RTPS 2.5, 8.2 (GUID_t) and 9.3 (its octets).
 
-ghost use Rattle.std.specs.Prelude.{◌≡◌, [], ◌∷◌, ◌++◌, length, slice_index};
+ghost use Rattle.std.specs.Prelude.{◌≡◌, ◌<◌, ℕ, [], ◌∷◌, ◌++◌, length, take, drop, get_or, nat_eq, slice_index};
+ghost use Rattle.std.specs.Cmp.Lexicographic.{pointwise};
+ghost use Rattle.std.specs.Cmp.Rules.{comparing};
+ghost use Rattle.std.specs.Ordering.{on};
+ghost use Rattle.std.specs.Int.{w32, w64, from_le_bytes};
+ghost use Rattle.std.proofs.Common.{rules};
 
 /// What the GUIDs of one peer begin with: twelve octets, which mean nothing but that peer.
 ///
 /// RTPS 2.5, 8.2 (GuidPrefix_t).
-#[derive(Clone, Copy, Debug, PartialEq, Eq)]
+#[derive(Clone, Copy, Debug)]
 pub struct GuidPrefix(pub [u8; 12]);
 
 impl GuidPrefix {
@@ -25,11 +30,40 @@ impl GuidPrefix {
     }
 }
 
+/// The octets as two numbers, by which prefixes are compared.
+fn parts(octets: [u8; 12]) -> (u64, u32)
+    ensures first { result.0 ≡ from_le_bytes w64 (take 8 octets) }
+    ensures second { result.1 ≡ from_le_bytes w32 (drop 8 octets) }
+    ensures octets { (i : ℕ) → get_or octets i 0 < 256 }
+{
+    let [a, b, c, d, e, f, g, h, i, j, k, l] = octets;
+    (
+        u64::from_le_bytes([a, b, c, d, e, f, g, h]),
+        u32::from_le_bytes([i, j, k, l]),
+    )
+}
+
+impl PartialEq for GuidPrefix {
+    ghost eq = { on (λ x. x.0) (pointwise nat_eq) };
+
+    ghost laws = { Prim.search (comparing, rules) };
+
+    fn eq(&self, other: &GuidPrefix) -> bool {
+        let (first, second) = parts(self.0);
+        let (other_first, other_second) = parts(other.0);
+        (first == other_first) & (second == other_second)
+    }
+}
+
+impl Eq for GuidPrefix {
+    ghost laws = { Prim.search (comparing, rules) };
+}
+
 /// A writer or a reader of a peer: three octets of a key, then the kind. `writer` and `reader` make one from its key.
 ///
 /// RTPS 2.5, 8.2 (EntityId_t) and 9.3: 0x02 is a writer, 0x07 a reader, each with a key; four zeros are
 /// ENTITYID_UNKNOWN.
-#[derive(Clone, Copy, Debug, PartialEq, Eq)]
+#[derive(Clone, Copy, Debug)]
 pub struct EntityId(pub [u8; 4]);
 
 impl EntityId {
@@ -80,6 +114,28 @@ impl EntityId {
     {
         &self.0
     }
+}
+
+/// The octets as a number, by which entities are compared.
+fn word(octets: [u8; 4]) -> u32
+    ensures number { result ≡ from_le_bytes w32 octets }
+    ensures octets { (i : ℕ) → get_or octets i 0 < 256 }
+{
+    u32::from_le_bytes(octets)
+}
+
+impl PartialEq for EntityId {
+    ghost eq = { on (λ x. x.0) (pointwise nat_eq) };
+
+    ghost laws = { Prim.search (comparing, rules) };
+
+    fn eq(&self, other: &EntityId) -> bool {
+        word(self.0) == word(other.0)
+    }
+}
+
+impl Eq for EntityId {
+    ghost laws = { Prim.search (comparing, rules) };
 }
 
 /// The name of a writer or a reader among all peers.
