@@ -1,3 +1,4 @@
+pub mod Bounds
 pub mod Code
 pub mod Fields
 pub mod FieldPairs
@@ -18,6 +19,7 @@ pub mod Access
 pub mod Matched
 pub mod MatchedAt
 pub mod Number
+pub mod EachEntity
 pub mod Checked
 pub mod Faults
 pub mod FaultAt

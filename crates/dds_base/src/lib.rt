@@ -40,6 +40,7 @@ mod config_fault;
 mod config_rules;
 mod count;
 mod datum;
+mod each_entity;
 mod endianness;
 mod entity;
 mod field;
@@ -64,11 +65,13 @@ pub use change::{Change, ChangeKind};
 pub use code::Code;
 pub use config::{Config, PeerConfig, ReaderConfig, WriterConfig};
 pub use config_fault::{ConfigFault, ConfigPlace, ConfigRule};
-pub use count::is_later;
+pub use config_rules::MAX_ENDS;
+pub use count::{MAX_COUNT, is_later};
 pub use datum::{
     Datum, DatumRef, MAX_VALUE, decode_datum, decode_datum_key, decode_datum_ref, decode_key,
     encode_datum, encode_key, take_key,
 };
+pub use each_entity::EachEntity;
 pub use endianness::Endianness;
 pub use entity::Entity;
 pub use field::{take_octets, take_u16, take_u32};
@@ -78,12 +81,12 @@ pub use happening::{Arrival, Happening, PassedRun, SamplePosition, StatusKind};
 pub use key::Key;
 pub use lease::is_over;
 pub use mask::{InstanceStateMask, Masks, SampleStateMask, ViewStateMask};
-pub use moment::Moment;
+pub use moment::{MOMENT_END, Moment};
 pub use number::index_of;
 pub use octets::Octets;
 pub use qos::{HistoryQos, MatchedWriter, OwnershipQos, ReaderQos, ReliabilityQos};
 pub use sample::{InstanceState, Picked, Sample, SampleInfo, SampleState, ViewState};
 pub use selection::{Scope, Selection};
 pub use sequence::Sequence;
-pub use sn::Sn;
+pub use sn::{MAX_SN, Sn};
 pub use status::{LivelinessChangedStatus, LivelinessLostStatus, SampleLostStatus};

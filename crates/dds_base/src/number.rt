@@ -5,6 +5,13 @@
 ghost use Rattle.std.specs.Prelude.{◌≡◌, ◌+◌, ◌<◌, false, MatchOption};
 ghost use Rattle.dds_base.specs.Number.{is_number};
 
+/// Whether there is something of this number, from 1, among so many.
+pub(crate) fn is_number(number: u8, count: usize) -> bool
+    ensures { result ≡ is_number number count }
+{
+    0 < number && usize::from(number) <= count
+}
+
 /// The index, from 0, of what has this number, from 1, among so many. `None` for 0, and where there are fewer.
 pub fn index_of(number: u8, count: usize) -> Option<usize>
     ensures index { MatchOption result (is_number number count ≡ false)

@@ -1,13 +1,13 @@
 -- What the application of a peer watches: the conditions that it made, its WaitSets, and the statuses that are enabled.
 --
 -- DDS 1.4, 2.2.2.1 (Condition, GuardCondition, StatusCondition, WaitSet), 2.2.2.5 (ReadCondition).
-use Rattle.std.specs.Prelude.{ℕ, ◌+◌, ◌-◌, ◌^◌, List, [], ◌∷◌, ◌++◌, get_or, set, map, replicate, length, nat_le, ◌&&◌, Bool, true, false, Option, None, Some, is_some, if◌then◌else◌}
+use Rattle.std.specs.Prelude.{ℕ, ◌+◌, ◌-◌, ◌^◌, List, [], ◌∷◌, ◌++◌, set, map, length, nat_le, ◌&&◌, Bool, true, false, Option, None, Some, is_some, if◌then◌else◌}
 use Rattle.std.specs.List.{filter}
 use Rattle.std.specs.Option.{option_map}
 use Rattle.dds_base.specs.declared.code.Code.{Code}
 use Rattle.dds_base.specs.declared.code.Code.TheVariants.{BadParameter, OutOfResources, PreconditionNotMet}
 use Rattle.dds_base.specs.declared.entity.Entity.{Entity}
-use Rattle.dds_base.specs.declared.entity.Entity.TheVariants.{Participant, Writer, Reader}
+use Rattle.dds_base.specs.EachEntity.{EachEntity, entity_or, everywhere, has_entity, with_entity}
 use Rattle.dds_base.specs.Number.{at_number, is_number}
 use Rattle.dds_notices.specs.declared.mask.StatusMask.{StatusMask}
 use Rattle.dds_conditions.specs.declared.condition.Cond.{Cond}
@@ -17,14 +17,12 @@ use Rattle.dds_conditions.specs.declared.condition.Condition.TheVariants.{Sample
 use Rattle.dds_conditions.specs.declared.waiting.Waiting.{Waiting}
 use Rattle.dds_conditions.specs.Attached.{attached, detached, detach_refusal}
 
--- the conditions and the WaitSets by their numbers, none where one was deleted; and which statuses of the participant,
--- of each writer and of each reader are enabled; and how many filters there are
+-- the conditions and the WaitSets by their numbers, none where one was deleted; and which statuses of each entity are
+-- enabled; and how many filters there are
 pub record Watched : Type 0 where
   pub conditions : List (Option Condition)
   pub wait_sets : List (Option Waiting)
-  pub participant : StatusMask
-  pub writers : List StatusMask
-  pub readers : List StatusMask
+  pub enabled : EachEntity StatusMask
   pub filters : ℕ
 
 -- every status (2.3.3, STATUS_MASK_ALL)
@@ -37,9 +35,7 @@ abbrev pub opened : ℕ → ℕ → Watched
 opened writers readers = record {
   conditions = [];
   wait_sets = [];
-  participant = every_status;
-  writers = replicate writers every_status;
-  readers = replicate readers every_status;
+  enabled = everywhere every_status writers readers;
   filters = 0;
 }
 
@@ -100,21 +96,15 @@ has_filter w n = is_number n w.filters
 
 -- there is such an entity
 abbrev pub knows_entity : Watched → Entity → Bool
-knows_entity w Participant = true
-knows_entity w (Writer n) = is_number n (length w.writers)
-knows_entity w (Reader n) = is_number n (length w.readers)
+knows_entity w entity = has_entity w.enabled entity
 
 -- which of its statuses are enabled (StatusCondition, get_enabled_statuses)
 abbrev pub enabled_of : Watched → Entity → StatusMask → StatusMask
-enabled_of w Participant none = w.participant
-enabled_of w (Writer n) none = get_or w.writers (n - 1) none
-enabled_of w (Reader n) none = get_or w.readers (n - 1) none
+enabled_of w entity none = entity_or w.enabled entity none
 
 -- other ones are enabled (StatusCondition, set_enabled_statuses)
 abbrev pub with_enabled : Watched → Entity → StatusMask → Watched
-with_enabled w Participant mask = record w { participant = mask }
-with_enabled w (Writer n) mask = record w { writers = set w.writers (n - 1) mask }
-with_enabled w (Reader n) mask = record w { readers = set w.readers (n - 1) mask }
+with_enabled w entity mask = record w { enabled = with_entity w.enabled entity mask }
 
 -- there is such a condition; each entity has a status condition
 abbrev pub knows : Watched → Cond → Bool

@@ -2,7 +2,7 @@
 //!
 //! DDS 1.4, 2.2.2.1 (Condition, WaitSet).
 
-ghost use Rattle.std.specs.Prelude.{◌≡◌, ℕ, [], IsOk, nat_le, replicate, ◌+◌, ◌-◌, ◌≤◌, length, map, Bool, None, Some, true, false, OnOk, OnErr, IfOk, IfErr, IfSome, IfNone, is_some};
+ghost use Rattle.std.specs.Prelude.{◌≡◌, ℕ, [], IsOk, nat_le, ◌+◌, ◌-◌, ◌≤◌, length, map, Bool, None, Some, true, false, OnOk, OnErr, IfOk, IfErr, IfSome, IfNone, is_some};
 ghost use Rattle.std.specs.List.{list_any};
 ghost use Rattle.std.specs.Option.{option_copied};
 ghost use Rattle.dds_notices.specs.declared.mask.StatusMask.{StatusMask as Mask};
@@ -13,14 +13,14 @@ ghost use Rattle.dds_base.specs.Refusal.{Refuses};
 ghost use Rattle.dds_conditions.specs.declared.condition.Cond.{Cond as CondOf};
 ghost use Rattle.dds_conditions.specs.declared.condition.Condition.TheVariants.{Guard as IsGuard};
 ghost use Rattle.dds_conditions.specs.Attached.{active_of, is_attached};
-ghost use Rattle.dds_base.specs.Number.{at_number, is_number};
+ghost use Rattle.dds_base.specs.Number.{at_number};
 ghost use Rattle.dds_conditions.specs.Lent.{LendsWaitSet};
-ghost use Rattle.dds_conditions.specs.Watched.{attach_refusal, conditions_in, conditions_of, detaching_refusal, enabled_of, filter_refusal, free_refusal, guard_refusal, has_filter, is_timed_out, is_used, knows, knows_entity, every_status, number_refusal, opened, unless_there, use_refusal, uses_in, with_attached, with_condition, with_condition_at, with_deadline, with_detached, with_enabled, with_filter, with_made, with_wait_set, with_wait_set_at, without, without_condition};
+ghost use Rattle.dds_conditions.specs.Watched.{attach_refusal, conditions_in, conditions_of, detaching_refusal, enabled_of, filter_refusal, free_refusal, guard_refusal, has_filter, is_timed_out, is_used, knows, knows_entity, number_refusal, opened, unless_there, use_refusal, uses_in, with_attached, with_condition, with_condition_at, with_deadline, with_detached, with_enabled, with_filter, with_made, with_wait_set, with_wait_set_at, without, without_condition};
 
 use crate::condition::{Cond, Condition};
 use crate::wait_set::WaitSet;
 use crate::waiting::Waiting;
-use dds_base::{Code, Entity, Moment, Sequence};
+use dds_base::{Code, EachEntity, Entity, Moment, Sequence};
 use dds_notices::StatusMask;
 use std::alloc::{AllocError, Global};
 use std::marker::Model;
@@ -34,9 +34,7 @@ pub struct Watch {
     alloc: Global,
     conditions: Vec<Option<Condition>>,
     wait_sets: Vec<Option<Waiting>>,
-    participant: StatusMask,
-    writers: Vec<StatusMask>,
-    readers: Vec<StatusMask>,
+    enabled: EachEntity<StatusMask>,
     filters: u32,
 }
 
@@ -49,21 +47,12 @@ impl Model for Watch {
     ghost view = { λ w. record {
       conditions = w.conditions.items;
       wait_sets = w.wait_sets.items;
-      participant = w.participant;
-      writers = w.writers.items;
-      readers = w.readers.items;
+      enabled = w.enabled;
       filters = w.filters;
     } };
 
     // Each has a number.
     ghost invariant = { λ w. length w.wait_sets.items ≤ 4294967295 };
-}
-
-/// Whether there is something of this number, counted from 1, among so many.
-fn is_number_of(number: u8, count: usize) -> bool
-    ensures { result ≡ is_number number count }
-{
-    0 < number && usize::from(number) <= count
 }
 
 /// Whether there is a WaitSet, and somebody waits in it.
@@ -74,17 +63,6 @@ fn is_used(waiting: &Option<Waiting>) -> bool
         Some(waiting) => waiting.deadline.is_some(),
         None => false,
     }
-}
-
-/// As many entities, of each of which all statuses are enabled.
-fn all_enabled(alloc: Global, count: usize) -> Result<Vec<StatusMask>, AllocError>
-    ensures { IfOk result (λ masks. masks.items ≡ replicate count every_status) }
-{
-    let mut masks = Vec::with_capacity(alloc, count)?;
-    for _ in 0..count {
-        masks.push(StatusMask::ANY)?;
-    }
-    Ok(masks)
 }
 
 impl Watch {
@@ -100,9 +78,7 @@ impl Watch {
             alloc,
             conditions: Vec::new(alloc),
             wait_sets: Vec::new(alloc),
-            participant: StatusMask::ANY,
-            writers: all_enabled(alloc, writers)?,
-            readers: all_enabled(alloc, readers)?,
+            enabled: EachEntity::open(alloc, writers, readers, || StatusMask::ANY)?,
             filters: 0,
         })
     }
@@ -137,11 +113,7 @@ impl Watch {
     pub fn knows_entity(&self, entity: Entity) -> bool
         ensures known { result ≡ knows_entity self.now entity }
     {
-        match entity {
-            Entity::Participant => true,
-            Entity::Writer(number) => is_number_of(number, self.writers.len()),
-            Entity::Reader(number) => is_number_of(number, self.readers.len()),
-        }
+        self.enabled.has(entity)
     }
 
     /// In how many WaitSets somebody waits.
@@ -604,14 +576,7 @@ impl Watch {
         // There is none only where there is no such entity.
         ensures none { IfNone result (knows_entity self.now entity ≡ false) }
     {
-        if !self.knows_entity(entity) {
-            return None;
-        }
-        Some(match entity {
-            Entity::Participant => self.participant,
-            Entity::Writer(number) => self.writers[usize::from(number) - 1],
-            Entity::Reader(number) => self.readers[usize::from(number) - 1],
-        })
+        self.enabled.at(entity).copied()
     }
 
     /// Enables these statuses of an entity, and no others.
@@ -635,11 +600,7 @@ impl Watch {
         if !self.knows_entity(entity) {
             return Err(Code::BadParameter);
         }
-        match entity {
-            Entity::Participant => self.participant = mask,
-            Entity::Writer(number) => self.writers[usize::from(number) - 1] = mask,
-            Entity::Reader(number) => self.readers[usize::from(number) - 1] = mask,
-        }
+        self.enabled.replace(entity, mask);
         Ok(())
     }
 }

@@ -39,9 +39,7 @@ abbrev watch : List (Option Condition) → List (Option WaitingFor) → Watched
 watch conditions wait_sets = record {
   conditions = conditions;
   wait_sets = wait_sets;
-  participant = mask 65535;
-  writers = mask 65535 ∷ [];
-  readers = mask 65535 ∷ [];
+  enabled = record { participant = mask 65535; writers = mask 65535 ∷ []; readers = mask 65535 ∷ [] };
   filters = 1;
 }
 
@@ -240,7 +238,7 @@ unread-not_once_read = refl
 
 -- DATA_AVAILABLE alone is enabled at r1
 abbrev only_data : Watched
-only_data = record (watch [] []) { readers = mask 1024 ∷ [] }
+only_data = record (watch [] []) { enabled = record (watch [] []).enabled { readers = mask 1024 ∷ [] } }
 
 status-is_enabled : Watches 0 [] (watch [] []) (call.SetEnabledStatuses (entity.Reader 1) (mask 1024)) Done only_data
 status-is_enabled = record { answers = (refl, refl); rtps = refl }

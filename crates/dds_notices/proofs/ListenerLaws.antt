@@ -7,14 +7,15 @@ use Rattle.dds_base.specs.declared.entity.Entity.TheVariants.{Participant, Write
 use Rattle.dds_notices.specs.declared.notice.Notice.{Notice}
 use Rattle.dds_notices.specs.declared.notice.Status.{Status}
 use Rattle.dds_base.specs.Number.{at_number, is_number}
-use Rattle.dds_notices.specs.Listeners.{ByEntity, Place, Places, Slot, Slotted, StandsAt, StandsFor, at_entity, has_entity, is_any, nobody, taker_of, with_entity}
+use Rattle.dds_base.specs.EachEntity.{EachEntity}
+use Rattle.dds_notices.specs.Listeners.{ByEntity, has_entity, with_entity, Place, Places, Slot, Slotted, StandsAt, StandsFor, at_entity, is_any, nobody, taker_of}
 
 -- nobody takes any status
 abbrev pub NobodyTakes : Places → Type 0
 NobodyTakes places = (entity : Entity) (status : Status) → taker_of places entity status ≡ None
 
 -- there are the same entities afterwards
-pub with_entity-has_entity : {X : Type 0} (all : ByEntity X) (entity other : Entity) (x : Option X)
+pub with_entity-has_entity : {X : Type 0} (all : EachEntity X) (entity other : Entity) (x : X)
     → has_entity (with_entity all entity x) other ≡ has_entity all other
 with_entity-has_entity all Participant other x = elim other [ Participant ↦ refl | Writer n ↦ refl | Reader n ↦ refl ]
 with_entity-has_entity all (Writer m) Participant x = refl
@@ -47,7 +48,8 @@ both_false : (a b : Bool) → (a || b) ≡ false → (a ≡ false) × (b ≡ fal
 both_false true b h = cc
 both_false false b h = (refl, h)
 
-none_entity : {X : Type 0} (all : ByEntity X) → is_any all ≡ false → (entity : Entity) → at_entity all entity ≡ None
+none_entity : {X : Type 0} (all : ByEntity X) → is_any all ≡ false → (entity : Entity)
+    → at_entity all entity ≡ None
 none_entity all h entity =
     let own = both_false (is_some all.participant) (list_any is_some all.writers || list_any is_some all.readers) h in
     let others = both_false (list_any is_some all.writers) (list_any is_some all.readers) own.1 in

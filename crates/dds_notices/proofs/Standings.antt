@@ -12,9 +12,10 @@ use Rattle.dds_notices.specs.declared.mask.StatusMask.{StatusMask}
 use Rattle.dds_notices.specs.declared.notice.Notice.{Notice}
 use Rattle.dds_notices.specs.declared.notice.Status.{Status}
 use Rattle.dds_notices.specs.Notices.{keep_last, told}
-use Rattle.dds_notices.specs.Slotted.{ToldAt, listener_of}
+use Rattle.dds_notices.specs.Slotted.{listener_of}
 use Rattle.dds_base.specs.Number.{at_number, is_number}
-use Rattle.dds_notices.specs.Listeners.{ByEntity, HandedBack, Place, Places, Sets, Slot, Slotted, StandsAt, StandsFor, after_notice, at_entity, has_entity, is_empty, is_fresh, listener_place, slot_of, taker_of, takes, with_entity, with_notice}
+use Rattle.dds_base.specs.EachEntity.{EachEntity}
+use Rattle.dds_notices.specs.Listeners.{ByEntity, has_entity, with_entity, HandedBack, Place, Places, Sets, Slot, Slotted, StandsAt, StandsFor, after_notice, at_entity, is_empty, is_fresh, listener_place, slot_of, taker_of, takes, with_notice}
 
 -- ---- by number
 
@@ -39,6 +40,18 @@ with_itself : {X : Type 0} (all : ByEntity X) (entity : Entity) → has_entity a
 with_itself all Participant h = refl
 with_itself all (Writer n) h = ap (λ ws. record all { writers = ws }) (itself all.writers n h)
 with_itself all (Reader n) h = ap (λ rs. record all { readers = rs }) (itself all.readers n h)
+
+-- another one is put where one was put before
+set_again : {X : Type 0} (xs : List X) (i : ℕ) (x y : X) → set (set xs i x) i y ≡ set xs i y
+set_again [] i x y = refl
+set_again (z ∷ zs) zero x y = refl
+set_again (z ∷ zs) (suc i) x y = ap (λ (ys : List _). z ∷ ys) (set_again zs i x y)
+
+with_again : {X : Type 0} (all : EachEntity X) (entity : Entity) (x y : X)
+    → with_entity (with_entity all entity x) entity y ≡ with_entity all entity y
+with_again all Participant x y = refl
+with_again all (Writer n) x y = ap (λ ws. record all { writers = ws }) (set_again all.writers (n - 1) x y)
+with_again all (Reader n) x y = ap (λ rs. record all { readers = rs }) (set_again all.readers (n - 1) x y)
 
 -- ---- who takes a status
 
@@ -132,8 +145,8 @@ module _ {L : Type 0} (notices : L → List Notice) (capacity : L → ℕ) (beco
       (eqb_tells k n)
 
   -- another listener stands, for a place of its own
-  pub entity_stands : (given : ByEntity L) (kept : Slotted L) (places : Places) (entity : Entity) (own : Option L)
-      (slot : Option (Slot L)) (place : Option Place)
+  pub entity_stands : (given : ByEntity L) (kept : Slotted L) (places : Places) (entity : Entity)
+      (own : Option L) (slot : Option (Slot L)) (place : Option Place)
       → StandsFor notices capacity becomes given kept places → has_entity kept entity ≡ true
       → StandsAt notices capacity becomes own slot place
       → StandsFor notices capacity becomes (with_entity given entity own) (with_entity kept entity slot)
@@ -174,15 +187,16 @@ module _ {L : Type 0} (notices : L → List Notice) (capacity : L → ℕ) (beco
     ];
   }
 
-  is_given : (given : ByEntity L) (kept : Slotted L) (entity : Entity) → length given.writers ≡ length kept.writers
-      → length given.readers ≡ length kept.readers → has_entity kept entity ≡ true → has_entity given entity ≡ true
+  is_given : (given : ByEntity L) (kept : Slotted L) (entity : Entity)
+      → length given.writers ≡ length kept.writers → length given.readers ≡ length kept.readers
+      → has_entity kept entity ≡ true → has_entity given entity ≡ true
   is_given given kept Participant ws rs h = refl
   is_given given kept (Writer n) ws rs h = subst (λ (count : ℕ). is_number n count ≡ true) (sym ws) h
   is_given given kept (Reader n) ws rs h = subst (λ (count : ℕ). is_number n count ≡ true) (sym rs) h
 
   -- what was given stays where a listener is told
-  given_stays : (given : ByEntity L) (kept : Slotted L) (places : Places) (entity : Entity) (slot : Option (Slot L))
-      (place : Option Place)
+  given_stays : (given : ByEntity L) (kept : Slotted L) (places : Places) (entity : Entity)
+      (slot : Option (Slot L)) (place : Option Place)
       → StandsFor notices capacity becomes given kept places → has_entity kept entity ≡ true
       → StandsAt notices capacity becomes (at_entity given entity) slot place
       → StandsFor notices capacity becomes given (with_entity kept entity slot) (with_entity places entity place)
@@ -193,52 +207,25 @@ module _ {L : Type 0} (notices : L → List Notice) (capacity : L → ℕ) (beco
       (entity_stands given kept places entity (at_entity given entity) slot place all h stands)
 
   -- the listener that stands at an entity is told, and another slot stands there for the place that keeps the notice
-  entity_tells : (before new old : Slotted L) (entity here : Entity) (notice : Notice) → before ≡ old → entity ≡ here
-      → has_entity old entity ≡ true
-      → ((given : Option L) (place : Option Place)
-      → StandsAt notices capacity becomes given (at_entity before here) place
-      → (slot : Option (Slot L)) × StandsAt notices capacity becomes given slot (with_notice place notice)
-      × (new ≡ with_entity before here slot))
+  pub entity_tells : (old between new : Slotted L) (entity : Entity) (none slot slot' : Option (Slot L))
+      (notice : Notice)
+      → has_entity old entity ≡ true → slot ≡ at_entity old entity → between ≡ with_entity old entity none
+      → ((given : Option L) (place : Option Place) → StandsAt notices capacity becomes given slot place
+      → StandsAt notices capacity becomes given slot' (with_notice place notice))
+      → new ≡ with_entity between entity slot'
       → (given : ByEntity L) (places : Places) → StandsFor notices capacity becomes given old places
       → StandsFor notices capacity becomes given new
       (with_entity places entity (with_notice (at_entity places entity) notice))
-  entity_tells before new old entity here notice is_old is_entity there told given places all =
-      let has = subst (λ (k : Slotted L). has_entity k here ≡ true) (sym is_old)
-      (subst (λ (e : Entity). has_entity old e ≡ true) is_entity there) in
-      let stands = subst (λ (k : Slotted L). StandsFor notices capacity becomes given k places) (sym is_old) all in
-      let one = told (at_entity given here) (at_entity places here) (stands.each here) in
-      rw (is_entity, one.2) (given_stays given before places here one.0
-      (with_notice (at_entity places here) notice) stands has one.1)
-
-  -- the listener of this number, among those of the writers or of the readers, as `tell_at` of src/slots.rt tells it
-  pub numbered_tells : (among : List (Option (Slot L)) → Slotted L) (xs new : List (Option (Slot L))) (old : Slotted L)
-      (entity here : Entity) (n : ℕ) (notice : Notice) → at_entity (among xs) here ≡ at_number xs n
-      → ((slot : Option (Slot L)) → with_entity (among xs) here slot ≡ among (set xs (n - 1) slot))
-      → among xs ≡ old → entity ≡ here → has_entity old entity ≡ true
-      → ((given : Option L) (place : Option Place) → StandsAt notices capacity becomes given (at_number xs n) place
-      → ToldAt notices capacity becomes given xs n notice place new)
-      → (given : ByEntity L) (places : Places) → StandsFor notices capacity becomes given old places
-      → StandsFor notices capacity becomes given (among new)
-      (with_entity places entity (with_notice (at_entity places entity) notice))
-  numbered_tells among xs new old entity here n notice at with_it is_old is_entity there told =
-      entity_tells (among xs) (among new) old entity here notice is_old is_entity there
-      (λ given place stands.
-      let one = told given place
-      (subst (λ (o : Option (Slot L)). StandsAt notices capacity becomes given o place) at stands) in
-      (one.slot, one.stands, ap (λ (ys : List (Option (Slot L))). among ys) one.others ∙ sym (with_it one.slot)))
-
-  -- that of the participant, which is always there
-  pub participant_tells : (p new : Option (Slot L)) (ws rs : List (Option (Slot L))) (old : Slotted L) (entity : Entity)
-      (notice : Notice)
-      → record { participant = p; writers = ws; readers = rs } ≡ old → entity ≡ Participant
-      → ((given : Option L) (place : Option Place) → StandsAt notices capacity becomes given p place
-      → StandsAt notices capacity becomes given new (with_notice place notice))
-      → (given : ByEntity L) (places : Places) → StandsFor notices capacity becomes given old places
-      → StandsFor notices capacity becomes given (record { participant = new; writers = ws; readers = rs })
-      (with_entity places entity (with_notice (at_entity places entity) notice))
-  participant_tells p new ws rs old entity notice is_old is_entity told =
-      entity_tells _ _ old entity Participant notice is_old is_entity (rw is_entity refl)
-      (λ given place stands. (new, told given place stands, refl))
+  entity_tells old between new entity none slot slot' notice there at taken told put given places all =
+      let stands : StandsAt notices capacity becomes (at_entity given entity) slot (at_entity places entity) =
+      subst (λ (o : Option (Slot L)). StandsAt notices capacity becomes (at_entity given entity) o
+      (at_entity places entity)) (sym at) (all.each entity) in
+      let again : with_entity old entity slot' ≡ new =
+      sym (put ∙ ap (λ (k : Slotted L). with_entity k entity slot') taken ∙ with_again old entity none slot') in
+      subst (λ (k : Slotted L). StandsFor notices capacity becomes given k
+      (with_entity places entity (with_notice (at_entity places entity) notice))) again
+      (given_stays given old places entity slot' (with_notice (at_entity places entity) notice) all there
+      (told (at_entity given entity) (at_entity places entity) stands))
 
   -- the listener of a slot is told of one more
   pub slot_tells : (given : Option L) (old new : Slot L) (place : Option Place) (notice : Notice) → new.mask ≡ old.mask

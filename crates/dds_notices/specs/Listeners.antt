@@ -1,13 +1,14 @@
 -- The listeners of a peer's entities: of which statuses each is told, and what it was told.
 --
 -- DDS 1.4, 2.2.2.1 (Entity, set_listener), 2.2.4.3 (listeners: the one of the entity, or else of what contains it).
-use Rattle.std.specs.Prelude.{◌≡◌, ℕ, ◌-◌, Bool, true, false, ◌||◌, not, List, [], ◌∷◌, ◌++◌, length, set, replicate, Option, None, Some, is_some, if◌then◌else◌}
+use Rattle.std.specs.Prelude.{◌≡◌, ℕ, Bool, true, false, ◌||◌, not, List, [], ◌∷◌, ◌++◌, length, Option, None, Some, is_some, if◌then◌else◌}
 use Rattle.std.specs.List.{FoldsTo, list_any}
 use Rattle.dds_base.specs.declared.code.Code.{Code}
 use Rattle.dds_base.specs.declared.code.Code.TheVariants.{BadParameter, PreconditionNotMet}
 use Rattle.dds_base.specs.declared.entity.Entity.{Entity}
-use Rattle.dds_base.specs.declared.entity.Entity.TheVariants.{Participant, Writer, Reader}
-use Rattle.dds_base.specs.Number.{at_number, is_number}
+use Rattle.dds_base.specs.declared.entity.Entity.TheVariants.{Participant}
+use Rattle.dds_base.specs.EachEntity.{EachEntity, entity_or, everywhere}
+pub use Rattle.dds_base.specs.EachEntity.{has_entity, with_entity}
 use Rattle.dds_notices.specs.declared.mask.StatusMask.{StatusMask}
 use Rattle.dds_notices.specs.declared.notice.Notice.{Notice}
 use Rattle.dds_notices.specs.declared.notice.Status.{Status}
@@ -17,33 +18,16 @@ use Rattle.dds_notices.specs.Notices.{keep_last}
 -- ---- by entity
 
 -- what stands at the participant, at each writer and at each reader, if anything
-pub record ByEntity (X : Type 0) : Type 0 where
-  pub participant : Option X
-  pub writers : List (Option X)
-  pub readers : List (Option X)
+abbrev pub ByEntity : Type 0 → Type 0
+ByEntity X = EachEntity (Option X)
 
--- there is such an entity
-abbrev pub has_entity : {X : Type 0} → ByEntity X → Entity → Bool
-has_entity all Participant = true
-has_entity all (Writer n) = is_number n (length all.writers)
-has_entity all (Reader n) = is_number n (length all.readers)
-
--- what stands at an entity
+-- what stands at an entity, if anything does
 abbrev pub at_entity : {X : Type 0} → ByEntity X → Entity → Option X
-at_entity all Participant = all.participant
-at_entity all (Writer n) = at_number all.writers n
-at_entity all (Reader n) = at_number all.readers n
-
--- another one, or none, stands at an entity which is there
-abbrev pub with_entity : {X : Type 0} → ByEntity X → Entity → Option X → ByEntity X
-with_entity all Participant x = record all { participant = x }
-with_entity all (Writer n) x = record all { writers = set all.writers (n - 1) x }
-with_entity all (Reader n) x = record all { readers = set all.readers (n - 1) x }
+at_entity all entity = entity_or all entity None
 
 -- nothing stands at so many writers and so many readers
 abbrev pub nobody : {X : Type 0} → ℕ → ℕ → ByEntity X
-nobody writers readers =
-    record { participant = None; writers = replicate writers None; readers = replicate readers None }
+nobody writers readers = everywhere None writers readers
 
 -- something stands somewhere
 abbrev pub is_any : {X : Type 0} → ByEntity X → Bool

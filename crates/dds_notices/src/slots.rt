@@ -3,32 +3,27 @@
 //! DDS 1.4, 2.2.2.1 (Entity: set_listener), 2.2.4.3 (listeners: the one of the entity, or else of what contains
 //! it).
 
-ghost use Rattle.std.specs.Prelude.{◌≡◌, ◌≢◌, [], ◌-◌, true, Option, set, replicate, length, is_some, None, Some, IfOk, IfErr, OnErr, OnOk};
+ghost use Rattle.std.specs.Prelude.{◌≡◌, ◌≢◌, [], true, Option, is_some, None, Some, IfOk, IfErr, OnErr, OnOk};
 ghost use Rattle.std.specs.List.{list_any};
 ghost use Rattle.std.specs.Option.{option_copied};
 ghost use Rattle.dds_base.specs.declared.code.Code.TheVariants.{Memory};
 ghost use Rattle.dds_base.specs.Refusal.{Refuses};
-ghost use Rattle.dds_base.specs.Number.{at_number, is_number};
-ghost use Rattle.dds_notices.specs.Listeners.{ByEntity, Place, Places, Sets, StandsAt, StandsFor, after_notice, at_entity, has_entity, is_any, kept_in, listener_refusal, nobody, shown, unknown_entity, taker_of, with_entity, with_notice};
-ghost use Rattle.dds_notices.specs.Slotted.{ToldAt};
+ghost use Rattle.dds_notices.specs.Listeners.{ByEntity, has_entity, with_entity, Places, Sets, StandsFor, after_notice, at_entity, is_any, kept_in, listener_refusal, nobody, shown, unknown_entity, taker_of, with_notice};
 
 use crate::listener::Listener;
 use crate::mask::StatusMask;
 use crate::notice::{Notice, Status};
 use crate::slot::{Slot, is_fresh, kept, listener_of, shown, slot_of, takes, tell};
-use dds_base::{Code, Entity};
+use dds_base::{Code, EachEntity, Entity};
 use std::alloc::{AllocError, Global};
 use std::marker::Model;
-use std::mem::replace;
 
 /// The listeners of a peer's entities: at most one at the participant, at each writer and at each reader.
 ///
 /// DDS 1.4, 2.2.2.1 (Entity: set_listener), 2.2.4.3 (access through listeners).
 #[derive(Drop)]
 pub struct Slots<L> {
-    participant: Option<Slot<L>>,
-    writers: Vec<Option<Slot<L>>>,
-    readers: Vec<Option<Slot<L>>>,
+    slots: EachEntity<Option<Slot<L>>>,
 }
 
 impl<L> Model for Slots<L> {
@@ -36,25 +31,7 @@ impl<L> Model for Slots<L> {
 
     ghost Value = { Slotted L };
 
-    ghost view = { λ s. record { participant = s.participant; writers = s.writers.items; readers = s.readers.items } };
-}
-
-/// Whether there is something of this number among so many.
-fn is_number(number: u8, count: usize) -> bool
-    ensures { result ≡ is_number number count }
-{
-    0 < number && usize::from(number) <= count
-}
-
-/// So many places with nobody in them.
-fn empty<L: Listener>(alloc: Global, count: usize) -> Result<Vec<Option<Slot<L>>>, AllocError>
-    ensures { IfOk result (λ slots. slots.items ≡ replicate count None) }
-{
-    let mut slots = Vec::with_capacity(alloc, count)?;
-    for _ in 0..count {
-        slots.push(None)?;
-    }
-    Ok(slots)
+    ghost view = { λ s. s.slots };
 }
 
 /// Whether somebody is there.
@@ -62,42 +39,6 @@ fn is_any<L: Listener>(slots: &[Option<Slot<L>>]) -> bool
     ensures { result ≡ list_any is_some slots.now }
 {
     slots.iter().any(|slot| slot.is_some())
-}
-
-/// Who has this number.
-fn at_number<L: Listener>(slots: &[Option<Slot<L>>], number: u8) -> Option<&Slot<L>>
-    ensures { option_copied result ≡ at_number slots.now number }
-{
-    if number == 0 {
-        return None;
-    }
-    match slots.get(usize::from(number) - 1) {
-        Some(Some(slot)) => Some(slot),
-        _ => None,
-    }
-}
-
-/// Tells the one that has this number.
-fn tell_number<L: Listener>(slots: &mut Vec<Option<Slot<L>>>, number: u8, notice: &Notice)
-    requires { is_number number (length slots.old.items) ≡ true }
-    ensures { (given : Option L) (place : Option Place)
-        → StandsAt L.notices L.capacity L.becomes given (at_number slots.old.items number) place
-        → ToldAt L.notices L.capacity L.becomes given slots.old.items number notice.now place slots.new.items }
-{
-    tell(&mut slots[usize::from(number) - 1], notice);
-}
-
-/// Puts another one where this number is, and hands out the one that was there.
-fn replace_number<L: Listener>(
-    slots: &mut Vec<Option<Slot<L>>>,
-    number: u8,
-    slot: Option<Slot<L>>,
-) -> Option<Slot<L>>
-    requires { is_number number (length slots.old.items) ≡ true }
-    ensures old { result ≡ at_number slots.old.items number }
-    ensures new { slots.new.items ≡ set slots.old.items (number - 1) slot }
-{
-    replace(&mut slots[usize::from(number) - 1], slot)
 }
 
 impl<L: Listener> Slots<L> {
@@ -111,9 +52,7 @@ impl<L: Listener> Slots<L> {
         ensures nobody { IfOk result (λ slots. slots ≡ nobody writers readers) }
     {
         Ok(Slots {
-            participant: None,
-            writers: empty(alloc, writers)?,
-            readers: empty(alloc, readers)?,
+            slots: EachEntity::open(alloc, writers, readers, || None)?,
         })
     }
 
@@ -121,28 +60,18 @@ impl<L: Listener> Slots<L> {
     pub fn has_listeners(&self) -> bool
         ensures listeners { result ≡ is_any self.now }
     {
-        self.participant.is_some() || is_any(&self.writers) || is_any(&self.readers)
-    }
-
-    /// Whether there is such an entity.
-    fn has(&self, entity: Entity) -> bool
-        ensures { result ≡ has_entity self.now entity }
-    {
-        match entity {
-            Entity::Participant => true,
-            Entity::Writer(number) => is_number(number, self.writers.len()),
-            Entity::Reader(number) => is_number(number, self.readers.len()),
-        }
+        self.at(Entity::Participant).is_some()
+            || is_any(self.slots.writers())
+            || is_any(self.slots.readers())
     }
 
     /// Who is at an entity.
     fn at(&self, entity: Entity) -> Option<&Slot<L>>
         ensures { option_copied result ≡ at_entity self.now entity }
     {
-        match entity {
-            Entity::Participant => self.participant.as_ref(),
-            Entity::Writer(number) => at_number(&self.writers, number),
-            Entity::Reader(number) => at_number(&self.readers, number),
+        match self.slots.at(entity) {
+            Some(Some(slot)) => Some(slot),
+            _ => None,
         }
     }
 
@@ -155,7 +84,7 @@ impl<L: Listener> Slots<L> {
             → StandsFor L.notices L.capacity L.becomes given self.now places
             → result ≡ is_some (taker_of places entity status.now) }
     {
-        takes(self.at(entity), status) || takes(self.participant.as_ref(), status)
+        takes(self.at(entity), status) || takes(self.at(Entity::Participant), status)
     }
 
     /// Of which statuses the listener of an entity is told, and how many notices it can keep; `None` where there is none.
@@ -190,7 +119,7 @@ impl<L: Listener> Slots<L> {
             → StandsFor L.notices L.capacity L.becomes given self.now places
             → kept_in (at_entity places entity) ≢ []) }
     {
-        if !self.has(entity) {
+        if !self.slots.has(entity) {
             return Err(Code::BadParameter);
         }
         Ok(kept(alloc, self.at(entity))?)
@@ -204,11 +133,9 @@ impl<L: Listener> Slots<L> {
             → StandsFor L.notices L.capacity L.becomes given self.new
             (with_entity places entity (with_notice (at_entity places entity) notice.now)) }
     {
-        match entity {
-            Entity::Participant => tell(&mut self.participant, notice),
-            Entity::Writer(number) => tell_number(&mut self.writers, number, notice),
-            Entity::Reader(number) => tell_number(&mut self.readers, number, notice),
-        }
+        let mut slot = self.put(entity, None);
+        tell(&mut slot, notice);
+        self.put(entity, slot);
     }
 
     /// Tells the listener that takes the status of the notice, if one does: the entity's own, or else the
@@ -223,7 +150,7 @@ impl<L: Listener> Slots<L> {
     {
         if takes(self.at(notice.entity), &notice.status) {
             self.tell_at(notice.entity, notice);
-        } else if takes(self.participant.as_ref(), &notice.status) {
+        } else if takes(self.at(Entity::Participant), &notice.status) {
             self.tell_at(Entity::Participant, notice);
         }
     }
@@ -234,11 +161,7 @@ impl<L: Listener> Slots<L> {
         ensures old { result ≡ at_entity self.old entity }
         ensures new { self.new ≡ with_entity self.old entity slot }
     {
-        match entity {
-            Entity::Participant => replace(&mut self.participant, slot),
-            Entity::Writer(number) => replace_number(&mut self.writers, number, slot),
-            Entity::Reader(number) => replace_number(&mut self.readers, number, slot),
-        }
+        self.slots.replace(entity, slot)
     }
 
     /// Sets the listener of an entity, with the statuses that it is told of, and hands back the one that was set
@@ -267,7 +190,7 @@ impl<L: Listener> Slots<L> {
         // A refusal changes nothing.
         ensures err { OnErr result (self.new ≡ self.old) }
     {
-        if !self.has(entity) {
+        if !self.slots.has(entity) {
             return Err((Code::BadParameter, listener));
         }
         if !is_fresh(&listener) {

@@ -1,8 +1,8 @@
 -- A network whose peers have filters and listeners: what it keeps of each, its events, and a filter or a listener more.
 use Rattle.std.proofs.Common.{None, ◌≡◌, ℕ, zero, suc, ◌+◌, ◌<◌, Bool, false, List, [], ◌∷◌, ◌++◌, Option, Some, map, set, length, get_or, slice_get, refl, ap, sym, ◌∙◌, subst, inr, arith}
-use Rattle.std.specs.Prelude.{IfOk, IfErr, Result, ◌&&◌, if◌then◌else◌, nat_lt, nat_le}
+use Rattle.std.specs.Prelude.{IfOk, IfErr, OnErr, Ok, Err, Result, ◌&&◌, if◌then◌else◌, nat_lt, nat_le}
 use Rattle.std.proofs.lemmas.Bool.{ne_eqb}
-use Rattle.std.proofs.lemmas.List.{length-map, map-set}
+use Rattle.std.proofs.lemmas.List.{length-map, map-set, set-get_or}
 use Rattle.std.proofs.lemmas.Option.{slice_get-get_or}
 use Rattle.dds_base.specs.declared.code.Code.{Code}
 use Rattle.dds_base.specs.declared.code.Code.TheVariants.{BadParameter}
@@ -396,6 +396,15 @@ module _ {F L : Type 0} (notices : L → List Notice) (capacity : L → ℕ) (be
       subst (λ (k : Held F L). IfOk result (λ number. Adds notices capacity becomes k peer filter number new)) view
       (ok_as result (λ number. adds_at old i peer filter number core after new is
       (below_count old now i count view low counted) here same) h)
+
+  -- a refusal of the peer of this index leaves the network as it was
+  pub stays_at : {T E : Type 0} (old now : Held F L) (i : ℕ) (core after : CoreKept F L) (result : Result T E) → old ≡ now
+      → core ≡ get_or old.cores i core → OnErr result (after ≡ core)
+      → OnErr result (record old { cores = set old.cores i after } ≡ now)
+  stays_at old now i core after (Ok x) view here h = h
+  stays_at old now i core after (Err e) view here h =
+      ap (λ (cs : List (CoreKept F L)). record old { cores = cs })
+      (ap (λ (c : CoreKept F L). set old.cores i c) (h ∙ here) ∙ set-get_or old.cores i core) ∙ view
 
   pub refuse_at : (old now : Held F L) (i peer count : ℕ) (core : CoreKept F L) (result : Result ℕ (Code × F))
       → old ≡ now → peer ≡ i + 1 → i < count → count ≡ length now.cores → core ≡ get_or old.cores i core

@@ -2,7 +2,7 @@
 //!
 //! It is this project's own; its peers behave by RTPS 2.5, 8.4, and answer by DDS 1.4, 2.2.2.4 and 2.2.2.5.
 
-ghost use Rattle.std.specs.Prelude.{◌≡◌, ℕ, ◌&&◌, ◌+◌, ◌-◌, ◌^◌, ◌<◌, ◌≤◌, false, nat_lt, nat_le, IfOk, IfErr, OnErr, MatchOption, length, slice_get, None, Some, []};
+ghost use Rattle.std.specs.Prelude.{◌≡◌, ℕ, ◌&&◌, ◌+◌, ◌-◌, ◌^◌, ◌<◌, ◌≤◌, false, nat_lt, nat_le, IfOk, IfErr, OnErr, MatchOption, length, slice_get, None, Some, [], vec_len, vec_capacity};
 ghost use Rattle.std.specs.Option.{option_copied};
 ghost use Rattle.dds_base.specs.Checked.{check_refusal};
 ghost use Rattle.dds_base.specs.declared.config.Config.{Config as ConfigOf};
@@ -122,6 +122,16 @@ fn open_peers<F: Filter, L: Listener>(
     Ok(peers)
 }
 
+/// Room for so many replies. Where there is to be none it takes no memory.
+fn room_for(alloc: Global, count: usize) -> Result<Vec<Reply>, Code>
+    ensures items { IfOk result (λ replies. replies.items ≡ []) }
+    ensures len { IfOk result (λ replies. vec_len replies ≡ 0) }
+    ensures capacity { IfOk result (λ replies. count ≤ vec_capacity replies) }
+    ensures memory { IfErr result (λ code. (code ≡ Memory) × (1 ≤ count)) }
+{
+    Ok(Vec::with_capacity(alloc, count)?)
+}
+
 impl<F: Filter, L: Listener> World<F, L> {
     /// The network of a configuration, at its opening: its peers, 1 to 16, in their order, without filters and
     /// listeners.
@@ -207,7 +217,7 @@ impl<F: Filter, L: Listener> World<F, L> {
         // A refusal leaves the network as it was.
         ensures err { OnErr result (self.new ≡ self.old) }
     {
-        let mut replies = Vec::with_capacity(self.alloc, events.len())?;
+        let mut replies = room_for(self.alloc, events.len())?;
         for event in events {
             let reply = self.step(event);
             if replies.push(reply).is_err() {

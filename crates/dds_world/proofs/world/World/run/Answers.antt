@@ -1,4 +1,7 @@
-use Rattle.std.proofs.Common.{rules, map, refl, ap, ◌≡◌, List, [], ◌∷◌, ◌++◌, sym, subst, ◌∙◌, arith}
+use Rattle.std.specs.Prelude.{vec_capacity, Result, Ok, Err, IfErr, IsErrAnd, length}
+use Rattle.dds_base.specs.declared.code.Code.{Code}
+use Rattle.dds_base.specs.declared.code.Code.TheVariants.{Memory}
+use Rattle.std.proofs.Common.{rules, map, refl, ap, ◌≡◌, ◌≤◌, ℕ, List, [], ◌∷◌, ◌++◌, sym, subst, ◌∙◌, arith}
 use Rattle.std.proofs.lemmas.Grind.{common_steps}
 use Rattle.std.proofs.lemmas.Iterator.Adapters.{YieldsList-from_vec}
 use Rattle.std.proofs.lemmas.Iterator.Consumers.{YieldsList-end}
@@ -7,8 +10,34 @@ use Rattle.dds_machine.specs.declared.reply.Reply.{Reply}
 use Rattle.dds_world.specs.Holding.{kept_of, tests_in}
 use Rattle.dds_world.specs.WorldStanding.{KeepsRules, RunsByRules}
 use Rattle.dds_world.proofs.Holding.{same_tests}
-use Rattle.dds_world.proofs.RunSteps.{runs_of_machine, runs_more}
+use Rattle.dds_world.proofs.RunSteps.{runs_none, runs_of_machine, runs_more}
 use Rattle.dds_world.proofs.world.World.run.Goals as goal
+
+-- what holds of an error holds of the result that hands it on
+handed-on : {A E : Type 0} (P : E → Type 0) (x : E) (r : Result A E) → IsErrAnd r (λ e. e ≡ x) → P x → IfErr r P
+handed-on P x (Ok a) is holds = tt
+handed-on P x (Err e) is holds = subst P (sym is) holds
+
+pub returns-in_err-replies-clause-memory : goal.returns-in_err-replies-clause-memory
+returns-in_err-replies-clause-memory g c =
+    handed-on (λ (code : Code). (code ≡ Memory) × (1 ≤ length c.args.events.items)) c.in_err-replies.field-0.0
+    c.from_residual.result c.from_residual.ensures.1 (
+      c.in_err-replies.ensures.memory.0,
+      subst (λ (n : ℕ). 1 ≤ n) (c.len.ensures ∙ c.args.events.ok.0) c.in_err-replies.ensures.memory.1,
+    )
+
+pub loop-event-init : goal.loop-event-init
+loop-event-init g c = (
+  λ given.
+      let tests = tests_in g.F.Filter.meaning c.args.self.now in
+      let old = kept_of g.L.Listener.notices g.L.Listener.capacity g.L.Listener.becomes given c.args.self.now in
+      subst (λ (rs : List Reply). RunsByRules tests old [] rs old) (sym c.in_ok-replies.ensures.items)
+      (runs_none old),
+  refl,
+  c.in_ok-replies.ensures.len,
+  subst (λ (n : ℕ). n ≤ vec_capacity c.in_ok-replies.replies) (c.len.ensures ∙ c.args.events.ok.0)
+      c.in_ok-replies.ensures.capacity,
+)
 
 pub loop-event-preserved : goal.loop-event-preserved
 loop-event-preserved g c =
@@ -37,8 +66,8 @@ map_same : {X : Type 0} (xs : List X) → map (λ (x : X). x) xs ≡ xs
 map_same [] = refl
 map_same (x ∷ xs) = ap (λ ys. x ∷ ys) (map_same xs)
 
-pub returns-clause-run : goal.returns-clause-run
-returns-clause-run g c = λ given.
+pub returns-clause-rules : goal.returns-clause-rules
+returns-clause-rules g c = λ given.
     let tests = tests_in g.F.Filter.meaning c.args.self.now in
     let old = kept_of g.L.Listener.notices g.L.Listener.capacity g.L.Listener.becomes given c.args.self.now in
     let new = kept_of g.L.Listener.notices g.L.Listener.capacity g.L.Listener.becomes given c.loop-event.self in
@@ -47,9 +76,13 @@ returns-clause-run g c = λ given.
     (search rules)) c.loop-event.yielded c.loop-event.event-iterator c.loop-event.yielded_by c.next.result
     c.next.new.self c.in-None.is c.next.ensures.steps in
     let all : c.loop-event.yielded ≡ c.args.events.items = sym (map_same c.loop-event.yielded) ∙ end.0 in
-    let replies : List Reply = c.from_vec.result in
-    let whole : RunsByRules tests old c.args.events.items replies new =
-    subst (λ (es : List WorldEvent). RunsByRules tests old es replies new) all
+    subst (λ (es : List WorldEvent). RunsByRules tests old es c.from_vec.result new) all
     (subst (λ (rs : List Reply). RunsByRules tests old c.loop-event.yielded rs new) (sym c.from_vec.ensures.elements)
-    (c.loop-event.invariant.0 given)) in
-    runs_of_machine old new c.args.events.items replies whole
+    (c.loop-event.invariant.0 given))
+
+pub returns-clause-run : goal.returns-clause-run
+returns-clause-run g c = λ given.
+    runs_of_machine
+    (kept_of g.L.Listener.notices g.L.Listener.capacity g.L.Listener.becomes given c.args.self.now)
+    (kept_of g.L.Listener.notices g.L.Listener.capacity g.L.Listener.becomes given c.loop-event.self)
+    c.args.events.items c.from_vec.result (returns-clause-rules g c given)
