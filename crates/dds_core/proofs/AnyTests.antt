@@ -7,7 +7,7 @@ use Rattle.dds_machine.specs.declared.call.Call.TheVariants as call
 use Rattle.dds_protocol.specs.declared.event.Event.TheVariants as event
 use Rattle.dds_protocol.specs.declared.event.Output.{Output}
 use Rattle.dds_machine.specs.declared.reply.Reply.{Reply}
-use Rattle.dds_machine.specs.declared.reply.Reply.TheVariants.{KeyValue, Refused, Reported}
+use Rattle.dds_machine.specs.declared.reply.Reply.TheVariants.{Reported}
 use Rattle.dds_machine.specs.Calls.{Answers}
 use Rattle.dds_machine.specs.Part.{Dds, Part}
 use Rattle.dds_protocol.specs.Peer.{EventStep, Peer}
@@ -25,39 +25,11 @@ is_plain other = true
 
 any_answers : (tests : Tests) (old : Part) (c : Call) (reply : Reply) (dds : Dds) → is_plain c ≡ true
     → Answers no_filters old c reply dds → Answers tests old c reply dds
-any_answers tests old (call.Register w key) reply dds plain a = a
-any_answers tests old (call.Write w key value) reply dds plain a = a
-any_answers tests old (call.Dispose w key) reply dds plain a = a
-any_answers tests old (call.Unregister w key) reply dds plain a = a
-any_answers tests old (call.AssertLiveliness w) reply dds plain a = a
-any_answers tests old (call.SetStrength w strength) reply dds plain a = a
-any_answers tests old (call.Read r selection) reply dds plain a = a
-any_answers tests old (call.Take r selection) reply dds plain a = a
-any_answers tests old (call.GetKeyValue r instance) (KeyValue key) dds plain a = a
-any_answers tests old (call.GetKeyValue r instance) (Refused code) dds plain a = a
-any_answers tests old (call.GetKeyValue r instance) reply dds plain a = absurd a
-any_answers tests old (call.LookupInstance r key) reply dds plain a = a
-any_answers tests old (call.GetSampleLost r) reply dds plain a = a
-any_answers tests old (call.GetLivelinessChanged r) reply dds plain a = a
-any_answers tests old (call.GetLivelinessLost w) reply dds plain a = a
 any_answers tests old (call.ReadByCondition r scope c) reply dds plain a = absurd cc
 any_answers tests old (call.TakeByCondition r scope c) reply dds plain a = absurd cc
-any_answers tests old (call.CreateReadCondition r masks) reply dds plain a = a
-any_answers tests old (call.CreateQueryCondition r masks filter) reply dds plain a = a
-any_answers tests old call.CreateGuardCondition reply dds plain a = a
-any_answers tests old (call.SetTriggerValue c value) reply dds plain a = a
-any_answers tests old (call.DeleteCondition c) reply dds plain a = a
 any_answers tests old (call.GetTriggerValue c) reply dds plain a = absurd cc
-any_answers tests old call.CreateWaitSet reply dds plain a = a
-any_answers tests old (call.DeleteWaitSet s) reply dds plain a = a
-any_answers tests old (call.AttachCondition s c) reply dds plain a = a
-any_answers tests old (call.DetachCondition s c) reply dds plain a = a
-any_answers tests old (call.GetConditions s) reply dds plain a = a
-any_answers tests old (call.WaitBegin s deadline) reply dds plain a = a
 any_answers tests old (call.WaitLook s) reply dds plain a = absurd cc
-any_answers tests old (call.WaitEnd s) reply dds plain a = a
-any_answers tests old (call.SetEnabledStatuses entity mask) reply dds plain a = a
-any_answers tests old (call.GetStatusChanges entity) reply dds plain a = a
+any_answers tests old other reply dds plain a = a
 
 -- a call
 pub any_call : (tests : Tests) (old new : PeerKept) (c : Call) (output : Output) → Steps old (event.Call c) output new

@@ -68,39 +68,10 @@ pub follows_as : {tests : Tests} (kept : PeerKept) (config : Config) (peer : Pee
 follows_as {tests} kept config peer ev o p same h =
     subst (λ (x : Output). FollowsBy tests kept config peer ev x) (sym same) h
 
--- what is refused enters nothing
+-- what is refused enters nothing; the first row is there so that the second is read call by call
 pub refused_nothing : (part : Part) (c : Call) (x : Code) → effect_of part c (Refused x) ≡ nothing
 refused_nothing part (call.Register w key) x = refl
-refused_nothing part (call.Write w key value) x = refl
-refused_nothing part (call.Dispose w key) x = refl
-refused_nothing part (call.Unregister w key) x = refl
-refused_nothing part (call.AssertLiveliness w) x = refl
-refused_nothing part (call.SetStrength w strength) x = refl
-refused_nothing part (call.Read r selection) x = refl
-refused_nothing part (call.Take r selection) x = refl
-refused_nothing part (call.GetKeyValue r instance) x = refl
-refused_nothing part (call.LookupInstance r key) x = refl
-refused_nothing part (call.GetSampleLost r) x = refl
-refused_nothing part (call.GetLivelinessChanged r) x = refl
-refused_nothing part (call.GetLivelinessLost w) x = refl
-refused_nothing part (call.ReadByCondition r scope n) x = refl
-refused_nothing part (call.TakeByCondition r scope n) x = refl
-refused_nothing part (call.CreateReadCondition r masks) x = refl
-refused_nothing part (call.CreateQueryCondition r masks filter) x = refl
-refused_nothing part call.CreateGuardCondition x = refl
-refused_nothing part (call.SetTriggerValue n value) x = refl
-refused_nothing part (call.DeleteCondition n) x = refl
-refused_nothing part (call.GetTriggerValue n) x = refl
-refused_nothing part call.CreateWaitSet x = refl
-refused_nothing part (call.DeleteWaitSet n) x = refl
-refused_nothing part (call.AttachCondition n m) x = refl
-refused_nothing part (call.DetachCondition n m) x = refl
-refused_nothing part (call.GetConditions n) x = refl
-refused_nothing part (call.WaitBegin n deadline) x = refl
-refused_nothing part (call.WaitLook n) x = refl
-refused_nothing part (call.WaitEnd n) x = refl
-refused_nothing part (call.SetEnabledStatuses e mask) x = refl
-refused_nothing part (call.GetStatusChanges e) x = refl
+refused_nothing part other x = refl
 
 -- a call that needs no memory is answered where no cause refuses it ..
 pub answered_as : (refusal : Option Code) (answer : Reply) (after : Dds) (part : Part) (reply : Reply)

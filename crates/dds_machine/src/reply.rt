@@ -2,8 +2,6 @@
 //!
 //! DDS 1.4, 2.2.1.1 (return codes), 2.2.2.4 and 2.2.2.5 (what calls return); RTPS 2.5, 8.4 (behaviour).
 
-ghost use Rattle.std.specs.Prelude.{◌≡◌};
-
 use crate::endpoint::Endpoint;
 use dds_base::{
     Code, Handle, Key, LivelinessChangedStatus, LivelinessLostStatus, PassedRun, Sample,
@@ -11,7 +9,6 @@ use dds_base::{
 };
 use dds_conditions::Cond;
 use dds_notices::StatusMask;
-use std::alloc::AllocError;
 
 /// What a delivery moved. Peers, writers and readers are numbered from 1.
 ///
@@ -83,69 +80,4 @@ pub enum Reply {
     /// A refusal, with its cause. Nothing changed, but that `NoData` is entered as the access that it is, and that
     /// `Timeout` of a look at a WaitSet ends the wait.
     Refused(Code),
-}
-
-impl Clone for Move {
-    ghost is_clone = { λ made copy. copy ≡ made };
-
-    fn clone(&self) -> Result<Move, AllocError> {
-        Ok(match self {
-            Move::Place {
-                writer,
-                reader,
-                to,
-                passed,
-            } => Move::Place {
-                writer: *writer,
-                reader: *reader,
-                to: *to,
-                passed: passed.copied()?,
-            },
-            Move::Heard { writer, reader } => Move::Heard {
-                writer: *writer,
-                reader: *reader,
-            },
-            Move::Acknowledged { writer, reader, to } => Move::Acknowledged {
-                writer: *writer,
-                reader: *reader,
-                to: *to,
-            },
-        })
-    }
-}
-
-impl Clone for Report {
-    ghost is_clone = { λ report copy. copy ≡ report };
-
-    fn clone(&self) -> Result<Report, AllocError> {
-        let moves = self.moves.cloned()?;
-        Ok(Report {
-            moves,
-            refused: self.refused,
-        })
-    }
-}
-
-impl Clone for Reply {
-    ghost is_clone = { λ reply copy. copy ≡ reply };
-
-    fn clone(&self) -> Result<Reply, AllocError> {
-        Ok(match self {
-            Reply::Done => Reply::Done,
-            Reply::Samples(samples) => Reply::Samples(samples.cloned()?),
-            Reply::KeyValue(key) => Reply::KeyValue(*key),
-            Reply::InstanceHandle(handle) => Reply::InstanceHandle(*handle),
-            Reply::SampleLost(status) => Reply::SampleLost(*status),
-            Reply::LivelinessChanged(status) => Reply::LivelinessChanged(*status),
-            Reply::LivelinessLost(status) => Reply::LivelinessLost(*status),
-            Reply::Created(number) => Reply::Created(*number),
-            Reply::TriggerValue(value) => Reply::TriggerValue(*value),
-            Reply::Conditions(conditions) => Reply::Conditions(conditions.copied()?),
-            Reply::Active(conditions) => Reply::Active(conditions.copied()?),
-            Reply::Waiting => Reply::Waiting,
-            Reply::StatusChanges(mask) => Reply::StatusChanges(*mask),
-            Reply::Reported(report) => Reply::Reported(report.clone()?),
-            Reply::Refused(code) => Reply::Refused(*code),
-        })
-    }
 }

@@ -5,7 +5,6 @@ use Rattle.std.specs.Option.{option_map}
 use Rattle.std.proofs.lemmas.Option.{same_Some}
 use Rattle.std.proofs.lemmas.List.{length-map}
 use Rattle.dds_base.specs.declared.change.Change.{Change}
-use Rattle.dds_base.specs.declared.code.Code.{Code}
 use Rattle.dds_base.specs.declared.code.Code.TheVariants as code
 use Rattle.dds_base.specs.declared.config.Config.{Config}
 use Rattle.dds_base.specs.declared.config.PeerConfig.{PeerConfig}
@@ -13,16 +12,11 @@ use Rattle.dds_base.specs.declared.config.WriterConfig.{WriterConfig}
 use Rattle.dds_base.specs.declared.config.ReaderConfig.{ReaderConfig}
 use Rattle.dds_base.specs.declared.happening.Happening.{Happening}
 use Rattle.dds_base.specs.declared.happening.Happening.TheVariants.{Read as HasRead, Took, Heard as WasHeard, Died}
-use Rattle.dds_base.specs.declared.happening.SamplePosition.{SamplePosition}
-use Rattle.dds_base.specs.declared.selection.Selection.{Selection}
 use Rattle.dds_base.specs.declared.qos.HistoryQos.TheVariants.{KeepAll}
 use Rattle.dds_base.specs.declared.qos.ReaderQos.{ReaderQos}
 use Rattle.dds_base.specs.Liveliness.{dead_at, with_deaths}
 use Rattle.dds_base.specs.Matched.{is_reliable}
-use Rattle.dds_conditions.specs.declared.condition.Cond.{Cond}
-use Rattle.dds_conditions.specs.Watched.{Watched}
 use Rattle.dds_machine.specs.declared.call.Call.{Call}
-use Rattle.dds_machine.specs.declared.call.Call.TheVariants.{Register, Write, Dispose, Unregister, AssertLiveliness, SetStrength, Read, Take, GetKeyValue, LookupInstance, GetSampleLost, GetLivelinessChanged, GetLivelinessLost, ReadByCondition, TakeByCondition, CreateReadCondition, CreateQueryCondition, CreateGuardCondition, SetTriggerValue, DeleteCondition, GetTriggerValue, CreateWaitSet, DeleteWaitSet, AttachCondition, DetachCondition, GetConditions, WaitBegin, WaitLook, WaitEnd, SetEnabledStatuses, GetStatusChanges}
 use Rattle.dds_machine.specs.declared.endpoint.Endpoint.{Endpoint}
 use Rattle.dds_machine.specs.declared.event.WorldEvent.{WorldEvent}
 use Rattle.dds_machine.specs.declared.event.WorldEvent.TheVariants as world
@@ -30,14 +24,13 @@ use Rattle.dds_machine.specs.declared.reply.Move.{Move}
 use Rattle.dds_machine.specs.declared.reply.Move.TheVariants.{Place, Acknowledged, Heard}
 use Rattle.dds_base.specs.declared.happening.PassedRun.{PassedRun}
 use Rattle.dds_machine.specs.declared.reply.Reply.{Reply}
-use Rattle.dds_machine.specs.declared.reply.Reply.TheVariants.{Done, Samples, KeyValue, Reported, Refused}
+use Rattle.dds_machine.specs.declared.reply.Reply.TheVariants.{Done, Reported, Refused}
 use Rattle.dds_machine.specs.Numbered.{numbered, with_numbered, HasNumber}
-use Rattle.dds_machine.specs.Part.{same_endpoint, WriterProxy, Reader, Dds, Part, no_reader, no_part, own_writer, own_proxies, own_reader, at_reader, at_writer, row_of, place_of, with_place, with_heard, with_acknowledged, publication_among, writer_changes, nothing_seen, Seen}
+use Rattle.dds_machine.specs.Part.{same_endpoint, WriterProxy, Reader, Dds, Part, no_reader, no_part, own_writer, own_proxies, own_reader, at_reader, at_writer, row_of, place_of, with_place, with_heard, with_acknowledged, publication_among, writer_changes, nothing_seen}
 use Rattle.dds_machine.specs.Moves.{Grounds, as_to, match_of, IsMatchedAt, position_at, AreMoves, Places, Hears, DeliveryStep}
 use Rattle.dds_machine.specs.Ticks.{TickStep, reader_ticked}
-use Rattle.dds_machine.specs.Refusals.{write_refusal, dispose_refusal, unregister_refusal}
-use Rattle.dds_machine.specs.Calls.{Effect, nothing, writes, effect, effect_of, after_look, seen_lost, seen_liveliness, with_happening, IsDoneUnless, AnswersAccess, AnswersByCondition, AnswersLook, IsAnswered, IsAnsweredWatching, IsAnsweredInMemory, Answers, CallStep}
-use Rattle.dds_machine.specs.Watching.{Test, Tests}
+use Rattle.dds_machine.specs.Calls.{Effect, nothing, writes, effect, effect_of, Answers, CallStep}
+use Rattle.dds_machine.specs.Watching.{Tests}
 use Rattle.dds_machine.specs.Machine.{Machine, AllTests, part_at, writer_at, place_at, grounds_of, Step}
 use Rattle.dds_machine.specs.Runs.{Run}
 use Rattle.dds_protocol.specs.InOrder.{came_from, CameInOrder}
@@ -49,6 +42,7 @@ use Rattle.dds_protocol.specs.Peer.{Peer}
 use Rattle.dds_machine.proofs.Tables.{numbered-cases, numbered-map-cases, numbered-same, length-with_numbered, place-cases, place-hits, place-heard, same_is}
 use Rattle.dds_protocol.proofs.Growth.{CallStep-grows, TickStep-rows, TickStep-readers, TickStep-grows, DeliveryStep-grows, MachineGrows, with_part-grows, writer-changes}
 use Rattle.dds_protocol.proofs.Policies.{IsReliableAt, still_reliable, delivery_qos}
+use Rattle.dds_protocol.proofs.CallChanges.{CallChange, unchanged, reads, takes, looks, watches, changes_of}
 use Rattle.dds_protocol.proofs.RunLaws.{keeps_all, Step-policy}
 use Rattle.dds_machine.specs.Noticing.{machine_ended}
 use Rattle.dds_protocol.proofs.EndsBeside.{ended_alike, ended_policy, ended_writer}
@@ -286,129 +280,26 @@ changed_reader old new k reader r same policies e = (
       (numbered-cases old.dds.readers k reader r no_reader),
 )
 
--- an access enters nothing that came
-abbrev EntersNothingThatCame : (List SamplePosition → Happening) → Type 0
-EntersNothingThatCame entry =
-    (samples : List SamplePosition) (p : ℕ) (h : List Happening) → came_from p (entry samples ∷ h) ≡ came_from p h
-
-entered : (entry : List SamplePosition → Happening) → EntersNothingThatCame entry
-    → (old : Part) (new : Dds) (k : ℕ) (samples : List SamplePosition) (r : ℕ)
-    → new ≡ with_happening old k (entry samples) → SameCame old.dds new r
-entered entry same old new k samples r e =
-    changed_reader old new k (record (own_reader old k) { happened = entry samples ∷ (own_reader old k).happened }) r
-    (λ p. same samples p (own_reader old k).happened) refl e
-
-looked : (old : Part) (new : Dds) (k : ℕ) (seen : Seen) (r : ℕ)
-    → new ≡ after_look old k seen → SameCame old.dds new r
-looked old new k seen r e =
-    changed_reader old new k (record (own_reader old k) { seen = seen }) r (λ p. refl) refl e
-
-accessed : (entry : List SamplePosition → Happening) → EntersNothingThatCame entry
-    → (test : Test) (old : Part) (k : ℕ) (selection : Selection) (reply : Reply) (new : Dds) (r : ℕ)
-    → AnswersAccess entry test old k selection reply new → SameCame old.dds new r
-accessed entry same test old k selection (Samples samples) new r a = entered entry same old new k _ r a.3
-accessed entry same test old k selection (Refused code.NoData) new r a = entered entry same old new k [] r a.2
-accessed entry same test old k selection (Refused code) new r a = same_came old.dds new r a.1
-accessed entry same test old k selection reply new r a = absurd a
-
-done_or_not : (refusal : Option Code) (reply : Reply) (old new : Dds) (r : ℕ)
-    → IsDoneUnless refusal reply old old new → SameCame old new r
-done_or_not refusal Done old new r a = same_came old new r a.1
-done_or_not refusal (Refused code) old new r a = same_came old new r a.1
-done_or_not refusal reply old new r a = absurd a
-
--- what is watched is not what came
-watch_came : (old new : Dds) (after : Watched) (r : ℕ) → new ≡ record old { watch = after }
-    → SameCame old new r
-watch_came old new after r e = (
-  ap (λ (d : Dds). length d.readers) e,
-  λ p. ap (λ (d : Dds). came_from p (numbered d.readers r no_reader).happened) e,
-  ap (λ (d : Dds). (numbered d.readers r no_reader).qos) e,
+-- an access enters nothing that came, and what is watched or seen is not what came
+call_came : (old : Part) (new : Dds) (r : ℕ) → CallChange old new → SameCame old.dds new r
+call_came old new r (unchanged is) = same_came old.dds new r is
+call_came old new r (reads k samples is) =
+    changed_reader old new k (record (own_reader old k) { happened = HasRead samples ∷ (own_reader old k).happened }) r
+    (λ p. refl) refl is
+call_came old new r (takes k samples is) =
+    changed_reader old new k (record (own_reader old k) { happened = Took samples ∷ (own_reader old k).happened }) r
+    (λ p. refl) refl is
+call_came old new r (looks k seen is) =
+    changed_reader old new k (record (own_reader old k) { seen = seen }) r (λ p. refl) refl is
+call_came old new r (watches after filters sets is) = (
+  ap (λ (d : Dds). length d.readers) is,
+  λ p. ap (λ (d : Dds). came_from p (numbered d.readers r no_reader).happened) is,
+  ap (λ (d : Dds). (numbered d.readers r no_reader).qos) is,
 )
-
-answered_came : (refusal : Option Code) (answer : Reply) (after : Dds) (old : Part) (reply : Reply) (new : Dds) (r : ℕ)
-    → (new ≡ after → SameCame old.dds new r)
-    → IsAnswered refusal answer after old reply new → SameCame old.dds new r
-answered_came (Some code) answer after old reply new r came a = same_came old.dds new r a.1
-answered_came None answer after old reply new r came a = came a.1
-
-watching_came : (refusal : Option Code) (answer : Reply) (after : Watched) (old : Part) (reply : Reply) (new : Dds)
-    (r : ℕ)
-    → IsAnsweredWatching refusal answer after old reply new → SameCame old.dds new r
-watching_came refusal answer after old reply new r a =
-    answered_came refusal answer (record old.dds { watch = after }) old reply new r
-    (watch_came old.dds new after r) a
-
-in_memory_came : (needs : Bool) (refusal : Option Code) (answer : Reply) (after : Watched) (old : Part) (reply : Reply)
-    (new : Dds) (r : ℕ)
-    → IsAnsweredInMemory needs refusal answer after old reply new → SameCame old.dds new r
-in_memory_came needs refusal answer after old reply new r (inl a) =
-    watching_came refusal answer after old reply new r a
-in_memory_came needs refusal answer after old reply new r (inr a) = same_came old.dds new r a.3
-
-look_came : (active : List Cond) (timed_out : Bool) (old : Part) (wait_set : ℕ) (reply : Reply) (new : Dds) (r : ℕ)
-    → AnswersLook active timed_out old wait_set reply new → SameCame old.dds new r
-look_came [] true old wait_set reply new r a = watching_came _ _ _ old reply new r a
-look_came [] false old wait_set reply new r a = watching_came _ _ _ old reply new r a
-look_came (c ∷ cs) timed_out old wait_set reply new r a = in_memory_came _ _ _ _ old reply new r a
-
-by_condition : (entry : List SamplePosition → Happening) → EntersNothingThatCame entry
-    → (refusal : Option Code) (test : Test) (old : Part) (k : ℕ) (selection : Selection) (reply : Reply) (new : Dds)
-    (r : ℕ)
-    → AnswersByCondition entry refusal test old k selection reply new
-    → SameCame old.dds new r
-by_condition entry same (Some code) test old k selection reply new r a = same_came old.dds new r a.1
-by_condition entry same None test old k selection reply new r a =
-    accessed entry same test old k selection reply new r a
 
 answers_came : (tests : Tests) (old : Part) (c : Call) (reply : Reply) (new : Dds) (r : ℕ)
     → Answers tests old c reply new → SameCame old.dds new r
-answers_came tests old (Register v key) reply new r a = in_memory_came _ _ _ _ old reply new r a
-answers_came tests old (Write v key value) reply new r a =
-    done_or_not (write_refusal old v key value) reply old.dds new r a
-answers_came tests old (Dispose v key) reply new r a = done_or_not (dispose_refusal old v key) reply old.dds new r a
-answers_came tests old (Unregister v key) reply new r a =
-    done_or_not (unregister_refusal old v key) reply old.dds new r a
-answers_came tests old (AssertLiveliness v) reply new r a =
-    answered_came _ _ old.dds old reply new r (same_came old.dds new r) a
-answers_came tests old (Read v selection) reply new r a =
-    accessed HasRead (λ samples p past. refl) _ old v selection reply new r a
-answers_came tests old (Take v selection) reply new r a =
-    accessed Took (λ samples p past. refl) _ old v selection reply new r a
-answers_came tests old (GetKeyValue v instance) (KeyValue key) new r a = same_came old.dds new r a.2
-answers_came tests old (GetKeyValue v instance) (Refused code) new r a = same_came old.dds new r a.1
-answers_came tests old (GetKeyValue v instance) reply new r a = absurd a
-answers_came tests old (LookupInstance v key) reply new r a =
-    answered_came _ _ old.dds old reply new r (same_came old.dds new r) a
-answers_came tests old (GetSampleLost v) reply new r a =
-    answered_came _ _ _ old reply new r (looked old new v (seen_lost (own_reader old v)) r) a
-answers_came tests old (GetLivelinessChanged v) reply new r a =
-    answered_came _ _ _ old reply new r (looked old new v (seen_liveliness (own_reader old v)) r) a
-answers_came tests old (SetStrength v strength) reply new r a =
-    answered_came _ _ old.dds old reply new r (same_came old.dds new r) a
-answers_came tests old (GetLivelinessLost v) reply new r a =
-    answered_came _ _ old.dds old reply new r (same_came old.dds new r) a
-answers_came tests old (ReadByCondition v scope c) reply new r a =
-    by_condition HasRead (λ samples p past. refl) _ _ old v _ reply new r a
-answers_came tests old (TakeByCondition v scope c) reply new r a =
-    by_condition Took (λ samples p past. refl) _ _ old v _ reply new r a
-answers_came tests old (CreateReadCondition v masks) reply new r a = in_memory_came _ _ _ _ old reply new r a
-answers_came tests old (CreateQueryCondition v masks filter) reply new r a =
-    in_memory_came _ _ _ _ old reply new r a
-answers_came tests old CreateGuardCondition reply new r a = in_memory_came _ _ _ _ old reply new r a
-answers_came tests old (SetTriggerValue c value) reply new r a = watching_came _ _ _ old reply new r a
-answers_came tests old (DeleteCondition c) reply new r a = watching_came _ _ _ old reply new r a
-answers_came tests old (GetTriggerValue c) reply new r a = watching_came _ _ _ old reply new r a
-answers_came tests old CreateWaitSet reply new r a = in_memory_came _ _ _ _ old reply new r a
-answers_came tests old (DeleteWaitSet s) reply new r a = watching_came _ _ _ old reply new r a
-answers_came tests old (AttachCondition s c) reply new r a = in_memory_came _ _ _ _ old reply new r a
-answers_came tests old (DetachCondition s c) reply new r a = watching_came _ _ _ old reply new r a
-answers_came tests old (GetConditions s) reply new r a = in_memory_came _ _ _ _ old reply new r a
-answers_came tests old (WaitBegin s deadline) reply new r a = watching_came _ _ _ old reply new r a
-answers_came tests old (WaitLook s) reply new r a = look_came _ _ old s reply new r a
-answers_came tests old (WaitEnd s) reply new r a = watching_came _ _ _ old reply new r a
-answers_came tests old (SetEnabledStatuses e mask) reply new r a = watching_came _ _ _ old reply new r a
-answers_came tests old (GetStatusChanges e) reply new r a = watching_came _ _ _ old reply new r a
+answers_came tests old c reply new r a = call_came old new r (changes_of tests old c reply new a)
 
 effect_rows : (old : Part) (new : Part) (e : Effect) → new.rtps ≡ effect old.rtps e
     → new.rtps.readers ≡ old.rtps.readers

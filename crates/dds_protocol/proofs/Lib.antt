@@ -60,6 +60,7 @@ pub mod PairAsks
 pub mod PairNamed
 pub mod PairFound
 pub mod Compared
+pub mod CallChanges
 pub mod FiltersKept
 pub mod AtEnds
 pub mod Alike

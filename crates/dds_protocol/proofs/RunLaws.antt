@@ -1,41 +1,23 @@
 -- Runs of peers are runs of the machine; what a writer that keeps all has dropped, and that its policy stays.
-use Rattle.std.proofs.Common.{◌≡◌, ℕ, Bool, Option, Some, None, true, false, List, [], ◌∷◌, length, refl, subst, ap, sym, ◌∙◌, inl, inr, arith, ◌≤◌, length-append}
-use Rattle.dds_base.specs.declared.code.Code.{Code}
+use Rattle.std.proofs.Common.{◌≡◌, ℕ, true, false, List, [], ◌∷◌, length, subst, ap, sym, ◌∙◌, inl, inr, arith, ◌≤◌, length-append}
 use Rattle.dds_base.specs.declared.config.Config.{Config}
-use Rattle.dds_base.specs.declared.happening.Happening.{Happening}
-use Rattle.dds_base.specs.declared.happening.Happening.TheVariants.{Read as HasRead, Took}
-use Rattle.dds_base.specs.declared.happening.SamplePosition.{SamplePosition}
-use Rattle.dds_base.specs.declared.selection.Selection.{Selection}
-use Rattle.dds_conditions.specs.declared.condition.Cond.{Cond}
-use Rattle.dds_conditions.specs.Watched.{Watched}
 use Rattle.dds_base.specs.declared.qos.HistoryQos.{HistoryQos}
 use Rattle.dds_base.specs.declared.qos.HistoryQos.TheVariants.{KeepAll}
 use Rattle.dds_base.specs.Kept.{is_dropped, is_dropped_by}
 use Rattle.dds_machine.specs.declared.call.Call.{Call}
-use Rattle.dds_machine.specs.declared.call.Call.TheVariants.{Register, Write, Dispose, Unregister, AssertLiveliness, SetStrength, Read, Take, GetKeyValue, LookupInstance, GetSampleLost, GetLivelinessChanged, GetLivelinessLost, ReadByCondition, TakeByCondition, CreateReadCondition, CreateQueryCondition, CreateGuardCondition, SetTriggerValue, DeleteCondition, GetTriggerValue, CreateWaitSet, DeleteWaitSet, AttachCondition, DetachCondition, GetConditions, WaitBegin, WaitLook, WaitEnd, SetEnabledStatuses, GetStatusChanges}
 use Rattle.dds_machine.specs.declared.endpoint.Endpoint.{Endpoint}
 use Rattle.dds_machine.specs.declared.event.WorldEvent.{WorldEvent}
 use Rattle.dds_machine.specs.declared.event.WorldEvent.TheVariants as world
-use Rattle.dds_machine.specs.declared.reply.Move.{Move}
-use Rattle.dds_machine.specs.declared.reply.Move.TheVariants.{Place, Acknowledged, Heard}
 use Rattle.dds_machine.specs.declared.reply.Reply.{Reply}
-use Rattle.dds_machine.specs.declared.reply.Report.{Report}
-use Rattle.dds_machine.specs.declared.reply.Reply.TheVariants.{Done, Samples, KeyValue, InstanceHandle, SampleLost, LivelinessChanged, LivelinessLost, Created, TriggerValue, Conditions, Active, Waiting, StatusChanges, Reported, Refused}
-use Rattle.dds_machine.specs.Part.{Dds, Part, writer_changes, history_of}
-use Rattle.dds_base.specs.Places.{GoesTo}
-use Rattle.dds_machine.specs.Moves.{as_to, match_of, position_at, AreMoves, DeliveryStep}
-use Rattle.dds_machine.specs.Ticks.{TickStep}
-use Rattle.dds_machine.specs.Calls.{IsAnswered, IsAnsweredInMemory, AnswersLook, AnswersByCondition, CallStep}
-use Rattle.dds_machine.specs.Watching.{Test, Tests, condition_selection}
+use Rattle.dds_machine.specs.Part.{writer_changes, history_of}
 use Rattle.dds_machine.specs.Machine.{Machine, AllTests, part_at, writer_at, grounds_of, Step}
 use Rattle.dds_protocol.specs.World.{WorldState, WorldStep, machine_of, Sound}
 use Rattle.dds_machine.specs.Runs.{Run}
 use Rattle.dds_protocol.specs.Rules.{RuledRun}
-use Rattle.dds_protocol.specs.Laws.{WorldRun, PassesNone, LosesNone}
+use Rattle.dds_protocol.specs.Laws.{WorldRun}
 use Rattle.dds_protocol.proofs.Growth.{CallStep-grows, TickStep-grows, DeliveryStep-grows, with_part-grows}
-use Rattle.dds_machine.specs.Noticing.{machine_ended}
 use Rattle.dds_protocol.specs.Noticing.{world_ended}
-use Rattle.dds_protocol.proofs.EndsBeside.{ended_policy, ended_sound, machine_ends}
+use Rattle.dds_protocol.proofs.EndsBeside.{ended_sound, machine_ends}
 use Rattle.dds_protocol.proofs.Composed.{composes}
 
 -- no packet that was sent is forgotten

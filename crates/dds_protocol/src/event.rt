@@ -61,17 +61,3 @@ impl Clone for Event {
         })
     }
 }
-
-impl Clone for Output {
-    ghost is_clone = { λ output copy. copy ≡ output };
-
-    fn clone(&self) -> Result<Output, AllocError> {
-        let reply = self.reply.clone()?;
-        let packets = self.packets.cloned()?;
-        Ok(Output {
-            reply,
-            packets,
-            unsent: self.unsent,
-        })
-    }
-}

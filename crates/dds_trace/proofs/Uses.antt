@@ -7,37 +7,29 @@ use Rattle.rtps_wire.specs.declared.submessage.Submessage.{Submessage}
 use Rattle.dds_base.specs.declared.code.Code.{Code}
 use Rattle.dds_base.specs.declared.code.Code.TheVariants as code
 use Rattle.dds_base.specs.declared.config.Config.{Config}
-use Rattle.dds_base.specs.declared.entity.Entity.{Entity}
-use Rattle.dds_base.specs.declared.entity.Entity.TheVariants.{Participant, Writer, Reader}
 use Rattle.dds_base.specs.declared.guid.GuidPrefix.{GuidPrefix}
-use Rattle.dds_base.specs.declared.happening.Happening.{Happening}
-use Rattle.dds_base.specs.declared.happening.Happening.TheVariants.{Read as HasRead, Took}
-use Rattle.dds_base.specs.declared.happening.SamplePosition.{SamplePosition}
-use Rattle.dds_base.specs.declared.selection.Selection.{Selection}
 use Rattle.dds_base.specs.Number.{at_number}
-use Rattle.dds_notices.specs.declared.mask.StatusMask.{StatusMask}
 use Rattle.dds_conditions.specs.declared.condition.Cond.{Cond}
-use Rattle.dds_conditions.specs.declared.condition.Cond.TheVariants.{Made}
 use Rattle.dds_conditions.specs.declared.waiting.Waiting.{Waiting}
-use Rattle.dds_conditions.specs.Watched.{Watched, use_refusal, with_deadline, with_enabled, with_wait_set_at, without, without_condition}
+use Rattle.dds_conditions.specs.Watched.{Watched, use_refusal, with_deadline, with_wait_set_at, without}
 use Rattle.dds_machine.specs.declared.call.Call.{Call}
-use Rattle.dds_machine.specs.declared.call.Call.TheVariants.{Register, Write, Dispose, Unregister, AssertLiveliness, SetStrength, Read, Take, GetKeyValue, LookupInstance, GetSampleLost, GetLivelinessChanged, GetLivelinessLost, ReadByCondition, TakeByCondition, CreateReadCondition, CreateQueryCondition, CreateGuardCondition, SetTriggerValue, DeleteCondition, GetTriggerValue, CreateWaitSet, DeleteWaitSet, AttachCondition, DetachCondition, GetConditions, WaitBegin, WaitLook, WaitEnd, SetEnabledStatuses, GetStatusChanges}
+use Rattle.dds_machine.specs.declared.call.Call.TheVariants.{WaitLook, WaitEnd}
 use Rattle.dds_protocol.specs.declared.event.Event.{Event}
 use Rattle.dds_protocol.specs.declared.event.Event.TheVariants as event
 use Rattle.dds_protocol.specs.declared.event.Output.{Output}
 use Rattle.dds_machine.specs.declared.reply.Move.{Move}
 use Rattle.dds_machine.specs.declared.reply.Move.TheVariants.{Place, Acknowledged, Heard}
 use Rattle.dds_machine.specs.declared.reply.Reply.{Reply}
-use Rattle.dds_machine.specs.declared.reply.Reply.TheVariants.{Active, Done, Samples, KeyValue, Reported, Refused, Waiting as WaitsOn}
+use Rattle.dds_machine.specs.declared.reply.Reply.TheVariants.{Active, Done, Reported, Refused, Waiting as WaitsOn}
 use Rattle.dds_machine.specs.Part.{Part, Dds}
 use Rattle.dds_machine.specs.Moves.{Grounds, IsMove, AreMoves}
 use Rattle.dds_protocol.specs.Claims.{Receiver, after_submessage}
 use Rattle.dds_protocol.specs.Receipt.{TakesUp}
-use Rattle.dds_machine.specs.Refusals.{write_refusal, dispose_refusal, unregister_refusal}
-use Rattle.dds_machine.specs.Calls.{IsDoneUnless, IsAnswered, IsAnsweredWatching, IsAnsweredInMemory, AnswersLook, AnswersAccess, AnswersByCondition, Answers}
+use Rattle.dds_machine.specs.Calls.{IsAnsweredWatching, AnswersLook}
 use Rattle.dds_protocol.specs.Noticing.{peer_at_end}
 use Rattle.dds_protocol.specs.Peer.{Peer, EventStep}
-use Rattle.dds_machine.specs.Watching.{Test, Tests}
+use Rattle.dds_machine.specs.Watching.{Tests}
+use Rattle.dds_protocol.proofs.CallChanges.{SetsChange, as_before, one_changed, one_made, all_without, CallChange, unchanged, reads, takes, looks, watches, changes_of}
 use Rattle.dds_protocol.proofs.AtEnds.{end_watch}
 use Rattle.dds_core.specs.Listening.{CoreKept, StandsFor, Steps}
 use Rattle.dds_core.specs.Ruling.{IsSound}
@@ -90,120 +82,22 @@ without_uses c (w ∷ ws) =
 abbrev OneMore : Dds → Dds → Type 0
 OneMore old new = uses_of new.watch.wait_sets ≤ uses_of old.watch.wait_sets + 1
 
-abbrev OneMoreWatched : Watched → Watched → Type 0
-OneMoreWatched old new = uses_of new.wait_sets ≤ uses_of old.wait_sets + 1
-
 as_it_was : (old new : Dds) → new.watch.wait_sets ≡ old.watch.wait_sets → OneMore old new
 as_it_was old new e = omega (arith, ap uses_of e)
 
-of_watch : (old : Dds) (new : Dds) (after : Watched) → new.watch ≡ after → OneMoreWatched old.watch after → OneMore old new
-of_watch old new after e more = omega (arith, ap (λ (w : Watched). uses_of w.wait_sets) e, more)
+sets_use : (old new : List (Option Waiting)) → SetsChange old new → uses_of new ≤ uses_of old + 1
+sets_use old new (as_before is) = omega (arith, ap uses_of is)
+sets_use old new (one_changed index w is) = omega (arith, ap uses_of is, set_uses old index w)
+sets_use old new (one_made w is) = omega (arith, ap uses_of is, more_uses old w)
+sets_use old new (all_without c is) = omega (arith, ap uses_of is, without_uses c old)
 
-same_dds : (old new : Dds) → new ≡ old → OneMore old new
-same_dds old new e = as_it_was old new (ap (λ (d : Dds). d.watch.wait_sets) e)
-
-done_or_not : (refusal : Option Code) (reply : Reply) (old new : Dds) → IsDoneUnless refusal reply old old new
-    → OneMore old new
-done_or_not refusal Done old new a = same_dds old new a.1
-done_or_not refusal (Refused code) old new a = same_dds old new a.1
-done_or_not refusal reply old new a = absurd a
-
-answered : (refusal : Option Code) (answer : Reply) (after : Dds) (old : Part) (reply : Reply) (new : Dds)
-    → OneMore old.dds after → IsAnswered refusal answer after old reply new → OneMore old.dds new
-answered (Some code) answer after old reply new more a = same_dds old.dds new a.1
-answered None answer after old reply new more a =
-    of_watch old.dds new after.watch (ap (λ (d : Dds). d.watch) a.1) more
-
-watching : (refusal : Option Code) (answer : Reply) (after : Watched) (old : Part) (reply : Reply) (new : Dds)
-    → OneMoreWatched old.dds.watch after → IsAnsweredWatching refusal answer after old reply new → OneMore old.dds new
-watching refusal answer after old reply new more a =
-    answered refusal answer (record old.dds { watch = after }) old reply new more a
-
-in_memory : (needs : Bool) (refusal : Option Code) (answer : Reply) (after : Watched) (old : Part) (reply : Reply)
-    (new : Dds)
-    → OneMoreWatched old.dds.watch after → IsAnsweredInMemory needs refusal answer after old reply new
-    → OneMore old.dds new
-in_memory needs refusal answer after old reply new more (inl a) = watching refusal answer after old reply new more a
-in_memory needs refusal answer after old reply new more (inr a) = same_dds old.dds new a.3
-
-same_uses : (w : Watched) → OneMoreWatched w w
-same_uses w = omega arith
-
-enabled_uses : (w : Watched) (e : Entity) (mask : StatusMask) → OneMoreWatched w (with_enabled w e mask)
-enabled_uses w Participant mask = omega arith
-enabled_uses w (Writer n) mask = omega arith
-enabled_uses w (Reader n) mask = omega arith
-
-looked : (active : List Cond) (timed_out : Bool) (old : Part) (wait_set : ℕ) (reply : Reply) (new : Dds)
-    → AnswersLook active timed_out old wait_set reply new → OneMore old.dds new
-looked [] true old wait_set reply new a =
-    watching _ _ _ old reply new (set_uses old.dds.watch.wait_sets (wait_set - 1) _) a
-looked [] false old wait_set reply new a = watching _ _ _ old reply new (same_uses old.dds.watch) a
-looked (c ∷ cs) timed_out old wait_set reply new a =
-    in_memory _ _ _ _ old reply new (set_uses old.dds.watch.wait_sets (wait_set - 1) _) a
-
-accessed : (entry : List SamplePosition → Happening) (test : Test) (old : Part) (k : ℕ) (selection : Selection)
-    (reply : Reply) (new : Dds)
-    → AnswersAccess entry test old k selection reply new → OneMore old.dds new
-accessed entry test old k selection (Samples samples) new a =
-    as_it_was old.dds new (ap (λ (d : Dds). d.watch.wait_sets) a.3)
-accessed entry test old k selection (Refused code.NoData) new a =
-    as_it_was old.dds new (ap (λ (d : Dds). d.watch.wait_sets) a.2)
-accessed entry test old k selection (Refused code) new a = same_dds old.dds new a.1
-accessed entry test old k selection reply new a = absurd a
-
-by_condition : (entry : List SamplePosition → Happening) (refusal : Option Code) (test : Test) (old : Part) (k : ℕ)
-    (selection : Selection) (reply : Reply) (new : Dds)
-    → AnswersByCondition entry refusal test old k selection reply new → OneMore old.dds new
-by_condition entry (Some code) test old k selection reply new a = same_dds old.dds new a.1
-by_condition entry None test old k selection reply new a = accessed entry test old k selection reply new a
-
-answers_use : (tests : Tests) (old : Part) (c : Call) (reply : Reply) (new : Dds) → Answers tests old c reply new
-    → OneMore old.dds new
-answers_use tests old (Register v key) reply new a = in_memory _ _ _ _ old reply new (same_uses old.dds.watch) a
-answers_use tests old (Write v key value) reply new a = done_or_not (write_refusal old v key value) reply old.dds new a
-answers_use tests old (Dispose v key) reply new a = done_or_not (dispose_refusal old v key) reply old.dds new a
-answers_use tests old (Unregister v key) reply new a = done_or_not (unregister_refusal old v key) reply old.dds new a
-answers_use tests old (AssertLiveliness v) reply new a = answered _ Done old.dds old reply new (same_uses old.dds.watch) a
-answers_use tests old (Read v selection) reply new a = accessed HasRead _ old v selection reply new a
-answers_use tests old (Take v selection) reply new a = accessed Took _ old v selection reply new a
-answers_use tests old (GetKeyValue v instance) (KeyValue key) new a = same_dds old.dds new a.2
-answers_use tests old (GetKeyValue v instance) (Refused code) new a = same_dds old.dds new a.1
-answers_use tests old (GetKeyValue v instance) reply new a = absurd a
-answers_use tests old (LookupInstance v key) reply new a = answered _ _ old.dds old reply new (same_uses old.dds.watch) a
-answers_use tests old (GetSampleLost v) reply new a = answered _ _ _ old reply new (same_uses old.dds.watch) a
-answers_use tests old (GetLivelinessChanged v) reply new a = answered _ _ _ old reply new (same_uses old.dds.watch) a
-answers_use tests old (SetStrength v strength) reply new a =
-    answered _ Done old.dds old reply new (same_uses old.dds.watch) a
-answers_use tests old (GetLivelinessLost v) reply new a = answered _ _ old.dds old reply new (same_uses old.dds.watch) a
-answers_use tests old (ReadByCondition v scope c) reply new a = by_condition HasRead _ _ old v _ reply new a
-answers_use tests old (TakeByCondition v scope c) reply new a = by_condition Took _ _ old v _ reply new a
-answers_use tests old (CreateReadCondition v masks) reply new a = in_memory _ _ _ _ old reply new (same_uses old.dds.watch) a
-answers_use tests old (CreateQueryCondition v masks filter) reply new a =
-    in_memory _ _ _ _ old reply new (same_uses old.dds.watch) a
-answers_use tests old CreateGuardCondition reply new a = in_memory _ _ _ _ old reply new (same_uses old.dds.watch) a
-answers_use tests old (SetTriggerValue c value) reply new a = watching _ _ _ old reply new (same_uses old.dds.watch) a
-answers_use tests old (DeleteCondition c) reply new a =
-    watching _ _ (without_condition old.dds.watch c) old reply new
-    (omega (arith, without_uses (Made c) old.dds.watch.wait_sets)) a
-answers_use tests old (GetTriggerValue c) reply new a = watching _ _ _ old reply new (same_uses old.dds.watch) a
-answers_use tests old CreateWaitSet reply new a =
-    in_memory _ _ _ _ old reply new (more_uses old.dds.watch.wait_sets _) a
-answers_use tests old (DeleteWaitSet s) reply new a =
-    watching _ _ _ old reply new (set_uses old.dds.watch.wait_sets (s - 1) _) a
-answers_use tests old (AttachCondition s c) reply new a =
-    in_memory _ _ _ _ old reply new (set_uses old.dds.watch.wait_sets (s - 1) _) a
-answers_use tests old (DetachCondition s c) reply new a =
-    watching _ _ _ old reply new (set_uses old.dds.watch.wait_sets (s - 1) _) a
-answers_use tests old (GetConditions s) reply new a = in_memory _ _ _ _ old reply new (same_uses old.dds.watch) a
-answers_use tests old (WaitBegin s deadline) reply new a =
-    watching _ _ _ old reply new (set_uses old.dds.watch.wait_sets (s - 1) _) a
-answers_use tests old (WaitLook s) reply new a = looked _ _ old s reply new a
-answers_use tests old (WaitEnd s) reply new a =
-    watching _ _ _ old reply new (set_uses old.dds.watch.wait_sets (s - 1) _) a
-answers_use tests old (SetEnabledStatuses e mask) reply new a =
-    watching _ _ _ old reply new (enabled_uses old.dds.watch e mask) a
-answers_use tests old (GetStatusChanges e) reply new a = watching _ _ _ old reply new (same_uses old.dds.watch) a
+call_uses : (old : Part) (new : Dds) → CallChange old new → OneMore old.dds new
+call_uses old new (unchanged is) = as_it_was old.dds new (ap (λ (d : Dds). d.watch.wait_sets) is)
+call_uses old new (reads r samples is) = as_it_was old.dds new (ap (λ (d : Dds). d.watch.wait_sets) is)
+call_uses old new (takes r samples is) = as_it_was old.dds new (ap (λ (d : Dds). d.watch.wait_sets) is)
+call_uses old new (looks r seen is) = as_it_was old.dds new (ap (λ (d : Dds). d.watch.wait_sets) is)
+call_uses old new (watches after filters sets is) =
+    omega (arith, ap (λ (d : Dds). uses_of d.watch.wait_sets) is, sets_use old.dds.watch.wait_sets after.wait_sets sets)
 
 abbrev SameSets : Part → Part → Type 0
 SameSets old new = new.dds.watch.wait_sets ≡ old.dds.watch.wait_sets
@@ -231,7 +125,7 @@ taken_keeps config grounds peer own index at (s ∷ rest) old moves refused new 
 event_uses : (config : Config) (tests : Tests) (old : Peer) (ev : Event) (reply : Reply) (new : Peer)
     → EventStep config tests old ev reply new → OneMore old.part.dds new.part.dds
 event_uses config tests old (event.Call call) reply new h =
-    answers_use tests old.part call reply new.part.dds h.0.answers
+    call_uses old.part new.part.dds (changes_of tests old.part call reply new.part.dds h.0.answers)
 event_uses config tests old (event.Tick now) Done new h =
     as_it_was old.part.dds new.part.dds (ap (λ (p : Part). p.dds.watch.wait_sets) h.0.1)
 event_uses config tests old (event.Tick now) (Refused code) new h =

@@ -8,7 +8,7 @@ ghost use Rattle.dds_base.specs.declared.code.Code.TheVariants.{Memory};
 use dds_base::Code;
 use dds_protocol::laws::{events_are_compared, outputs_are_compared};
 use dds_protocol::{Event, Output};
-use std::alloc::{AllocError, Global};
+use std::alloc::Global;
 use std::marker::Model;
 
 /// An event of a peer, and what the peer gave back.
@@ -30,20 +30,6 @@ impl Entry {
         self.seat == other.seat
             && events_are_compared(&self.event, &other.event)
             && outputs_are_compared(&self.output, &other.output)
-    }
-}
-
-impl Clone for Entry {
-    ghost is_clone = { λ entry copy. copy ≡ entry };
-
-    fn clone(&self) -> Result<Entry, AllocError> {
-        let event = self.event.clone()?;
-        let output = self.output.clone()?;
-        Ok(Entry {
-            seat: self.seat,
-            event,
-            output,
-        })
     }
 }
 
