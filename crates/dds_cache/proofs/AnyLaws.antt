@@ -23,10 +23,13 @@ use Rattle.dds_base.specs.Refusal.{Refuses}
 use Rattle.dds_base.specs.Selection.{picked_by, selection_refusal, unless_bad}
 use Rattle.dds_instances.specs.Known.{IsReturnable}
 use Rattle.dds_instances.specs.Table.{Table}
+use Rattle.dds_cache.specs.declared.access.Candidate.{Candidate}
 use Rattle.dds_cache.specs.declared.kept.Kept.{Kept}
 use Rattle.dds_cache.specs.Kept.{IsKept}
-use Rattle.dds_cache.specs.Finding.{Holds, asks_for, is_asked_for, is_sought, passes}
-use Rattle.dds_cache.specs.Picking.{IsAccess, TellsAny, masks_in, test_in}
+use Rattle.dds_cache.specs.declared.access_kind.AccessKind.{AccessKind}
+use Rattle.dds_cache.specs.declared.access_kind.AccessKind.TheVariants.{Read, Take}
+use Rattle.dds_cache.specs.Finding.{AreApart, Holds, IsCandidate, asks_for, is_asked_for, is_sought, passes}
+use Rattle.dds_cache.specs.Picking.{IsAccess, shown, Picks, TellsAny, masks_in, test_in}
 use Rattle.dds_cache.specs.Standing.{AccessAnswers, Stored, picked, qos_of, refusal}
 use Rattle.dds_cache.specs.Twice.{first_of}
 use Rattle.dds_cache.proofs.CountLaws.{present-any}
@@ -204,6 +207,20 @@ tells-picked q table h selection test ks some masks asked holds good is masked t
     (picks-some q h selection test good
     (positive q table h (masks_in selection) (test_in selection test) ks holds))
 
+-- where no sample is sought among the present ones, an access that is not refused picks none of those that are kept
+pub picks-none : (q : ReaderQos) (table : Table) (h : List Happening) (selection : Selection)
+    (test : Key → List ℕ → Bool) (ks : List Kept) (masks : Masks) → Holds q table ks h
+    → selection_refusal q h selection ≡ None → masks_in selection ≡ masks
+    → list_any (is_sought q h selection masks (test_in selection test)) (present_samples q h) ≡ false
+    → Picks q h selection test ks []
+picks-none q table h selection test ks masks holds good masked unsought = record {
+  good = good;
+  samples_are =
+      sym (tells-picked q table h selection test ks false masks (test_in selection test) holds good (sym unsought)
+      masked refl);
+  each = All-nil (IsCandidate q h ks);
+}
+
 -- ---- the answer
 
 -- no access is refused for want of data, nor for want of memory, but by memory
@@ -266,15 +283,24 @@ refused-twice stored h selection test (Err e) code err same is memory =
     (subst (λ (x : Code). Refuses (refusal stored h selection) x) (sym same) is) (λ want. memory (sym same ∙ want))
 
 -- one that finds nothing
-pub nothing-found : (q : ReaderQos) (h : List Happening) (selection : Selection) (test : Key → List ℕ → Bool)
-    (positions : List SamplePosition) (collection : List Sample) → positions ≡ [] → collection ≡ []
-    → selection_refusal q h selection ≡ None → picked_by q h selection test ≡ []
-    → IsAccess q h selection test positions collection
-nothing-found q h selection test positions collection no_positions no_samples good none = record {
+pub nothing-found : (kind : AccessKind) (q : ReaderQos) (h : List Happening) (selection : Selection) (test : Key → List ℕ → Bool)
+    (ks : List Kept) (positions : List SamplePosition) (cs : List Candidate) (collection : List Sample)
+    → positions ≡ [] → cs ≡ [] → collection ≡ [] → selection_refusal q h selection ≡ None
+    → picked_by q h selection test ≡ [] → IsAccess kind q h selection test ks positions cs collection
+nothing-found kind q h selection test ks positions cs collection no_positions no_candidates no_samples good none = record {
   good = good;
   positions_are = no_positions ∙ sym none;
   collection_is =
-      no_samples ∙ ap (λ (ss : List SamplePosition). collection_of q h ss) (sym no_positions);
+      no_samples
+      ∙ (sym (shown-none kind)
+      ∙ ap (λ (ss : List SamplePosition). shown kind (collection_of q h ss)) (sym no_positions));
   each =
       subst (λ (ss : List SamplePosition). All (IsReturnable q h) ss) (sym no_positions) (All-nil (IsReturnable q h));
+  found =
+      subst (λ (xs : List Candidate). All (IsCandidate q h ks) xs) (sym no_candidates) (All-nil (IsCandidate q h ks));
+  apart = subst AreApart (sym no_candidates) (λ at. grind arith);
 }
+  where
+    shown-none : (kind : AccessKind) → shown kind [] ≡ []
+    shown-none Read = refl
+    shown-none Take = refl

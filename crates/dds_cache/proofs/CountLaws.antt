@@ -13,17 +13,18 @@ use Rattle.dds_base.specs.declared.key.Key.{Key}
 use Rattle.dds_base.specs.declared.happening.SamplePosition.{SamplePosition}
 use Rattle.dds_base.specs.declared.happening.Happening.{Happening}
 use Rattle.dds_base.specs.declared.mask.Masks.{Masks}
+use Rattle.dds_base.specs.declared.selection.Selection.{Selection}
 use Rattle.dds_base.specs.declared.qos.ReaderQos.{ReaderQos}
 use Rattle.dds_base.specs.declared.sample.SampleState.TheVariants.{Read as HasBeenRead, NotRead}
-use Rattle.dds_base.specs.Access.{asks_for_instance_state, asks_for_sample_state, asks_for_view_state, has_match, value_of}
+use Rattle.dds_base.specs.Access.{asks_for_sample_state, handle_of, sample_state_of, value_of}
 use Rattle.dds_base.specs.Happening.{same_key}
-use Rattle.dds_base.specs.Instance.{instance_state_of, known_instances, view_state_of}
+use Rattle.dds_base.specs.Instance.{known_instances}
 use Rattle.dds_base.specs.Presence.{is_present, present_of, present_samples}
 use Rattle.dds_base.specs.Life.{up_to}
 use Rattle.dds_base.proofs.KeyLaws.{key-same, same_key-comm}
 use Rattle.dds_cache.specs.declared.kept.Kept.{Kept}
-use Rattle.dds_cache.specs.Kept.{IsKept, WasRead, positions_in, sample_at}
-use Rattle.dds_cache.specs.Finding.{is_asked_for, passes, sample_of}
+use Rattle.dds_cache.specs.Kept.{IsKept, IsUnasked, positions_in, sample_at}
+use Rattle.dds_cache.specs.Finding.{IsUnmet, asks_for, asks_for_states, is_sought, passes, sample_of}
 use Rattle.dds_cache.proofs.EndLaws.{known-distinct}
 use Rattle.dds_cache.proofs.GroupLaws.{flat_map-same}
 use Rattle.dds_cache.proofs.FindingLaws.{filter-flat_map, passing-all, wanted-of}
@@ -112,7 +113,7 @@ present-count q h test ks known present =
     ∙ (length-map (filter (passes q h test) ks) sample_of ∙ length-filter (passes q h test) ks))))
 
 -- some passes exactly where those that pass are at least one
-any-count : {X : Type 0} (p : X → Bool) (xs : List X) → list_any p xs ≡ nat_lt 0 (count_by p xs)
+pub any-count : {X : Type 0} (p : X → Bool) (xs : List X) → list_any p xs ≡ nat_lt 0 (count_by p xs)
 any-count p [] = refl
 any-count p (x ∷ xs) =
     one (p x) (list_any p xs) (count_by p xs) (any-count p xs)
@@ -137,27 +138,58 @@ present-any q h test ks kept present =
     (λ k is. is.is_known) ks kept) present)
     ∙ sym (any-count (passes q h test) ks))
 
--- none of those that a read returned passes where the masks don't ask for such
-pub read-none : (q : ReaderQos) (h : List Happening) (masks : Masks) (test : Key → List ℕ → Bool) (ks : List Kept)
-    → All (IsKept q h) ks → ((i : Key) → filter (is_present q h i) (up_to (length h)) ≡ positions_in q h i ks)
-    → All WasRead ks → asks_for_sample_state masks.samples HasBeenRead ≡ false → has_match q h masks test ≡ false
-read-none q h masks test ks kept present read unasked =
-    present-any q h (is_asked_for q h masks test) ks kept present
-    ∙ list_any_none (passes q h (is_asked_for q h masks test)) ks
-    (λ k d within. fails (get_or ks k d) (kept k d within) (read k d within))
+-- ---- what masks alone tell
+
+-- those of which the masks don't ask for the sample state don't meet them
+pub unmet-unasked : (q : ReaderQos) (h : List Happening) (masks : Masks) (ks : List Kept) → All (IsKept q h) ks
+    → All (IsUnasked masks.samples) ks → All (IsUnmet q h masks) ks
+unmet-unasked q h masks ks kept unasked = λ n d within. one (get_or ks n d) (kept n d within) (unasked n d within)
+  where
+    one : (k : Kept) → IsKept q h k → IsUnasked masks.samples k → IsUnmet q h masks k
+    one k is unasked =
+        ap (λ (b : Bool). asks_for_sample_state masks.samples (if b then HasBeenRead else NotRead)
+        && asks_for_states q h masks k.sample.key) (sym is.read_is)
+        ∙ ap (λ (b : Bool). b && asks_for_states q h masks k.sample.key) unasked
+
+-- what is so of each instance of a list is so of one that is among them
+of-known : (p : Key → Bool) (x : Key) (ks : List Key) → All (λ (i : Key). p i ≡ false) ks
+    → list_any (λ i. same_key i x) ks ≡ true → p x ≡ false
+of-known p x [] all there = absurd (let clash : false ≡ true = there in cc)
+of-known p x (k ∷ ks) all there =
+    ⊎_elim
+    (λ same. ap p (sym (key-same k x same)) ∙ All-head (λ (i : Key). p i ≡ false) k ks all)
+    (λ other. of-known p x ks (All-tail (λ (i : Key). p i ≡ false) k ks all)
+    (sym (ap (λ (b : Bool). b || list_any (λ i. same_key i x) ks) other) ∙ there))
+    (cases_Bool (same_key k x))
+
+-- where the masks ask for the states of no known instance, no kept sample meets them
+pub unmet-instances : (q : ReaderQos) (h : List Happening) (masks : Masks) (ks : List Kept) → All (IsKept q h) ks
+    → All (λ (i : Key). asks_for_states q h masks i ≡ false) (known_instances q h) → All (IsUnmet q h masks) ks
+unmet-instances q h masks ks kept unasked =
+    All-weaker (IsKept q h) (IsUnmet q h masks)
+    (λ k is. ap (λ (b : Bool). asks_for_sample_state masks.samples (sample_state_of h k.sample) && b)
+    (of-known (asks_for_states q h masks) k.sample.key (known_instances q h) unasked is.is_known)
+    ∙ and-false (asks_for_sample_state masks.samples (sample_state_of h k.sample))) ks kept
   where
     and-false : (b : Bool) → (b && false) ≡ false
     and-false true = refl
     and-false false = refl
 
-    fails : (k : Kept) → IsKept q h k → WasRead k → passes q h (is_asked_for q h masks test) k ≡ false
-    fails k is was =
-        ap (λ (b : Bool). is_present q h k.sample.key k.sample.position && ((asks_for_sample_state masks.samples
-        (if b then HasBeenRead else NotRead) && (asks_for_view_state masks.views (view_state_of q k.sample.key h)
-        && asks_for_instance_state masks.instances (instance_state_of q k.sample.key h)))
-        && test k.sample.key (value_of q h k.sample))) (sym is.read_is ∙ was)
-        ∙ (ap (λ (b : Bool). is_present q h k.sample.key k.sample.position && ((b
-        && (asks_for_view_state masks.views (view_state_of q k.sample.key h)
-        && asks_for_instance_state masks.instances (instance_state_of q k.sample.key h)))
-        && test k.sample.key (value_of q h k.sample))) unasked
-        ∙ and-false (is_present q h k.sample.key k.sample.position))
+-- where none of those that are kept meets the masks, no present sample is sought
+pub unsought : (q : ReaderQos) (h : List Happening) (selection : Selection) (masks : Masks)
+    (test : Key → List ℕ → Bool) (ks : List Kept) → All (IsKept q h) ks
+    → ((i : Key) → filter (is_present q h i) (up_to (length h)) ≡ positions_in q h i ks) → All (IsUnmet q h masks) ks
+    → list_any (is_sought q h selection masks test) (present_samples q h) ≡ false
+unsought q h selection masks test ks kept present unmet =
+    present-any q h (is_sought q h selection masks test) ks kept present
+    ∙ list_any_none (passes q h (is_sought q h selection masks test)) ks
+    (All-weaker (IsUnmet q h masks) (λ (k : Kept). passes q h (is_sought q h selection masks test) k ≡ false)
+    (λ k none. ap (λ (b : Bool). is_present q h k.sample.key k.sample.position
+    && (asks_for selection (handle_of q h k.sample.key) && (b && test k.sample.key (value_of q h k.sample)))) none
+    ∙ and-false (is_present q h k.sample.key k.sample.position) (asks_for selection (handle_of q h k.sample.key))) ks
+    unmet)
+  where
+    and-false : (a b : Bool) → (a && (b && false)) ≡ false
+    and-false true true = refl
+    and-false true false = refl
+    and-false false b = refl

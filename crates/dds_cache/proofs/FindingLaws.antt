@@ -4,7 +4,7 @@ use Rattle.std.specs.Prelude.{if◌then◌else◌}
 use Rattle.std.specs.List.{list_any, All, flat_map, range_with_len}
 use Rattle.std.specs.List.Sorted.{IsNonDecreasingBy, IsPermutation, IsStableByKey, ties}
 use Rattle.std.specs.Ordering.{nat_cmp, is_lt}
-use Rattle.std.proofs.lemmas.Bool.{cases_Bool}
+use Rattle.std.proofs.lemmas.Bool.{and_parts, cases_Bool}
 use Rattle.std.proofs.lemmas.Bool.Decides.{nat_tests}
 use Rattle.std.proofs.lemmas.List.{map-append, append-nil, take_more, get_or_default}
 use Rattle.std.proofs.lemmas.List.Elements.{filter-append, All-cons, All-head, All-tail, All-push, All-weaker}
@@ -130,6 +130,10 @@ candidates-some q h masks test ks at k c cs within is kept found so_far = record
     is_known =
         subst (λ (s : SamplePosition). list_any (λ i. same_key i s.key) (known_instances q h) ≡ true)
         (sym found.sample_is) kept.is_known;
+    present =
+        ap (λ (s : SamplePosition). is_present q h s.key s.position) found.sample_is
+        ∙ (and_parts (is_present q h k.sample.key k.sample.position) (is_asked_for q h masks test k.sample)
+        found.wanted).0;
     picked_is = found.picked_is ∙ ap (λ (s : SamplePosition). picked_of q h s) (sym found.sample_is);
     small = found.small;
   });

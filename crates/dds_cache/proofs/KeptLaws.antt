@@ -53,6 +53,7 @@ kept-next q e h k r lives untaken read_is kept =
           ∙ ap (λ (g : List Happening). writes_in_life q i (e ∷ h) + accepted_writes q i g) (sym older);
       untaken = ap (λ (b : Bool). b || is_taken k.sample h) untaken ∙ kept.untaken;
       read_is = read_is ∙ ap (λ (b : Bool). list_any (same_sample k.sample) (read_by e) || b) kept.read_is;
+      stays = kept.stays;
       is_of =
           record {
             valid_is = past.valid_is;
@@ -136,8 +137,8 @@ kept-stated q h k kept none =
 
 pub kept-newest : (q : ReaderQos) (e : Happening) (h : List Happening) (i : Key) (known_is : KnownInstance) (k : Kept)
     → taken_by e ≡ [] → read_by e ≡ [] → IsFresh h i → k.sample ≡ sample_at i (length h + 1)
-    → IsKnown q (e ∷ h) known_is → known_is.key ≡ i → IsNewest q (e ∷ h) k → IsKept q (e ∷ h) k
-kept-newest q e h i known_is k taken read fresh sample is_known key newest =
+    → k.is_out ≡ false → IsKnown q (e ∷ h) known_is → known_is.key ≡ i → IsNewest q (e ∷ h) k → IsKept q (e ∷ h) k
+kept-newest q e h i known_is k taken read fresh sample stays is_known key newest =
     let at : k.sample.position ≡ length h + 1 = ap (λ (s : SamplePosition). s.position) sample in
     let key_is : k.sample.key ≡ i = ap (λ (s : SamplePosition). s.key) sample in
     let now : as_of k.sample.position (e ∷ h) ≡ e ∷ h = ap (λ (n : ℕ). as_of n (e ∷ h)) at ∙ as_of-newest e h in
@@ -154,6 +155,7 @@ kept-newest q e h i known_is k taken read fresh sample is_known key newest =
           newest.read_is
           ∙ sym (ap (λ (ss : List SamplePosition). list_any (same_sample k.sample) ss || is_read k.sample h) read
           ∙ (ap (λ (s : SamplePosition). is_read s h) sample ∙ fresh.unread));
+      stays = stays;
       numbered =
           (let sum : accepted_writes q k.sample.key (e ∷ h) + k.number
           ≡ writes_in_life q k.sample.key (e ∷ h) + accepted_writes q k.sample.key (e ∷ h) =

@@ -6,8 +6,10 @@ pub mod StandingLaws
 pub mod GroupLaws
 pub mod FindingLaws
 pub mod PickLaws
+pub mod PlaceLaws
 pub mod CollectionLaws
 pub mod CountLaws
+pub mod CountedLaws
 pub mod AnyLaws
 pub mod DataLaws
 pub mod RoomLaws

@@ -14,7 +14,9 @@ use Rattle.dds_base.specs.declared.happening.SamplePosition.{SamplePosition}
 use Rattle.dds_base.specs.declared.happening.Happening.{Happening}
 use Rattle.dds_base.specs.declared.happening.Happening.TheVariants.{Came}
 use Rattle.dds_base.specs.declared.qos.ReaderQos.{ReaderQos}
-use Rattle.dds_base.specs.Happening.{arrivals, same_key, as_of, read_by, taken_by}
+use Rattle.dds_base.specs.declared.qos.HistoryQos.{HistoryQos}
+use Rattle.dds_base.specs.declared.qos.HistoryQos.TheVariants.{KeepAll}
+use Rattle.dds_base.specs.Happening.{arrivals, same_key, same_sample, as_of, is_taken, read_by, taken_by}
 use Rattle.dds_base.specs.Ownership.{accepted_kind}
 use Rattle.dds_base.specs.Instance.{introduces, is_known, known_instances, disposed_generations, no_writers_generations}
 use Rattle.dds_base.specs.Life.{is_write, accepted_writes, ends_life, ends_with_write, is_at, is_kept_write, keeps, last_marker, later_writes, up_to}
@@ -26,7 +28,7 @@ use Rattle.dds_instances.specs.declared.known.KnownInstance.{KnownInstance}
 use Rattle.dds_instances.specs.Known.{IsKnown, writes_in_life}
 use Rattle.dds_instances.specs.Track.{one_if}
 use Rattle.dds_cache.specs.declared.kept.Kept.{Kept}
-use Rattle.dds_cache.specs.Kept.{Adds, IsFresh, IsKept, IsKeptAt, IsOf, positions_in, sample_at}
+use Rattle.dds_cache.specs.Kept.{Adds, IsFresh, IsKept, IsKeptAt, IsOf, has_data, positions_in, sample_at}
 use Rattle.dds_cache.specs.Room.{is_present_write, is_write_after}
 use Rattle.dds_cache.specs.Sweeping.{stays}
 use Rattle.dds_cache.proofs.EndLaws.{known, known-accepted, short}
@@ -35,6 +37,7 @@ use Rattle.dds_cache.proofs.StandingLaws.{adds-nothing, adds-one, each-after, pr
 use Rattle.dds_cache.proofs.SweepLaws.{Leaves, apart-quiet, leaves-swept, present-stays}
 use Rattle.dds_cache.proofs.GroupLaws.{unequal}
 use Rattle.dds_cache.proofs.CountLaws.{present-count}
+use Rattle.dds_cache.proofs.CountedLaws.{count-agree}
 
 -- ---- what is kept, after a change
 
@@ -125,6 +128,38 @@ write-after q a h known k w m written marked is_known key kept =
     flipped : (x y : Key) → same_key x y ≡ false → same_key y x ≡ false
     flipped x y other = same_key-comm y x ∙ other
 
+keep-table : (t v m : Bool) → t ≡ false → ((not t && ((v && true) || m)) && v) ≡ v
+keep-table true v m e = absurd cc
+keep-table false true m e = refl
+keep-table false false true e = refl
+keep-table false false false e = refl
+
+-- where the history keeps all, a kept sample is a present write after an entry if it has data
+write-kept : (q : ReaderQos) (e : Happening) (h : List Happening) (k : Kept) → q.history ≡ KeepAll → taken_by e ≡ []
+    → IsKept q h k → is_present_write q (e ∷ h) k ≡ has_data k
+write-kept q e h k all untaken kept =
+    let i : Key = k.sample.key in
+    let j : ℕ = k.sample.position in
+    let past : as_of j (e ∷ h) ≡ as_of j h = as_of-older e h j kept.in_past in
+    let w : Bool = ends_with_write q i (as_of j (e ∷ h)) in
+    let m : Option ℕ = reached q i h e in
+    let gone : is_taken k.sample (e ∷ h) ≡ false =
+    ap (λ (ss : List SamplePosition). list_any (same_sample k.sample) ss || is_taken k.sample h) untaken ∙ kept.untaken
+    in
+    ap (λ (b : Bool). b && w) (present-reached q e h i j (omega (arith, kept.in_past)))
+    ∙ (ap (λ (history : HistoryQos). (not (is_taken k.sample (e ∷ h))
+    && ((w && keeps history (later_writes q (e ∷ h) i j)) || is_at m j)) && w) all
+    ∙ (keep-table (is_taken k.sample (e ∷ h)) w (is_at m j) gone
+    ∙ (ap (λ (g : List Happening). ends_with_write q i g) past ∙ sym kept.is_of.valid_is)))
+
+-- so as many are present writes after a change as have data
+pub writes-all : (q : ReaderQos) (a : Arrival) (h : List Happening) (ks : List Kept) → q.history ≡ KeepAll
+    → All (IsKept q h) ks → count_by has_data ks ≡ count_by (is_present_write q (Came a ∷ h)) ks
+writes-all q a h ks all each =
+    sym (count-agree (is_present_write q (Came a ∷ h)) has_data ks
+    (All-weaker (IsKept q h) (λ (k : Kept). is_present_write q (Came a ∷ h) k ≡ has_data k)
+    (λ k kept. write-kept q (Came a) h k all refl kept) ks each))
+
 -- ---- what the change leaves
 
 -- what would be kept of it
@@ -134,6 +169,7 @@ newest q e h i = record {
   handle = handle_of q (e ∷ h) i;
   number = writes_in_life q i (e ∷ h);
   is_read = false;
+  is_out = false;
   valid_data = ends_with_write q i (e ∷ h);
   disposed_generation_count = disposed_generations q i (e ∷ h);
   no_writers_generation_count = no_writers_generations q i (e ∷ h);
@@ -167,6 +203,7 @@ newest-kept q a h fresh known present =
         handle_is = refl;
         untaken = fresh.untaken;
         read_is = sym fresh.unread;
+        stays = refl;
         numbered =
             (let sum : accepted_writes q a.change.key g + writes_in_life q a.change.key g
             ≡ writes_in_life q a.change.key g + accepted_writes q a.change.key g = omega arith in sum)

@@ -22,13 +22,12 @@ use Rattle.dds_base.specs.StatusFlags.{brings_sample, data_available_at}
 use Rattle.dds_instances.specs.Table.{Table, Stands}
 use Rattle.dds_instances.specs.Known.{IsReturnable}
 use Rattle.dds_cache.specs.declared.access.Candidate.{Candidate}
-use Rattle.dds_cache.specs.Finding.{Holds, IsCandidate, IsSmall, sample_in}
-use Rattle.dds_cache.specs.Picking.{Picks, IsAccess}
+use Rattle.dds_cache.specs.Finding.{Holds, IsCandidate, sample_in}
+use Rattle.dds_cache.specs.Picking.{Picks, IsAccess, shown}
 use Rattle.dds_cache.specs.declared.kept.Kept.{Kept}
-use Rattle.dds_cache.specs.Kept.{IsKept, IsKeptAt, IsFresh, IsNewAt, Adds, sample_at, is_here, position_of, positions_in, is_among, marked, HaveSame}
+use Rattle.dds_cache.specs.Kept.{IsKept, IsKeptAt, IsFresh, IsNewAt, Adds, sample_at, is_here, position_of, positions_in, is_among, marked}
 use Rattle.dds_cache.specs.declared.access_kind.AccessKind.{AccessKind}
 use Rattle.dds_cache.specs.declared.access_kind.AccessKind.TheVariants.{Read as Reading, Take as Taking}
-use Rattle.dds_cache.specs.Settling.{settled}
 use Rattle.dds_cache.specs.Sweeping.{left_since, stays}
 use Rattle.dds_base.specs.Instance.{known_instances}
 use Rattle.dds_cache.specs.Standing.{Stored, StandsFor, entry_of}
@@ -37,6 +36,7 @@ use Rattle.dds_cache.proofs.EndLaws.{known, still-quiet}
 use Rattle.dds_cache.proofs.KeptLaws.{kept-next}
 use Rattle.dds_cache.proofs.SweepLaws.{IsApart, Leaves, all-filtered, apart-quiet, here-stays, leaves-all, leaves-since, past-kept}
 use Rattle.dds_cache.proofs.GroupLaws.{unequal}
+use Rattle.dds_cache.proofs.PlaceLaws.{apart-picked}
 use Rattle.dds_cache.proofs.DataLaws.{brings-added, none-noted}
 use Rattle.dds_base.specs.Ownership.{accepted_kind, registered_writers}
 
@@ -402,6 +402,7 @@ returnable q h ks c kept is =
           handle = 0;
           number = 0;
           is_read = false;
+          is_out = false;
           valid_data = false;
           disposed_generation_count = 0;
           no_writers_generation_count = 0;
@@ -411,60 +412,31 @@ returnable q h ks c kept is =
         }
 
 -- what was gathered of what an access picks
-pub accessed : (stored : Stored) (h : List Happening) (selection : Selection) (test : Key → List ℕ → Bool)
+pub accessed : (kind : AccessKind) (stored : Stored) (h : List Happening) (selection : Selection) (test : Key → List ℕ → Bool)
     (cs : List Candidate) (positions : List SamplePosition) (collection : List Sample) → StandsFor stored h
     → Picks stored.qos h selection test stored.samples cs → positions ≡ map sample_in cs
-    → collection ≡ collection_of stored.qos h (map sample_in cs)
-    → IsAccess stored.qos h selection test positions collection
-accessed stored h selection test cs positions collection stands picks positions_are collection_is = record {
+    → collection ≡ shown kind (collection_of stored.qos h (map sample_in cs))
+    → IsAccess kind stored.qos h selection test stored.samples positions cs collection
+accessed kind stored h selection test cs positions collection stands picks positions_are collection_is = record {
   good = picks.good;
   positions_are = positions_are ∙ picks.samples_are;
-  collection_is = collection_is ∙ ap (λ (ss : List SamplePosition). collection_of stored.qos h ss) (sym positions_are);
+  collection_is =
+      collection_is
+      ∙ ap (λ (ss : List SamplePosition). shown kind (collection_of stored.qos h ss)) (sym positions_are);
   each =
       subst (λ (ss : List SamplePosition). All (IsReturnable stored.qos h) ss) (sym positions_are)
       (All-map (IsReturnable stored.qos h) sample_in cs
       (All-weaker (IsCandidate stored.qos h stored.samples) (λ (c : Candidate). IsReturnable stored.qos h c.sample)
       (λ c is. returnable stored.qos h stored.samples c stands.each is) cs picks.each));
+  found = picks.each;
+  apart = apart-picked stored.qos stored.instances h stored.samples selection test cs (holds stored h stands) picks;
 }
-
--- what is in a set that has the same samples
-pub marked-same : (ss ts : List SamplePosition) (ks : List Kept) → HaveSame ss ts
-    → map (marked ss) ks ≡ map (marked ts) ks
-marked-same ss ts [] same = refl
-marked-same ss ts (k ∷ ks) same =
-    ap (λ (b : Bool). (record k { is_read = b || k.is_read }) ∷ map (marked ss) ks) (same k.sample)
-    ∙ ap (λ (rest : List Kept). marked ts k ∷ rest) (marked-same ss ts ks same)
-
-pub removed-same : (ss ts : List SamplePosition) (ks : List Kept) → HaveSame ss ts
-    → filter (λ k. not (is_among ss k)) ks ≡ filter (λ k. not (is_among ts k)) ks
-removed-same ss ts [] same = refl
-removed-same ss ts (k ∷ ks) same =
-    ap (λ (b : Bool). cond (not b) (k ∷ filter (λ x. not (is_among ss x)) ks) (filter (λ x. not (is_among ss x)) ks))
-    (same k.sample) ∙ ap (λ (rest : List Kept). cond (not (is_among ts k)) (k ∷ rest) rest)
-    (removed-same ss ts ks same)
 
 -- what may be returned is of the past
 pub past-all : (q : ReaderQos) (h : List Happening) (ss : List SamplePosition) → All (IsReturnable q h) ss
     → All (λ (s : SamplePosition). s.position ≤ length h) ss
 past-all q h ss each =
     All-weaker (IsReturnable q h) (λ (s : SamplePosition). s.position ≤ length h) (λ s is. is.in_past) ss each
-
--- a mark leaves the counts
-pub small-marked : (ss : List SamplePosition) (ks : List Kept) → All IsSmall ks → All IsSmall (map (marked ss) ks)
-small-marked ss ks small =
-    All-map IsSmall (marked ss) ks (All-weaker IsSmall (λ (k : Kept). IsSmall (marked ss k)) (λ k is. is) ks small)
-
--- an access by the same samples leaves the same
-pub settled-same : (kind : AccessKind) (ss ts : List SamplePosition) (ks : List Kept) → HaveSame ss ts
-    → settled kind ss ks ≡ settled kind ts ks
-settled-same Reading = marked-same
-settled-same Taking = removed-same
-
--- an access leaves the counts
-pub small-settled : (kind : AccessKind) (ss : List SamplePosition) (ks : List Kept) → All IsSmall ks
-    → All IsSmall (settled kind ss ks)
-small-settled Reading = small-marked
-small-settled Taking = λ ss. All-filter (λ (k : Kept). not (is_among ss k)) IsSmall
 
 -- what had not happened was not returned, also not by an access of what had
 later-apart : (kind : AccessKind) (ss : List SamplePosition) (h : List Happening) (i : Key) (j : ℕ) → length h < j

@@ -2,8 +2,8 @@
 -- believed.
 --
 -- DDS 1.4, 2.2.2.5 (read, take: sample_states, view_states, instance_states).
-use Rattle.std.specs.Prelude.{◌≡◌, ℕ, ◌+◌, if◌then◌else◌, ◌<◌, ◌^◌, List, length, Bool, true, ◌&&◌, ◌==◌, nat_lt, map, filter, All, Option, IsTrue, slice_index_or}
-use Rattle.std.specs.List.{list_any}
+use Rattle.std.specs.Prelude.{◌≡◌, ℕ, ◌+◌, if◌then◌else◌, ◌<◌, ◌≤◌, ◌^◌, List, length, Bool, true, false, ◌&&◌, ◌==◌, nat_lt, map, filter, All, Option, IsTrue, slice_index_or}
+use Rattle.std.specs.List.{list_any, count_by}
 use Rattle.dds_base.specs.declared.happening.SamplePosition.{SamplePosition}
 use Rattle.dds_base.specs.declared.happening.Happening.{Happening}
 use Rattle.dds_base.specs.declared.key.Key.{Key}
@@ -18,13 +18,13 @@ use Rattle.dds_base.specs.declared.qos.ReaderQos.{ReaderQos}
 use Rattle.dds_base.specs.declared.selection.Selection.{Selection}
 use Rattle.dds_base.specs.declared.selection.Selection.TheVariants.{Any, Instance, NextInstance, NextSample}
 use Rattle.dds_base.specs.Happening.{same_key}
-use Rattle.dds_base.specs.Instance.{known_instances}
+use Rattle.dds_base.specs.Instance.{instance_state_of, known_instances, view_state_of}
 use Rattle.dds_base.specs.Presence.{is_present}
 use Rattle.dds_base.specs.Life.{up_to}
 use Rattle.dds_base.specs.Access.{asks_for_sample_state, asks_for_view_state, asks_for_instance_state, meets, picked_of, own_generations, handle_of, value_of, matching_samples}
 use Rattle.dds_cache.specs.declared.kept.Kept.{Kept}
 use Rattle.dds_cache.specs.declared.access.Candidate.{Candidate}
-use Rattle.dds_cache.specs.Kept.{IsKept, positions_in}
+use Rattle.dds_cache.specs.Kept.{IsKept, is_among, positions_in}
 use Rattle.dds_instances.specs.Table.{Table, Stands}
 
 -- the masks ask for these states
@@ -36,6 +36,16 @@ are_asked_for masks sample view instance =
 -- the sample meets the masks, and passes the test
 abbrev pub is_asked_for : ReaderQos → List Happening → Masks → (Key → List ℕ → Bool) → SamplePosition → Bool
 is_asked_for q h masks test s = meets q h masks s && test s.key (value_of q h s)
+
+-- the masks ask for the view state and the state of an instance
+abbrev pub asks_for_states : ReaderQos → List Happening → Masks → Key → Bool
+asks_for_states q h masks i =
+    asks_for_view_state masks.views (view_state_of q i h)
+    && asks_for_instance_state masks.instances (instance_state_of q i h)
+
+-- a kept sample does not meet the masks
+abbrev pub IsUnmet : ReaderQos → List Happening → Masks → Kept → Type 0
+IsUnmet q h masks k = meets q h masks k.sample ≡ false
 
 -- a kept sample is present, meets the masks, and passes the test
 abbrev pub is_wanted : ReaderQos → List Happening → Masks → (Key → List ℕ → Bool) → Kept → Bool
@@ -67,6 +77,7 @@ pub record IsCandidate (q : ReaderQos) (h : List Happening) (ks : List Kept) (c 
   pub within : c.at < length ks
   pub there : (d : Kept) → (slice_index_or ks c.at d).sample ≡ c.sample
   pub is_known : IsTrue (list_any (λ i. same_key i c.sample.key) (known_instances q h))
+  pub present : is_present q h c.sample.key c.sample.position ≡ true
   pub picked_is : c.picked ≡ picked_of q h c.sample
   pub small : own_generations c.picked < 2 ^ 64
 
@@ -124,6 +135,24 @@ IsSmall k = k.disposed_generation_count + k.no_writers_generation_count < 2 ^ 64
 pub record IsPlaced (n : ℕ) (c : Candidate) : Type 0 where
   pub within : c.at < n
   pub small : own_generations c.picked < 2 ^ 64
+
+-- one of the candidates stands at a place
+abbrev pub is_place : List Candidate → ℕ → Bool
+is_place cs at = list_any (λ c. c.at == at) cs
+
+-- the samples are those that are kept at the candidates' places
+abbrev pub AreAt : List SamplePosition → List Candidate → List Kept → Type 0
+AreAt ss cs ks = (at : ℕ) (d : Kept) → at < length ks → is_among ss (slice_index_or ks at d) ≡ is_place cs at
+
+-- no two of the candidates stand at one place
+abbrev pub AreApart : List Candidate → Type 0
+AreApart cs = (at : ℕ) → count_by (λ c. c.at == at) cs ≤ 1
+
+-- of the kept samples each is changed by whether a candidate stands at its place
+pub record AreChanged (change : Bool → Kept → Kept) (cs : List Candidate) (old new : List Kept) : Type 0 where
+  pub same_len : length new ≡ length old
+  pub each : (at : ℕ) (d : Kept) → at < length old
+      → slice_index_or new at d ≡ change (is_place cs at) (slice_index_or old at d)
 
 -- what is found are the matching samples, in their order
 pub record Finds (q : ReaderQos) (h : List Happening) (masks : Masks) (test : Key → List ℕ → Bool) (ks : List Kept)

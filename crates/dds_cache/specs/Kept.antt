@@ -3,7 +3,7 @@
 --
 -- DDS 1.4, 2.2.2.5 (SampleInfo), 2.2.3 (HISTORY); RTPS 2.5, 8.2 (HistoryCache of a reader).
 use Rattle.std.specs.Prelude.{◌≡◌, ℕ, ◌+◌, ◌-◌, ◌≤◌, List, [], ◌∷◌, ◌++◌, All, if◌then◌else◌, length, Bool, true, false, ◌&&◌, ◌||◌, map, filter, IsTrue, Option}
-use Rattle.std.specs.List.{list_any}
+use Rattle.std.specs.List.{list_any, count_by}
 use Rattle.dds_base.specs.declared.key.Key.{Key}
 use Rattle.dds_base.specs.declared.happening.SamplePosition.{SamplePosition}
 use Rattle.dds_base.specs.declared.happening.Happening.{Happening}
@@ -12,7 +12,10 @@ use Rattle.dds_base.specs.Happening.{same_key, same_sample, as_of, is_read, is_t
 use Rattle.dds_base.specs.Instance.{disposed_generations, no_writers_generations, known_instances}
 use Rattle.dds_base.specs.Presence.{is_present}
 use Rattle.dds_base.specs.Life.{accepted_writes, ends_with_write, keeps, is_at}
-use Rattle.dds_base.specs.Access.{handle_of, timestamp_of, publication_of, newest_value}
+use Rattle.dds_base.specs.declared.mask.SampleStateMask.{SampleStateMask}
+use Rattle.dds_base.specs.declared.sample.SampleState.TheVariants.{Read as HasBeenRead, NotRead}
+use Rattle.dds_base.specs.Access.{asks_for_sample_state, handle_of, timestamp_of, publication_of, newest_value}
+use Rattle.dds_cache.specs.declared.counts.Counts.{Counts}
 use Rattle.dds_cache.specs.declared.kept.Kept.{Kept}
 use Rattle.dds_instances.specs.Known.{writes_in_life}
 use Rattle.dds_instances.specs.declared.known.KnownInstance.{KnownInstance}
@@ -38,6 +41,7 @@ pub record IsKept (q : ReaderQos) (h : List Happening) (k : Kept) : Type 0 where
   pub handle_is : k.handle ≡ handle_of q h k.sample.key
   pub untaken : is_taken k.sample h ≡ false
   pub read_is : k.is_read ≡ is_read k.sample h
+  pub stays : k.is_out ≡ false
   pub numbered : accepted_writes q k.sample.key h + k.number
       ≡ writes_in_life q k.sample.key h + accepted_writes q k.sample.key (as_of k.sample.position h)
   pub is_of : IsOf q (as_of k.sample.position h) k
@@ -95,14 +99,35 @@ pub record Adds (q : ReaderQos) (e : Happening) (h : List Happening) (old new : 
 abbrev pub is_among : List SamplePosition → Kept → Bool
 is_among ss k = list_any (same_sample k.sample) ss
 
--- two lists have the same samples
-abbrev pub HaveSame : List SamplePosition → List SamplePosition → Type 0
-HaveSame ss ts = (s : SamplePosition) → list_any (same_sample s) ss ≡ list_any (same_sample s) ts
+-- a kept sample, marked as read if so
+abbrev pub read_if : Bool → Kept → Kept
+read_if read k = record k { is_read = read || k.is_read }
+
+-- a kept sample, marked as one that a take returns if so, and without its value then
+abbrev pub out_if : Bool → Kept → Kept
+out_if out k = record k { is_out = out || k.is_out; value = if out then [] else k.value }
 
 -- a kept sample after a read that returned these
 abbrev pub marked : List SamplePosition → Kept → Kept
-marked ss k = record k { is_read = is_among ss k || k.is_read }
+marked ss k = read_if (is_among ss k) k
+
+-- no take is returning a kept sample
+abbrev pub IsIn : Kept → Type 0
+IsIn k = k.is_out ≡ false
 
 -- a read returned a kept sample
-abbrev pub WasRead : Kept → Type 0
-WasRead k = k.is_read ≡ true
+abbrev pub was_read : Kept → Bool
+was_read k = k.is_read
+
+-- a kept sample has data
+abbrev pub has_data : Kept → Bool
+has_data k = k.valid_data
+
+-- a read returned so many of the kept samples, and so many have data
+pub record IsCounted (ks : List Kept) (counts : Counts) : Type 0 where
+  pub reads : counts.reads ≡ count_by was_read ks
+  pub writes : counts.writes ≡ count_by has_data ks
+
+-- a mask does not ask for the sample state of a kept sample
+abbrev pub IsUnasked : SampleStateMask → Kept → Type 0
+IsUnasked mask k = asks_for_sample_state mask (if k.is_read then HasBeenRead else NotRead) ≡ false

@@ -2,7 +2,7 @@
 -- here has to be believed.
 --
 -- DDS 1.4, 2.2.2.5 (read, take, and their instance, next-instance and next-sample forms).
-use Rattle.std.specs.Prelude.{◌≡◌, ◌≢◌, ℕ, List, [], ◌∷◌, All, map, filter, Bool, true, false, ◌==◌, nat_lt, Option, None, Some, Result, Ok, Err, ℤ, if◌then◌else◌}
+use Rattle.std.specs.Prelude.{◌≡◌, ◌≢◌, ℕ, List, [], ◌∷◌, All, map, filter, Bool, true, false, ◌==◌, nat_lt, Option, None, Some, Result, Ok, Err, ℤ, if◌then◌else◌, ◌+◌, ◌≤◌, length, vec_len, vec_capacity}
 use Rattle.dds_base.specs.declared.code.Code.{Code}
 use Rattle.dds_base.specs.declared.code.Code.TheVariants.{BadParameter}
 use Rattle.dds_base.specs.declared.happening.SamplePosition.{SamplePosition}
@@ -14,14 +14,17 @@ use Rattle.dds_base.specs.declared.selection.Selection.{Selection}
 use Rattle.dds_base.specs.declared.selection.Selection.TheVariants.{Any, Instance, NextInstance, NextSample}
 use Rattle.dds_base.specs.Checked.{is_maximum, limit_of}
 use Rattle.dds_base.specs.Selection.{picked_by, selection_refusal}
-use Rattle.dds_base.specs.Access.{no_filter, not_read, collection_of}
+use Rattle.dds_base.specs.Access.{infos_of, no_filter, not_read, collection_of}
 use Rattle.dds_base.specs.declared.sample.Sample.{Sample}
 use Rattle.dds_instances.specs.Known.{IsReturnable}
 use Rattle.dds_cache.specs.declared.access.Candidate.{Candidate}
+use Rattle.dds_cache.specs.declared.access_kind.AccessKind.{AccessKind}
+use Rattle.dds_cache.specs.declared.access_kind.AccessKind.TheVariants.{Read, Take}
+use Rattle.dds_cache.specs.declared.collection.Access.{Access}
 use Rattle.dds_cache.specs.declared.kept.Kept.{Kept}
 use Rattle.dds_cache.specs.declared.pick.Request.{Request}
 use Rattle.dds_cache.specs.Kept.{IsKept}
-use Rattle.dds_cache.specs.Finding.{IsCandidate, sample_in, handle_in}
+use Rattle.dds_cache.specs.Finding.{AreApart, IsCandidate, IsPlaced, sample_in, picked_in, handle_in}
 
 -- how many samples an access asks for at most
 abbrev pub limit_in : Selection → Option ℕ
@@ -85,19 +88,42 @@ pub record Picks (q : ReaderQos) (h : List Happening) (selection : Selection) (t
   pub samples_are : map sample_in cs ≡ picked_by q h selection test
   pub each : All (IsCandidate q h ks) cs
 
--- this is the collection of these candidates
-abbrev pub IsCollection : List Kept → List Candidate → List Sample → Type 0
-IsCollection ks cs collection =
-    (q : ReaderQos) (h : List Happening) → All (IsKept q h) ks → All (IsCandidate q h ks) cs
-    → collection ≡ collection_of q h (map sample_in cs)
+-- what of a collection is there before the access is entered: the whole of a read, and nothing of a take
+abbrev pub shown : AccessKind → List Sample → List Sample
+shown Read samples = samples
+shown Take samples = []
 
--- an access that is not refused finds these samples, and this is their collection
-pub record IsAccess (q : ReaderQos) (h : List Happening) (selection : Selection) (test : Key → List ℕ → Bool)
-    (positions : List SamplePosition) (collection : List Sample) : Type 0 where
+-- this is what is there of the collection of these candidates before the access is entered
+abbrev pub IsCollection : AccessKind → List Kept → List Candidate → List Sample → Type 0
+IsCollection kind ks cs collection =
+    (q : ReaderQos) (h : List Happening) → All (IsKept q h) ks → All (IsCandidate q h ks) cs
+    → collection ≡ shown kind (collection_of q h (map sample_in cs))
+
+-- an access that is not refused finds these samples among those that are kept, and this is there of their collection
+pub record IsAccess (kind : AccessKind) (q : ReaderQos) (h : List Happening) (selection : Selection)
+    (test : Key → List ℕ → Bool) (ks : List Kept) (positions : List SamplePosition) (cs : List Candidate)
+    (collection : List Sample) : Type 0 where
   pub good : selection_refusal q h selection ≡ None
   pub positions_are : positions ≡ picked_by q h selection test
-  pub collection_is : collection ≡ collection_of q h positions
+  pub collection_is : collection ≡ shown kind (collection_of q h positions)
   pub each : All (IsReturnable q h) positions
+  pub found : All (IsCandidate q h ks) cs
+  pub apart : AreApart cs
+
+-- what was gathered for an access that found its samples among n kept ones: for a take there is room for each
+pub record IsGathered (kind : AccessKind) (n : ℕ) (access : Access) : Type 0 where
+  pub placed : All (IsPlaced n) access.found.items
+  pub same : access.positions.items ≡ map sample_in access.found.items
+  pub infos : access.infos.items ≡ infos_of (map picked_in access.found.items)
+  pub room : kind ≡ Take → vec_len access.samples + length access.found.items ≤ vec_capacity access.samples
+
+-- an access has the whole collection once it is entered
+abbrev pub IsDelivered : AccessKind → List Kept → Access → Access → Type 0
+IsDelivered kind ks old new =
+    AreApart old.found.items → (q : ReaderQos) (h : List Happening) → All (IsKept q h) ks
+    → All (IsCandidate q h ks) old.found.items
+    → old.samples.items ≡ shown kind (collection_of q h (map sample_in old.found.items))
+    → new.samples.items ≡ collection_of q h (map sample_in old.found.items)
 
 -- whether there are any of these
 abbrev pub TellsAny : Bool → List SamplePosition → Type 0

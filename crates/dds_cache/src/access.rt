@@ -15,7 +15,7 @@ ghost use Rattle.dds_cache.specs.Kept.{IsKept, is_live};
 ghost use Rattle.dds_cache.specs.Finding.{are_asked_for, asks_for, is_sought, is_wanted, passes, described_by, IsFound, IsSmall, IsPlaced, AreCandidates, Holds, Finds, sample_in, picked_in, handle_in};
 
 use crate::kept::Kept;
-use crate::masks::{asks_for_instance, asks_for_sample, asks_for_view};
+use crate::masks::{asks_for_sample, asks_for_states};
 use crate::test::Test;
 use dds_base::{
     Handle, InstanceState, Masks, Picked, ReaderQos, SamplePosition, SampleState, Selection,
@@ -41,8 +41,7 @@ fn is_asked(
 ) -> bool
     ensures { result ≡ are_asked_for masks sample view instance }
 {
-    asks_for_sample(masks.samples, sample)
-        && (asks_for_view(masks.views, view) && asks_for_instance(masks.instances, instance))
+    asks_for_sample(masks.samples, sample) && asks_for_states(masks, view, instance)
 }
 
 fn sample_state(is_read: bool) -> SampleState

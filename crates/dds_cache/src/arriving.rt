@@ -10,9 +10,10 @@ ghost use Rattle.dds_base.specs.Instance.{instance_state_of};
 ghost use Rattle.dds_base.specs.Presence.{is_present};
 ghost use Rattle.dds_base.specs.Life.{ends_with_write};
 ghost use Rattle.dds_instances.specs.Table.{Stands};
-ghost use Rattle.dds_cache.specs.Kept.{IsKeptAt, IsFresh, value_if, Adds};
+ghost use Rattle.dds_cache.specs.Kept.{IsCounted, IsKeptAt, IsFresh, value_if, Adds};
 ghost use Rattle.dds_cache.specs.Finding.{IsSmall};
 
+use crate::counts::{Counts, add};
 use crate::kept::Kept;
 use dds_base::{Arrival, ChangeKind, Octets, ReaderQos, SamplePosition};
 use dds_instances::Instances;
@@ -55,6 +56,7 @@ pub fn left_by(
         (is_present qos.now (Came arrival ∷ h) arrival.change.key (length h + 1) ≡ false)
         (IsKeptAt qos.now (Came arrival ∷ h) arrival.change.key (length h + 1)) }
     ensures small { IfSome result IsSmall }
+    ensures unread { IfSome result (λ k. k.is_read ≡ false) }
 {
     let Arrival { writer, change, .. } = arrival;
     let key = change.key;
@@ -69,6 +71,7 @@ pub fn left_by(
                 handle: known.handle,
                 number: known.accepted_writes,
                 is_read: false,
+                is_out: false,
                 valid_data: is_write,
                 disposed_generation_count: known.disposed_generations,
                 no_writers_generation_count: known.no_writers_generations,
@@ -91,10 +94,12 @@ pub fn add_left(
     instances: &Instances,
     qos: &ReaderQos,
     samples: &mut Vec<Kept>,
+    counts: &mut Counts,
     arrival: Arrival,
     is_write: bool,
 )
     requires room { vec_len samples.old < vec_capacity samples.old }
+    requires counted { IsCounted samples.old.items counts.old }
     ensures len { vec_len samples.new ≤ vec_len samples.old + 1 }
     ensures capacity { vec_capacity samples.old ≤ vec_capacity samples.new }
     ensures samples { (h : List Happening) → Stands qos.now instances.now (Came arrival ∷ h)
@@ -102,11 +107,9 @@ pub fn add_left(
         → IsFresh h arrival.change.key
         → Adds qos.now (Came arrival) h samples.old.items samples.new.items }
     ensures small { All IsSmall samples.old.items → All IsSmall samples.new.items }
+    ensures counted { IsCounted samples.new.items counts.new }
 {
     if let Some(kept) = left_by(alloc, instances, qos, arrival, is_write) {
-        if samples.push(kept).is_err() {
-            // Room was reserved.
-            unreachable!();
-        }
+        add(samples, counts, kept);
     }
 }

@@ -11,10 +11,11 @@ ghost use Rattle.dds_base.specs.Instance.{known_instances};
 ghost use Rattle.dds_base.specs.Presence.{is_present};
 ghost use Rattle.dds_instances.specs.Table.{Stands, has_marked, marked_of};
 ghost use Rattle.dds_instances.specs.Track.{one_if};
-ghost use Rattle.dds_cache.specs.Kept.{Adds, IsFresh, IsKeptAt};
+ghost use Rattle.dds_cache.specs.Kept.{Adds, IsCounted, IsFresh, IsKeptAt};
 ghost use Rattle.dds_cache.specs.Dying.{AddsOf};
 ghost use Rattle.dds_cache.specs.Finding.{IsSmall};
 
+use crate::counts::{Counts, add};
 use crate::kept::{Kept, is_position};
 use dds_base::{Handle, Moment, Octets, SamplePosition};
 use dds_instances::Instances;
@@ -35,6 +36,7 @@ fn marker_of(
         (IsKeptAt q (Died writer moment ∷ h) i (length h + 1)) }
     ensures marked { IfSome result (λ _. has_marked instances.now place ≡ true) }
     ensures small { IfSome result IsSmall }
+    ensures unread { IfSome result (λ k. k.is_read ≡ false) }
 {
     let known = instances.at(place)?;
     let position = instances.happened();
@@ -49,6 +51,7 @@ fn marker_of(
         handle: known.handle,
         number: known.accepted_writes,
         is_read: false,
+        is_out: false,
         valid_data: false,
         disposed_generation_count: known.disposed_generations,
         no_writers_generation_count: known.no_writers_generations,
@@ -63,12 +66,14 @@ fn add_marker(
     alloc: Global,
     instances: &Instances,
     samples: &mut Vec<Kept>,
+    counts: &mut Counts,
     place: usize,
     writer: Handle,
     moment: Moment,
 )
     requires room { vec_len samples.old + one_if (has_marked instances.now place)
         ≤ vec_capacity samples.old }
+    requires counted { IsCounted samples.old.items counts.old }
     ensures len { vec_len samples.new
         ≤ vec_len samples.old + one_if (has_marked instances.now place) }
     ensures capacity { vec_capacity samples.old ≤ vec_capacity samples.new }
@@ -78,12 +83,10 @@ fn add_marker(
         → AddsOf q (Died writer moment ∷ h) (length h + 1)
         (i ∷ []) samples.old.items samples.new.items }
     ensures small { All IsSmall samples.old.items → All IsSmall samples.new.items }
+    ensures counted { IsCounted samples.new.items counts.new }
 {
     if let Some(kept) = marker_of(alloc, instances, place, writer, moment) {
-        if samples.push(kept).is_err() {
-            // Room was reserved.
-            unreachable!();
-        }
+        add(samples, counts, kept);
     }
 }
 
@@ -92,10 +95,12 @@ pub fn add_markers(
     alloc: Global,
     instances: &Instances,
     samples: &mut Vec<Kept>,
+    counts: &mut Counts,
     writer: Handle,
     moment: Moment,
 )
     requires room { vec_len samples.old + marked_of instances.now ≤ vec_capacity samples.old }
+    requires counted { IsCounted samples.old.items counts.old }
     ensures len { vec_len samples.new ≤ vec_len samples.old + marked_of instances.now }
     ensures capacity { vec_capacity samples.old ≤ vec_capacity samples.new }
     ensures samples { (q : ReaderQos) (h : List Happening)
@@ -103,8 +108,9 @@ pub fn add_markers(
         → ((i : Key) → IsFresh h i)
         → Adds q (Died writer moment) h samples.old.items samples.new.items }
     ensures small { All IsSmall samples.old.items → All IsSmall samples.new.items }
+    ensures counted { IsCounted samples.new.items counts.new }
 {
     for place in 0..instances.len() {
-        add_marker(alloc, instances, samples, place, writer, moment);
+        add_marker(alloc, instances, samples, counts, place, writer, moment);
     }
 }

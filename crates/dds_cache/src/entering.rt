@@ -2,24 +2,27 @@
 //!
 //! DDS 1.4, 2.2.2.5 (read: samples are READ afterwards; take: they are gone).
 
-ghost use Rattle.std.specs.Prelude.{◌≡◌, ◌≤◌, ◌<◌, ◌+◌, ◌^◌, ◌⊎◌, ◌∷◌, List, All, filter, not, vec_len, vec_capacity};
+ghost use Rattle.std.specs.Prelude.{◌≡◌, ◌≤◌, ◌<◌, ◌+◌, ◌^◌, ◌⊎◌, ◌∷◌, List, All, filter, length, not, vec_len, vec_capacity};
 ghost use Rattle.dds_base.specs.declared.happening.Happening.{Happening};
 ghost use Rattle.dds_base.specs.declared.happening.Happening.TheVariants.{Took};
 ghost use Rattle.dds_instances.specs.Known.{IsReturnable};
 ghost use Rattle.dds_instances.specs.Table.{alive_of, happened_of, room_of};
 ghost use Rattle.dds_cache.specs.declared.kept.Kept.{Kept};
-ghost use Rattle.dds_cache.specs.Finding.{Holds, IsSmall};
-ghost use Rattle.dds_cache.specs.Kept.{HaveSame, is_among};
+ghost use Rattle.dds_cache.specs.Finding.{Holds, IsCandidate, IsSmall};
+ghost use Rattle.dds_cache.specs.Picking.{IsDelivered, IsGathered};
+ghost use Rattle.dds_cache.specs.Kept.{IsCounted, is_among};
 ghost use Rattle.dds_cache.specs.Standing.{entry_of};
 
 use crate::access_kind::AccessKind;
+use crate::collection::Access;
+use crate::counts::Counts;
 use crate::ending::hold_present;
 use crate::kept::Kept;
 use crate::returned::settle;
 use crate::sweeping::let_go;
 use dds_base::{ReaderQos, SamplePosition};
 use dds_instances::Instances;
-use indexmap::IndexSet;
+use std::alloc::Global;
 
 /// Enters a take of these samples, which are kept no more, and lets those of the lives go that it ends. There is room for
 /// it, or it can be counted.
@@ -27,9 +30,10 @@ fn take_out(
     instances: &mut Instances,
     qos: &ReaderQos,
     samples: &mut Vec<Kept>,
+    counts: &mut Counts,
     taken: &[SamplePosition],
 )
-    requires counted { (1 ≤ room_of instances.old) ⊎ (happened_of instances.old + 1 < 2 ^ 64) }
+    requires entry { (1 ≤ room_of instances.old) ⊎ (happened_of instances.old + 1 < 2 ^ 64) }
     ensures holds { (h : List Happening) (ks : List Kept) → Holds qos.now instances.old ks h
         → All (IsReturnable qos.now h) taken.now
         → samples.old.items ≡ filter (λ k. not (is_among taken.now k)) ks
@@ -39,38 +43,47 @@ fn take_out(
     ensures len { vec_len samples.new ≤ vec_len samples.old }
     ensures capacity { vec_capacity samples.new ≡ vec_capacity samples.old }
     ensures small { All IsSmall samples.old.items → All IsSmall samples.new.items }
+    ensures counted { IsCounted samples.old.items counts.old
+        → IsCounted samples.new.items counts.new }
 {
     let before = instances.len();
     if instances.is_any_left(taken) {
         hold_present(instances, qos, samples);
     }
     instances.took(taken).unwrap();
-    let_go(instances, qos, before, samples);
+    let_go(instances, qos, before, samples, counts);
 }
 
-/// Enters that an access of this kind returned these samples. There is room for it, or it can be counted.
+/// Enters that an access of this kind returned what it found, and makes it whole. There is room for it, or it can be
+/// counted.
 pub fn enter_access(
+    alloc: Global,
     kind: AccessKind,
     instances: &mut Instances,
     qos: &ReaderQos,
     samples: &mut Vec<Kept>,
-    positions: &[SamplePosition],
-    returned: &IndexSet<SamplePosition>,
+    counts: &mut Counts,
+    access: &mut Access,
 )
-    requires counted { (1 ≤ room_of instances.old) ⊎ (happened_of instances.old + 1 < 2 ^ 64) }
-    requires set { HaveSame returned.now.keys positions.now }
+    requires entry { (1 ≤ room_of instances.old) ⊎ (happened_of instances.old + 1 < 2 ^ 64) }
+    requires gathered { IsGathered kind (length samples.old.items) access.old }
     ensures holds { (h : List Happening) → Holds qos.now instances.old samples.old.items h
-        → All (IsReturnable qos.now h) positions.now
-        → Holds qos.now instances.new samples.new.items (entry_of kind positions.now ∷ h) }
+        → All (IsReturnable qos.now h) access.old.positions.items
+        → All (IsCandidate qos.now h samples.old.items) access.old.found.items
+        → Holds qos.now instances.new samples.new.items
+        (entry_of kind access.old.positions.items ∷ h) }
+    ensures positions { access.new.positions ≡ access.old.positions }
+    ensures delivered { IsDelivered kind samples.old.items access.old access.new }
     ensures room { room_of instances.old ≤ room_of instances.new + 1 }
     ensures alive { alive_of instances.new ≤ alive_of instances.old }
     ensures len { vec_len samples.new ≤ vec_len samples.old }
     ensures capacity { vec_capacity samples.old ≤ vec_capacity samples.new }
     ensures small { All IsSmall samples.old.items → All IsSmall samples.new.items }
+    ensures counted { IsCounted samples.new.items counts.new }
 {
-    settle(kind, samples, returned);
+    settle(alloc, kind, samples, counts, access);
     match kind {
-        AccessKind::Read => instances.read(positions).unwrap(),
-        AccessKind::Take => take_out(instances, qos, samples, positions),
+        AccessKind::Read => instances.read(&access.positions).unwrap(),
+        AccessKind::Take => take_out(instances, qos, samples, counts, &access.positions),
     }
 }

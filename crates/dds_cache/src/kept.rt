@@ -2,15 +2,16 @@
 //!
 //! DDS 1.4, 2.2.2.5 (sample_state), 2.2.3 (HISTORY).
 
-ghost use Rattle.std.specs.Prelude.{◌≡◌, ◌+◌, true, All};
+ghost use Rattle.std.specs.Prelude.{◌≡◌, ◌+◌, true};
 ghost use Rattle.dds_base.specs.Life.{keeps, is_at};
 ghost use Rattle.dds_instances.specs.Track.{one_if};
-ghost use Rattle.dds_cache.specs.Kept.{is_live, marked, WasRead};
+ghost use Rattle.dds_cache.specs.Kept.{is_live, out_if, read_if};
 ghost use Rattle.dds_cache.specs.Room.{is_write_after};
 
 use dds_base::{Handle, HistoryQos, Moment, Octets, ReaderQos, SamplePosition};
 use dds_instances::KnownInstance;
-use indexmap::IndexSet;
+use std::alloc::Global;
+use std::mem;
 
 /// A sample, with what is said of it that does not change.
 #[derive(Drop)]
@@ -22,6 +23,8 @@ pub struct Kept {
     pub number: u64,
     /// Whether a read returned it.
     pub is_read: bool,
+    /// Whether a take returns it, which lets it go before it ends.
+    pub is_out: bool,
     pub valid_data: bool,
     pub disposed_generation_count: u64,
     pub no_writers_generation_count: u64,
@@ -45,13 +48,6 @@ pub fn is_kept_after(history: HistoryQos, later: u64, one_more: bool) -> bool
             }
         }
     }
-}
-
-/// Whether a read returned each of them.
-pub fn are_read(samples: &[Kept]) -> bool
-    ensures { result ≡ true → All WasRead samples.now }
-{
-    samples.iter().all(|kept| kept.is_read)
 }
 
 pub fn is_position(at: Option<u64>, position: u64) -> bool
@@ -94,10 +90,19 @@ impl Kept {
                 || !is_marked && is_position(known.last_marker, self.sample.position))
     }
 
-    /// Takes up that a read returned these samples.
-    pub fn mark(&mut self, returned: &IndexSet<SamplePosition>)
-        ensures { self.new ≡ marked returned.now.keys self.old }
+    /// Takes up that a read returned it.
+    pub fn mark_read(&mut self)
+        ensures { self.new ≡ read_if true self.old }
     {
-        self.is_read = returned.contains(&self.sample) || self.is_read;
+        self.is_read = true;
+    }
+
+    /// Takes up that a take returns it: gives its value away.
+    pub fn take_out(&mut self, alloc: Global) -> Octets
+        ensures left { self.new ≡ out_if true self.old }
+        ensures value { result ≡ self.old.value }
+    {
+        self.is_out = true;
+        mem::replace(&mut self.value, Octets::from_vec(Vec::new(alloc)))
     }
 }

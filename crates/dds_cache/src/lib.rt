@@ -8,7 +8,9 @@
 mod access;
 mod access_kind;
 mod arriving;
+mod asking;
 mod collection;
+mod counts;
 mod dying;
 mod ending;
 mod entering;

@@ -2,12 +2,12 @@
 //!
 //! DDS 1.4, 2.2.2.5 (sample, view and instance states).
 
-ghost use Rattle.std.specs.Prelude.{◌≡◌};
+ghost use Rattle.std.specs.Prelude.{◌≡◌, ◌&&◌};
 ghost use Rattle.dds_base.specs.Access.{asks_for_sample_state, asks_for_view_state, asks_for_instance_state};
 
 use bitflags::Flags;
 use dds_base::{
-    InstanceState, InstanceStateMask, SampleState, SampleStateMask, ViewState, ViewStateMask,
+    InstanceState, InstanceStateMask, Masks, SampleState, SampleStateMask, ViewState, ViewStateMask,
 };
 
 pub fn asks_for_sample(mask: SampleStateMask, state: SampleState) -> bool
@@ -19,7 +19,7 @@ pub fn asks_for_sample(mask: SampleStateMask, state: SampleState) -> bool
     }
 }
 
-pub fn asks_for_view(mask: ViewStateMask, state: ViewState) -> bool
+fn asks_for_view(mask: ViewStateMask, state: ViewState) -> bool
     ensures { result ≡ asks_for_view_state mask state }
 {
     match state {
@@ -28,7 +28,7 @@ pub fn asks_for_view(mask: ViewStateMask, state: ViewState) -> bool
     }
 }
 
-pub fn asks_for_instance(mask: InstanceStateMask, state: Option<InstanceState>) -> bool
+fn asks_for_instance(mask: InstanceStateMask, state: Option<InstanceState>) -> bool
     ensures { result ≡ asks_for_instance_state mask state }
 {
     match state {
@@ -41,4 +41,11 @@ pub fn asks_for_instance(mask: InstanceStateMask, state: Option<InstanceState>) 
             mask.contains(InstanceStateMask::NOT_ALIVE_NO_WRITERS)
         }
     }
+}
+
+/// Whether the masks ask for the view state and the state of an instance.
+pub fn asks_for_states(masks: Masks, view: ViewState, instance: Option<InstanceState>) -> bool
+    ensures { result ≡ (asks_for_view_state masks.views view && asks_for_instance_state masks.instances instance) }
+{
+    asks_for_view(masks.views, view) && asks_for_instance(masks.instances, instance)
 }

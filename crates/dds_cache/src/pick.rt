@@ -10,10 +10,13 @@ ghost use Rattle.dds_base.specs.Refusal.{Refuses};
 ghost use Rattle.dds_base.specs.Selection.{picked_by, selection_refusal};
 ghost use Rattle.dds_instances.specs.Table.{Stands};
 ghost use Rattle.dds_cache.specs.Finding.{Finds, Holds, IsPlaced, IsSmall};
+ghost use Rattle.dds_cache.specs.Kept.{IsCounted};
 ghost use Rattle.dds_cache.specs.Picking.{IsLimit, IsRequestWith, IsRequest, Picks, TellsAny, test_in};
 ghost use Rattle.dds_cache.specs.Picking.{has_handle, first_above, of_selection};
 
 use crate::access::{Candidate, find_matching, is_any_match};
+use crate::asking::is_none_asked;
+use crate::counts::Counts;
 use crate::kept::Kept;
 use crate::test::{Everything, Test};
 use dds_base::{Code, Handle, Masks, ReaderQos, Selection};
@@ -177,7 +180,8 @@ pub fn picks_any<T: Test>(
     }
 }
 
-/// The kept samples that an access picks by a test, with what is known of each before its ranks.
+/// The kept samples that an access picks by a test, with what is known of each before its ranks. It goes over them only
+/// where the masks don't tell alone that none is asked for, and takes memory only then.
 ///
 /// # Errors
 ///
@@ -188,10 +192,12 @@ pub fn pick<T: Test>(
     instances: &Instances,
     qos: &ReaderQos,
     samples: &[Kept],
+    counts: Counts,
     selection: Selection,
     test: &T,
 ) -> Result<Vec<Candidate>, Code>
     requires small { All IsSmall samples.now }
+    requires counted { IsCounted samples.now counts }
     ensures placed { IfOk result (λ found. All (IsPlaced (length samples.now)) found.items) }
     ensures picks { IfOk result (λ found. (h : List Happening)
         → Holds qos.now instances.now samples.now h
@@ -200,6 +206,9 @@ pub fn pick<T: Test>(
         → Refuses (selection_refusal qos.now h selection) e) }
 {
     let request = request_by(instances, &selection)?;
+    if is_none_asked(instances, samples, counts, request.masks) {
+        return Ok(Vec::new(alloc));
+    }
     let mut found = find_asked(
         alloc,
         instances,

@@ -13,8 +13,8 @@ ghost use Rattle.dds_base.specs.Refusal.{Refuses};
 ghost use Rattle.dds_base.specs.Selection.{selection_refusal};
 ghost use Rattle.dds_base.specs.StatusFlags.{data_available_at};
 ghost use Rattle.dds_instances.specs.Known.{IsReturnable};
-ghost use Rattle.dds_cache.specs.Kept.{HaveSame};
-ghost use Rattle.dds_cache.specs.Picking.{IsAccess};
+ghost use Rattle.dds_cache.specs.Finding.{IsCandidate};
+ghost use Rattle.dds_cache.specs.Picking.{IsAccess, IsDelivered, IsGathered};
 ghost use Rattle.dds_cache.specs.Standing.{deaths_of, picked, qos_of, room_of, StandsFor, entry_of};
 ghost use Rattle.dds_cache.specs.Standing.{AccessAnswers, AfterAccess, MakesRoom, TakesEntry};
 ghost use Rattle.dds_cache.specs.Twice.{first_of};
@@ -22,19 +22,20 @@ ghost use Rattle.dds_cache.specs.Twice.{first_of};
 use crate::access::is_any_match;
 use crate::access_kind::AccessKind;
 use crate::arriving::{add_left, is_accepted_write};
-use crate::collection::{Access, gather};
+use crate::asking::is_none_asked;
+use crate::collection::{Access, gather, twice};
+use crate::counts::{Counts, count};
 use crate::dying::add_markers;
 use crate::ending::{hold_present, is_end};
 use crate::entering::enter_access;
-use crate::kept::{Kept, are_read};
-use crate::masks::asks_for_sample;
+use crate::kept::Kept;
 use crate::pick::{pick, picks_any};
 use crate::room::{count_arrival, is_room};
 use crate::sweeping::{let_go, next_sweep, sweep};
 use crate::test::Test;
 use dds_base::{
-    Arrival, Code, Handle, Key, Masks, Moment, ReaderQos, Sample, SamplePosition, SampleState,
-    Selection, Sequence, Sn,
+    Arrival, Code, Handle, Key, Masks, Moment, ReaderQos, Sample, SamplePosition, Selection,
+    Sequence, Sn,
 };
 use dds_instances::Instances;
 use std::alloc::Global;
@@ -43,9 +44,9 @@ use std::marker::Model;
 /// What a reader holds: its instances, and its samples in the order in which they came.
 ///
 /// A change takes about the same time however many samples and instances there are; now and then the samples that are
-/// no longer present are swept out. A read or a take goes once over the samples, and sorts those that it returns by
-/// handle. An entry that may end the life of an instance goes over the samples too, and once more where it does, to let
-/// those go that it leaves behind.
+/// no longer present are swept out. A read or a take goes once over the samples, but where the masks ask for none by
+/// what is known of all, and sorts those that it returns by handle. An entry that may end the life of an instance goes
+/// over the samples too, and once more where it does, to let those go that it leaves behind.
 #[derive(Drop)]
 pub struct ReaderCache {
     alloc: Global,
@@ -58,8 +59,8 @@ pub struct ReaderCache {
     arrivals: u32,
     /// How many samples there are when they are swept next.
     sweep_at: usize,
-    /// Whether a read returned each of them that is kept.
-    all_read: bool,
+    /// How many of them were read, and how many have data.
+    counts: Counts,
     /// For how many more entries there is memory.
     room: usize,
     /// The position of the newest entry that brought a sample, if there is one and no read or take has followed it.
@@ -94,7 +95,7 @@ impl ReaderCache {
             samples: Vec::new(alloc),
             arrivals: 0,
             sweep_at: next_sweep(0),
-            all_read: true,
+            counts: count(&[]),
             room: 0,
             data_at: None,
         }
@@ -149,18 +150,24 @@ impl ReaderCache {
         let known = self.instances.len();
         hold_present(&mut self.instances, &self.qos, &self.samples);
         self.instances.died(writer).unwrap();
-        let_go(&self.instances, &self.qos, known, &mut self.samples);
+        let_go(
+            &self.instances,
+            &self.qos,
+            known,
+            &mut self.samples,
+            &mut self.counts,
+        );
         let before = self.samples.len();
         add_markers(
             self.alloc,
             &self.instances,
             &mut self.samples,
+            &mut self.counts,
             writer,
             moment,
         );
         let newest = self.instances.happened();
         self.data_at = data_after(self.data_at, before, self.samples.len(), newest);
-        self.all_read = false;
         self.room = self.room.saturating_sub(1);
     }
 
@@ -176,19 +183,25 @@ impl ReaderCache {
         let is_end = is_end(&self.instances, &self.qos, &self.samples, &arrival);
         let known = self.instances.len();
         self.instances.come(&self.qos, &arrival, is_end).unwrap();
-        let_go(&self.instances, &self.qos, known, &mut self.samples);
+        let_go(
+            &self.instances,
+            &self.qos,
+            known,
+            &mut self.samples,
+            &mut self.counts,
+        );
         let before = self.samples.len();
         add_left(
             self.alloc,
             &self.instances,
             &self.qos,
             &mut self.samples,
+            &mut self.counts,
             arrival,
             is_write,
         );
         let newest = self.instances.happened();
         self.data_at = data_after(self.data_at, before, self.samples.len(), newest);
-        self.all_read = false;
         self.arrivals = count_arrival(self.arrivals);
         self.room -= 1;
     }
@@ -200,7 +213,12 @@ impl ReaderCache {
         ensures room { room_of self.new ≡ room_of self.old }
     {
         if self.samples.len() >= self.sweep_at {
-            sweep(&self.instances, &self.qos, &mut self.samples);
+            sweep(
+                &self.instances,
+                &self.qos,
+                &mut self.samples,
+                &mut self.counts,
+            );
             self.sweep_at = next_sweep(self.samples.len());
         }
     }
@@ -321,8 +339,8 @@ impl ReaderCache {
     /// Whether there is room for a change by the limits of the policies: fewer than 2^31 - 1 changes came with it, and
     /// if it is accepted, the present writes and the known instances are as many as they may be. It needs no memory.
     ///
-    /// It goes once over the samples where as many are kept as may be present, and where as many instances are known as
-    /// may be.
+    /// It goes once over the samples where as many are kept as may be present, but for a history that keeps all, and
+    /// where as many instances are known as may be.
     ///
     /// DDS 1.4, 2.2.3 (RESOURCE_LIMITS).
     pub fn has_room(&self, arrival: &Arrival) -> bool
@@ -334,13 +352,15 @@ impl ReaderCache {
             &self.instances,
             &self.qos,
             &self.samples,
+            self.counts,
             self.arrivals,
             arrival,
         )
     }
 
     /// Whether some present sample meets the masks and passes the test. It needs no memory, and goes once over the
-    /// samples, but where reads returned all of them and the masks ask for others.
+    /// samples, but where the masks ask for none by what is known of all: whether all were read, or none was, and, with
+    /// fewer instances than samples, the view state and the state of each instance.
     ///
     /// DDS 1.4, 2.2.2.5 (ReadCondition, QueryCondition: get_trigger_value).
     pub fn has_match<T: Test>(&self, masks: Masks, test: &T) -> bool
@@ -348,7 +368,7 @@ impl ReaderCache {
         ensures matched { (h : List Happening) → StandsFor self.now h
             → result ≡ has_match (qos_of self.now) h masks (T.meaning test.now) }
     {
-        if self.all_read && !asks_for_sample(masks.samples, SampleState::Read) {
+        if is_none_asked(&self.instances, &self.samples, self.counts, masks) {
             return false;
         }
         let any = Selection::Any { max: -1, masks };
@@ -356,11 +376,17 @@ impl ReaderCache {
     }
 
     /// What an access by a test finds, where there is memory for it.
-    fn find_in_memory<T: Test>(&self, selection: Selection, test: &T) -> Result<Access, Code>
+    fn find_in_memory<T: Test>(
+        &self,
+        kind: AccessKind,
+        selection: Selection,
+        test: &T,
+    ) -> Result<Access, Code>
         ensures found { IfOk result (λ access. (h : List Happening) → StandsFor self.now h
-            → IsAccess (qos_of self.now) h selection (T.meaning test.now)
-            access.positions.items access.samples.items) }
-        ensures set { IfOk result (λ access. HaveSame access.returned.keys access.positions.items) }
+            → IsAccess kind (qos_of self.now) h selection (T.meaning test.now) self.now.samples
+            access.positions.items access.found.items access.samples.items) }
+        ensures gathered { IfOk result
+            (λ access. IsGathered kind (length self.now.samples) access) }
         ensures refused { IfErr result (λ e. (h : List Happening) → StandsFor self.now h
             → Refuses (selection_refusal (qos_of self.now) h selection) e) }
     {
@@ -369,26 +395,36 @@ impl ReaderCache {
             &self.instances,
             &self.qos,
             &self.samples,
+            self.counts,
             selection,
             test,
         )?;
-        let access = gather(self.alloc, &self.samples, &found)?;
+        if found.is_empty() {
+            return Ok(Access::nothing(self.alloc));
+        }
+        let access = gather(self.alloc, kind, &self.samples, found)?;
         Ok(access)
     }
 
     /// What an access by a test finds. Where it is refused for want of memory, something is picked: to find nothing
     /// takes none.
-    fn find<T: Test>(&self, selection: Selection, test: &T) -> Result<Access, Code>
+    fn find<T: Test>(
+        &self,
+        kind: AccessKind,
+        selection: Selection,
+        test: &T,
+    ) -> Result<Access, Code>
         ensures found { IfOk result (λ access. (h : List Happening) → StandsFor self.now h
-            → IsAccess (qos_of self.now) h selection (T.meaning test.now)
-            access.positions.items access.samples.items) }
-        ensures set { IfOk result (λ access. HaveSame access.returned.keys access.positions.items) }
+            → IsAccess kind (qos_of self.now) h selection (T.meaning test.now) self.now.samples
+            access.positions.items access.found.items access.samples.items) }
+        ensures gathered { IfOk result
+            (λ access. IsGathered kind (length self.now.samples) access) }
         ensures refused { IfErr result (λ e. (h : List Happening) → StandsFor self.now h
             → Refuses (selection_refusal (qos_of self.now) h selection) e) }
         ensures some { IfErr result (λ e. (h : List Happening) → StandsFor self.now h
             → e ≡ Memory → picked self.now h selection (T.meaning test.now) ≢ []) }
     {
-        let code = match self.find_in_memory(selection, test) {
+        let code = match self.find_in_memory(kind, selection, test) {
             Ok(access) => return Ok(access),
             Err(code) => code,
         };
@@ -401,12 +437,15 @@ impl ReaderCache {
         Ok(Access::nothing(self.alloc))
     }
 
-    /// Takes up that an access of this kind returned these samples.
-    fn enter(&mut self, kind: AccessKind, access: &Access) -> Result<(), Code>
-        requires set { HaveSame access.now.returned.keys access.now.positions.items }
+    /// Takes up that an access of this kind returned what it found, which is whole then.
+    fn enter(&mut self, kind: AccessKind, access: &mut Access) -> Result<(), Code>
+        requires gathered { IsGathered kind (length self.old.samples) access.old }
         ensures ok { OnOk result ((h : List Happening) → StandsFor self.old h
-            → All (IsReturnable (qos_of self.old) h) access.now.positions.items
-            → StandsFor self.new (entry_of kind access.now.positions.items ∷ h)) }
+            → All (IsReturnable (qos_of self.old) h) access.old.positions.items
+            → All (IsCandidate (qos_of self.old) h self.old.samples) access.old.found.items
+            → StandsFor self.new (entry_of kind access.old.positions.items ∷ h)) }
+        ensures positions { access.new.positions ≡ access.old.positions }
+        ensures delivered { OnOk result (IsDelivered kind self.old.samples access.old access.new) }
         ensures counted { (h : List Happening) → StandsFor self.old h → length h + 1 < 2 ^ 64
             → IsOk result }
         ensures entry { TakesEntry room_of self.old self.new result }
@@ -416,14 +455,14 @@ impl ReaderCache {
             return Err(Code::Memory);
         }
         enter_access(
+            self.alloc,
             kind,
             &mut self.instances,
             &self.qos,
             &mut self.samples,
-            &access.positions,
-            &access.returned,
+            &mut self.counts,
+            access,
         );
-        self.all_read = are_read(&self.samples);
         self.room = self.room.saturating_sub(1);
         self.data_at = None;
         Ok(())
@@ -462,8 +501,8 @@ impl ReaderCache {
         // It takes the room of one entry at most.
         ensures room { room_of self.old ≤ room_of self.new + 1 }
     {
-        let access = self.find(selection, test)?;
-        self.enter(kind, &access)?;
+        let mut access = self.find(kind, selection, test)?;
+        self.enter(kind, &mut access)?;
         answer_of(access)
     }
 
@@ -494,11 +533,13 @@ impl ReaderCache {
         // It takes the room of one entry at most.
         ensures room { room_of self.old ≤ room_of self.new + 1 }
     {
-        let found = self.find(selection, test)?;
-        let again = found.samples_again(self.alloc)?;
-        self.enter(kind, &found)?;
+        // Both are copies, made before anything changes.
+        let mut found = self.find(AccessKind::Take, selection, test)?;
+        let (first, second) = twice(self.alloc, &self.samples, &found)?;
+        self.enter(kind, &mut found)?;
+        found.samples = first;
         let samples = answer_of(found)?;
-        Ok((samples, Sequence::from_vec(again)))
+        Ok((samples, Sequence::from_vec(second)))
     }
 
     /// The key of a known instance, by its handle; `None` where no known instance has it. It needs no memory.

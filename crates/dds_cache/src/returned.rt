@@ -2,58 +2,85 @@
 //!
 //! DDS 1.4, 2.2.2.5 (read: samples are READ afterwards; take: they are gone).
 
-ghost use Rattle.std.specs.Prelude.{◌≡◌, ◌≤◌, map, filter, not, IfOk, IfErr, vec_len, vec_capacity};
-ghost use Rattle.dds_base.specs.declared.code.Code.TheVariants.{Memory};
-ghost use Rattle.dds_cache.specs.Kept.{HaveSame, marked, is_among};
+ghost use Rattle.std.specs.Prelude.{◌≡◌, ◌≤◌, List, false, filter, length, map, not, All, vec_len, vec_capacity};
+ghost use Rattle.dds_base.specs.declared.happening.SamplePosition.{SamplePosition as Position};
+ghost use Rattle.dds_cache.specs.Finding.{AreAt, AreChanged, IsPlaced, IsSmall};
+ghost use Rattle.dds_cache.specs.declared.access_kind.AccessKind.TheVariants.{Take};
+ghost use Rattle.dds_cache.specs.Kept.{IsCounted, IsIn, is_among, read_if};
+ghost use Rattle.dds_cache.specs.Picking.{IsDelivered, IsGathered};
 ghost use Rattle.dds_cache.specs.Settling.{settled};
 
+use crate::access::Candidate;
 use crate::access_kind::AccessKind;
+use crate::collection::{Access, take_out};
+use crate::counts::{Counts, count};
 use crate::kept::Kept;
-use dds_base::{Code, SamplePosition};
-use indexmap::IndexSet;
 use std::alloc::Global;
 
-/// The samples, as a set.
-pub fn set_of(alloc: Global, samples: &[SamplePosition]) -> Result<IndexSet<SamplePosition>, Code>
-    ensures same { IfOk result (λ set. HaveSame set.keys samples.now) }
-    ensures memory { IfErr result (λ e. e ≡ Memory) }
-{
-    let mut set = IndexSet::with_capacity(alloc, samples.len())?;
-    for sample in samples {
-        set.insert(*sample)?;
-    }
-    Ok(set)
-}
-
-/// Marks the samples that a read returned.
-fn mark_all(samples: &mut Vec<Kept>, returned: &IndexSet<SamplePosition>)
-    ensures items { samples.new.items ≡ map (marked returned.now.keys) samples.old.items }
+/// Marks the samples that a read returned, each at its place.
+fn mark_read(samples: &mut Vec<Kept>, found: &[Candidate])
+    requires placed { All (IsPlaced (length samples.old.items)) found.now }
+    ensures items { AreChanged read_if found.now samples.old.items samples.new.items }
     ensures len { vec_len samples.new ≡ vec_len samples.old }
     ensures capacity { vec_capacity samples.new ≡ vec_capacity samples.old }
 {
-    for at in 0..samples.len() {
-        samples[at].mark(returned);
+    for candidate in found {
+        samples[candidate.at].mark_read();
     }
 }
 
-/// Removes the samples that a take returned.
-fn remove_all(samples: &mut Vec<Kept>, returned: &IndexSet<SamplePosition>)
-    ensures items { samples.new.items
-        ≡ filter (λ k. not (is_among returned.now.keys k)) samples.old.items }
+/// Lets the samples go that are marked so.
+fn remove_out(samples: &mut Vec<Kept>)
+    ensures items { samples.new.items ≡ filter (λ k. not k.is_out) samples.old.items }
     ensures len { vec_len samples.new ≤ vec_len samples.old }
     ensures capacity { vec_capacity samples.old ≤ vec_capacity samples.new }
 {
-    samples.retain(|k| !returned.contains(&k.sample));
+    samples.retain(|k| !k.is_out);
 }
 
-/// What an access leaves of the kept samples, by those that it returned.
-pub fn settle(kind: AccessKind, samples: &mut Vec<Kept>, returned: &IndexSet<SamplePosition>)
-    ensures items { samples.new.items ≡ settled kind returned.now.keys samples.old.items }
+/// Takes out what a take returns: the samples go, and their values are its collection's.
+fn remove(alloc: Global, samples: &mut Vec<Kept>, access: &mut Access)
+    requires gathered { IsGathered Take (length samples.old.items) access.old }
+    ensures items { (ss : List Position) → AreAt ss access.old.found.items samples.old.items
+        → All IsIn samples.old.items
+        → samples.new.items ≡ filter (λ k. not (is_among ss k)) samples.old.items }
+    ensures positions { access.new.positions ≡ access.old.positions }
+    ensures delivered { IsDelivered Take samples.old.items access.old access.new }
+    ensures small { All IsSmall samples.old.items → All IsSmall samples.new.items }
+    ensures len { vec_len samples.new ≤ vec_len samples.old }
+    ensures capacity { vec_capacity samples.old ≤ vec_capacity samples.new }
+{
+    take_out(
+        alloc,
+        samples,
+        &access.found,
+        &access.infos,
+        &mut access.samples,
+    );
+    remove_out(samples);
+}
+
+/// What an access leaves of the kept samples, and their counts; what it returns is whole then.
+pub fn settle(
+    alloc: Global,
+    kind: AccessKind,
+    samples: &mut Vec<Kept>,
+    counts: &mut Counts,
+    access: &mut Access,
+)
+    requires gathered { IsGathered kind (length samples.old.items) access.old }
+    ensures items { (ss : List Position) → AreAt ss access.old.found.items samples.old.items
+        → All IsIn samples.old.items → samples.new.items ≡ settled kind ss samples.old.items }
+    ensures positions { access.new.positions ≡ access.old.positions }
+    ensures delivered { IsDelivered kind samples.old.items access.old access.new }
+    ensures small { All IsSmall samples.old.items → All IsSmall samples.new.items }
+    ensures counted { IsCounted samples.new.items counts.new }
     ensures len { vec_len samples.new ≤ vec_len samples.old }
     ensures capacity { vec_capacity samples.old ≤ vec_capacity samples.new }
 {
     match kind {
-        AccessKind::Read => mark_all(samples, returned),
-        AccessKind::Take => remove_all(samples, returned),
+        AccessKind::Read => mark_read(samples, &access.found),
+        AccessKind::Take => remove(alloc, samples, access),
     }
+    *counts = count(samples);
 }

@@ -13,13 +13,14 @@ ghost use Rattle.dds_base.specs.Life.{ends_with_write};
 ghost use Rattle.dds_instances.specs.Table.{Stands};
 ghost use Rattle.dds_instances.specs.Track.{one_if};
 ghost use Rattle.dds_cache.specs.Finding.{Holds};
-ghost use Rattle.dds_cache.specs.Kept.{IsFresh, IsKept};
+ghost use Rattle.dds_cache.specs.Kept.{IsCounted, IsFresh, IsKept};
 ghost use Rattle.dds_cache.specs.Room.{is_present_write};
 
 use crate::arriving::is_accepted_write;
+use crate::counts::Counts;
 use crate::ending::is_end;
 use crate::kept::{Kept, is_kept_after};
-use dds_base::{Arrival, ReaderQos};
+use dds_base::{Arrival, HistoryQos, ReaderQos};
 use dds_instances::Instances;
 
 /// Fewer changes than this come at a reader.
@@ -127,8 +128,41 @@ fn count_writes(
     count
 }
 
+/// How many of the kept samples are writes that are present after a change: those that have data, where the history
+/// keeps all. Else it goes once over them.
+fn writes_left(
+    instances: &Instances,
+    qos: &ReaderQos,
+    arrival: &Arrival,
+    is_write: bool,
+    is_marked: bool,
+    samples: &[Kept],
+    counts: Counts,
+) -> usize
+    requires counted { IsCounted samples.now counts }
+    ensures { (h : List Happening) → Stands qos.now instances.now h
+        → is_write ≡ ends_with_write qos.now arrival.now.change.key (Came arrival.now ∷ h)
+        → is_marked ≡ marks qos.now arrival.now.change.key h (Came arrival.now)
+        → All (IsKept qos.now h) samples.now
+        → result ≡ count_by (is_present_write qos.now (Came arrival.now ∷ h)) samples.now }
+{
+    match qos.history {
+        HistoryQos::KeepAll => counts.writes,
+        HistoryQos::KeepLast(_) => {
+            count_writes(instances, qos, arrival, is_write, is_marked, samples)
+        }
+    }
+}
+
 /// Whether there may be so many present writes after an accepted change.
-fn samples_fit(instances: &Instances, qos: &ReaderQos, arrival: &Arrival, samples: &[Kept]) -> bool
+fn samples_fit(
+    instances: &Instances,
+    qos: &ReaderQos,
+    arrival: &Arrival,
+    samples: &[Kept],
+    counts: Counts,
+) -> bool
+    requires counted { IsCounted samples.now counts }
     ensures { (h : List Happening) → Holds qos.now instances.now samples.now h
         → IsFresh h arrival.now.change.key
         → is_accepted qos.now h (Came arrival.now) ≡ true
@@ -140,7 +174,9 @@ fn samples_fit(instances: &Instances, qos: &ReaderQos, arrival: &Arrival, sample
     }
     let is_write = is_accepted_write(instances, qos, arrival);
     let is_marked = instances.would_mark(qos, arrival);
-    let count = count_writes(instances, qos, arrival, is_write, is_marked, samples);
+    let count = writes_left(
+        instances, qos, arrival, is_write, is_marked, samples, counts,
+    );
     let is_left = is_write && (is_kept_after(qos.history, 0, false) || is_marked);
     keeps_to(qos.max_samples, count, is_left)
 }
@@ -159,9 +195,11 @@ pub fn is_room(
     instances: &Instances,
     qos: &ReaderQos,
     samples: &[Kept],
+    counts: Counts,
     arrivals: u32,
     arrival: &Arrival,
 ) -> bool
+    requires counted { IsCounted samples.now counts }
     ensures { (h : List Happening) → Holds qos.now instances.now samples.now h
         → IsFresh h arrival.now.change.key
         → arrivals ≡ min (arrivals_of h) (2 ^ 31 - 1)
@@ -174,6 +212,6 @@ pub fn is_room(
         return true;
     }
     !instances.accepts(qos, arrival)
-        || samples_fit(instances, qos, arrival, samples)
+        || samples_fit(instances, qos, arrival, samples, counts)
             && instances_fit(instances, qos, arrival, samples)
 }

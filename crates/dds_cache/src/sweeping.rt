@@ -6,9 +6,10 @@ ghost use Rattle.std.specs.Prelude.{◌≡◌, ◌≤◌, ◌+◌, ◌-◌, ◌*
 ghost use Rattle.dds_base.specs.declared.happening.Happening.{Happening};
 ghost use Rattle.dds_instances.specs.Table.{Stands};
 ghost use Rattle.dds_cache.specs.Finding.{IsSmall};
-ghost use Rattle.dds_cache.specs.Kept.{WasRead};
+ghost use Rattle.dds_cache.specs.Kept.{IsCounted};
 ghost use Rattle.dds_cache.specs.Sweeping.{left_since, stays};
 
+use crate::counts::{Counts, count};
 use crate::kept::Kept;
 use dds_base::ReaderQos;
 use dds_instances::Instances;
@@ -27,29 +28,38 @@ pub fn is_still_live(instances: &Instances, qos: &ReaderQos, kept: &Kept) -> boo
     }
 }
 
-/// Lets the samples go that are no longer present.
-pub fn sweep(instances: &Instances, qos: &ReaderQos, samples: &mut Vec<Kept>)
+/// Lets the samples go that are no longer present, and counts the others.
+pub fn sweep(instances: &Instances, qos: &ReaderQos, samples: &mut Vec<Kept>, counts: &mut Counts)
     ensures items { (h : List Happening) → Stands qos.now instances.now h
         → samples.new.items ≡ filter (stays qos.now h) samples.old.items }
     ensures small { All IsSmall samples.old.items → All IsSmall samples.new.items }
-    ensures read { All WasRead samples.old.items → All WasRead samples.new.items }
+    ensures counted { IsCounted samples.new.items counts.new }
     ensures len { vec_len samples.new ≤ vec_len samples.old }
     ensures capacity { vec_capacity samples.new ≡ vec_capacity samples.old }
 {
     samples.retain(|k| is_still_live(instances, qos, k));
+    *counts = count(samples);
 }
 
 /// Lets the samples go that are no longer present, where fewer instances are known than before: lives have ended then,
 /// and their samples are none of what a new life brings.
-pub fn let_go(instances: &Instances, qos: &ReaderQos, before: usize, samples: &mut Vec<Kept>)
+pub fn let_go(
+    instances: &Instances,
+    qos: &ReaderQos,
+    before: usize,
+    samples: &mut Vec<Kept>,
+    counts: &mut Counts,
+)
     ensures items { (h : List Happening) → Stands qos.now instances.now h
         → samples.new.items ≡ left_since qos.now h before samples.old.items }
     ensures small { All IsSmall samples.old.items → All IsSmall samples.new.items }
+    ensures counted { IsCounted samples.old.items counts.old
+        → IsCounted samples.new.items counts.new }
     ensures len { vec_len samples.new ≤ vec_len samples.old }
     ensures capacity { vec_capacity samples.new ≡ vec_capacity samples.old }
 {
     if instances.len() < before {
-        sweep(instances, qos, samples);
+        sweep(instances, qos, samples, counts);
     }
 }
 

@@ -18,6 +18,7 @@ left_of c = record {
   handle = c.in-Some.known.handle;
   number = c.in-Some.known.accepted_writes;
   is_read = false;
+  is_out = false;
   valid_data = c.args.is_write;
   disposed_generation_count = c.in-Some.known.disposed_generations;
   no_writers_generation_count = c.in-Some.known.no_writers_generations;
@@ -54,7 +55,7 @@ left c h stands valid fresh =
       key = key_is;
       kept =
           kept-newest q (Came c.args.arrival) h key c.in-Some.known
-          (left_of c) refl refl fresh sample known key_is newest;
+          (left_of c) refl refl fresh sample refl known key_is newest;
     }
 
 pub returns-in-None-clause-left : goal.returns-in-None-clause-left

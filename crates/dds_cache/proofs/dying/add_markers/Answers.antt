@@ -18,6 +18,7 @@ loop-place-preserved c = record {
   );
   capacity = omega (arith, c.add_marker.ensures.capacity, c.loop-place.invariant.capacity);
   small = λ small. c.add_marker.ensures.small (c.loop-place.invariant.small small);
+  counted = c.add_marker.ensures.counted;
   added = λ q h stands fresh.
       let g : List Happening = Died c.args.writer c.args.moment ∷ h in
       let ks : List Key = known_instances q g in
@@ -57,6 +58,7 @@ add_marker-requires c =
         c.loop-place.invariant.len,
         c.loop-place.invariant.capacity,
       );
+      counted = c.loop-place.invariant.counted;
     }
 
 pub returns-clause-len : goal.returns-clause-len
@@ -69,6 +71,7 @@ loop-place-init c =
       len = omega arith;
       capacity = omega arith;
       small = λ small. small;
+      counted = c.requires.counted;
       added = λ q h stands fresh. adds-of-none q (Died c.args.writer c.args.moment ∷ h) (length h + 1)
           c.args.samples.now.items;
     }

@@ -18,6 +18,7 @@ returns-clause-left c = λ q h i stands there fresh.
       handle = c.in_ok-known.known.handle;
       number = c.in_ok-known.known.accepted_writes;
       is_read = false;
+      is_out = false;
       valid_data = false;
       disposed_generation_count = c.in_ok-known.known.disposed_generations;
       no_writers_generation_count =
@@ -34,7 +35,7 @@ returns-clause-left c = λ q h i stands there fresh.
     ap (λ (n : ℕ). sample_at c.in_ok-known.known.key n) at ∙ ap (λ (x : Key). sample_at x (length h + 1)) key in
     let known : IsKnown q g c.in_ok-known.known = c.in_ok-known.ensures.known q g stands in
     let kept : IsKept q g k =
-    kept-newest q (Died c.args.writer c.args.moment) h i c.in_ok-known.known k refl refl fresh sample known key
+    kept-newest q (Died c.args.writer c.args.moment) h i c.in_ok-known.known k refl refl fresh sample refl known key
     (newest-died q c.args.writer c.args.moment h c.in_ok-known.known k known
     refl refl refl refl refl refl refl (c.from_vec.ensures.octets
     ∙ c.new.ensures.items) refl refl) in

@@ -1,7 +1,29 @@
-use Rattle.std.proofs.Common.{length}
+use Rattle.std.proofs.Common.{List, length, sym, subst}
+use Rattle.std.specs.List.{All}
+use Rattle.std.proofs.lemmas.List.Elements.{All-nil}
+use Rattle.dds_cache.specs.declared.access.Candidate.{Candidate}
 use Rattle.dds_cache.specs.Finding.{IsPlaced}
+use Rattle.dds_cache.specs.Picking.{Picks, test_in}
+use Rattle.dds_cache.proofs.AnyLaws.{picks-none}
+use Rattle.dds_cache.proofs.CountLaws.{unsought}
 use Rattle.dds_cache.proofs.PickLaws.{picked, picked-all}
 use Rattle.dds_cache.proofs.pick.pick.Goals as goal
+
+pub returns-then-is_none_asked-clause-placed : goal.returns-then-is_none_asked-clause-placed
+returns-then-is_none_asked-clause-placed g c =
+    subst (λ (cs : List Candidate). All (IsPlaced (length c.args.samples.now)) cs) (sym c.new.ensures.items)
+    (All-nil (IsPlaced (length c.args.samples.now)))
+
+pub returns-then-is_none_asked-clause-picks : goal.returns-then-is_none_asked-clause-picks
+returns-then-is_none_asked-clause-picks g c = λ h holds.
+    let asked = c.in_ok-request.ensures c.args.qos.now h holds.instances in
+    subst (λ (cs : List Candidate). Picks c.args.qos.now h c.args.selection (g.T.Test.meaning c.args.test.now)
+    c.args.samples.now cs) (sym c.new.ensures.items)
+    (picks-none c.args.qos.now c.args.instances.now h c.args.selection (g.T.Test.meaning c.args.test.now)
+    c.args.samples.now c.in_ok-request.request.masks holds asked.0 (sym asked.2)
+    (unsought c.args.qos.now h c.args.selection c.in_ok-request.request.masks
+    (test_in c.args.selection (g.T.Test.meaning c.args.test.now)) c.args.samples.now holds.each holds.present
+    (c.is_none_asked.ensures c.args.qos.now h holds c.if-is_none_asked.true)))
 
 pub returns-clause-placed : goal.returns-clause-placed
 returns-clause-placed g c =

@@ -24,8 +24,8 @@ returns c = λ h holds fresh accepted.
     c.is_accepted_write-is_write.ensures h holds.instances in
     let marked : c.would_mark-is_marked.result ≡ marks q c.args.arrival.now.change.key h (Came c.args.arrival.now) =
     c.would_mark-is_marked.ensures.marks h holds.instances in
-    let count : c.count_writes-count.result ≡ count_by (is_present_write q g) c.args.samples.now =
-    c.count_writes-count.ensures h holds.instances written marked holds.each in
+    let count : c.writes_left-count.result ≡ count_by (is_present_write q g) c.args.samples.now =
+    c.writes_left-count.ensures h holds.instances written marked holds.each in
     let left : c.if-is_write.is_left
     ≡ (c.is_accepted_write-is_write.result && (keeps q.history 0 || c.would_mark-is_marked.result)) =
     elim c.if-is_write.branch [

@@ -2,7 +2,6 @@ use Rattle.std.proofs.Common.{rules}
 use Rattle.std.proofs.lemmas.Fn.{filter_same}
 use Rattle.dds_cache.specs.Sweeping.{stays}
 use Rattle.dds_cache.specs.Finding.{IsSmall}
-use Rattle.dds_cache.specs.Kept.{WasRead}
 use Rattle.dds_cache.proofs.SweepLaws.{chosen-all}
 use Rattle.dds_cache.proofs.sweeping.sweep.Goals as goal
 
@@ -12,6 +11,3 @@ returns-clause-items c =
 
 pub returns-clause-small : goal.returns-clause-small
 returns-clause-small c = chosen-all IsSmall _ _ _ _ c.retain.ensures.filtered
-
-pub returns-clause-read : goal.returns-clause-read
-returns-clause-read c = chosen-all WasRead _ _ _ _ c.retain.ensures.filtered

@@ -1,8 +1,7 @@
-use Rattle.std.proofs.Common.{List, ◌≡◌, sym, subst, ap, ◌∙◌, map, arith, Option, None}
+use Rattle.std.proofs.Common.{List, ◌≡◌, sym, subst, ap, ◌∙◌, map, arith, Option, None, [], ◌∷◌, length, refl}
 use Rattle.std.specs.List.{All}
 use Rattle.dds_base.specs.declared.happening.Happening.{Happening}
 use Rattle.dds_base.specs.declared.qos.ReaderQos.{ReaderQos}
-use Rattle.dds_base.specs.Access.{collection_of}
 use Rattle.dds_cache.specs.declared.kept.Kept.{Kept}
 use Rattle.dds_cache.specs.declared.access.Candidate.{Candidate}
 use Rattle.dds_cache.specs.Kept.{IsKept}
@@ -11,12 +10,14 @@ use Rattle.dds_cache.specs.Picking.{Picks, IsAccess}
 use Rattle.dds_cache.specs.Standing.{Stored, StandsFor, qos_of}
 use Rattle.dds_cache.specs.Sound.{stored_of}
 use Rattle.std.specs.Result.{IfErr}
+use Rattle.std.proofs.lemmas.Bool.Decides.{nat_tests}
 use Rattle.std.proofs.lemmas.Result.{IfErr-weaker}
 use Rattle.std.proofs.lemmas.Grind.{common_steps}
 use Rattle.dds_base.specs.declared.code.Code.{Code}
 use Rattle.dds_base.specs.declared.code.Code.TheVariants.{Memory}
 use Rattle.dds_base.specs.Refusal.{Refuses}
 use Rattle.dds_base.specs.Selection.{selection_refusal}
+use Rattle.dds_cache.proofs.AnyLaws.{nothing-found}
 use Rattle.dds_cache.proofs.StandingLaws.{holds, accessed}
 use Rattle.dds_cache.proofs.reader_cache.ReaderCache.find_in_memory.Goals as goal
 
@@ -41,6 +42,31 @@ returns-in_err-access-clause-refused g c =
     subst (λ (cause : Option Code). Refuses cause e) (sym good) is)
     memory
 
+-- a list that is empty
+no-items : (cs : List Candidate) → length cs ≡ 0 → cs ≡ []
+no-items [] e = refl
+no-items (c ∷ cs) e = absurd (omega (arith, e))
+
+pub returns-then-is_empty-clause-found : goal.returns-then-is_empty-clause-found
+returns-then-is_empty-clause-found g c = λ h stands.
+    let q : ReaderQos = c.self.inside.qos in
+    let old : StandsFor (stored_of c.self.inside) h =
+    subst (λ (t : Stored). StandsFor t h) (sym c.self.view_is) stands in
+    let holding : Holds q c.self.inside.instances c.deref.result.now h =
+    subst (λ (xs : List Kept). Holds q c.self.inside.instances xs h) (sym c.deref.ensures.value)
+    (holds (stored_of c.self.inside) h old) in
+    let picks : Picks q h c.args.selection (g.T.Test.meaning c.args.test.now) c.deref.result.now
+    c.in_ok-found.found.items = c.in_ok-found.ensures.picks h holding in
+    let none : length c.in_ok-found.found.items ≡ 0 =
+    grind (arith, nat_tests, c.in_ok-found.found.ok.0, c.is_empty.ensures, c.if-is_empty.true) in
+    let empty : c.in_ok-found.found.items ≡ [] = no-items c.in_ok-found.found.items none in
+    subst (λ (t : Stored). IsAccess c.args.kind t.qos h c.args.selection (g.T.Test.meaning c.args.test.now) t.samples
+    c.nothing.result.positions.items c.nothing.result.found.items c.nothing.result.samples.items) c.self.view_is
+    (nothing-found c.args.kind q h c.args.selection (g.T.Test.meaning c.args.test.now) c.self.inside.samples.items
+    c.nothing.result.positions.items c.nothing.result.found.items c.nothing.result.samples.items
+    c.nothing.ensures.positions c.nothing.ensures.found c.nothing.ensures.samples picks.good
+    (sym picks.samples_are ∙ ap (λ (cs : List Candidate). map sample_in cs) empty))
+
 pub returns-clause-found : goal.returns-clause-found
 returns-clause-found g c = λ h stands.
     let q : ReaderQos = c.self.inside.qos in
@@ -56,15 +82,14 @@ returns-clause-found g c = λ h stands.
     c.deref.ensures.value (c.in_ok-found.ensures.picks h holding) in
     let kept : All (IsKept q h) c.deref-2.result.now =
     subst (λ (xs : List Kept). All (IsKept q h) xs) (sym c.deref-2.ensures.value) old.each in
-    let each : All (IsCandidate q h c.deref-2.result.now) c.deref-3.result.now =
-    subst (λ (xs : List Kept). All (IsCandidate q h xs) c.deref-3.result.now) (sym c.deref-2.ensures.value)
-    (subst (λ (xs : List Candidate). All (IsCandidate q h ks) xs) (sym c.deref-3.ensures.value) picks.each) in
-    subst (λ (t : Stored). IsAccess t.qos h c.args.selection
-    (g.T.Test.meaning c.args.test.now) c.in_ok-access.access.positions.items c.in_ok-access.access.samples.items)
+    let each : All (IsCandidate q h c.deref-2.result.now) cs =
+    subst (λ (xs : List Kept). All (IsCandidate q h xs) cs) (sym c.deref-2.ensures.value) picks.each in
+    subst (λ (t : Stored). IsAccess c.args.kind t.qos h c.args.selection (g.T.Test.meaning c.args.test.now) t.samples
+    c.in_ok-access.access.positions.items c.in_ok-access.access.found.items c.in_ok-access.access.samples.items)
     c.self.view_is
-    (accessed (stored_of c.self.inside) h c.args.selection
+    (subst (λ (xs : List Candidate). IsAccess c.args.kind q h c.args.selection (g.T.Test.meaning c.args.test.now) ks
+    c.in_ok-access.access.positions.items xs c.in_ok-access.access.samples.items) (sym c.in_ok-access.ensures.found)
+    (accessed c.args.kind (stored_of c.self.inside) h c.args.selection
     (g.T.Test.meaning c.args.test.now) cs c.in_ok-access.access.positions.items c.in_ok-access.access.samples.items
-    old picks
-    (c.in_ok-access.ensures.positions ∙ ap (λ (xs : List Candidate). map sample_in xs) c.deref-3.ensures.value)
-    (c.in_ok-access.ensures.samples q h kept each
-    ∙ ap (λ (xs : List Candidate). collection_of q h (map sample_in xs)) c.deref-3.ensures.value))
+    old picks (c.in_ok-access.ensures.gathered.same
+    ∙ ap (λ (xs : List Candidate). map sample_in xs) c.in_ok-access.ensures.found) (c.in_ok-access.ensures.samples q h kept each)))
