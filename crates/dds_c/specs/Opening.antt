@@ -136,3 +136,9 @@ pub record RefusesBy (cause : Option Code) (number : ℕ) : Type 0 where
   pub code : Code
   pub refuses : Refuses cause code ⊎ (code ≡ Memory)
   pub numbered : number ≡ refusing_number code
+
+-- The number of the code of a text's refusal: the text is none of a configuration, or the peer of this number of some
+-- configuration is refused by its first cause, or there is no memory.
+abbrev pub RefusesText : ℕ → ℕ → Type 0
+RefusesText peer number =
+    RefusesBy (Some BadParameter) number ⊎ ((config : Config) × RefusesBy (core_refusal config.peers peer) number)

@@ -6,6 +6,7 @@ use Rattle.dds_base.specs.declared.code.Code.{Code}
 use Rattle.dds_base.specs.declared.entity.Entity.{Entity}
 use Rattle.dds_base.specs.declared.entity.Entity.TheVariants.{Participant, Reader, Writer}
 use Rattle.dds_core.specs.Listening.{Adds, RefusesFilter, RefusesListener, Sets}
+use Rattle.dds_notices.specs.Masks.{status_bit}
 use Rattle.dds_notices.specs.Notices.{Recording}
 use Rattle.dds_notices.specs.declared.mask.StatusMask.{StatusMask}
 use Rattle.dds_notices.specs.declared.notice.Notice.{Notice}
@@ -104,13 +105,6 @@ number_of Participant = 0
 number_of (Writer number) = number
 number_of (Reader number) = number
 
--- DDS 1.4, 2.3.3 (SAMPLE_LOST_STATUS and kin)
-abbrev pub bit_of : Status → ℕ
-bit_of (SampleLost _) = 128
-bit_of DataAvailable = 1024
-bit_of (LivelinessLost _) = 2048
-bit_of (LivelinessChanged _) = 4096
-
 -- the total of a status that is one
 abbrev pub total_in : Status → FlatTotal
 total_in (SampleLost status) = record { total_count = status.total_count; total_count_change = status.total_count_change }
@@ -127,7 +121,7 @@ abbrev pub notice_of : Notice → FlatNotice
 notice_of n = record {
   entity_kind = kind_of n.entity;
   entity_number = number_of n.entity;
-  status = bit_of n.status;
+  status = status_bit n.status;
   total = total_in n.status;
   changed = changed_in n.status;
 }

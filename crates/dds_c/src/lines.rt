@@ -2,7 +2,8 @@
 //!
 //! What a text says is tested: no clause speaks of it.
 
-ghost use Rattle.std.specs.Prelude.{◌≡◌};
+ghost use Rattle.std.specs.Prelude.{◌≡◌, ◌⊎◌, IfErr};
+ghost use Rattle.dds_base.specs.declared.code.Code.TheVariants as Code;
 ghost use Rattle.dds_c.specs.Answering.{HappensSomething};
 ghost use Rattle.dds_c.specs.Fetching.{TextFetched, TextWritten};
 
@@ -38,7 +39,9 @@ fn setup_line(words: &[&str]) -> Option<SetupLine> {
 /// # Errors
 ///
 /// `BadParameter` for a line that is none of a configuration, or may not stand where it does; `Memory`.
-pub(crate) fn config_of_text(alloc: Global, text: &[u8]) -> Result<Config, Code> {
+pub(crate) fn config_of_text(alloc: Global, text: &[u8]) -> Result<Config, Code>
+    ensures refused { IfErr result (λ code. (code ≡ Code.BadParameter) ⊎ (code ≡ Code.Memory)) }
+{
     let Ok(text) = str::from_utf8(text) else {
         return Err(Code::BadParameter);
     };

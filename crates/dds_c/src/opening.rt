@@ -6,7 +6,8 @@ ghost use Rattle.std.specs.Prelude.{◌≡◌, ◌≢◌, ◌⊎◌, None, Some,
 ghost use Rattle.dds_base.specs.Refusal.{Refuses};
 ghost use Rattle.dds_base.specs.declared.code.Code.TheVariants as Code;
 ghost use Rattle.dds_core.specs.Opening.{core_refusal};
-ghost use Rattle.dds_c.specs.Opening.{IsOpening, IsSomeOpening, RefusesBy, config_of, open_refusal};
+ghost use Rattle.dds_c.specs.Answering.{refusing_number};
+ghost use Rattle.dds_c.specs.Opening.{IsOpening, IsSomeOpening, RefusesBy, RefusesText, config_of, open_refusal};
 
 use crate::config::{FlatPeer, FlatReader, FlatWriter, config, name_no_peer};
 use crate::lines::config_of_text;
@@ -50,6 +51,7 @@ fn opened_of(
 /// A peer of a configuration in lines, in a box.
 fn opened_of_text(alloc: Global, text: &[u8], number: u8) -> Result<Box<Session>, Code>
     ensures opening { IfOk result (λ session. IsSomeOpening number session.value) }
+    ensures refused { IfErr result (λ code. RefusesText number (refusing_number code)) }
 {
     let config = config_of_text(alloc, text)?;
     opened(alloc, &config, number)
@@ -111,6 +113,9 @@ pub extern "C" fn cw_open(
 pub extern "C" fn cw_open_text(alloc: Global, peer: &mut Peer, text: &[u8], number: u8) -> u8
     // What is open then is the peer of this number of some configuration, at its opening.
     ensures open { result ≡ 0 → IsSomeAnd peer.new.held.session (IsSomeOpening number) }
+    // A refusal is BAD_PARAMETER, as the text is none of a configuration, or it is by the first cause that there is
+    // against the peer of this number of some configuration, or for want of memory.
+    ensures refused { result ≢ 0 → RefusesText number result }
     // A refusal changes nothing.
     ensures unchanged { result ≢ 0 → peer.new.held.session ≡ peer.old.held.session }
 {

@@ -7,7 +7,8 @@ ghost use Rattle.dds_base.specs.Refusal.{Refuses};
 ghost use Rattle.dds_core.specs.Listening.{RefusesFilter, RefusesListener};
 ghost use Rattle.dds_notices.specs.Notices.{Recording, opened, room_refusal};
 ghost use Rattle.dds_c.specs.Meaning.{recorder_notices, recorder_capacity, recorder_becomes};
-ghost use Rattle.dds_c.specs.Watching.{Between, FilterIsAdded, ListenerIsSet, NoticeFetched, NoticeWritten, RecorderIsSet, RefusesToAdd, RefusesToSet, RefusesWith, bit_of, changed_in, entity_of, kept_at, kind_of, mask_of, notice_of, prefix_of, number_of, total_in};
+ghost use Rattle.dds_notices.specs.Masks.{status_bit};
+ghost use Rattle.dds_c.specs.Watching.{Between, FilterIsAdded, ListenerIsSet, NoticeFetched, NoticeWritten, RecorderIsSet, RefusesToAdd, RefusesToSet, RefusesWith, changed_in, entity_of, kept_at, kind_of, mask_of, notice_of, prefix_of, number_of, total_in};
 
 use crate::events::NOT_OPEN;
 use crate::out::{FlatChanged, FlatTotal, changed_of};
@@ -68,14 +69,15 @@ fn number_of(entity: Entity) -> u8
 }
 
 fn bit_of(status: Status) -> u32
-    ensures { result ≡ bit_of status }
+    ensures { result ≡ status_bit status }
 {
-    match status {
-        Status::SampleLost(_) => 128,
-        Status::DataAvailable => 1024,
-        Status::LivelinessLost(_) => 2048,
-        Status::LivelinessChanged(_) => 4096,
-    }
+    let mask = match status {
+        Status::SampleLost(_) => StatusMask::SAMPLE_LOST,
+        Status::DataAvailable => StatusMask::DATA_AVAILABLE,
+        Status::LivelinessLost(_) => StatusMask::LIVELINESS_LOST,
+        Status::LivelinessChanged(_) => StatusMask::LIVELINESS_CHANGED,
+    };
+    mask.bits()
 }
 
 fn total_in(status: Status) -> FlatTotal
@@ -167,8 +169,9 @@ pub extern "C" fn cw_add_filter(
         → Between (FilterIsAdded (prefix_of octets.now) number.new) peer.old.held.session peer.new.held.session }
     // A refusal is for want of a number, or of memory, or as no peer is open.
     ensures cause { result ≢ 0 → RefusesToAdd peer.old.held.session result }
-    // A refusal changes nothing.
+    // A refusal changes nothing, and gives no number.
     ensures refused { result ≢ 0 → peer.new.held.session ≡ peer.old.held.session }
+    ensures unnumbered { result ≢ 0 → number.new ≡ number.old }
 {
     let Ok(octets) = Vec::from_slice(alloc, octets) else {
         return Code::Memory.number();
@@ -283,7 +286,7 @@ pub extern "C" fn cw_clear_recorder(alloc: Global, peer: &mut Peer, kind: u8, nu
     // A refusal changes nothing.
     ensures refused { result ≢ 0 → peer.new.held.session ≡ peer.old.held.session }
 {
-    set_at(alloc, peer, kind, number, 65535, None)
+    set_at(alloc, peer, kind, number, StatusMask::ANY.bits(), None)
 }
 
 fn notice_out(told: &Option<Recorder>, at: usize, notice: &mut FlatNotice) -> u8

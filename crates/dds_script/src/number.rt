@@ -1,6 +1,7 @@
 //! Numbers, names, keys and values, as a script spells them.
 
 use dds_base::{EntityId, GuidPrefix, Key, Octets};
+use hex::{FromHex, FromHexError};
 use std::alloc::{AllocError, Global};
 
 fn decimal_digit(digit: u8) -> Option<u64> {
@@ -50,12 +51,6 @@ fn hexadecimal_digit(digit: u8) -> Option<u8> {
     }
 }
 
-fn octet(high: u8, low: u8) -> Option<u8> {
-    let high = hexadecimal_digit(high)?;
-    let low = hexadecimal_digit(low)?;
-    Some((high << 4) | low)
-}
-
 /// A number of 1 to 32 hexadecimal digits.
 fn hexadecimal(word: &str) -> Option<u128> {
     if word.is_empty() || word.len() > 32 {
@@ -75,20 +70,12 @@ pub fn key(word: &str) -> Option<Key> {
 
 /// A GUID prefix of 24 hexadecimal digits.
 pub fn guid_prefix(word: &str) -> Option<GuidPrefix> {
-    if word.len() != 24 {
-        return None;
-    }
-    let [_, _, _, _, a, b, c, d, e, f, g, h, i, j, k, l] = hexadecimal(word)?.to_be_bytes();
-    Some(GuidPrefix([a, b, c, d, e, f, g, h, i, j, k, l]))
+    Some(GuidPrefix(<[u8; 12] as FromHex>::from_hex(word).ok()?))
 }
 
 /// An entity id of 8 hexadecimal digits.
 pub fn entity_id(word: &str) -> Option<EntityId> {
-    if word.len() != 8 {
-        return None;
-    }
-    let number = u32::try_from(hexadecimal(word)?).ok()?;
-    Some(EntityId(number.to_be_bytes()))
+    Some(EntityId(<[u8; 4] as FromHex>::from_hex(word).ok()?))
 }
 
 /// A value in an even number of hexadecimal digits, or `-` for the empty one; none where it is neither.
@@ -97,19 +84,13 @@ pub fn entity_id(word: &str) -> Option<EntityId> {
 ///
 /// Want of memory.
 pub fn value(alloc: Global, word: &str) -> Result<Option<Octets>, AllocError> {
-    let mut octets = Vec::new(alloc);
-    if word == "-" {
-        return Ok(Some(Octets::from_vec(octets)));
+    match word {
+        "-" => Ok(Some(Octets::from_vec(Vec::new(alloc)))),
+        "" => Ok(None),
+        _ => match hex::decode(alloc, word) {
+            Ok(octets) => Ok(Some(Octets::from_vec(octets))),
+            Err(FromHexError::OutOfMemory) => Err(AllocError),
+            Err(_) => Ok(None),
+        },
     }
-    let digits = word.as_bytes();
-    if digits.is_empty() || digits.len() % 2 != 0 {
-        return Ok(None);
-    }
-    for at in 0..digits.len() / 2 {
-        let Some(octet) = octet(digits[2 * at], digits[2 * at + 1]) else {
-            return Ok(None);
-        };
-        octets.push(octet)?;
-    }
-    Ok(Some(Octets::from_vec(octets)))
 }
