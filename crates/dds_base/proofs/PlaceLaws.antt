@@ -3,7 +3,7 @@ use Rattle.std.proofs.Common.{◌≡◌, ℕ, ◌+◌, ◌<◌, ◌≤◌, List,
 use Rattle.dds_base.specs.declared.change.Change.{Change}
 use Rattle.dds_base.specs.declared.happening.PassedRun.{PassedRun}
 use Rattle.dds_base.specs.declared.qos.ReaderQos.{ReaderQos}
-use Rattle.dds_base.specs.Places.{WriterGrounds, Match, Position, Comes, AllCome, Passes, IsApart, GoesTo, MayPassOver}
+use Rattle.dds_base.specs.Places.{WriterGrounds, Match, PlaceWith, Comes, AllCome, Passes, IsApart, GoesTo, MayPassOver}
 
 -- from this number on the second grounds say what the first do
 pub record SayAsMuch (first second : WriterGrounds) (from : ℕ) : Type 0 where
@@ -12,11 +12,11 @@ pub record SayAsMuch (first second : WriterGrounds) (from : ℕ) : Type 0 where
   pub may_pass : (number : ℕ) → from ≤ number → first.may_pass number → second.may_pass number
 
 pub all_come_on : (g k : WriterGrounds) (from : ℕ) → SayAsMuch g k from
-    → (match : Match) (old : Position) (changes : List Change) (new : Position) → from ≤ old.place
+    → (match : Match) (old : PlaceWith) (changes : List Change) (new : PlaceWith) → from ≤ old.place
     → AllCome g match old changes new → AllCome k match old changes new × (from ≤ new.place)
-all_come_on g k from m match old [] new low h = (h, let e = ap (λ (p : Position). p.place) h in omega (arith, e, low))
+all_come_on g k from m match old [] new low h = (h, let e = ap (λ (p : PlaceWith). p.place) h in omega (arith, e, low))
 all_come_on g k from m match old (c ∷ cs) new low h =
-    let next = ap (λ (p : Position). p.place) h.1.after in
+    let next = ap (λ (p : PlaceWith). p.place) h.1.after in
     let rest = all_come_on g k from m match h.0 cs new (omega (arith, next, low)) h.2 in (
       (
         h.0,
@@ -43,12 +43,12 @@ passed_over_on g k from m qos n low (inr h) =
     )
 
 pub passes_on : (g k : WriterGrounds) (from : ℕ) → SayAsMuch g k from
-    → (match : Match) (old : Position) (run : PassedRun) (new : Position) → from ≤ old.place
+    → (match : Match) (old : PlaceWith) (run : PassedRun) (new : PlaceWith) → from ≤ old.place
     → Passes g match old run new → Passes k match old run new × (from ≤ new.place)
 passes_on g k from m match old run new low h =
     let begins = h.begins in
     let ordered = h.ordered in
-    let next = ap (λ (p : Position). p.place) h.after in (
+    let next = ap (λ (p : PlaceWith). p.place) h.after in (
       record {
         begins = h.begins;
         ordered = h.ordered;
@@ -61,7 +61,7 @@ passes_on g k from m match old run new low h =
 
 -- a way on some grounds is one on grounds that say as much
 pub goes_on : (g k : WriterGrounds) (from : ℕ) → SayAsMuch g k from
-    → (match : Match) (old : Position) (runs : List PassedRun) (to : ℕ) (new : Position) → from ≤ old.place
+    → (match : Match) (old : PlaceWith) (runs : List PassedRun) (to : ℕ) (new : PlaceWith) → from ≤ old.place
     → GoesTo g match old runs to new → GoesTo k match old runs to new
 goes_on g k from m match old [] to new low h = (h.0, (all_come_on g k from m match old h.0 new low h.1).0, h.2)
 goes_on g k from m match old (run ∷ runs) to new low h =
@@ -70,65 +70,65 @@ goes_on g k from m match old (run ∷ runs) to new low h =
     (h.0, h.1, (h.2.0, before.0, h.2.2), passed.0, h.4, goes_on g k from m match h.1 runs to new passed.1 h.5)
 
 -- changes that come take the place on, each by one
-pub come_forward : (g : WriterGrounds) (match : Match) (old : Position) (changes : List Change) (new : Position)
+pub come_forward : (g : WriterGrounds) (match : Match) (old : PlaceWith) (changes : List Change) (new : PlaceWith)
     → AllCome g match old changes new → old.place ≤ new.place
-come_forward g match old [] new h = let same = ap (λ (p : Position). p.place) h in omega (arith, same)
+come_forward g match old [] new h = let same = ap (λ (p : PlaceWith). p.place) h in omega (arith, same)
 come_forward g match old (c ∷ cs) new h =
-    let next = ap (λ (p : Position). p.place) h.1.after in
+    let next = ap (λ (p : PlaceWith). p.place) h.1.after in
     let rest = come_forward g match h.0 cs new h.2 in
     omega (arith, next, rest)
 
 -- a place does not go back
-pub goes_forward : (g : WriterGrounds) (match : Match) (old : Position) (runs : List PassedRun) (to : ℕ)
-    (new : Position) → GoesTo g match old runs to new → (old.place ≤ to) × (new.place ≡ to)
+pub goes_forward : (g : WriterGrounds) (match : Match) (old : PlaceWith) (runs : List PassedRun) (to : ℕ)
+    (new : PlaceWith) → GoesTo g match old runs to new → (old.place ≤ to) × (new.place ≡ to)
 goes_forward g match old [] to new h =
     let rest = come_forward g match old h.0 new h.1 in let end = h.2 in (omega (arith, rest, end), h.2)
 goes_forward g match old (run ∷ runs) to new h =
     let before = come_forward g match old h.2.0 h.0 h.2.1 in
     let begins = h.3.begins in
     let ordered = h.3.ordered in
-    let next = ap (λ (p : Position). p.place) h.3.after in
+    let next = ap (λ (p : PlaceWith). p.place) h.3.after in
     let at = h.2.2 in
     let rest = goes_forward g match h.1 runs to new h.5 in
     (omega (arith, before, begins, ordered, next, at, rest.0), rest.1)
 
 -- one that does not go on has passed nothing, and nothing came
-pub goes_nowhere : (g : WriterGrounds) (match : Match) (old : Position) (runs : List PassedRun) (to : ℕ)
-    (new : Position) → GoesTo g match old runs to new → to ≤ old.place → (new ≡ old) × (runs ≡ [])
+pub goes_nowhere : (g : WriterGrounds) (match : Match) (old : PlaceWith) (runs : List PassedRun) (to : ℕ)
+    (new : PlaceWith) → GoesTo g match old runs to new → to ≤ old.place → (new ≡ old) × (runs ≡ [])
 goes_nowhere g match old [] to new h low = (none h.0 h.1 h.2, refl)
   where
     none : (changes : List Change) → AllCome g match old changes new → new.place ≡ to → new ≡ old
     none [] c e = c
     none (x ∷ xs) c e =
-        let next = ap (λ (p : Position). p.place) c.1.after in
+        let next = ap (λ (p : PlaceWith). p.place) c.1.after in
         let rest = come_forward g match c.0 xs new c.2 in
         absurd (omega (arith, next, rest, e, low))
 goes_nowhere g match old (run ∷ runs) to new h low =
     let before = come_forward g match old h.2.0 h.0 h.2.1 in
     let begins = h.3.begins in
     let ordered = h.3.ordered in
-    let next = ap (λ (p : Position). p.place) h.3.after in
+    let next = ap (λ (p : PlaceWith). p.place) h.3.after in
     let rest = goes_forward g match h.1 runs to new h.5 in
     absurd (omega (arith, before, begins, ordered, next, rest.0, low))
 
 -- one more change comes after these
-all_come_more : (g : WriterGrounds) (match : Match) (old : Position) (changes : List Change) (mid : Position)
-    (change : Change) (new : Position)
+all_come_more : (g : WriterGrounds) (match : Match) (old : PlaceWith) (changes : List Change) (mid : PlaceWith)
+    (change : Change) (new : PlaceWith)
     → AllCome g match old changes mid → Comes g match mid change new → AllCome g match old (changes ++ change ∷ []) new
 all_come_more g match old [] mid change new all comes =
-    (new, subst (λ (p : Position). Comes g match p change new) all comes, refl)
+    (new, subst (λ (p : PlaceWith). Comes g match p change new) all comes, refl)
 all_come_more g match old (c ∷ cs) mid change new all comes =
     (all.0, all.1, all_come_more g match all.0 cs mid change new all.2 comes)
 
 -- a way, and then one more change that comes
-pub come_more : (g : WriterGrounds) (match : Match) (old : Position) (runs : List PassedRun) (to : ℕ) (mid : Position)
-    (change : Change) (new : Position)
+pub come_more : (g : WriterGrounds) (match : Match) (old : PlaceWith) (runs : List PassedRun) (to : ℕ) (mid : PlaceWith)
+    (change : Change) (new : PlaceWith)
     → mid.place ≡ to → GoesTo g match old runs to mid → Comes g match mid change new
     → GoesTo g match old runs (to + 1) new
 come_more g match old [] to mid change new at way comes = (
   way.0 ++ change ∷ [],
   all_come_more g match old way.0 mid change new way.1 comes,
-  ap (λ (p : Position). p.place) comes.after ∙ ap (λ (n : ℕ). n + 1) at,
+  ap (λ (p : PlaceWith). p.place) comes.after ∙ ap (λ (n : ℕ). n + 1) at,
 )
 come_more g match old (run ∷ runs) to mid change new at way comes =
     (way.0, way.1, way.2, way.3, way.4, come_more g match way.1 runs to mid change new at way.5 comes)
@@ -155,12 +155,12 @@ apart_more first [] run apart below = below
 apart_more first (next ∷ runs) run apart below = apart
 
 -- a way whose runs all end well below, and then one more run that is passed over
-pub pass_more : (g : WriterGrounds) (match : Match) (old : Position) (runs : List PassedRun) (to : ℕ) (mid : Position)
-    (run : PassedRun) (new : Position)
+pub pass_more : (g : WriterGrounds) (match : Match) (old : PlaceWith) (runs : List PassedRun) (to : ℕ) (mid : PlaceWith)
+    (run : PassedRun) (new : PlaceWith)
     → mid.place ≡ to → EndBelow runs to → GoesTo g match old runs to mid → Passes g match mid run new
     → GoesTo g match old (runs ++ run ∷ []) (run.last + 1) new
 pass_more g match old [] to mid run new at below way passes =
-    (mid, new, (way.0, way.1, sym passes.begins), passes, tt, ([], refl, ap (λ (p : Position). p.place) passes.after))
+    (mid, new, (way.0, way.1, sym passes.begins), passes, tt, ([], refl, ap (λ (p : PlaceWith). p.place) passes.after))
 pass_more g match old (r ∷ runs) to mid run new at below way passes =
     let begins = passes.begins in
     let here = below.0 in (

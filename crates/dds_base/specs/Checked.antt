@@ -1,6 +1,6 @@
 -- Why a configuration is refused (DDS 1.4, 2.2.1.1: BAD_PARAMETER, INCONSISTENT_POLICY). The counts, and that a lease
 -- is below 2^63, are limits of this project.
-use Rattle.std.specs.Prelude.{ℕ, zero, suc, ◌+◌, ◌^◌, ◌==◌, ◌||◌, Bool, true, false, not, List, length, count_by, replicate, slice_index, nat_eq, nat_lt, nat_le, Option, Some, None, ℤ, pos, negsuc, if◌then◌else◌}
+use Rattle.std.specs.Prelude.{ℕ, zero, suc, ◌+◌, ◌==◌, ◌||◌, Bool, true, false, not, List, length, count_by, replicate, slice_index, nat_eq, nat_lt, nat_le, Option, Some, None, ℤ, pos, negsuc, if◌then◌else◌}
 use Rattle.std.specs.List.{list_any}
 use Rattle.std.specs.Cmp.Lexicographic.{pointwise}
 use Rattle.dds_base.specs.declared.code.Code.{Code}
@@ -14,6 +14,7 @@ use Rattle.dds_base.specs.declared.qos.OwnershipQos.TheVariants.{Shared, Exclusi
 use Rattle.dds_base.specs.declared.config.PeerConfig.{PeerConfig}
 use Rattle.dds_base.specs.declared.config.WriterConfig.{WriterConfig}
 use Rattle.dds_base.specs.declared.config.ReaderConfig.{ReaderConfig}
+use Rattle.dds_base.specs.Bounds.{end_of_moments, max_ends, max_peers}
 use Rattle.dds_base.specs.Matched.{matched_writers_of}
 
 -- two prefixes are one (RTPS 2.5, 8.2: GuidPrefix_t)
@@ -61,7 +62,7 @@ limit_of (negsuc n) = None
 -- a lease of 0, or of 2^63 units and more (DDS 1.4, 2.2.3, LIVELINESS)
 abbrev pub is_bad_lease : Option ℕ → Bool
 is_bad_lease None = false
-is_bad_lease (Some lease) = (lease == 0) || nat_le (2 ^ 63) lease
+is_bad_lease (Some lease) = (lease == 0) || nat_le end_of_moments lease
 
 -- a writer of another kind, without a depth, or with a maximum or a lease that is invalid
 abbrev pub is_bad_writer : WriterConfig → Bool
@@ -77,7 +78,7 @@ is_bad_reader r = not (has_kind 7 r.entity)
 -- a peer with more than 16 writers or readers, with two equal entities, or with a writer or reader that is invalid
 abbrev pub is_bad_peer : PeerConfig → Bool
 is_bad_peer p =
-    (nat_lt 16 (length p.writers) || nat_lt 16 (length p.readers))
+    (nat_lt max_ends (length p.writers) || nat_lt max_ends (length p.readers))
     || ((list_any (λ (w : WriterConfig). nat_lt 1 (entity_count p w.entity)) p.writers
     || list_any (λ (r : ReaderConfig). nat_lt 1 (entity_count p r.entity)) p.readers)
     || (list_any is_bad_writer p.writers || list_any is_bad_reader p.readers))
@@ -85,7 +86,7 @@ is_bad_peer p =
 -- no peer or more than 16, a prefix that is no peer's, two equal prefixes, or a bad peer
 abbrev pub has_bad_parameter : List PeerConfig → Bool
 has_bad_parameter peers =
-    ((length peers == 0) || nat_lt 16 (length peers))
+    ((length peers == 0) || nat_lt max_peers (length peers))
     || (list_any (λ (p : PeerConfig). same_prefix p.prefix unknown_prefix
     || nat_lt 1 (prefix_count peers p.prefix)) peers
     || list_any is_bad_peer peers)

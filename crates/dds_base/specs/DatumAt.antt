@@ -9,7 +9,7 @@ use Rattle.dds_base.specs.declared.datum.Datum.{Datum}
 use Rattle.dds_base.specs.declared.key.Key.{Key}
 use Rattle.dds_base.specs.declared.endianness.Endianness.{Endianness}
 use Rattle.dds_base.specs.declared.endianness.Endianness.TheVariants.{Big, Little}
-use Rattle.dds_base.specs.DatumText.{max_value}
+use Rattle.dds_base.specs.Bounds.{key_octets, max_value}
 use Rattle.dds_base.specs.Fields.{number_at, octets_at, ◌>>=◌}
 
 -- the order that the representation names, and what follows the two option octets
@@ -21,7 +21,7 @@ representation_at _ = None
 -- the octets of a key
 unfoldable pub key_at : List ℕ → Option (Key × List ℕ)
 key_at bytes = do
-  k ← octets_at 16 bytes
+  k ← octets_at key_octets bytes
   Some (record { 0 = k.0 }, k.1)
 
 -- a datum, at whose value reading ends

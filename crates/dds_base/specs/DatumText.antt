@@ -5,6 +5,7 @@ use Rattle.dds_base.specs.declared.datum.Datum.{Datum}
 use Rattle.dds_base.specs.declared.key.Key.{Key}
 use Rattle.dds_base.specs.declared.endianness.Endianness.{Endianness}
 use Rattle.dds_base.specs.declared.endianness.Endianness.TheVariants.{Big, Little}
+use Rattle.dds_base.specs.Bounds.{key_octets, max_value}
 use Rattle.dds_base.specs.Fields.{number}
 
 -- the representation identifier: CDR_BE is 0x0000, CDR_LE is 0x0001
@@ -20,13 +21,9 @@ key_text order options k = representation order ++ options ++ k.0
 abbrev pub datum_text : Endianness → List ℕ → Datum → List ℕ
 datum_text order options d = key_text order options d.key ++ number order w32 (length d.value) ++ d.value
 
--- The longest value, in octets. The topic type bounds it; clause 10 has a length of 4 octets, and no other bound.
-abbrev pub max_value : ℕ
-max_value = 1024
-
 -- a key of 16 octets, and a value of at most `max_value`
 pub record IsDatum (d : Datum) : Type 0 where
-  pub key : length d.key.0 ≡ 16
+  pub key : length d.key.0 ≡ key_octets
   pub value : length d.value ≤ max_value
 
 -- The bytes begin with the datum, in one of the orders, whatever the two option octets, and whatever follows.
@@ -45,7 +42,7 @@ pub record ReadsKey (bytes : List ℕ) (k : Key) : Type 0 where
   pub rest : List ℕ
   pub two : length options ≡ 2
   pub text : bytes ≡ key_text order options k ++ rest
-  pub valid : length k.0 ≡ 16
+  pub valid : length k.0 ≡ key_octets
 
 -- the one written form: little-endian, options zero, nothing after it
 abbrev pub spelling_of_datum : Datum → List ℕ

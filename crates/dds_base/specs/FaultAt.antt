@@ -16,6 +16,7 @@ use Rattle.dds_base.specs.declared.config_fault.ConfigRule.TheVariants.{PeerCoun
 use Rattle.dds_base.specs.declared.config_fault.ConfigPlace.{ConfigPlace}
 use Rattle.dds_base.specs.declared.config_fault.ConfigPlace.TheVariants.{Whole, Peer, Writer, Reader}
 use Rattle.dds_base.specs.declared.config_fault.ConfigFault.{ConfigFault}
+use Rattle.dds_base.specs.Bounds.{max_ends, max_peers}
 use Rattle.dds_base.specs.Life.{or_else}
 use Rattle.dds_base.specs.Matched.{matched_writers_of}
 use Rattle.dds_base.specs.Checked.{same_prefix, unknown_prefix, has_kind, prefix_count, entity_count, has_no_depth, is_maximum, is_bad_lease, exceeds_limit, differ, is_longer}
@@ -54,12 +55,12 @@ reader_rules Policies peers p r =
 abbrev pub peer_rules : Pass → List PeerConfig → PeerConfig → List (ConfigRule × Bool)
 peer_rules Parameters peers p =
     (KnownPrefix, same_prefix p.prefix unknown_prefix) ∷ (OwnPrefix, nat_lt 1 (prefix_count peers p.prefix))
-    ∷ (WriterCount, nat_lt 16 (length p.writers)) ∷ (ReaderCount, nat_lt 16 (length p.readers)) ∷ []
+    ∷ (WriterCount, nat_lt max_ends (length p.writers)) ∷ (ReaderCount, nat_lt max_ends (length p.readers)) ∷ []
 peer_rules Policies peers p = []
 
 -- the rules of the whole
 abbrev pub whole_rules : List PeerConfig → List (ConfigRule × Bool)
-whole_rules peers = (PeerCount, (length peers == 0) || nat_lt 16 (length peers)) ∷ []
+whole_rules peers = (PeerCount, (length peers == 0) || nat_lt max_peers (length peers)) ∷ []
 
 -- the fault at a place, if a rule is broken there
 abbrev pub fault_at : ConfigPlace → Option ConfigRule → Option ConfigFault

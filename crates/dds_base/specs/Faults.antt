@@ -12,6 +12,7 @@ use Rattle.dds_base.specs.declared.config_fault.ConfigRule.TheVariants.{PeerCoun
 use Rattle.dds_base.specs.declared.config_fault.ConfigPlace.{ConfigPlace}
 use Rattle.dds_base.specs.declared.config_fault.ConfigPlace.TheVariants.{Whole, Peer, Writer, Reader}
 use Rattle.dds_base.specs.declared.config_fault.ConfigFault.{ConfigFault}
+use Rattle.dds_base.specs.Bounds.{max_ends, max_peers}
 use Rattle.dds_base.specs.Matched.{matched_writers_of}
 use Rattle.dds_base.specs.Checked.{same_prefix, unknown_prefix, has_kind, prefix_count, entity_count, has_no_depth, is_maximum, is_bad_lease, exceeds_limit, differ, is_longer}
 
@@ -24,13 +25,13 @@ code_of_rule _ = BadParameter
 
 -- the configuration as a whole breaks the rule
 abbrev pub breaks_as_whole : List PeerConfig → ConfigRule → Bool
-breaks_as_whole peers PeerCount = (length peers == 0) || nat_lt 16 (length peers)
+breaks_as_whole peers PeerCount = (length peers == 0) || nat_lt max_peers (length peers)
 breaks_as_whole peers _ = false
 
 -- the peer breaks the rule
 abbrev pub breaks_as_peer : List PeerConfig → ConfigRule → PeerConfig → Bool
-breaks_as_peer peers WriterCount p = nat_lt 16 (length p.writers)
-breaks_as_peer peers ReaderCount p = nat_lt 16 (length p.readers)
+breaks_as_peer peers WriterCount p = nat_lt max_ends (length p.writers)
+breaks_as_peer peers ReaderCount p = nat_lt max_ends (length p.readers)
 breaks_as_peer peers KnownPrefix p = same_prefix p.prefix unknown_prefix
 breaks_as_peer peers OwnPrefix p = nat_lt 1 (prefix_count peers p.prefix)
 breaks_as_peer peers _ p = false

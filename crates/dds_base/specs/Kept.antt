@@ -1,6 +1,6 @@
 -- What the history of a writer has dropped, what it keeps, and when it refuses a change
 -- (DDS 1.4, 2.2.3: HISTORY, RESOURCE_LIMITS; RTPS 2.5, 8.2: HistoryCache).
-use Rattle.std.specs.Prelude.{ℕ, zero, suc, ◌+◌, ◌-◌, ◌^◌, max, List, [], ◌∷◌, ◌++◌, length, drop, count_by, find, slice_get, slice_index, slice_set, Bool, false, ◌&&◌, not, Option, Some, None, is_some, nat_lt, nat_le, if◌then◌else◌}
+use Rattle.std.specs.Prelude.{ℕ, zero, suc, ◌+◌, ◌-◌, max, List, [], ◌∷◌, ◌++◌, length, drop, count_by, find, slice_get, slice_index, slice_set, Bool, false, ◌&&◌, not, Option, Some, None, is_some, nat_lt, nat_le, if◌then◌else◌}
 use Rattle.std.specs.List.{list_any}
 use Rattle.std.specs.Option.{option_map_or, unwrap_or}
 use Rattle.dds_base.specs.declared.key.Key.{Key}
@@ -9,6 +9,7 @@ use Rattle.dds_base.specs.declared.code.Code.{Code}
 use Rattle.dds_base.specs.declared.code.Code.TheVariants.{OutOfResources, Timeout}
 use Rattle.dds_base.specs.declared.qos.HistoryQos.{HistoryQos}
 use Rattle.dds_base.specs.declared.qos.HistoryQos.TheVariants.{KeepAll, KeepLast}
+use Rattle.dds_base.specs.Bounds.{max_changes}
 use Rattle.dds_base.specs.Happening.{same_key}
 
 -- the history of a writer: its policy and limit, its changes in the order of their numbers, and for each matched
@@ -80,7 +81,7 @@ exceeds limit count = option_map_or (λ most. nat_lt most count) limit false
 -- (max_blocking_time is 0)
 abbrev pub append_refusal : WriterHistory → Change → Option Code
 append_refusal w change =
-    if nat_le (2 ^ 48) (length w.changes) then Some OutOfResources
+    if nat_le max_changes (length w.changes) then Some OutOfResources
     else (if exceeds w.max_samples (kept_count (appended w change)) then Some Timeout else None)
 
 -- the history once this reader, counted from 0, has acknowledged all numbers below this one; an acknowledgement doesn't

@@ -37,35 +37,35 @@ pub record Match : Type 0 where
   pub moment : ℕ
 
 -- where a reader stands in a writer's list: the number of the next change, and what happened at the reader
-pub record Position : Type 0 where
+pub record PlaceWith : Type 0 where
   pub place : ℕ
   pub happened : List Happening
 
 -- the change comes at the reader
-abbrev pub coming : Match → Position → Change → Happening
+abbrev pub coming : Match → PlaceWith → Change → Happening
 coming match at change =
     Came (record { writer = match.publication; number = at.place; change = change; moment = match.moment })
 
 -- the next change comes, and there is room for it
-pub record Comes (grounds : WriterGrounds) (match : Match) (old : Position) (change : Change)
-    (new : Position) : Type 0 where
+pub record Comes (grounds : WriterGrounds) (match : Match) (old : PlaceWith) (change : Change)
+    (new : PlaceWith) : Type 0 where
   pub is_change : grounds.is_change old.place change
   pub room : has_room match.qos old.happened (coming match old change) ≡ true
   pub after : new ≡ record { place = old.place + 1; happened = coming match old change ∷ old.happened }
 
 -- these changes come, one after the other
-abbrev pub AllCome : WriterGrounds → Match → Position → List Change → Position → Type 0
+abbrev pub AllCome : WriterGrounds → Match → PlaceWith → List Change → PlaceWith → Type 0
 AllCome grounds match old [] new = new ≡ old
 AllCome grounds match old (change ∷ changes) new =
-    (mid : Position) × Comes grounds match old change mid × AllCome grounds match mid changes new
+    (mid : PlaceWith) × Comes grounds match old change mid × AllCome grounds match mid changes new
 
 -- every change from the place to below this number comes
-abbrev pub ComeTo : WriterGrounds → Match → Position → ℕ → Position → Type 0
+abbrev pub ComeTo : WriterGrounds → Match → PlaceWith → ℕ → PlaceWith → Type 0
 ComeTo grounds match old to new = (changes : List Change) × AllCome grounds match old changes new × (new.place ≡ to)
 
 -- the changes of a run, which begins at the place, are passed over
-pub record Passes (grounds : WriterGrounds) (match : Match) (old : Position) (run : PassedRun)
-    (new : Position) : Type 0 where
+pub record Passes (grounds : WriterGrounds) (match : Match) (old : PlaceWith) (run : PassedRun)
+    (new : PlaceWith) : Type 0 where
   pub begins : run.first ≡ old.place
   pub ordered : run.first ≤ run.last
   pub may_pass : (number : ℕ) → run.first ≤ number → number ≤ run.last → MayPassOver grounds match.qos number
@@ -78,8 +78,8 @@ IsApart run [] = Unit {0}
 IsApart run (next ∷ runs) = run.last + 1 < next.first
 
 -- the place goes to this number over changes that come and these runs that are passed over
-abbrev pub GoesTo : WriterGrounds → Match → Position → List PassedRun → ℕ → Position → Type 0
+abbrev pub GoesTo : WriterGrounds → Match → PlaceWith → List PassedRun → ℕ → PlaceWith → Type 0
 GoesTo grounds match old [] to new = ComeTo grounds match old to new
 GoesTo grounds match old (run ∷ runs) to new =
-    (before after : Position) × ComeTo grounds match old run.first before × Passes grounds match before run after
+    (before after : PlaceWith) × ComeTo grounds match old run.first before × Passes grounds match before run after
     × IsApart run runs × GoesTo grounds match after runs to new

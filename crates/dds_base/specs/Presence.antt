@@ -1,18 +1,15 @@
 -- The samples that are present at a reader, and its room.
 --
 -- DDS 1.4, 2.2.3 (HISTORY, RESOURCE_LIMITS), 2.2.2.5 (valid_data).
-use Rattle.std.specs.Prelude.{ℕ, zero, suc, ◌+◌, ◌-◌, ◌^◌, List, [], ◌∷◌, ◌++◌, length, Bool, true, false, ◌&&◌, ◌||◌, ◌==◌, nat_le, nat_lt, not, Option, None, Some, is_some, if◌then◌else◌, filter, map, count_by}
+use Rattle.std.specs.Prelude.{ℕ, List, ◌∷◌, length, Bool, true, false, ◌&&◌, ◌||◌, nat_le, nat_lt, not, Option, None, Some, is_some, filter, map, count_by}
 use Rattle.std.specs.List.{flat_map}
 use Rattle.dds_base.specs.declared.key.Key.{Key}
 use Rattle.dds_base.specs.declared.happening.SamplePosition.{SamplePosition}
 use Rattle.dds_base.specs.declared.happening.Happening.{Happening}
 use Rattle.dds_base.specs.declared.happening.Happening.TheVariants.{Came}
-use Rattle.dds_base.specs.declared.sample.InstanceState.{InstanceState}
-use Rattle.dds_base.specs.declared.sample.InstanceState.TheVariants.{NotAliveDisposed, NotAliveNoWriters}
 use Rattle.dds_base.specs.declared.qos.ReaderQos.{ReaderQos}
-use Rattle.dds_base.specs.declared.qos.HistoryQos.{HistoryQos}
-use Rattle.dds_base.specs.declared.qos.HistoryQos.TheVariants.{KeepAll, KeepLast}
-use Rattle.dds_base.specs.Happening.{as_of, is_taken, arrivals}
+use Rattle.dds_base.specs.Bounds.{max_arrivals}
+use Rattle.dds_base.specs.Happening.{as_of, arrivals}
 use Rattle.dds_base.specs.Ownership.{accepted_kind}
 use Rattle.dds_base.specs.Instance.{known_instances}
 use Rattle.dds_base.specs.Life.{ends_with_write, is_there, last_accepted, last_marker, marks_from, up_to}
@@ -54,7 +51,7 @@ is_accepted q h _ = false
 -- (RESOURCE_LIMITS)
 abbrev pub has_room : ReaderQos → List Happening → Happening → Bool
 has_room q h e =
-    nat_lt (arrivals (e ∷ h)) (2 ^ 31 - 1)
+    nat_lt (arrivals (e ∷ h)) max_arrivals
     && (not (is_accepted q h e)
     || (is_within q.max_samples (present_writes q (e ∷ h))
     && is_within q.max_instances (length (known_instances q (e ∷ h)))))

@@ -12,16 +12,17 @@ ghost use Rattle.dds_base.specs.FaultAt.{first_broken, is_unfit, whole_rules, pe
 use crate::config::{PeerConfig, ReaderConfig, WriterConfig};
 use crate::config_fault::ConfigRule;
 use crate::guid::{EntityId, GuidPrefix};
+use crate::moment::MOMENT_END;
 use crate::qos::HistoryQos;
 
 /// So many peers at most.
 const MAX_PEERS: usize = 16;
 
-/// So many writers, and so many readers, at most at a peer.
-const MAX_ENDS: usize = 16;
+/// So many writers, and so many readers, at most at a peer: a limit of this project.
+pub const MAX_ENDS: usize = 16;
 
 /// From this one on a lease is too long, in units of 2^-32 second.
-const LEASE_END: u64 = 1 << 63;
+const LEASE_END: u64 = MOMENT_END;
 
 /// Which rules are looked at: those of each parameter, or those of policies with one another. A bad parameter anywhere
 /// goes before an inconsistent policy anywhere.

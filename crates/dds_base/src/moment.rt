@@ -6,6 +6,11 @@ ghost use Rattle.std.specs.Prelude.{◌≡◌};
 
 use std::marker::Model;
 
+/// From here on, in units of 2^-32 second, there is no moment of a peer: 2^63.
+///
+/// DDS 1.4, 2.3.3 (Time_t): its seconds have 32 bits with a sign.
+pub const MOMENT_END: u64 = 1 << 63;
+
 /// A moment, in units of 2^-32 second; a peer begins at 0 and takes moments below 2^63.
 ///
 /// DDS 1.4, 2.3.3 (Time_t); RTPS 2.5, 9.3 (seconds, then a fraction of 2^-32).

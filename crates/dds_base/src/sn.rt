@@ -6,6 +6,12 @@ ghost use Rattle.std.specs.Prelude.{◌≡◌};
 
 use std::marker::Model;
 
+/// The greatest number that a message names: 2^62.
+///
+/// RTPS 2.5, 8.3.5.4 (SequenceNumber): 64 bits with a sign, so the standard's numbers end below 2^63. The lower bound is
+/// this project's: no sum of a number and a place of a set passes 2^63.
+pub const MAX_SN: u64 = 1 << 62;
+
 /// The number of a change of one writer, counted from 1.
 ///
 /// RTPS 2.5, 8.2 (SequenceNumber_t).

@@ -18,7 +18,7 @@ use Rattle.dds_machine.specs.Part.{Writer, has_readers, heartbeats_used}
 use Rattle.dds_protocol.specs.DueMessages.{Due, AreSent, assertion_message}
 use Rattle.dds_core.specs.declared.heartbeat.Beat.{Beat}
 use Rattle.dds_core.specs.declared.matching.Destination.{Destination}
-use Rattle.dds_core.specs.Beating.{Adds, IsValid, assertions_of, due_to, message_to, told_to}
+use Rattle.dds_core.specs.Beating.{Adds, IsHeartbeatValid, assertions_of, due_to, message_to, told_to}
 use Rattle.dds_core.specs.Kept.{WriterKept}
 use Rattle.dds_core.specs.Standing.{state_of}
 use Rattle.dds_core.proofs.Beating.{due_by, made_is, valid_next, written_on}
@@ -89,10 +89,10 @@ told_none prefix kept w answered now is =
 
 -- it can be written
 pub valid_told : (kept : Kept) (s : WriterState) (now : ℕ) (due : HeartbeatDue) → RtpsStandsFor kept s
-    → heartbeat_asserted s now ≡ Some due → IsValid due
+    → heartbeat_asserted s now ≡ Some due → IsHeartbeatValid due
 valid_told kept s now due stands is =
     let count : ℤ = pos (counts_due (asserted s now)) in
-    subst (λ (d : HeartbeatDue). IsValid d)
+    subst (λ (d : HeartbeatDue). IsHeartbeatValid d)
     (made_is s.matched
     (record { first = first_kept (rtps_history_of s); last = last_of s; count = count }) due is)
     (valid_next kept s count stands)

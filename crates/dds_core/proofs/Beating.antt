@@ -24,7 +24,7 @@ use Rattle.dds_core.specs.declared.heartbeat.Beat.{Beat}
 use Rattle.dds_core.specs.declared.matching.Destination.{Destination}
 use Rattle.dds_core.specs.declared.matching.ReaderName.{ReaderName}
 use Rattle.dds_core.specs.declared.sending.Announced.{Announced}
-use Rattle.dds_core.specs.Beating.{IsValid, BeatsOfAll, Adds, Beats, BeatsOf, beats_of, beats_of_all, beats_to, due_to, message_to, is_peer_behind, peers_behind}
+use Rattle.dds_core.specs.Beating.{IsHeartbeatValid, BeatsOfAll, Adds, Beats, BeatsOf, beats_of, beats_of_all, beats_to, due_to, message_to, is_peer_behind, peers_behind}
 use Rattle.dds_core.specs.Kept.{WriterKept}
 use Rattle.dds_core.specs.Sending.{AreMessages}
 use Rattle.dds_core.specs.Announcing.{AddsPacket}
@@ -366,7 +366,7 @@ first_within h =
 
 -- what a writer would send next is such, whatever its count
 pub valid_next : (kept : Kept) (s : WriterState) (count : ℤ) → RtpsStandsFor kept s
-    → IsValid (record { first = first_kept (rtps_history_of s); last = last_of s; count = count })
+    → IsHeartbeatValid (record { first = first_kept (rtps_history_of s); last = last_of s; count = count })
 valid_next kept s count stands =
     let first = first_within (rtps_history_of s) in
     let last = stands.history.last in
@@ -379,10 +379,10 @@ made_is true d due h = same_Some d due h
 made_is false d due h = absurd cc
 
 pub valid_due : (kept : Kept) (s : WriterState) (now : ℕ) (due : HeartbeatDue) → RtpsStandsFor kept s
-    → heartbeat_due s now ≡ Some due → IsValid due
+    → heartbeat_due s now ≡ Some due → IsHeartbeatValid due
 valid_due kept s now due stands is =
     let counts = counts_due (rtps_ticked s now) in
-    subst (λ (d : HeartbeatDue). IsValid d)
+    subst (λ (d : HeartbeatDue). IsHeartbeatValid d)
     (made_is (is_behind s && nat_lt counts (2 ^ 31))
     (record { first = first_kept (rtps_history_of s); last = last_of s; count = pos counts }) due is)
     (valid_next kept s (pos counts) stands)

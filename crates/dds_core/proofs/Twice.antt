@@ -26,12 +26,12 @@ use Rattle.dds_core.specs.Kept.{PeerKept}
 use Rattle.dds_core.specs.Listening.{CoreKept, Steps}
 use Rattle.dds_core.specs.Sending.{AreMessages, Sends, SendsChange, SendsFor, SendsNothing, due_at_tick}
 use Rattle.dds_core.specs.Ruling.{KeepsRules}
-use Rattle.dds_core.specs.Twins.{AreLeft, IsPlain, IsTwin, Leaves, Loses, is_asked}
+use Rattle.dds_core.specs.Twins.{AreLeft, IsPlain, IsTwin, Leaves, LosesPackets, wants_two}
 
 -- ---- replies without lists
 
 -- a reply without a list needs nothing once more
-pub plain_twin : (twin : Twin) (reply : Reply) → IsPlain reply → is_asked twin ≡ true → IsTwin twin reply
+pub plain_twin : (twin : Twin) (reply : Reply) → IsPlain reply → wants_two twin ≡ true → IsTwin twin reply
 plain_twin Unasked reply plain asked = absurd (let clash : false ≡ true = asked in cc)
 plain_twin Asked reply plain asked = plain
 plain_twin (Kept again) reply plain asked = absurd (let clash : false ≡ true = asked in cc)
@@ -138,7 +138,7 @@ lost_is packets left lost leaves counted =
 -- an output with what is left
 pub loses : (output : Output) (packets left given : List Packet) (lost : ℕ) → given ≡ output.packets → packets ≡ left
     → Leaves given left → length left + lost ≡ length given
-    → Loses output (record { reply = output.reply; packets = packets; unsent = output.unsent + lost })
+    → LosesPackets output (record { reply = output.reply; packets = packets; unsent = output.unsent + lost })
 loses output packets left given lost same is leaves counted =
     let here : Leaves output.packets packets =
     subst (λ (ps : List Packet). Leaves ps packets) same
@@ -174,13 +174,13 @@ left_sent (due ∷ dues) packets left unsent lost (inr g) p =
 -- ---- outputs of whose packets some are lost
 
 -- what is sent for these messages is sent, but for what is lost
-dues_sent : (dues : List Due) (output less : Output) → Loses output less
+dues_sent : (dues : List Due) (output less : Output) → LosesPackets output less
     → AreSent dues output.packets output.unsent → AreSent dues less.packets less.unsent
 dues_sent dues output less l are =
     subst (λ (n : ℕ). AreSent dues less.packets n) (sym l.unsent)
     (left_sent dues output.packets less.packets output.unsent l.leaves.lost are l.leaves.are_left)
 
-nothing_sent : (output less : Output) → Loses output less → SendsNothing output → SendsNothing less
+nothing_sent : (output less : Output) → LosesPackets output less → SendsNothing output → SendsNothing less
 nothing_sent output less l none =
     let left = left_none output.packets less.packets l.leaves.lost none.packets l.leaves.are_left in
     let first = l.unsent in
@@ -189,7 +189,7 @@ nothing_sent output less l none =
     record { packets = left.0; unsent = omega (arith, first, second, third) }
 
 change_sent : (config : Config) (writer : Endpoint) (readers : List Endpoint) (number : ℕ) (change : Change)
-    (output less : Output) → Loses output less → SendsChange config writer readers number change output
+    (output less : Output) → LosesPackets output less → SendsChange config writer readers number change output
     → SendsChange config writer readers number change less
 change_sent config writer readers number change output less l one =
     let count = left_count output.packets less.packets l.leaves.lost l.leaves.are_left in
@@ -203,7 +203,7 @@ change_sent config writer readers number change output less l one =
       different = l.leaves.different one.different;
     }
 
-effect_sent : (config : Config) (peer : Peer) (effect : Effect) (output less : Output) → Loses output less
+effect_sent : (config : Config) (peer : Peer) (effect : Effect) (output less : Output) → LosesPackets output less
     → SendsFor config peer effect output → SendsFor config peer effect less
 effect_sent config peer (writes w (Changed change)) output less l one =
     change_sent config (record { peer = peer.number; number = w }) (own_writer peer.part w).matched
@@ -218,7 +218,7 @@ effect_sent config peer (writes w (Ticked now behind)) output less l none = noth
 effect_sent config peer nothing output less l none = nothing_sent output less l none
 
 -- what goes out at an event
-pub loses_sends : (old : PeerKept) (e : Event) (output less : Output) → Loses output less → Sends old e output
+pub loses_sends : (old : PeerKept) (e : Event) (output less : Output) → LosesPackets output less → Sends old e output
     → Sends old e less
 loses_sends old (event.Call call) output less l sends = λ config peer given.
     subst (λ (r : Reply). SendsFor config peer (effect_of peer.part call r) less) (sym l.reply)
@@ -228,11 +228,12 @@ loses_sends old (event.Tick now) output less l sends = λ config peer given.
     (dues_sent (due_at_tick config peer output.reply) output less l (sends config peer given))
 loses_sends old (event.Deliver packet) output less l sends = tt
 
-pub loses_messages : (output less : Output) → Loses output less → AreMessages output.packets → AreMessages less.packets
+pub loses_messages : (output less : Output) → LosesPackets output less → AreMessages output.packets
+    → AreMessages less.packets
 loses_messages output less l messages = λ packet m. messages packet (l.leaves.of_packets packet m)
 
 loses_step : (config : Config) (tests : Tests) (old : Peer) (e : Event) (output less : Output) (new : Peer)
-    → Loses output less → PeerStep config tests old e output new → PeerStep config tests old e less new
+    → LosesPackets output less → PeerStep config tests old e output new → PeerStep config tests old e less new
 loses_step config tests old e output less new l s = record {
   same_number = s.same_number;
   knows = s.knows;
@@ -240,7 +241,7 @@ loses_step config tests old e output less new l s = record {
   sent = λ packet claim m claims. s.sent packet claim (l.leaves.of_packets packet m) claims;
 }
 
-loses_rules : (config : Config) (old : Peer) (e : Event) (output less : Output) (new : Peer) → Loses output less
+loses_rules : (config : Config) (old : Peer) (e : Event) (output less : Output) (new : Peer) → LosesPackets output less
     → KeepsRules config old e output new → KeepsRules config old e less new
 loses_rules config old (event.Call call) output less new l k = tt
 loses_rules config old (event.Tick now) output less new l k = tt
@@ -254,7 +255,8 @@ loses_rules config old (event.Deliver packet) output less new l k = record {
 
 -- the step is one with what is left
 pub loses_steps : {F L : Type 0} (notices : L → List Notice) (capacity : L → ℕ) (becomes : L → Notice → L → Type 0)
-    (tests : Tests) (old : CoreKept F L) (e : Event) (output less : Output) (new : CoreKept F L) → Loses output less
+    (tests : Tests) (old : CoreKept F L) (e : Event) (output less : Output) (new : CoreKept F L)
+    → LosesPackets output less
     → Steps notices capacity becomes tests old e output new → Steps notices capacity becomes tests old e less new
 loses_steps notices capacity becomes tests old e output less new l s = record {
   step = λ given config peer stands sound.

@@ -2,12 +2,13 @@
 -- be believed.
 --
 -- RTPS 2.5, 8.4.7 (ReaderProxy: requested_changes), 8.4.9 (reliable StatefulWriter), 8.3.8 (AckNack, Data, Gap).
-use Rattle.std.specs.Prelude.{◌≡◌, ℕ, suc, ◌+◌, ◌^◌, ◌<◌, ◌≤◌, true, false, List, [], ◌∷◌, ◌++◌, length, map, take, set, slice_get, vec_capacity, Option, Some, None}
+use Rattle.std.specs.Prelude.{◌≡◌, ℕ, suc, ◌+◌, ◌<◌, ◌≤◌, true, false, List, [], ◌∷◌, ◌++◌, length, map, take, set, slice_get, vec_capacity, Option, Some, None}
 use Rattle.std.specs.List.{All, AllByRecursion}
 use Rattle.dds_base.specs.declared.change.Change.{Change}
 use Rattle.dds_base.specs.declared.config.Config.{Config}
 use Rattle.dds_base.specs.declared.guid.EntityId.{EntityId}
 use Rattle.dds_base.specs.declared.guid.GuidPrefix.{GuidPrefix}
+use Rattle.dds_base.specs.Bounds.{max_sn, max_value}
 use Rattle.dds_base.specs.Kept.{kept_change}
 use Rattle.dds_base.specs.Written.{changes_of}
 use Rattle.rtps_sets.specs.NumberSet.{NumberSet, span}
@@ -104,14 +105,14 @@ HaveRoom numbers rooms = (i : ℕ) (room : Room) → slice_get rooms i ≡ Some 
 -- the answer can be written: its change is kept, and small; or its numbers are some that the wire has
 abbrev pub IsAnswerableIn : WriterState → Answer → Type 0
 IsAnswerableIn s (Data number) =
-    (change : Change) × (kept_change (history_of s) number ≡ Some change) × (length change.value ≤ 1024)
-IsAnswerableIn s (Gap first last) = (1 ≤ first) × (first ≤ last) × (last < 2 ^ 62)
+    (change : Change) × (kept_change (history_of s) number ≡ Some change) × (length change.value ≤ max_value)
+IsAnswerableIn s (Gap first last) = (1 ≤ first) × (first ≤ last) × (last < max_sn)
 
 -- the writer that keeps this can give the answer
 pub record CanAnswer (kept : Kept) (answer : Answer) : Type 0 where
   pub state : WriterState
   pub stands : RtpsStandsFor kept state
-  pub few : length (changes_of state.written) < 2 ^ 62
+  pub few : length (changes_of state.written) < max_sn
   pub is : IsAnswerableIn state answer
 
 -- two submessages at most were added, which can be written
@@ -123,7 +124,7 @@ pub record SpellsMore (old new : List Submessage) : Type 0 where
 pub record AreAnswerable (kept : Kept) (answers : List Answer) : Type 0 where
   pub state : WriterState
   pub stands : RtpsStandsFor kept state
-  pub few : length (changes_of state.written) < 2 ^ 62
+  pub few : length (changes_of state.written) < max_sn
   pub each : All (IsAnswerableIn state) answers
 
 -- a message with answers that is due

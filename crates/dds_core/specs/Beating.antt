@@ -2,9 +2,10 @@
 -- cite this: nothing here has to be believed.
 --
 -- RTPS 2.5, 8.4.9 (reliable StatefulWriter: heartbeatPeriod), 8.3.8 (Heartbeat).
-use Rattle.std.specs.Prelude.{◌≡◌, ℕ, ◌+◌, ◌-◌, ◌^◌, ◌≤◌, ◌==◌, ◌&&◌, Bool, if◌then◌else◌, nat_lt, nat_le, true, false, List, [], ◌∷◌, ◌++◌, length, map, filter, Option, ℤ}
+use Rattle.std.specs.Prelude.{◌≡◌, ℕ, ◌+◌, ◌≤◌, ◌==◌, ◌&&◌, Bool, if◌then◌else◌, nat_lt, nat_le, true, false, List, [], ◌∷◌, ◌++◌, length, map, filter, Option, ℤ}
 use Rattle.std.specs.List.{list_any}
 use Rattle.dds_base.specs.declared.guid.GuidPrefix.{GuidPrefix}
+use Rattle.dds_base.specs.Bounds.{max_changes, max_count}
 use Rattle.rtps_wire.specs.declared.message.Message.{Message}
 use Rattle.rtps_wire.specs.declared.submessage.Submessage.TheVariants.{InfoDst, Heartbeat}
 use Rattle.rtps_writer.specs.declared.heartbeat.HeartbeatDue.{HeartbeatDue}
@@ -22,10 +23,10 @@ use Rattle.dds_core.specs.Kept.{WriterKept}
 use Rattle.dds_core.specs.Standing.{WriterStands, WritersStand, state_of}
 
 -- the numbers of a HEARTBEAT that can be written
-pub record IsValid (due : HeartbeatDue) : Type 0 where
+pub record IsHeartbeatValid (due : HeartbeatDue) : Type 0 where
   pub first : 1 ≤ due.first
   pub not_past : due.first ≤ due.last + 1
-  pub last : due.last ≤ 2 ^ 48
+  pub last : due.last ≤ max_changes
 
 -- the HEARTBEAT as a message to the peer of this prefix
 abbrev pub message_to : Beat → GuidPrefix → Message
@@ -72,7 +73,7 @@ assertions_of prefix kept w =
 -- what is due at a tick of a writer, from a peer of this prefix
 abbrev pub beats_of : GuidPrefix → WriterKept → Writer → List Due
 beats_of prefix kept w =
-    if nat_lt (heartbeats_used w) (2 ^ 31 - 1)
+    if nat_lt (heartbeats_used w) max_count
     then map (λ (d : Destination). due_to d.peer (heartbeat_message prefix d.prefix kept.entity w))
     (peers_behind w kept.destinations)
     else []
@@ -117,9 +118,9 @@ BeatsOfAll prefix kept packets unsent =
 -- for each writer that is stood for, there was a count left for an assertion, and what tells of it is sent
 abbrev pub TellsOf : GuidPrefix → WriterKept → List Packet → ℕ → Type 0
 TellsOf prefix kept packets unsent = (w : Writer) (answered : Endpoint → Option ℤ) → WriterStands kept w answered
-    → (nat_le (2 ^ 31 - 1) (heartbeats_used w) ≡ false) × AreSent (assertions_of prefix kept w) packets unsent
+    → (nat_le max_count (heartbeats_used w) ≡ false) × AreSent (assertions_of prefix kept w) packets unsent
 
 -- for each writer that is stood for, no count is left
 abbrev pub HasNoCount : WriterKept → Type 0
 HasNoCount kept = (w : Writer) (answered : Endpoint → Option ℤ) → WriterStands kept w answered
-    → nat_le (2 ^ 31 - 1) (heartbeats_used w) ≡ true
+    → nat_le max_count (heartbeats_used w) ≡ true

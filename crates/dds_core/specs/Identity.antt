@@ -9,6 +9,7 @@ use Rattle.dds_base.specs.declared.config.WriterConfig.{WriterConfig}
 use Rattle.dds_base.specs.declared.config.ReaderConfig.{ReaderConfig}
 use Rattle.dds_base.specs.declared.guid.GuidPrefix.{GuidPrefix}
 use Rattle.dds_base.specs.declared.guid.EntityId.{EntityId}
+use Rattle.dds_base.specs.Bounds.{max_readers}
 use Rattle.dds_base.specs.Checked.{check_refusal}
 use Rattle.dds_base.specs.Matched.{is_reliable, is_reliable_reader}
 use Rattle.dds_cache.specs.Standing.{qos_of}
@@ -32,7 +33,7 @@ pub record FitsWriters (names : List WriterName) (reader : Proxies) (store : Sto
   pub policy : reliable_in store ≡ reliable
   pub count : count_of reader ≡ length names
   pub fits : length names ≤ length (qos_of store.cache).writers
-  pub many : length (qos_of store.cache).writers ≤ 256
+  pub many : length (qos_of store.cache).writers ≤ max_readers
 
 -- what never changes of a writer: its name, whether an unregister disposes too, to which peers it sends, and the names
 -- of its matched readers

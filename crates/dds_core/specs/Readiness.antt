@@ -3,11 +3,12 @@
 -- cite this: nothing here has to be believed.
 --
 -- RTPS 2.5, 8.3.4 (the message receiver), 8.4.12 (the behaviour of a reliable StatefulReader).
-use Rattle.std.specs.Prelude.{◌≡◌, ◌⊎◌, ◌^◌, ◌<◌, ◌≤◌, Bool, true, false, ℕ, List, [], ◌∷◌, ◌++◌, length, slice_get, nat_lt, if◌then◌else◌, Option, Some, None}
+use Rattle.std.specs.Prelude.{◌≡◌, ◌⊎◌, ◌<◌, ◌≤◌, Bool, true, false, ℕ, List, [], ◌∷◌, ◌++◌, length, slice_get, nat_lt, if◌then◌else◌, Option, Some, None}
 use Rattle.dds_base.specs.declared.guid.EntityId.{EntityId}
 use Rattle.dds_base.specs.declared.guid.Guid.{Guid}
 use Rattle.dds_base.specs.declared.guid.GuidPrefix.{GuidPrefix}
 use Rattle.dds_base.specs.declared.happening.Happening.{Happening}
+use Rattle.dds_base.specs.Bounds.{max_sn}
 use Rattle.dds_base.specs.Places.{Match}
 use Rattle.dds_base.specs.Counts.{is_later}
 use Rattle.dds_cache.specs.Standing.{qos_of, room_of}
@@ -111,9 +112,9 @@ IsToldBy reliable at submessage other = ⊥
 
 -- its numbers are such that the wire has
 abbrev pub IsBounded : Submessage → Type 0
-IsBounded (Data d) = d.writer_sn ≤ 2 ^ 62
-IsBounded (Gap g) = g.gap_list.base ≤ 2 ^ 62
-IsBounded (Heartbeat h) = h.first_sn ≤ 2 ^ 62
+IsBounded (Data d) = d.writer_sn ≤ max_sn
+IsBounded (Gap g) = g.gap_list.base ≤ max_sn
+IsBounded (Heartbeat h) = h.first_sn ≤ max_sn
 IsBounded (AckNack a) = 1 ≤ a.reader_sn_state.base
 IsBounded submessage = Unit {0}
 
@@ -123,11 +124,11 @@ AreBounded submessages = (i : ℕ) (s : Submessage) → slice_get submessages i 
 
 -- what a reader is told is such: the number of a change, the base of a set or firstSN is at most 2^62
 abbrev pub IsToldBounded : Told → Type 0
-IsToldBounded (told.Change number change) = number ≤ 2 ^ 62
-IsToldBounded (told.Jump number change) = number ≤ 2 ^ 62
+IsToldBounded (told.Change number change) = number ≤ max_sn
+IsToldBounded (told.Jump number change) = number ≤ max_sn
 IsToldBounded told.Nothing = Unit {0}
-IsToldBounded (told.Gap start list) = list.base ≤ 2 ^ 62
-IsToldBounded (told.Heartbeat seen) = seen.first ≤ 2 ^ 62
+IsToldBounded (told.Gap start list) = list.base ≤ max_sn
+IsToldBounded (told.Heartbeat seen) = seen.first ≤ max_sn
 
 -- ---- what is ready
 

@@ -4,11 +4,12 @@
 --
 -- RTPS 2.5, 8.4.7 (StatefulWriter, ReaderProxy), 8.4.10 (StatefulReader, WriterProxy): the machine has them
 -- without packets.
-use Rattle.std.specs.Prelude.{◌≡◌, ℕ, suc, ◌^◌, ◌<◌, ◌≤◌, List, [], map, length, get_or, slice_get, Option, Some, ℤ, All}
+use Rattle.std.specs.Prelude.{◌≡◌, ℕ, suc, ◌<◌, ◌≤◌, List, [], map, length, get_or, slice_get, Option, Some, ℤ, All}
 use Rattle.dds_base.specs.declared.config.Config.{Config}
 use Rattle.dds_base.specs.declared.config.PeerConfig.{PeerConfig}
 use Rattle.dds_base.specs.declared.config.WriterConfig.{WriterConfig}
 use Rattle.dds_base.specs.declared.change.Change.{Change}
+use Rattle.dds_base.specs.Bounds.{end_of_moments, max_peers, max_readers, max_value}
 use Rattle.dds_base.specs.Kept.{change_at}
 use Rattle.dds_base.specs.Written.{changes_of}
 use Rattle.dds_cache.specs.Standing.{qos_of}
@@ -53,13 +54,14 @@ pub record WriterStands (kept : WriterKept) (w : Writer) (answered : Endpoint �
 
 -- the value of each of these changes has at most 1,024 octets
 abbrev pub AreShort : List Change → Type 0
-AreShort changes = (number : ℕ) (change : Change) → change_at changes number ≡ Some change → length change.value ≤ 1024
+AreShort changes = (number : ℕ) (change : Change) → change_at changes number ≡ Some change
+    → length change.value ≤ max_value
 
 -- what is so of each writer: it sends to at most 16 peers with at most 256 readers, its readers are those of what it
 -- keeps, and that stands for some state, of short changes
 pub record IsWhole (destinations : List Destination) (readers : List ReaderName) (writer : Kept) : Type 0 where
-  pub few : length destinations ≤ 16
-  pub many : length readers ≤ 256
+  pub few : length destinations ≤ max_peers
+  pub many : length readers ≤ max_readers
   pub count : reader_count writer ≡ length readers
   pub state : WriterState
   pub stands : RtpsStandsFor writer state
@@ -115,7 +117,7 @@ pub record StandsFor (kept : PeerKept) (config : Config) (peer : Peer) : Type 0 
   pub is_peer : IsPeerOf config peer.number (identity_of kept)
   pub matched : AreMatched config peer
   pub moment : peer.part.dds.moment ≡ kept.moment
-  pub early : kept.moment < 2 ^ 63
+  pub early : kept.moment < end_of_moments
   pub writers : WritersStand kept.writers peer.part.rtps.writers peer.known.answered
   pub readers : ReadersStand kept.readers peer.part.rtps.readers peer.part.dds.readers peer.known
   pub tellable : AreTellable peer.part

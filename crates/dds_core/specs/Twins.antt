@@ -16,10 +16,10 @@ IsPlain (Reported report) = report.moves ≡ []
 IsPlain other = Unit {0}
 
 -- two replies are asked for
-abbrev pub is_asked : Twin → Bool
-is_asked Unasked = false
-is_asked Asked = true
-is_asked (Kept again) = false
+abbrev pub wants_two : Twin → Bool
+wants_two Unasked = false
+wants_two Asked = true
+wants_two (Kept again) = false
 
 -- the reply once more, or nothing where it has no list
 abbrev pub IsTwin : Twin → Reply → Type 0
@@ -29,7 +29,7 @@ IsTwin (Kept again) reply = again ≡ reply
 
 -- where two were asked for, there is the reply once more
 abbrev pub Twins : Twin → Reply → Twin → Type 0
-Twins old reply new = is_asked old ≡ true → IsTwin new reply
+Twins old reply new = wants_two old ≡ true → IsTwin new reply
 
 -- of these packets, in their order, these are left, and so many are not
 abbrev pub AreLeft : List Packet → List Packet → ℕ → Type 0
@@ -47,7 +47,7 @@ pub record Leaves (packets left : List Packet) : Type 0 where
   pub different : AllPairs (λ (a b : Packet). a.to ≢ b.to) packets → AllPairs (λ (a b : Packet). a.to ≢ b.to) left
 
 -- an output, of whose packets some are lost
-pub record Loses (old new : Output) : Type 0 where
+pub record LosesPackets (old new : Output) : Type 0 where
   pub reply : new.reply ≡ old.reply
   pub leaves : Leaves old.packets new.packets
   pub unsent : new.unsent ≡ old.unsent + leaves.lost

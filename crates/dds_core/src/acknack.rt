@@ -2,12 +2,12 @@
 //!
 //! RTPS 2.5, 8.4.12 (reliable StatefulReader), 8.3.8 (AckNack).
 
-ghost use Rattle.std.specs.Prelude.{◌≡◌, ◌+◌, ◌^◌, ◌<◌, ◌≤◌, length, IfOk, IfSome};
+ghost use Rattle.std.specs.Prelude.{◌≡◌, ◌+◌, ◌<◌, ◌≤◌, length, IfOk, IfSome};
 ghost use Rattle.rtps_reader.specs.Answer.{IsSayable};
 ghost use Rattle.rtps_wire.specs.Messages.{IsWritable};
 ghost use Rattle.dds_protocol.specs.DueMessages.{acknack_message, acknacks_due};
 ghost use Rattle.dds_core.specs.Beating.{AddsTo};
-ghost use Rattle.dds_core.specs.Sending.{AreMessages};
+ghost use Rattle.dds_core.specs.Sending.{AreMessages, max_unsent};
 
 use crate::matching::WriterName;
 use crate::sending::{Announced, send};
@@ -60,7 +60,7 @@ pub fn send_acknack(
     sent: &mut Announced,
 )
     requires sayable { IfSome due IsSayable }
-    requires room { sent.old.unsent < 2 ^ 62 }
+    requires room { sent.old.unsent < max_unsent }
     ensures few { sent.new.unsent ≤ sent.old.unsent + 1 }
     ensures adds { AddsTo
         (acknacks_due own writer.now.guid.prefix writer.now.writer.peer reader

@@ -2,7 +2,7 @@
 //!
 //! DDS 1.4, 2.2.2.1 (Entity, set_listener), 2.2.2.5 (QueryCondition), 2.2.4.3 (access through listeners).
 
-ghost use Rattle.std.specs.Prelude.{◌≡◌, ◌<◌, ◌^◌, [], None, IfErr, IfOk, OnErr, OnOk};
+ghost use Rattle.std.specs.Prelude.{◌≡◌, ◌<◌, [], None, IfErr, IfOk, OnErr, OnOk};
 ghost use Rattle.dds_base.specs.Refusal.{Refuses};
 ghost use Rattle.dds_conditions.specs.Filtered.{tests_of};
 ghost use Rattle.dds_base.specs.Number.{at_number};
@@ -11,7 +11,7 @@ ghost use Rattle.dds_notices.specs.Listeners.{ByEntity, at_entity, nobody, shown
 ghost use Rattle.dds_core.specs.Listening.{Adds, AreKept, RefusesEntity, RefusesFilter, RefusesListener, Sets, StandsFor, Steps, no_listeners};
 ghost use Rattle.dds_core.specs.Opening.{core_refusal, opening_peer};
 ghost use Rattle.dds_core.specs.Pairs.{IsPair};
-ghost use Rattle.dds_core.specs.Sending.{AreMessages, Sends};
+ghost use Rattle.dds_core.specs.Sending.{AreMessages, Sends, max_unsent};
 ghost use Rattle.dds_core.specs.Standing.{StandsFor as PeerStandsFor};
 ghost use Rattle.dds_core.specs.Ruling.{IsSound};
 ghost use Rattle.dds_core.specs.Twins.{Twins};
@@ -138,7 +138,7 @@ impl<F: Filter, L: Listener> Core<F, L> {
             (tests_of F.meaning self.old.filtered.filters) self.old event result self.new }
         ensures sends { Sends self.old.filtered.peer event result }
         ensures messages { AreMessages result.packets }
-        ensures few { result.unsent < 2 ^ 62 }
+        ensures few { result.unsent < max_unsent }
         ensures twin { Twins twin.old result.reply twin.new }
     {
         if !self.listeners.has_listeners() {

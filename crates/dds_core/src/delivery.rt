@@ -8,7 +8,7 @@ ghost use Rattle.dds_base.specs.declared.code.Code.TheVariants.{Memory};
 ghost use Rattle.dds_machine.specs.declared.reply.Reply.TheVariants.{Reported};
 ghost use Rattle.dds_protocol.specs.declared.event.Event.TheVariants as event;
 ghost use Rattle.dds_core.specs.Stepping.{SoundSteps};
-ghost use Rattle.dds_core.specs.Sending.{AreMessages};
+ghost use Rattle.dds_core.specs.Sending.{AreMessages, max_unsent};
 ghost use Rattle.dds_core.specs.Readiness.{receiver_at, IsBounded, AreBounded, AreReady, AreAlike, IsNamedReader, NamesNone, moves_of};
 ghost use Rattle.dds_core.specs.Receiving.{CanTakeAt, TakesAt, AllCanTake, TakesAll, TellsReaders, TakesOneMore, KeepsPeer, NeedsMemory, TakesMessage, StandsAsWell, ReceivesPacket};
 ghost use Rattle.dds_core.specs.Twins.{Twins};
@@ -25,7 +25,7 @@ use dds_base::{Code, GuidPrefix, Octets, Sequence, Sn};
 use dds_machine::{Endpoint, Move, Reply, Report};
 use dds_protocol::Output;
 use rtps_reader::Step;
-use rtps_wire::{Message, Submessage, read_message};
+use rtps_wire::{MAX_MESSAGE, Message, Submessage, read_message};
 use std::alloc::Global;
 
 /// The first of the readers of the peer of this prefix that a submessage is for, from a writer that it is matched with.
@@ -102,7 +102,7 @@ impl Peer {
     fn take_at(&mut self, moves: &mut Moves, sent: &mut Announced, index: usize, ready: Ready)
         requires can { CanTakeAt self.old.readers index ready }
         requires room { 2 ≤ moves.old.room }
-        requires low { sent.old.unsent < 2 ^ 62 }
+        requires low { sent.old.unsent < max_unsent }
         ensures takes { TakesAt self.old index ready moves.old.items sent.old self.new
             moves.new.items sent.new }
         ensures twice { moves.new.twice ≡ moves.old.twice }
@@ -233,13 +233,13 @@ impl Peer {
 
     /// Takes up the submessages of a message, up to one for which there is no memory.
     fn take_message(&mut self, message: &Message, sent: &mut Announced, twin: &mut Twin) -> Report
-        requires few { length message.now.submessages ≤ 65535 }
+        requires few { length message.now.submessages ≤ MAX_MESSAGE }
         requires bounded { AreBounded message.now.submessages }
         requires none { sent.old.packets.items ≡ [] }
         requires zero { sent.old.unsent ≡ 0 }
         ensures takes { TakesMessage self.old message.now result self.new sent.new }
         ensures messages { AreMessages sent.new.packets.items }
-        ensures few { sent.new.unsent < 2 ^ 62 }
+        ensures few { sent.new.unsent < max_unsent }
         ensures twin { Twins twin.old (Reported result) twin.new }
     {
         let mut moves = Moves::new(self.alloc, twin.is_asked());
@@ -259,7 +259,7 @@ impl Peer {
         requires zero { sent.old.unsent ≡ 0 }
         ensures receives { ReceivesPacket self.old packet.now result self.new sent.new }
         ensures messages { AreMessages sent.new.packets.items }
-        ensures few { sent.new.unsent < 2 ^ 62 }
+        ensures few { sent.new.unsent < max_unsent }
         ensures twin { Twins twin.old (Reported result) twin.new }
     {
         match read_message(self.alloc, packet.as_slice()) {
@@ -273,7 +273,7 @@ impl Peer {
     pub(crate) fn deliver(&mut self, packet: &Octets, twin: &mut Twin) -> Output
         ensures step { SoundSteps self.old (event.Deliver packet.now) result self.new }
         ensures messages { AreMessages result.packets }
-        ensures few { result.unsent < 2 ^ 62 }
+        ensures few { result.unsent < max_unsent }
         ensures twin { Twins twin.old result.reply twin.new }
     {
         let mut sent = Announced {

@@ -2,7 +2,7 @@
 //!
 //! DDS 1.4, 2.2.2.5 (QueryCondition). `docs/DECISIONS.md`, "Listeners, filters and WaitSets", says why it is a layer.
 
-ghost use Rattle.std.specs.Prelude.{◌≡◌, ◌<◌, ◌^◌, [], None, IfErr, IfOk, OnErr, length};
+ghost use Rattle.std.specs.Prelude.{◌≡◌, ◌<◌, [], None, IfErr, IfOk, OnErr, length};
 ghost use Rattle.dds_base.specs.Refusal.{Refuses};
 ghost use Rattle.dds_base.specs.Number.{at_number};
 ghost use Rattle.dds_conditions.specs.Filtered.{tests_of};
@@ -16,7 +16,7 @@ ghost use Rattle.dds_core.specs.FilteredSteps.{Adds, RefusesFilter, Steps};
 ghost use Rattle.dds_core.specs.Noticing.{AreMarksOf, MarksPeer, Tells};
 ghost use Rattle.dds_core.specs.Opening.{core_refusal, opening_peer};
 ghost use Rattle.dds_core.specs.Pairs.{IsPair};
-ghost use Rattle.dds_core.specs.Sending.{AreMessages, Sends};
+ghost use Rattle.dds_core.specs.Sending.{AreMessages, Sends, max_unsent};
 ghost use Rattle.dds_core.specs.Standing.{StandsFor as PeerStandsFor};
 ghost use Rattle.dds_core.specs.Stepping.{SoundStepsBy};
 ghost use Rattle.dds_core.specs.Twins.{Twins};
@@ -98,7 +98,7 @@ impl<F: Filter> FilteredPeer<F> {
         // What goes out is the written form of a message.
         ensures messages { AreMessages result.packets }
         // Few packets find no memory.
-        ensures few { result.unsent < 2 ^ 62 }
+        ensures few { result.unsent < max_unsent }
         // Where two replies are asked for, there is the reply once more.
         ensures twin { Twins twin.old result.reply twin.new }
     {

@@ -10,7 +10,7 @@ ghost use Rattle.dds_machine.specs.declared.endpoint.Endpoint.{Endpoint};
 ghost use Rattle.dds_machine.specs.Part.{ReaderProxy, Writer};
 ghost use Rattle.dds_protocol.specs.DueMessages.{AreSent};
 ghost use Rattle.dds_core.specs.declared.matching.ReaderName.{ReaderName as NameOf};
-ghost use Rattle.dds_core.specs.Beating.{IsValid, message_to, told_to, is_peer_behind, Beats};
+ghost use Rattle.dds_core.specs.Beating.{IsHeartbeatValid, message_to, told_to, is_peer_behind, Beats};
 ghost use Rattle.dds_core.specs.Sending.{AreMessages};
 ghost use Rattle.dds_core.specs.Standing.{state_of};
 
@@ -34,7 +34,7 @@ pub struct Beat {
 
 /// The HEARTBEAT, as a message to the peer of this prefix.
 fn message(alloc: Global, beat: &Beat, to: GuidPrefix) -> Result<Message<'static>, AllocError>
-    requires { IsValid beat.now.due }
+    requires { IsHeartbeatValid beat.now.due }
     ensures says { IfOk result (λ m. m ≡ message_to beat.now to) }
     ensures writable { IfOk result IsWritable }
     ensures some { IfOk result (λ m. 1 ≤ length m.submessages) }
@@ -88,7 +88,7 @@ pub fn send_beats(
     destinations: &[Destination],
     sent: &mut Announced,
 )
-    requires valid { IsValid beat.now.due }
+    requires valid { IsHeartbeatValid beat.now.due }
     requires count { reader_count writer.now ≡ length readers.now }
     requires few { length destinations.now ≤ 16 }
     requires room { sent.old.unsent ≤ 256 }
@@ -107,7 +107,7 @@ pub fn send_beats(
 
 /// Sends a HEARTBEAT to each of these peers.
 pub fn send_to_all(alloc: Global, beat: &Beat, destinations: &[Destination]) -> Announced
-    requires valid { IsValid beat.now.due }
+    requires valid { IsHeartbeatValid beat.now.due }
     requires few { length destinations.now ≤ 16 }
     ensures sent { AreSent (told_to beat.now destinations.now) result.packets.items result.unsent }
     ensures few { result.unsent ≤ 16 }

@@ -11,6 +11,3 @@ pub fn limit_of(max: i32) -> Option<u32>
 {
     if max < 0 { None } else { Some(max as u32) }
 }
-
-/// The greatest number of writers of a peer, and of its readers.
-pub const MAX_ENDS: usize = 16;

@@ -6,9 +6,9 @@
 ghost use Rattle.std.specs.Prelude.{◌≤◌, length};
 ghost use Rattle.dds_core.specs.Noticing.{MarksReaders, MarksWriters};
 
-use crate::limits::MAX_ENDS;
 use crate::reader_end::ReaderEnd;
 use crate::writer_end::WriterEnd;
+use dds_base::MAX_ENDS;
 
 /// Of a reader: how much had happened.
 #[derive(Clone, Copy)]

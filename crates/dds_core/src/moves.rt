@@ -5,7 +5,7 @@
 ghost use Rattle.std.specs.Prelude.{◌≡◌, ◌++◌, ◌∷◌, [], ◌+◌, ◌≤◌, true, length, OnErr, OnOk, vec_capacity, vec_len};
 ghost use Rattle.dds_machine.specs.declared.reply.Reply.TheVariants.{Reported};
 ghost use Rattle.dds_core.specs.Moved.{IsFew};
-ghost use Rattle.dds_core.specs.Twins.{Twins, is_asked};
+ghost use Rattle.dds_core.specs.Twins.{Twins, wants_two};
 
 use crate::twin::Twin;
 use dds_base::{PassedRun, Sequence};
@@ -223,7 +223,7 @@ impl Moves {
 
     /// The report of the moves, and once more where two are asked for. It takes no memory.
     pub fn into_report(self, refused: Option<u32>, twin: &mut Twin) -> Report
-        requires twice { is_asked twin.old ≡ true → self.twice ≡ true }
+        requires twice { wants_two twin.old ≡ true → self.twice ≡ true }
         ensures report { result ≡ record { moves = self.items; refused = refused } }
         ensures twin { Twins twin.old (Reported result) twin.new }
     {

@@ -2,20 +2,19 @@
 //!
 //! DDS 1.4, 2.2.2.4 and 2.2.2.5 (DataWriter, DataReader); RTPS 2.5, 8.4 (behaviour).
 
-ghost use Rattle.std.specs.Prelude.{◌≡◌, ◌<◌, ◌≤◌, ◌^◌};
+ghost use Rattle.std.specs.Prelude.{◌≡◌, ◌<◌, ◌≤◌};
 ghost use Rattle.dds_protocol.specs.declared.event.Event.TheVariants as event;
 ghost use Rattle.dds_core.specs.Stepping.{Steps, SoundStepsBy};
-ghost use Rattle.dds_core.specs.Sending.{Sends, AreMessages};
+ghost use Rattle.dds_core.specs.Sending.{Sends, AreMessages, max_unsent};
 ghost use Rattle.dds_core.specs.Twins.{IsPlain, Twins};
 
 use crate::expiring::{counts_deaths, expire_all};
 use crate::output::answered;
 use crate::reader_end::ReaderEnd;
-use crate::receiver::NO_MOMENT;
 use crate::sending::Announced;
 use crate::twin::Twin;
 use crate::writer_end::{WriterEnd, tick_all};
-use dds_base::{Code, GuidPrefix, Moment, Sequence};
+use dds_base::{Code, GuidPrefix, MOMENT_END, Moment, Sequence};
 use dds_conditions::{Filters, Watch};
 use dds_machine::Reply;
 use dds_protocol::{Event, Output};
@@ -67,7 +66,7 @@ impl Peer {
         // What goes out is the written form of a message.
         ensures messages { AreMessages result.packets }
         // Few packets find no memory.
-        ensures few { result.unsent < 2 ^ 62 }
+        ensures few { result.unsent < max_unsent }
         // Where two replies are asked for, there is the reply once more.
         ensures twin { Twins twin.old result.reply twin.new }
     {
@@ -88,7 +87,7 @@ impl Peer {
         ensures few { result.unsent ≤ 256 }
         ensures plain { IsPlain result.reply }
     {
-        if now.units() < self.moment.units() || NO_MOMENT <= now.units() {
+        if now.units() < self.moment.units() || MOMENT_END <= now.units() {
             return answered(self.alloc, Reply::Refused(Code::BadParameter));
         }
         if !counts_deaths(self.readers.as_slice(), now) {

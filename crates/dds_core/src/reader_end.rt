@@ -30,7 +30,7 @@ use crate::marks::ReaderMark;
 use crate::matching::{MatchedWriters, WriterName, matched_writers};
 use crate::receiver::{MessageReceiver, is_for};
 use crate::seen::{Seen, is_after};
-use crate::status_bits::{DATA_AVAILABLE, LIVELINESS_CHANGED, SAMPLE_LOST, bit_if};
+use crate::status_bits::bit_if;
 use crate::store::Store;
 use crate::twin::Twin;
 use bitflags::Flags;
@@ -659,8 +659,9 @@ impl ReaderEnd {
         let came = is_after(self.seen.entries_at_data, self.store.data_at());
         let turned = is_after(self.seen.entries_at_turn, self.store.turned());
         StatusMask::from_bits_retain(
-            bit_if(lost, SAMPLE_LOST)
-                + (bit_if(came, DATA_AVAILABLE) + bit_if(turned, LIVELINESS_CHANGED)),
+            bit_if(lost, StatusMask::SAMPLE_LOST)
+                + (bit_if(came, StatusMask::DATA_AVAILABLE)
+                    + bit_if(turned, StatusMask::LIVELINESS_CHANGED)),
         )
     }
 

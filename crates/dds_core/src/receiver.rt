@@ -6,11 +6,8 @@ ghost use Rattle.std.specs.Prelude.{◌≡◌};
 ghost use Rattle.dds_protocol.specs.Claims.{receiver_of, is_for, stamp_of, after_submessage};
 ghost use Rattle.dds_core.specs.Readiness.{receiver_at};
 
-use dds_base::{GuidPrefix, Moment};
+use dds_base::{GuidPrefix, MOMENT_END, Moment};
 use rtps_wire::Submessage;
-
-/// From here on, in units of 2^-32 second, there is no moment of a peer.
-pub const NO_MOMENT: u64 = 1 << 63;
 
 /// What a receiver knows of what follows in a message.
 ///
@@ -48,7 +45,7 @@ fn moment_of(stamp: Option<u64>) -> Moment
     ensures { result ≡ stamp_of stamp }
 {
     match stamp {
-        Some(units) if units < NO_MOMENT => Moment::new(units),
+        Some(units) if units < MOMENT_END => Moment::new(units),
         _ => Moment::new(0),
     }
 }

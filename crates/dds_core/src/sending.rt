@@ -9,7 +9,7 @@ ghost use Rattle.rtps_wire.specs.declared.message.Message.{Message as MessageOf}
 ghost use Rattle.rtps_wire.specs.Messages.{IsWritable};
 ghost use Rattle.rtps_wire.specs.declared.submessage.Submessage.TheVariants.{InfoDst};
 ghost use Rattle.dds_core.specs.Beating.{AddsTo, due_to};
-ghost use Rattle.dds_core.specs.Sending.{AreMessages};
+ghost use Rattle.dds_core.specs.Sending.{AreMessages, max_unsent};
 ghost use Rattle.dds_core.specs.Announcing.{Announces, AreAnnouncements, AddsPacket, IsAddressable};
 
 use crate::matching::Destination;
@@ -101,7 +101,7 @@ pub fn push_packet(alloc: Global, packets: &mut Vec<Packet>, message: &Message, 
 pub fn send(alloc: Global, sent: &mut Announced, message: Result<Message<'_>, AllocError>, to: u8)
     requires writable { ForOk message IsWritable }
     requires some { ForOk message (λ m. 1 ≤ length m.submessages) }
-    requires room { sent.old.unsent < 2 ^ 62 }
+    requires room { sent.old.unsent < max_unsent }
     ensures few { sent.new.unsent ≤ sent.old.unsent + 1 }
     ensures adds { (m : MessageOf) → IfOk message.entry (λ x. x ≡ m)
         → AddsTo (due_to to m ∷ []) sent.old sent.new }

@@ -5,22 +5,13 @@
 ghost use Rattle.std.specs.Prelude.{◌≡◌, ◌≤◌};
 ghost use Rattle.dds_machine.specs.Watching.{bit_if};
 
-/// SAMPLE_LOST_STATUS, of a reader.
-pub const SAMPLE_LOST: u32 = 128;
+use bitflags::Flags;
+use dds_notices::StatusMask;
 
-/// DATA_AVAILABLE_STATUS, of a reader.
-pub const DATA_AVAILABLE: u32 = 1024;
-
-/// LIVELINESS_LOST_STATUS, of a writer.
-pub const LIVELINESS_LOST: u32 = 2048;
-
-/// LIVELINESS_CHANGED_STATUS, of a reader.
-pub const LIVELINESS_CHANGED: u32 = 4096;
-
-/// The bit, where the status is flagged.
-pub fn bit_if(is_flagged: bool, bit: u32) -> u32
-    ensures is { result ≡ bit_if is_flagged bit }
-    ensures small { result ≤ bit }
+/// The bit of a status, where it is flagged.
+pub fn bit_if(is_flagged: bool, status: StatusMask) -> u32
+    ensures is { result ≡ bit_if is_flagged status.0 }
+    ensures small { result ≤ status.0 }
 {
-    if is_flagged { bit } else { 0 }
+    if is_flagged { status.bits() } else { 0 }
 }

@@ -3,8 +3,9 @@
 //! Outputs that are given twice are this project's own. `docs/DECISIONS.md`, "Peers and the network", says why none is
 //! copied after.
 
-ghost use Rattle.std.specs.Prelude.{◌≡◌, ◌+◌, ◌<◌, ◌^◌, ◌∷◌, ◌++◌, [], if◌then◌else◌, length};
-ghost use Rattle.dds_core.specs.Twins.{IsPlain, IsTwin, Leaves, Loses, is_asked};
+ghost use Rattle.std.specs.Prelude.{◌≡◌, ◌+◌, ◌<◌, ◌∷◌, ◌++◌, [], if◌then◌else◌, length};
+ghost use Rattle.dds_core.specs.Sending.{max_unsent};
+ghost use Rattle.dds_core.specs.Twins.{IsPlain, IsTwin, Leaves, LosesPackets, wants_two};
 
 use crate::output::unmoved;
 use dds_base::Sequence;
@@ -49,7 +50,7 @@ fn plain_again(alloc: Global, reply: &Reply) -> Reply
 impl Twin {
     /// Whether two replies are asked for.
     pub fn is_asked(&self) -> bool
-        ensures { result ≡ is_asked self.now }
+        ensures { result ≡ wants_two self.now }
     {
         matches!(self, Twin::Asked)
     }
@@ -116,8 +117,8 @@ fn twice(alloc: Global, packets: Vec<Packet>) -> PacketsTwice
 /// An output twice, with the reply once more: packets that find no memory are in neither, and counted as unsent.
 pub fn pair_of(alloc: Global, output: Output, twin: Twin) -> (Output, Output)
     requires twin { IsTwin twin output.reply }
-    requires few { output.unsent < 2 ^ 62 }
-    ensures loses { Loses output result.0 }
+    requires few { output.unsent < max_unsent }
+    ensures loses { LosesPackets output result.0 }
     ensures equal { result.0 ≡ result.1 }
 {
     let Output {

@@ -31,7 +31,7 @@ use crate::limits::limit_of;
 use crate::matching::{Destination, ReaderName, destinations, reliable_readers};
 use crate::receiver::MessageReceiver;
 use crate::sending::{Announced, Sender, announce};
-use crate::status_bits::{LIVELINESS_LOST, bit_if};
+use crate::status_bits::bit_if;
 use bitflags::Flags;
 use dds_base::{
     Change, ChangeKind, Code, EntityId, GuidPrefix, Key, LivelinessLostStatus, Moment, PeerConfig,
@@ -230,7 +230,7 @@ impl WriterEnd {
         ensures { (w : Writer) (answered : EndpointOf → Option ℤ) → WriterStands self.now w answered
             → result ≡ writer_statuses w }
     {
-        StatusMask::from_bits_retain(bit_if(self.writer.is_lost(), LIVELINESS_LOST))
+        StatusMask::from_bits_retain(bit_if(self.writer.is_lost(), StatusMask::LIVELINESS_LOST))
     }
 
     /// Registers an instance.

@@ -1,9 +1,10 @@
 -- What a history is: the lists of changes and acknowledgements of a writer that it stands for.
 --
 -- DDS 1.4, 2.2.3 (HISTORY, RESOURCE_LIMITS); RTPS 2.5, 8.2 (HistoryCache).
-use Rattle.std.specs.Prelude.{◌≡◌, ◌≤◌, ℕ, ◌^◌, List, length, Option}
+use Rattle.std.specs.Prelude.{◌≡◌, ◌≤◌, ℕ, List, length, Option}
 use Rattle.dds_base.specs.declared.key.Key.{Key}
 use Rattle.dds_base.specs.declared.qos.HistoryQos.{HistoryQos}
+use Rattle.dds_base.specs.Bounds.{max_changes}
 use Rattle.dds_base.specs.Kept.{WriterHistory}
 use Rattle.dds_history.specs.declared.held.Entry.{Entry}
 use Rattle.dds_history.specs.declared.held.KeyCount.{KeyCount}
@@ -32,7 +33,7 @@ pub record StandsFor (held : Held) (w : WriterHistory) : Type 0 where
   pub policy : held.policy ≡ w.policy
   pub max_samples : held.max_samples ≡ w.max_samples
   pub last : held.last ≡ length w.changes
-  pub few : held.last ≤ 2 ^ 48
+  pub few : held.last ≤ max_changes
   pub acknowledged : held.acknowledged ≡ w.acknowledged
   pub shown : shown (kept_in held) ≡ held_of w
   pub holds : Holds held.last (kept_in held)

@@ -24,7 +24,7 @@ use Rattle.dds_base.proofs.LifeLaws.{ends-marked, ends-registered, ends-took, en
 use Rattle.dds_instances.specs.declared.track.InstanceTrack.{InstanceTrack}
 use Rattle.dds_owner.specs.Standing.{KeptStrengths, StandsFor, TellsStrengths, has_writers}
 use Rattle.dds_owner.proofs.RegistrationLaws.{nobody-kept}
-use Rattle.dds_instances.specs.Track.{Tracks, Advances, is_beginning, lives_on, seen_in, state_of_track}
+use Rattle.dds_instances.specs.Track.{Tracks, TracksEntry, is_beginning, lives_on, seen_in, state_of_track}
 use Rattle.dds_instances.specs.Table.{Table, Stands, is_any_left}
 use Rattle.dds_instances.specs.Following.{key_of, Follows, HeldRight, IsLawful, Reaches}
 use Rattle.dds_instances.specs.Known.{IsReturnable}
@@ -165,7 +165,7 @@ lawful-took q h ss all lawful =
 
 -- a track that takes a death up
 pub record Buries (n w : ℕ) (old new : InstanceTrack) : Type 0 where
-  pub advances : Advances None n old new
+  pub advances : TracksEntry None n old new
   pub died : (q : ReaderQos) (i : Key) (h : List Happening) (moment : ℕ) → StandsFor old.owners q i h
       → StandsFor new.owners q i (Died w moment ∷ h)
   pub fewer : has_writers new.owners ≡ true → has_writers old.owners ≡ true

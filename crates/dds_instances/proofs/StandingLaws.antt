@@ -27,7 +27,7 @@ use Rattle.dds_base.proofs.LifeLaws.{accepted-other, quiet-goes-on, registered-o
 use Rattle.dds_instances.specs.declared.track.InstanceTrack.{InstanceTrack}
 use Rattle.dds_instances.specs.declared.known.KnownInstance.{KnownInstance}
 use Rattle.dds_owner.specs.Standing.{Kept, KeptStrengths, StandsFor, TellsStrengths}
-use Rattle.dds_instances.specs.Track.{Tracks, Advances, Fits, fresh, is_other, one_if, state_of_track}
+use Rattle.dds_instances.specs.Track.{Tracks, TracksEntry, Fits, fresh, is_other, one_if, state_of_track}
 use Rattle.dds_instances.specs.Table.{Table, Stands}
 use Rattle.dds_instances.specs.Following.{key_of, Follows, IsLawful, IsPlaceOf, Reaches, track_with}
 use Rattle.dds_instances.specs.Known.{IsKnown}
@@ -41,8 +41,8 @@ earlier-more : (n : ℕ) (m : Option ℕ) → IfSome m (λ k. k < n) → IfSome 
 earlier-more n None below = below
 earlier-more n (Some k) below = omega (arith, below)
 
-pub fits-advanced : (kind : Option ChangeKind) (n : ℕ) (old new : InstanceTrack) → Fits n old → Advances kind n old new
-    → Fits (n + 1) new
+pub fits-advanced : (kind : Option ChangeKind) (n : ℕ) (old new : InstanceTrack) → Fits n old
+    → TracksEntry kind n old new → Fits (n + 1) new
 fits-advanced kind n old new fits step =
     let one : one_if (is_write kind) ≤ 1 = one_if-bound (is_write kind) in
     let two : one_if (is_write kind && is_disposed (state_of_track old)) + one_if
@@ -195,7 +195,7 @@ follows-whole q h e ts reaches known =
 -- a track takes up a change of its instance, of this accepted kind
 pub record Changes (q : ReaderQos) (kept : KeptStrengths) (a : Arrival) (kind : Option ChangeKind) (n : ℕ)
     (old new : InstanceTrack) : Type 0 where
-  pub advances : Advances kind n old new
+  pub advances : TracksEntry kind n old new
   pub accepted : (h : List Happening) → StandsFor old.owners q a.change.key h → TellsStrengths kept q h
       → kind ≡ accepted_kind q a.change.key h (Came a)
   pub came : (h : List Happening) → StandsFor old.owners q a.change.key h
@@ -208,7 +208,8 @@ tracks-changed : (q : ReaderQos) (kept : KeptStrengths) (h : List Happening) (a 
     → is_known q (Came a ∷ h) a.change.key ≡ true → Tracks q a.change.key (Came a ∷ h) x
 tracks-changed q kept h a kind n t x len step tells lawful hands before known =
     let i : Key = a.change.key in
-    let advances : Advances kind (length h + 1) t x = subst (λ (m : ℕ). Advances kind m t x) (sym len) step.advances in
+    let advances : TracksEntry kind (length h + 1) t x =
+    subst (λ (m : ℕ). TracksEntry kind m t x) (sym len) step.advances in
     tracks-next q i h (Came a) kind t x (step.accepted h before.owners_are tells) (step.came h before.owners_are)
     (λ j. refl) (lawful.past i (length h + 1) (omega arith)) hands before advances known
 

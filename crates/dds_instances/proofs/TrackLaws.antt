@@ -24,7 +24,7 @@ use Rattle.dds_instances.specs.declared.track.InstanceTrack.{InstanceTrack}
 use Rattle.dds_owner.specs.Standing.{StandsFor, has_writers}
 use Rattle.dds_owner.proofs.RegistrationLaws.{nobody-kept, other-stands}
 use Rattle.dds_instances.specs.Known.{writes_in_life}
-use Rattle.dds_instances.specs.Track.{Tracks, Advances, held_as, is_beginning, one_if, seen_in, state_of_track}
+use Rattle.dds_instances.specs.Track.{Tracks, TracksEntry, held_as, is_beginning, one_if, seen_in, state_of_track}
 use Rattle.dds_instances.proofs.LivesLaws.{begins, disposed-on, handle-new, handle-on, last-on, marker-on, no_writers-on, on-known, rebirth-on, writes-on}
 
 -- the state of a track is that of its instance
@@ -106,7 +106,7 @@ HandsOut q i h e handle = is_known q h i ≡ false → introduces q i h e ≡ tr
 pub tracks-next : (q : ReaderQos) (i : Key) (h : List Happening) (e : Happening) (kind : Option ChangeKind)
     (old new : InstanceTrack) → kind ≡ accepted_kind q i h e → StandsFor new.owners q i (e ∷ h)
     → ((j : ℕ) → accesses i j e ≡ false) → list_any (accesses i (length h + 1)) h ≡ false → HandsOut q i h e old.handle
-    → Tracks q i h old → Advances kind (length h + 1) old new → is_known q (e ∷ h) i ≡ true → Tracks q i (e ∷ h) new
+    → Tracks q i h old → TracksEntry kind (length h + 1) old new → is_known q (e ∷ h) i ≡ true → Tracks q i (e ∷ h) new
 tracks-next q i h e kind old new kind_is owners quiet past hands tracks step known =
     let on : ends_life q i h e ≡ false = on-known q i h e known in
     let before : state_of_track old ≡ instance_state_of q i h = state-tracked q i h old tracks in

@@ -50,7 +50,7 @@ abbrev pub marked_of : Table → ℕ
 marked_of table = count_by (λ (t : InstanceTrack). is_at t.last_marker table.happened) table.tracks
 
 -- how an entry more is taken up, or refused
-pub record TakesEntry (old new : Table) (answer : Result (Unit {0}) Code) : Type 0 where
+pub record TakesUpEntry (old new : Table) (answer : Result (Unit {0}) Code) : Type 0 where
   -- where there is room it is taken up
   pub reserved : 1 ≤ room_of old → IsOk answer
   -- it takes the room of one entry at most

@@ -97,7 +97,7 @@ pub record Counts (before : Option InstanceState) (kind : Option ChangeKind) (n 
   pub writes : new.accepted_writes ≡ old.accepted_writes + one_if (is_write kind)
 
 -- a track takes up the entry of position n, of this accepted kind, whoever is registered after it
-pub record Advances (kind : Option ChangeKind) (n : ℕ) (old new : InstanceTrack) : Type 0 where
+pub record TracksEntry (kind : Option ChangeKind) (n : ℕ) (old new : InstanceTrack) : Type 0 where
   pub key : new.key ≡ old.key
   pub handle : new.handle ≡ old.handle
   pub accepts : new.last_accepted ≡ or_else kind old.last_accepted

@@ -86,7 +86,7 @@ impl Instances {
     ghost use Rattle.dds_instances.specs.Known.{IsKnown, IsReturnable};
     ghost use Rattle.dds_base.specs.Access.{handle_of, instance_of};
     ghost use Rattle.dds_base.specs.Instance.{instance_state_of, view_state_of, disposed_generations, no_writers_generations, is_known, known_instances};
-    ghost use Rattle.dds_instances.specs.Table.{HoldsLeft, HoldsPresent, Stands, TakesEntry, alive_of, happened_of, has_marked, is_any_left, is_held, marked_of, room_of};
+    ghost use Rattle.dds_instances.specs.Table.{HoldsLeft, HoldsPresent, Stands, TakesUpEntry, alive_of, happened_of, has_marked, is_any_left, is_held, marked_of, room_of};
 
     /// Of a reader at which nothing has happened.
     pub fn open(alloc: Global, qos: &ReaderQos) -> Self
@@ -192,7 +192,7 @@ impl Instances {
         ensures alive { alive_of self.new ≤ alive_of self.old + 1 }
         // It is an entry as each is: where there is room it is taken up, it takes the room of one at most, and it is
         // refused for want of memory alone, and then changes nothing.
-        ensures entry { TakesEntry self.old self.new result }
+        ensures entry { TakesUpEntry self.old self.new result }
     {
         self.reserve(1)?;
         self.change(qos, arrival, is_end);
@@ -254,7 +254,7 @@ impl Instances {
         ensures counted { happened_of self.old + 1 < 2 ^ 64 → IsOk result }
         // It is an entry as each is: where there is room it is taken up, it takes the room of one at most, and it is
         // refused for want of memory alone, and then changes nothing.
-        ensures entry { TakesEntry self.old self.new result }
+        ensures entry { TakesUpEntry self.old self.new result }
     {
         let room = room_after(self.happened, self.room)?;
         let position = self.happened + 1;
@@ -288,7 +288,7 @@ impl Instances {
         ensures alive { alive_of self.new ≡ alive_of self.old }
         // It is an entry as each is: where there is room it is taken up, it takes the room of one at most, and it is
         // refused for want of memory alone, and then changes nothing.
-        ensures entry { TakesEntry self.old self.new result }
+        ensures entry { TakesUpEntry self.old self.new result }
     {
         self.room = room_after(self.happened, self.room)?;
         self.happened += 1;
@@ -314,7 +314,7 @@ impl Instances {
         ensures counted { happened_of self.old + 1 < 2 ^ 64 → IsOk result }
         // It is an entry as each is: where there is room it is taken up, it takes the room of one at most, and it is
         // refused for want of memory alone, and then changes nothing.
-        ensures entry { TakesEntry self.old self.new result }
+        ensures entry { TakesUpEntry self.old self.new result }
     {
         self.room = room_after(self.happened, self.room)?;
         self.happened += 1;
@@ -353,7 +353,7 @@ impl Instances {
         ensures counted { happened_of self.old + 1 < 2 ^ 64 → IsOk result }
         // It is an entry as each is: where there is room it is taken up, it takes the room of one at most, and it is
         // refused for want of memory alone, and then changes nothing.
-        ensures entry { TakesEntry self.old self.new result }
+        ensures entry { TakesUpEntry self.old self.new result }
     {
         self.room = room_after(self.happened, self.room)?;
         self.happened += 1;

@@ -12,7 +12,7 @@ ghost use Rattle.dds_base.specs.Life.{or_else, state_after, is_write, becomes_no
 ghost use Rattle.dds_base.specs.Ownership.{accepted_kind};
 ghost use Rattle.dds_base.specs.Presence.{marks};
 ghost use Rattle.dds_owner.specs.Standing.{Kept, StandsFor, TellsStrengths, has_writers};
-ghost use Rattle.dds_instances.specs.Track.{state_of_track, one_if, fresh, seen_at, is_born_dead, is_left_at_first, Counts, Advances, Fits, Tracks};
+ghost use Rattle.dds_instances.specs.Track.{state_of_track, one_if, fresh, seen_at, is_born_dead, is_left_at_first, Counts, TracksEntry, Fits, Tracks};
 
 use dds_base::{Arrival, ChangeKind, Handle, InstanceState, Key, ReaderQos};
 use dds_owner::{Owners, Strengths};
@@ -223,7 +223,7 @@ impl InstanceTrack {
         position: u64,
     ) -> Option<ChangeKind>
         requires fits { Fits position self.old }
-        ensures advances { Advances result position self.old self.new }
+        ensures advances { TracksEntry result position self.old self.new }
         ensures accepted { (h : List Happening)
             → StandsFor self.old.owners qos.now arrival.now.change.key h
             → TellsStrengths strengths.now qos.now h
@@ -242,7 +242,7 @@ impl InstanceTrack {
     /// Takes up the death of a writer, the entry of this position.
     pub fn bury(&mut self, writer: Handle, position: u64)
         requires fits { Fits position self.old }
-        ensures advances { Advances None position self.old self.new }
+        ensures advances { TracksEntry None position self.old self.new }
         ensures died { (q : ReaderQos) (i : Key) (h : List Happening) (moment : ℕ)
             → StandsFor self.old.owners q i h
             → StandsFor self.new.owners q i (Died writer moment ∷ h) }

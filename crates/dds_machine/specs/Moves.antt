@@ -5,7 +5,7 @@ use Rattle.std.specs.Prelude.{◌≡◌, ℕ, ◌<◌, List, [], ◌∷◌, Opti
 use Rattle.dds_base.specs.declared.change.Change.{Change}
 use Rattle.dds_base.specs.declared.happening.Happening.TheVariants.{Heard as WasHeard}
 use Rattle.dds_base.specs.declared.happening.PassedRun.{PassedRun}
-use Rattle.dds_base.specs.Places.{WriterGrounds, Match, Position, GoesTo}
+use Rattle.dds_base.specs.Places.{WriterGrounds, Match, PlaceWith, GoesTo}
 use Rattle.dds_machine.specs.declared.endpoint.Endpoint.{Endpoint}
 use Rattle.dds_machine.specs.declared.reply.Move.{Move}
 use Rattle.dds_machine.specs.declared.reply.Move.TheVariants.{Place, Acknowledged, Heard}
@@ -40,7 +40,7 @@ pub record IsMatchedAt (part : Part) (writer : Endpoint) (reader publication pla
   pub at : place_of (own_proxies part reader) writer ≡ Some place
 
 -- the peer's reader of this number, at this place in a writer's list, with what happened there so far
-abbrev pub position_at : Part → ℕ → ℕ → Position
+abbrev pub position_at : Part → ℕ → ℕ → PlaceWith
 position_at part reader place = record { place = place; happened = (own_reader part reader).happened }
 
 -- the place of the peer's reader in the list of a matched writer goes on
@@ -50,7 +50,7 @@ pub record Places (grounds : Grounds) (old : Part) (writer : Endpoint) (reader t
   pub place : ℕ
   pub matched : IsMatchedAt old writer reader publication place
   pub forward : place < to
-  pub end : Position
+  pub end : PlaceWith
   pub goes : GoesTo (as_to grounds writer reader) (match_of old reader publication)
       (position_at old reader place) passed to end
   pub after : new ≡ at_reader old reader (with_place (own_proxies old reader) writer to) end.happened

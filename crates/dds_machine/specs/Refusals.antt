@@ -4,7 +4,7 @@
 -- DDS 1.4, 2.2.2.4 (register_instance, write, dispose, unregister_instance, assert_liveliness,
 -- get_liveliness_lost_status), 2.2.3 (OWNERSHIP_STRENGTH), 2.2.2.5 (the forms of read and take, get_key_value, get_sample_lost_status,
 -- get_liveliness_changed_status), 2.2.1.1 (return codes).
-use Rattle.std.specs.Prelude.{ℕ, ◌-◌, ◌^◌, ◌||◌, not, Bool, List, [], length, Option, Some, None, is_some, nat_le, nat_lt, ℤ, if◌then◌else◌}
+use Rattle.std.specs.Prelude.{ℕ, ◌||◌, not, Bool, List, [], length, Option, Some, None, is_some, nat_le, nat_lt, ℤ, if◌then◌else◌}
 use Rattle.dds_base.specs.declared.key.Key.{Key}
 use Rattle.dds_base.specs.declared.change.Change.{Change}
 use Rattle.dds_base.specs.declared.change.ChangeKind.{ChangeKind}
@@ -12,6 +12,7 @@ use Rattle.dds_base.specs.declared.change.ChangeKind.TheVariants as kind
 use Rattle.dds_base.specs.declared.code.Code.{Code}
 use Rattle.dds_base.specs.declared.code.Code.TheVariants.{BadParameter, OutOfResources, PreconditionNotMet}
 use Rattle.dds_base.specs.declared.selection.Selection.{Selection}
+use Rattle.dds_base.specs.Bounds.{max_count, max_value}
 use Rattle.dds_base.specs.Access.{instance_of}
 use Rattle.dds_base.specs.Kept.{append_refusal}
 use Rattle.dds_base.specs.Selection.{selection_refusal}
@@ -48,7 +49,7 @@ writer_refusal part writer = if not (has_element part.rtps.writers writer) then 
 -- why a write is refused: no such writer, a value above 1,024 octets, or as its history says
 abbrev pub write_refusal : Part → ℕ → Key → List ℕ → Option Code
 write_refusal part writer key value =
-    if not (has_element part.rtps.writers writer) || nat_lt 1024 (length value) then Some BadParameter
+    if not (has_element part.rtps.writers writer) || nat_lt max_value (length value) then Some BadParameter
     else change_refusal part writer (change_made part writer kind.Write key value)
 
 -- why a dispose is refused: no such writer, or as its history says
@@ -69,7 +70,7 @@ unregister_refusal part writer key =
 abbrev pub assert_refusal : Part → ℕ → Option Code
 assert_refusal part writer =
     if not (has_element part.rtps.writers writer) then Some BadParameter
-    else (if nat_le (2 ^ 31 - 1) (heartbeats_used (own_writer part writer)) then Some OutOfResources else None)
+    else (if nat_le max_count (heartbeats_used (own_writer part writer)) then Some OutOfResources else None)
 
 -- why a strength is not set: no such writer, or one of shared ownership
 abbrev pub strength_refusal : Part → ℕ → Option Code

@@ -6,6 +6,7 @@ use Rattle.std.specs.Prelude.{◌≡◌, ℕ, ◌+◌, ◌-◌, ◌^◌, ◌||�
 use Rattle.std.specs.List.{list_any}
 use Rattle.dds_base.specs.declared.code.Code.{Code}
 use Rattle.dds_base.specs.declared.code.Code.TheVariants.{BadParameter, Memory}
+use Rattle.dds_base.specs.Bounds.{end_of_moments}
 use Rattle.dds_base.specs.Liveliness.{after_deaths, dead_at}
 use Rattle.dds_base.specs.Refusal.{Refuses}
 use Rattle.dds_base.specs.Written.{Ticked}
@@ -16,7 +17,7 @@ use Rattle.dds_machine.specs.Calls.{with_written}
 
 -- why a moment is refused: it lies before the peer's, or is none, from 2^63 on
 abbrev pub tick_refusal : Part → ℕ → Option Code
-tick_refusal part now = if nat_lt now part.dds.moment || nat_le (2 ^ 63) now then Some BadParameter else None
+tick_refusal part now = if nat_lt now part.dds.moment || nat_le end_of_moments now then Some BadParameter else None
 
 -- a writer, after its peer's time went on to this moment
 abbrev pub ticked : ℕ → Writer → Writer

@@ -10,7 +10,7 @@ use Rattle.dds_base.specs.declared.qos.HistoryQos.{HistoryQos}
 use Rattle.dds_base.specs.declared.qos.HistoryQos.TheVariants.{KeepAll, KeepLast}
 use Rattle.dds_base.specs.Kept.{change_at, is_dropped_by, later_changes}
 use Rattle.dds_base.specs.declared.qos.ReaderQos.{ReaderQos}
-use Rattle.dds_base.specs.Places.{WriterGrounds, Match, Position, AllCome, GoesTo, MayPassOver}
+use Rattle.dds_base.specs.Places.{WriterGrounds, Match, PlaceWith, AllCome, GoesTo, MayPassOver}
 use Rattle.dds_machine.specs.declared.endpoint.Endpoint.{Endpoint}
 use Rattle.dds_machine.specs.declared.event.WorldEvent.{WorldEvent}
 use Rattle.dds_machine.specs.declared.event.WorldEvent.TheVariants as world
@@ -63,16 +63,16 @@ passes_within g last s qos n (inr h) =
     omega (arith, before, there)
 
 come_within : (g : WriterGrounds) (last : ℕ) → SpeakTo g last
-    → (match : Match) (old : Position) (changes : List Change) (new : Position)
+    → (match : Match) (old : PlaceWith) (changes : List Change) (new : PlaceWith)
     → AllCome g match old changes new → old.place ≤ last + 1 → new.place ≤ last + 1
-come_within g last s match old [] new h low = let e = ap (λ (p : Position). p.place) h in omega (arith, e, low)
+come_within g last s match old [] new h low = let e = ap (λ (p : PlaceWith). p.place) h in omega (arith, e, low)
 come_within g last s match old (c ∷ cs) new h low =
-    let next = ap (λ (p : Position). p.place) h.1.after in
+    let next = ap (λ (p : PlaceWith). p.place) h.1.after in
     let here = s.change old.place c h.1.is_change in
     come_within g last s match h.0 cs new h.2 (omega (arith, next, here))
 
 goes_within : (g : WriterGrounds) (last : ℕ) → SpeakTo g last
-    → (match : Match) (old : Position) (runs : List PassedRun) (to : ℕ) (new : Position)
+    → (match : Match) (old : PlaceWith) (runs : List PassedRun) (to : ℕ) (new : PlaceWith)
     → GoesTo g match old runs to new → old.place ≤ last + 1 → to ≤ last + 1
 goes_within g last s match old [] to new h low =
     let rest = come_within g last s match old h.0 new h.1 low in
@@ -82,7 +82,7 @@ goes_within g last s match old (run ∷ runs) to new h low =
     let ordered = h.3.ordered in
     let passed =
     passes_within g last s match.qos run.last (h.3.may_pass run.last (omega (arith, ordered)) (omega arith)) in
-    let next = ap (λ (p : Position). p.place) h.3.after in
+    let next = ap (λ (p : PlaceWith). p.place) h.3.after in
     goes_within g last s match h.1 runs to new h.5 (omega (arith, next, passed))
 
 speaks_to : (m : Machine) (i : ℕ) (w : Endpoint) (r : ℕ)

@@ -9,7 +9,7 @@ use Rattle.dds_machine.specs.declared.endpoint.Endpoint.{Endpoint}
 use Rattle.dds_base.specs.declared.happening.PassedRun.{PassedRun}
 use Rattle.dds_base.specs.declared.qos.ReaderQos.{ReaderQos}
 use Rattle.dds_base.specs.Matched.{is_reliable}
-use Rattle.dds_base.specs.Places.{WriterGrounds, Match, Position, coming, AllCome, GoesTo, MayPassOver}
+use Rattle.dds_base.specs.Places.{WriterGrounds, Match, PlaceWith, coming, AllCome, GoesTo, MayPassOver}
 use Rattle.dds_machine.specs.Part.{same_endpoint, WriterProxy, row_of, with_row, place_of, publication_from, publication_among}
 use Rattle.dds_protocol.specs.InOrder.{came_from}
 use Rattle.dds_machine.proofs.Tables.{same_is}
@@ -90,12 +90,12 @@ publication_there n place (p ∷ ps) w h =
 -- changes that come
 
 -- what came from a writer are the first ones of these changes, as many as lie before the place
-pub record Along (changes : List Change) (publication : ℕ) (at : Position) : Type 0 where
+pub record Along (changes : List Change) (publication : ℕ) (at : PlaceWith) : Type 0 where
   pub rest : List Change
   pub first : changes ≡ came_from publication at.happened ++ rest
   pub count : length (came_from publication at.happened) + 1 ≡ at.place
 
-pub along_as : (changes : List Change) (p q : ℕ) (at to : Position) → Along changes p at
+pub along_as : (changes : List Change) (p q : ℕ) (at to : PlaceWith) → Along changes p at
     → came_from q to.happened ≡ came_from p at.happened → to.place ≡ at.place → Along changes q to
 along_as changes p q at to a came place =
     let count = a.count in
@@ -127,7 +127,8 @@ next_is false xs rest n c e is h = cc
 came_here : (p : ℕ) (c : Change) (xs : List Change) → (if p == p then xs ++ c ∷ [] else xs) ≡ xs ++ c ∷ []
 came_here p c xs = ap (λ (b : Bool). if b then xs ++ c ∷ [] else xs) (eq-eqb p p refl)
 
-along_next : (changes : List Change) (match : Match) (old : Position) (c : Change) → Along changes match.publication old
+along_next : (changes : List Change) (match : Match) (old : PlaceWith) (c : Change)
+    → Along changes match.publication old
     → change_at changes old.place ≡ Some c
     → Along changes match.publication (record { place = old.place + 1; happened = coming match old c ∷ old.happened })
 along_next changes match old c a is =
@@ -152,13 +153,13 @@ abbrev pub RestsOn : List Change → WriterGrounds → Type 0
 RestsOn changes g =
     ((n : ℕ) (c : Change) → g.is_change n c → change_at changes n ≡ Some c) × ((n : ℕ) → g.may_pass n → ⊥)
 
-pub all_along : (changes : List Change) (g : WriterGrounds) (match : Match) (old : Position) (cs : List Change)
-    (new : Position) → RestsOn changes g → AllCome g match old cs new
+pub all_along : (changes : List Change) (g : WriterGrounds) (match : Match) (old : PlaceWith) (cs : List Change)
+    (new : PlaceWith) → RestsOn changes g → AllCome g match old cs new
     → Along changes match.publication old → Along changes match.publication new
-all_along changes g match old [] new f h a = subst (λ (x : Position). Along changes match.publication x) (sym h) a
+all_along changes g match old [] new f h a = subst (λ (x : PlaceWith). Along changes match.publication x) (sym h) a
 all_along changes g match old (c ∷ cs) new f h a =
     all_along changes g match h.0 cs new f h.2
-    (subst (λ (x : Position). Along changes match.publication x) (sym h.1.after)
+    (subst (λ (x : PlaceWith). Along changes match.publication x) (sym h.1.after)
     (along_next changes match old c a (f.0 old.place c h.1.is_change)))
 
 -- a reliable reader passes over nothing where nothing was dropped
@@ -167,8 +168,8 @@ pub passes_none : (g : WriterGrounds) (qos : ReaderQos) (n : ℕ) → is_reliabl
 passes_none g qos n reliable none (inl h) = none n h
 passes_none g qos n reliable none (inr h) = let other = h.0 in cc
 
-pub goes_along : (changes : List Change) (g : WriterGrounds) (match : Match) (old : Position) (passed : List PassedRun)
-    (to : ℕ) (new : Position) → RestsOn changes g → is_reliable match.qos.reliability ≡ true
+pub goes_along : (changes : List Change) (g : WriterGrounds) (match : Match) (old : PlaceWith) (passed : List PassedRun)
+    (to : ℕ) (new : PlaceWith) → RestsOn changes g → is_reliable match.qos.reliability ≡ true
     → GoesTo g match old passed to new → Along changes match.publication old
     → Along changes match.publication new × (new.place ≡ to)
 goes_along changes g match old [] to new f reliable h a = (all_along changes g match old h.0 new f h.1 a, h.2)
@@ -184,22 +185,22 @@ other_come : (p q : ℕ) (c : Change) (xs : List Change) (b : Bool) → (q == p)
 other_come p q c xs true e h = absurd (h (eqb-true q p e))
 other_come p q c xs false e h = refl
 
-others_come : (p : ℕ) (g : WriterGrounds) (match : Match) (old : Position) (cs : List Change) (new : Position)
+others_come : (p : ℕ) (g : WriterGrounds) (match : Match) (old : PlaceWith) (cs : List Change) (new : PlaceWith)
     → (match.publication ≡ p → ⊥) → AllCome g match old cs new
     → came_from p new.happened ≡ came_from p old.happened
-others_come p g match old [] new f h = ap (λ (x : Position). came_from p x.happened) h
+others_come p g match old [] new f h = ap (λ (x : PlaceWith). came_from p x.happened) h
 others_come p g match old (c ∷ cs) new f h =
     others_come p g match h.0 cs new f h.2
-    ∙ (ap (λ (x : Position). came_from p x.happened) h.1.after
+    ∙ (ap (λ (x : PlaceWith). came_from p x.happened) h.1.after
     ∙ other_come p match.publication c (came_from p old.happened) (match.publication == p) refl f)
 
-pub others_go : (p : ℕ) (g : WriterGrounds) (match : Match) (old : Position) (passed : List PassedRun) (to : ℕ)
-    (new : Position) → (match.publication ≡ p → ⊥) → GoesTo g match old passed to new
+pub others_go : (p : ℕ) (g : WriterGrounds) (match : Match) (old : PlaceWith) (passed : List PassedRun) (to : ℕ)
+    (new : PlaceWith) → (match.publication ≡ p → ⊥) → GoesTo g match old passed to new
     → came_from p new.happened ≡ came_from p old.happened
 others_go p g match old [] to new f h = others_come p g match old h.0 new f h.1
 others_go p g match old (run ∷ runs) to new f h =
     others_go p g match h.1 runs to new f h.5
-    ∙ (ap (λ (x : Position). came_from p x.happened) h.3.after ∙ others_come p g match old h.2.0 h.0 f h.2.1)
+    ∙ (ap (λ (x : PlaceWith). came_from p x.happened) h.3.after ∙ others_come p g match old h.2.0 h.0 f h.2.1)
 
 pub different : (rows : List WriterProxy) (v w : Endpoint) (p q : ℕ) → publication_among rows v ≡ Some p
     → publication_among rows w ≡ Some q → (v ≡ w → ⊥) → p ≡ q → ⊥

@@ -7,7 +7,7 @@ use Rattle.std.proofs.lemmas.Option.{same_Some}
 use Rattle.dds_base.specs.declared.config.Config.{Config}
 use Rattle.dds_base.specs.declared.happening.Happening.{Happening}
 use Rattle.dds_base.specs.declared.happening.PassedRun.{PassedRun}
-use Rattle.dds_base.specs.Places.{Match, Position, GoesTo}
+use Rattle.dds_base.specs.Places.{Match, PlaceWith, GoesTo}
 use Rattle.dds_base.proofs.PlaceLaws.{SayAsMuch, goes_on, goes_nowhere}
 use Rattle.dds_base.specs.Counts.{is_later}
 use Rattle.rtps_reader.specs.Tracked.{Tracked}
@@ -103,10 +103,10 @@ pub way_moves : {Way : Match → List Happening → ℕ → List PassedRun → T
     → AreMoves g old.part moves new.part
 way_moves g old w r moves new h way = by (nat_lt h.place h.to) refl
   where
-    from : Position
+    from : PlaceWith
     from = position_at old.part r h.place
 
-    end : Position
+    end : PlaceWith
     end = record { place = h.to; happened = h.happened }
 
     part_is : new.part ≡ at_reader old.part r (with_place (own_proxies old.part r) w h.to) h.happened
@@ -126,8 +126,8 @@ way_moves g old w r moves new h way = by (nat_lt h.place h.to) refl
     stays : h.to ≤ h.place → new.part ≡ old.part
     stays low =
         let still = goes_nowhere (as_to g w r) (match_of old.part r h.publication) from h.passed h.to end way low in
-        let to : h.to ≡ h.place = ap (λ (p : Position). p.place) still.0 in
-        let happened : h.happened ≡ (own_reader old.part r).happened = ap (λ (p : Position). p.happened) still.0 in
+        let to : h.to ≡ h.place = ap (λ (p : PlaceWith). p.place) still.0 in
+        let happened : h.happened ≡ (own_reader old.part r).happened = ap (λ (p : PlaceWith). p.happened) still.0 in
         part_is
         ∙ (ap (λ (n : ℕ). at_reader old.part r (with_place (own_proxies old.part r) w n) h.happened) to
         ∙ (ap (λ (xs : List Happening). at_reader old.part r (with_place (own_proxies old.part r) w h.place) xs)

@@ -11,7 +11,7 @@ use Rattle.dds_base.specs.declared.happening.Happening.{Happening}
 use Rattle.dds_base.specs.declared.happening.Happening.TheVariants.{Passed}
 use Rattle.dds_base.specs.Checked.{check_refusal}
 use Rattle.dds_base.specs.Matched.{is_reliable_reader}
-use Rattle.dds_base.specs.Places.{Match, Position, coming, GoesTo}
+use Rattle.dds_base.specs.Places.{Match, PlaceWith, coming, GoesTo}
 use Rattle.dds_base.specs.Presence.{has_room}
 use Rattle.dds_base.proofs.PlaceLaws.{goes_nowhere}
 use Rattle.dds_base.specs.Counts.{is_later}
@@ -156,8 +156,8 @@ moved_or_full c old w r number change made new h k at same = by (nat_lt h.place 
         goes_nowhere (known t) (match_of old.part r h.publication)
         (record { place = t.place; happened = (own_reader old.part r).happened }) h.passed h.to
         (record { place = h.to; happened = h.happened }) h.advances.goes (omega (arith, at, low)) in
-        let to : h.to ≡ number = ap (λ (p : Position). p.place) still.0 ∙ (at ∙ sym same) in
-        let happened : h.happened ≡ (own_reader old.part r).happened = ap (λ (p : Position). p.happened) still.0 in
+        let to : h.to ≡ number = ap (λ (p : PlaceWith). p.place) still.0 ∙ (at ∙ sym same) in
+        let happened : h.happened ≡ (own_reader old.part r).happened = ap (λ (p : PlaceWith). p.happened) still.0 in
         let none : has_room (own_reader old.part r).qos h.happened
         (coming (match_of old.part r h.publication) (record { place = h.to; happened = h.happened }) d) ≡ false =
         h.advances.stops.no_room d (ap (λ (n : ℕ). t.slot n) to ∙ held) in
@@ -178,7 +178,7 @@ moved_or_full c old w r number change made new h k at same = by (nat_lt h.place 
         goes_nowhere (known t) (match_of old.part r h.publication)
         (record { place = t.place; happened = (own_reader old.part r).happened }) h.passed h.to
         (record { place = h.to; happened = h.happened }) h.advances.goes (omega (arith, at, low)) in
-        let to : h.to ≡ number = ap (λ (p : Position). p.place) still.0 ∙ (at ∙ sym same) in
+        let to : h.to ≡ number = ap (λ (p : PlaceWith). p.place) still.0 ∙ (at ∙ sym same) in
         let no = h.advances.stops.not_passable in
         let yes : is_passable t h.to ≡ true = ap (λ (n : ℕ). is_passable t n) to ∙ can in
         cc

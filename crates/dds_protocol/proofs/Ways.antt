@@ -8,7 +8,7 @@ use Rattle.dds_base.specs.declared.happening.Happening.{Happening}
 use Rattle.dds_base.specs.declared.happening.Happening.TheVariants.{Passed}
 use Rattle.dds_base.specs.declared.happening.PassedRun.{PassedRun}
 use Rattle.dds_base.specs.Matched.{is_reliable}
-use Rattle.dds_base.specs.Places.{WriterGrounds, Match, Position, coming, Comes, Passes, GoesTo}
+use Rattle.dds_base.specs.Places.{WriterGrounds, Match, PlaceWith, coming, Comes, Passes, GoesTo}
 use Rattle.dds_base.specs.Presence.{has_room}
 use Rattle.dds_base.proofs.PlaceLaws.{goes_forward}
 use Rattle.rtps_reader.specs.Tracked.{Tracked, with_data, with_gap}
@@ -71,13 +71,13 @@ pub jumps_go : (g : WriterGrounds) (match : Match) (t : Tracked) (h : List Happe
 jumps_go g match t h number change to passed new after other is =
     by (comes match t.place h number change) refl
   where
-    old : Position
+    old : PlaceWith
     old = record { place = t.place; happened = h }
 
-    there : Position
+    there : PlaceWith
     there = jumped_to match t.place h number
 
-    end : Position
+    end : PlaceWith
     end = record { place = number + 1; happened = coming match there change ∷ there.happened }
 
     arrives : has_room match.qos there.happened (coming match there change) ≡ true → Comes g match there change end
@@ -127,7 +127,7 @@ jumps_go g match t h number change to passed new after other is =
         ap (λ (n : ℕ). record { place = n; happened = there.happened }) same
         ∙ ap (λ (xs : List Happening). record { place = t.place; happened = xs }) happened in
         subst (λ (rs : List PassedRun). GoesTo g match old rs (number + 1) end) (sym runs)
-        (subst (λ (p : Position). GoesTo g match p [] (number + 1) end) at
+        (subst (λ (p : PlaceWith). GoesTo g match p [] (number + 1) end) at
         (change ∷ [], (end, arrives room, refl), refl))
 
     by : (b : Bool) → comes match t.place h number change ≡ b

@@ -13,7 +13,7 @@ use Rattle.dds_base.specs.Kept.{is_dropped}
 use Rattle.dds_base.specs.Presence.{has_room}
 use Rattle.dds_base.specs.Written.{Written, Changed}
 use Rattle.dds_base.specs.declared.happening.PassedRun.{PassedRun}
-use Rattle.dds_base.specs.Places.{WriterGrounds, Match, Position, Comes, AllCome, Passes, MayPassOver, IsApart, GoesTo}
+use Rattle.dds_base.specs.Places.{WriterGrounds, Match, PlaceWith, Comes, AllCome, Passes, MayPassOver, IsApart, GoesTo}
 use Rattle.dds_conditions.specs.Watched.{opened as nothing_watched}
 use Rattle.dds_notices.specs.Listeners.{nobody}
 use Rattle.dds_machine.specs.declared.reply.Move.{Move}
@@ -97,7 +97,7 @@ Delivers w old moves new =
 abbrev grounds_at_2 : Writer → Grounds
 grounds_at_2 w = grounds_of (machine w (part_2 1 None [])) 2
 
-abbrev pub position : ℕ → List Happening → Position
+abbrev pub position : ℕ → List Happening → PlaceWith
 position place happened = record { place = place; happened = happened }
 
 -- ---- changes that come
@@ -138,7 +138,7 @@ pub comes_next : (grounds : Grounds) (n : ℕ) (change : Change) (happened : Lis
     → AreMoves grounds (part_2 n None happened) (Place w1 1 (n + 1) [] ∷ [])
     (part_2 (n + 1) None (came n change ∷ happened))
 comes_next grounds n change happened is_change room =
-    let one : Position = position (n + 1) (came n change ∷ happened) in
+    let one : PlaceWith = position (n + 1) (came n change ∷ happened) in
     place_goes grounds n (n + 1) happened (came n change ∷ happened) [] (omega arith)
     (change ∷ [], (one, record { is_change = is_change; room = room; after = refl }, refl), refl)
 
@@ -163,11 +163,11 @@ abbrev the_match : Match
 the_match = match_of (part_2 1 None []) 1 1
 
 -- no change comes that the writer has not made, and none out of its turn
-comes-not_4 : (happened : List Happening) (change : Change) (new : Position)
+comes-not_4 : (happened : List Happening) (change : Change) (new : PlaceWith)
     → Comes (as_to (grounds_at_2 kept) w1 1) the_match (position 4 happened) change new → ⊥
 comes-not_4 happened change new h = let is = h.is_change in absurd cc
 
-comes-not_2_before_1 : (new : Position)
+comes-not_2_before_1 : (new : PlaceWith)
     → Comes (as_to (grounds_at_2 kept) w1 1) the_match (position 1 []) (write_of 1 2) new → ⊥
 comes-not_2_before_1 new h =
     let value = ap (λ (c : Change). slice_index c.value 0)
@@ -239,17 +239,17 @@ passes-2_and_3 =
     }
 
 -- a run ends where a change is not dropped, and begins at the place
-passes-not_4 : (old new : Position) (first : ℕ) → first ≤ 4
+passes-not_4 : (old new : PlaceWith) (first : ℕ) → first ≤ 4
     → Passes (as_to (grounds_at_2 two_dropped) w1 1) the_match old (run first 4) new → ⊥
 passes-not_4 old new first low h =
     ⊎_elim (λ dropped. absurd cc) (λ jumps. let other = jumps.0 in absurd cc) (h.may_pass 4 low (omega arith))
 
-passes-not_from_3 : (happened : List Happening) (new : Position)
+passes-not_from_3 : (happened : List Happening) (new : PlaceWith)
     → Passes (as_to (grounds_at_2 two_dropped) w1 1) the_match (position 2 happened) (run 3 3) new → ⊥
 passes-not_from_3 happened new h = let begins = h.begins in absurd (omega arith)
 
 -- of a writer that keeps all no change is passed over
-passes-none_of_keep_all : (old new : Position) (first last : ℕ)
+passes-none_of_keep_all : (old new : PlaceWith) (first last : ℕ)
     → Passes (as_to (grounds_at_2 kept) w1 1) the_match old (run first last) new → ⊥
 passes-none_of_keep_all old new first last h =
     ⊎_elim (λ dropped. absurd cc) (λ jumps. let other = jumps.0 in absurd cc) (h.may_pass first (omega arith) h.ordered)
@@ -295,23 +295,23 @@ goes-over_two_runs = (
 apart-not_touching : IsApart (run 1 1) (run 2 2 ∷ []) → ⊥
 apart-not_touching h = absurd (omega (arith, h))
 
-goes-not_over_touching_runs : (grounds : WriterGrounds) (match : Match) (old new : Position) (to : ℕ)
+goes-not_over_touching_runs : (grounds : WriterGrounds) (match : Match) (old new : PlaceWith) (to : ℕ)
     → GoesTo grounds match old (run 1 1 ∷ run 2 2 ∷ []) to new → ⊥
 goes-not_over_touching_runs grounds match old new to h = absurd (omega (arith, h.4))
 
 -- a place never stands within a run that it went over
-come-forward : (grounds : WriterGrounds) (match : Match) (old : Position) (changes : List Change) (new : Position)
+come-forward : (grounds : WriterGrounds) (match : Match) (old : PlaceWith) (changes : List Change) (new : PlaceWith)
     → AllCome grounds match old changes new → old.place ≤ new.place
-come-forward grounds match old [] new h = let same = ap (λ (p : Position). p.place) h in omega arith
+come-forward grounds match old [] new h = let same = ap (λ (p : PlaceWith). p.place) h in omega arith
 come-forward grounds match old (change ∷ changes) new h =
-    let next = ap (λ (p : Position). p.place) h.1.after in
+    let next = ap (λ (p : PlaceWith). p.place) h.1.after in
     let rest = come-forward grounds match h.0 changes new h.2 in
     omega arith
 
-goes-behind_the_run : (grounds : WriterGrounds) (match : Match) (old new : Position) (to : ℕ)
+goes-behind_the_run : (grounds : WriterGrounds) (match : Match) (old new : PlaceWith) (to : ℕ)
     → GoesTo grounds match old (run 1 2 ∷ []) to new → 3 ≤ to
 goes-behind_the_run grounds match old new to h =
-    let behind = ap (λ (p : Position). p.place) h.3.after in
+    let behind = ap (λ (p : PlaceWith). p.place) h.3.after in
     let rest = come-forward grounds match h.1 h.5.0 new h.5.1 in
     let end = h.5.2 in
     omega arith

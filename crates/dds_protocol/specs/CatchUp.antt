@@ -7,6 +7,7 @@ use Rattle.std.specs.List.{list_any}
 use Rattle.dds_base.specs.declared.change.Change.{Change}
 use Rattle.dds_base.specs.declared.happening.Happening.{Happening}
 use Rattle.dds_base.specs.declared.happening.PassedRun.{PassedRun}
+use Rattle.dds_base.specs.Bounds.{window_width}
 use Rattle.dds_base.specs.Places.{Match, coming}
 use Rattle.dds_base.specs.Presence.{has_room}
 use Rattle.rtps_sets.specs.NumberSet.{empty_from, has_number}
@@ -61,7 +62,7 @@ pub record IsFull (match : Match) (s : Standing) : Type 0 where
 
 -- the place went on by 256 numbers, or to the end of the list, or to a change that has no room
 abbrev pub HasGoneOn : Match → ℕ → ℕ → Standing → Type 0
-HasGoneOn match last place new = (min (place + 256) (last + 1) ≤ new.tracked.place) ⊎ IsFull match new
+HasGoneOn match last place new = (min (place + window_width) (last + 1) ≤ new.tracked.place) ⊎ IsFull match new
 
 -- So it is with each reader that is repaired, where the writer takes for acknowledged no more than the reader tells.
 abbrev pub WindowCatchesUp : Type 0

@@ -1,7 +1,7 @@
 -- What packets claim. Bytes enter here alone, by their reading.
 --
 -- RTPS 2.5, 8.3.4 (the receiver of a message), 8.3.8 (what each submessage means).
-use Rattle.std.specs.Prelude.{◌≡◌, ◌⊎◌, ℕ, zero, suc, ◌-◌, ◌^◌, ◌<◌, ◌≤◌, Bool, true, ◌||◌, Option, Some, None, ℤ, List, [], ◌∷◌, replicate, slice_get, nat_lt, if◌then◌else◌, Contains}
+use Rattle.std.specs.Prelude.{◌≡◌, ◌⊎◌, ℕ, zero, suc, ◌-◌, ◌<◌, ◌≤◌, Bool, true, ◌||◌, Option, Some, None, ℤ, List, [], ◌∷◌, replicate, slice_get, nat_lt, if◌then◌else◌, Contains}
 use Rattle.dds_base.specs.declared.change.Change.{Change}
 use Rattle.dds_base.specs.declared.config.Config.{Config}
 use Rattle.dds_base.specs.declared.config.PeerConfig.{PeerConfig}
@@ -9,6 +9,7 @@ use Rattle.dds_base.specs.declared.config.WriterConfig.{WriterConfig}
 use Rattle.dds_base.specs.declared.config.ReaderConfig.{ReaderConfig}
 use Rattle.dds_base.specs.declared.guid.GuidPrefix.{GuidPrefix}
 use Rattle.dds_base.specs.declared.guid.EntityId.{EntityId}
+use Rattle.dds_base.specs.Bounds.{end_of_moments}
 use Rattle.dds_base.specs.Checked.{unknown_prefix, same_prefix}
 use Rattle.dds_base.specs.Matched.{is_reliable_reader}
 use Rattle.rtps_sets.specs.NumberSet.{has_number}
@@ -75,7 +76,7 @@ is_for receiver own = same_prefix receiver.dest_guid_prefix own || same_prefix r
 -- the moment that an INFO_TS gives: 0 where it gives none, or one from 2^63 on
 abbrev pub stamp_of : Option ℕ → ℕ
 stamp_of None = 0
-stamp_of (Some moment) = if nat_lt moment (2 ^ 63) then moment else 0
+stamp_of (Some moment) = if nat_lt moment end_of_moments then moment else 0
 
 -- what a submessage leaves, at the peer of this prefix, for those that follow: an INFO_TS counts where it is for the
 -- peer

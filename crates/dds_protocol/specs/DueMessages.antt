@@ -2,7 +2,7 @@
 -- assertion and a HEARTBEAT also to whom.
 --
 -- RTPS 2.5, 8.4.9 (reliable StatefulWriter), 8.4.12 (reliable StatefulReader), 8.3.8 (AckNack, Data, Gap, Heartbeat).
-use Rattle.std.specs.Prelude.{◌≡◌, ◌⊎◌, ℕ, ◌+◌, ◌-◌, ◌^◌, Bool, true, false, if◌then◌else◌, nat_lt, nat_le, List, [], ◌∷◌, ◌++◌, length, map, filter, Option, Some, None, pos, slice_get}
+use Rattle.std.specs.Prelude.{◌≡◌, ◌⊎◌, ℕ, ◌+◌, ◌-◌, Bool, true, false, if◌then◌else◌, nat_lt, nat_le, List, [], ◌∷◌, ◌++◌, length, map, filter, Option, Some, None, pos, slice_get}
 use Rattle.std.specs.List.{flat_map}
 use Rattle.std.specs.Option.{option_map_or}
 use Rattle.dds_base.specs.declared.change.Change.{Change}
@@ -11,6 +11,7 @@ use Rattle.dds_base.specs.declared.config.PeerConfig.{PeerConfig}
 use Rattle.dds_base.specs.declared.config.WriterConfig.{WriterConfig}
 use Rattle.dds_base.specs.declared.guid.EntityId.{EntityId}
 use Rattle.dds_base.specs.declared.guid.GuidPrefix.{GuidPrefix}
+use Rattle.dds_base.specs.Bounds.{max_count}
 use Rattle.dds_base.specs.Kept.{change_at, first_kept}
 use Rattle.rtps_wire.specs.declared.message.Message.{Message}
 use Rattle.rtps_wire.specs.declared.submessage.Submessage.{Submessage}
@@ -123,7 +124,7 @@ assertion_message own to writer w = heartbeat_with true true own to writer w
 -- at a tick, one to each peer with a reader that is behind, while there are counts left
 abbrev pub heartbeats_of : Config → ℕ → ℕ → Writer → List Due
 heartbeats_of config peer number w =
-    if nat_lt (heartbeats_used w) (2 ^ 31 - 1)
+    if nat_lt (heartbeats_used w) max_count
     then map (λ to. record {
       to = to;
       message = heartbeat_message (prefix_of config peer) (prefix_of config to) (writer_entity config peer number) w;

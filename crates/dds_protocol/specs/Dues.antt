@@ -2,13 +2,14 @@
 --
 -- A notion of this project, of the messages of RTPS 2.5, 8.4.9 (reliable StatefulWriter) and 8.4.12 (reliable
 -- StatefulReader); 8.3.8 has what each submessage means.
-use Rattle.std.specs.Prelude.{◌≡◌, ℕ, ◌^◌, ◌<◌, ◌≤◌, List, length, map, Some}
+use Rattle.std.specs.Prelude.{◌≡◌, ℕ, ◌<◌, ◌≤◌, List, length, map, Some}
 use Rattle.std.specs.List.{All, AllByRecursion}
 use Rattle.dds_base.specs.declared.change.Change.{Change}
 use Rattle.dds_base.specs.declared.config.Config.{Config}
 use Rattle.dds_base.specs.declared.config.PeerConfig.{PeerConfig}
 use Rattle.dds_base.specs.declared.config.ReaderConfig.{ReaderConfig}
 use Rattle.dds_base.specs.declared.config.WriterConfig.{WriterConfig}
+use Rattle.dds_base.specs.Bounds.{end_of_moments, key_octets, max_sn, max_value, window_width}
 use Rattle.dds_base.specs.Kept.{change_at}
 use Rattle.dds_base.specs.Matched.{of_reliable_readers}
 use Rattle.rtps_wire.specs.declared.submessage.Submessage.{Submessage}
@@ -26,7 +27,7 @@ use Rattle.dds_protocol.specs.DueMessages.{Due}
 -- a change that an INFO_TS and a DATA tell whole: only a write has a value, and its moment is below 2^63
 pub record IsTellable (change : Change) : Type 0 where
   pub empty : IsEmptyUnlessWrite change
-  pub early : change.source_timestamp < 2 ^ 63
+  pub early : change.source_timestamp < end_of_moments
 
 -- each change of the peer's writers is such a one
 abbrev pub AreTellable : Part → Type 0
@@ -66,9 +67,9 @@ pub record IsSized (config : Config) : Type 0 where
 -- there are fewer than 2^62 changes, each with a key of 16 octets, a value of at most 1,024, and a strength of 32 bits
 -- where it has one
 pub record AreSmall (changes : List Change) : Type 0 where
-  pub few : length changes < 2 ^ 62
-  pub key : (number : ℕ) (change : Change) → change_at changes number ≡ Some change → length change.key.0 ≡ 16
-  pub value : (number : ℕ) (change : Change) → change_at changes number ≡ Some change → length change.value ≤ 1024
+  pub few : length changes < max_sn
+  pub key : (number : ℕ) (change : Change) → change_at changes number ≡ Some change → length change.key.0 ≡ key_octets
+  pub value : (number : ℕ) (change : Change) → change_at changes number ≡ Some change → length change.value ≤ max_value
   pub strength : (number : ℕ) (change : Change) → change_at changes number ≡ Some change → IsStrength change.strength
 
 -- so are the changes of each of the peer's writers
@@ -77,7 +78,7 @@ HasSmallChanges part = (writer : ℕ) → AreSmall (writer_changes (own_writer p
 
 -- the set of an ACKNACK has its 256 places
 abbrev pub HasPlaces : Submessage → Type 0
-HasPlaces (AckNack a) = length a.reader_sn_state.members ≡ 256
+HasPlaces (AckNack a) = length a.reader_sn_state.members ≡ window_width
 HasPlaces other = Unit {0}
 
 -- the message can be written, where the sets of its ACKNACKs have their places

@@ -1,10 +1,11 @@
 -- What a delivered packet does, submessage by submessage: each that is reached makes its moves, a DATA with the change
 -- at a reader's place moves that place, and from the one that found no memory on none is applied
 -- (RTPS 2.5, 8.3.4, the rules of the message receiver).
-use Rattle.std.specs.Prelude.{◌≡◌, ◌⊎◌, ℕ, ◌+◌, ◌^◌, ◌<◌, ◌≤◌, false, List, [], ◌∷◌, ◌++◌, Option, Some, None}
+use Rattle.std.specs.Prelude.{◌≡◌, ◌⊎◌, ℕ, ◌+◌, ◌<◌, ◌≤◌, false, List, [], ◌∷◌, ◌++◌, Option, Some, None}
 use Rattle.dds_base.specs.declared.change.Change.{Change}
 use Rattle.dds_base.specs.declared.config.Config.{Config}
 use Rattle.dds_base.specs.declared.guid.GuidPrefix.{GuidPrefix}
+use Rattle.dds_base.specs.Bounds.{max_sn}
 use Rattle.dds_base.specs.Checked.{unknown_prefix}
 use Rattle.dds_base.specs.Places.{coming}
 use Rattle.dds_base.specs.Presence.{has_room}
@@ -45,7 +46,7 @@ abbrev pub MovesOver : Config → Grounds → ℕ → GuidPrefix → Receiver �
 MovesOver config grounds peer own at submessage part moves =
     (writer reader : Endpoint) (publication number : ℕ) (change : Change)
     → Says config own at submessage (ChangeIs writer reader number change) → reader.peer ≡ peer
-    → IsMatchedAt part writer reader.number publication number → 1 ≤ number → number ≤ 2 ^ 62
+    → IsMatchedAt part writer reader.number publication number → 1 ≤ number → number ≤ max_sn
     → GoesOver writer reader.number number moves ⊎ HasNoRoom grounds part writer reader.number publication number
 
 -- The submessages from this index on are taken up in turn. Either one that concerns the peer finds no memory, and

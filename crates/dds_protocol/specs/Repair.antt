@@ -2,10 +2,11 @@
 -- HEARTBEAT, the reader's ACKNACK, and the answers to that, each delivered once. After it the reader has caught up.
 --
 -- RTPS 2.5, 8.4.9 (reliable StatefulWriter), 8.4.12 (reliable StatefulReader).
-use Rattle.std.specs.Prelude.{◌≡◌, ◌⊎◌, ℕ, ◌+◌, ◌-◌, ◌^◌, ◌<◌, ◌≤◌, min, true, false, List, [], ◌∷◌, length, slice_get, None, Some, ℤ, Contains}
+use Rattle.std.specs.Prelude.{◌≡◌, ◌⊎◌, ℕ, ◌+◌, ◌-◌, ◌<◌, ◌≤◌, min, true, false, List, [], ◌∷◌, length, slice_get, None, Some, ℤ, Contains}
 use Rattle.dds_base.specs.declared.change.Change.{Change}
 use Rattle.dds_base.specs.declared.config.Config.{Config}
 use Rattle.dds_base.specs.declared.guid.EntityId.{EntityId}
+use Rattle.dds_base.specs.Bounds.{max_count, max_sn, window_width}
 use Rattle.dds_base.specs.Checked.{check_refusal}
 use Rattle.dds_base.specs.Matched.{is_reliable_reader}
 use Rattle.dds_base.specs.Places.{coming}
@@ -130,7 +131,7 @@ pub record HasCaughtUp (world : WorldState) (writer reader : Endpoint) (before l
   pub place : ℕ
   pub acknowledged : ℕ
   pub stands : StandsAt world writer reader place acknowledged
-  pub reached : (min (before + 256) (last + 1) ≤ place) ⊎ HoldsWithoutRoom world writer reader place
+  pub reached : (min (before + window_width) (last + 1) ≤ place) ⊎ HoldsWithoutRoom world writer reader place
   pub told : before ≤ acknowledged
 
 -- so it is after each round, in a network in which claims are true, counts are used, and places are within the lists
@@ -156,7 +157,7 @@ BeatsAreSent = (config : Config) (tests : AllTests) (writer reader : Endpoint) (
     (old new : WorldState) → check_refusal config.peers ≡ None → HasUsedCounts config old
     → acknowledged_of (writer_at (machine_of old) writer).readers reader ≡ Some acknowledged
     → acknowledged ≤ length (writer_changes (writer_at (machine_of old) writer))
-    → heartbeats_used_at old writer < 2 ^ 31 - 1
+    → heartbeats_used_at old writer < max_count
     → (step : RuledStep config tests old (Tick writer.peer now) Done 0 new)
     → HasBeatTo config writer reader.peer step.packets
 
@@ -174,8 +175,8 @@ abbrev pub AsksAreSent : Type 0
 AsksAreSent = (config : Config) (tests : AllTests) (writer reader : Endpoint) (place acknowledged : ℕ)
     (old heard : WorldState) → check_refusal config.peers ≡ None → Sound config old → HasUsedCounts config old
     → IsBounded (machine_of old) → IsPair config writer reader → StandsAt old writer reader place acknowledged
-    → length (writer_changes (writer_at (machine_of old) writer)) < 2 ^ 62
-    → acknacks_used_at old writer reader < 2 ^ 31 - 1
+    → length (writer_changes (writer_at (machine_of old) writer)) < max_sn
+    → acknacks_used_at old writer reader < max_count
     → (begins : BeginsRound config tests writer reader old heard) → begins.lost_asks ≡ 0
     → HasAskOf config writer reader begins.hears.step.packets
 

@@ -7,6 +7,7 @@ use Rattle.std.specs.List.{list_all, list_any}
 use Rattle.dds_base.specs.declared.code.Code.{Code}
 use Rattle.dds_base.specs.declared.code.Code.TheVariants.{BadParameter}
 use Rattle.dds_base.specs.declared.config.Config.{Config}
+use Rattle.dds_base.specs.Bounds.{max_count}
 use Rattle.dds_base.specs.Kept.{numbers_from}
 use Rattle.dds_base.specs.Refusal.{Refuses}
 use Rattle.rtps_wire.specs.declared.seek.Sought.{Sought}
@@ -145,8 +146,8 @@ abbrev pub IsHindered : WorldState → Endpoint → Endpoint → Round → Type 
 IsHindered network writer reader answer =
     (are_whole answer.replies ≡ false)
     ⊎ (has_unsent answer.unsent_before answer.replies ≡ true) ⊎ (2 ^ 64 - 1 ≤ answer.unsent_before)
-    ⊎ ((length answer.replies ≡ 1) × (answer.was_behind ≡ true) × (2 ^ 31 - 1 ≤ heartbeats_used_at network writer))
-    ⊎ ((length answer.replies ≡ 2) × (2 ^ 31 - 1 ≤ acknacks_used_at network writer reader))
+    ⊎ ((length answer.replies ≡ 1) × (answer.was_behind ≡ true) × (max_count ≤ heartbeats_used_at network writer))
+    ⊎ ((length answer.replies ≡ 2) × (max_count ≤ acknacks_used_at network writer reader))
 
 -- the replies alone, without the counts of packets beside them
 abbrev pub replies_of : List RoundReply → List Reply

@@ -9,7 +9,7 @@ use Rattle.dds_base.specs.declared.happening.Happening.TheVariants.{Came, Passed
 use Rattle.dds_base.specs.declared.happening.PassedRun.{PassedRun}
 use Rattle.dds_base.specs.declared.qos.ReaderQos.{ReaderQos}
 use Rattle.dds_base.specs.Presence.{has_room}
-use Rattle.dds_base.specs.Places.{Match, Position, coming, Comes, Passes, GoesTo}
+use Rattle.dds_base.specs.Places.{Match, PlaceWith, coming, Comes, Passes, GoesTo}
 use Rattle.dds_base.proofs.PlaceLaws.{EndBelow, end_below_on, end_below_more, come_more, pass_more}
 use Rattle.rtps_reader.specs.declared.step.HeartbeatSeen.{HeartbeatSeen}
 use Rattle.rtps_reader.specs.declared.step.Step.{Step}
@@ -61,7 +61,7 @@ step_over match t h runs now mid happened true forward back below passable way =
     let lt : now < mid = forward refl in
     let run : PassedRun = record { first = now; last = mid - 1 } in
     let ends : mid - 1 + 1 ≡ mid = omega (arith, lt) in
-    let start : Position = record { place = t.place; happened = h } in
+    let start : PlaceWith = record { place = t.place; happened = h } in
     let passes : Passes (known t) match (record { place = now; happened = happened }) run
     (record { place = mid - 1 + 1; happened = Passed match.publication now (mid - 1) ∷ happened }) = record {
       begins = refl;
@@ -78,7 +78,7 @@ step_over match t h runs now mid happened true forward back below passable way =
     )
 step_over match t h runs now mid happened false forward back below passable way =
     let same : mid ≡ now = back refl in
-    let start : Position = record { place = t.place; happened = h } in
+    let start : PlaceWith = record { place = t.place; happened = h } in
     let none : runs ≡ runs ++ [] = sym (append-nil runs) in (
       subst (λ (rs : List PassedRun). GoesTo (known t) match start rs mid
           (record { place = mid; happened = happened })) none
@@ -134,7 +134,7 @@ pub handed : (match : Match) (t : Tracked) (h : List Happening) (runs : List Pas
     → Progress match t h runs mid before (mid.place + 1) → HandsOn match before after mid new
     → Progress match t h runs new after new.place
 handed match t h runs mid new before after p o =
-    let at : Position = record { place = mid.place; happened = p.happened } in
+    let at : PlaceWith = record { place = mid.place; happened = p.happened } in
     let entries : List Happening = coming match at o.change ∷ p.happened in
     let comes : Comes (known t) match at o.change (record { place = mid.place + 1; happened = entries }) = record {
       is_change = sym (p.stays.slots mid.place (omega arith)) ∙ o.is_held;

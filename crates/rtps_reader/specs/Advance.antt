@@ -7,7 +7,7 @@ use Rattle.dds_base.specs.declared.change.Change.{Change}
 use Rattle.dds_base.specs.declared.happening.Happening.{Happening}
 use Rattle.dds_base.specs.declared.happening.PassedRun.{PassedRun}
 use Rattle.dds_base.specs.Presence.{has_room}
-use Rattle.dds_base.specs.Places.{WriterGrounds, Match, Position, coming, GoesTo}
+use Rattle.dds_base.specs.Places.{WriterGrounds, Match, PlaceWith, coming, GoesTo}
 use Rattle.rtps_reader.specs.Tracked.{Tracked, Held, is_passable}
 
 -- what the reader may rest on: the changes that it holds, and what it may pass over
@@ -15,7 +15,7 @@ abbrev pub known : Tracked → WriterGrounds
 known t = record { is_change = λ n change. t.slot n ≡ Held change; may_pass = λ n. is_passable t n ≡ true }
 
 -- at this number the place goes no further: it can't be passed over, and a change that is held there finds no room
-pub record Stops (match : Match) (t : Tracked) (at : Position) : Type 0 where
+pub record Stops (match : Match) (t : Tracked) (at : PlaceWith) : Type 0 where
   pub not_passable : is_passable t at.place ≡ false
   pub no_room : (change : Change) → t.slot at.place ≡ Held change
       → has_room match.qos at.happened (coming match at change) ≡ false

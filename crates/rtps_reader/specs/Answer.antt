@@ -1,11 +1,12 @@
 -- What a HEARTBEAT does, and the ACKNACK due to it once the place went on.
 --
 -- RTPS 2.5, 8.4.12 (reliable StatefulReader: when to send an ACKNACK), 8.3.8 (AckNack).
-use Rattle.std.specs.Prelude.{◌≡◌, ℕ, ◌+◌, ◌-◌, ◌<◌, ◌≤◌, ◌^◌, ◌⊎◌, List, [], ◌∷◌, length, Bool, true, false, ◌&&◌, nat_le}
+use Rattle.std.specs.Prelude.{◌≡◌, ℕ, ◌+◌, ◌<◌, ◌≤◌, ◌⊎◌, List, [], ◌∷◌, length, Bool, true, false, ◌&&◌, nat_le}
 use Rattle.std.specs.Prelude.{Option, None, Some, pos, if◌then◌else◌}
 use Rattle.rtps_sets.specs.NumberSet.{has_number}
 use Rattle.dds_base.specs.declared.happening.Happening.{Happening}
 use Rattle.dds_base.specs.declared.happening.Happening.TheVariants.{Heard}
+use Rattle.dds_base.specs.Bounds.{max_count, max_sn, window_width}
 use Rattle.dds_base.specs.Places.{Match}
 use Rattle.rtps_reader.specs.declared.step.AckNackDue.{AckNackDue}
 use Rattle.rtps_reader.specs.declared.step.HeartbeatSeen.{HeartbeatSeen}
@@ -23,7 +24,7 @@ IsComplete t last = (n : ℕ) → is_asked t last n ≡ false
 
 -- none can be sent: the place is no number that a set may begin with, or all counts are used up
 abbrev pub CanNotAnswer : Tracked → Type 0
-CanNotAnswer t = (2 ^ 62 < t.place) ⊎ (2 ^ 31 - 1 ≤ t.acknacks)
+CanNotAnswer t = (max_sn < t.place) ⊎ (max_count ≤ t.acknacks)
 
 -- an ACKNACK tells what is known: it has the next count, and is final where it asks for nothing
 pub record Tells (t : Tracked) (last : ℕ) (due : AckNackDue) : Type 0 where
@@ -37,14 +38,14 @@ pub record Tells (t : Tracked) (last : ℕ) (due : AckNackDue) : Type 0 where
 -- the answer: none where none can be sent, or where the HEARTBEAT is final and nothing is asked for; else one
 abbrev pub AnswersHeartbeat : Tracked → ℕ → Bool → Option AckNackDue → Type 0
 AnswersHeartbeat t last is_final None = CanNotAnswer t ⊎ ((is_final ≡ true) × IsComplete t last)
-AnswersHeartbeat t last is_final (Some due) = (t.place ≤ 2 ^ 62) × (t.acknacks < 2 ^ 31 - 1)
+AnswersHeartbeat t last is_final (Some due) = (t.place ≤ max_sn) × (t.acknacks < max_count)
     × (is_final ≡ true → due.is_final ≡ false) × Tells t last due
 
 -- it has a written form: its set begins with a number from 1 to 2^62, and has its 256 places (RTPS 2.5, 9.4.5: AckNack)
 pub record IsSayable (due : AckNackDue) : Type 0 where
   pub first : 1 ≤ due.missing.base
-  pub small : due.missing.base ≤ 2 ^ 62
-  pub places : length due.missing.members ≡ 256
+  pub small : due.missing.base ≤ max_sn
+  pub places : length due.missing.members ≡ window_width
 
 -- what is known once the answer was made: its count is used
 abbrev pub answered : Option AckNackDue → Tracked → Tracked

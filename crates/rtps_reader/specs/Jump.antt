@@ -8,7 +8,7 @@ use Rattle.dds_base.specs.declared.happening.Happening.{Happening}
 use Rattle.dds_base.specs.declared.happening.Happening.TheVariants.{Passed}
 use Rattle.dds_base.specs.declared.happening.PassedRun.{PassedRun}
 use Rattle.dds_base.specs.Presence.{has_room}
-use Rattle.dds_base.specs.Places.{Match, Position, coming}
+use Rattle.dds_base.specs.Places.{Match, PlaceWith, coming}
 use Rattle.rtps_reader.specs.Tracked.{Tracked, SameTracked}
 use Rattle.rtps_reader.specs.Advance.{Stays}
 
@@ -21,7 +21,7 @@ abbrev pub passed_from : ℕ → ℕ → ℕ → List Happening → List Happeni
 passed_from publication from to h = if nat_lt from to then Passed publication from (to - 1) ∷ h else h
 
 -- where the reader stands once it has passed over all numbers below this one
-abbrev pub jumped_to : Match → ℕ → List Happening → ℕ → Position
+abbrev pub jumped_to : Match → ℕ → List Happening → ℕ → PlaceWith
 jumped_to match place h number =
     record { place = number; happened = passed_from match.publication place number h }
 

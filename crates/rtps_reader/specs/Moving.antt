@@ -6,6 +6,7 @@ use Rattle.std.specs.Prelude.{◌≡◌, ℕ, ◌+◌, ◌<◌, ◌≤◌, List,
 use Rattle.dds_base.specs.declared.change.Change.{Change}
 use Rattle.dds_base.specs.declared.happening.Happening.{Happening}
 use Rattle.dds_base.specs.declared.happening.PassedRun.{PassedRun}
+use Rattle.dds_base.specs.Bounds.{window_width}
 use Rattle.dds_base.specs.Presence.{has_room}
 use Rattle.dds_base.specs.Places.{Match, coming}
 use Rattle.rtps_reader.specs.Tracked.{Tracked, Held, is_named, is_passable}
@@ -27,8 +28,8 @@ match_of qos source = record { qos = qos; publication = source.publication; mome
 
 -- the place may move without want of memory: it passes a run before each change that comes, and one after them
 pub record CanMove (held run_capacity sink_spare : ℕ) : Type 0 where
-  pub runs : min held 256 < run_capacity
-  pub sink : 2 * min held 256 + 2 ≤ sink_spare
+  pub runs : min held window_width < run_capacity
+  pub sink : 2 * min held window_width + 2 ≤ sink_spare
 
 -- the mark of a number once those from the place to below another that a GAP names are irrelevant
 abbrev pub mark_named : ℕ → NumberSet → ℕ → Marks → ℕ → Option Mark

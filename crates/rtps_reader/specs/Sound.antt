@@ -2,12 +2,13 @@
 -- to be believed.
 --
 -- RTPS 2.5, 8.4.10 (WriterProxy, ChangeFromWriter).
-use Rattle.std.specs.Prelude.{◌≡◌, ℕ, ◌+◌, ◌<◌, ◌≤◌, ◌^◌, List, Bool, true, false, Option, None, Some, is_some, Result, OnErr, IsOk, IfOk, IfErr, IfSome, slice_get}
+use Rattle.std.specs.Prelude.{◌≡◌, ℕ, ◌+◌, ◌<◌, ◌≤◌, List, Bool, true, false, Option, None, Some, is_some, Result, OnErr, IsOk, IfOk, IfErr, IfSome, slice_get}
 use Rattle.dds_base.specs.declared.change.Change.{Change}
 use Rattle.dds_base.specs.declared.code.Code.{Code}
 use Rattle.dds_base.specs.declared.code.Code.TheVariants.{Memory}
 use Rattle.dds_base.specs.declared.happening.Happening.{Happening}
 use Rattle.dds_base.specs.declared.qos.ReaderQos.{ReaderQos}
+use Rattle.dds_base.specs.Bounds.{max_sn, window_width}
 use Rattle.rtps_sets.specs.Window.{Marks, mark_of, window_place}
 use Rattle.rtps_sets.specs.declared.window.Mark.{Mark}
 use Rattle.rtps_sets.specs.declared.window.Mark.TheVariants as mark
@@ -26,16 +27,16 @@ says_held (Some mark.Irrelevant) = false
 
 -- of the numbers of the window exactly those that are marked as held have a change at their place
 abbrev pub Keeps : Marks → List (Option Change) → Type 0
-Keeps w held = (n : ℕ) → window_place w ≤ n → n < window_place w + 256
+Keeps w held = (n : ℕ) → window_place w ≤ n → n < window_place w + window_width
     → is_some (held_at held n) ≡ says_held (mark_of w n)
 
 -- what is marked as held is held, the place is a number, and none is so great that a sum overflows
 pub record IsSound (p : WriterProxy) : Type 0 where
   pub kept : Keeps p.window p.held
   pub from : 1 ≤ window_place p.window
-  pub unmarked : (n : ℕ) → 2 ^ 62 + 256 ≤ n → mark_of p.window n ≡ None
-  pub place_is_small : window_place p.window ≤ 2 ^ 62 + 256
-  pub first_is_small : p.first ≤ 2 ^ 62
+  pub unmarked : (n : ℕ) → max_sn + window_width ≤ n → mark_of p.window n ≡ None
+  pub place_is_small : window_place p.window ≤ max_sn + window_width
+  pub first_is_small : p.first ≤ max_sn
 
 -- each proxy is sound
 abbrev pub AreSound : List WriterProxy → Type 0

@@ -7,14 +7,12 @@ ghost use Rattle.std.specs.Prelude.{◌≡◌, ◌≤◌, ◌<◌, ◌+◌, ◌^
 ghost use Rattle.rtps_reader.specs.HeldChanges.{held_at, count_held};
 
 use dds_base::{Change, Sn};
+use rtps_sets::WIDTH;
 use std::alloc::{AllocError, Global};
 use std::marker::Model;
 
 /// So many places: as many as a window has numbers.
-const PLACES: usize = 256;
-
-/// So many numbers a window has.
-const WIDTH: u64 = 256;
+const PLACES: usize = WIDTH as usize;
 
 /// The changes of one writer that wait for those before them. Each stands at the place of its number, and the 256
 /// numbers of a window have 256 places. It takes memory only where it is opened.
@@ -41,7 +39,7 @@ impl Model for HeldChanges {
 fn place_of(number: Sn) -> usize
     ensures { result ≡ number % 256 }
 {
-    (number.number() % 256) as usize
+    (number.number() % WIDTH) as usize
 }
 
 /// A place for each number of a window, and nothing there.

@@ -24,22 +24,15 @@ ghost use Rattle.rtps_reader.specs.Answer.{AnswersHeartbeat, IsIdle, IsSayable, 
 use crate::held_changes::{HeldChanges, forget_below};
 use crate::sink::Sink;
 use crate::step::{AckNackDue, HeartbeatSeen, Step};
-use dds_base::{Arrival, Change, Code, Handle, Moment, PassedRun, Sequence, Sn, is_later};
-use rtps_sets::{Mark, SnSet, Window};
+use dds_base::{
+    Arrival, Change, Code, Handle, MAX_COUNT, MAX_SN, Moment, PassedRun, Sequence, Sn, is_later,
+};
+use rtps_sets::{Mark, SnSet, WIDTH, Window};
 use std::alloc::Global;
 use std::mem;
 
-/// The greatest number that a submessage may have as a base.
-const MAX_NUMBER: u64 = 1 << 62;
-
-/// The greatest count of an ACKNACK.
-const MAX_COUNT: u32 = (1 << 31) - 1;
-
-/// So many numbers, from the place on, are looked at.
-const WIDTH: u64 = 256;
-
 /// So many changes can come in one move: as many as a window holds.
-const MAX_MOVES: usize = 256;
+const MAX_MOVES: usize = WIDTH as usize;
 
 /// Which writer is heard, and when.
 #[derive(Clone, Copy)]
@@ -391,7 +384,7 @@ impl WriterProxy {
         ensures sayable { IfSome result IsSayable }
     {
         let base = self.window.place();
-        if base.number() > MAX_NUMBER || self.acknacks >= MAX_COUNT {
+        if base.number() > MAX_SN || self.acknacks >= MAX_COUNT {
             return None;
         }
         let missing = self.window.missing(last);

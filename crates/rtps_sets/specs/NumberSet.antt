@@ -1,5 +1,6 @@
 -- Sets of numbers that lie within 256 numbers from a base on (RTPS 2.5, 8.3.5.5: SequenceNumberSet).
 use Rattle.std.specs.Prelude.{ℕ, zero, suc, ◌-◌, ◌&&◌, Bool, true, false, List, [], ◌∷◌, nat_le, replicate, slice_index_or}
+use Rattle.dds_base.specs.Bounds.{window_width}
 
 -- the base, and for each number from it on whether that is a member
 pub record NumberSet : Type 0 where
@@ -12,7 +13,7 @@ has_number s n = nat_le s.base n && slice_index_or s.members (n - s.base) false
 
 -- the set that has no member
 abbrev pub empty_from : ℕ → NumberSet
-empty_from base = record { base = base; members = replicate 256 false }
+empty_from base = record { base = base; members = replicate window_width false }
 
 -- the span with one more place in front of it
 abbrev pub span_after : Bool → ℕ → ℕ

@@ -1,6 +1,7 @@
 -- The place of a reader in the numbers of one writer, and what is known of the 256 numbers from it on
 -- (RTPS 2.5, 8.4.12: reliable StatefulReader).
 use Rattle.std.specs.Prelude.{◌≡◌, ℕ, ◌+◌, ◌%◌, ◌^◌, Bool, false, ◌&&◌, nat_lt, nat_le, List, Option, None, Some, is_none, if◌then◌else◌, slice_index_or}
+use Rattle.dds_base.specs.Bounds.{window_width}
 use Rattle.rtps_sets.specs.declared.window.Mark.{Mark}
 use Rattle.rtps_sets.specs.declared.window.Mark.TheVariants.{Held, Irrelevant}
 
@@ -16,11 +17,11 @@ window_place w = w.place
 
 -- the number is one of the 256 from the place on
 abbrev pub is_in_window : ℕ → ℕ → Bool
-is_in_window place n = nat_le place n && nat_lt n (place + 256)
+is_in_window place n = nat_le place n && nat_lt n (place + window_width)
 
 -- whether a ring of 256 bits has that of a number
 abbrev pub in_ring : List Bool → ℕ → Bool
-in_ring ring n = slice_index_or ring (n % 256) false
+in_ring ring n = slice_index_or ring (n % window_width) false
 
 -- what two rings say of a number
 abbrev pub ring_mark : List Bool → List Bool → ℕ → Option Mark

@@ -9,4 +9,4 @@ mod sn_set;
 mod window;
 
 pub use sn_set::{MAX_BITS, SnSet, max_bits_is_the_width};
-pub use window::{Mark, Window};
+pub use window::{Mark, WIDTH, Window};

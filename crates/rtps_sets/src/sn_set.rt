@@ -6,13 +6,14 @@ ghost use Rattle.std.specs.Prelude.{◌≡◌, ◌≤◌, ◌<◌, ◌+◌, ◌-
 ghost use Rattle.rtps_sets.specs.NumberSet.{empty_from, has_number, span};
 
 use crate::bits::Bits;
+use crate::window::WIDTH;
 use dds_base::Sn;
 use std::marker::Model;
 
 /// How many numbers, from its base on, a set can have.
 ///
 /// RTPS 2.5, 8.3.5.5: the members of a SequenceNumberSet lie within 256 numbers.
-pub const MAX_BITS: usize = 256;
+pub const MAX_BITS: usize = WIDTH as usize;
 
 /// A set of numbers, each from the base to the base plus 255. It takes no memory.
 ///

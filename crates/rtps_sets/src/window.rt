@@ -15,7 +15,9 @@ use std::alloc::Global;
 use std::marker::Model;
 
 /// So many numbers, from the place on, may be marked: as many as a set of missing ones has places for.
-const WIDTH: u64 = 256;
+///
+/// RTPS 2.5, 8.3.5.5: the members of a SequenceNumberSet lie within 256 numbers.
+pub const WIDTH: u64 = 256;
 
 /// What is known of a number of the window.
 ///

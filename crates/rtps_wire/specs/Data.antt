@@ -14,6 +14,7 @@ use Rattle.dds_base.specs.declared.endianness.Endianness.{Endianness}
 use Rattle.dds_base.specs.declared.endianness.Endianness.TheVariants.{Little}
 use Rattle.dds_base.specs.declared.guid.EntityId.{EntityId}
 use Rattle.dds_base.specs.declared.key.Key.{Key}
+use Rattle.dds_base.specs.Bounds.{max_sn}
 use Rattle.dds_base.specs.Fields.{number}
 use Rattle.dds_base.specs.DatumText.{IsDatum, ReadsDatum, ReadsKey, spelling_of_datum, spelling_of_key}
 use Rattle.dds_base.specs.declared.datum.Datum.{Datum}
@@ -23,7 +24,7 @@ use Rattle.rtps_wire.specs.declared.data.Data.{Data}
 use Rattle.rtps_wire.specs.declared.data.DataContent.{DataContent}
 use Rattle.rtps_wire.specs.Fields.{has_flag, order_of, sn_text, count_text, IsEntityId}
 use Rattle.rtps_wire.specs.Parameters.{Parameter, parameter_text, ReadsParameters, parameter_value, status_of}
-use Rattle.rtps_wire.specs.Names.{extra_flags, flag_data, flag_endianness, flag_inline_qos, flag_key, least_octets_to_inline_qos, len_key, max_sn, pid_key_hash, pid_ownership_strength, pid_sentinel, pid_status_info, status_disposed, status_unregistered}
+use Rattle.rtps_wire.specs.Names.{extra_flags, flag_data, flag_endianness, flag_inline_qos, flag_key, least_octets_to_inline_qos, len_key, pid_key_hash, pid_ownership_strength, pid_sentinel, pid_status_info, status_disposed, status_unregistered}
 
 -- extraFlags, octetsToInlineQos, readerId, writerId, writerSN
 abbrev pub data_head : Endianness → ℕ → ℕ → EntityId → EntityId → ℕ → List ℕ

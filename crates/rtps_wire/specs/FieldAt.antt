@@ -2,13 +2,14 @@
 -- `read_message` says what it reads by the texts of `Fields`.
 --
 -- RTPS 2.5, 9.3 and 9.4.2.
-use Rattle.std.specs.Prelude.{ℕ, ◌+◌, ◌*◌, ◌^◌, List, Option, Some, None, nat_lt, if◌then◌else◌, ℤ}
+use Rattle.std.specs.Prelude.{ℕ, ◌+◌, ◌*◌, List, Option, Some, None, nat_lt, if◌then◌else◌, ℤ}
 use Rattle.std.specs.Int.{w32, cast_signed}
 use Rattle.dds_base.specs.declared.endianness.Endianness.{Endianness}
 use Rattle.dds_base.specs.declared.guid.EntityId.{EntityId}
 use Rattle.dds_base.specs.declared.guid.GuidPrefix.{GuidPrefix}
+use Rattle.dds_base.specs.Bounds.{max_sn}
 use Rattle.dds_base.specs.Fields.{number_at, octets_at, ◌>>=◌}
-use Rattle.rtps_wire.specs.Names.{len_entity_id, len_prefix, max_sn}
+use Rattle.rtps_wire.specs.Names.{half_range, len_entity_id, len_prefix}
 
 -- four octets
 unfoldable pub entity_id_at : List ℕ → Option (EntityId × List ℕ)
@@ -27,7 +28,7 @@ unfoldable pub sn_at : Endianness → List ℕ → Option (ℕ × List ℕ)
 sn_at order bytes = do
   high ← number_at order w32 bytes
   low ← number_at order w32 high.1
-  if nat_lt max_sn (high.0 * 2 ^ 32 + low.0) then None else Some (high.0 * 2 ^ 32 + low.0, low.1)
+  if nat_lt max_sn (high.0 * half_range + low.0) then None else Some (high.0 * half_range + low.0, low.1)
 
 -- a count
 unfoldable pub count_at : Endianness → List ℕ → Option (ℤ × List ℕ)

@@ -1,12 +1,12 @@
 -- The fields of submessages, as they stand in bytes (RTPS 2.5, 9.3 and 9.4.2).
-use Rattle.std.specs.Prelude.{◌≡◌, ℕ, ◌/◌, ◌%◌, ◌^◌, ◌==◌, Bool, List, ◌++◌, length, if◌then◌else◌, ℤ}
+use Rattle.std.specs.Prelude.{◌≡◌, ℕ, ◌/◌, ◌%◌, ◌==◌, Bool, List, ◌++◌, length, if◌then◌else◌, ℤ}
 use Rattle.std.specs.Int.{w32, cast_unsigned}
 use Rattle.std.specs.Int.RustNames.{bit_and}
 use Rattle.dds_base.specs.declared.endianness.Endianness.{Endianness}
 use Rattle.dds_base.specs.declared.endianness.Endianness.TheVariants.{Big, Little}
 use Rattle.dds_base.specs.declared.guid.EntityId.{EntityId}
 use Rattle.dds_base.specs.Fields.{number}
-use Rattle.rtps_wire.specs.Names.{flag_endianness, len_entity_id}
+use Rattle.rtps_wire.specs.Names.{flag_endianness, half_range, len_entity_id}
 
 -- whether the bit is set
 abbrev pub has_flag : ℕ → ℕ → Bool
@@ -18,7 +18,7 @@ order_of flags = if has_flag flags flag_endianness then Little else Big
 
 -- a sequence number: its high half, then its low half
 abbrev pub sn_text : Endianness → ℕ → List ℕ
-sn_text order n = number order w32 (n / 2 ^ 32) ++ number order w32 (n % 2 ^ 32)
+sn_text order n = number order w32 (n / half_range) ++ number order w32 (n % half_range)
 
 -- a count, in two's complement
 abbrev pub count_text : Endianness → ℤ → List ℕ

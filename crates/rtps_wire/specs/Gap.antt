@@ -6,11 +6,11 @@
 -- |                 gapStart: high half, low half                 |
 -- |            gapList: base, number of bits, words               |
 use Rattle.std.specs.Prelude.{◌≡◌, ℕ, ◌≤◌, List, ◌++◌}
+use Rattle.dds_base.specs.Bounds.{max_sn}
 use Rattle.dds_base.specs.declared.endianness.Endianness.{Endianness}
 use Rattle.dds_base.specs.declared.endianness.Endianness.TheVariants.{Little}
 use Rattle.rtps_wire.specs.declared.gap.Gap.{Gap}
 use Rattle.rtps_wire.specs.Fields.{order_of, sn_text, IsEntityId}
-use Rattle.rtps_wire.specs.Names.{max_sn}
 use Rattle.rtps_wire.specs.Sets.{ReadsSet, text_of_set}
 
 -- readerId, writerId, gapStart

@@ -8,11 +8,11 @@
 -- |                             count                             |
 use Rattle.std.specs.Prelude.{ℕ, ◌+◌, ◌≤◌, List, ◌++◌, FitsSigned}
 use Rattle.std.specs.Int.{w32}
+use Rattle.dds_base.specs.Bounds.{max_sn}
 use Rattle.dds_base.specs.declared.endianness.Endianness.{Endianness}
 use Rattle.dds_base.specs.declared.endianness.Endianness.TheVariants.{Little}
 use Rattle.rtps_wire.specs.declared.heartbeat.Heartbeat.{Heartbeat}
 use Rattle.rtps_wire.specs.Fields.{order_of, sn_text, count_text, IsEntityId, BeginsWith}
-use Rattle.rtps_wire.specs.Names.{max_sn}
 
 -- readerId, writerId, firstSN, lastSN, count
 abbrev pub heartbeat_text : Endianness → Heartbeat → List ℕ

@@ -3,16 +3,17 @@
 -- 0...............8...............16..............24.............31
 -- |                            seconds                            |
 -- |             fraction, in units of 2^-32 second                |
-use Rattle.std.specs.Prelude.{ℕ, ◌/◌, ◌%◌, ◌^◌, List, [], ◌++◌, Option, Some, None}
+use Rattle.std.specs.Prelude.{ℕ, ◌/◌, ◌%◌, List, [], ◌++◌, Option, Some, None}
 use Rattle.std.specs.Int.{w32}
 use Rattle.dds_base.specs.declared.endianness.Endianness.{Endianness}
 use Rattle.dds_base.specs.declared.endianness.Endianness.TheVariants.{Little}
 use Rattle.dds_base.specs.Fields.{number}
 use Rattle.rtps_wire.specs.Fields.{order_of, BeginsWith}
+use Rattle.rtps_wire.specs.Names.{half_range}
 
 -- seconds, then the fraction
 abbrev pub moment_text : Endianness → ℕ → List ℕ
-moment_text order moment = number order w32 (moment / 2 ^ 32) ++ number order w32 (moment % 2 ^ 32)
+moment_text order moment = number order w32 (moment / half_range) ++ number order w32 (moment % half_range)
 
 -- The body begins with the moment, whatever follows. Where there is none, the body is not looked at.
 abbrev pub ReadsInfoTs : ℕ → List ℕ → Option ℕ → Type 0

@@ -1,7 +1,9 @@
 -- The numbers of the protocol, by name: versions, ids, flags, lengths in octets and bounds (RTPS 2.5, 8.3.5, 9.3,
--- 9.4.4, 9.4.5, 9.5, 9.6 and 10). `src/names.rt` has the same names for the code, but for the bounds: of these `MAX_SN`
--- stands in `src/field.rt`, `MAX_MESSAGE` in `src/header.rt`, and `MAX_BITS` in the crate `rtps_sets`.
+-- 9.4.4, 9.4.5, 9.5, 9.6 and 10). `src/names.rt` has the same names for the code, but for the bounds: of these
+-- `MAX_MESSAGE` stands in `src/header.rt`, and `MAX_BITS` in the crate `rtps_sets`. The greatest sequence number stands
+-- in the crate `dds_base`, in `Bounds`.
 use Rattle.std.specs.Prelude.{ℕ, ◌^◌, List, [], ◌∷◌}
+use Rattle.dds_base.specs.Bounds.{window_width}
 
 -- ---- the header of a message
 
@@ -133,6 +135,10 @@ len_ownership_strength = 4
 abbrev pub len_aligned : ℕ
 len_aligned = 4
 
+-- so many values has a half of a sequence number, and a half of a moment: four octets (9.3)
+abbrev pub half_range : ℕ
+half_range = 2 ^ 32
+
 -- the header of a submessage: id, flags and length
 abbrev pub len_submessage_header : ℕ
 len_submessage_header = 4
@@ -147,14 +153,9 @@ least_octets_to_inline_qos = 16
 
 -- ---- bounds
 
--- The greatest sequence number. The standard's type ends below 2^63 (8.3.5.4), which no sum of a number and a set's
--- places reaches.
-abbrev pub max_sn : ℕ
-max_sn = 2 ^ 62
-
 -- how many numbers, from its base on, a set can have (8.3.5.5)
 abbrev pub max_bits : ℕ
-max_bits = 256
+max_bits = window_width
 
 -- the longest message, in octets: one is a UDP datagram (9.5), and none over IPv4 is longer
 abbrev pub max_message : ℕ

@@ -10,10 +10,11 @@ use Rattle.std.specs.Int.{w32}
 use Rattle.std.specs.Int.RustNames.{bit_and}
 use Rattle.dds_base.specs.declared.endianness.Endianness.{Endianness}
 use Rattle.dds_base.specs.declared.endianness.Endianness.TheVariants.{Little}
+use Rattle.dds_base.specs.Bounds.{max_sn}
 use Rattle.dds_base.specs.Fields.{number}
 use Rattle.rtps_sets.specs.NumberSet.{NumberSet, span}
 use Rattle.rtps_wire.specs.Fields.{sn_text}
-use Rattle.rtps_wire.specs.Names.{max_bits, max_sn}
+use Rattle.rtps_wire.specs.Names.{max_bits}
 
 -- the lowest bits of a word, the highest of them first
 unfoldable pub bits_below : ℕ → ℕ → List Bool

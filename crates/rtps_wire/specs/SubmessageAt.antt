@@ -2,7 +2,7 @@
 -- believed, since `read_message` says what it reads by `Submessages`.
 --
 -- RTPS 2.5, 8.3.4 and 9.4.5.
-use Rattle.std.specs.Prelude.{ℕ, ◌+◌, ◌*◌, ◌^◌, ◌==◌, ◌||◌, List, Option, Some, None, nat_lt, if◌then◌else◌}
+use Rattle.std.specs.Prelude.{ℕ, ◌+◌, ◌*◌, ◌==◌, ◌||◌, List, Option, Some, None, nat_lt, if◌then◌else◌}
 use Rattle.std.specs.Option.{option_map}
 use Rattle.std.specs.Int.{w32}
 use Rattle.dds_base.specs.Fields.{number_at, ◌>>=◌}
@@ -17,7 +17,7 @@ use Rattle.rtps_wire.specs.Fields.{has_flag, order_of}
 use Rattle.rtps_wire.specs.FieldAt.{entity_id_at, prefix_at, sn_at, count_at}
 use Rattle.rtps_wire.specs.SetAt.{set_at}
 use Rattle.rtps_wire.specs.DataAt.{data_at}
-use Rattle.rtps_wire.specs.Names.{flag_final, flag_invalidate, flag_liveliness, id_acknack, id_data, id_gap, id_heartbeat, id_info_dst, id_info_ts, id_pad}
+use Rattle.rtps_wire.specs.Names.{flag_final, flag_invalidate, flag_liveliness, half_range, id_acknack, id_data, id_gap, id_heartbeat, id_info_dst, id_info_ts, id_pad}
 
 -- the prefix of an INFO_DST, if the body is long enough
 unfoldable pub info_dst_at : List ℕ → Option GuidPrefix
@@ -29,7 +29,7 @@ info_dst_at body = do
 unfoldable pub info_ts_at : ℕ → List ℕ → Option (Option ℕ)
 info_ts_at flags body = if has_flag flags flag_invalidate then Some None else (do
   x ← both (number_at (order_of flags) w32) (number_at (order_of flags) w32) body
-  Some (Some (x.0.0 * 2 ^ 32 + x.0.1)))
+  Some (Some (x.0.0 * half_range + x.0.1)))
 
 -- the HEARTBEAT that a body is: firstSN is at least 1, and at most one more than lastSN
 unfoldable pub heartbeat_at : ℕ → List ℕ → Option Heartbeat

@@ -11,11 +11,11 @@ ghost use Rattle.dds_base.specs.declared.endianness.Endianness.TheVariants.{Litt
 ghost use Rattle.rtps_wire.specs.Fields.{has_flag, order_of, sn_text, count_text};
 ghost use Rattle.rtps_wire.specs.FieldAt.{entity_id_at, prefix_at, sn_at, count_at};
 
-use crate::names::{FLAG_ENDIANNESS, LEN_ENTITY_ID, LEN_PREFIX};
+use crate::names::{FLAG_ENDIANNESS, HALF_RANGE, LEN_ENTITY_ID, LEN_PREFIX};
 use dds_base::{Code, Endianness, EntityId, GuidPrefix, take_octets, take_u32};
 
 /// The greatest sequence number that a field holds.
-pub const MAX_SN: u64 = 1 << 62;
+pub const MAX_SN: u64 = dds_base::MAX_SN;
 
 /// Whether a flag is set.
 pub fn has_flag(flags: u8, flag: u8) -> bool
@@ -85,7 +85,7 @@ pub fn take_sn(order: Endianness, bytes: &[u8]) -> Option<(u64, &[u8])>
 {
     let (high, rest) = take_u32(order, bytes)?;
     let (low, rest) = take_u32(order, rest)?;
-    let number = u64::from(high) * (1 << 32) + u64::from(low);
+    let number = u64::from(high) * HALF_RANGE + u64::from(low);
     if MAX_SN < number {
         return None;
     }
@@ -125,8 +125,8 @@ pub fn put_u64(out: &mut Vec<u8>, number: u64) -> Result<(), Code>
     ensures ok { OnOk result (out.new.items ≡ out.old.items ++ sn_text Little number) }
     ensures memory { IfErr result (λ e. e ≡ Code.Memory) }
 {
-    let high = (number / (1 << 32)) as u32;
-    let low = (number % (1 << 32)) as u32;
+    let high = (number / HALF_RANGE) as u32;
+    let low = (number % HALF_RANGE) as u32;
     out.extend_from_slice(&high.to_le_bytes())?;
     out.extend_from_slice(&low.to_le_bytes())?;
     Ok(())

@@ -15,7 +15,8 @@ ghost use Rattle.rtps_wire.specs.declared.message.Message.{Message};
 ghost use Rattle.rtps_wire.specs.declared.submessage.Submessage.{Submessage};
 
 use crate::field::MAX_SN;
-use crate::header::MAX_MESSAGE;
+use crate::header::{MAX_MESSAGE, MAX_TOGETHER};
+use crate::names::MAX_SUBMESSAGE;
 
 /// What is written is read as itself to its end, and no bytes are read as two messages.
 pub fn spelling_is_read()
@@ -45,10 +46,11 @@ pub fn limits_are_of_the_grammar()
 /// At most 60 submessages that can be written one by one can be written together: each takes at most 1,084 octets.
 pub fn few_are_writable()
     // A submessage takes at most 1,084 octets.
-    ensures each { (s : Submessage) → IsSpellable s → length (spelling_of_submessage s) ≤ 1084 }
+    ensures each { (s : Submessage) → IsSpellable s
+        → length (spelling_of_submessage s) ≤ MAX_SUBMESSAGE }
     // At most 60 of those that can be written can be written together.
     ensures few { (m : Message) → length m.prefix.0 ≡ 12 → AllByRecursion IsSpellable m.submessages
-        → length m.submessages ≤ 60 → IsWritable m }
+        → length m.submessages ≤ MAX_TOGETHER → IsWritable m }
 {}
 
 /// What a DATA says of a change means that change, and what a DATA says is what it says of the change that it means.

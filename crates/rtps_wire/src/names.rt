@@ -6,6 +6,7 @@
 //! RTPS 2.5, 9.3 (fields), 9.4.4 (header), 9.4.5 (submessages), 9.6 (parameters) and 10 (payload).
 
 use dds_base::MAX_VALUE;
+use rtps_sets::MAX_BITS;
 
 // ---- the header of a message
 
@@ -125,6 +126,9 @@ pub const LEN_PARAMETER_HEAD: usize = 4;
 /// Parameters have lengths that are multiples of this, and bodies as they are written.
 pub const LEN_ALIGNED: usize = 4;
 
+/// So many values has a half of a sequence number, and a half of a moment: four octets.
+pub const HALF_RANGE: u64 = 1 << 32;
+
 // ---- lengths of what is made of fields
 
 /// The header of a message: protocol, version, vendor id and GUID prefix.
@@ -171,11 +175,17 @@ pub const LEN_STRENGTH: usize = LEN_PARAMETER_HEAD + LEN_OWNERSHIP_STRENGTH;
 
 // ---- the longest that is written
 
+/// The most words of a set: each has 32 bits.
+pub const MAX_WORDS: usize = MAX_BITS / 32;
+
 /// The longest set: of 256 bits.
-pub const MAX_SET: usize = LEN_SET_HEAD + 8 * LEN_WORD;
+pub const MAX_SET: usize = LEN_SET_HEAD + MAX_WORDS * LEN_WORD;
 
 /// The longest content of a DATA: a strength, the sentinel, and a datum of the longest value.
 pub const MAX_CONTENT: usize = LEN_STRENGTH + LEN_PARAMETER_HEAD + LEN_DATUM_HEAD + MAX_VALUE;
 
 /// The longest fields of a submessage: those of a DATA.
 pub const MAX_FIELDS: usize = LEN_DATA_HEAD + MAX_CONTENT;
+
+/// The longest submessage: a DATA with its header, in 1,084 octets.
+pub const MAX_SUBMESSAGE: usize = LEN_SUBMESSAGE_HEADER + MAX_FIELDS;

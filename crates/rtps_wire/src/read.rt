@@ -93,7 +93,8 @@ pub fn read_message(alloc: Global, bytes: &[u8]) -> Result<Option<Read<'_>>, Cod
     ensures only { (m : Message) (stop : ℕ) → ReadsMessage bytes.now m stop
         → IfOk result (λ read. read ≡ Some (record { message = m; stop = stop })) }
     // It has fewer submessages than bytes.
-    ensures few { IfOk result (λ read. IfSome read (λ r. length r.message.submessages ≤ 65535)) }
+    ensures few { IfOk result
+        (λ read. IfSome read (λ r. length r.message.submessages ≤ MAX_MESSAGE)) }
     // Want of memory is answered only where there is a submessage to read.
     ensures memory { IfErr result (λ e. (e ≡ Code.Memory) × HasSubmessage bytes.now) }
 {

@@ -8,20 +8,25 @@ ghost use Rattle.std.specs.Prelude.{◌≡◌, ◌≤◌, ◌^◌, ◌++◌, len
 ghost use Rattle.std.specs.Option.{option_map};
 ghost use Rattle.std.specs.List.{flat_map};
 ghost use Rattle.std.specs.Int.{w32};
+ghost use Rattle.dds_base.specs.Bounds.{max_sn};
 ghost use Rattle.dds_base.specs.Fields.{number};
 ghost use Rattle.dds_base.specs.declared.endianness.Endianness.TheVariants.{Little};
-ghost use Rattle.rtps_wire.specs.Names.{max_bits, max_sn};
+ghost use Rattle.rtps_wire.specs.Names.{max_bits};
 ghost use Rattle.rtps_wire.specs.Sets.{words_for, set_of, SetField, word_of, words_of, text_of_set, IsSet};
 ghost use Rattle.rtps_wire.specs.SetAt.{words_at, set_field_at, set_at};
 
 use crate::field::{MAX_SN, put_u64, take_sn};
-use crate::names::{LEN_SET_HEAD, LEN_WORD, MAX_SET};
+use crate::names::{LEN_SET_HEAD, LEN_WORD, MAX_SET, MAX_WORDS};
 use arrayvec::ArrayVec;
 use dds_base::{Code, Endianness, Sn, take_u32};
 use rtps_sets::{MAX_BITS, SnSet};
 
-fn take_words(order: Endianness, count: usize, bytes: &[u8]) -> Option<(ArrayVec<u32, 8>, &[u8])>
-    requires { count ≤ 8 }
+fn take_words(
+    order: Endianness,
+    count: usize,
+    bytes: &[u8],
+) -> Option<(ArrayVec<u32, MAX_WORDS>, &[u8])>
+    requires { count ≤ MAX_WORDS }
     ensures value { option_map (λ x. (x.0.items, x.1.now)) result ≡ words_at order count bytes.now }
     ensures len { IfSome result (λ x. length x.0.items ≡ count) }
 {
@@ -33,6 +38,14 @@ fn take_words(order: Endianness, count: usize, bytes: &[u8]) -> Option<(ArrayVec
         rest = after;
     }
     Some((words, rest))
+}
+
+/// How many words these bits take: one for each 32 begun.
+fn words_for(bits: usize) -> usize
+    requires { bits ≤ max_bits }
+    ensures { result ≡ words_for bits }
+{
+    (bits + 31) / 32
 }
 
 /// The set whose members the bits name.
@@ -63,7 +76,7 @@ pub fn take_set(order: Endianness, bytes: &[u8]) -> Option<(SnSet, &[u8])>
     if base < 1 || MAX_BITS < count {
         return None;
     }
-    let (words, rest) = take_words(order, (count + 31) / 32, rest)?;
+    let (words, rest) = take_words(order, words_for(count), rest)?;
     Some((set_from(base, count, words.as_slice()), rest))
 }
 
@@ -85,7 +98,7 @@ fn word_from(set: &SnSet, place: usize) -> u32
 
 fn put_words(out: &mut Vec<u8>, set: &SnSet, count: usize) -> Result<(), Code>
     requires base { set.now.base ≤ max_sn }
-    requires count { count ≤ 8 }
+    requires count { count ≤ MAX_WORDS }
     ensures ok { OnOk result (out.new.items
         ≡ out.old.items ++ flat_map (number Little w32) (words_of count set.now.members)) }
     ensures memory { IfErr result (λ e. e ≡ Code.Memory) }
@@ -105,7 +118,7 @@ pub fn put_set(out: &mut Vec<u8>, set: &SnSet) -> Result<(), Code>
     let bits = set.bits();
     put_u64(out, set.base().number())?;
     out.extend_from_slice(&(bits as u32).to_le_bytes())?;
-    put_words(out, set, (bits + 31) / 32)?;
+    put_words(out, set, words_for(bits))?;
     Ok(())
 }
 
@@ -122,5 +135,5 @@ pub fn set_len(set: &SnSet) -> usize
     ensures len { result ≡ length (text_of_set set.now) }
     ensures small { result ≤ MAX_SET }
 {
-    LEN_SET_HEAD + LEN_WORD * ((set.bits() + 31) / 32)
+    LEN_SET_HEAD + LEN_WORD * words_for(set.bits())
 }

@@ -1,7 +1,8 @@
 -- A writer's assertion and its HEARTBEAT (DDS 1.4, 2.2.2.4: assert_liveliness; 2.2.3: LIVELINESS).
-use Rattle.std.specs.Prelude.{ℕ, ◌-◌, ◌^◌, nat_le, Option, None, Some, pos, if◌then◌else◌}
+use Rattle.std.specs.Prelude.{ℕ, nat_le, Option, None, Some, pos, if◌then◌else◌}
 use Rattle.dds_base.specs.declared.code.Code.{Code}
 use Rattle.dds_base.specs.declared.code.Code.TheVariants.{OutOfResources}
+use Rattle.dds_base.specs.Bounds.{max_count}
 use Rattle.dds_base.specs.Kept.{first_kept}
 use Rattle.dds_base.specs.Written.{Asserted}
 use Rattle.rtps_writer.specs.declared.heartbeat.HeartbeatDue.{HeartbeatDue}
@@ -13,7 +14,7 @@ asserted s now = entering s (Asserted now)
 
 -- why an assertion would be refused: the counts 1 to 2^31 - 1 are used up
 abbrev pub assert_refusal : WriterState → Option Code
-assert_refusal s = if nat_le (2 ^ 31 - 1) (counts_due s) then Some OutOfResources else None
+assert_refusal s = if nat_le max_count (counts_due s) then Some OutOfResources else None
 
 -- the HEARTBEAT by which an assertion is told: none where no reader is matched, of either reliability
 abbrev pub heartbeat_asserted : WriterState → ℕ → Option HeartbeatDue

@@ -1,8 +1,9 @@
 -- What a writer keeps, and the state that it stands for.
 --
 -- RTPS 2.5, 8.4.7 (StatefulWriter, ReaderProxy); DDS 1.4, 2.2.3 (HISTORY, LIVELINESS, OWNERSHIP_STRENGTH).
-use Rattle.std.specs.Prelude.{◌≡◌, ℕ, ◌-◌, ◌^◌, Bool, List, length, min, Option, ℤ}
+use Rattle.std.specs.Prelude.{◌≡◌, ℕ, Bool, List, length, min, Option, ℤ}
 use Rattle.dds_base.specs.declared.key.Key.{Key}
+use Rattle.dds_base.specs.Bounds.{max_count}
 use Rattle.dds_base.specs.Written.{is_key_registered, strength_now}
 use Rattle.dds_history.specs.Standing.{Held, StandsFor as HistoryStandsFor}
 use Rattle.rtps_writer.specs.declared.liveliness.Liveliness.{Liveliness}
@@ -29,7 +30,7 @@ pub record StandsFor (kept : Kept) (s : WriterState) : Type 0 where
   pub history : HistoryStandsFor kept.history (history_of s)
   pub registered : (key : Key) → is_among kept.registered key ≡ is_key_registered key s.written
   pub counts : kept.counts ≡ s.counts
-  pub counts_used : kept.counts_used ≡ min (counts_due s) (2 ^ 31 - 1)
+  pub counts_used : kept.counts_used ≡ min (counts_due s) max_count
   pub liveliness : IsLiveliness kept.liveliness s.lease s.written
   pub strength : kept.strength ≡ strength_now s.strength s.written
   pub matched : kept.matched ≡ s.matched

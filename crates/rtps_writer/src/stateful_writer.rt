@@ -20,15 +20,14 @@ use crate::answer::{Answer, Answered, put_answers};
 use crate::heartbeat::HeartbeatDue;
 use crate::liveliness::Liveliness;
 use crate::registration::{is_registered, note, register, reserve};
-use dds_base::{Change, Code, HistoryQos, Key, LivelinessLostStatus, Moment, Sn, is_later};
+use dds_base::{
+    Change, Code, HistoryQos, Key, LivelinessLostStatus, MAX_COUNT, Moment, Sn, is_later,
+};
 use dds_history::History;
 use indexmap::IndexSet;
 use rtps_sets::SnSet;
 use std::alloc::Global;
 use std::marker::Model;
-
-/// The greatest count of a HEARTBEAT.
-const MAX_COUNT: u32 = 2_147_483_647;
 
 /// The second number, where it is greater.
 fn if_later(before: Sn, after: Sn) -> Option<Sn>
@@ -221,16 +220,6 @@ impl StatefulWriter {
         self.history.get(number)
     }
 
-    /// The first number that is kept, or the one past the last.
-    ///
-    /// RTPS 2.5, 8.3.8 (Heartbeat: firstSN).
-    pub fn first(&self) -> Sn
-        ensures first { (s : WriterState) → StandsFor self.now s
-            → result ≡ first_kept (history_of s) }
-    {
-        self.history.first()
-    }
-
     /// The number of the last change; 0 before the first.
     pub fn last(&self) -> Sn
         ensures last { (s : WriterState) → StandsFor self.now s → result ≡ last_of s }
@@ -247,19 +236,6 @@ impl StatefulWriter {
             → result ≡ length s.acknowledged }
     {
         self.history.readers()
-    }
-
-    /// The number below which this reader, by its index from 0, has acknowledged all: 1 at first.
-    ///
-    /// RTPS 2.5, 8.4.7 (ReaderProxy, acked_changes_set).
-    pub fn acknowledged(&self, reader: usize) -> Sn
-        // There is such a reader.
-        requires reader { reader < reader_count self.now }
-        // It is what the reader has acknowledged of the writer that it stands for.
-        ensures acknowledged { (s : WriterState) → StandsFor self.now s
-            → result ≡ acknowledged_by s reader }
-    {
-        self.history.acknowledged(reader)
     }
 
     /// Whether this reader, by its index from 0, has not acknowledged all changes.

@@ -9,7 +9,7 @@ use std::alloc::Global;
 /// `open` begins anew, for two matched readers, with a depth or `all`, with the most that may be kept or `any`, perhaps
 /// with a lease or `endless`, and of exclusive ownership perhaps with a strength. `strength` is what its changes carry,
 /// `set_strength` has another one. `write`, `unregister` and `refusal` have the key and the value of a change,
-/// `registered` and `register` a key. `get` has a number: whether it is kept. `behind` and `acknowledged` have a reader.
+/// `registered` and `register` a key. `get` has a number: whether it is kept. `behind` has a reader.
 /// `tick` and `assert` may have a moment: the HEARTBEAT that is due. `lost` is LIVELINESS_LOST. `acknack` has a reader,
 /// the base and the count, and perhaps the number of a member and one of those after it.
 const WRITERS: &str = "\
@@ -29,8 +29,6 @@ behind 0 => true
 acknack 0 3 1 => Ok(Answered { acknowledged: Some(Sn { number: 3 }), answers: [] })
 behind 0 => false
 behind 1 => true
-acknowledged 0 => 3
-acknowledged 1 => 1
 get 1 => true
 tick => Some(HeartbeatDue { first: Sn { number: 1 }, last: Sn { number: 2 }, count: 2 })
 
@@ -44,9 +42,9 @@ write 1 03 => Ok(Sn { number: 3 })
 tick => Some(HeartbeatDue { first: Sn { number: 2 }, last: Sn { number: 3 }, count: 3 })
 unregister 1 00 => Err(Timeout)
 acknack 1 4 3 => Ok(Answered { acknowledged: Some(Sn { number: 4 }), answers: [] })
-first => 3
+get 3 => true
 acknack 0 4 2 => Ok(Answered { acknowledged: Some(Sn { number: 4 }), answers: [] })
-first => 4
+get 3 => false
 tick => None
 unregister 1 00 => Ok(Sn { number: 4 })
 registered 1 => false
@@ -59,7 +57,8 @@ write 2 03 => Ok(Sn { number: 3 })
 write 1 04 => Ok(Sn { number: 4 })
 acknack 0 1 1 1 2 => Ok(Answered { acknowledged: None, answers: [Gap { first: Sn { number: 1 }, last: Sn { number: 2 } }] })
 acknack 0 1 2 1 4 => Ok(Answered { acknowledged: None, answers: [Gap { first: Sn { number: 1 }, last: Sn { number: 1 } }, Data(Sn { number: 4 })] })
-first => 3
+get 2 => false
+get 3 => true
 last => 4
 
 # A writer is lost once its lease has passed since it was asserted, and each loss is told once. A write asserts it at moment 0.
@@ -172,12 +171,6 @@ fn push_flag(text: &mut String, flag: bool) {
     let _ = write!(text, "{flag}");
 }
 
-fn push_acknowledged(text: &mut String, writer: &StatefulWriter, reader: usize) {
-    if reader < writer.readers() {
-        push_number(text, writer.acknowledged(reader));
-    }
-}
-
 fn push_behind(text: &mut String, writer: &StatefulWriter, reader: usize) {
     if reader < writer.readers() {
         push_flag(text, writer.is_behind(reader));
@@ -216,7 +209,6 @@ impl Subject for StatefulWriter {
                     push_number(text, self.last());
                 }
             }
-            "first" => push_number(text, self.first()),
             "last" => push_number(text, self.last()),
             "write" => push_write(text, self, change_of(alloc, ChangeKind::Write, words)),
             "unregister" => push_write(text, self, change_of(alloc, ChangeKind::Unregister, words)),
@@ -224,7 +216,6 @@ impl Subject for StatefulWriter {
             "register" => push_register(text, self, key_of(words.first)),
             "registered" => push_flag(text, self.is_registered(key_of(words.first))),
             "get" => push_flag(text, self.get(Sn::new(number_of(words.first))).is_some()),
-            "acknowledged" => push_acknowledged(text, self, words.first.parse().unwrap_or(0)),
             "behind" => push_behind(text, self, words.first.parse().unwrap_or(0)),
             "tick" => push_tick(text, self, Moment::new(number_of(words.first))),
             "assert" => push_assert(text, self, Moment::new(number_of(words.first))),

@@ -9,7 +9,7 @@ use Rattle.dds_protocol.specs.Claims.{Receiver, after_submessage}
 use Rattle.dds_core.specs.Kept.{PeerKept}
 use Rattle.dds_core.specs.Moved.{MovesKept}
 use Rattle.dds_core.specs.declared.twin.Twin.{Twin}
-use Rattle.dds_core.specs.Twins.{is_asked}
+use Rattle.dds_core.specs.Twins.{wants_two}
 use Rattle.dds_core.specs.Readiness.{receiver_at}
 use Rattle.dds_core.proofs.TakenSoFar.{TakesTo}
 use Rattle.dds_core.proofs.Taking.{no_messages, takes_none, takes_more, takes_all, takes_some}
@@ -127,8 +127,8 @@ take_submessage-requires-clause-bounded c =
 
 pub returns-in-Err-clause-twin : goal.returns-in-Err-clause-twin
 returns-in-Err-clause-twin c = λ asked.
-    c.into_report.ensures.twin (ap (λ (t : Twin). is_asked t) c.loop-index.invariant.still ∙ asked)
+    c.into_report.ensures.twin (ap (λ (t : Twin). wants_two t) c.loop-index.invariant.still ∙ asked)
 
 pub returns-clause-twin : goal.returns-clause-twin
 returns-clause-twin c = λ asked.
-    c.into_report-2.ensures.twin (ap (λ (t : Twin). is_asked t) c.loop-index.invariant.still ∙ asked)
+    c.into_report-2.ensures.twin (ap (λ (t : Twin). wants_two t) c.loop-index.invariant.still ∙ asked)

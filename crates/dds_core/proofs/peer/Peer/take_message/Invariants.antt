@@ -2,7 +2,7 @@ use Rattle.std.proofs.Common.{◌≡◌, ◌≤◌, ◌*◌, ◌^◌}
 use Rattle.dds_core.specs.Readiness.{receiver_at}
 use Rattle.dds_core.proofs.TakenSoFar.{TakesTo}
 use Rattle.dds_core.specs.Sending.{AreMessages}
-use Rattle.dds_core.specs.Twins.{is_asked}
+use Rattle.dds_core.specs.Twins.{wants_two}
 use Rattle.dds_core.proofs.peer.Peer.take_message.Given as goal
 
 abbrev pub invariant-loop-index : goal.invariant-loop-index
@@ -12,6 +12,6 @@ invariant-loop-index l = record {
   messages : AreMessages l.sent.packets.items;
   same : l.self.prefix ≡ l.initial.self.prefix;
   whole : l.submessage-items ≡ l.message.submessages;
-  twice : l.moves.twice ≡ is_asked l.twin;
+  twice : l.moves.twice ≡ wants_two l.twin;
   still : l.twin ≡ l.initial.twin;
 }
