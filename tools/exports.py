@@ -1,6 +1,7 @@
 #!/usr/bin/env python3
 """What a crate's sources have: what its root file exports, and the functions and constants of a file. tools/believed,
-tools/unedited and tools/cited ask here. Run alone, it tests itself on the sources of a small crate, which stand below."""
+tools/unedited, tools/cited and tools/c-examples ask here. Run alone, it tests itself on the sources of a small crate,
+which stand below."""
 import dataclasses
 import pathlib
 import re
