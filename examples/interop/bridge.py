@@ -3,7 +3,8 @@
 It is not proved: it finds the participant, opens the peer with the writer and the reader that it found, and from then on
 carries octets. CHANGES is a file of lines "write KEY VALUE", "dispose KEY" and "unregister KEY", which our writer makes, one
 a turn. COUNT is how many changes the product's writer makes. What our reader takes is printed: a write with its counts of
-disposed and no-writers generations. It ends once all of both has come, and then prints the last state of each instance."""
+disposed and no-writers generations and the handle of its instance. It ends once all of both has come, and then prints the
+last state of each instance."""
 import argparse
 import os
 import pathlib
@@ -181,7 +182,7 @@ class Bridge:
         self.states[key] = STATES[info.instance_state]
         if info.valid_data:
             counts = f"{info.disposed_generation_count} {info.no_writers_generation_count}"
-            print("write", key, value.hex() or "-", counts)
+            print("write", key, value.hex() or "-", counts, info.instance_handle)
         else:
             print(GONE.get(info.instance_state, "replaced"), key)
 
