@@ -15,7 +15,7 @@ use dds_base::ReaderQos;
 use dds_instances::Instances;
 
 /// Fewer samples than this are not swept. `docs/DECISIONS.md`, "A reader's cache", says when others are.
-const SWEPT_FROM: usize = 16;
+const SWEPT_FROM: usize = 8;
 
 /// Whether a kept sample may still be present.
 pub fn is_still_live(instances: &Instances, qos: &ReaderQos, kept: &Kept) -> bool
