@@ -3,7 +3,7 @@
 //!
 //! DDS 1.4, 2.2.2.4 and 2.2.2.5 (calls), 2.2.4.1 (communication statuses); RTPS 2.5, 8.4 (behaviour).
 //! `specs/` holds the definitions of the machine, to which nobody needs a packet: no crate of the protocol stands below.
-//! Not here: code that runs, but for the copies of calls and replies; bytes, messages and what they claim
+//! Not here: code that runs, but for the copy of a call; bytes, messages and what they claim
 //! (`dds_protocol`).
 #![tactic(auto)]
 
