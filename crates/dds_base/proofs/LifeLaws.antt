@@ -408,23 +408,26 @@ pub over-count : (n : ℕ) (b : Bool) → b ≡ true → (if b then 0 else n) �
 over-count n true is = refl
 over-count n false is = absurd cc
 
+-- a life that ends has none that is present
+pub is-over-none : (nobody has : Bool) → (nobody && not has) ≡ true → has ≡ false
+is-over-none true true e = absurd cc
+is-over-none true false e = refl
+is-over-none false has e = absurd cc
+
+-- what is not there is not there either without a marker
+pub markers-gone : (left written marker : Bool) → (left && (written || marker)) ≡ false
+    → (left && (written || false)) ≡ false
+markers-gone true true marker e = absurd cc
+markers-gone true false marker e = refl
+markers-gone false written marker e = refl
+
 -- of a life that ended nothing is
 pub over-absent : (q : ReaderQos) (i : Key) (h : List Happening) (e : Happening) → ends_life q i h e ≡ true → (j : ℕ)
     → 1 ≤ j → j ≤ length h + 1 → is_present q (e ∷ h) i j ≡ false
 over-absent q i h e over j above below =
     let none : has_there q (e ∷ h) i (reached q i h e) ≡ false =
-    nothing (is_nobody (registered_writers q i (e ∷ h))) (has_there q (e ∷ h) i (reached q i h e)) over in
+    is-over-none (is_nobody (registered_writers q i (e ∷ h))) (has_there q (e ∷ h) i (reached q i h e)) over in
     ap (λ (m : Option ℕ). is_there q (e ∷ h) i m j) (ap (λ (b : Bool). if b then None else reached q i h e) over)
-    ∙ fewer (not (is_taken (record { key = i; position = j }) (e ∷ h))) (is_kept_write q (e ∷ h) i j)
+    ∙ markers-gone (not (is_taken (record { key = i; position = j }) (e ∷ h))) (is_kept_write q (e ∷ h) i j)
     (is_at (reached q i h e) j)
     (up_to-at (is_there q (e ∷ h) i (reached q i h e)) (suc (length h)) j above (omega (arith, below)) none)
-  where
-    nothing : (a b : Bool) → (a && not b) ≡ true → b ≡ false
-    nothing true true e = absurd cc
-    nothing true false e = refl
-    nothing false b e = absurd cc
-
-    fewer : (a b c : Bool) → (a && (b || c)) ≡ false → (a && (b || false)) ≡ false
-    fewer true true c e = absurd cc
-    fewer true false c e = refl
-    fewer false b c e = refl

@@ -1,7 +1,6 @@
 //! A list that contracts see as a list.
 
 ghost use Rattle.std.specs.Prelude.{◌≡◌, IfOk};
-ghost use Rattle.std.specs.List.{AllZip};
 ghost use Rattle.std.specs.Cmp.Lexicographic.{pointwise, lists_per, lists_equiv};
 
 use std::alloc::AllocError;
@@ -57,32 +56,6 @@ impl<T: Copy> Sequence<T> {
         ensures same { IfOk result (λ copy. copy ≡ self.now) }
     {
         let items = Vec::from_slice(*self.items.allocator(), self.items.as_slice())?;
-        Ok(Sequence { items })
-    }
-}
-
-impl<T: Clone> Sequence<T> {
-    /// The same elements, once more, where a copy of an element is equal to it.
-    ///
-    /// # Errors
-    ///
-    /// Where a growth was refused.
-    pub fn cloned(&self) -> Result<Sequence<T>, AllocError>
-        // A copy of an element is equal to it.
-        requires exact { (element copy : T) → T.is_clone element copy → copy ≡ element }
-        // The elements are the same ones, in their order.
-        ensures same { IfOk result (λ copy. copy ≡ self.now) }
-    {
-        let items = self.items.clone()?;
-        Ok(Sequence { items })
-    }
-}
-
-impl<T: Clone> Clone for Sequence<T> {
-    ghost is_clone = { AllZip T.is_clone };
-
-    fn clone(&self) -> Result<Sequence<T>, AllocError> {
-        let items = self.items.clone()?;
         Ok(Sequence { items })
     }
 }
