@@ -2,17 +2,18 @@
 -- this: nothing here has to be believed.
 --
 -- DDS 1.4, 2.2.3 (HISTORY); RTPS 2.5, 8.2 (HistoryCache, CacheChange).
-use Rattle.std.specs.Prelude.{◌≡◌, ℕ, ◌≤◌, ◌<◌, ◌+◌, ◌-◌, ◌==◌, ◌||◌, not, Bool, true, false, List, [], ◌∷◌, map, length, filter, drop, slice_get, nat_lt, nat_le, if◌then◌else◌}
+use Rattle.std.specs.Prelude.{◌≡◌, ℕ, ◌≤◌, ◌<◌, ◌+◌, ◌-◌, ◌^◌, ◌==◌, ◌||◌, not, Bool, true, false, List, [], ◌∷◌, map, length, filter, drop, slice_get, nat_lt, nat_le, if◌then◌else◌}
 use Rattle.std.specs.Map.{lookup}
 use Rattle.std.specs.Option.{option_map_or, unwrap_or}
 use Rattle.dds_base.specs.declared.key.Key.{Key}
+use Rattle.dds_base.specs.declared.change.Change.{Change}
 use Rattle.dds_base.specs.declared.qos.HistoryQos.{HistoryQos}
 use Rattle.dds_base.specs.declared.qos.HistoryQos.TheVariants.{KeepAll, KeepLast}
 use Rattle.dds_base.specs.Happening.{same_key}
 use Rattle.dds_history.specs.declared.held.Entry.{Entry}
 use Rattle.dds_history.specs.declared.held.KeyCount.{KeyCount}
 use Rattle.dds_history.specs.declared.held.Kept.{Kept}
-use Rattle.dds_history.specs.Held.{HeldChange, lives}
+use Rattle.dds_history.specs.Held.{AreRuns, HeldChange, lives, with_change}
 
 -- the keys with their counts
 abbrev pub Counted : Type 0
@@ -105,6 +106,21 @@ pub record Holds (last : ℕ) (s : KeptState) : Type 0 where
   pub rises : Rises s.entries
   pub up_to : AreUpTo last s.entries
   pub fits : FitsBy s.policy last s
+
+-- what is kept is sound, up to the number before this one
+pub record HoldsBefore (last number : ℕ) (s : KeptState) : Type 0 where
+  pub next : last + 1 ≡ number
+  pub few : last < 2 ^ 48
+  pub holds : Holds last s
+
+-- one more change of a key drops one of those that are kept exactly if as many of it are as can be
+abbrev pub HasRuns : KeptState → Type 0
+HasRuns s = AreRuns s.policy (shown s)
+
+-- the change of this number was added, which some reader awaits or not
+abbrev pub Gains : ℕ → Change → Bool → KeptState → KeptState → Type 0
+Gains number change is_awaited old new =
+    Holds number new × (shown new ≡ with_change old.policy (shown old) number change is_awaited)
 
 -- one change fewer of a key is kept
 abbrev pub one_fewer : KeyCount → KeyCount

@@ -18,8 +18,8 @@ ghost use Rattle.dds_base.specs.declared.key.Key.{Key};
 ghost use Rattle.dds_base.specs.declared.qos.HistoryQos.TheVariants.{KeepLast};
 ghost use Rattle.dds_base.specs.Happening.{same_key};
 ghost use Rattle.dds_history.specs.declared.held.Entry.{Entry};
-ghost use Rattle.dds_history.specs.Held.{AreRuns, HeldChange, IsNext, awaits, granted, kept_after, older_after, with_change};
-ghost use Rattle.dds_history.specs.Entries.{Holds, IsAfterFirst, Rises, count_in, goes_first, held_as, one_fewer, remaining_by, shown, state, is_counted, IsCounted, IsCountedBy, IsFew, IsFewBy};
+ghost use Rattle.dds_history.specs.Held.{HeldChange, IsNext, awaits, granted, kept_after, older_after};
+ghost use Rattle.dds_history.specs.Entries.{Gains, HasRuns, Holds, HoldsBefore, IsAfterFirst, Rises, count_in, goes_first, held_as, one_fewer, remaining_by, shown, state, is_counted, IsCounted, IsCountedBy, IsFew, IsFewBy};
 
 use dds_base::{Change, Code, HistoryQos, Key};
 use indexmap::IndexMap;
@@ -317,10 +317,9 @@ impl Kept {
 
     /// Adds a change, which may drop an older one of its key.
     fn add(&mut self, number: u64, change: Change) -> Result<(), Code>
-        ensures ok { (last : ℕ) → last + 1 ≡ number → last < 2 ^ 48 → Holds last (state self.old)
-            → AreRuns self.old.policy (shown (state self.old)) → 0 < granted self.old.policy
-            → OnOk result (Holds number (state self.new)
-            × (shown (state self.new) ≡ with_change self.old.policy (shown (state self.old)) number change true)) }
+        ensures ok { (last : ℕ) → HoldsBefore last number (state self.old)
+            → HasRuns (state self.old) → 0 < granted self.old.policy
+            → OnOk result (Gains number change true (state self.old) (state self.new)) }
         ensures policy { self.new.policy ≡ self.old.policy }
         ensures memory { IfErr result (λ code. code ≡ Memory) }
         ensures err { OnErr result (state self.new ≡ state self.old) }
@@ -358,10 +357,9 @@ impl Kept {
 
     /// One more change, which is kept if some reader awaits it, and may drop an older one of its key.
     pub fn append(&mut self, number: u64, change: Change, is_awaited: bool) -> Result<(), Code>
-        ensures ok { (last : ℕ) → last + 1 ≡ number → last < 2 ^ 48 → Holds last (state self.old)
+        ensures ok { (last : ℕ) → HoldsBefore last number (state self.old)
             → IsNext self.old.policy (shown (state self.old)) is_awaited
-            → OnOk result (Holds number (state self.new)
-            × (shown (state self.new) ≡ with_change self.old.policy (shown (state self.old)) number change is_awaited)) }
+            → OnOk result (Gains number change is_awaited (state self.old) (state self.new)) }
         ensures policy { self.new.policy ≡ self.old.policy }
         ensures memory { IfErr result (λ code. code ≡ Memory) }
         ensures err { OnErr result (state self.new ≡ state self.old) }
@@ -376,7 +374,7 @@ impl Kept {
     /// How many changes are kept once one more of this key was made, the new one among them if some reader awaits it.
     pub fn kept_with(&self, key: &Key, is_awaited: bool) -> u64
         ensures { (last : ℕ) → last < 2 ^ 48 → Holds last (state self.now)
-            → AreRuns self.now.policy (shown (state self.now))
+            → HasRuns (state self.now)
             → result ≡ kept_after self.now.policy (shown (state self.now)) key.now is_awaited }
     {
         let older = self.older(key);
@@ -389,8 +387,7 @@ impl Kept {
 
     /// How many changes stay kept once one more of this key was made.
     fn older(&self, key: &Key) -> u64
-        ensures older { (last : ℕ) → Holds last (state self.now)
-            → AreRuns self.now.policy (shown (state self.now))
+        ensures older { (last : ℕ) → Holds last (state self.now) → HasRuns (state self.now)
             → result ≡ older_after self.now.policy (shown (state self.now)) key.now }
         ensures few { (last : ℕ) → last < 2 ^ 48 → Holds last (state self.now) → result < 2 ^ 64 - 1 }
     {

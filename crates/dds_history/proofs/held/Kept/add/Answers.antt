@@ -7,15 +7,15 @@ use Rattle.dds_history.proofs.Adding.{added_by, few_of}
 use Rattle.dds_history.proofs.held.Kept.add.Goals as goal
 
 pub returns-clause-ok : goal.returns-clause-ok
-returns-clause-ok c = λ last next lt holds runs some.
+returns-clause-ok c = λ last before runs some.
     let was = c.args.self.now in
     let same = c.reserve.ensures.items in
     let few = subst (λ (es : List Entry). IsFewBy was.policy last
     (record { policy = was.policy; entries = es; counted = was.keys.entries; live = was.live })) (sym same)
-    (few_of was.policy last (state was) holds.fits) in
+    (few_of was.policy last (state was) before.holds.fits) in
     let counted = subst (λ (es : List Entry). IsCountedBy was.policy c.args.change.key
     (record { policy = was.policy; entries = es; counted = was.keys.entries; live = was.live })
-    (state c.turn.new.self) c.in_ok-turn.turn) same (c.in_ok-turn.ensures.counts last lt few) in
+    (state c.turn.new.self) c.in_ok-turn.turn) same (c.in_ok-turn.ensures.counts last before.few few) in
     let new : Entry = record { number = c.args.number; change = c.args.change; turn = c.in_ok-turn.turn } in
     let more : c.push_back_reserved.new.self.items ≡ was.entries.items ++ new ∷ [] =
     c.push_back_reserved.ensures.items
@@ -30,4 +30,5 @@ returns-clause-ok c = λ last next lt holds runs some.
     ≡ with_change was.policy (held_by was.policy was.keys.entries was.entries.items) c.args.number c.args.change true))
     (sym c.turn.ensures.policy)
     (added_by was.policy last was.live was.keys.entries was.entries.items c.push_back_reserved.new.self.items
-    (state c.turn.new.self) c.in_ok-turn.turn c.args.number c.args.change next some runs holds counted more)
+    (state c.turn.new.self) c.in_ok-turn.turn c.args.number c.args.change before.next some runs before.holds counted
+    more)

@@ -28,7 +28,8 @@ returns-clause-ok c = λ w s.
     sym (c.is_awaited-is_awaited.ensures
     ∙ ap (λ (a : List ℕ). awaits a (inside.last + 1)) c.deref.ensures.value) in
     let next = subst (λ (b : Bool). IsNext inside.kept.policy (shown (state inside.kept)) b) awaited (next_of opened w here) in
-    let more = c.in_ok-append.ensures.ok inside.last refl (omega (arith, few, last)) here.holds next in
+    let more = c.in_ok-append.ensures.ok inside.last
+    (record { next = refl; few = omega (arith, few, last); holds = here.holds }) next in
     let added = stands-more opened w c.args.change (state c.append.new.self) here (omega (arith, few, last))
     c.append.ensures.policy
     (more.1 ∙ ap (λ (b : Bool). with_change inside.kept.policy (shown (state inside.kept)) (inside.last + 1) c.args.change b)
