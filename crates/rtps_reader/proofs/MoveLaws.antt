@@ -8,15 +8,14 @@ use Rattle.dds_base.specs.declared.happening.Happening.{Happening}
 use Rattle.dds_base.specs.declared.happening.Happening.TheVariants.{Came, Passed}
 use Rattle.dds_base.specs.declared.happening.PassedRun.{PassedRun}
 use Rattle.dds_base.specs.declared.qos.ReaderQos.{ReaderQos}
-use Rattle.dds_base.specs.Presence.{has_room}
 use Rattle.dds_base.specs.Places.{Match, PlaceWith, coming, Comes, Passes, GoesTo}
 use Rattle.dds_base.proofs.PlaceLaws.{EndBelow, end_below_on, end_below_more, come_more, pass_more}
 use Rattle.rtps_reader.specs.declared.step.HeartbeatSeen.{HeartbeatSeen}
 use Rattle.rtps_reader.specs.declared.step.Step.{Step}
 use Rattle.rtps_reader.specs.Answer.{AnswersHeartbeat, answered, heard_after}
-use Rattle.rtps_reader.specs.Moving.{HeartbeatMoves, ArePassable, PassesOver, HandsOn, Moves, match_of}
+use Rattle.rtps_reader.specs.Moving.{HeartbeatMoves, ArePassable, FindsNoRoom, PassesOver, HandsOn, Moves, match_of}
 use Rattle.rtps_reader.specs.Jump.{passed_from}
-use Rattle.rtps_reader.specs.Tracked.{Tracked, Held, is_passable, with_heartbeat, SameTracked}
+use Rattle.rtps_reader.specs.Tracked.{Tracked, is_passable, with_heartbeat, SameTracked}
 use Rattle.rtps_reader.specs.Advance.{known, Stays, Advances}
 use Rattle.rtps_reader.specs.declared.writer_proxy.Source.{Source}
 
@@ -157,10 +156,8 @@ handed match t h runs mid new before after p o =
 pub stopped : (match : Match) (t : Tracked) (h : List Happening) (runs : List PassedRun) (mid new : Tracked)
     (stands : List Happening → Type 0)
     → Progress match t h runs mid stands (mid.place + 1) → is_passable mid mid.place ≡ false
-    → ((change : Change) (happened : List Happening) → mid.slot mid.place ≡ Held change → stands happened
-    → has_room match.qos happened (coming match (record { place = mid.place; happened = happened }) change) ≡ false)
-    → SameTracked mid new → (happened : List Happening) × Advances match t h new.place runs new happened
-    × stands happened
+    → FindsNoRoom match stands mid → SameTracked mid new
+    → (happened : List Happening) × Advances match t h new.place runs new happened × stands happened
 stopped match t h runs mid new stands p not_passable full same =
     let here : mid.slot mid.place ≡ t.slot mid.place = p.stays.slots mid.place (omega arith) in
     let found : (happened : List Happening) × Advances match t h mid.place runs mid happened × stands happened = (
@@ -206,7 +203,7 @@ carried q0 q source before0 before after t0 t to passed new same stands is moves
       r.2,
     )
 
--- an accepted HEARTBEAT, from what is known as before, at a sink of the same policies
+-- a later HEARTBEAT, from what is known as before, at a sink of the same policies
 pub accepted : (q0 q : ReaderQos) (source : Source) (before0 before after : List Happening → Type 0) (t0 t : Tracked)
     (heartbeat : HeartbeatSeen) (step : Step) (mid new : Tracked)
     → q ≡ q0 → ((h : List Happening) → before0 h → before (heard_after (match_of q0 source) heartbeat.liveliness h))
@@ -214,7 +211,8 @@ pub accepted : (q0 q : ReaderQos) (source : Source) (before0 before after : List
     → step.heard ≡ heartbeat.liveliness → Moves (match_of q source) before after t step.to step.passed mid
     → AnswersHeartbeat mid heartbeat.last heartbeat.is_final step.acknack → new ≡ answered step.acknack mid
     → HeartbeatMoves (match_of q0 source) before0 after t0 heartbeat step new
-accepted q0 q source before0 before after t0 t heartbeat step mid new same stands is heard moves answers counted h was =
+accepted q0 q source before0 before after t0 t heartbeat step mid new same stands is heard moves answers counted later h
+    was =
     let r = moves (heard_after (match_of q0 source) heartbeat.liveliness h) (stands h was) in (
       r.0,
       record {

@@ -193,8 +193,7 @@ jumps_all o q source moment number change before after new (Err e) is moves quie
 accepted_at : (match : Match) (before after : List Happening → Type 0) (items : List WriterProxy) (writer : ℕ)
     (proxy new : WriterProxy) (heartbeat : HeartbeatSeen) (step : Step)
     → slice_get items writer ≡ Some proxy
-    → (is_later (tracked proxy).count heartbeat.count ≡ true
-    → HeartbeatMoves match before after (tracked proxy) heartbeat step (tracked new))
+    → HeartbeatMoves match before after (tracked proxy) heartbeat step (tracked new)
     → (t : Tracked) (h : List Happening) → Tracks (record { proxies = items }) writer t → before h
     → is_later t.count heartbeat.count ≡ true
     → TakesHeartbeat match t h heartbeat step (Tracks (record { proxies = slice_set items writer new }) writer) after
@@ -213,8 +212,7 @@ pub accepted_all : {E : Type 0} {reader : Proxies} {items : List WriterProxy} {w
     → Opened reader items writer proxy → (q : ReaderQos) (source : Source) (moment : ℕ)
     (before after : List Happening → Type 0) (new : WriterProxy) (heartbeat : HeartbeatSeen) (r : Result Step E)
     → source ≡ record { publication = writer + 1; moment = moment }
-    → (is_later (tracked proxy).count heartbeat.count ≡ true
-    → IfOk r (λ step. HeartbeatMoves (match_of q source) before after (tracked proxy) heartbeat step (tracked new)))
+    → IfOk r (λ step. HeartbeatMoves (match_of q source) before after (tracked proxy) heartbeat step (tracked new))
     → IfOk r (λ step. (t : Tracked) (h : List Happening) → Tracks reader writer t → before h
     → is_later t.count heartbeat.count ≡ true
     → TakesHeartbeat (match_at q writer moment) t h heartbeat step

@@ -8,6 +8,7 @@ use Rattle.dds_base.specs.declared.happening.Happening.{Happening}
 use Rattle.dds_base.specs.declared.happening.PassedRun.{PassedRun}
 use Rattle.dds_base.specs.Bounds.{window_width}
 use Rattle.dds_base.specs.Presence.{has_room}
+use Rattle.dds_base.specs.Counts.{is_later}
 use Rattle.dds_base.specs.Places.{Match, coming}
 use Rattle.rtps_reader.specs.Tracked.{Tracked, Held, is_named, is_passable}
 use Rattle.rtps_sets.specs.NumberSet.{NumberSet}
@@ -61,6 +62,11 @@ pub record HandsOn (match : Match) (before after : List Happening → Type 0) (o
   pub place : new.place ≡ old.place + 1
   pub stays : Stays old new
 
+-- a change that is held at the place finds no room, whatever happened that the sink stands for
+abbrev pub FindsNoRoom : Match → (List Happening → Type 0) → Tracked → Type 0
+FindsNoRoom match before t = (change : Change) (h : List Happening) → t.slot t.place ≡ Held change → before h
+    → has_room match.qos h (coming match (record { place = t.place; happened = h }) change) ≡ false
+
 -- what moving the place did: for all that the sink stood for, it stands for what the way entered
 abbrev pub Moves : Match → (List Happening → Type 0) → (List Happening → Type 0) → Tracked → ℕ → List PassedRun
     → Tracked → Type 0
@@ -79,8 +85,9 @@ abbrev pub HasMoved : Match → (List Happening → Type 0) → (List Happening 
 HasMoved match before after t number change to passed new = (h : List Happening) → before h
     → (happened : List Happening) × HasJumped match t h number change to passed new happened × after happened
 
--- what an accepted HEARTBEAT did: for all that the sink stood for, it stands for what was entered
+-- what a HEARTBEAT did that is later than those before: for all that the sink stood for, it stands for what was entered
 abbrev pub HeartbeatMoves : Match → (List Happening → Type 0) → (List Happening → Type 0) → Tracked → HeartbeatSeen
     → Step → Tracked → Type 0
-HeartbeatMoves match before after t heartbeat step new = (h : List Happening) → before h
+HeartbeatMoves match before after t heartbeat step new =
+    is_later t.count heartbeat.count ≡ true → (h : List Happening) → before h
     → (happened : List Happening) × Accepts match t h heartbeat step new happened × after happened

@@ -4,16 +4,13 @@
 
 ghost use Rattle.std.specs.Prelude.{◌≡◌, ℕ, ◌+◌, ◌-◌, ◌*◌, ◌^◌, ◌<◌, ◌≤◌, ◌&&◌, ◌||◌, ◌==◌, min, List, ◌∷◌, ◌++◌, [], length, Bool, true, false, nat_lt, nat_le, is_none, None, Some, if◌then◌else◌, OnOk, IsOk, IfOk, IfErr, IfSome, vec_len, vec_capacity};
 ghost use Rattle.dds_base.specs.declared.code.Code.TheVariants.{Memory};
-ghost use Rattle.dds_base.specs.declared.change.Change.{Change};
 ghost use Rattle.dds_base.specs.declared.happening.Happening.{Happening};
 ghost use Rattle.dds_base.specs.Ownership.{IsMatched};
-ghost use Rattle.dds_base.specs.Presence.{has_room};
-ghost use Rattle.dds_base.specs.Places.{coming};
 ghost use Rattle.dds_base.specs.Counts.{is_later};
 ghost use Rattle.rtps_sets.specs.Window.{mark_of, window_place, can_mark};
 ghost use Rattle.rtps_sets.specs.declared.window.Mark.TheVariants as mark;
-ghost use Rattle.rtps_reader.specs.Tracked.{Tracked, Held, fresh, is_named, is_passable, with_data, with_gap, with_heartbeat, SameTracked};
-ghost use Rattle.rtps_reader.specs.Moving.{ArePassable, PassesOver, HandsOn, Moves, HeartbeatMoves, JumpMoves, HasMoved, match_of, mark_named, CanMove};
+ghost use Rattle.rtps_reader.specs.Tracked.{fresh, is_named, is_passable, with_data, with_gap, with_heartbeat, SameTracked};
+ghost use Rattle.rtps_reader.specs.Moving.{ArePassable, FindsNoRoom, PassesOver, HandsOn, Moves, HeartbeatMoves, JumpMoves, HasMoved, match_of, mark_named, CanMove};
 ghost use Rattle.rtps_reader.specs.Jump.{run_of, passed_from};
 ghost use Rattle.rtps_reader.specs.Advance.{Stays};
 ghost use Rattle.rtps_reader.specs.HeldChanges.{count_held};
@@ -267,12 +264,9 @@ impl WriterProxy {
             (tracked self.new) }
         ensures stays { result ≡ false → SameTracked (tracked self.old) (tracked self.new)
             × (sink.new ≡ sink.old) }
-        ensures full { result ≡ false → (change : Change) (h : List Happening)
-            → (tracked self.old).slot (window_place self.old.window) ≡ Held change
-            → S.stands sink.old h
-            → has_room (S.qos sink.old) h
-            (coming (match_of (S.qos sink.old) source.now)
-            (record { place = window_place self.old.window; happened = h }) change) ≡ false }
+        ensures full { result ≡ false
+            → FindsNoRoom (match_of (S.qos sink.old) source.now) (S.stands sink.old)
+            (tracked self.old) }
         ensures was_marked { result ≡ true
             → mark_of self.old.window (window_place self.old.window) ≡ Some mark.Held }
         ensures outside { (n : ℕ) → mark_of self.old.window n ≡ None
@@ -580,8 +574,7 @@ impl WriterProxy {
         requires sound { IsSound self.old }
         requires matched { IsMatched (S.qos sink.old) source.now.publication }
         requires small { heartbeat.now.first ≤ 2 ^ 62 }
-        ensures moves { is_later self.old.count heartbeat.now.count ≡ true
-            → IfOk result
+        ensures moves { IfOk result
             (λ step. HeartbeatMoves (match_of (S.qos sink.old) source.now) (S.stands sink.old)
             (S.stands sink.new) (tracked self.old) heartbeat.now step (tracked self.new)) }
         ensures repeated { is_later self.old.count heartbeat.now.count ≡ false

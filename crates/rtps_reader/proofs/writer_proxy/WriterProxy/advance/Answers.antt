@@ -1,14 +1,11 @@
 use Rattle.std.proofs.Common.{rules, arith, ap, ◌≡◌, ◌≤◌, ◌<◌, ◌+◌, sym, ◌∙◌, subst, ℕ, List, Option}
 use Rattle.std.specs.Prelude.{None, Some, false}
 use Rattle.dds_base.specs.declared.change.Change.{Change}
-use Rattle.dds_base.specs.declared.happening.Happening.{Happening}
 use Rattle.dds_base.specs.declared.qos.ReaderQos.{ReaderQos}
-use Rattle.dds_base.specs.Presence.{has_room}
-use Rattle.dds_base.specs.Places.{coming}
 use Rattle.rtps_sets.specs.Window.{mark_of, window_place}
 use Rattle.rtps_sets.specs.declared.window.Mark.TheVariants as mark
 use Rattle.rtps_reader.specs.Tracked.{Held}
-use Rattle.rtps_reader.specs.Moving.{HandsOn, match_of}
+use Rattle.rtps_reader.specs.Moving.{FindsNoRoom, HandsOn, match_of}
 use Rattle.rtps_reader.specs.HeldChanges.{count_held}
 use Rattle.rtps_reader.specs.Proxy.{tracked}
 use Rattle.rtps_reader.proofs.MoveLaws.{Progress, over, not_passable_after, handed, stopped, begun}
@@ -89,19 +86,10 @@ returns-then-not-hand_on-clause-moves g c h st =
     (g.S.Sink.stands c.pass_over.new.sink) (window_place c.pass_over.new.self.window + 1) =
     over _ _ h _ _ (tracked c.moving.self) (tracked c.pass_over.new.self) _ _ (it.progress h st) over_it
     in
-    let full : (change : Change) (happened : List Happening)
-    → (tracked c.pass_over.new.self).slot (window_place c.pass_over.new.self.window) ≡ Held change
-    → g.S.Sink.stands c.pass_over.new.sink happened
-    → has_room (g.S.Sink.qos c.args.sink.now) happened
-    (coming (match_of (g.S.Sink.qos c.args.sink.now) c.args.source.now)
-    (record { place = window_place c.pass_over.new.self.window; happened = happened }) change) ≡ false =
-    subst (λ (q : ReaderQos). (change : Change) (happened : List Happening)
-    → (tracked c.pass_over.new.self).slot (window_place c.pass_over.new.self.window) ≡ Held change
-    → g.S.Sink.stands c.pass_over.new.sink happened
-    → has_room q happened (coming (match_of q c.args.source.now)
-    (record { place = window_place c.pass_over.new.self.window; happened = happened }) change) ≡ false) qos
-    (c.hand_on.ensures.full no_more)
-    in
+    let full : FindsNoRoom (match_of (g.S.Sink.qos c.args.sink.now) c.args.source.now)
+    (g.S.Sink.stands c.pass_over.new.sink) (tracked c.pass_over.new.self) =
+    subst (λ (q : ReaderQos). FindsNoRoom (match_of q c.args.source.now) (g.S.Sink.stands c.pass_over.new.sink)
+    (tracked c.pass_over.new.self)) qos (c.hand_on.ensures.full no_more) in
     rw stays.1 (stopped (match_of (g.S.Sink.qos c.args.sink.now) c.args.source.now)
     (tracked c.args.self.now) h c.pass_over.new.runs.items (tracked c.pass_over.new.self)
     (tracked c.hand_on.new.self) (g.S.Sink.stands c.pass_over.new.sink)

@@ -5,7 +5,7 @@ use Rattle.rtps_reader.proofs.MoveLaws.{accepted, same_is}
 use Rattle.rtps_reader.proofs.writer_proxy.WriterProxy.on_heartbeat.Goals as goal
 
 pub returns-clause-moves : goal.returns-clause-moves
-returns-clause-moves g c later =
+returns-clause-moves g c =
     let made = c.in_ok-reserve.ensures in
     accepted (g.S.Sink.qos c.args.sink.now) (g.S.Sink.qos c.hear_if.new.sink) c.args.source.now
     (g.S.Sink.stands c.args.sink.now) (g.S.Sink.stands c.hear_if.new.sink) (g.S.Sink.stands c.moved-step.new.sink)
