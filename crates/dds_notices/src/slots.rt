@@ -8,7 +8,7 @@ ghost use Rattle.std.specs.List.{list_any};
 ghost use Rattle.std.specs.Option.{option_copied};
 ghost use Rattle.dds_base.specs.declared.code.Code.TheVariants.{Memory};
 ghost use Rattle.dds_base.specs.Refusal.{Refuses};
-ghost use Rattle.dds_notices.specs.Listeners.{ByEntity, has_entity, with_entity, Places, Sets, StandsFor, after_notice, at_entity, is_any, kept_in, listener_refusal, nobody, shown, unknown_entity, taker_of, with_notice};
+ghost use Rattle.dds_notices.specs.Listeners.{ByEntity, has_entity, with_entity, Places, Sets, StandsFor, after_notice, at_entity, is_any, kept_in, listener_refusal, nobody, shown, told_at, unknown_entity, taker_of};
 
 use crate::listener::Listener;
 use crate::mask::StatusMask;
@@ -128,10 +128,10 @@ impl<L: Listener> Slots<L> {
     /// Tells the listener at an entity that there is.
     fn tell_at(&mut self, entity: Entity, notice: &Notice)
         requires { has_entity self.old entity ≡ true }
-        ensures { (given : ByEntity L) (places : Places)
-            → StandsFor L.notices L.capacity L.becomes given self.old places
+        ensures { (given : ByEntity L) (all : Places)
+            → StandsFor L.notices L.capacity L.becomes given self.old all
             → StandsFor L.notices L.capacity L.becomes given self.new
-            (with_entity places entity (with_notice (at_entity places entity) notice.now)) }
+            (told_at all (Some entity) notice.now) }
     {
         let mut slot = self.put(entity, None);
         tell(&mut slot, notice);
