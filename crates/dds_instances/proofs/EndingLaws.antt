@@ -26,7 +26,7 @@ use Rattle.dds_owner.specs.Standing.{KeptStrengths, StandsFor, TellsStrengths, h
 use Rattle.dds_owner.proofs.RegistrationLaws.{nobody-kept}
 use Rattle.dds_instances.specs.Track.{Tracks, TracksEntry, is_beginning, lives_on, seen_in, state_of_track}
 use Rattle.dds_instances.specs.Table.{Table, Stands, is_any_left}
-use Rattle.dds_instances.specs.Following.{key_of, Follows, HeldRight, IsLawful, Reaches}
+use Rattle.dds_instances.specs.Following.{key_of, Follows, FollowsBefore, HeldRight, IsLawful, LivesRight, Reaches}
 use Rattle.dds_instances.specs.Known.{IsReturnable}
 use Rattle.dds_instances.proofs.LivesLaws.{known-next, known-on, last-on, rebirth-on, rebirth-over}
 use Rattle.dds_instances.proofs.TrackLaws.{state-next, state-tracked, tracks-next, tracks-other, tracks-read, tracks-took}
@@ -243,38 +243,46 @@ died-lives q h w now t x step lawful known held tracks =
     ∙ ap (λ (b : Bool). b && not (has_there q h i (last_marker q i h))) (left.1 gone))
     ∙ sym (known-next q i h e known))
 
-pub reaches-died : (q : ReaderQos) (h : List Happening) (w now n : ℕ) (ts xs : List InstanceTrack) → length h + 1 ≡ n
-    → length xs ≡ length ts → map key_of xs ≡ map key_of ts
-    → ((k : ℕ) (d : InstanceTrack) → k < length ts → Buries n w (get_or ts k d) (get_or xs k d)) → IsLawful q h
-    → Follows q h ts → HeldRight q h ts
+-- each of the tracks has taken up a death, as the entry of this position
+abbrev BuriesEach : ℕ → ℕ → List InstanceTrack → List InstanceTrack → Type 0
+BuriesEach n w ts xs = (k : ℕ) (d : InstanceTrack) → k < length ts → Buries n w (get_or ts k d) (get_or xs k d)
+
+pub reaches-died : (q : ReaderQos) (h : List Happening) (w now n : ℕ) (ts xs : List InstanceTrack)
+    → FollowsBefore q h n ts → length xs ≡ length ts → map key_of xs ≡ map key_of ts → BuriesEach n w ts xs
     → Reaches q h (Died w now) xs
-    × All (λ (x : InstanceTrack). lives_on x ≡ is_known q (Died w now ∷ h) x.key) xs
-reaches-died q h w now n ts xs len same keys steps lawful follows held =
+reaches-died q h w now n ts xs before same keys steps =
     let e : Happening = Died w now in
-    let step : (k : ℕ) (d : InstanceTrack) → k < length ts → Buries (length h + 1) w (get_or ts k d) (get_or xs k d) =
-    λ k d within. subst (λ (m : ℕ). Buries m w (get_or ts k d) (get_or xs k d)) (sym len) (steps k d within) in (
-      record {
-        keys_are = keys ∙ keys-quiet q h e ts refl follows;
-        each = λ k d within.
-            let within' : k < length ts = omega (arith, within, same) in
-            let t : InstanceTrack = get_or ts k d in
-            let x : InstanceTrack = get_or xs k d in
-            let before : Tracks q t.key h t = follows.each k d within' in
-            subst (λ (i : Key). is_known q (e ∷ h) i ≡ true → Tracks q i (e ∷ h) x)
-            (sym (step k d within').advances.key)
-            (λ known. tracks-next q t.key h e None t x refl ((step k d within').died q t.key h now before.owners_are)
-            (λ j. refl) (lawful.past t.key (length h + 1) (omega arith))
-            (λ unknown new. absurd (let clash : true ≡ false = sym (known-of q h ts follows k d within') ∙ unknown in cc))
-            before (step k d within').advances known);
-      },
-      λ k d within.
+    let step : BuriesEach (length h + 1) w ts xs =
+    subst (λ (m : ℕ). BuriesEach m w ts xs) (sym before.place) steps in
+    record {
+      keys_are = keys ∙ keys-quiet q h e ts refl before.follows;
+      each = λ k d within.
           let within' : k < length ts = omega (arith, within, same) in
           let t : InstanceTrack = get_or ts k d in
           let x : InstanceTrack = get_or xs k d in
-          subst (λ (i : Key). lives_on x ≡ is_known q (e ∷ h) i) (sym (step k d within').advances.key)
-          (died-lives q h w now t x (step k d within') lawful (known-of q h ts follows k d within')
-          (held k d within') (follows.each k d within')),
-    )
+          let tracks : Tracks q t.key h t = before.follows.each k d within' in
+          subst (λ (i : Key). is_known q (e ∷ h) i ≡ true → Tracks q i (e ∷ h) x)
+          (sym (step k d within').advances.key)
+          (λ known. tracks-next q t.key h e None t x refl ((step k d within').died q t.key h now tracks.owners_are)
+          (λ j. refl) (before.lawful.past t.key (length h + 1) (omega arith))
+          (λ unknown new. absurd (let clash : true ≡ false = sym (known-of q h ts before.follows k d within')
+          ∙ unknown in cc))
+          tracks (step k d within').advances known);
+    }
+
+-- where it is noted right of each whether something of it is present, those live on that stay known
+pub died-right : (q : ReaderQos) (h : List Happening) (w now n : ℕ) (ts xs : List InstanceTrack)
+    → FollowsBefore q h n ts → length xs ≡ length ts → BuriesEach n w ts xs → HeldRight q h ts
+    → LivesRight q (Died w now ∷ h) xs
+died-right q h w now n ts xs before same steps held =
+    let step : BuriesEach (length h + 1) w ts xs =
+    subst (λ (m : ℕ). BuriesEach m w ts xs) (sym before.place) steps in
+    λ k d within. let within' : k < length ts = omega (arith, within, same) in
+    let t : InstanceTrack = get_or ts k d in
+    let x : InstanceTrack = get_or xs k d in
+    subst (λ (i : Key). lives_on x ≡ is_known q (Died w now ∷ h) i) (sym (step k d within').advances.key)
+    (died-lives q h w now t x (step k d within') before.lawful (known-of q h ts before.follows k d within')
+    (held k d within') (before.follows.each k d within'))
 
 -- ---- samples that were returned
 
@@ -314,7 +322,7 @@ reaches-took q h ss ts follows = record {
 -- where it is noted right of each whether something of it is left, those live on that stay known
 pub took-lives : (q : ReaderQos) (h : List Happening) (ss : List SamplePosition) (ts : List InstanceTrack) → Follows q h ts
     → All (λ (t : InstanceTrack). t.is_held ≡ has_there q (Took ss ∷ h) t.key (last_marker q t.key h)) ts
-    → All (λ (x : InstanceTrack). lives_on x ≡ is_known q (Took ss ∷ h) x.key) (map (seen_in ss) ts)
+    → LivesRight q (Took ss ∷ h) (map (seen_in ss) ts)
 took-lives q h ss ts follows held =
     All-map (λ (x : InstanceTrack). lives_on x ≡ is_known q (Took ss ∷ h) x.key) (seen_in ss) ts
     (λ k d within. let t : InstanceTrack = get_or ts k d in

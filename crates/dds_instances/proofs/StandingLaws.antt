@@ -29,7 +29,7 @@ use Rattle.dds_instances.specs.declared.known.KnownInstance.{KnownInstance}
 use Rattle.dds_owner.specs.Standing.{Kept, KeptStrengths, StandsFor, TellsStrengths}
 use Rattle.dds_instances.specs.Track.{Tracks, TracksEntry, Fits, fresh, is_other, one_if, state_of_track}
 use Rattle.dds_instances.specs.Table.{Table, Stands}
-use Rattle.dds_instances.specs.Following.{key_of, Follows, IsLawful, IsPlaceOf, Reaches, track_with}
+use Rattle.dds_instances.specs.Following.{key_of, Follows, IsForNextLife, IsLawful, IsPlaceOf, MayTakeUp, Reaches, TakeUp, track_with}
 use Rattle.dds_instances.specs.Known.{IsKnown}
 use Rattle.dds_instances.proofs.LivesLaws.{known-on, or-some}
 use Rattle.dds_instances.proofs.TrackLaws.{HandsOut, state-tracked, tracks-next, tracks-stranger, one-rebirth, one_if-bound}
@@ -220,11 +220,12 @@ known-introduced q h a known =
     ap (λ (b : Bool). cond (not b && is_some (accepted_kind q a.change.key h (Came a))) (a.change.key ∷ []) []) known
 
 pub reaches-known : (q : ReaderQos) (kept : KeptStrengths) (h : List Happening) (a : Arrival) (ts : List InstanceTrack)
-    (at n : ℕ) (t x : InstanceTrack) (kind : Option ChangeKind) → length h + 1 ≡ n → IsPlaceOf (map key_of ts) a.change.key at
-    → t ≡ get_or ts at t → Changes q kept a kind n t x → TellsStrengths kept q h → IsLawful q h
-    → Follows q h ts → Reaches q h (Came a) (set ts at x) × (introduced_by q h (Came a) ≡ [])
-reaches-known q kept h a ts at n t x kind len place is step tells lawful follows =
+    (at n : ℕ) (t x : InstanceTrack) (kind : Option ChangeKind) → MayTakeUp q kept h n ts
+    → IsPlaceOf (map key_of ts) a.change.key at → t ≡ get_or ts at t → Changes q kept a kind n t x
+    → TakeUp q h a (set ts at x) false
+reaches-known q kept h a ts at n t x kind may place is step =
     let i : Key = a.change.key in
+    let follows : Follows q h ts = may.before.follows in
     let inside : at < length ts = omega (arith, place.within, length-map ts key_of) in
     let key : t.key ≡ i = ap (λ (y : InstanceTrack). y.key) is ∙ itself-at ts i at t place inside in
     let before : Tracks q i h t =
@@ -233,9 +234,10 @@ reaches-known q kept h a ts at n t x kind len place is step tells lawful follows
     let old : is_known q h i ≡ true = known-at q h ts i at place follows in
     let none : introduced_by q h (Came a) ≡ [] = known-introduced q h a old in
     let here : is_known q (Came a ∷ h) i ≡ true → Tracks q i (Came a ∷ h) x =
-    tracks-changed q kept h a kind n t x len step tells lawful
-    (λ unknown new. absurd (let clash : true ≡ false = sym old ∙ unknown in cc)) before in (
-      record {
+    tracks-changed q kept h a kind n t x may.before.place step may.tells may.before.lawful
+    (λ unknown new. absurd (let clash : true ≡ false = sym old ∙ unknown in cc)) before in
+    record {
+      reaches = record {
         keys_are =
             keys-set ts at x inside (step.advances.key
             ∙ ap (λ (y : InstanceTrack). y.key) (is ∙ get_or_default ts at t x inside))
@@ -248,9 +250,9 @@ reaches-known q kept h a ts at n t x kind len place is step tells lawful follows
             (sym (step.advances.key ∙ key)) here)
             (λ k d within differ. tracks-stranger q (get_or ts k d).key h a (get_or ts k d)
             (stranger-at ts i at k d place within differ) (known-of q h ts follows k d within) (follows.each k d within));
-      },
-      none,
-    )
+      };
+      begun = ap (λ (ks : List Key). length ks) none;
+    }
 
 -- ---- an instance becomes known
 
@@ -306,25 +308,25 @@ strangers-reach q h a ts absent follows = λ k d within. tracks-stranger q (get_
     (strangers-all a.change.key ts absent k d within) (known-of q h ts follows k d within) (follows.each k d within)
 
 pub reaches-new : (q : ReaderQos) (kept : KeptStrengths) (h : List Happening) (a : Arrival) (ts : List InstanceTrack)
-    (n handle : ℕ) (blank : Kept) (x : InstanceTrack) (kind : Option ChangeKind) → length h + 1 ≡ n
-    → handle ≡ lives_begun q h + 1 → ((i : Key) → StandsFor blank q i [])
-    → list_any (same_key a.change.key) (map key_of ts) ≡ false → is_write_or_dispose a.change.kind ≡ true
-    → Changes q kept a kind n (fresh a.change.key handle blank) x → TellsStrengths kept q h → IsLawful q h
-    → Follows q h ts
-    → Reaches q h (Came a) (ts ++ x ∷ []) × (introduced_by q h (Came a) ≡ a.change.key ∷ [])
-reaches-new q kept h a ts n handle blank x kind len handle_is blank_is absent data_is step tells lawful follows =
+    (n handle : ℕ) (blank : Kept) (x : InstanceTrack) (kind : Option ChangeKind) → MayTakeUp q kept h n ts
+    → IsForNextLife q h handle blank → list_any (same_key a.change.key) (map key_of ts) ≡ false
+    → is_write_or_dispose a.change.kind ≡ true → Changes q kept a kind n (fresh a.change.key handle blank) x
+    → TakeUp q h a (ts ++ x ∷ []) true
+reaches-new q kept h a ts n handle blank x kind may life absent data_is step =
     let i : Key = a.change.key in
+    let follows : Follows q h ts = may.before.follows in
     let last : last_accepted q i h ≡ None = unknown-kept q h ts i absent follows in
     let unknown_is : is_known q h i ≡ false = ap (λ (k : Option ChangeKind). is_some k) last in
     let new : introduced_by q h (Came a) ≡ i ∷ [] = first-introduced q h a true last data_is in
     let before : Tracks q i h (fresh i handle blank) =
-    tracks-fresh q i h handle blank (blank_is i) last (lawful.strangers i unknown_is) in
+    tracks-fresh q i h handle blank (life.blank_is i) last (may.before.lawful.strangers i unknown_is) in
     let here : is_known q (Came a ∷ h) i ≡ true → Tracks q i (Came a ∷ h) x =
-    tracks-changed q kept h a kind n (fresh i handle blank) x len step tells lawful
-    (λ unknown begins. handle_is ∙ ap (λ (ks : List Key). lives_begun q h + length ks) (sym new)) before in
+    tracks-changed q kept h a kind n (fresh i handle blank) x may.before.place step may.tells may.before.lawful
+    (λ unknown begins. life.handle_is ∙ ap (λ (ks : List Key). lives_begun q h + length ks) (sym new)) before in
     let goes_on : InstanceTrack → Type 0 =
-    λ t. is_known q (Came a ∷ h) t.key ≡ true → Tracks q t.key (Came a ∷ h) t in (
-      record {
+    λ t. is_known q (Came a ∷ h) t.key ≡ true → Tracks q t.key (Came a ∷ h) t in
+    record {
+      reaches = record {
         keys_are =
             map-append key_of ts (x ∷ [])
             ∙ (ap (λ (ks : List Key). ks ++ x.key ∷ []) follows.keys_are
@@ -334,25 +336,26 @@ reaches-new q kept h a ts n handle blank x kind len handle_is blank_is absent da
             (All-cons goes_on x []
             (subst (λ (k : Key). is_known q (Came a ∷ h) k ≡ true → Tracks q k (Came a ∷ h) x) (sym step.advances.key) here)
             (All-nil goes_on));
-      },
-      new,
-    )
+      };
+      begun = ap (λ (ks : List Key). length ks) new;
+    }
 
 -- an unregister of an unknown instance says nothing
 pub reaches-nothing : (q : ReaderQos) (h : List Happening) (a : Arrival) (ts : List InstanceTrack)
     → list_any (same_key a.change.key) (map key_of ts) ≡ false → is_write_or_dispose a.change.kind ≡ false
-    → Follows q h ts → Reaches q h (Came a) ts × (introduced_by q h (Came a) ≡ [])
+    → Follows q h ts → TakeUp q h a ts false
 reaches-nothing q h a ts absent data_is follows =
     let last : last_accepted q a.change.key h ≡ None = unknown-kept q h ts a.change.key absent follows in
-    let none : introduced_by q h (Came a) ≡ [] = first-introduced q h a false last data_is in (
-      record {
+    let none : introduced_by q h (Came a) ≡ [] = first-introduced q h a false last data_is in
+    record {
+      reaches = record {
         keys_are =
             follows.keys_are ∙ (sym (append-nil (known_instances q h))
             ∙ ap (λ (ks : List Key). known_instances q h ++ ks) (sym none));
         each = strangers-reach q h a ts absent follows;
-      },
-      none,
-    )
+      };
+      begun = ap (λ (ks : List Key). length ks) none;
+    }
 
 -- ---- whose life a change ends
 

@@ -2,17 +2,20 @@
 -- has to be believed.
 --
 -- DDS 1.4, 2.2.2.5 (SampleInfo: instance_handle, instance_state, view_state, the two generation counts).
-use Rattle.std.specs.Prelude.{◌≡◌, ◌≢◌, ℕ, zero, suc, ◌<◌, ◌==◌, List, [], ◌∷◌, ◌++◌, length, map, find, Option, None, All, true, false, slice_index_or}
+use Rattle.std.specs.Prelude.{◌≡◌, ◌≢◌, ℕ, zero, suc, ◌+◌, ◌<◌, ◌==◌, Bool, List, [], ◌∷◌, ◌++◌, length, map, find, Option, None, All, true, false, slice_index_or}
 use Rattle.std.specs.List.{list_any}
 use Rattle.dds_base.specs.declared.key.Key.{Key}
+use Rattle.dds_base.specs.declared.happening.Arrival.{Arrival}
 use Rattle.dds_base.specs.declared.happening.Happening.{Happening}
+use Rattle.dds_base.specs.declared.happening.Happening.TheVariants.{Came}
 use Rattle.dds_base.specs.declared.qos.ReaderQos.{ReaderQos}
+use Rattle.dds_base.specs.Access.{lives_begun}
 use Rattle.dds_base.specs.Happening.{same_key}
 use Rattle.dds_base.specs.Instance.{known_instances, introduced_by, is_known, latest_rebirth, accesses}
 use Rattle.dds_base.specs.Life.{has_there, last_marker}
 use Rattle.dds_instances.specs.declared.track.InstanceTrack.{InstanceTrack}
-use Rattle.dds_owner.specs.Standing.{Kept, StandsFor}
-use Rattle.dds_instances.specs.Track.{Tracks}
+use Rattle.dds_owner.specs.Standing.{Kept, KeptStrengths, StandsFor, TellsStrengths}
+use Rattle.dds_instances.specs.Track.{Tracks, lives_on, one_if}
 
 -- the instance of a track
 abbrev pub key_of : InstanceTrack → Key
@@ -47,6 +50,33 @@ track_with ts (suc n) = find (λ (t : InstanceTrack). t.handle == suc n) ts
 pub record IsLawful (q : ReaderQos) (h : List Happening) : Type 0 where
   pub past : (i : Key) (j : ℕ) → length h < j → list_any (accesses i j) h ≡ false
   pub strangers : (i : Key) → is_known q h i ≡ false → list_any (accesses i (latest_rebirth q i h)) h ≡ false
+
+-- the tracks follow what happened before the entry of this position
+pub record FollowsBefore (q : ReaderQos) (h : List Happening) (position : ℕ) (ts : List InstanceTrack) : Type 0 where
+  pub place : length h + 1 ≡ position
+  pub lawful : IsLawful q h
+  pub follows : Follows q h ts
+
+-- the tracks may take up a change as the entry of this position, by what is kept of the strengths
+pub record MayTakeUp (q : ReaderQos) (strengths : KeptStrengths) (h : List Happening) (position : ℕ)
+    (ts : List InstanceTrack) : Type 0 where
+  pub before : FollowsBefore q h position ts
+  pub tells : TellsStrengths strengths q h
+
+-- the tracks have taken up a change that came, and a life begins with it where this says so
+pub record TakeUp (q : ReaderQos) (h : List Happening) (a : Arrival) (ts : List InstanceTrack) (begins : Bool)
+    : Type 0 where
+  pub reaches : Reaches q h (Came a) ts
+  pub begun : length (introduced_by q h (Came a)) ≡ one_if begins
+
+-- the next life that begins is to have this handle and these owners, of an instance of which nothing has come
+pub record IsForNextLife (q : ReaderQos) (h : List Happening) (handle : ℕ) (blank : Kept) : Type 0 where
+  pub handle_is : handle ≡ lives_begun q h + 1
+  pub blank_is : (i : Key) → StandsFor blank q i []
+
+-- exactly the tracks of known instances live on
+abbrev pub LivesRight : ReaderQos → List Happening → List InstanceTrack → Type 0
+LivesRight q h ts = All (λ (t : InstanceTrack). lives_on t ≡ is_known q h t.key) ts
 
 -- owners among n matched writers, of instances of which nothing has come
 abbrev pub IsBlank : ℕ → Kept → Type 0

@@ -12,16 +12,14 @@ ghost use Rattle.dds_base.specs.declared.qos.ReaderQos.{ReaderQos};
 ghost use Rattle.dds_base.specs.Happening.{same_key, is_write_or_dispose};
 ghost use Rattle.dds_base.specs.declared.code.Code.TheVariants.{Memory};
 ghost use Rattle.dds_base.specs.declared.key.Key.{Key};
-ghost use Rattle.dds_base.specs.Access.{lives_begun};
-ghost use Rattle.dds_base.specs.Instance.{introduced_by, is_known};
 ghost use Rattle.dds_base.specs.Life.{is_at, is_nobody, last_accepted};
 ghost use Rattle.dds_base.specs.Ownership.{registered_writers};
-ghost use Rattle.dds_owner.specs.Standing.{StandsFor, TellsStrengths, strengths_room};
+ghost use Rattle.dds_owner.specs.Standing.{TellsStrengths, strengths_room};
 ghost use Rattle.dds_base.specs.declared.happening.SamplePosition.{SamplePosition};
-ghost use Rattle.dds_instances.specs.Track.{Fits, Tracks, is_alive_track, held_as, held_too, is_other, lives_on, one_if, seen_in};
+ghost use Rattle.dds_instances.specs.Track.{Fits, Tracks, is_alive_track, held_as, held_too, is_other, lives_on, seen_in};
 ghost use Rattle.dds_instances.specs.Table.{is_any_left};
 ghost use Rattle.dds_instances.specs.declared.track.InstanceTrack.{InstanceTrack};
-ghost use Rattle.dds_instances.specs.Following.{key_of, Follows, HeldRight, IsLawful, IsPlaceOf, AreBlank, Reaches, track_with};
+ghost use Rattle.dds_instances.specs.Following.{key_of, AreBlank, Follows, FollowsBefore, HeldRight, IsForNextLife, IsPlaceOf, LivesRight, MayTakeUp, Reaches, TakeUp, track_with};
 
 use crate::place::{find, put_last};
 use crate::track::InstanceTrack;
@@ -47,11 +45,9 @@ pub fn change_known(
     ensures capacity { vec_capacity tracks.new ≡ vec_capacity tracks.old }
     ensures alive { count_by is_alive_track tracks.new.items
         ≤ count_by is_alive_track tracks.old.items + 1 }
-    ensures follows { (h : List Happening) → length h + 1 ≡ position
-        → TellsStrengths strengths.now qos.now h → IsLawful qos.now h
-        → Follows qos.now h tracks.old.items
-        → Reaches qos.now h (Came arrival.now) tracks.new.items
-        × (introduced_by qos.now h (Came arrival.now) ≡ []) }
+    ensures follows { (h : List Happening)
+        → MayTakeUp qos.now strengths.now h position tracks.old.items
+        → TakeUp qos.now h arrival.now tracks.new.items false }
 {
     tracks[at].change(qos, strengths, arrival, position);
 }
@@ -82,12 +78,10 @@ pub fn introduce(
     ensures capacity { vec_capacity tracks.old ≤ vec_capacity tracks.new }
     ensures alive { count_by is_alive_track tracks.new.items
         ≤ count_by is_alive_track tracks.old.items + 1 }
-    ensures follows { (h : List Happening) → length h + 1 ≡ position
-        → handle ≡ lives_begun qos.now h + 1
-        → ((i : Key) → StandsFor blank qos.now i []) → TellsStrengths strengths.now qos.now h
-        → IsLawful qos.now h → Follows qos.now h tracks.old.items
-        → Reaches qos.now h (Came arrival.now) tracks.new.items
-        × (introduced_by qos.now h (Came arrival.now) ≡ arrival.now.change.key ∷ []) }
+    ensures follows { (h : List Happening)
+        → MayTakeUp qos.now strengths.now h position tracks.old.items
+        → IsForNextLife qos.now h handle blank
+        → TakeUp qos.now h arrival.now tracks.new.items true }
 {
     let mut track = InstanceTrack::new(arrival.change.key, handle, blank);
     track.change(qos, strengths, arrival, position);
@@ -104,10 +98,12 @@ pub fn bury_all(tracks: &mut Vec<InstanceTrack>, writer: Handle, position: u64)
     ensures marked { count_by is_alive_track tracks.new.items + count_by
         (λ t. is_at t.last_marker position) tracks.new.items
         ≤ count_by is_alive_track tracks.old.items }
-    ensures reaches { (q : ReaderQos) (h : List Happening) (now : ℕ) → length h + 1 ≡ position
-        → IsLawful q h → Follows q h tracks.old.items → HeldRight q h tracks.old.items
-        → Reaches q h (Died writer now) tracks.new.items
-        × All (λ t. lives_on t ≡ is_known q (Died writer now ∷ h) t.key) tracks.new.items }
+    ensures reaches { (q : ReaderQos) (h : List Happening) (now : ℕ)
+        → FollowsBefore q h position tracks.old.items
+        → Reaches q h (Died writer now) tracks.new.items }
+    ensures lives { (q : ReaderQos) (h : List Happening) (now : ℕ)
+        → FollowsBefore q h position tracks.old.items → HeldRight q h tracks.old.items
+        → LivesRight q (Died writer now ∷ h) tracks.new.items }
 {
     for at in 0..tracks.len() {
         tracks[at].bury(writer, position);
@@ -173,13 +169,10 @@ pub fn take_up(
         ≤ count_by is_alive_track tracks.old.items + 1 }
     ensures blanks_len { vec_len blanks.old ≤ vec_len blanks.new + 1 }
     ensures blanks { (n : ℕ) → AreBlank n blanks.old.items → AreBlank n blanks.new.items }
-    ensures follows { (h : List Happening) → length h + 1 ≡ position
-        → handle ≡ lives_begun qos.now h + 1
-        → AreBlank (length qos.now.writers) blanks.old.items
-        → TellsStrengths strengths.now qos.now h → IsLawful qos.now h
-        → Follows qos.now h tracks.old.items
-        → Reaches qos.now h (Came arrival.now) tracks.new.items
-        × (length (introduced_by qos.now h (Came arrival.now)) ≡ one_if result) }
+    ensures follows { (h : List Happening)
+        → MayTakeUp qos.now strengths.now h position tracks.old.items
+        → All (IsForNextLife qos.now h handle) blanks.old.items
+        → TakeUp qos.now h arrival.now tracks.new.items result }
 {
     if let Some(at) = find(index, arrival.change.key) {
         change_known(tracks, at, qos, strengths, arrival, position);

@@ -2,7 +2,7 @@ use Rattle.std.proofs.Common.{◌≡◌, ℕ, ◌<◌, List, length, get_or, set
 use Rattle.std.proofs.lemmas.Bool.{cases_eq}
 use Rattle.std.proofs.lemmas.List.{length-set, get_or-set_same, get_or-set_other, get_or_default}
 use Rattle.dds_instances.specs.declared.track.InstanceTrack.{InstanceTrack}
-use Rattle.dds_instances.proofs.EndingLaws.{Buries, reaches-died}
+use Rattle.dds_instances.proofs.EndingLaws.{Buries, died-right, reaches-died}
 use Rattle.dds_instances.proofs.StandingLaws.{fits-advanced, keys-set}
 use Rattle.dds_instances.proofs.MarkerLaws.{marked-buried}
 use Rattle.dds_instances.proofs.keeping.bury_all.Goals as goal
@@ -59,9 +59,16 @@ returns-clause-marked c =
     (omega (arith, inside, c.loop-at-test.false, c.len-at-end.ensures, c.args.tracks.now.ok.0)))
 
 pub returns-clause-reaches : goal.returns-clause-reaches
-returns-clause-reaches c = λ q h now len lawful follows held.
-    reaches-died q h c.args.writer now c.args.position c.args.tracks.now.items c.loop-at.tracks.items len
+returns-clause-reaches c = λ q h now before.
+    reaches-died q h c.args.writer now c.args.position c.args.tracks.now.items c.loop-at.tracks.items before
     c.loop-at.invariant.len c.loop-at.invariant.keys
     (λ k d inside. c.loop-at.invariant.done k d
     (omega (arith, inside, c.loop-at-test.false, c.len-at-end.ensures, c.args.tracks.now.ok.0)))
-    lawful follows held
+
+pub returns-clause-lives : goal.returns-clause-lives
+returns-clause-lives c = λ q h now before held.
+    died-right q h c.args.writer now c.args.position c.args.tracks.now.items c.loop-at.tracks.items before
+    c.loop-at.invariant.len
+    (λ k d inside. c.loop-at.invariant.done k d
+    (omega (arith, inside, c.loop-at-test.false, c.len-at-end.ensures, c.args.tracks.now.ok.0)))
+    held

@@ -29,9 +29,9 @@ returns-clause-keys c =
 
 pub returns-clause-follows : goal.returns-clause-follows
 returns-clause-follows c =
-    λ h len tells lawful follows. reaches-known c.args.qos.now c.args.strengths.now h
+    λ h may. reaches-known c.args.qos.now c.args.strengths.now h
     c.args.arrival.now c.args.tracks.now.items c.args.at
-    c.args.position c.index_mut.result.now c.change.new.self c.change.result len c.requires.place
+    c.args.position c.index_mut.result.now c.change.new.self c.change.result may c.requires.place
     c.index_mut.ensures.value
     (record {
       advances = c.change.ensures.advances;
@@ -39,7 +39,6 @@ returns-clause-follows c =
       came =
           c.change.ensures.came;
     })
-    tells lawful follows
 
 pub returns-clause-alive : goal.returns-clause-alive
 returns-clause-alive c = alive-changed c.args.tracks.now.items c.args.at c.change.new.self

@@ -1,19 +1,17 @@
-use Rattle.std.proofs.Common.{◌≡◌, ◌+◌, ◌≤◌, List, [], ◌∷◌, map, subst, sym, ap, ◌∙◌, false}
+use Rattle.std.proofs.Common.{◌≡◌, ◌+◌, ◌≤◌, List, map, subst, sym, true, ap, ◌∙◌, false}
 use Rattle.std.specs.Prelude.{count_by}
 use Rattle.std.specs.List.{list_any}
 use Rattle.dds_base.specs.declared.key.Key.{Key}
-use Rattle.dds_base.specs.declared.happening.Happening.TheVariants.{Came}
 use Rattle.dds_base.specs.Happening.{same_key}
-use Rattle.dds_base.specs.Instance.{introduced_by}
 use Rattle.dds_instances.specs.declared.track.InstanceTrack.{InstanceTrack}
 use Rattle.dds_instances.specs.Track.{fresh, is_alive_track}
-use Rattle.dds_instances.specs.Following.{key_of, Reaches}
+use Rattle.dds_instances.specs.Following.{key_of, TakeUp}
 use Rattle.dds_instances.proofs.StandingLaws.{Changes, reaches-new}
 use Rattle.dds_instances.proofs.MarkerLaws.{alive-added}
 use Rattle.dds_instances.proofs.keeping.introduce.Goals as goal
 
 pub returns-clause-follows : goal.returns-clause-follows
-returns-clause-follows c = λ h len handle blank tells lawful follows.
+returns-clause-follows c = λ h may life.
     let absent : list_any (same_key c.args.arrival.now.change.key) (map key_of c.args.tracks.now.items) ≡ false =
     ap (λ (ks : List Key). list_any (same_key c.args.arrival.now.change.key) ks) (sym c.requires.indexed)
     ∙ c.requires.absent in
@@ -27,12 +25,10 @@ returns-clause-follows c = λ h len handle blank tells lawful follows.
       came =
           c.change.ensures.came;
     }) in
-    subst (λ (ts : List InstanceTrack). Reaches c.args.qos.now h (Came c.args.arrival.now) ts
-    × (introduced_by c.args.qos.now h (Came c.args.arrival.now) ≡ c.args.arrival.now.change.key ∷ []))
+    subst (λ (ts : List InstanceTrack). TakeUp c.args.qos.now h c.args.arrival.now ts true)
     (sym c.put_last.ensures.tracks)
     (reaches-new c.args.qos.now c.args.strengths.now h c.args.arrival.now c.args.tracks.now.items c.args.position
-    c.args.handle c.args.blank c.change.new.self c.change.result len handle blank absent c.requires.kind step tells lawful
-    follows)
+    c.args.handle c.args.blank c.change.new.self c.change.result may life absent c.requires.kind step)
 
 pub returns-clause-alive : goal.returns-clause-alive
 returns-clause-alive c =

@@ -5,7 +5,7 @@ use Rattle.dds_base.specs.Access.{lives_begun}
 use Rattle.dds_owner.specs.Standing.{KeptStrengths, TellsStrengths, strengths_room}
 use Rattle.dds_instances.specs.declared.instances.Instances.TheInside.{Inside}
 use Rattle.dds_instances.specs.declared.track.InstanceTrack.{InstanceTrack}
-use Rattle.dds_instances.specs.Following.{AreBlank, Follows}
+use Rattle.dds_instances.specs.Following.{Follows, FollowsBefore}
 use Rattle.dds_instances.specs.Table.{Table, Stands}
 use Rattle.dds_instances.specs.Sound.{table_of}
 use Rattle.dds_instances.proofs.EndingLaws.{lawful-quiet}
@@ -18,10 +18,14 @@ returns-clause-stands c = λ h stands end_is.
     let q = c.args.qos.now in
     let e : Happening = Came c.args.arrival.now in
     let s : Stands q (table_of c.self.inside) h = subst (λ (t : Table). Stands q t h) (sym c.self.view_is) stands in
-    let both =
-    c.take_up-is_beginning.ensures.follows h (omega (arith, s.happened_is)) (omega (arith, s.begun_is))
-    (subst (λ (n : ℕ). AreBlank n c.self.inside.blanks.items) s.writers_are c.self.invariant.blank)
-    s.strengths_are s.lawful s.follows in
+    let before : FollowsBefore q h (c.self.inside.happened + 1) c.self.inside.tracks.items =
+    record { place = omega (arith, s.happened_is); lawful = s.lawful; follows = s.follows } in
+    let taken =
+    c.take_up-is_beginning.ensures.follows h (record { before = before; tells = s.strengths_are })
+    (λ k d within. record {
+      handle_is = omega (arith, s.begun_is);
+      blank_is = λ i. c.self.invariant.blank k d within q i (sym s.writers_are);
+    }) in
     let kept : (c.if-is_end.self-inside.writers ≡ c.self.inside.writers)
     × (c.if-is_end.self-inside.strengths ≡ c.self.inside.strengths)
     × (c.if-is_end.self-inside.begun ≡ c.self.inside.begun + c.count_if.result) =
@@ -41,10 +45,12 @@ returns-clause-stands c = λ h stands end_is.
     elim c.if-is_end.branch [
       | then-is_end w ↦ subst (λ (ts : List InstanceTrack). Follows q (e ∷ h) ts)
           (sym (ap (λ (a : Inside). a.tracks.items) w.self-inside-is ∙ w.forget.ensures.kept))
-          (follows-over q h c.args.arrival.now c.take_up-is_beginning.new.tracks.items (sym w.if-is_end.true ∙ end_is) both.0)
+          (follows-over q h c.args.arrival.now c.take_up-is_beginning.new.tracks.items (sym w.if-is_end.true ∙ end_is)
+          taken.reaches)
       | else-is_end w ↦ subst (λ (ts : List InstanceTrack). Follows q (e ∷ h) ts)
           (sym (ap (λ (a : Inside). a.tracks.items) w.self-inside-is))
-          (follows-on q h c.args.arrival.now c.take_up-is_beginning.new.tracks.items (sym w.if-is_end.false ∙ end_is) both.0)
+          (follows-on q h c.args.arrival.now c.take_up-is_beginning.new.tracks.items (sym w.if-is_end.false ∙ end_is)
+          taken.reaches)
     ] in
     record {
       writers_are = kept.0 ∙ s.writers_are;
@@ -61,7 +67,7 @@ returns-clause-stands c = λ h stands end_is.
           (subst (λ (k : KeptStrengths). TellsStrengths k q h) (sym kept.1) s.strengths_are);
       begun_is =
           kept.2 ∙ (ap (λ (n : ℕ). n + c.count_if.result) s.begun_is
-          ∙ ap (λ (n : ℕ). lives_begun q h + n) (c.count_if.ensures.count ∙ sym both.1));
+          ∙ ap (λ (n : ℕ). lives_begun q h + n) (c.count_if.ensures.count ∙ sym taken.begun));
       follows = follows;
       lawful = lawful-quiet q h e (λ i j. refl) s.lawful;
     }

@@ -6,7 +6,7 @@ use Rattle.dds_base.specs.declared.happening.Happening.TheVariants.{Died}
 use Rattle.dds_base.specs.Happening.{same_key}
 use Rattle.dds_base.specs.Life.{has_there, last_marker}
 use Rattle.dds_instances.specs.declared.track.InstanceTrack.{InstanceTrack}
-use Rattle.dds_instances.specs.Following.{Follows}
+use Rattle.dds_instances.specs.Following.{Follows, FollowsBefore}
 use Rattle.dds_instances.specs.Track.{lives_on}
 use Rattle.dds_instances.specs.Table.{HoldsPresent, Stands, Table}
 use Rattle.dds_instances.specs.Sound.{table_of}
@@ -44,12 +44,14 @@ returns-clause-ok c = λ q h moment stands present.
     let s : Stands q (table_of c.self.inside) h = subst (λ (t : Table). Stands q t h) (sym c.self.view_is) stands in
     let noted : HoldsPresent q h (table_of c.self.inside) =
     subst (λ (t : Table). HoldsPresent q h t) (sym c.self.view_is) present in
-    let both =
-    c.bury_all.ensures.reaches q h moment (omega (arith, s.happened_is)) s.lawful s.follows
-    (held-right q h ts (λ i. has_there q h i (last_marker q i h))
+    let before : FollowsBefore q h (c.self.inside.happened + 1) ts =
+    record { place = omega (arith, s.happened_is); lawful = s.lawful; follows = s.follows } in
+    let held =
+    held-right q h ts (λ i. has_there q h i (last_marker q i h))
     (subst (λ (ks : List Key). IsDistinct same_key ks) c.bury_all.ensures.keys c.forget_left.ensures.distinct)
-    s.follows noted) in
+    s.follows noted in
     stands-next q h e (table_of c.self.inside) _ refl refl refl refl (λ tells. tells) refl
     (subst (λ (xs : List InstanceTrack). Follows q (e ∷ h) xs) (sym c.forget_left.ensures.kept)
-    (follows-kept q h e lives_on c.bury_all.new.tracks.items both.0 both.1))
+    (follows-kept q h e lives_on c.bury_all.new.tracks.items (c.bury_all.ensures.reaches q h moment before)
+    (c.bury_all.ensures.lives q h moment before held)))
     (lawful-quiet q h e (λ i j. refl) s.lawful) s
