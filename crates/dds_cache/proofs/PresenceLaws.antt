@@ -18,7 +18,7 @@ use Rattle.dds_base.specs.declared.happening.Happening.TheVariants.{Came}
 use Rattle.dds_base.specs.Ownership.{accepted_kind, is_registered, registered_writers, publication_handles}
 use Rattle.dds_base.specs.Instance.{instance_state_of}
 use Rattle.dds_base.specs.Life.{is_write, or_else, state_after, is_nobody, last_accepted, becomes_not_alive, is_kept_write, is_there, has_there, ends_life, keeps, later_writes, is_at, last_marker, accepted_writes, ends_with_write, up_to}
-use Rattle.dds_base.proofs.LifeLaws.{accepted-other, registered-other, as_of-older, as_of-newest, marker-next, over-absent, quiet-unmarked, up_to-at}
+use Rattle.dds_base.proofs.LifeLaws.{accepted-other, registered-other, as_of-older, as_of-newest, is-over-none, marker-next, markers-gone, over-absent, quiet-unmarked, up_to-at}
 use Rattle.dds_base.specs.Presence.{is_present, marks}
 use Rattle.dds_cache.specs.declared.kept.Kept.{Kept}
 use Rattle.dds_cache.specs.Kept.{sample_at, is_here, position_of, positions_in}
@@ -95,23 +95,13 @@ pub present-reached : (q : ReaderQos) (e : Happening) (h : List Happening) (i : 
 present-reached q e h i j within =
     ⊎_elim
     (λ over. let none : is_there q (e ∷ h) i (reached q i h e) j ≡ false =
-    absent q e h i j within (nothing (is_nobody (registered_writers q i (e ∷ h))) _ over) in
+    absent q e h i j within (is-over-none (is_nobody (registered_writers q i (e ∷ h))) _ over) in
     ap (λ (b : Bool). is_there q (e ∷ h) i (if b then None else reached q i h e) j) over
-    ∙ (fewer (not (is_taken (sample_at i j) (e ∷ h))) (is_kept_write q (e ∷ h) i j) (is_at (reached q i h e) j) none
-    ∙ sym none))
+    ∙ (markers-gone (not (is_taken (sample_at i j) (e ∷ h))) (is_kept_write q (e ∷ h) i j) (is_at (reached q i h e) j)
+    none ∙ sym none))
     (λ goes_on. ap (λ (b : Bool). is_there q (e ∷ h) i (if b then None else reached q i h e) j) goes_on)
     (cases_Bool (ends_life q i h e))
   where
-    nothing : (a b : Bool) → (a && not b) ≡ true → b ≡ false
-    nothing true true e = absurd cc
-    nothing true false e = refl
-    nothing false b e = absurd cc
-
-    fewer : (a b c : Bool) → (a && (b || c)) ≡ false → (a && (b || false)) ≡ false
-    fewer true true c e = absurd cc
-    fewer true false c e = refl
-    fewer false b c e = refl
-
     absent : (q : ReaderQos) (e : Happening) (h : List Happening) (i : Key) (j : ℕ) → j ≤ length h + 1
         → has_there q (e ∷ h) i (reached q i h e) ≡ false → is_there q (e ∷ h) i (reached q i h e) j ≡ false
     absent q e h i zero within none = there-start q i h e
