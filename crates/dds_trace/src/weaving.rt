@@ -6,8 +6,8 @@
 ghost use Rattle.std.specs.Prelude.{◌≡◌, ℕ, List, ◌+◌, ◌<◌, ◌^◌, length, slice_index, Contains, IfOk, IfErr, MatchBool, MatchOption};
 ghost use Rattle.dds_trace.specs.declared.trace.Entry.{Entry};
 ghost use Rattle.dds_trace.specs.Faults.{IsCause};
-ghost use Rattle.dds_trace.specs.Weaving.{AllPlaced, IsBlocked, IsHonest, IsNext, MayStand, Reaches, Sent, none_placed};
-ghost use Rattle.dds_trace.specs.Knowing.{Knows};
+ghost use Rattle.dds_trace.specs.Weaving.{AllPlaced, IsBlocked, IsHonest, IsNext, MayStand, Reaches, none_placed};
+ghost use Rattle.dds_trace.specs.Knowing.{HasNoPlace, HasPlace, Knows};
 ghost use Rattle.dds_trace.specs.Woven.{RunsHistories};
 
 use crate::sent_octets::SentOctets;
@@ -52,9 +52,8 @@ fn has_place(traces: &[Trace], placed: &[usize], sent: &SentOctets, at: usize) -
     requires fits { length placed.now ≡ length traces.now }
     requires knows { Knows traces.now placed.now sent.now }
     ensures { MatchBool result
-        ((slice_index placed.now at + 1 < 2 ^ 64)
-        × ((e : Entry) × IsNext traces.now placed.now at e × MayStand (Sent traces.now placed.now) e))
-        ((e : Entry) → IsNext traces.now placed.now at e → IsBlocked (Sent traces.now placed.now) e) }
+        ((slice_index placed.now at + 1 < 2 ^ 64) × HasPlace traces.now placed.now at)
+        (HasNoPlace traces.now placed.now at) }
 {
     let trace = &traces[at];
     let count = placed[at];
@@ -68,10 +67,9 @@ fn has_place(traces: &[Trace], placed: &[usize], sent: &SentOctets, at: usize) -
 fn find_next(traces: &[Trace], placed: &[usize], sent: &SentOctets) -> Option<usize>
     requires fits { length placed.now ≡ length traces.now }
     requires knows { Knows traces.now placed.now sent.now }
-    ensures { MatchOption result
-        ((t : ℕ) (e : Entry) → IsNext traces.now placed.now t e → IsBlocked (Sent traces.now placed.now) e)
+    ensures { MatchOption result ((t : ℕ) → HasNoPlace traces.now placed.now t)
         (λ t. (t < length traces.now) × (slice_index placed.now t + 1 < 2 ^ 64)
-        × ((e : Entry) × IsNext traces.now placed.now t e × MayStand (Sent traces.now placed.now) e)) }
+        × HasPlace traces.now placed.now t) }
 {
     for at in 0..traces.len() {
         if has_place(traces, placed, sent, at) {
@@ -110,8 +108,7 @@ fn place_all(alloc: Global, traces: &[Trace]) -> Result<Placed, Code>
     ensures fits { IfOk result (λ all. length all.counts.items ≡ length traces.now) }
     ensures reaches { IfOk result
         (λ all. Reaches traces.now (none_placed traces.now) all.order.items all.counts.items) }
-    ensures blocked { IfOk result (λ all. (t : ℕ) (e : Entry)
-        → IsNext traces.now all.counts.items t e → IsBlocked (Sent traces.now all.counts.items) e) }
+    ensures blocked { IfOk result (λ all. (t : ℕ) → HasNoPlace traces.now all.counts.items t) }
 {
     let mut counts = Vec::from_elem(alloc, 0, traces.len())?;
     let mut order = Vec::new(alloc);

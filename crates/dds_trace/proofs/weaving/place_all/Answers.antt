@@ -4,8 +4,8 @@ use Rattle.std.proofs.lemmas.List.{get_or_default}
 use Rattle.std.proofs.lemmas.Option.{slice_get_within}
 use Rattle.dds_protocol.specs.declared.event.Packet.{Packet}
 use Rattle.dds_trace.specs.declared.trace.Entry.{Entry}
-use Rattle.dds_trace.specs.Weaving.{IsBlocked, IsNext, MayStand, Reaches, Sent, none_placed, one_more}
-use Rattle.dds_trace.specs.Knowing.{Knows}
+use Rattle.dds_trace.specs.Weaving.{IsNext, Reaches, none_placed, one_more}
+use Rattle.dds_trace.specs.Knowing.{HasNoPlace, HasPlace, Knows}
 use Rattle.dds_trace.proofs.Orders.{Reaches-push, is_next, knows_more, left, left_falls, next_within}
 use Rattle.dds_trace.proofs.weaving.place_all.Goals as goal
 
@@ -18,7 +18,7 @@ entry-entry-requires c =
     let ts = c.args.traces.now in
     let counts = c.loop-next.counts.items in
     let next = c.in-Some.next in
-    let P : List ℕ → Type 0 = λ ps. (e : Entry) × IsNext ts ps next e × MayStand (Sent ts ps) e in
+    let P : List ℕ → Type 0 = λ ps. HasPlace ts ps next in
     let step : P counts = subst P c.as_slice.ensures.value c.in-Some.ensures.2 in
     let inside : next < length counts = omega (arith, c.in-Some.ensures.0, c.loop-next.invariant.fits) in
     let value : c.index.result.now ≡ slice_index counts next =
@@ -33,7 +33,7 @@ loop-next-smaller c =
     let ts = c.args.traces.now in
     let counts = c.loop-next.counts.items in
     let next = c.in-Some.next in
-    let P : List ℕ → Type 0 = λ ps. (e : Entry) × IsNext ts ps next e × MayStand (Sent ts ps) e in
+    let P : List ℕ → Type 0 = λ ps. HasPlace ts ps next in
     let step : P counts = subst P c.as_slice.ensures.value c.in-Some.ensures.2 in
     let inside : next < length counts = omega (arith, c.in-Some.ensures.0, c.loop-next.invariant.fits) in
     let value : c.index_mut.result.now ≡ slice_index counts next =
@@ -48,7 +48,7 @@ loop-next-preserved c =
     let counts = c.loop-next.counts.items in
     let next = c.in-Some.next in
     let entry : Entry = c.entry-entry.result.now in
-    let P : List ℕ → Type 0 = λ ps. (e : Entry) × IsNext ts ps next e × MayStand (Sent ts ps) e in
+    let P : List ℕ → Type 0 = λ ps. HasPlace ts ps next in
     let step : P counts = subst P c.as_slice.ensures.value c.in-Some.ensures.2 in
     let inside : next < length counts = omega (arith, c.in-Some.ensures.0, c.loop-next.invariant.fits) in
     let counted : c.index.result.now ≡ slice_index counts next =
@@ -75,5 +75,5 @@ loop-next-preserved c =
 pub returns-clause-blocked : goal.returns-clause-blocked
 returns-clause-blocked c =
     let ts = c.args.traces.now in
-    let P : List ℕ → Type 0 = λ ps. (t : ℕ) (e : Entry) → IsNext ts ps t e → IsBlocked (Sent ts ps) e in
+    let P : List ℕ → Type 0 = λ ps. (t : ℕ) → HasNoPlace ts ps t in
     subst P c.as_slice.ensures.value c.in_default.ensures
