@@ -1,7 +1,7 @@
 -- What a wait enters in the list of its pass.
 --
 -- DDS 1.4, 2.2.2.1 (WaitSet, wait). That a wait is its looks is this project's own.
-use Rattle.std.specs.Prelude.{◌≡◌, ◌≢◌, ◌⊎◌, ℕ, List, [], ◌∷◌, ◌++◌}
+use Rattle.std.specs.Prelude.{◌≡◌, ◌≢◌, ◌⊎◌, ℕ, Bool, List, [], ◌∷◌, ◌++◌, MatchBool}
 use Rattle.dds_base.specs.declared.code.Code.TheVariants.{Memory}
 use Rattle.dds_machine.specs.declared.call.Call.TheVariants.{WaitBegin, WaitEnd, WaitLook}
 use Rattle.dds_machine.specs.declared.reply.Reply.{Reply}
@@ -35,6 +35,14 @@ pub record Waits (was after : Carried) (wait_set deadline : ℕ) (begun : Output
 -- a look answers a wait: it found what is true, or ended the wait otherwise
 abbrev pub IsLast : Reply → Type 0
 IsLast reply = (reply ≢ Waiting) × (reply ≢ Refused Memory)
+
+-- the wait began where this says so, and else its begin was refused
+abbrev pub Begins : Bool → Reply → Type 0
+Begins begun reply = MatchBool begun (reply ≡ Done) (reply ≢ Done)
+
+-- the look answers its wait where this says so, and else found nothing true
+abbrev pub Ends : Bool → Reply → Type 0
+Ends over reply = MatchBool over (IsLast reply) (reply ≡ Waiting)
 
 -- a wait that was answered: its begin was refused, or its last look answered it
 abbrev pub Answered : Carried → Carried → ℕ → ℕ → Type 0

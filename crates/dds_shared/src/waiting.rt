@@ -2,7 +2,7 @@
 //!
 //! DDS 1.4, 2.2.2.1 (WaitSet, wait).
 
-ghost use Rattle.std.specs.Prelude.{◌≡◌, ◌≢◌, ◌↔◌, ◌++◌, ◌<◌, ◌≤◌, List, OnErr, IfErr, IfOk, IsTrue, MatchBool, true};
+ghost use Rattle.std.specs.Prelude.{◌≡◌, ◌↔◌, ◌<◌, ◌≤◌, List, OnOk, OnErr, IfErr, IfOk, IsTrue, true};
 ghost use Rattle.dds_base.specs.declared.code.Code.TheVariants.{Memory};
 ghost use Rattle.dds_machine.specs.declared.call.Call.TheVariants.{WaitBegin, WaitLook};
 ghost use Rattle.dds_machine.specs.declared.reply.Reply.TheVariants as reply_of;
@@ -12,7 +12,7 @@ ghost use Rattle.dds_trace.specs.declared.trace.Entry.{Entry as EntryOf};
 ghost use Rattle.dds_trace.specs.Uses.{IsInUse};
 ghost use Rattle.dds_shared.specs.Passes.{Grows, IsAsBefore};
 ghost use Rattle.dds_shared.specs.Locks.{Adds};
-ghost use Rattle.dds_shared.specs.Waits.{GivesUp, IsEndOfWait, IsLast};
+ghost use Rattle.dds_shared.specs.Waits.{Begins, Ends, GivesUp, IsEndOfWait};
 
 use crate::locked::Locked;
 use crate::named::Named;
@@ -55,7 +55,8 @@ impl<N: Named<F, L>, F: Filter, L: Listener> Locked<N, F, L> {
         ensures ok { IfOk result (λ begun. (o : OutputOf)
             × Adds F.meaning L.notices L.capacity L.becomes self.old self.new pass.old pass.new
             (event.Call (WaitBegin wait_set deadline)) o
-            × MatchBool begun (o.reply ≡ reply_of.Done) (o.reply ≢ reply_of.Done) × (0 < pass.new.spare)) }
+            × Begins begun o.reply) }
+        ensures room { OnOk result (0 < pass.new.spare) }
         ensures err { OnErr result ((self.new ≡ self.old) × IsAsBefore pass.old pass.new) }
         ensures refused { IfErr result (λ code. code ≡ Memory) }
     {
@@ -74,7 +75,8 @@ impl<N: Named<F, L>, F: Filter, L: Listener> Locked<N, F, L> {
         ensures ok { IfOk result (λ over. (o : OutputOf)
             × Adds F.meaning L.notices L.capacity L.becomes self.old self.new pass.old pass.new
             (event.Call (WaitLook wait_set)) o
-            × MatchBool over (IsLast o.reply) (o.reply ≡ reply_of.Waiting) × (0 < pass.new.spare)) }
+            × Ends over o.reply) }
+        ensures room { OnOk result (0 < pass.new.spare) }
         ensures err { OnErr result ((es : List EntryOf) × Grows pass.old pass.new es
             × GivesUp pass.old.seat wait_set es) }
         ensures front { pass.old.front ≤ pass.new.front }

@@ -18,7 +18,7 @@ pub loop-preserved : goal.loop-preserved
 loop-preserved g c =
     let i = c.loop.invariant in
     let did = rw c.in-Ok-false.field-0-test at c.in-Ok-false.ensures.ok in
-    (i.0, i.1 ++ look_of c.args.pass.now.seat c.args.wait_set did.0 ∷ [], waits_on c.args.pass.now c.loop.pass c.look.new.pass c.args.wait_set c.args.deadline i.0 i.1 did.0 i.2 did.1.list did.2, did.3, omega (arith, i.4, did.1.above, did.1.seen))
+    (i.0, i.1 ++ look_of c.args.pass.now.seat c.args.wait_set did.0 ∷ [], waits_on c.args.pass.now c.loop.pass c.look.new.pass c.args.wait_set c.args.deadline i.0 i.1 did.0 i.2 did.1.list did.2, c.in-Ok-false.ensures.room, omega (arith, i.4, did.1.above, did.1.seen))
 
 pub returns-in-Ok-true-clause-front : goal.returns-in-Ok-true-clause-front
 returns-in-Ok-true-clause-front g c =
@@ -35,6 +35,6 @@ loop-init g c =
       did.0,
       [],
       waits_begun c.args.pass.now c.begin.new.pass c.args.wait_set c.args.deadline did.0 did.1.list did.2,
-      did.3,
+      c.in_ok-begun.ensures.room,
       omega (arith, did.1.above, did.1.seen),
     )
