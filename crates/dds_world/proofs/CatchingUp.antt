@@ -538,7 +538,7 @@ all_answers a =
 
 answered : {hearing : Hearing} → (a : Ask hearing) (later : List WorldEvent) (rest : List RoundReply)
     (new : WorldKept hearing) → are_whole rest ≡ true
-    → Answering a.h.t.tests a.h.t.m (length a.h.beat.mid.sent) a.ask.mid later rest new
+    → Answering a.h.t.tests a.h.t.m.reader.peer (length a.h.beat.mid.sent) a.ask.mid later rest new
     → Ends a.h.t (world.Tick a.h.t.m.writer.peer a.h.t.m.moment ∷ world.Deliver a.h.t.m.reader.peer a.h.beat.k
     ∷ world.Deliver a.h.t.m.writer.peer a.ask.k ∷ later) (a.h.t.ticked ∷ a.h.beat.reply ∷ a.ask.reply ∷ rest) new
 unfolding asks
@@ -594,7 +594,8 @@ after_hearing : {hearing : Hearing} → (h : Hear hearing) (events : List WorldE
     (h.t.ticked ∷ h.beat.reply ∷ replies) new
 after_hearing h events replies new whole same more next =
     stage_delivers h.t.config (noted_beat h) (IsTo h.t.m.writer.peer (ask_of h)) (length h.t.mid.sent)
-    h.t.m.writer.peer h.t.old.unsent (Answering h.t.tests h.t.m (length h.beat.mid.sent)) h.beat.mid events replies new
+    h.t.m.writer.peer h.t.old.unsent (Answering h.t.tests h.t.m.reader.peer (length h.beat.mid.sent)) h.beat.mid events
+    replies new
     (λ es rs n. Ends h.t (world.Tick h.t.m.writer.peer h.t.m.moment ∷ world.Deliver h.t.m.reader.peer h.beat.k ∷ es)
     (h.t.ticked ∷ h.beat.reply ∷ rs) n) (w1 h).stands same more (λ mid es rs a. a.1) (no_ask h)
     (λ ask later rest all above a. answered (record { h = h; ask = ask }) later rest new all a) next whole

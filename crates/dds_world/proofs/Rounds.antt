@@ -185,7 +185,7 @@ pub acks_steps : {hearing : Hearing} → {tests : AllTests}
     (new : WorldKept hearing) → Acknowledging tests m from old events replies new → AreSteps tests old events replies new
 acks_steps {tests} m from old events replies new h =
     stage_steps (IsTo m.writer.peer (sought.AckNack m.pair.reader m.pair.writer)) from m.writer.peer
-    (Answering tests m (length old.sent)) old events replies new
+    (Answering tests m.reader.peer (length old.sent)) old events replies new
     (λ mid es rs a. a.1) h
 
 pub beats_steps : {hearing : Hearing} → {tests : AllTests}
@@ -270,7 +270,8 @@ after_heartbeat : {hearing : Hearing} → {tests : AllTests}
     → Acknowledging tests m from old events replies new
     → AfterHeartbeat config m.writer m.reader new.sent from (length old.sent) events replies
 after_heartbeat {tests} config network known m from old events replies new k s h =
-    stage_in_round config network from m.writer.peer (Answering tests m (length old.sent)) old events replies new
+    stage_in_round config network from m.writer.peer (Answering tests m.reader.peer (length old.sent)) old events replies
+    new
     (λ ps es rs. AfterHeartbeat config m.writer m.reader ps from (length old.sent) es rs)
     (acknack_is config known m k) s (λ mid es rs a. a.1) (λ none. none)
     (λ number reply mid later rest first on sent a.

@@ -1,8 +1,11 @@
 -- The stages of a round, by what a network keeps. Inner functions alone cite this: nothing here has to be believed.
 --
 -- RTPS 2.5, 8.4.9 (reliable StatefulWriter), 8.4.12 (reliable StatefulReader).
-use Rattle.std.specs.Prelude.{◌≡◌, ◌⊎◌, ℕ, List, [], ◌∷◌, ◌++◌, length, IsSome, None}
+use Rattle.std.specs.Prelude.{◌≡◌, ◌⊎◌, ℕ, Bool, List, [], ◌∷◌, ◌++◌, length, IsSome, None}
 use Rattle.dds_base.specs.declared.config.Config.{Config}
+use Rattle.dds_base.specs.declared.key.Key.{Key}
+use Rattle.dds_notices.specs.declared.notice.Notice.{Notice}
+use Rattle.dds_notices.specs.Listeners.{ByEntity}
 use Rattle.rtps_wire.specs.declared.seek.Sought.TheVariants as sought
 use Rattle.dds_machine.specs.declared.endpoint.Endpoint.{Endpoint}
 use Rattle.dds_protocol.specs.declared.event.Packet.{Packet}
@@ -15,6 +18,7 @@ use Rattle.dds_protocol.specs.World.{WorldState, machine_of}
 use Rattle.dds_core.specs.Pairs.{reader_entity}
 use Rattle.dds_world.specs.declared.round.Matched.{Matched}
 use Rattle.dds_world.specs.declared.round.RoundReply.{RoundReply}
+use Rattle.dds_world.specs.Holding.{Held, heard, kept_of, tests_in}
 use Rattle.dds_world.specs.Round.{IsStep, AreSteps, IsTo, HasNone, IsFirst, answers_at}
 use Rattle.dds_world.specs.WorldStanding.{Hearing, WorldKept, StandsFor}
 
@@ -48,18 +52,18 @@ Stage {hearing} tests Is from peer Next old events replies new =
     × IsFirst Is old.sent from (length old.sent) k × IsStep tests old (Deliver peer k) reply mid
     × (events ≡ Deliver peer k ∷ later) × (replies ≡ reply ∷ rest) × Next mid later rest new)
 
--- the answers of the ACKNACK that was delivered when so many packets had been sent
-abbrev pub Answering : {hearing : Hearing} → AllTests → Matched → ℕ → WorldKept hearing → List WorldEvent
+-- the answers, at this peer, of the ACKNACK that was delivered when so many packets had been sent
+abbrev pub Answering : {hearing : Hearing} → AllTests → ℕ → ℕ → WorldKept hearing → List WorldEvent
     → List RoundReply → WorldKept hearing → Type 0
-Answering tests m from old events replies new =
-    (events ≡ answers_at m.reader.peer from (length old.sent)) × AreSteps tests old events replies new
+Answering tests peer from old events replies new =
+    (events ≡ answers_at peer from (length old.sent)) × AreSteps tests old events replies new
 
 -- the ACKNACK, if one was sent since so many packets had been, and its answers
 abbrev pub Acknowledging : {hearing : Hearing} → AllTests → Matched → ℕ → WorldKept hearing → List WorldEvent
     → List RoundReply → WorldKept hearing → Type 0
 Acknowledging tests m from old events replies new =
     Stage tests (IsTo m.writer.peer (sought.AckNack m.pair.reader m.pair.writer)) from m.writer.peer
-    (Answering tests m (length old.sent)) old events replies new
+    (Answering tests m.reader.peer (length old.sent)) old events replies new
 
 -- the HEARTBEAT, if one was sent since so many packets had been, and what follows
 abbrev pub Beating : {hearing : Hearing} → AllTests → Matched → ℕ → WorldKept hearing → List WorldEvent
@@ -75,3 +79,18 @@ abbrev pub Adds : {hearing : Hearing}
     → WorldKept hearing → List RoundReply → Type 0
 Adds Does old before new after =
     (events : List WorldEvent) × (added : List RoundReply) × (after ≡ before ++ added) × Does old events added new
+
+-- so it is whatever listeners the peers were given
+abbrev pub AddsIn : {F L : Type 0} → (L → List Notice) → (L → ℕ) → (L → Notice → L → Type 0)
+    → ((hearing : Hearing) → WorldKept hearing → List WorldEvent → List RoundReply → WorldKept hearing → Type 0)
+    → Held F L → List RoundReply → Held F L → List RoundReply → Type 0
+AddsIn {F} {L} notices capacity becomes Does old before new after =
+    (given : ℕ → ByEntity L) → Adds (Does (heard notices capacity becomes given))
+    (kept_of notices capacity becomes given old) before (kept_of notices capacity becomes given new) after
+
+-- one event, as a step of the network answers it, whatever listeners the peers were given
+abbrev pub IsStepIn : {F L : Type 0} → (F → Key → List ℕ → Bool) → (L → List Notice) → (L → ℕ)
+    → (L → Notice → L → Type 0) → Held F L → WorldEvent → RoundReply → Held F L → Type 0
+IsStepIn {F} {L} meaning notices capacity becomes old event reply new =
+    (given : ℕ → ByEntity L) → IsStep (tests_in meaning old) (kept_of notices capacity becomes given old) event reply
+    (kept_of notices capacity becomes given new)

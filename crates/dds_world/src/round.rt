@@ -2,12 +2,12 @@
 //!
 //! RTPS 2.5, 8.4.9 (reliable StatefulWriter), 8.4.12 (reliable StatefulReader).
 
-ghost use Rattle.std.specs.Prelude.{◌≡◌, ℕ, ◌++◌, ◌+◌, ◌<◌, ◌≤◌, ◌↔◌, min, List, [], ◌∷◌, length, vec_len, vec_capacity, IsTrue, IfOk, IfErr, OnErr, MatchOption};
+ghost use Rattle.std.specs.Prelude.{◌≡◌, ℕ, ◌++◌, ◌+◌, ◌<◌, ◌≤◌, ◌↔◌, min, [], ◌∷◌, length, vec_len, vec_capacity, IsTrue, IfOk, IfErr, IfSome, OnErr, MatchOption};
 ghost use Rattle.dds_notices.specs.Listeners.{ByEntity};
 ghost use Rattle.dds_world.specs.declared.round.RoundReply.{RoundReply as ReplyOf};
-ghost use Rattle.dds_world.specs.Round.{answers_at, AreMatched, AreSteps, HasNone, IsFirst, IsStep, IsTo, RefusesRound, RoundRuns, Rounds};
+ghost use Rattle.dds_world.specs.Round.{AreMatched, HasNone, IsFirst, IsTo, RefusesRound, RoundRuns, Rounds};
 ghost use Rattle.dds_world.specs.Holding.{MachineStandsFor, filters_of, kept_of, tests_in};
-ghost use Rattle.dds_world.specs.Repairing.{Acknowledging, Adds, Beating, IsKnown, NotMatched};
+ghost use Rattle.dds_world.specs.Repairing.{Acknowledging, AddsIn, Answering, Beating, IsKnown, IsStepIn, NotMatched};
 
 use crate::world::World;
 use dds_base::{Code, Moment, Sequence, Sn, index_of};
@@ -161,10 +161,10 @@ impl<F: Filter, L: Listener> World<F, L> {
 
     /// The writer and the reader with what a round needs, if they are matched.
     fn matched(&self, writer: Endpoint, reader: Endpoint) -> Option<Matched>
-        ensures { (given : ℕ → ByEntity L) → MatchOption result
+        ensures ends { IfSome result (λ m. (m.writer ≡ writer) × (m.reader ≡ reader)) }
+        ensures known { (given : ℕ → ByEntity L) → MatchOption result
             (NotMatched (kept_of L.notices L.capacity L.becomes given self.now) writer reader)
-            (λ m. (m.writer ≡ writer) × (m.reader ≡ reader)
-            × IsKnown (kept_of L.notices L.capacity L.becomes given self.now) m) }
+            (IsKnown (kept_of L.notices L.capacity L.becomes given self.now)) }
     {
         let Some(index) = index_of(writer.peer, self.count()) else {
             return None;
@@ -199,9 +199,7 @@ impl<F: Filter, L: Listener> World<F, L> {
     fn add_step(&mut self, event: WorldEvent, replies: &mut Vec<RoundReply>)
         requires room { vec_len replies.old < vec_capacity replies.old }
         ensures step { (reply : ReplyOf) × (replies.new.items ≡ replies.old.items ++ reply ∷ [])
-            × ((given : ℕ → ByEntity L) → IsStep (tests_in F.meaning self.old)
-            (kept_of L.notices L.capacity L.becomes given self.old) event reply
-            (kept_of L.notices L.capacity L.becomes given self.new)) }
+            × IsStepIn F.meaning L.notices L.capacity L.becomes self.old event reply self.new }
         ensures filters { filters_of self.new ≡ filters_of self.old }
         ensures capacity { vec_capacity replies.old ≤ vec_capacity replies.new }
     {
@@ -221,9 +219,9 @@ impl<F: Filter, L: Listener> World<F, L> {
     /// Delivers the writer's HEARTBEAT to the reader, if it is among the packets after so many, and what follows.
     fn deliver_heartbeat(&mut self, m: &Matched, from: u64, replies: &mut Vec<RoundReply>)
         requires room { vec_len replies.old + 34 ≤ vec_capacity replies.old }
-        ensures adds { (given : ℕ → ByEntity L) → Adds (Beating (tests_in F.meaning self.old) m.now from)
-            (kept_of L.notices L.capacity L.becomes given self.old) replies.old.items
-            (kept_of L.notices L.capacity L.becomes given self.new) replies.new.items }
+        ensures adds { AddsIn L.notices L.capacity L.becomes
+            (λ hearing. Beating (tests_in F.meaning self.old) m.now from)
+            self.old replies.old.items self.new replies.new.items }
         ensures filters { filters_of self.new ≡ filters_of self.old }
     {
         let wanted = Sought::Heartbeat {
@@ -241,9 +239,9 @@ impl<F: Filter, L: Listener> World<F, L> {
     /// Delivers the reader's ACKNACK to the writer, if it is among the packets after so many, and its answers.
     fn deliver_acknack(&mut self, m: &Matched, from: u64, replies: &mut Vec<RoundReply>)
         requires room { vec_len replies.old + 33 ≤ vec_capacity replies.old }
-        ensures adds { (given : ℕ → ByEntity L) → Adds (Acknowledging (tests_in F.meaning self.old) m.now from)
-            (kept_of L.notices L.capacity L.becomes given self.old) replies.old.items
-            (kept_of L.notices L.capacity L.becomes given self.new) replies.new.items }
+        ensures adds { AddsIn L.notices L.capacity L.becomes
+            (λ hearing. Acknowledging (tests_in F.meaning self.old) m.now from)
+            self.old replies.old.items self.new replies.new.items }
         ensures filters { filters_of self.new ≡ filters_of self.old }
     {
         let wanted = Sought::AckNack {
@@ -262,10 +260,9 @@ impl<F: Filter, L: Listener> World<F, L> {
     /// Delivers the packets after so many at this peer, up to 32.
     fn deliver_answers(&mut self, peer: u8, from: u64, replies: &mut Vec<RoundReply>)
         requires room { vec_len replies.old + 32 ≤ vec_capacity replies.old }
-        ensures steps { (given : ℕ → ByEntity L) → (added : List ReplyOf) × (replies.new.items ≡ replies.old.items ++ added)
-            × AreSteps (tests_in F.meaning self.old) (kept_of L.notices L.capacity L.becomes given self.old)
-            (answers_at peer from (length self.old.sent)) added
-            (kept_of L.notices L.capacity L.becomes given self.new) }
+        ensures adds { AddsIn L.notices L.capacity L.becomes
+            (λ hearing. Answering (tests_in F.meaning self.old) peer from)
+            self.old replies.old.items self.new replies.new.items }
         ensures filters { filters_of self.new ≡ filters_of self.old }
     {
         let count = self.sent().saturating_sub(from).min(MAX_ANSWERS);

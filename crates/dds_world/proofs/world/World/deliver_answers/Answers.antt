@@ -3,7 +3,7 @@ use Rattle.dds_base.specs.Kept.{numbers_from}
 use Rattle.dds_machine.specs.declared.event.WorldEvent.TheVariants as world
 use Rattle.dds_world.specs.declared.round.RoundReply.{RoundReply}
 use Rattle.dds_world.specs.Holding.{kept_of, tests_in}
-use Rattle.dds_world.specs.Round.{AreSteps, IsStep}
+use Rattle.dds_world.specs.Round.{AreSteps, IsStep, answers_at}
 use Rattle.dds_world.proofs.Holding.{same_tests}
 use Rattle.dds_world.proofs.Rounds.{answered_more}
 use Rattle.dds_world.proofs.world.World.deliver_answers.Goals as goal
@@ -37,15 +37,19 @@ loop-index-preserved g c =
       c.add_step.ensures.filters ∙ i.3,
     )
 
-pub returns-clause-steps : goal.returns-clause-steps
-returns-clause-steps g c = λ given.
+pub returns-clause-adds : goal.returns-clause-adds
+returns-clause-adds g c = λ given.
     let i = c.loop-index.invariant.0 given in
     let first = c.args.self.now in
     let all : c.loop-index.index ≡ min 32 (length first.sent - c.args.from) = omega arith in (
+      answers_at c.args.peer c.args.from (length first.sent),
       i.0,
       i.1,
-      subst (λ (n : ℕ). AreSteps (tests_in g.F.Filter.meaning first)
-          (kept_of g.L.Listener.notices g.L.Listener.capacity g.L.Listener.becomes given first)
-          (map (λ k. world.Deliver c.args.peer k) (numbers_from (c.args.from + 1) n)) i.0
-          (kept_of g.L.Listener.notices g.L.Listener.capacity g.L.Listener.becomes given c.loop-index.self)) all i.2,
+      (
+        refl,
+        subst (λ (n : ℕ). AreSteps (tests_in g.F.Filter.meaning first)
+            (kept_of g.L.Listener.notices g.L.Listener.capacity g.L.Listener.becomes given first)
+            (map (λ k. world.Deliver c.args.peer k) (numbers_from (c.args.from + 1) n)) i.0
+            (kept_of g.L.Listener.notices g.L.Listener.capacity g.L.Listener.becomes given c.loop-index.self)) all i.2,
+      ),
     )

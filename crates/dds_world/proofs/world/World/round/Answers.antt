@@ -22,7 +22,7 @@ returns-clause-round g c = λ given.
     let new = kept_of g.L.Listener.notices g.L.Listener.capacity g.L.Listener.becomes given last in
     let writer : Endpoint = c.args.writer in
     let reader : Endpoint = c.args.reader in
-    let known = c.in-Some.ensures given in
+    let ends = c.in-Some.ensures.ends in
     let before = place_of_machine old reader writer (Some from) (c.in-Some-place.ensures.place given) in
     let a = c.add_step.ensures.step in
     let d = c.deliver_heartbeat.ensures.adds given in
@@ -40,7 +40,7 @@ returns-clause-round g c = λ given.
     rounds_are old writer reader m a.0
     (kept_of g.L.Listener.notices g.L.Listener.capacity g.L.Listener.becomes given mid) d.1 c.from_vec-replies.result new d.0 from
     c.place-2.result
-    known.0 known.1 all known.2 (a.2 given) beats before
+    ends.0 ends.1 all (c.in-Some.ensures.known given) (a.2 given) beats before
     (place_of_machine new reader writer c.place-2.result (c.place-2.ensures.place given)) in
     let to : ℕ = c.unwrap_or-to.result in
     subst (λ (n : ℕ). Rounds (tests_in g.F.Filter.meaning start) old writer reader
@@ -55,9 +55,9 @@ returns-clause-matched g c = λ given.
     let old = kept_of g.L.Listener.notices g.L.Listener.capacity g.L.Listener.becomes given c.args.self.now in
     let writer : Endpoint = c.args.writer in
     let reader : Endpoint = c.args.reader in
-    let known = c.in-Some.ensures given in
-    subst (λ (w : Endpoint). AreMatched old w reader) known.0
-    (subst (λ (r : Endpoint). AreMatched old m.writer r) known.1 (are_matched old m known.2))
+    let ends = c.in-Some.ensures.ends in
+    subst (λ (w : Endpoint). AreMatched old w reader) ends.0
+    (subst (λ (r : Endpoint). AreMatched old m.writer r) ends.1 (are_matched old m (c.in-Some.ensures.known given)))
 
 pub returns-clause-run : goal.returns-clause-run
 returns-clause-run g c = λ given.
@@ -74,7 +74,7 @@ returns-in_default-place-clause-refused g c = λ given.
 pub returns-in_default-clause-refused : goal.returns-in_default-clause-refused
 returns-in_default-clause-refused g c = λ given.
     not_matched (kept_of g.L.Listener.notices g.L.Listener.capacity g.L.Listener.becomes given c.args.self.now)
-    c.args.writer c.args.reader (c.in_default.ensures given)
+    c.args.writer c.args.reader (c.in_default.ensures.known given)
 
 pub returns-in_err-replies-clause-refused : goal.returns-in_err-replies-clause-refused
 returns-in_err-replies-clause-refused g c =
@@ -82,6 +82,6 @@ returns-in_err-replies-clause-refused g c =
     → RefusesRound (kept_of g.L.Listener.notices g.L.Listener.capacity g.L.Listener.becomes given c.args.self.now)
     c.args.writer c.args.reader code) c.from_residual.result c.from_residual.ensures.1
     (λ given.
-    let known = c.in-Some.ensures given in
+    let ends = c.in-Some.ensures.ends in
     lacks_memory (kept_of g.L.Listener.notices g.L.Listener.capacity g.L.Listener.becomes given c.args.self.now)
-    c.in-Some.m c.args.writer c.args.reader known.0 known.1 known.2)
+    c.in-Some.m c.args.writer c.args.reader ends.0 ends.1 (c.in-Some.ensures.known given))
