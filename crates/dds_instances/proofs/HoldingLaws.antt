@@ -1,6 +1,6 @@
 -- What is noted of which instances something is held.
-use Rattle.std.proofs.Common.{◌≡◌, ◌≢◌, ℕ, ◌+◌, ◌<◌, List, [], ◌∷◌, ◌++◌, length, get_or, set, map, take, Bool, true, false, ◌&&◌, ◌||◌, sym, ap, ◌∙◌, refl, subst, cond, arith, zero, suc}
-use Rattle.std.specs.Prelude.{count_by, if◌then◌else◌}
+use Rattle.std.proofs.Common.{◌≡◌, ◌≢◌, ℕ, ◌+◌, ◌<◌, List, [], ◌∷◌, ◌++◌, length, get_or, set, map, take, Bool, true, false, ◌&&◌, ◌||◌, sym, ap, ◌∙◌, refl, subst, cond, arith, zero, suc, Global, Vec}
+use Rattle.std.specs.Prelude.{count_by, if◌then◌else◌, vec_len, vec_capacity}
 use Rattle.std.specs.List.{All, AllByRecursion, IsDistinct, filter, list_any}
 use Rattle.std.proofs.lemmas.List.{map-append, take_more}
 use Rattle.std.proofs.lemmas.List.Elements.{All-map}
@@ -13,8 +13,10 @@ use Rattle.dds_base.specs.Happening.{same_key}
 use Rattle.dds_base.specs.Instance.{is_known}
 use Rattle.dds_base.proofs.KeyLaws.{key-same, same_key-comm, same_key-refl}
 use Rattle.dds_owner.specs.Standing.{KeptStrengths, TellsStrengths}
+use Rattle.dds_instances.specs.declared.instances.Instances.TheInside.{Inside}
 use Rattle.dds_instances.specs.declared.track.InstanceTrack.{InstanceTrack}
 use Rattle.dds_instances.specs.Track.{Tracks, Fits, held_as, held_too, is_alive_track}
+use Rattle.dds_instances.specs.Sound.{IsSound}
 use Rattle.dds_instances.specs.Table.{Table, Stands}
 use Rattle.dds_instances.specs.Following.{key_of, Follows}
 use Rattle.dds_instances.proofs.TrackLaws.{tracks-held}
@@ -115,6 +117,23 @@ notes-stand q h f old new notes writers strengths begun happened tracks stands =
   follows = subst (λ (ts : List InstanceTrack). Follows q h ts) (sym tracks)
       (notes-follow q h f old.tracks notes stands.follows);
   lawful = stands.lawful;
+}
+
+-- tracks on which something was noted are as sound
+pub sound-noted : (a : Inside) (tracks : Vec InstanceTrack Global) → IsSound a
+    → map key_of tracks.items ≡ map key_of a.tracks.items → All (Fits (a.happened + 1)) tracks.items
+    → vec_len tracks ≡ vec_len a.tracks → vec_capacity tracks ≡ vec_capacity a.tracks
+    → IsSound (record a { tracks = tracks })
+sound-noted a tracks sound keys fits len capacity = record {
+  indexed = sound.indexed ∙ sym keys;
+  fits = fits;
+  blank = sound.blank;
+  places = sound.places;
+  tracks_fit = omega (arith, sound.tracks_fit, len, capacity);
+  blanks_fit = sound.blanks_fit;
+  strengths_fit = sound.strengths_fit;
+  begun_fits = sound.begun_fits;
+  counted = sound.counted;
 }
 
 -- ---- of which instances something is held

@@ -1,25 +1,18 @@
-use Rattle.std.proofs.Common.{◌+◌, List, ◌||◌, arith, ap, refl, subst, sym, ◌∙◌}
+use Rattle.std.proofs.Common.{◌+◌, List, ◌||◌, ap, refl, subst, sym, ◌∙◌}
 use Rattle.std.specs.List.{list_any}
 use Rattle.dds_base.specs.Happening.{same_key}
 use Rattle.dds_instances.specs.declared.track.InstanceTrack.{InstanceTrack}
 use Rattle.dds_instances.specs.Track.{held_too}
 use Rattle.dds_instances.specs.Table.{Table, Stands, is_held}
 use Rattle.dds_instances.specs.Sound.{table_of}
-use Rattle.dds_instances.proofs.HoldingLaws.{holds, held-noted, notes-stand, notes-too}
+use Rattle.dds_instances.proofs.HoldingLaws.{holds, held-noted, notes-stand, notes-too, sound-noted}
 use Rattle.dds_instances.proofs.instances.Instances.hold.Goals as goal
 
 pub invariant_of-self : goal.invariant_of-self
-invariant_of-self c = record {
-  indexed = c.self.invariant.indexed ∙ sym c.hold.ensures.keys;
-  fits = c.hold.ensures.fits (c.self.inside.happened + 1) c.self.invariant.fits;
-  blank = c.self.invariant.blank;
-  places = c.self.invariant.places;
-  tracks_fit = omega (arith, c.self.invariant.tracks_fit, c.hold.ensures.len, c.hold.ensures.capacity);
-  blanks_fit = c.self.invariant.blanks_fit;
-  strengths_fit = c.self.invariant.strengths_fit;
-  begun_fits = c.self.invariant.begun_fits;
-  counted = c.self.invariant.counted;
-}
+invariant_of-self c =
+    sound-noted c.self.inside c.hold.new.tracks c.self.invariant c.hold.ensures.keys
+    (c.hold.ensures.fits (c.self.inside.happened + 1) c.self.invariant.fits) c.hold.ensures.len
+    c.hold.ensures.capacity
 
 pub returns-clause-same : goal.returns-clause-same
 returns-clause-same c = λ q h stands.

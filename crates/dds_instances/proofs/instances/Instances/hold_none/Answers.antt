@@ -1,24 +1,17 @@
-use Rattle.std.proofs.Common.{◌+◌, List, false, arith, ap, refl, subst, sym, ◌∙◌}
+use Rattle.std.proofs.Common.{◌+◌, List, false, ap, refl, subst, sym, ◌∙◌}
 use Rattle.std.specs.List.{list_any}
 use Rattle.dds_instances.specs.declared.track.InstanceTrack.{InstanceTrack}
 use Rattle.dds_instances.specs.Track.{held_as}
 use Rattle.dds_instances.specs.Table.{Table, Stands}
 use Rattle.dds_instances.specs.Sound.{table_of}
-use Rattle.dds_instances.proofs.HoldingLaws.{holds, none-held, notes-none, notes-stand}
+use Rattle.dds_instances.proofs.HoldingLaws.{holds, none-held, notes-none, notes-stand, sound-noted}
 use Rattle.dds_instances.proofs.instances.Instances.hold_none.Goals as goal
 
 pub invariant_of-self : goal.invariant_of-self
-invariant_of-self c = record {
-  indexed = c.self.invariant.indexed ∙ sym c.hold_none.ensures.keys;
-  fits = c.hold_none.ensures.fits (c.self.inside.happened + 1) c.self.invariant.fits;
-  blank = c.self.invariant.blank;
-  places = c.self.invariant.places;
-  tracks_fit = omega (arith, c.self.invariant.tracks_fit, c.hold_none.ensures.len, c.hold_none.ensures.capacity);
-  blanks_fit = c.self.invariant.blanks_fit;
-  strengths_fit = c.self.invariant.strengths_fit;
-  begun_fits = c.self.invariant.begun_fits;
-  counted = c.self.invariant.counted;
-}
+invariant_of-self c =
+    sound-noted c.self.inside c.hold_none.new.tracks c.self.invariant c.hold_none.ensures.keys
+    (c.hold_none.ensures.fits (c.self.inside.happened + 1) c.self.invariant.fits) c.hold_none.ensures.len
+    c.hold_none.ensures.capacity
 
 pub returns-clause-same : goal.returns-clause-same
 returns-clause-same c = λ q h stands.
