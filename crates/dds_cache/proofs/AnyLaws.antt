@@ -24,6 +24,7 @@ use Rattle.dds_base.specs.Selection.{picked_by, selection_refusal, unless_bad}
 use Rattle.dds_instances.specs.Known.{IsReturnable}
 use Rattle.dds_instances.specs.Table.{Table}
 use Rattle.dds_cache.specs.declared.access.Candidate.{Candidate}
+use Rattle.dds_cache.specs.declared.collection.Access.{Access}
 use Rattle.dds_cache.specs.declared.kept.Kept.{Kept}
 use Rattle.dds_cache.specs.Kept.{IsKept}
 use Rattle.dds_cache.specs.declared.access_kind.AccessKind.{AccessKind}
@@ -284,20 +285,23 @@ refused-twice stored h selection test (Err e) code err same is memory =
 
 -- one that finds nothing
 pub nothing-found : (kind : AccessKind) (q : ReaderQos) (h : List Happening) (selection : Selection) (test : Key → List ℕ → Bool)
-    (ks : List Kept) (positions : List SamplePosition) (cs : List Candidate) (collection : List Sample)
-    → positions ≡ [] → cs ≡ [] → collection ≡ [] → selection_refusal q h selection ≡ None
-    → picked_by q h selection test ≡ [] → IsAccess kind q h selection test ks positions cs collection
-nothing-found kind q h selection test ks positions cs collection no_positions no_candidates no_samples good none = record {
+    (ks : List Kept) (access : Access) → access.positions.items ≡ [] → access.found.items ≡ []
+    → access.samples.items ≡ [] → selection_refusal q h selection ≡ None → picked_by q h selection test ≡ []
+    → IsAccess kind q h selection test ks access
+nothing-found kind q h selection test ks access no_positions no_candidates no_samples good none = record {
   good = good;
   positions_are = no_positions ∙ sym none;
   collection_is =
       no_samples
       ∙ (sym (shown-none kind)
       ∙ ap (λ (ss : List SamplePosition). shown kind (collection_of q h ss)) (sym no_positions));
-  each =
-      subst (λ (ss : List SamplePosition). All (IsReturnable q h) ss) (sym no_positions) (All-nil (IsReturnable q h));
-  found =
-      subst (λ (xs : List Candidate). All (IsCandidate q h ks) xs) (sym no_candidates) (All-nil (IsCandidate q h ks));
+  found = record {
+    returnable =
+        subst (λ (ss : List SamplePosition). All (IsReturnable q h) ss) (sym no_positions) (All-nil (IsReturnable q h));
+    candidates =
+        subst (λ (xs : List Candidate). All (IsCandidate q h ks) xs) (sym no_candidates)
+        (All-nil (IsCandidate q h ks));
+  };
   apart = subst AreApart (sym no_candidates) (λ at. grind arith);
 }
   where

@@ -22,7 +22,8 @@ use Rattle.dds_base.specs.StatusFlags.{brings_sample, data_available_at}
 use Rattle.dds_instances.specs.Table.{Table, Stands}
 use Rattle.dds_instances.specs.Known.{IsReturnable}
 use Rattle.dds_cache.specs.declared.access.Candidate.{Candidate}
-use Rattle.dds_cache.specs.Finding.{Holds, IsCandidate, sample_in}
+use Rattle.dds_cache.specs.declared.collection.Access.{Access}
+use Rattle.dds_cache.specs.Finding.{AreApart, Holds, IsCandidate, sample_in}
 use Rattle.dds_cache.specs.Picking.{Picks, IsAccess, shown}
 use Rattle.dds_cache.specs.declared.kept.Kept.{Kept}
 use Rattle.dds_cache.specs.Kept.{IsKept, IsKeptAt, IsFresh, IsNewAt, Adds, sample_at, is_here, position_of, positions_in, is_among, marked}
@@ -413,24 +414,33 @@ returnable q h ks c kept is =
 
 -- what was gathered of what an access picks
 pub accessed : (kind : AccessKind) (stored : Stored) (h : List Happening) (selection : Selection) (test : Key → List ℕ → Bool)
-    (cs : List Candidate) (positions : List SamplePosition) (collection : List Sample) → StandsFor stored h
-    → Picks stored.qos h selection test stored.samples cs → positions ≡ map sample_in cs
-    → collection ≡ shown kind (collection_of stored.qos h (map sample_in cs))
-    → IsAccess kind stored.qos h selection test stored.samples positions cs collection
-accessed kind stored h selection test cs positions collection stands picks positions_are collection_is = record {
-  good = picks.good;
-  positions_are = positions_are ∙ picks.samples_are;
-  collection_is =
-      collection_is
-      ∙ ap (λ (ss : List SamplePosition). shown kind (collection_of stored.qos h ss)) (sym positions_are);
-  each =
-      subst (λ (ss : List SamplePosition). All (IsReturnable stored.qos h) ss) (sym positions_are)
-      (All-map (IsReturnable stored.qos h) sample_in cs
-      (All-weaker (IsCandidate stored.qos h stored.samples) (λ (c : Candidate). IsReturnable stored.qos h c.sample)
-      (λ c is. returnable stored.qos h stored.samples c stands.each is) cs picks.each));
-  found = picks.each;
-  apart = apart-picked stored.qos stored.instances h stored.samples selection test cs (holds stored h stands) picks;
-}
+    (cs : List Candidate) (access : Access) → StandsFor stored h
+    → Picks stored.qos h selection test stored.samples cs → access.found.items ≡ cs
+    → access.positions.items ≡ map sample_in access.found.items
+    → access.samples.items ≡ shown kind (collection_of stored.qos h (map sample_in cs))
+    → IsAccess kind stored.qos h selection test stored.samples access
+accessed kind stored h selection test cs access stands picks found_are positions_in_found collection_is =
+    let positions_are : access.positions.items ≡ map sample_in cs =
+    positions_in_found ∙ ap (λ (xs : List Candidate). map sample_in xs) found_are in
+    record {
+      good = picks.good;
+      positions_are = positions_are ∙ picks.samples_are;
+      collection_is =
+          collection_is
+          ∙ ap (λ (ss : List SamplePosition). shown kind (collection_of stored.qos h ss)) (sym positions_are);
+      found = record {
+        returnable =
+            subst (λ (ss : List SamplePosition). All (IsReturnable stored.qos h) ss) (sym positions_are)
+            (All-map (IsReturnable stored.qos h) sample_in cs
+            (All-weaker (IsCandidate stored.qos h stored.samples) (λ (c : Candidate). IsReturnable stored.qos h c.sample)
+            (λ c is. returnable stored.qos h stored.samples c stands.each is) cs picks.each));
+        candidates =
+            subst (λ (xs : List Candidate). All (IsCandidate stored.qos h stored.samples) xs) (sym found_are) picks.each;
+      };
+      apart =
+          subst AreApart (sym found_are)
+          (apart-picked stored.qos stored.instances h stored.samples selection test cs (holds stored h stands) picks);
+    }
 
 -- what may be returned is of the past
 pub past-all : (q : ReaderQos) (h : List Happening) (ss : List SamplePosition) → All (IsReturnable q h) ss

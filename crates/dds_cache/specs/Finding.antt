@@ -2,14 +2,13 @@
 -- believed.
 --
 -- DDS 1.4, 2.2.2.5 (read, take: sample_states, view_states, instance_states).
-use Rattle.std.specs.Prelude.{◌≡◌, ℕ, ◌+◌, if◌then◌else◌, ◌<◌, ◌≤◌, ◌^◌, List, length, Bool, true, false, ◌&&◌, ◌==◌, nat_lt, map, filter, All, Option, IsTrue, slice_index_or}
+use Rattle.std.specs.Prelude.{◌≡◌, ℕ, ◌+◌, if◌then◌else◌, ◌<◌, ◌≤◌, ◌^◌, List, length, Bool, true, false, ◌&&◌, ◌==◌, nat_lt, map, filter, All, Option, IsTrue, MatchOption, slice_index_or}
 use Rattle.std.specs.List.{list_any, count_by}
 use Rattle.dds_base.specs.declared.happening.SamplePosition.{SamplePosition}
 use Rattle.dds_base.specs.declared.happening.Happening.{Happening}
 use Rattle.dds_base.specs.declared.key.Key.{Key}
 use Rattle.dds_base.specs.declared.mask.Masks.{Masks}
 use Rattle.dds_base.specs.declared.sample.SampleState.{SampleState}
-use Rattle.dds_base.specs.declared.sample.SampleState.TheVariants.{Read as HasBeenRead, NotRead}
 use Rattle.dds_instances.specs.declared.known.KnownInstance.{KnownInstance}
 use Rattle.dds_base.specs.declared.sample.ViewState.{ViewState}
 use Rattle.dds_base.specs.declared.sample.InstanceState.{InstanceState}
@@ -24,7 +23,7 @@ use Rattle.dds_base.specs.Life.{up_to}
 use Rattle.dds_base.specs.Access.{asks_for_sample_state, asks_for_view_state, asks_for_instance_state, meets, picked_of, own_generations, handle_of, value_of, matching_samples}
 use Rattle.dds_cache.specs.declared.kept.Kept.{Kept}
 use Rattle.dds_cache.specs.declared.access.Candidate.{Candidate}
-use Rattle.dds_cache.specs.Kept.{IsKept, is_among, positions_in}
+use Rattle.dds_cache.specs.Kept.{IsKept, is_among, positions_in, sample_state_in}
 use Rattle.dds_instances.specs.Table.{Table, Stands}
 
 -- the masks ask for these states
@@ -106,7 +105,7 @@ pub record AreCandidates (q : ReaderQos) (h : List Happening) (masks : Masks) (t
 -- what is said of a kept sample before its ranks, by what is known of its instance
 abbrev pub described_by : Kept → KnownInstance → Picked
 described_by k known = record {
-  sample_state = if k.is_read then HasBeenRead else NotRead;
+  sample_state = sample_state_in k;
   view_state = known.view;
   instance_state = known.state;
   disposed_generation_count = k.disposed_generation_count;
@@ -126,6 +125,12 @@ pub record IsFound (q : ReaderQos) (h : List Happening) (masks : Masks) (test : 
   pub picked_is : c.picked ≡ picked_of q h k.sample
   pub at_is : c.at ≡ at
   pub small : own_generations c.picked < 2 ^ 64
+
+-- whether a kept sample is wanted, as the candidate that it is then
+abbrev pub TellsFound : ReaderQos → List Happening → Masks → (Key → List ℕ → Bool) → Kept → ℕ → Option Candidate
+    → Type 0
+TellsFound q h masks test k at found =
+    MatchOption found (is_wanted q h masks test k ≡ false) (IsFound q h masks test k at)
 
 -- the counts of a kept sample can be added
 abbrev pub IsSmall : Kept → Type 0

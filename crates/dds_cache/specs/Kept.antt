@@ -2,7 +2,7 @@
 -- here has to be believed.
 --
 -- DDS 1.4, 2.2.2.5 (SampleInfo), 2.2.3 (HISTORY); RTPS 2.5, 8.2 (HistoryCache of a reader).
-use Rattle.std.specs.Prelude.{◌≡◌, ℕ, ◌+◌, ◌-◌, ◌≤◌, List, [], ◌∷◌, ◌++◌, All, if◌then◌else◌, length, Bool, true, false, ◌&&◌, ◌||◌, map, filter, IsTrue, Option}
+use Rattle.std.specs.Prelude.{◌≡◌, ℕ, ◌+◌, ◌-◌, ◌≤◌, List, [], ◌∷◌, ◌++◌, All, if◌then◌else◌, length, Bool, true, false, ◌&&◌, ◌||◌, map, filter, not, IsTrue, Option, MatchOption}
 use Rattle.std.specs.List.{list_any, count_by}
 use Rattle.dds_base.specs.declared.key.Key.{Key}
 use Rattle.dds_base.specs.declared.happening.SamplePosition.{SamplePosition}
@@ -13,6 +13,7 @@ use Rattle.dds_base.specs.Instance.{disposed_generations, no_writers_generations
 use Rattle.dds_base.specs.Presence.{is_present}
 use Rattle.dds_base.specs.Life.{accepted_writes, ends_with_write, keeps, is_at}
 use Rattle.dds_base.specs.declared.mask.SampleStateMask.{SampleStateMask}
+use Rattle.dds_base.specs.declared.sample.SampleState.{SampleState}
 use Rattle.dds_base.specs.declared.sample.SampleState.TheVariants.{Read as HasBeenRead, NotRead}
 use Rattle.dds_base.specs.Access.{asks_for_sample_state, handle_of, timestamp_of, publication_of, newest_value}
 use Rattle.dds_cache.specs.declared.counts.Counts.{Counts}
@@ -50,6 +51,10 @@ pub record IsKept (q : ReaderQos) (h : List Happening) (k : Kept) : Type 0 where
 abbrev pub is_here : ReaderQos → List Happening → Key → Kept → Bool
 is_here q h i k = same_key k.sample.key i && is_present q h i k.sample.position
 
+-- some sample of i is among those kept, and present
+abbrev pub is_any_here : ReaderQos → List Happening → Key → List Kept → Bool
+is_any_here q h i ks = list_any (is_here q h i) ks
+
 -- the position of a kept sample
 abbrev pub position_of : Kept → ℕ
 position_of k = k.sample.position
@@ -79,6 +84,11 @@ pub record IsKeptAt (q : ReaderQos) (h : List Happening) (i : Key) (n : ℕ) (k 
   pub kept : IsKept q h k
   pub present : is_present q h i n ≡ true
 
+-- the newest entry left this of instance i: what is kept of its sample, if that is present
+abbrev pub IsLeftBy : ReaderQos → Happening → List Happening → Key → Option Kept → Type 0
+IsLeftBy q e h i left = MatchOption left (is_present q (e ∷ h) i (length h + 1) ≡ false)
+    (IsKeptAt q (e ∷ h) i (length h + 1))
+
 -- the value, if it counts
 abbrev pub value_if : Bool → List ℕ → List ℕ
 value_if is_write value = if is_write then value else []
@@ -98,6 +108,10 @@ pub record Adds (q : ReaderQos) (e : Happening) (h : List Happening) (old new : 
 -- the sample is among those that were returned
 abbrev pub is_among : List SamplePosition → Kept → Bool
 is_among ss k = list_any (same_sample k.sample) ss
+
+-- the kept samples without those that were returned
+abbrev pub without : List SamplePosition → List Kept → List Kept
+without ss ks = filter (λ k. not (is_among ss k)) ks
 
 -- a kept sample, marked as read if so
 abbrev pub read_if : Bool → Kept → Kept
@@ -128,6 +142,10 @@ pub record IsCounted (ks : List Kept) (counts : Counts) : Type 0 where
   pub reads : counts.reads ≡ count_by was_read ks
   pub writes : counts.writes ≡ count_by has_data ks
 
+-- the sample state of a kept sample
+abbrev pub sample_state_in : Kept → SampleState
+sample_state_in k = if k.is_read then HasBeenRead else NotRead
+
 -- a mask does not ask for the sample state of a kept sample
 abbrev pub IsUnasked : SampleStateMask → Kept → Type 0
-IsUnasked mask k = asks_for_sample_state mask (if k.is_read then HasBeenRead else NotRead) ≡ false
+IsUnasked mask k = asks_for_sample_state mask (sample_state_in k) ≡ false

@@ -5,6 +5,7 @@ pub mod Finding
 pub mod Picking
 pub mod Room
 pub mod Settling
+pub mod Arriving
 pub mod Dying
 pub mod Sweeping
 pub mod Twice

@@ -17,14 +17,15 @@ use Rattle.dds_base.specs.Selection.{picked_by, selection_refusal}
 use Rattle.dds_base.specs.Access.{infos_of, no_filter, not_read, collection_of}
 use Rattle.dds_base.specs.declared.sample.Sample.{Sample}
 use Rattle.dds_instances.specs.Known.{IsReturnable}
+use Rattle.dds_instances.specs.Table.{Table}
 use Rattle.dds_cache.specs.declared.access.Candidate.{Candidate}
 use Rattle.dds_cache.specs.declared.access_kind.AccessKind.{AccessKind}
 use Rattle.dds_cache.specs.declared.access_kind.AccessKind.TheVariants.{Read, Take}
 use Rattle.dds_cache.specs.declared.collection.Access.{Access}
 use Rattle.dds_cache.specs.declared.kept.Kept.{Kept}
 use Rattle.dds_cache.specs.declared.pick.Request.{Request}
-use Rattle.dds_cache.specs.Kept.{IsKept}
-use Rattle.dds_cache.specs.Finding.{AreApart, IsCandidate, IsPlaced, sample_in, picked_in, handle_in}
+use Rattle.dds_cache.specs.Kept.{IsKept, without}
+use Rattle.dds_cache.specs.Finding.{AreApart, Holds, IsCandidate, IsPlaced, sample_in, picked_in, handle_in}
 
 -- how many samples an access asks for at most
 abbrev pub limit_in : Selection → Option ℕ
@@ -99,16 +100,32 @@ IsCollection kind ks cs collection =
     (q : ReaderQos) (h : List Happening) → All (IsKept q h) ks → All (IsCandidate q h ks) cs
     → collection ≡ shown kind (collection_of q h (map sample_in cs))
 
--- an access that is not refused finds these samples among those that are kept, and this is there of their collection
+-- an access returns what may be returned, and that was found among those that are kept
+pub record IsFoundIn (q : ReaderQos) (h : List Happening) (ks : List Kept) (access : Access) : Type 0 where
+  pub returnable : All (IsReturnable q h) access.positions.items
+  pub candidates : All (IsCandidate q h ks) access.found.items
+
+-- the instances and the samples are those of what happened, and an access found what it returns among them
+pub record HoldsFound (q : ReaderQos) (table : Table) (ks : List Kept) (access : Access) (h : List Happening)
+    : Type 0 where
+  pub holds : Holds q table ks h
+  pub found : IsFoundIn q h ks access
+
+-- the instances and the samples are those of what happened, and what is left is without those that a take returned
+pub record HoldsWithout (q : ReaderQos) (table : Table) (taken : List SamplePosition) (ks left : List Kept)
+    (h : List Happening) : Type 0 where
+  pub holds : Holds q table ks h
+  pub returnable : All (IsReturnable q h) taken
+  pub left_is : left ≡ without taken ks
+
+-- an access that is not refused finds its samples among those that are kept, and has of their collection what is shown
 pub record IsAccess (kind : AccessKind) (q : ReaderQos) (h : List Happening) (selection : Selection)
-    (test : Key → List ℕ → Bool) (ks : List Kept) (positions : List SamplePosition) (cs : List Candidate)
-    (collection : List Sample) : Type 0 where
+    (test : Key → List ℕ → Bool) (ks : List Kept) (access : Access) : Type 0 where
   pub good : selection_refusal q h selection ≡ None
-  pub positions_are : positions ≡ picked_by q h selection test
-  pub collection_is : collection ≡ shown kind (collection_of q h positions)
-  pub each : All (IsReturnable q h) positions
-  pub found : All (IsCandidate q h ks) cs
-  pub apart : AreApart cs
+  pub positions_are : access.positions.items ≡ picked_by q h selection test
+  pub collection_is : access.samples.items ≡ shown kind (collection_of q h access.positions.items)
+  pub found : IsFoundIn q h ks access
+  pub apart : AreApart access.found.items
 
 -- what was gathered for an access that found its samples among n kept ones: for a take there is room for each
 pub record IsGathered (kind : AccessKind) (n : ℕ) (access : Access) : Type 0 where

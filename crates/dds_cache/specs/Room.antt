@@ -2,8 +2,11 @@
 -- here has to be believed.
 --
 -- DDS 1.4, 2.2.3 (RESOURCE_LIMITS, HISTORY).
-use Rattle.std.specs.Prelude.{◌+◌, ◌-◌, List, Bool, ◌&&◌, ◌||◌, not}
+use Rattle.std.specs.List.{count_by}
+use Rattle.std.specs.Prelude.{ℕ, ◌+◌, ◌-◌, ◌∷◌, List, Bool, ◌&&◌, ◌||◌, not}
+use Rattle.dds_base.specs.declared.happening.Arrival.{Arrival}
 use Rattle.dds_base.specs.declared.happening.Happening.{Happening}
+use Rattle.dds_base.specs.declared.happening.Happening.TheVariants.{Came}
 use Rattle.dds_base.specs.declared.qos.ReaderQos.{ReaderQos}
 use Rattle.dds_base.specs.Happening.{as_of}
 use Rattle.dds_base.specs.Presence.{is_present}
@@ -16,6 +19,10 @@ use Rattle.dds_cache.specs.declared.kept.Kept.{Kept}
 abbrev pub is_present_write : ReaderQos → List Happening → Kept → Bool
 is_present_write q h k =
     is_present q h k.sample.key k.sample.position && ends_with_write q k.sample.key (as_of k.sample.position h)
+
+-- how many of the kept samples are so once a change has come
+abbrev pub present_writes_after : ReaderQos → Arrival → List Happening → List Kept → ℕ
+present_writes_after q a h ks = count_by (is_present_write q (Came a ∷ h)) ks
 
 -- a kept sample is so after a change: by the counts of its instance before it, whether one more write of the instance
 -- is accepted, and whether the change leaves a marker of it

@@ -2,14 +2,14 @@
 -- believed.
 --
 -- DDS 1.4, 2.2.2.5 (read, take).
-use Rattle.std.specs.Prelude.{List, map, filter, not}
+use Rattle.std.specs.Prelude.{List, map}
 use Rattle.dds_base.specs.declared.happening.SamplePosition.{SamplePosition}
 use Rattle.dds_cache.specs.declared.access_kind.AccessKind.{AccessKind}
 use Rattle.dds_cache.specs.declared.access_kind.AccessKind.TheVariants.{Read, Take}
 use Rattle.dds_cache.specs.declared.kept.Kept.{Kept}
-use Rattle.dds_cache.specs.Kept.{marked, is_among}
+use Rattle.dds_cache.specs.Kept.{marked, without}
 
 -- the kept samples after an access that returned these: a read marks them, a take removes them
 abbrev pub settled : AccessKind → List SamplePosition → List Kept → List Kept
 settled Read returned kept = map (marked returned) kept
-settled Take returned kept = filter (λ k. not (is_among returned k)) kept
+settled Take returned kept = without returned kept

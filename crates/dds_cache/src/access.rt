@@ -11,8 +11,8 @@ ghost use Rattle.dds_base.specs.Access.{own_generations};
 ghost use Rattle.dds_base.specs.Presence.{present_samples};
 ghost use Rattle.std.specs.List.{list_any};
 ghost use Rattle.dds_instances.specs.Table.{Stands};
-ghost use Rattle.dds_cache.specs.Kept.{IsKept, is_live};
-ghost use Rattle.dds_cache.specs.Finding.{are_asked_for, asks_for, is_sought, is_wanted, passes, described_by, IsFound, IsSmall, IsPlaced, AreCandidates, Holds, Finds, sample_in, picked_in, handle_in};
+ghost use Rattle.dds_cache.specs.Kept.{IsKept, is_live, sample_state_in};
+ghost use Rattle.dds_cache.specs.Finding.{are_asked_for, asks_for, is_sought, is_wanted, passes, described_by, IsSmall, IsPlaced, AreCandidates, Holds, Finds, TellsFound, sample_in, picked_in, handle_in};
 
 use crate::kept::Kept;
 use crate::masks::{asks_for_sample, asks_for_states};
@@ -82,8 +82,7 @@ fn is_found<T: Test>(
     known: &KnownInstance,
 ) -> bool
     ensures found { result ≡ (is_live qos.now known.now kept.now
-        && (are_asked_for masks (if kept.now.is_read then HasBeenRead else NotRead)
-        known.now.view (Some known.now.state)
+        && (are_asked_for masks (sample_state_in kept.now) known.now.view (Some known.now.state)
         && T.meaning test.now kept.now.sample.key kept.now.value)) }
 {
     kept.is_live(qos, known)
@@ -178,8 +177,7 @@ fn as_candidate<T: Test>(
     ensures placed { IfSome result (λ c. (c.at ≡ at) × (own_generations c.picked < 2 ^ 64)) }
     ensures wanted { (h : List Happening) → Stands qos.now instances.now h
         → IsKept qos.now h kept.now
-        → MatchOption result (is_wanted qos.now h masks (T.meaning test.now) kept.now ≡ false)
-        (IsFound qos.now h masks (T.meaning test.now) kept.now at) }
+        → TellsFound qos.now h masks (T.meaning test.now) kept.now at result }
 {
     match instances.known(kept.sample.key) {
         None => None,

@@ -7,10 +7,10 @@ ghost use Rattle.dds_base.specs.declared.happening.Happening.{Happening};
 ghost use Rattle.dds_base.specs.declared.happening.Happening.TheVariants.{Came};
 ghost use Rattle.dds_base.specs.Happening.{is_read, is_taken};
 ghost use Rattle.dds_base.specs.Instance.{instance_state_of};
-ghost use Rattle.dds_base.specs.Presence.{is_present};
 ghost use Rattle.dds_base.specs.Life.{ends_with_write};
 ghost use Rattle.dds_instances.specs.Table.{Stands};
-ghost use Rattle.dds_cache.specs.Kept.{IsCounted, IsKeptAt, IsFresh, value_if, Adds};
+ghost use Rattle.dds_cache.specs.Arriving.{TakesChange};
+ghost use Rattle.dds_cache.specs.Kept.{IsCounted, IsLeftBy, value_if, Adds};
 ghost use Rattle.dds_cache.specs.Finding.{IsSmall};
 
 use crate::counts::{Counts, add};
@@ -49,12 +49,8 @@ pub fn left_by(
     arrival: Arrival,
     is_write: bool,
 ) -> Option<Kept>
-    ensures left { (h : List Happening) → Stands qos.now instances.now (Came arrival ∷ h)
-        → is_write ≡ ends_with_write qos.now arrival.change.key (Came arrival ∷ h)
-        → IsFresh h arrival.change.key
-        → MatchOption result
-        (is_present qos.now (Came arrival ∷ h) arrival.change.key (length h + 1) ≡ false)
-        (IsKeptAt qos.now (Came arrival ∷ h) arrival.change.key (length h + 1)) }
+    ensures left { (h : List Happening) → TakesChange qos.now instances.now arrival is_write h
+        → IsLeftBy qos.now (Came arrival) h arrival.change.key result }
     ensures small { IfSome result IsSmall }
     ensures unread { IfSome result (λ k. k.is_read ≡ false) }
 {
@@ -102,9 +98,7 @@ pub fn add_left(
     requires counted { IsCounted samples.old.items counts.old }
     ensures len { vec_len samples.new ≤ vec_len samples.old + 1 }
     ensures capacity { vec_capacity samples.old ≤ vec_capacity samples.new }
-    ensures samples { (h : List Happening) → Stands qos.now instances.now (Came arrival ∷ h)
-        → is_write ≡ ends_with_write qos.now arrival.change.key (Came arrival ∷ h)
-        → IsFresh h arrival.change.key
+    ensures samples { (h : List Happening) → TakesChange qos.now instances.now arrival is_write h
         → Adds qos.now (Came arrival) h samples.old.items samples.new.items }
     ensures small { All IsSmall samples.old.items → All IsSmall samples.new.items }
     ensures counted { IsCounted samples.new.items counts.new }

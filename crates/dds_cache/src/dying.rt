@@ -7,12 +7,10 @@ ghost use Rattle.dds_base.specs.declared.happening.Happening.{Happening};
 ghost use Rattle.dds_base.specs.declared.happening.Happening.TheVariants.{Died};
 ghost use Rattle.dds_base.specs.declared.key.Key.{Key};
 ghost use Rattle.dds_base.specs.declared.qos.ReaderQos.{ReaderQos};
-ghost use Rattle.dds_base.specs.Instance.{known_instances};
-ghost use Rattle.dds_base.specs.Presence.{is_present};
 ghost use Rattle.dds_instances.specs.Table.{Stands, has_marked, marked_of};
 ghost use Rattle.dds_instances.specs.Track.{one_if};
-ghost use Rattle.dds_cache.specs.Kept.{Adds, IsCounted, IsFresh, IsKeptAt};
-ghost use Rattle.dds_cache.specs.Dying.{AddsOf};
+ghost use Rattle.dds_cache.specs.Kept.{Adds, IsCounted, IsFresh, IsLeftBy};
+ghost use Rattle.dds_cache.specs.Dying.{AddsOf, TakesDeath};
 ghost use Rattle.dds_cache.specs.Finding.{IsSmall};
 
 use crate::counts::{Counts, add};
@@ -30,10 +28,8 @@ fn marker_of(
     moment: Moment,
 ) -> Option<Kept>
     ensures left { (q : ReaderQos) (h : List Happening) (i : Key)
-        → Stands q instances.now (Died writer moment ∷ h)
-        → slice_get (known_instances q (Died writer moment ∷ h)) place ≡ Some i → IsFresh h i
-        → MatchOption result (is_present q (Died writer moment ∷ h) i (length h + 1) ≡ false)
-        (IsKeptAt q (Died writer moment ∷ h) i (length h + 1)) }
+        → TakesDeath q instances.now writer moment place h i
+        → IsLeftBy q (Died writer moment) h i result }
     ensures marked { IfSome result (λ _. has_marked instances.now place ≡ true) }
     ensures small { IfSome result IsSmall }
     ensures unread { IfSome result (λ k. k.is_read ≡ false) }
@@ -78,8 +74,7 @@ fn add_marker(
         ≤ vec_len samples.old + one_if (has_marked instances.now place) }
     ensures capacity { vec_capacity samples.old ≤ vec_capacity samples.new }
     ensures samples { (q : ReaderQos) (h : List Happening) (i : Key)
-        → Stands q instances.now (Died writer moment ∷ h)
-        → slice_get (known_instances q (Died writer moment ∷ h)) place ≡ Some i → IsFresh h i
+        → TakesDeath q instances.now writer moment place h i
         → AddsOf q (Died writer moment ∷ h) (length h + 1)
         (i ∷ []) samples.old.items samples.new.items }
     ensures small { All IsSmall samples.old.items → All IsSmall samples.new.items }

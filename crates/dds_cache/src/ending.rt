@@ -3,7 +3,6 @@
 //! DDS 1.4, 2.2.2.5 (instance_state), 2.2.3 (HISTORY).
 
 ghost use Rattle.std.specs.Prelude.{◌≡◌, List, true, All};
-ghost use Rattle.std.specs.List.{list_any};
 ghost use Rattle.dds_base.specs.declared.happening.Happening.{Happening};
 ghost use Rattle.dds_base.specs.declared.happening.Happening.TheVariants.{Came};
 ghost use Rattle.dds_base.specs.declared.key.Key.{Key};
@@ -12,7 +11,7 @@ ghost use Rattle.dds_base.specs.Instance.{is_known};
 ghost use Rattle.dds_base.specs.Life.{ends_life};
 ghost use Rattle.dds_instances.specs.Table.{Stands, alive_of, happened_of, is_held, room_of};
 ghost use Rattle.dds_cache.specs.Finding.{Holds};
-ghost use Rattle.dds_cache.specs.Kept.{IsFresh, IsKept, is_here};
+ghost use Rattle.dds_cache.specs.Kept.{IsFresh, IsKept, is_any_here};
 
 use crate::arriving::is_accepted_write;
 use crate::kept::{Kept, is_kept_after};
@@ -24,7 +23,7 @@ use dds_instances::Instances;
 fn is_any_present(instances: &Instances, qos: &ReaderQos, samples: &[Kept], key: Key) -> bool
     ensures { (h : List Happening) → Stands qos.now instances.now h
         → All (IsKept qos.now h) samples.now
-        → result ≡ list_any (is_here qos.now h key) samples.now }
+        → result ≡ is_any_here qos.now h key samples.now }
 {
     for kept in samples {
         if kept.sample.key == key && is_still_live(instances, qos, kept) {
@@ -56,7 +55,7 @@ pub fn hold_present(instances: &mut Instances, qos: &ReaderQos, samples: &[Kept]
     ensures held { (h : List Happening) (i : Key) → Stands qos.now instances.old h
         → All (IsKept qos.now h) samples.now
         → is_known qos.now h i ≡ true
-        → is_held instances.new i ≡ list_any (is_here qos.now h i) samples.now }
+        → is_held instances.new i ≡ is_any_here qos.now h i samples.now }
     ensures room { room_of instances.new ≡ room_of instances.old }
     ensures alive { alive_of instances.new ≡ alive_of instances.old }
     ensures happened { happened_of instances.new ≡ happened_of instances.old }

@@ -2,15 +2,14 @@
 //!
 //! DDS 1.4, 2.2.2.5 (read: samples are READ afterwards; take: they are gone).
 
-ghost use Rattle.std.specs.Prelude.{◌≡◌, ◌≤◌, ◌<◌, ◌+◌, ◌^◌, ◌⊎◌, ◌∷◌, List, All, filter, length, not, vec_len, vec_capacity};
+ghost use Rattle.std.specs.Prelude.{◌≡◌, ◌≤◌, ◌<◌, ◌+◌, ◌^◌, ◌⊎◌, ◌∷◌, List, All, length, vec_len, vec_capacity};
 ghost use Rattle.dds_base.specs.declared.happening.Happening.{Happening};
 ghost use Rattle.dds_base.specs.declared.happening.Happening.TheVariants.{Took};
-ghost use Rattle.dds_instances.specs.Known.{IsReturnable};
 ghost use Rattle.dds_instances.specs.Table.{alive_of, happened_of, room_of};
 ghost use Rattle.dds_cache.specs.declared.kept.Kept.{Kept};
-ghost use Rattle.dds_cache.specs.Finding.{Holds, IsCandidate, IsSmall};
-ghost use Rattle.dds_cache.specs.Picking.{IsDelivered, IsGathered};
-ghost use Rattle.dds_cache.specs.Kept.{IsCounted, is_among};
+ghost use Rattle.dds_cache.specs.Finding.{Holds, IsSmall};
+ghost use Rattle.dds_cache.specs.Picking.{HoldsFound, HoldsWithout, IsDelivered, IsGathered};
+ghost use Rattle.dds_cache.specs.Kept.{IsCounted};
 ghost use Rattle.dds_cache.specs.Standing.{entry_of};
 
 use crate::access_kind::AccessKind;
@@ -34,9 +33,8 @@ fn take_out(
     taken: &[SamplePosition],
 )
     requires entry { (1 ≤ room_of instances.old) ⊎ (happened_of instances.old + 1 < 2 ^ 64) }
-    ensures holds { (h : List Happening) (ks : List Kept) → Holds qos.now instances.old ks h
-        → All (IsReturnable qos.now h) taken.now
-        → samples.old.items ≡ filter (λ k. not (is_among taken.now k)) ks
+    ensures holds { (h : List Happening) (ks : List Kept)
+        → HoldsWithout qos.now instances.old taken.now ks samples.old.items h
         → Holds qos.now instances.new samples.new.items (Took taken.now ∷ h) }
     ensures room { room_of instances.old ≤ room_of instances.new + 1 }
     ensures alive { alive_of instances.new ≤ alive_of instances.old }
@@ -67,9 +65,8 @@ pub fn enter_access(
 )
     requires entry { (1 ≤ room_of instances.old) ⊎ (happened_of instances.old + 1 < 2 ^ 64) }
     requires gathered { IsGathered kind (length samples.old.items) access.old }
-    ensures holds { (h : List Happening) → Holds qos.now instances.old samples.old.items h
-        → All (IsReturnable qos.now h) access.old.positions.items
-        → All (IsCandidate qos.now h samples.old.items) access.old.found.items
+    ensures holds { (h : List Happening)
+        → HoldsFound qos.now instances.old samples.old.items access.old h
         → Holds qos.now instances.new samples.new.items
         (entry_of kind access.old.positions.items ∷ h) }
     ensures positions { access.new.positions ≡ access.old.positions }

@@ -12,9 +12,7 @@ ghost use Rattle.dds_base.specs.Presence.{has_room};
 ghost use Rattle.dds_base.specs.Refusal.{Refuses};
 ghost use Rattle.dds_base.specs.Selection.{selection_refusal};
 ghost use Rattle.dds_base.specs.StatusFlags.{data_available_at};
-ghost use Rattle.dds_instances.specs.Known.{IsReturnable};
-ghost use Rattle.dds_cache.specs.Finding.{IsCandidate};
-ghost use Rattle.dds_cache.specs.Picking.{IsAccess, IsDelivered, IsGathered};
+ghost use Rattle.dds_cache.specs.Picking.{IsAccess, IsDelivered, IsFoundIn, IsGathered};
 ghost use Rattle.dds_cache.specs.Standing.{deaths_of, picked, qos_of, room_of, StandsFor, entry_of};
 ghost use Rattle.dds_cache.specs.Standing.{AccessAnswers, AfterAccess, MakesRoom, TakesEntry};
 ghost use Rattle.dds_cache.specs.Twice.{first_of};
@@ -384,7 +382,7 @@ impl ReaderCache {
     ) -> Result<Access, Code>
         ensures found { IfOk result (λ access. (h : List Happening) → StandsFor self.now h
             → IsAccess kind (qos_of self.now) h selection (T.meaning test.now) self.now.samples
-            access.positions.items access.found.items access.samples.items) }
+            access) }
         ensures gathered { IfOk result
             (λ access. IsGathered kind (length self.now.samples) access) }
         ensures refused { IfErr result (λ e. (h : List Happening) → StandsFor self.now h
@@ -416,7 +414,7 @@ impl ReaderCache {
     ) -> Result<Access, Code>
         ensures found { IfOk result (λ access. (h : List Happening) → StandsFor self.now h
             → IsAccess kind (qos_of self.now) h selection (T.meaning test.now) self.now.samples
-            access.positions.items access.found.items access.samples.items) }
+            access) }
         ensures gathered { IfOk result
             (λ access. IsGathered kind (length self.now.samples) access) }
         ensures refused { IfErr result (λ e. (h : List Happening) → StandsFor self.now h
@@ -441,8 +439,7 @@ impl ReaderCache {
     fn enter(&mut self, kind: AccessKind, access: &mut Access) -> Result<(), Code>
         requires gathered { IsGathered kind (length self.old.samples) access.old }
         ensures ok { OnOk result ((h : List Happening) → StandsFor self.old h
-            → All (IsReturnable (qos_of self.old) h) access.old.positions.items
-            → All (IsCandidate (qos_of self.old) h self.old.samples) access.old.found.items
+            → IsFoundIn (qos_of self.old) h self.old.samples access.old
             → StandsFor self.new (entry_of kind access.old.positions.items ∷ h)) }
         ensures positions { access.new.positions ≡ access.old.positions }
         ensures delivered { OnOk result (IsDelivered kind self.old.samples access.old access.new) }

@@ -2,11 +2,11 @@
 //!
 //! DDS 1.4, 2.2.2.5 (read: samples are READ afterwards; take: they are gone).
 
-ghost use Rattle.std.specs.Prelude.{◌≡◌, ◌≤◌, List, false, filter, length, map, not, All, vec_len, vec_capacity};
+ghost use Rattle.std.specs.Prelude.{◌≡◌, ◌≤◌, List, filter, length, not, All, vec_len, vec_capacity};
 ghost use Rattle.dds_base.specs.declared.happening.SamplePosition.{SamplePosition as Position};
 ghost use Rattle.dds_cache.specs.Finding.{AreAt, AreChanged, IsPlaced, IsSmall};
 ghost use Rattle.dds_cache.specs.declared.access_kind.AccessKind.TheVariants.{Take};
-ghost use Rattle.dds_cache.specs.Kept.{IsCounted, IsIn, is_among, read_if};
+ghost use Rattle.dds_cache.specs.Kept.{IsCounted, IsIn, read_if, without};
 ghost use Rattle.dds_cache.specs.Picking.{IsDelivered, IsGathered};
 ghost use Rattle.dds_cache.specs.Settling.{settled};
 
@@ -43,7 +43,7 @@ fn remove(alloc: Global, samples: &mut Vec<Kept>, access: &mut Access)
     requires gathered { IsGathered Take (length samples.old.items) access.old }
     ensures items { (ss : List Position) → AreAt ss access.old.found.items samples.old.items
         → All IsIn samples.old.items
-        → samples.new.items ≡ filter (λ k. not (is_among ss k)) samples.old.items }
+        → samples.new.items ≡ without ss samples.old.items }
     ensures positions { access.new.positions ≡ access.old.positions }
     ensures delivered { IsDelivered Take samples.old.items access.old access.new }
     ensures small { All IsSmall samples.old.items → All IsSmall samples.new.items }

@@ -3,18 +3,16 @@
 //! DDS 1.4, 2.2.3 (RESOURCE_LIMITS).
 
 ghost use Rattle.std.specs.Prelude.{◌≡◌, ◌+◌, ◌-◌, ◌^◌, ◌∷◌, min, List, length, All, true};
-ghost use Rattle.std.specs.List.{count_by};
 ghost use Rattle.dds_base.specs.declared.happening.Happening.{Happening};
 ghost use Rattle.dds_base.specs.declared.happening.Happening.TheVariants.{Came};
 ghost use Rattle.dds_base.specs.Happening.{arrivals as arrivals_of};
 ghost use Rattle.dds_base.specs.Instance.{known_instances};
-ghost use Rattle.dds_base.specs.Presence.{has_room, is_accepted, is_within, marks, present_writes};
-ghost use Rattle.dds_base.specs.Life.{ends_with_write};
-ghost use Rattle.dds_instances.specs.Table.{Stands};
+ghost use Rattle.dds_base.specs.Presence.{has_room, is_within, present_writes};
 ghost use Rattle.dds_instances.specs.Track.{one_if};
+ghost use Rattle.dds_cache.specs.Arriving.{AwaitsAccepted, AwaitsChange};
 ghost use Rattle.dds_cache.specs.Finding.{Holds};
 ghost use Rattle.dds_cache.specs.Kept.{IsCounted, IsFresh, IsKept};
-ghost use Rattle.dds_cache.specs.Room.{is_present_write};
+ghost use Rattle.dds_cache.specs.Room.{is_present_write, present_writes_after};
 
 use crate::arriving::is_accepted_write;
 use crate::counts::Counts;
@@ -60,9 +58,8 @@ fn instances_fit(
     arrival: &Arrival,
     samples: &[Kept],
 ) -> bool
-    ensures { (h : List Happening) → Holds qos.now instances.now samples.now h
-        → IsFresh h arrival.now.change.key
-        → is_accepted qos.now h (Came arrival.now) ≡ true
+    ensures { (h : List Happening)
+        → AwaitsAccepted qos.now instances.now samples.now arrival.now h
         → result
         ≡ is_within qos.now.max_instances
         (length (known_instances qos.now (Came arrival.now ∷ h))) }
@@ -89,9 +86,8 @@ fn is_write_then(
     is_marked: bool,
     kept: &Kept,
 ) -> bool
-    ensures { (h : List Happening) → Stands qos.now instances.now h
-        → is_write ≡ ends_with_write qos.now arrival.now.change.key (Came arrival.now ∷ h)
-        → is_marked ≡ marks qos.now arrival.now.change.key h (Came arrival.now)
+    ensures { (h : List Happening)
+        → AwaitsChange qos.now instances.now arrival.now is_write is_marked h
         → IsKept qos.now h kept.now
         → result ≡ is_present_write qos.now (Came arrival.now ∷ h) kept.now }
 {
@@ -113,11 +109,10 @@ fn count_writes(
     is_marked: bool,
     samples: &[Kept],
 ) -> usize
-    ensures { (h : List Happening) → Stands qos.now instances.now h
-        → is_write ≡ ends_with_write qos.now arrival.now.change.key (Came arrival.now ∷ h)
-        → is_marked ≡ marks qos.now arrival.now.change.key h (Came arrival.now)
+    ensures { (h : List Happening)
+        → AwaitsChange qos.now instances.now arrival.now is_write is_marked h
         → All (IsKept qos.now h) samples.now
-        → result ≡ count_by (is_present_write qos.now (Came arrival.now ∷ h)) samples.now }
+        → result ≡ present_writes_after qos.now arrival.now h samples.now }
 {
     let mut count = 0;
     for at in 0..samples.len() {
@@ -140,11 +135,10 @@ fn writes_left(
     counts: Counts,
 ) -> usize
     requires counted { IsCounted samples.now counts }
-    ensures { (h : List Happening) → Stands qos.now instances.now h
-        → is_write ≡ ends_with_write qos.now arrival.now.change.key (Came arrival.now ∷ h)
-        → is_marked ≡ marks qos.now arrival.now.change.key h (Came arrival.now)
+    ensures { (h : List Happening)
+        → AwaitsChange qos.now instances.now arrival.now is_write is_marked h
         → All (IsKept qos.now h) samples.now
-        → result ≡ count_by (is_present_write qos.now (Came arrival.now ∷ h)) samples.now }
+        → result ≡ present_writes_after qos.now arrival.now h samples.now }
 {
     match qos.history {
         HistoryQos::KeepAll => counts.writes,
@@ -163,9 +157,8 @@ fn samples_fit(
     counts: Counts,
 ) -> bool
     requires counted { IsCounted samples.now counts }
-    ensures { (h : List Happening) → Holds qos.now instances.now samples.now h
-        → IsFresh h arrival.now.change.key
-        → is_accepted qos.now h (Came arrival.now) ≡ true
+    ensures { (h : List Happening)
+        → AwaitsAccepted qos.now instances.now samples.now arrival.now h
         → result ≡ is_within qos.now.max_samples (present_writes qos.now (Came arrival.now ∷ h)) }
 {
     // With fewer samples than may be present, whichever of them are, there is room for one more.

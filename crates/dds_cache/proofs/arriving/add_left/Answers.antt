@@ -9,11 +9,11 @@ use Rattle.dds_cache.proofs.StandingLaws.{adds-one, adds-nothing}
 use Rattle.dds_cache.proofs.arriving.add_left.Goals as goal
 
 pub returns-in-Some-clause-samples : goal.returns-in-Some-clause-samples
-returns-in-Some-clause-samples c = λ h stands valid fresh.
+returns-in-Some-clause-samples c = λ h takes.
     subst (λ (ks : List Kept). Adds c.args.qos.now (Came c.args.arrival) h c.args.samples.now.items ks)
     (sym c.add.ensures.items)
     (adds-one c.args.qos.now c.args.arrival h c.args.samples.now.items c.in-Some.kept
-    (c.in-Some.ensures.left h stands valid fresh))
+    (c.in-Some.ensures.left h takes))
 
 pub returns-in-Some-clause-small : goal.returns-in-Some-clause-small
 returns-in-Some-clause-small c = λ small.
@@ -22,5 +22,5 @@ returns-in-Some-clause-small c = λ small.
 
 pub returns-in_default-clause-samples : goal.returns-in_default-clause-samples
 returns-in_default-clause-samples c =
-    λ h stands valid fresh. adds-nothing c.args.qos.now c.args.arrival h c.args.samples.now.items
-    (c.in_default.ensures.left h stands valid fresh)
+    λ h takes. adds-nothing c.args.qos.now c.args.arrival h c.args.samples.now.items
+    (c.in_default.ensures.left h takes)

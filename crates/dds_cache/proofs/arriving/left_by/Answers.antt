@@ -1,11 +1,10 @@
 use Rattle.std.proofs.Common.{◌≡◌, ◌+◌, ◌∷◌, List, length, true, sym, ap, ◌∙◌, refl, arith, false}
 use Rattle.dds_base.specs.declared.happening.Happening.{Happening}
 use Rattle.dds_base.specs.declared.happening.Happening.TheVariants.{Came}
-use Rattle.dds_base.specs.Life.{ends_with_write}
 use Rattle.dds_instances.specs.Known.{IsKnown}
-use Rattle.dds_instances.specs.Table.{Stands}
+use Rattle.dds_cache.specs.Arriving.{TakesChange}
 use Rattle.dds_cache.specs.declared.kept.Kept.{Kept}
-use Rattle.dds_cache.specs.Kept.{IsFresh, IsKept, sample_at}
+use Rattle.dds_cache.specs.Kept.{IsKept, sample_at}
 use Rattle.dds_cache.proofs.PresenceLaws.{unknown-absent}
 use Rattle.dds_cache.proofs.KeptLaws.{newest-came, kept-newest, live-at}
 use Rattle.dds_cache.proofs.arriving.left_by.Goals as goal
@@ -34,10 +33,10 @@ record IsLeft (c : After-is_live) (h : List Happening) : Type 0 where
   key : c.in-Some.known.key ≡ c.args.arrival.change.key
   kept : IsKept c.args.qos.now (Came c.args.arrival ∷ h) (left_of c)
 
-left : (c : After-is_live) (h : List Happening) → Stands c.args.qos.now c.args.instances.now (Came c.args.arrival ∷ h)
-    → c.args.is_write ≡ ends_with_write c.args.qos.now c.args.arrival.change.key (Came c.args.arrival ∷ h)
-    → IsFresh h c.args.arrival.change.key → IsLeft c h
-left c h stands valid fresh =
+left : (c : After-is_live) (h : List Happening)
+    → TakesChange c.args.qos.now c.args.instances.now c.args.arrival c.args.is_write h → IsLeft c h
+left c h takes =
+    let stands = takes.stands in
     let q = c.args.qos.now in
     let key = c.args.arrival.change.key in
     let g : List Happening = Came c.args.arrival ∷ h in
@@ -47,7 +46,7 @@ left c h stands valid fresh =
     let known = c.in-Some.ensures.known q g stands in
     let key_is = c.in-Some.ensures.key q g stands in
     let newest =
-    newest-came q c.args.arrival h c.in-Some.known (left_of c) known key_is refl valid refl refl refl refl refl
+    newest-came q c.args.arrival h c.in-Some.known (left_of c) known key_is refl takes.valid refl refl refl refl refl
     c.value_of.ensures refl refl in
     record {
       sample = sample;
@@ -55,18 +54,18 @@ left c h stands valid fresh =
       key = key_is;
       kept =
           kept-newest q (Came c.args.arrival) h key c.in-Some.known
-          (left_of c) refl refl fresh sample refl known key_is newest;
+          (left_of c) refl refl takes.fresh sample refl known key_is newest;
     }
 
 pub returns-in-None-clause-left : goal.returns-in-None-clause-left
-returns-in-None-clause-left c = λ h stands valid fresh.
+returns-in-None-clause-left c = λ h takes.
     unknown-absent c.args.qos.now (Came c.args.arrival) h c.args.arrival.change.key
-    (c.in-None.ensures.key c.args.qos.now (Came c.args.arrival ∷ h) stands)
+    (c.in-None.ensures.key c.args.qos.now (Came c.args.arrival ∷ h) takes.stands)
 
 pub returns-then-is_live-clause-left : goal.returns-then-is_live-clause-left
-returns-then-is_live-clause-left c = λ h stands valid fresh.
+returns-then-is_live-clause-left c = λ h takes.
     let at = (goal.at.returns-then-is_live-clause-left c).After-is_live in
-    let is = left at h stands valid fresh in
+    let is = left at h takes in
     record {
       sample_is = is.sample;
       kept = is.kept;
@@ -76,8 +75,8 @@ returns-then-is_live-clause-left c = λ h stands valid fresh.
     }
 
 pub returns-else-is_live-clause-left : goal.returns-else-is_live-clause-left
-returns-else-is_live-clause-left c = λ h stands valid fresh.
+returns-else-is_live-clause-left c = λ h takes.
     let at = (goal.at.returns-else-is_live-clause-left c).After-is_live in
-    let is = left at h stands valid fresh in
+    let is = left at h takes in
     live-at c.args.qos.now (Came c.args.arrival ∷ h) c.args.arrival.change.key (length h + 1) c.in-Some.known
     (left_of at) false is.known is.key is.sample is.kept (sym c.is_live.ensures ∙ c.if-is_live.false)

@@ -29,7 +29,7 @@ loop-place-preserved c = record {
       slice_get-get_or ks c.loop-place.place (record { 0 = [] }) within in
       adds-of-more q g (length h + 1) c.loop-place.place x c.args.samples.now.items c.loop-place.samples.items
       c.add_marker.new.samples.items there (c.loop-place.invariant.added q h stands fresh)
-      (c.add_marker.ensures.samples q h x stands there (fresh x));
+      (c.add_marker.ensures.samples q h x (record { stands = stands; placed = there; fresh = fresh x }));
 }
 
 pub returns-clause-samples : goal.returns-clause-samples

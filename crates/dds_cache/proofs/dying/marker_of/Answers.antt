@@ -11,7 +11,8 @@ use Rattle.dds_cache.proofs.DeathLaws.{died-absent, newest-died, some-same}
 use Rattle.dds_cache.proofs.dying.marker_of.Goals as goal
 
 pub returns-clause-left : goal.returns-clause-left
-returns-clause-left c = λ q h i stands there fresh.
+returns-clause-left c = λ q h i takes.
+    let stands = takes.stands in
     let g : List Happening = Died c.args.writer c.args.moment ∷ h in
     let k : Kept = record {
       sample = record { key = c.in_ok-known.known.key; position = c.happened-position.result };
@@ -30,12 +31,12 @@ returns-clause-left c = λ q h i stands there fresh.
     } in
     let at : c.happened-position.result ≡ length h + 1 =
     c.happened-position.ensures.happened q g stands ∙ (let more : length g ≡ length h + 1 = omega arith in more) in
-    let key : c.in_ok-known.known.key ≡ i = some-same _ _ (c.in_ok-known.ensures.key q g stands ∙ there) in
+    let key : c.in_ok-known.known.key ≡ i = some-same _ _ (c.in_ok-known.ensures.key q g stands ∙ takes.placed) in
     let sample : k.sample ≡ sample_at i (length h + 1) =
     ap (λ (n : ℕ). sample_at c.in_ok-known.known.key n) at ∙ ap (λ (x : Key). sample_at x (length h + 1)) key in
     let known : IsKnown q g c.in_ok-known.known = c.in_ok-known.ensures.known q g stands in
     let kept : IsKept q g k =
-    kept-newest q (Died c.args.writer c.args.moment) h i c.in_ok-known.known k refl refl fresh sample refl known key
+    kept-newest q (Died c.args.writer c.args.moment) h i c.in_ok-known.known k refl refl takes.fresh sample refl known key
     (newest-died q c.args.writer c.args.moment h c.in_ok-known.known k known
     refl refl refl refl refl refl refl (c.from_vec.ensures.octets
     ∙ c.new.ensures.items) refl refl) in
@@ -47,11 +48,12 @@ returns-clause-left c = λ q h i stands there fresh.
     }
 
 pub returns-then-not-is_position-clause-left : goal.returns-then-not-is_position-clause-left
-returns-then-not-is_position-clause-left c = λ q h i stands there fresh.
+returns-then-not-is_position-clause-left c = λ q h i takes.
+    let stands = takes.stands in
     let g : List Happening = Died c.args.writer c.args.moment ∷ h in
     let at : c.happened-position.result ≡ length h + 1 =
     c.happened-position.ensures.happened q g stands ∙ (let more : length g ≡ length h + 1 = omega arith in more) in
-    let key : c.in_ok-known.known.key ≡ i = some-same _ _ (c.in_ok-known.ensures.key q g stands ∙ there) in
+    let key : c.in_ok-known.known.key ≡ i = some-same _ _ (c.in_ok-known.ensures.key q g stands ∙ takes.placed) in
     let known : IsKnown q g c.in_ok-known.known = c.in_ok-known.ensures.known q g stands in
     let off : c.is_position.result ≡ false = search rules in
     died-absent q c.args.writer c.args.moment h i

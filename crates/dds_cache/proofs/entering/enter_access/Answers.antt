@@ -30,14 +30,16 @@ placed q table h ks ss cs same holds each =
     subst (λ (xs : List SamplePosition). AreAt xs cs ks) (sym same) (at-places q table h ks cs holds each)
 
 pub returns-in-Read-clause-holds : goal.returns-in-Read-clause-holds
-returns-in-Read-clause-holds c = λ h holds returned each.
+returns-in-Read-clause-holds c = λ h holds_found.
+    let holds = holds_found.holds in
+    let each = holds_found.found.candidates in
     let q : ReaderQos = c.args.qos.now in
     let ks : List Kept = c.args.samples.now.items in
     let ss : List SamplePosition = c.deref.result.now in
     let same : ss ≡ c.args.access.now.positions.items =
     c.deref.ensures.value ∙ ap (λ (v : Vec SamplePosition Global). v.items) c.settle.ensures.positions in
     let fits : All (IsReturnable q h) ss =
-    subst (λ (xs : List SamplePosition). All (IsReturnable q h) xs) (sym same) returned in
+    subst (λ (xs : List SamplePosition). All (IsReturnable q h) xs) (sym same) holds_found.found.returnable in
     let read : Stands q c.read.new.self (Read ss ∷ h) =
     subst (λ (r : Result (Unit {0}) Code). OnOk r ((p : ReaderQos) (g : List Happening)
     → Stands p c.args.instances.now g → All (IsReturnable p g) ss → Stands p c.read.new.self (Read ss ∷ g)))
@@ -53,22 +55,27 @@ returns-in-Read-clause-holds c = λ h holds returned each.
     (holds-read q ss h c.args.instances.now c.read.new.self ks read holds)))
 
 pub returns-in-Take-clause-holds : goal.returns-in-Take-clause-holds
-returns-in-Take-clause-holds c = λ h holds returned each.
+returns-in-Take-clause-holds c = λ h holds_found.
+    let holds = holds_found.holds in
+    let each = holds_found.found.candidates in
     let q : ReaderQos = c.args.qos.now in
     let ks : List Kept = c.args.samples.now.items in
     let ss : List SamplePosition = c.deref-in-Take.result.now in
     let same : ss ≡ c.args.access.now.positions.items =
     c.deref-in-Take.ensures.value ∙ ap (λ (v : Vec SamplePosition Global). v.items) c.settle.ensures.positions in
     let fits : All (IsReturnable q h) ss =
-    subst (λ (xs : List SamplePosition). All (IsReturnable q h) xs) (sym same) returned in
+    subst (λ (xs : List SamplePosition). All (IsReturnable q h) xs) (sym same) holds_found.found.returnable in
     subst (λ (xs : List SamplePosition). Holds q c.take_out.new.instances c.take_out.new.samples.items
     (entry_of c.args.kind xs ∷ h)) same
     (subst (λ (kind : AccessKind). Holds q c.take_out.new.instances c.take_out.new.samples.items
     (entry_of kind ss ∷ h)) (sym c.in-Take.is)
-    (c.take_out.ensures.holds h ks holds fits
-    (c.settle.ensures.items ss (placed q c.args.instances.now h ks ss c.args.access.now.found.items
-    (same ∙ c.requires.gathered.same) holds each) (all-in q h ks holds.each)
-    ∙ ap (λ (kind : AccessKind). settled kind ss ks) c.in-Take.is)))
+    (c.take_out.ensures.holds h ks (record {
+      holds = holds;
+      returnable = fits;
+      left_is = c.settle.ensures.items ss (placed q c.args.instances.now h ks ss c.args.access.now.found.items
+          (same ∙ c.requires.gathered.same) holds each) (all-in q h ks holds.each)
+          ∙ ap (λ (kind : AccessKind). settled kind ss ks) c.in-Take.is;
+    })))
 
 pub returns-in-Take-clause-small : goal.returns-in-Take-clause-small
 returns-in-Take-clause-small c = λ small. c.take_out.ensures.small (c.settle.ensures.small small)

@@ -1,4 +1,4 @@
-use Rattle.std.proofs.Common.{◌≡◌, ◌∷◌, List, true, false, not, filter, sym, ap, ◌∙◌, subst}
+use Rattle.std.proofs.Common.{◌≡◌, ◌∷◌, List, true, false, not, sym, ap, ◌∙◌, subst}
 use Rattle.std.specs.List.{All, list_any}
 use Rattle.std.specs.Prelude.{OnOk, Result}
 use Rattle.std.proofs.lemmas.List.Elements.{All-filter}
@@ -11,7 +11,7 @@ use Rattle.dds_instances.specs.Known.{IsReturnable}
 use Rattle.dds_instances.specs.Table.{HoldsLeft, Stands, Table, is_any_left, is_held}
 use Rattle.dds_cache.specs.declared.kept.Kept.{Kept}
 use Rattle.dds_cache.specs.Finding.{Holds}
-use Rattle.dds_cache.specs.Kept.{IsKept, is_among, is_here}
+use Rattle.dds_cache.specs.Kept.{IsKept, is_among, is_here, without}
 use Rattle.dds_cache.specs.Sweeping.{left_since}
 use Rattle.dds_cache.proofs.HoldLaws.{left-there}
 use Rattle.dds_cache.proofs.StandingLaws.{holds-took}
@@ -19,11 +19,13 @@ use Rattle.dds_cache.proofs.entering.take_out.Goals as goal
 use Rattle.dds_cache.proofs.entering.take_out.Goals.{then-is_any_left, else-is_any_left}
 
 pub returns-clause-holds : goal.returns-clause-holds
-returns-clause-holds c = λ h ks holds returned rest.
+returns-clause-holds c = λ h ks without_are.
+    let holds = without_are.holds in
+    let rest = without_are.left_is in
     let q : ReaderQos = c.args.qos.now in
     let ss : List SamplePosition = c.args.taken.now in
     let held : Table = c.if-is_any_left.instances in
-    let left : List Kept = filter (λ k. not (is_among ss k)) ks in
+    let left : List Kept = without ss ks in
     let stands : Stands q held h = elim c.if-is_any_left.branch [
       | then-is_any_left w ↦ subst (λ (t : Table). Stands q t h) (sym w.instances-is)
           (w.hold_present.ensures.same q h holds.instances)
@@ -44,7 +46,7 @@ returns-clause-holds c = λ h ks holds returned rest.
     let took : Stands q c.took.new.self (Took ss ∷ h) =
     subst (λ (r : Result (Unit {0}) Code). OnOk r ((p : ReaderQos) (g : List Happening) → Stands p held g
     → All (IsReturnable p g) ss → (is_any_left p g ss ≡ true → HoldsLeft p g ss held)
-    → Stands p c.took.new.self (Took ss ∷ g))) c.unwrap.ensures c.took.ensures.took q h stands returned noted in
+    → Stands p c.took.new.self (Took ss ∷ g))) c.unwrap.ensures c.took.ensures.took q h stands without_are.returnable noted in
     subst (λ (xs : List Kept). Holds q c.took.new.self xs (Took ss ∷ h))
     (sym (c.let_go.ensures.items (Took ss ∷ h) took
     ∙ ap (λ (xs : List Kept). left_since q (Took ss ∷ h) c.len-before.result xs) rest))

@@ -16,14 +16,14 @@ loop-at-preserved c =
         | then-is_write_then w ↦ omega (arith, w.count-is, c.loop-at.invariant.few)
         | else-is_write_then w ↦ omega (arith, w.count-is, c.loop-at.invariant.few)
       ];
-      counted = λ h stands written marked all.
+      counted = λ h awaits all.
           let test : Kept → Bool = is_present_write c.args.qos.now (Came c.args.arrival.now ∷ h) in
           let kept : IsKept c.args.qos.now h k =
           subst (λ (x : Kept). IsKept c.args.qos.now h x) (sym c.index-samples-at.is)
           (all c.loop-at.at k c.loop-at-test.true) in
           let is : test (get_or ks c.loop-at.at k) ≡ c.is_write_then.result =
-          ap test (sym c.index-samples-at.is) ∙ sym (c.is_write_then.ensures h stands written marked kept) in
-          let so_far = c.loop-at.invariant.counted h stands written marked all in
+          ap test (sym c.index-samples-at.is) ∙ sym (c.is_write_then.ensures h awaits kept) in
+          let so_far = c.loop-at.invariant.counted h awaits all in
           elim c.if-is_write_then.branch [
             | then-is_write_then w ↦
                 w.count-is ∙ (ap (λ (n : ℕ). n + 1) so_far

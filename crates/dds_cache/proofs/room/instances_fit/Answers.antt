@@ -13,12 +13,13 @@ use Rattle.dds_cache.proofs.room.instances_fit.Goals as goal
 use Rattle.dds_cache.proofs.room.instances_fit.Goals.{then-is_none, else-is_none}
 
 pub returns-then-keeps_to : goal.returns-then-keeps_to
-returns-then-keeps_to c = λ h holds fresh accepted.
+returns-then-keeps_to c = λ h awaits.
     sym (instances-spare c.args.qos.now c.args.arrival.now h c.len.result
-    (c.len.ensures.len c.args.qos.now h holds.instances) (sym c.keeps_to.ensures ∙ c.if-keeps_to.true))
+    (c.len.ensures.len c.args.qos.now h awaits.holds.instances) (sym c.keeps_to.ensures ∙ c.if-keeps_to.true))
 
 pub returns : goal.returns
-returns c = λ h holds fresh accepted.
+returns c = λ h awaits.
+    let holds = awaits.holds in
     let q : ReaderQos = c.args.qos.now in
     let a : Arrival = c.args.arrival.now in
     let ks : List Key = known_instances q h in
@@ -41,5 +42,5 @@ returns c = λ h holds fresh accepted.
     ] in
     c.keeps_to-2.ensures
     ∙ (ap (λ (b : Bool). is_within q.max_instances (c.if-is_none.others + one_if (not b)))
-    (c.is_end-stays.ensures h holds fresh)
-    ∙ ap (λ (n : ℕ). is_within q.max_instances n) (sym (instances-after q a h c.if-is_none.others accepted others)))
+    (c.is_end-stays.ensures h holds awaits.fresh)
+    ∙ ap (λ (n : ℕ). is_within q.max_instances n) (sym (instances-after q a h c.if-is_none.others awaits.accepted others)))

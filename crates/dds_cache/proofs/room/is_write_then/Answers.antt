@@ -9,11 +9,12 @@ use Rattle.dds_cache.proofs.room.is_write_then.Goals.{then-is_own, else-is_own, 
 
 pub returns-in-None : goal.returns-in-None
 returns-in-None c =
-    λ h stands written marked kept. absurd (kept-stated c.args.qos.now h c.args.kept.now kept
-    (c.in-None.ensures.key c.args.qos.now h stands))
+    λ h awaits kept. absurd (kept-stated c.args.qos.now h c.args.kept.now kept
+    (c.in-None.ensures.key c.args.qos.now h awaits.stands))
 
 pub returns-after-is_own-2 : goal.returns-after-is_own-2
-returns-after-is_own-2 c = λ h stands written marked kept.
+returns-after-is_own-2 c = λ h awaits kept.
+    let stands = awaits.stands in
     let known : IsKnown c.args.qos.now h c.in-Some.known = c.in-Some.ensures.known c.args.qos.now h stands in
     let key : c.in-Some.known.key ≡ c.args.kept.now.sample.key = c.in-Some.ensures.key c.args.qos.now h stands in
     let own : c.eq-is_own.result ≡ same_key c.args.kept.now.sample.key c.args.arrival.now.change.key =
@@ -36,4 +37,4 @@ returns-after-is_own-2 c = λ h stands written marked kept.
     (same_key c.args.kept.now.sample.key c.args.arrival.now.change.key && c.args.is_write) b c.args.kept.now)
     (is_marked ∙ ap (λ (b : Bool). b && c.args.is_marked) own)
     ∙ write-after c.args.qos.now c.args.arrival.now h c.in-Some.known c.args.kept.now c.args.is_write c.args.is_marked
-    written marked known key kept))
+    awaits.written awaits.marked known key kept))

@@ -12,12 +12,13 @@ use Rattle.dds_cache.proofs.room.samples_fit.Goals as goal
 use Rattle.dds_cache.proofs.room.samples_fit.Goals.{then-is_write+then-is_kept_after, then-is_write+else-is_kept_after, else-is_write}
 
 pub returns-then-keeps_to : goal.returns-then-keeps_to
-returns-then-keeps_to c = λ h holds fresh accepted.
-    sym (spare-fits c.args.qos.now c.args.arrival.now h c.args.samples.now holds.each holds.present fresh accepted
-    (sym c.keeps_to.ensures ∙ c.if-keeps_to.true))
+returns-then-keeps_to c = λ h awaits.
+    sym (spare-fits c.args.qos.now c.args.arrival.now h c.args.samples.now awaits.holds.each awaits.holds.present awaits.fresh
+    awaits.accepted (sym c.keeps_to.ensures ∙ c.if-keeps_to.true))
 
 pub returns : goal.returns
-returns c = λ h holds fresh accepted.
+returns c = λ h awaits.
+    let holds = awaits.holds in
     let q : ReaderQos = c.args.qos.now in
     let g : List Happening = Came c.args.arrival.now ∷ h in
     let written : c.is_accepted_write-is_write.result ≡ ends_with_write q c.args.arrival.now.change.key g =
@@ -25,7 +26,7 @@ returns c = λ h holds fresh accepted.
     let marked : c.would_mark-is_marked.result ≡ marks q c.args.arrival.now.change.key h (Came c.args.arrival.now) =
     c.would_mark-is_marked.ensures.marks h holds.instances in
     let count : c.writes_left-count.result ≡ count_by (is_present_write q g) c.args.samples.now =
-    c.writes_left-count.ensures h holds.instances written marked holds.each in
+    c.writes_left-count.ensures h (record { stands = holds.instances; written = written; marked = marked }) holds.each in
     let left : c.if-is_write.is_left
     ≡ (c.is_accepted_write-is_write.result && (keeps q.history 0 || c.would_mark-is_marked.result)) =
     elim c.if-is_write.branch [
@@ -46,8 +47,8 @@ returns c = λ h holds fresh accepted.
     ] in
     let leaves : c.if-is_write.is_left ≡ leaves_write q c.args.arrival.now h =
     left ∙ leaves-write q c.args.arrival.now h c.is_accepted_write-is_write.result c.would_mark-is_marked.result
-    written marked fresh in
+    written marked awaits.fresh in
     c.keeps_to-2.ensures
     ∙ ap (λ (n : ℕ). is_within q.max_samples n) (ap (λ (n : ℕ). n + one_if c.if-is_write.is_left) count
     ∙ (ap (λ (b : Bool). count_by (is_present_write q g) c.args.samples.now + one_if b) leaves
-    ∙ sym (writes-after q c.args.arrival.now h c.args.samples.now holds.each holds.present fresh accepted)))
+    ∙ sym (writes-after q c.args.arrival.now h c.args.samples.now holds.each holds.present awaits.fresh awaits.accepted)))

@@ -44,14 +44,14 @@ returns-clause-answer g c = λ h stands.
     let ks : List Kept = c.args.self.now.samples in
     let ss : List SamplePosition = c.in_ok-found.found.positions.items in
     let cs : List Candidate = c.in_ok-found.found.found.items in
-    let is : IsAccess Take q h c.args.selection (g.T.Test.meaning c.args.test.now) ks ss cs
-    c.in_ok-found.found.samples.items = c.in_ok-found.ensures.found h stands in
+    let is : IsAccess Take q h c.args.selection (g.T.Test.meaning c.args.test.now) ks c.in_ok-found.found =
+    c.in_ok-found.ensures.found h stands in
     let kept_are : c.deref.result.now ≡ ks =
     c.deref.ensures.value ∙ ap (λ (t : Stored). t.samples) c.self.view_is in
     let kept : All (IsKept q h) c.deref.result.now =
     subst (λ (xs : List Kept). All (IsKept q h) xs) (sym kept_are) stands.each in
     let found : All (IsCandidate q h c.deref.result.now) cs =
-    subst (λ (xs : List Kept). All (IsCandidate q h xs) cs) (sym kept_are) is.found in
+    subst (λ (xs : List Kept). All (IsCandidate q h xs) cs) (sym kept_are) is.found.candidates in
     let count : ℕ = length c.enter.new.access.positions.items in
     let told = answered (count == 0) c.in_ok-samples.samples c.in_ok-first.first.items c.in_ok-samples.ensures in
     let first : c.in_ok-first.first.items ≡ collection_of q h (map sample_in cs) =

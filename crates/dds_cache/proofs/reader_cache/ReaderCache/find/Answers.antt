@@ -52,5 +52,5 @@ returns-clause-found g c = λ h stands.
     c.self.view_is
     (subst (λ (b : Bool). TellsAny b (picked_by c.self.inside.qos h c.args.selection
     (g.T.Test.meaning c.args.test.now))) c.if-picks_any.false tells) in
-    nothing-found c.args.kind _ _ _ _ _ _ _ _ c.nothing.ensures.positions c.nothing.ensures.found c.nothing.ensures.samples good
+    nothing-found c.args.kind _ _ _ _ _ _ c.nothing.ensures.positions c.nothing.ensures.found c.nothing.ensures.samples good
     none

@@ -61,10 +61,9 @@ returns-then-is_empty-clause-found g c = λ h stands.
     grind (arith, nat_tests, c.in_ok-found.found.ok.0, c.is_empty.ensures, c.if-is_empty.true) in
     let empty : c.in_ok-found.found.items ≡ [] = no-items c.in_ok-found.found.items none in
     subst (λ (t : Stored). IsAccess c.args.kind t.qos h c.args.selection (g.T.Test.meaning c.args.test.now) t.samples
-    c.nothing.result.positions.items c.nothing.result.found.items c.nothing.result.samples.items) c.self.view_is
+    c.nothing.result) c.self.view_is
     (nothing-found c.args.kind q h c.args.selection (g.T.Test.meaning c.args.test.now) c.self.inside.samples.items
-    c.nothing.result.positions.items c.nothing.result.found.items c.nothing.result.samples.items
-    c.nothing.ensures.positions c.nothing.ensures.found c.nothing.ensures.samples picks.good
+    c.nothing.result c.nothing.ensures.positions c.nothing.ensures.found c.nothing.ensures.samples picks.good
     (sym picks.samples_are ∙ ap (λ (cs : List Candidate). map sample_in cs) empty))
 
 pub returns-clause-found : goal.returns-clause-found
@@ -85,11 +84,7 @@ returns-clause-found g c = λ h stands.
     let each : All (IsCandidate q h c.deref-2.result.now) cs =
     subst (λ (xs : List Kept). All (IsCandidate q h xs) cs) (sym c.deref-2.ensures.value) picks.each in
     subst (λ (t : Stored). IsAccess c.args.kind t.qos h c.args.selection (g.T.Test.meaning c.args.test.now) t.samples
-    c.in_ok-access.access.positions.items c.in_ok-access.access.found.items c.in_ok-access.access.samples.items)
-    c.self.view_is
-    (subst (λ (xs : List Candidate). IsAccess c.args.kind q h c.args.selection (g.T.Test.meaning c.args.test.now) ks
-    c.in_ok-access.access.positions.items xs c.in_ok-access.access.samples.items) (sym c.in_ok-access.ensures.found)
+    c.in_ok-access.access) c.self.view_is
     (accessed c.args.kind (stored_of c.self.inside) h c.args.selection
-    (g.T.Test.meaning c.args.test.now) cs c.in_ok-access.access.positions.items c.in_ok-access.access.samples.items
-    old picks (c.in_ok-access.ensures.gathered.same
-    ∙ ap (λ (xs : List Candidate). map sample_in xs) c.in_ok-access.ensures.found) (c.in_ok-access.ensures.samples q h kept each)))
+    (g.T.Test.meaning c.args.test.now) cs c.in_ok-access.access old picks c.in_ok-access.ensures.found
+    c.in_ok-access.ensures.gathered.same (c.in_ok-access.ensures.samples q h kept each))

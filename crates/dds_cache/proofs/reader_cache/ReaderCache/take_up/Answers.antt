@@ -45,4 +45,5 @@ returns-clause-stands c = λ h stands.
     stands-added q e h c.let_go.new.samples.items (stored_of c.self.inside) _ refl refl refl refl
     (c.count_arrival-self-inside.ensures ∙ counts-more c.self.inside.arrivals (arrivals h) old.arrivals_are)
     refl noted came leaves
-    (c.add_left.ensures.samples h came (c.is_accepted_write-is_write.ensures h old.instances) next) old
+    (c.add_left.ensures.samples h
+    (record { stands = came; valid = c.is_accepted_write-is_write.ensures h old.instances; fresh = next })) old
