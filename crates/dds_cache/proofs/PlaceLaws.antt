@@ -25,8 +25,11 @@ use Rattle.dds_base.specs.Life.{up_to}
 use Rattle.dds_base.proofs.KeyLaws.{key-same, same_key-refl}
 use Rattle.dds_instances.specs.Table.{Table}
 use Rattle.dds_cache.specs.declared.access.Candidate.{Candidate}
+use Rattle.dds_cache.specs.declared.access_kind.AccessKind.{AccessKind}
+use Rattle.dds_cache.specs.declared.access_kind.AccessKind.TheVariants.{Read, Take}
 use Rattle.dds_cache.specs.declared.kept.Kept.{Kept}
-use Rattle.dds_cache.specs.Kept.{IsIn, is_among, is_here, out_if, position_of, positions_in, sample_at, IsKept}
+use Rattle.dds_cache.specs.Kept.{IsIn, is_among, is_here, out_if, read_if, position_of, positions_in, sample_at, IsKept}
+use Rattle.dds_cache.specs.Settling.{settled}
 use Rattle.dds_cache.specs.Finding.{AreAt, AreChanged, Holds, IsCandidate, IsSmall, is_place, sample_in, AreApart, is_asked_for, passes}
 use Rattle.dds_cache.specs.Picking.{Picks}
 use Rattle.dds_cache.proofs.CountLaws.{any-count, present-count}
@@ -408,3 +411,17 @@ pub small-changed : (change : Bool → Kept → Kept) (cs : List Candidate) (old
 small-changed change cs old new keeps changed small = λ at d within.
     let inside : at < length old = omega (arith, within, changed.same_len) in
     subst IsSmall (sym (changed.each at d inside)) (keeps (is_place cs at) (get_or old at d) (small at d inside))
+
+-- an access that finds nothing leaves what is kept
+pub settled-none : (kind : AccessKind) (ss : List SamplePosition) (ks : List Kept) → AreAt ss [] ks
+    → settled kind ss ks ≡ ks
+settled-none Read ss [] at_places = refl
+settled-none Take ss [] at_places = refl
+settled-none Read ss (k ∷ ks) at_places =
+    ap (λ (b : Bool). read_if b k ∷ settled Read ss ks) (at_places 0 k (omega arith))
+    ∙ ap (λ (xs : List Kept). k ∷ xs)
+    (settled-none Read ss ks (λ at d within. at_places (suc at) d (omega (arith, within))))
+settled-none Take ss (k ∷ ks) at_places =
+    ap (λ (b : Bool). cond (not b) (k ∷ settled Take ss ks) (settled Take ss ks)) (at_places 0 k (omega arith))
+    ∙ ap (λ (xs : List Kept). k ∷ xs)
+    (settled-none Take ss ks (λ at d within. at_places (suc at) d (omega (arith, within))))

@@ -69,6 +69,7 @@ pub fn settle(
     access: &mut Access,
 )
     requires gathered { IsGathered kind (length samples.old.items) access.old }
+    requires counted { IsCounted samples.old.items counts.old }
     ensures items { (ss : List Position) → AreAt ss access.old.found.items samples.old.items
         → All IsIn samples.old.items → samples.new.items ≡ settled kind ss samples.old.items }
     ensures positions { access.new.positions ≡ access.old.positions }
@@ -78,6 +79,9 @@ pub fn settle(
     ensures len { vec_len samples.new ≤ vec_len samples.old }
     ensures capacity { vec_capacity samples.old ≤ vec_capacity samples.new }
 {
+    if access.found.is_empty() {
+        return;
+    }
     match kind {
         AccessKind::Read => mark_read(samples, &access.found),
         AccessKind::Take => remove(alloc, samples, access),
