@@ -1,5 +1,5 @@
 -- Whether a change that comes turns its instance to a state that is not alive.
-use Rattle.std.proofs.Common.{◌≡◌, ℕ, ◌+◌, List, [], ◌∷◌, suc, length, Bool, true, false, not, ◌==◌, ◌&&◌, ◌||◌, sym, ap, ◌∙◌, refl, Option, Some, None, cond, arith, ⊎_elim}
+use Rattle.std.proofs.Common.{◌≡◌, ℕ, ◌+◌, ◌≤◌, ◌<◌, List, [], ◌∷◌, suc, length, Bool, true, false, not, ◌==◌, ◌&&◌, ◌||◌, sym, ap, ◌∙◌, refl, Option, Some, None, cond, arith, ⊎_elim}
 use Rattle.std.specs.Prelude.{if◌then◌else◌, nat_le, nat_lt}
 use Rattle.std.specs.List.{filter}
 use Rattle.std.proofs.lemmas.Bool.{cases_Bool, eqb-true, eqb-false}
@@ -126,6 +126,52 @@ left-first q h a last =
     ∙ sym (ap (λ (ws : List ℕ). is_nobody ws) (nobody-unregistered q h a none ends)))
     (λ stays. ap (λ (b : Bool). b || matched) stays ∙ sym (nobody-written q h a none stays))
     (cases_Bool (is_unregister a.change.kind))
+
+-- of numbers among which one passes a test, somebody does
+somebody-by : (p : ℕ → Bool) (w k : ℕ) (xs : List MatchedWriter) → p w ≡ true → k ≤ w → w < k + length xs
+    → is_nobody (filter p (numbered_from k xs)) ≡ false
+somebody-by p w k [] passes low high = absurd (omega (arith, low, high))
+somebody-by p w k (x ∷ xs) passes low high =
+    let rest : List ℕ = filter p (numbered_from (k + 1) xs) in
+    ⊎_elim (λ here. ap (λ (b : Bool). is_nobody (cond b (k ∷ rest) rest)) here)
+    (λ gone. ap (λ (b : Bool). is_nobody (cond b (k ∷ rest) rest)) gone
+    ∙ somebody-by p w (k + 1) xs passes (above k w low (apart gone)) (omega (arith, high)))
+    (cases_Bool (p k))
+  where
+    apart : p k ≡ false → (w ≡ k → ⊥)
+    apart gone same = let clash : true ≡ false = sym passes ∙ (ap p same ∙ gone) in absurd cc
+
+    above : (k w : ℕ) → k ≤ w → (w ≡ k → ⊥) → k + 1 ≤ w
+    above k w low differ = grind (arith, low)
+
+-- after a change of a matched writer that does not unregister, somebody is registered: its writer
+pub somebody-registered : (q : ReaderQos) (h : List Happening) (a : Arrival)
+    → is_left_at_first (length q.writers) a.writer a.change.kind ≡ false
+    → is_nobody (registered_writers q a.change.key (Came a ∷ h)) ≡ false
+somebody-registered q h a first =
+    let w : ℕ = a.writer in
+    let parts = both (is_unregister a.change.kind) (nat_lt 0 w) (nat_le w (length q.writers)) first in
+    somebody-by (λ v. is_registered a.change.key v (Came a ∷ h)) w 1 q.writers
+    (registered-too (same_key a.change.key a.change.key) (w == w) (is_unregister a.change.kind)
+    (is_write_or_dispose a.change.kind) (is_registered a.change.key w h) (same_key-refl a.change.key)
+    parts.0 (writes-or-ends a.change.kind parts.0)
+    ∙ ap (λ (b : Bool). b || is_registered a.change.key w h) (itself w))
+    (positive w parts.1.0) (bounded w (length q.writers) parts.1.1)
+  where
+    both : (u low high : Bool) → (u || not (low && high)) ≡ false → (u ≡ false) × ((low ≡ true) × (high ≡ true))
+    both true low high e = absurd cc
+    both false true true e = (refl, (refl, refl))
+    both false true false e = absurd cc
+    both false false high e = absurd cc
+
+    itself : (w : ℕ) → (w == w) ≡ true
+    itself w = grind (arith, nat_tests)
+
+    positive : (w : ℕ) → nat_lt 0 w ≡ true → 1 ≤ w
+    positive w low = grind (arith, nat_tests, low)
+
+    bounded : (w n : ℕ) → nat_le w n ≡ true → w < 1 + n
+    bounded w n high = grind (arith, nat_tests, high)
 
 ends : (n : Bool) → n ≡ becomes_not_alive None (Some (if n then NotAliveNoWriters else Alive))
 ends true = refl

@@ -17,7 +17,9 @@ use Rattle.dds_base.specs.declared.sample.InstanceState.{InstanceState}
 use Rattle.dds_base.specs.declared.sample.ViewState.TheVariants.{New, NotNew}
 use Rattle.dds_base.specs.declared.qos.ReaderQos.{ReaderQos}
 use Rattle.dds_base.specs.Happening.{same_key, is_write_or_dispose}
-use Rattle.dds_base.specs.Ownership.{accepted_kind, is_registered, publication_handles, registered_writers}
+use Rattle.dds_base.specs.declared.qos.OwnershipQos.{OwnershipQos}
+use Rattle.dds_base.specs.declared.qos.OwnershipQos.TheVariants.{Shared}
+use Rattle.dds_base.specs.Ownership.{accepted_kind, admits, is_registered, outranks_all, publication_handles, registered_writers}
 use Rattle.dds_base.specs.Presence.{is_accepted}
 use Rattle.dds_base.specs.Life.{becomes_not_alive, last_accepted, or_else, is_write, state_after, is_nobody, ends_life}
 use Rattle.dds_base.specs.Access.{handle_of, instance_of, lives_begun, state_of_known}
@@ -551,6 +553,21 @@ handle-none q (e ∷ h) i last =
 some-test : (b : Bool) (k : ChangeKind) → b ≡ is_some (cond b (Some k) None)
 some-test true k = refl
 some-test false k = refl
+
+-- where ownership is shared each write and each dispose is accepted
+pub accepts-shared : (q : ReaderQos) (h : List Happening) (a : Arrival) → q.ownership ≡ Shared
+    → is_write_or_dispose a.change.kind ≡ is_accepted q h (Came a)
+accepts-shared q h a shared =
+    let written : Bool = is_write_or_dispose a.change.kind in
+    let owns : Bool = outranks_all q (Came a ∷ h) (registered_writers q a.change.key h) a.writer in
+    some-test written a.change.kind
+    ∙ ap (λ (b : Bool). is_some (if b then Some a.change.kind else None)) (sym (ap (λ (b : Bool). b
+    && (written && admits q.ownership owns)) (same_key-refl a.change.key)
+    ∙ (ap (λ (o : OwnershipQos). written && admits o owns) shared ∙ and-true written)))
+  where
+    and-true : (b : Bool) → (b && true) ≡ b
+    and-true true = refl
+    and-true false = refl
 
 pub accepts-first : (q : ReaderQos) (h : List Happening) (a : Arrival) → last_accepted q a.change.key h ≡ None
     → is_write_or_dispose a.change.kind ≡ is_accepted q h (Came a)

@@ -19,7 +19,9 @@ use crate::keeping::{
 };
 use crate::known::{KnownInstance, told, view_of};
 use crate::track::{InstanceTrack, begins_dead, begins_left, count_if};
-use dds_base::{Arrival, Code, Handle, InstanceState, Key, ReaderQos, SamplePosition, ViewState};
+use dds_base::{
+    Arrival, Code, Handle, InstanceState, Key, OwnershipQos, ReaderQos, SamplePosition, ViewState,
+};
 use dds_owner::{Owners, Strengths};
 use indexmap::IndexSet;
 use std::alloc::Global;
@@ -524,9 +526,13 @@ impl Instances {
             → result ≡ is_nobody (registered_writers q arrival.now.change.key (Came arrival.now ∷ h)) }
     {
         let change = &arrival.change;
+        if !begins_left(change.kind, arrival.writer, self.writers) {
+            // Its writer would be registered.
+            return false;
+        }
         match look_up(&self.index, &self.tracks, change.key) {
             Some(track) => !track.owners.would_have_writers(arrival),
-            None => begins_left(change.kind, arrival.writer, self.writers),
+            None => true,
         }
     }
 
@@ -539,6 +545,9 @@ impl Instances {
             → result ≡ is_accepted qos.now h (Came arrival.now) }
     {
         let change = &arrival.change;
+        if let OwnershipQos::Shared = qos.ownership {
+            return change.kind.is_write_or_dispose();
+        }
         match look_up(&self.index, &self.tracks, change.key) {
             Some(track) => track
                 .owners
