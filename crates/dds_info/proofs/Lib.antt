@@ -1,1 +1,2 @@
 pub mod FollowerLaws
+pub mod RankLaws

@@ -1,1 +1,2 @@
 pub mod Followers
+pub mod Ranking

@@ -11,9 +11,11 @@ ghost use Rattle.dds_base.specs.declared.code.Code.TheVariants.{Memory};
 ghost use Rattle.dds_info.specs.Followers.{IsFollowed};
 
 mod followers;
+mod ranks;
 
 use dds_base::{Code, Handle, Picked, SampleInfo};
 use followers::{Followers, followers_of, generations, lesser};
+pub use ranks::Ranks;
 use std::alloc::Global;
 
 /// The info of a sample, by those of its instance that follow it in the collection.
@@ -44,7 +46,7 @@ fn ranked(sample: &Picked, followers: Followers) -> SampleInfo
 /// The two generation counts of each sample must have a sum below 2^64.
 ///
 /// It goes once over the samples, from the last to the first, where they stand by handle, as those of an access do. Of
-/// others it looks for those that follow.
+/// others it looks for those that follow. Where they do, `Ranks` tells each info without a list of them.
 ///
 /// # Errors
 ///
