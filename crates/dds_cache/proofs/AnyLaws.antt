@@ -4,6 +4,7 @@ use Rattle.std.specs.Prelude.{nat_lt, if◌then◌else◌, ℤ, pos, negsuc, is_
 use Rattle.std.specs.Result.{IsErr}
 use Rattle.std.specs.List.{list_any, All}
 use Rattle.std.proofs.lemmas.Bool.{cases_Bool, and_parts}
+use Rattle.std.proofs.lemmas.Bool.Decides.{nat_tests}
 use Rattle.std.proofs.lemmas.List.Elements.{All-nil, All-weaker}
 use Rattle.std.proofs.lemmas.List.Folds.{list_any_none}
 use Rattle.dds_base.specs.declared.code.Code.{Code}
@@ -28,9 +29,8 @@ use Rattle.dds_cache.specs.declared.collection.Access.{Access}
 use Rattle.dds_cache.specs.declared.kept.Kept.{Kept}
 use Rattle.dds_cache.specs.Kept.{IsKept}
 use Rattle.dds_cache.specs.declared.access_kind.AccessKind.{AccessKind}
-use Rattle.dds_cache.specs.declared.access_kind.AccessKind.TheVariants.{Read, Take}
 use Rattle.dds_cache.specs.Finding.{AreApart, Holds, IsCandidate, asks_for, is_asked_for, is_sought, passes}
-use Rattle.dds_cache.specs.Picking.{IsAccess, shown, Picks, TellsAny, masks_in, test_in}
+use Rattle.dds_cache.specs.Picking.{IsAccess, collected, Picks, TellsAny, masks_in, test_in}
 use Rattle.dds_cache.specs.Standing.{AccessAnswers, Stored, picked, qos_of, refusal}
 use Rattle.dds_cache.specs.Twice.{first_of}
 use Rattle.dds_cache.proofs.CountLaws.{present-any}
@@ -291,10 +291,7 @@ pub nothing-found : (kind : AccessKind) (q : ReaderQos) (h : List Happening) (se
 nothing-found kind q h selection test ks access no_positions no_candidates no_samples good none = record {
   good = good;
   positions_are = no_positions ∙ sym none;
-  collection_is =
-      no_samples
-      ∙ (sym (shown-none kind)
-      ∙ ap (λ (ss : List SamplePosition). shown kind (collection_of q h ss)) (sym no_positions));
+  collection_is = no_samples ∙ sym (ap (λ (cs : List Candidate). collected kind ks cs) no_candidates);
   found = record {
     returnable =
         subst (λ (ss : List SamplePosition). All (IsReturnable q h) ss) (sym no_positions) (All-nil (IsReturnable q h));
@@ -304,7 +301,26 @@ nothing-found kind q h selection test ks access no_positions no_candidates no_sa
   };
   apart = subst AreApart (sym no_candidates) (λ at. grind arith);
 }
+
+-- the answer of an access that was entered is by how many samples there are
+pub answered-so : (stored : Stored) (h : List Happening) (selection : Selection) (test : Key → List ℕ → Bool)
+    (positions : List SamplePosition) (samples : List Sample) (answer : Result (List Sample) Code)
+    → refusal stored h selection ≡ None → positions ≡ picked stored h selection test
+    → samples ≡ collection_of (qos_of stored) h positions
+    → answer ≡ (if length positions == 0 then Err NoData else Ok samples) → AccessAnswers stored h selection test answer
+answered-so stored h selection test [] samples answer good positions_are samples_are answer_is =
+    subst (λ (a : Result (List Sample) Code). AccessAnswers stored h selection test a) (sym answer_is)
+    (good, sym positions_are)
+answered-so stored h selection test (s ∷ ss) samples answer good positions_are samples_are answer_is =
+    subst (λ (a : Result (List Sample) Code). AccessAnswers stored h selection test a)
+    (sym (answer_is ∙ ap (λ (b : Bool). if b then Err NoData else Ok samples) (several s ss))) (
+      good,
+      (λ none. some s ss (positions_are ∙ none)),
+      samples_are ∙ ap (λ (xs : List SamplePosition). collection_of (qos_of stored) h xs) positions_are,
+    )
   where
-    shown-none : (kind : AccessKind) → shown kind [] ≡ []
-    shown-none Read = refl
-    shown-none Take = refl
+    some : (s : SamplePosition) (ss : List SamplePosition) → s ∷ ss ≡ [] → ⊥
+    some s ss e = absurd cc
+
+    several : (s : SamplePosition) (ss : List SamplePosition) → (length (s ∷ ss) == 0) ≡ false
+    several s ss = grind (arith, nat_tests)

@@ -2,6 +2,9 @@
 use Rattle.std.proofs.Common.{◌≡◌, ℕ, List, [], ◌∷◌, map, filter, Bool, true, false, ◌==◌, sym, ap, ◌∙◌, refl, subst, cond, Option, Some, None}
 use Rattle.std.specs.Prelude.{nat_lt, if◌then◌else◌}
 use Rattle.std.specs.List.{All}
+use Rattle.std.specs.List.Sorted.{IsNonDecreasingBy}
+use Rattle.std.proofs.lemmas.List.Kept.{IsNonDecreasingBy-filter}
+use Rattle.std.proofs.lemmas.List.Sorted.{IsNonDecreasingBy-take}
 use Rattle.std.proofs.lemmas.List.{take-map}
 use Rattle.std.proofs.lemmas.List.Elements.{All-take, All-filter, All-head, All-tail, All-weaker}
 use Rattle.dds_base.specs.declared.key.Key.{Key}
@@ -138,3 +141,24 @@ pub picked-all : (P : Candidate → Type 0) (selection : Selection) (limit : Opt
 picked-all P selection limit found restricted new of cut all =
     subst (λ (cs : List Candidate). All P cs) (sym (cut ∙ ap (λ (cs : List Candidate). at_most limit cs) of))
     (at_most-all P limit (of_selection selection found) (asked-all P selection found all))
+
+-- what is picked stands by handle
+pub picked-sorted : (selection : Selection) (limit : Option ℕ) (found restricted new : List Candidate)
+    → restricted ≡ of_selection selection found → new ≡ at_most limit restricted → IsNonDecreasingBy handle_in found
+    → IsNonDecreasingBy handle_in new
+picked-sorted selection limit found restricted new of cut sorted =
+    subst (λ (cs : List Candidate). IsNonDecreasingBy handle_in cs)
+    (sym (cut ∙ ap (λ (cs : List Candidate). at_most limit cs) of))
+    (few limit (of_selection selection found) (asked selection))
+  where
+    asked : (selection : Selection) → IsNonDecreasingBy handle_in (of_selection selection found)
+    asked (Any max masks) = sorted
+    asked (Instance handle max masks) = IsNonDecreasingBy-filter handle_in (has_handle handle) found sorted
+    asked (NextInstance previous max masks) =
+        IsNonDecreasingBy-filter handle_in (has_handle (first_above previous found)) found sorted
+    asked NextSample = sorted
+
+    few : (limit : Option ℕ) (cs : List Candidate) → IsNonDecreasingBy handle_in cs
+        → IsNonDecreasingBy handle_in (at_most limit cs)
+    few None cs by_handle = by_handle
+    few (Some n) cs by_handle = IsNonDecreasingBy-take handle_in n cs by_handle

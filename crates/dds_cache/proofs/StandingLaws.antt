@@ -16,15 +16,13 @@ use Rattle.dds_base.specs.Presence.{is_present}
 use Rattle.dds_base.specs.Life.{up_to}
 use Rattle.dds_base.proofs.KeyLaws.{key-same}
 use Rattle.dds_base.specs.declared.selection.Selection.{Selection}
-use Rattle.dds_base.specs.declared.sample.Sample.{Sample}
-use Rattle.dds_base.specs.Access.{collection_of}
 use Rattle.dds_base.specs.StatusFlags.{brings_sample, data_available_at}
 use Rattle.dds_instances.specs.Table.{Table, Stands}
 use Rattle.dds_instances.specs.Known.{IsReturnable}
 use Rattle.dds_cache.specs.declared.access.Candidate.{Candidate}
 use Rattle.dds_cache.specs.declared.collection.Access.{Access}
 use Rattle.dds_cache.specs.Finding.{AreApart, Holds, IsCandidate, sample_in}
-use Rattle.dds_cache.specs.Picking.{Picks, IsAccess, shown}
+use Rattle.dds_cache.specs.Picking.{Picks, IsAccess, collected}
 use Rattle.dds_cache.specs.declared.kept.Kept.{Kept}
 use Rattle.dds_cache.specs.Kept.{IsKept, IsKeptAt, IsFresh, IsNewAt, Adds, sample_at, is_here, position_of, positions_in, is_among, marked}
 use Rattle.dds_cache.specs.declared.access_kind.AccessKind.{AccessKind}
@@ -417,7 +415,7 @@ pub accessed : (kind : AccessKind) (stored : Stored) (h : List Happening) (selec
     (cs : List Candidate) (access : Access) → StandsFor stored h
     → Picks stored.qos h selection test stored.samples cs → access.found.items ≡ cs
     → access.positions.items ≡ map sample_in access.found.items
-    → access.samples.items ≡ shown kind (collection_of stored.qos h (map sample_in cs))
+    → access.samples.items ≡ collected kind stored.samples cs
     → IsAccess kind stored.qos h selection test stored.samples access
 accessed kind stored h selection test cs access stands picks found_are positions_in_found collection_is =
     let positions_are : access.positions.items ≡ map sample_in cs =
@@ -425,9 +423,7 @@ accessed kind stored h selection test cs access stands picks found_are positions
     record {
       good = picks.good;
       positions_are = positions_are ∙ picks.samples_are;
-      collection_is =
-          collection_is
-          ∙ ap (λ (ss : List SamplePosition). shown kind (collection_of stored.qos h ss)) (sym positions_are);
+      collection_is = collection_is ∙ ap (λ (xs : List Candidate). collected kind stored.samples xs) (sym found_are);
       found = record {
         returnable =
             subst (λ (ss : List SamplePosition). All (IsReturnable stored.qos h) ss) (sym positions_are)

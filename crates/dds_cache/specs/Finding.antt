@@ -2,7 +2,7 @@
 -- believed.
 --
 -- DDS 1.4, 2.2.2.5 (read, take: sample_states, view_states, instance_states).
-use Rattle.std.specs.Prelude.{◌≡◌, ℕ, ◌+◌, if◌then◌else◌, ◌<◌, ◌≤◌, ◌^◌, List, length, Bool, true, false, ◌&&◌, ◌==◌, nat_lt, map, filter, All, Option, IsTrue, MatchOption, slice_index_or}
+use Rattle.std.specs.Prelude.{◌≡◌, ℕ, ◌+◌, ◌<◌, ◌≤◌, ◌^◌, List, length, Bool, true, false, ◌&&◌, ◌==◌, nat_lt, map, filter, All, Option, IsTrue, MatchOption, slice_index_or}
 use Rattle.std.specs.List.{list_any, count_by}
 use Rattle.dds_base.specs.declared.happening.SamplePosition.{SamplePosition}
 use Rattle.dds_base.specs.declared.happening.Happening.{Happening}

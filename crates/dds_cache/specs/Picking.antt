@@ -2,7 +2,7 @@
 -- here has to be believed.
 --
 -- DDS 1.4, 2.2.2.5 (read, take, and their instance, next-instance and next-sample forms).
-use Rattle.std.specs.Prelude.{◌≡◌, ◌≢◌, ℕ, List, [], ◌∷◌, All, map, filter, Bool, true, false, ◌==◌, nat_lt, Option, None, Some, Result, Ok, Err, ℤ, if◌then◌else◌, ◌+◌, ◌≤◌, length, vec_len, vec_capacity}
+use Rattle.std.specs.Prelude.{◌≡◌, ◌≢◌, ℕ, List, [], ◌∷◌, All, map, filter, Bool, true, false, ◌==◌, nat_lt, Option, None, Some, Result, Ok, Err, ℤ, if◌then◌else◌, length, slice_get}
 use Rattle.dds_base.specs.declared.code.Code.{Code}
 use Rattle.dds_base.specs.declared.code.Code.TheVariants.{BadParameter}
 use Rattle.dds_base.specs.declared.happening.SamplePosition.{SamplePosition}
@@ -14,7 +14,8 @@ use Rattle.dds_base.specs.declared.selection.Selection.{Selection}
 use Rattle.dds_base.specs.declared.selection.Selection.TheVariants.{Any, Instance, NextInstance, NextSample}
 use Rattle.dds_base.specs.Checked.{is_maximum, limit_of}
 use Rattle.dds_base.specs.Selection.{picked_by, selection_refusal}
-use Rattle.dds_base.specs.Access.{infos_of, no_filter, not_read, collection_of}
+use Rattle.dds_base.specs.Access.{no_filter, not_read, with_ranks}
+use Rattle.dds_base.specs.declared.sample.Sample.{Sample}
 use Rattle.dds_base.specs.declared.sample.Sample.{Sample}
 use Rattle.dds_instances.specs.Known.{IsReturnable}
 use Rattle.dds_instances.specs.Table.{Table}
@@ -24,7 +25,7 @@ use Rattle.dds_cache.specs.declared.access_kind.AccessKind.TheVariants.{Read, Ta
 use Rattle.dds_cache.specs.declared.collection.Access.{Access}
 use Rattle.dds_cache.specs.declared.kept.Kept.{Kept}
 use Rattle.dds_cache.specs.declared.pick.Request.{Request}
-use Rattle.dds_cache.specs.Kept.{IsKept, without}
+use Rattle.dds_cache.specs.Kept.{without}
 use Rattle.dds_cache.specs.Finding.{AreApart, Holds, IsCandidate, IsPlaced, sample_in, picked_in, handle_in}
 
 -- how many samples an access asks for at most
@@ -89,16 +90,29 @@ pub record Picks (q : ReaderQos) (h : List Happening) (selection : Selection) (t
   pub samples_are : map sample_in cs ≡ picked_by q h selection test
   pub each : All (IsCandidate q h ks) cs
 
--- what of a collection is there before the access is entered: the whole of a read, and nothing of a take
-abbrev pub shown : AccessKind → List Sample → List Sample
-shown Read samples = samples
-shown Take samples = []
+-- the value that a sample has in a collection before the access is entered: a read copies the kept one, and a take
+-- gives it away when it is entered
+abbrev pub value_for : AccessKind → Kept → List ℕ
+value_for Read k = k.value
+value_for Take k = []
 
--- this is what is there of the collection of these candidates before the access is entered
-abbrev pub IsCollection : AccessKind → List Kept → List Candidate → List Sample → Type 0
-IsCollection kind ks cs collection =
-    (q : ReaderQos) (h : List Happening) → All (IsKept q h) ks → All (IsCandidate q h ks) cs
-    → collection ≡ shown kind (collection_of q h (map sample_in cs))
+-- the same of the sample at a place, if there is one
+abbrev pub value_at : AccessKind → Option Kept → List ℕ
+value_at kind None = []
+value_at kind (Some k) = value_for kind k
+
+-- a candidate as the sample of a collection in which these follow it
+abbrev pub as_sample : AccessKind → List Kept → Candidate → List Candidate → Sample
+as_sample kind ks c later = record {
+  key = c.sample.key;
+  value = value_at kind (slice_get ks c.at);
+  info = with_ranks c.picked (map picked_in later);
+}
+
+-- the collection of candidates, as it is before the access is entered
+abbrev pub collected : AccessKind → List Kept → List Candidate → List Sample
+collected kind ks [] = []
+collected kind ks (c ∷ cs) = as_sample kind ks c cs ∷ collected kind ks cs
 
 -- an access returns what may be returned, and that was found among those that are kept
 pub record IsFoundIn (q : ReaderQos) (h : List Happening) (ks : List Kept) (access : Access) : Type 0 where
@@ -118,29 +132,25 @@ pub record HoldsWithout (q : ReaderQos) (table : Table) (taken : List SamplePosi
   pub returnable : All (IsReturnable q h) taken
   pub left_is : left ≡ without taken ks
 
--- an access that is not refused finds its samples among those that are kept, and has of their collection what is shown
+-- an access that is not refused finds its samples among those that are kept, and has their collection
 pub record IsAccess (kind : AccessKind) (q : ReaderQos) (h : List Happening) (selection : Selection)
     (test : Key → List ℕ → Bool) (ks : List Kept) (access : Access) : Type 0 where
   pub good : selection_refusal q h selection ≡ None
   pub positions_are : access.positions.items ≡ picked_by q h selection test
-  pub collection_is : access.samples.items ≡ shown kind (collection_of q h access.positions.items)
+  pub collection_is : access.samples.items ≡ collected kind ks access.found.items
   pub found : IsFoundIn q h ks access
   pub apart : AreApart access.found.items
 
--- what was gathered for an access that found its samples among n kept ones: for a take there is room for each
-pub record IsGathered (kind : AccessKind) (n : ℕ) (access : Access) : Type 0 where
+-- what was gathered for an access that found its samples among n kept ones
+pub record IsGathered (n : ℕ) (access : Access) : Type 0 where
   pub placed : All (IsPlaced n) access.found.items
   pub same : access.positions.items ≡ map sample_in access.found.items
-  pub infos : access.infos.items ≡ infos_of (map picked_in access.found.items)
-  pub room : kind ≡ Take → vec_len access.samples + length access.found.items ≤ vec_capacity access.samples
+  pub whole : length access.samples.items ≡ length access.found.items
 
--- an access has the whole collection once it is entered
+-- an access has the values of its collection once it is entered
 abbrev pub IsDelivered : AccessKind → List Kept → Access → Access → Type 0
-IsDelivered kind ks old new =
-    AreApart old.found.items → (q : ReaderQos) (h : List Happening) → All (IsKept q h) ks
-    → All (IsCandidate q h ks) old.found.items
-    → old.samples.items ≡ shown kind (collection_of q h (map sample_in old.found.items))
-    → new.samples.items ≡ collection_of q h (map sample_in old.found.items)
+IsDelivered kind ks old new = AreApart old.found.items → old.samples.items ≡ collected kind ks old.found.items
+    → new.samples.items ≡ collected Read ks old.found.items
 
 -- whether there are any of these
 abbrev pub TellsAny : Bool → List SamplePosition → Type 0

@@ -12,7 +12,7 @@ ghost use Rattle.dds_base.specs.Presence.{present_samples};
 ghost use Rattle.std.specs.List.{list_any};
 ghost use Rattle.dds_instances.specs.Table.{Stands};
 ghost use Rattle.dds_cache.specs.Kept.{IsKept, is_live, sample_state_in};
-ghost use Rattle.dds_cache.specs.Finding.{are_asked_for, asks_for, is_sought, is_wanted, passes, described_by, IsSmall, IsPlaced, AreCandidates, Holds, Finds, TellsFound, sample_in, picked_in, handle_in};
+ghost use Rattle.dds_cache.specs.Finding.{are_asked_for, asks_for, is_sought, is_wanted, passes, described_by, IsSmall, IsPlaced, AreCandidates, Holds, Finds, TellsFound, sample_in, handle_in};
 
 use crate::kept::Kept;
 use crate::masks::{asks_for_sample, asks_for_states};
@@ -244,6 +244,7 @@ pub fn find_matching<T: Test>(
     ensures found { IfOk result (λ found. (h : List Happening)
         → Holds qos.now instances.now samples.now h
         → Finds qos.now h masks (T.meaning test.now) samples.now found.items) }
+    ensures sorted { IfOk result (λ found. IsNonDecreasingBy handle_in found.items) }
 {
     let mut found = find_candidates(alloc, instances, qos, masks, test, samples)?;
     sort_by_handle(&mut found)?;
@@ -255,11 +256,4 @@ pub fn positions(alloc: Global, found: &[Candidate]) -> Result<Vec<SamplePositio
     ensures { IfOk result (λ positions. positions.items ≡ map sample_in found.now) }
 {
     found.iter().map(|c| c.sample).collect(alloc)
-}
-
-/// What is known of them before their ranks.
-pub fn descriptions(alloc: Global, found: &[Candidate]) -> Result<Vec<Picked>, AllocError>
-    ensures { IfOk result (λ picked. picked.items ≡ map picked_in found.now) }
-{
-    found.iter().map(|c| c.picked).collect(alloc)
 }

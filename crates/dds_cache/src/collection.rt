@@ -2,76 +2,77 @@
 //!
 //! DDS 1.4, 2.2.2.5 (SampleInfo: ranks).
 
-ghost use Rattle.std.specs.Prelude.{◌≡◌, ◌≢◌, ◌<◌, ◌≤◌, ◌+◌, ◌++◌, ◌∷◌, [], vec_len, vec_capacity, length, map, All, IfOk, IfErr, OnErr};
+ghost use Rattle.std.specs.Prelude.{◌≡◌, ◌≢◌, ◌<◌, ◌^◌, ◌∷◌, [], List, length, map, slice_get, All, IfOk, IfErr, OnErr, Some, vec_len, vec_capacity};
+ghost use Rattle.std.specs.List.Sorted.{IsNonDecreasingBy};
 ghost use Rattle.dds_base.specs.declared.code.Code.TheVariants.{Memory};
-ghost use Rattle.dds_base.specs.Access.{infos_of};
+ghost use Rattle.dds_base.specs.declared.sample.Picked.{Picked};
+ghost use Rattle.dds_base.specs.Access.{own_generations, with_ranks};
+ghost use Rattle.dds_info.specs.Ranking.{AreTold, StandsBefore};
 ghost use Rattle.dds_cache.specs.declared.access_kind.AccessKind.TheVariants.{Read, Take};
-ghost use Rattle.dds_cache.specs.Finding.{AreApart, AreChanged, IsPlaced, picked_in};
+ghost use Rattle.dds_cache.specs.Finding.{AreApart, AreChanged, IsPlaced, handle_in};
 ghost use Rattle.dds_cache.specs.Kept.{out_if};
-ghost use Rattle.dds_cache.specs.Picking.{IsCollection, IsGathered};
+ghost use Rattle.dds_cache.specs.Picking.{IsGathered, collected, value_for};
 
-use crate::access::{Candidate, descriptions, positions};
+use crate::access::{Candidate, positions};
 use crate::access_kind::AccessKind;
 use crate::kept::Kept;
-use dds_base::{Code, Sample, SampleInfo, SamplePosition};
-use dds_info::fill;
+use dds_base::{Code, Octets, Sample, SamplePosition};
+use dds_info::Ranks;
 use std::alloc::{AllocError, Global};
 
-/// The kept samples with their infos, each with its key and a copy of its value.
-fn valued(
-    alloc: Global,
-    samples: &[Kept],
-    found: &[Candidate],
-    infos: &[SampleInfo],
-) -> Result<Vec<Sample>, AllocError>
-    requires placed { All (IsPlaced (length samples.now)) found.now }
-    requires infos { infos.now ≡ infos_of (map picked_in found.now) }
-    ensures { IfOk result (λ collection. IsCollection Read samples.now found.now collection.items) }
+/// The value that a sample has in a collection before the access is entered: a read copies the kept one, and a take
+/// gives it away when it is entered.
+fn value_of(alloc: Global, kind: AccessKind, kept: &Kept) -> Result<Octets, AllocError>
+    ensures { IfOk result (λ value. value ≡ value_for kind kept.now) }
 {
-    let mut collection = Vec::with_capacity(alloc, found.len())?;
-    for (at, candidate) in found.iter().enumerate() {
-        let value = samples[candidate.at].value.clone()?;
-        collection.push(Sample {
-            key: candidate.sample.key,
-            value,
-            info: infos[at],
-        })?;
+    match kind {
+        AccessKind::Read => kept.value.clone(),
+        AccessKind::Take => Ok(Octets::from_vec(Vec::new(alloc))),
     }
-    Ok(collection)
 }
 
-/// What is there of a collection before the access is entered: of a read its samples, and of a take room for them.
-fn begun(
+/// A candidate as the sample of a collection, with this value, before those that were told.
+fn as_sample(candidate: &Candidate, ranks: &mut Ranks, value: Octets) -> Sample
+    requires small { own_generations candidate.now.picked < 2 ^ 64 }
+    ensures sample { (later : List Picked) → StandsBefore candidate.now.picked later ranks.old
+        → result ≡ record {
+          key = candidate.now.sample.key;
+          value = value;
+          info = with_ranks candidate.now.picked later;
+        } }
+    ensures told { (later : List Picked) → StandsBefore candidate.now.picked later ranks.old
+        → AreTold (candidate.now.picked ∷ later) ranks.new }
+{
+    Sample {
+        key: candidate.sample.key,
+        value,
+        info: ranks.precede(&candidate.picked),
+    }
+}
+
+/// The collection of candidates that stand by handle, as it is before an access of this kind is entered. It goes over
+/// them from the last one to the first, as their ranks are told.
+fn collect(
     alloc: Global,
     kind: AccessKind,
     samples: &[Kept],
     found: &[Candidate],
-    infos: &[SampleInfo],
 ) -> Result<Vec<Sample>, AllocError>
     requires placed { All (IsPlaced (length samples.now)) found.now }
-    requires infos { infos.now ≡ infos_of (map picked_in found.now) }
-    ensures shown { IfOk result
-        (λ collection. IsCollection kind samples.now found.now collection.items) }
-    ensures room { IfOk result (λ collection. kind ≡ Take
-        → vec_len collection + length found.now ≤ vec_capacity collection) }
+    requires sorted { IsNonDecreasingBy handle_in found.now }
+    ensures { IfOk result
+        (λ collection. collection.items ≡ collected kind samples.now found.now) }
 {
-    match kind {
-        AccessKind::Read => valued(alloc, samples, found, infos),
-        AccessKind::Take => Vec::with_capacity(alloc, found.len()),
+    let mut collection = Vec::with_capacity(alloc, found.len())?;
+    let mut ranks = Ranks::new();
+    let count = found.len();
+    for done in 0..count {
+        let candidate = &found[count - 1 - done];
+        let value = value_of(alloc, kind, &samples[candidate.at])?;
+        collection.push(as_sample(candidate, &mut ranks, value))?;
     }
-}
-
-/// Adds a sample to a collection, in the room that there is.
-fn put(collection: &mut Vec<Sample>, sample: Sample)
-    requires room { vec_len collection.old < vec_capacity collection.old }
-    ensures items { collection.new.items ≡ collection.old.items ++ sample ∷ [] }
-    ensures len { vec_len collection.new ≡ vec_len collection.old + 1 }
-    ensures capacity { vec_capacity collection.old ≤ vec_capacity collection.new }
-{
-    if collection.push(sample).is_err() {
-        // Room was made.
-        unreachable!();
-    }
+    collection.reverse();
+    Ok(collection)
 }
 
 /// Takes the values of the picked samples out, each from its place, into the collection.
@@ -79,28 +80,20 @@ pub fn take_out(
     alloc: Global,
     samples: &mut Vec<Kept>,
     found: &[Candidate],
-    infos: &[SampleInfo],
     collection: &mut Vec<Sample>,
 )
     requires placed { All (IsPlaced (length samples.old.items)) found.now }
-    requires infos { infos.now ≡ infos_of (map picked_in found.now) }
-    requires room { vec_len collection.old + length found.now ≤ vec_capacity collection.old }
+    requires whole { length collection.old.items ≡ length found.now }
     ensures items { AreChanged out_if found.now samples.old.items samples.new.items }
-    ensures taken { collection.old.items ≡ [] → AreApart found.now
-        → IsCollection Read samples.old.items found.now collection.new.items }
+    ensures taken { AreApart found.now
+        → collection.old.items ≡ collected Take samples.old.items found.now
+        → collection.new.items ≡ collected Read samples.old.items found.now }
     ensures len { vec_len samples.new ≡ vec_len samples.old }
     ensures capacity { vec_capacity samples.new ≡ vec_capacity samples.old }
 {
     for (at, candidate) in found.iter().enumerate() {
         let value = samples[candidate.at].take_out(alloc);
-        put(
-            collection,
-            Sample {
-                key: candidate.sample.key,
-                value,
-                info: infos[at],
-            },
-        );
+        collection[at].value = value;
     }
 }
 
@@ -111,9 +104,7 @@ pub struct Access {
     pub positions: Vec<SamplePosition>,
     /// The same, as they were found among those that are kept.
     pub found: Vec<Candidate>,
-    /// Their infos.
-    pub infos: Vec<SampleInfo>,
-    /// Their collection: of a take it is empty before that is entered.
+    /// Their collection: that of a take has no values before it is entered.
     pub samples: Vec<Sample>,
 }
 
@@ -122,28 +113,27 @@ impl Access {
     pub fn nothing(alloc: Global) -> Access
         ensures positions { result.positions.items ≡ [] }
         ensures found { result.found.items ≡ [] }
-        ensures infos { result.infos.items ≡ [] }
         ensures samples { result.samples.items ≡ [] }
     {
         Access {
             positions: Vec::new(alloc),
             found: Vec::new(alloc),
-            infos: Vec::new(alloc),
             samples: Vec::new(alloc),
         }
     }
 }
 
-/// The collection of an access, by what is kept, and the same once more. Where there is nothing it takes no memory.
+/// The collection of what a read would return, by what is kept, and the same once more. Where there is nothing it takes
+/// no memory.
 pub fn twice(
     alloc: Global,
     samples: &[Kept],
     access: &Access,
 ) -> Result<(Vec<Sample>, Vec<Sample>), Code>
     requires placed { All (IsPlaced (length samples.now)) access.now.found.items }
-    requires infos { access.now.infos.items ≡ infos_of (map picked_in access.now.found.items) }
+    requires sorted { IsNonDecreasingBy handle_in access.now.found.items }
     ensures same { IfOk result
-        (λ twice. IsCollection Read samples.now access.now.found.items twice.0.items) }
+        (λ twice. twice.0.items ≡ collected Read samples.now access.now.found.items) }
     ensures equal { IfOk result (λ twice. twice.1.items ≡ twice.0.items) }
     ensures memory { IfErr result (λ e. e ≡ Memory) }
     ensures some { OnErr result (access.now.found.items ≢ []) }
@@ -151,12 +141,12 @@ pub fn twice(
     if access.found.is_empty() {
         return Ok((Vec::new(alloc), Vec::new(alloc)));
     }
-    let first = valued(alloc, samples, &access.found, &access.infos)?;
+    let first = collect(alloc, AccessKind::Read, samples, &access.found)?;
     let second = first.clone()?;
     Ok((first, second))
 }
 
-/// What an access of this kind returns that picked these.
+/// What an access of this kind returns that picked these, which stand by handle.
 pub fn gather(
     alloc: Global,
     kind: AccessKind,
@@ -164,20 +154,18 @@ pub fn gather(
     found: Vec<Candidate>,
 ) -> Result<Access, Code>
     requires placed { All (IsPlaced (length samples.now)) found.items }
+    requires sorted { IsNonDecreasingBy handle_in found.items }
     ensures found { IfOk result (λ access. access.found.items ≡ found.items) }
-    ensures gathered { IfOk result (λ access. IsGathered kind (length samples.now) access) }
+    ensures gathered { IfOk result (λ access. IsGathered (length samples.now) access) }
     ensures samples { IfOk result
-        (λ access. IsCollection kind samples.now found.items access.samples.items) }
+        (λ access. access.samples.items ≡ collected kind samples.now found.items) }
     ensures memory { IfErr result (λ e. e ≡ Memory) }
 {
-    let picked = descriptions(alloc, &found)?;
-    let infos = fill(alloc, &picked)?;
-    let collection = begun(alloc, kind, samples, &found, &infos)?;
+    let collection = collect(alloc, kind, samples, &found)?;
     let positions = positions(alloc, &found)?;
     Ok(Access {
         positions,
         found,
-        infos,
         samples: collection,
     })
 }

@@ -64,7 +64,7 @@ pub fn enter_access(
     access: &mut Access,
 )
     requires entry { (1 ≤ room_of instances.old) ⊎ (happened_of instances.old + 1 < 2 ^ 64) }
-    requires gathered { IsGathered kind (length samples.old.items) access.old }
+    requires gathered { IsGathered (length samples.old.items) access.old }
     requires counted { IsCounted samples.old.items counts.old }
     ensures holds { (h : List Happening)
         → HoldsFound qos.now instances.old samples.old.items access.old h

@@ -3,13 +3,14 @@
 //! DDS 1.4, 2.2.2.5 (read, take, and their instance, next-instance and next-sample forms).
 
 ghost use Rattle.std.specs.Prelude.{◌≡◌, ℕ, List, length, filter, All, IfOk, IfErr, None};
+ghost use Rattle.std.specs.List.Sorted.{IsNonDecreasingBy};
 ghost use Rattle.dds_base.specs.declared.happening.Happening.{Happening};
 ghost use Rattle.dds_base.specs.declared.qos.ReaderQos.{ReaderQos};
 ghost use Rattle.dds_base.specs.Access.{at_most};
 ghost use Rattle.dds_base.specs.Refusal.{Refuses};
 ghost use Rattle.dds_base.specs.Selection.{picked_by, selection_refusal};
 ghost use Rattle.dds_instances.specs.Table.{Stands};
-ghost use Rattle.dds_cache.specs.Finding.{Finds, Holds, IsPlaced, IsSmall};
+ghost use Rattle.dds_cache.specs.Finding.{Finds, Holds, IsPlaced, IsSmall, handle_in};
 ghost use Rattle.dds_cache.specs.Kept.{IsCounted};
 ghost use Rattle.dds_cache.specs.Picking.{IsLimit, IsRequestWith, IsRequest, Picks, TellsAny, test_in};
 ghost use Rattle.dds_cache.specs.Picking.{has_handle, first_above, of_selection};
@@ -136,6 +137,7 @@ fn find_asked<T: Test>(
         → Holds qos.now instances.now samples.now h
         → Finds qos.now h masks (test_in selection.now (T.meaning test.now)) samples.now
         found.items) }
+    ensures sorted { IfOk result (λ found. IsNonDecreasingBy handle_in found.items) }
 {
     match *selection {
         Selection::NextSample => {
@@ -202,6 +204,7 @@ pub fn pick<T: Test>(
     ensures picks { IfOk result (λ found. (h : List Happening)
         → Holds qos.now instances.now samples.now h
         → Picks qos.now h selection (T.meaning test.now) samples.now found.items) }
+    ensures sorted { IfOk result (λ found. IsNonDecreasingBy handle_in found.items) }
     ensures refused { IfErr result (λ e. (h : List Happening) → Stands qos.now instances.now h
         → Refuses (selection_refusal qos.now h selection) e) }
 {

@@ -12,6 +12,8 @@ ghost use Rattle.dds_base.specs.Presence.{has_room};
 ghost use Rattle.dds_base.specs.Refusal.{Refuses};
 ghost use Rattle.dds_base.specs.Selection.{selection_refusal};
 ghost use Rattle.dds_base.specs.StatusFlags.{data_available_at};
+ghost use Rattle.std.specs.List.Sorted.{IsNonDecreasingBy};
+ghost use Rattle.dds_cache.specs.Finding.{handle_in};
 ghost use Rattle.dds_cache.specs.Picking.{IsAccess, IsDelivered, IsFoundIn, IsGathered};
 ghost use Rattle.dds_cache.specs.Standing.{deaths_of, picked, qos_of, room_of, StandsFor, entry_of};
 ghost use Rattle.dds_cache.specs.Standing.{AccessAnswers, AfterAccess, MakesRoom, TakesEntry};
@@ -383,8 +385,8 @@ impl ReaderCache {
         ensures found { IfOk result (λ access. (h : List Happening) → StandsFor self.now h
             → IsAccess kind (qos_of self.now) h selection (T.meaning test.now) self.now.samples
             access) }
-        ensures gathered { IfOk result
-            (λ access. IsGathered kind (length self.now.samples) access) }
+        ensures gathered { IfOk result (λ access. IsGathered (length self.now.samples) access) }
+        ensures sorted { IfOk result (λ access. IsNonDecreasingBy handle_in access.found.items) }
         ensures refused { IfErr result (λ e. (h : List Happening) → StandsFor self.now h
             → Refuses (selection_refusal (qos_of self.now) h selection) e) }
     {
@@ -415,8 +417,8 @@ impl ReaderCache {
         ensures found { IfOk result (λ access. (h : List Happening) → StandsFor self.now h
             → IsAccess kind (qos_of self.now) h selection (T.meaning test.now) self.now.samples
             access) }
-        ensures gathered { IfOk result
-            (λ access. IsGathered kind (length self.now.samples) access) }
+        ensures gathered { IfOk result (λ access. IsGathered (length self.now.samples) access) }
+        ensures sorted { IfOk result (λ access. IsNonDecreasingBy handle_in access.found.items) }
         ensures refused { IfErr result (λ e. (h : List Happening) → StandsFor self.now h
             → Refuses (selection_refusal (qos_of self.now) h selection) e) }
         ensures some { IfErr result (λ e. (h : List Happening) → StandsFor self.now h
@@ -437,7 +439,7 @@ impl ReaderCache {
 
     /// Takes up that an access of this kind returned what it found, which is whole then.
     fn enter(&mut self, kind: AccessKind, access: &mut Access) -> Result<(), Code>
-        requires gathered { IsGathered kind (length self.old.samples) access.old }
+        requires gathered { IsGathered (length self.old.samples) access.old }
         ensures ok { OnOk result ((h : List Happening) → StandsFor self.old h
             → IsFoundIn (qos_of self.old) h self.old.samples access.old
             → StandsFor self.new (entry_of kind access.old.positions.items ∷ h)) }

@@ -40,7 +40,7 @@ fn remove_out(samples: &mut Vec<Kept>)
 
 /// Takes out what a take returns: the samples go, and their values are its collection's.
 fn remove(alloc: Global, samples: &mut Vec<Kept>, access: &mut Access)
-    requires gathered { IsGathered Take (length samples.old.items) access.old }
+    requires gathered { IsGathered (length samples.old.items) access.old }
     ensures items { (ss : List Position) → AreAt ss access.old.found.items samples.old.items
         → All IsIn samples.old.items
         → samples.new.items ≡ without ss samples.old.items }
@@ -50,13 +50,7 @@ fn remove(alloc: Global, samples: &mut Vec<Kept>, access: &mut Access)
     ensures len { vec_len samples.new ≤ vec_len samples.old }
     ensures capacity { vec_capacity samples.old ≤ vec_capacity samples.new }
 {
-    take_out(
-        alloc,
-        samples,
-        &access.found,
-        &access.infos,
-        &mut access.samples,
-    );
+    take_out(alloc, samples, &access.found, &mut access.samples);
     remove_out(samples);
 }
 
@@ -68,7 +62,7 @@ pub fn settle(
     counts: &mut Counts,
     access: &mut Access,
 )
-    requires gathered { IsGathered kind (length samples.old.items) access.old }
+    requires gathered { IsGathered (length samples.old.items) access.old }
     requires counted { IsCounted samples.old.items counts.old }
     ensures items { (ss : List Position) → AreAt ss access.old.found.items samples.old.items
         → All IsIn samples.old.items → samples.new.items ≡ settled kind ss samples.old.items }

@@ -1,17 +1,15 @@
-use Rattle.std.proofs.Common.{◌<◌, ◌^◌, List, length, map, sym, ap, ◌∙◌, subst}
-use Rattle.std.specs.List.{All}
-use Rattle.dds_base.specs.declared.sample.Picked.{Picked}
-use Rattle.dds_base.specs.Access.{own_generations}
+use Rattle.std.proofs.Common.{List, length, map, ap, ◌∙◌}
 use Rattle.dds_cache.specs.declared.access.Candidate.{Candidate}
-use Rattle.dds_cache.specs.Finding.{picked_in}
-use Rattle.dds_cache.proofs.CollectionLaws.{described-small}
+use Rattle.dds_cache.specs.Finding.{sample_in}
+use Rattle.dds_cache.proofs.CollectionLaws.{length-collected}
 use Rattle.dds_cache.proofs.collection.gather.Goals as goal
 
-pub fill-requires : goal.fill-requires
-fill-requires c = record {
-  small =
-      subst (λ (ps : List Picked). All (λ (p : Picked). own_generations p < 2 ^ 64) ps)
-      (sym (c.deref-2.ensures.value
-      ∙ (c.in_ok-picked.ensures ∙ ap (λ (cs : List Candidate). map picked_in cs) c.deref.ensures.value)))
-      (described-small (length c.args.samples.now) c.args.found.items c.requires.placed);
+pub returns-clause-gathered : goal.returns-clause-gathered
+returns-clause-gathered c = record {
+  placed = c.requires.placed;
+  same = c.in_ok-positions.ensures ∙ ap (λ (cs : List Candidate). map sample_in cs) c.deref-2.ensures.value;
+  whole =
+      ap length c.in_ok-collection.ensures
+      ∙ (length-collected c.args.kind c.args.samples.now c.deref.result.now
+      ∙ ap (λ (cs : List Candidate). length cs) c.deref.ensures.value);
 }

@@ -1,12 +1,11 @@
--- the samples so far and those that are left are the collection, and those so far are taken out
-use Rattle.std.proofs.Common.{◌≡◌, ◌+◌, ◌≤◌, ◌++◌, List, [], length, map, drop, take}
-use Rattle.std.specs.Prelude.{vec_len, vec_capacity}
-use Rattle.std.specs.List.{All}
-use Rattle.dds_base.specs.declared.happening.Happening.{Happening}
-use Rattle.dds_base.specs.declared.qos.ReaderQos.{ReaderQos}
-use Rattle.dds_base.specs.Access.{collection_of}
-use Rattle.dds_cache.specs.Kept.{IsKept, out_if}
-use Rattle.dds_cache.specs.Finding.{AreApart, AreChanged, IsCandidate, sample_in}
+-- the values of the candidates so far are taken out, and are those of the collection
+use Rattle.std.proofs.Common.{◌≡◌, ℕ, ◌<◌, length, take, get_or}
+use Rattle.std.specs.Prelude.{vec_len, vec_capacity, nat_lt, if◌then◌else◌}
+use Rattle.dds_base.specs.declared.sample.Sample.{Sample}
+use Rattle.dds_cache.specs.declared.access_kind.AccessKind.TheVariants.{Read, Take}
+use Rattle.dds_cache.specs.Kept.{out_if}
+use Rattle.dds_cache.specs.Finding.{AreApart, AreChanged}
+use Rattle.dds_cache.specs.Picking.{collected}
 use Rattle.dds_cache.proofs.collection.take_out.Given as goal
 
 abbrev pub invariant-loop-at : goal.invariant-loop-at
@@ -14,9 +13,10 @@ invariant-loop-at l = record {
   done : AreChanged out_if (take l.at l.found) l.fn.samples.items l.samples.items;
   len : vec_len l.samples ≡ vec_len l.fn.samples;
   capacity : vec_capacity l.samples ≡ vec_capacity l.fn.samples;
-  room : vec_len l.collection + length l.found ≤ vec_capacity l.collection + l.at;
-  so_far : l.fn.collection.items ≡ [] → AreApart l.found → (q : ReaderQos) (h : List Happening)
-      → All (IsKept q h) l.fn.samples.items → All (IsCandidate q h l.fn.samples.items) l.found
-      → l.collection.items ++ collection_of q h (map sample_in (drop l.at l.found))
-      ≡ collection_of q h (map sample_in l.found);
+  whole : length l.collection.items ≡ length l.found;
+  so_far : AreApart l.found → l.fn.collection.items ≡ collected Take l.fn.samples.items l.found
+      → (k : ℕ) (d : Sample) → k < length l.found
+      → get_or l.collection.items k d
+      ≡ get_or (if nat_lt k l.at then collected Read l.fn.samples.items l.found
+      else collected Take l.fn.samples.items l.found) k d;
 }

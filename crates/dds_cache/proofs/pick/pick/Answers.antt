@@ -1,12 +1,14 @@
-use Rattle.std.proofs.Common.{List, length, sym, subst}
+use Rattle.std.proofs.Common.{List, [], length, sym, subst, arith}
 use Rattle.std.specs.List.{All}
+use Rattle.std.specs.List.Sorted.{IsNonDecreasingBy}
+use Rattle.std.proofs.lemmas.List.Sorted.{IsNonDecreasingBy-short}
 use Rattle.std.proofs.lemmas.List.Elements.{All-nil}
 use Rattle.dds_cache.specs.declared.access.Candidate.{Candidate}
-use Rattle.dds_cache.specs.Finding.{IsPlaced}
+use Rattle.dds_cache.specs.Finding.{IsPlaced, handle_in}
 use Rattle.dds_cache.specs.Picking.{Picks, test_in}
 use Rattle.dds_cache.proofs.AnyLaws.{picks-none}
 use Rattle.dds_cache.proofs.CountLaws.{unsought}
-use Rattle.dds_cache.proofs.PickLaws.{picked, picked-all}
+use Rattle.dds_cache.proofs.PickLaws.{picked, picked-all, picked-sorted}
 use Rattle.dds_cache.proofs.pick.pick.Goals as goal
 
 pub returns-then-is_none_asked-clause-placed : goal.returns-then-is_none_asked-clause-placed
@@ -38,3 +40,13 @@ returns-clause-picks g c = λ h holds.
     (g.T.Test.meaning c.args.test.now) c.in_ok-request.request.masks c.in_ok-request.request.limit
     c.args.samples.now c.in_ok-found.found.items c.restrict.new.found.items c.cut_to.new.found.items asked.0 asked.1
     asked.2 (c.in_ok-found.ensures.found h holds) c.restrict.ensures c.cut_to.ensures
+
+pub returns-then-is_none_asked-clause-sorted : goal.returns-then-is_none_asked-clause-sorted
+returns-then-is_none_asked-clause-sorted g c =
+    subst (λ (cs : List Candidate). IsNonDecreasingBy handle_in cs) (sym c.new.ensures.items)
+    (IsNonDecreasingBy-short handle_in [] (omega arith))
+
+pub returns-clause-sorted : goal.returns-clause-sorted
+returns-clause-sorted g c =
+    picked-sorted c.args.selection c.in_ok-request.request.limit c.in_ok-found.found.items
+    c.restrict.new.found.items c.cut_to.new.found.items c.restrict.ensures c.cut_to.ensures c.in_ok-found.ensures.sorted

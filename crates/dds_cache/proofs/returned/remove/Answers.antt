@@ -1,10 +1,11 @@
-use Rattle.std.proofs.Common.{List, map, not, filter, sym, ap, ◌∙◌, subst}
+use Rattle.std.proofs.Common.{List, not, filter, sym, ap, ◌∙◌, subst}
 use Rattle.std.specs.List.{All}
 use Rattle.std.proofs.lemmas.List.Elements.{All-filter}
-use Rattle.dds_base.specs.Access.{collection_of}
+use Rattle.dds_cache.specs.declared.access_kind.AccessKind.TheVariants.{Read, Take}
+use Rattle.dds_cache.specs.Picking.{collected}
 use Rattle.dds_cache.specs.declared.access.Candidate.{Candidate}
 use Rattle.dds_cache.specs.declared.kept.Kept.{Kept}
-use Rattle.dds_cache.specs.Finding.{AreApart, AreChanged, IsCandidate, IsSmall, sample_in}
+use Rattle.dds_cache.specs.Finding.{AreApart, AreChanged, IsSmall}
 use Rattle.dds_cache.specs.Kept.{out_if}
 use Rattle.dds_cache.proofs.PlaceLaws.{changed-among, removed-among, small-changed}
 use Rattle.dds_cache.proofs.returned.remove.Goals as goal
@@ -28,8 +29,8 @@ returns-clause-small c = λ small.
     c.take_out.ensures.items small))
 
 pub returns-clause-delivered : goal.returns-clause-delivered
-returns-clause-delivered c = λ apart q h kept each empty.
+returns-clause-delivered c = λ apart gathered.
     let ks : List Kept = c.args.samples.now.items in
-    c.take_out.ensures.taken empty (subst AreApart (sym c.deref.ensures.value) apart) q h kept
-    (subst (λ (cs : List Candidate). All (IsCandidate q h ks) cs) (sym c.deref.ensures.value) each)
-    ∙ ap (λ (cs : List Candidate). collection_of q h (map sample_in cs)) c.deref.ensures.value
+    c.take_out.ensures.taken (subst AreApart (sym c.deref.ensures.value) apart)
+    (gathered ∙ ap (λ (cs : List Candidate). collected Take ks cs) (sym c.deref.ensures.value))
+    ∙ ap (λ (cs : List Candidate). collected Read ks cs) c.deref.ensures.value

@@ -1,14 +1,13 @@
-use Rattle.std.proofs.Common.{◌≡◌, Global, List, Vec, [], ◌∷◌, length, sym, ap, ◌∙◌, subst, map, arith, refl}
+use Rattle.std.proofs.Common.{◌≡◌, Global, List, Vec, [], ◌∷◌, length, sym, ap, ◌∙◌, subst, arith, refl}
 use Rattle.std.proofs.lemmas.Bool.Decides.{nat_tests}
-use Rattle.dds_cache.specs.declared.access_kind.AccessKind.TheVariants.{Read, Take}
+use Rattle.dds_cache.specs.declared.access_kind.AccessKind.TheVariants.{Read}
 use Rattle.dds_base.specs.declared.sample.Sample.{Sample}
 use Rattle.dds_cache.specs.declared.access_kind.AccessKind.{AccessKind}
-use Rattle.dds_base.specs.Access.{collection_of}
 use Rattle.dds_cache.specs.declared.access.Candidate.{Candidate}
 use Rattle.dds_cache.specs.declared.collection.Access.{Access}
 use Rattle.dds_cache.specs.declared.kept.Kept.{Kept}
-use Rattle.dds_cache.specs.Finding.{AreAt, AreChanged, sample_in}
-use Rattle.dds_cache.specs.Picking.{shown}
+use Rattle.dds_cache.specs.Finding.{AreAt, AreChanged}
+use Rattle.dds_cache.specs.Picking.{collected}
 use Rattle.dds_cache.specs.Kept.{read_if}
 use Rattle.dds_cache.specs.Settling.{settled}
 use Rattle.dds_cache.proofs.PlaceLaws.{changed-among, settled-none}
@@ -20,11 +19,6 @@ no-items : (cs : List Candidate) → length cs ≡ 0 → cs ≡ []
 no-items [] e = refl
 no-items (c ∷ cs) e = absurd (omega (arith, e))
 
--- nothing is shown where nothing is picked
-shown-none : (kind : AccessKind) → shown kind [] ≡ []
-shown-none Read = refl
-shown-none Take = refl
-
 pub returns-then-is_empty-clause-items : goal.returns-then-is_empty-clause-items
 returns-then-is_empty-clause-items c = λ ss at_places all.
     let none : length c.args.access.now.found.items ≡ 0 =
@@ -34,13 +28,14 @@ returns-then-is_empty-clause-items c = λ ss at_places all.
     (subst (λ (cs : List Candidate). AreAt ss cs c.args.samples.now.items) empty at_places))
 
 pub returns-then-is_empty-clause-delivered : goal.returns-then-is_empty-clause-delivered
-returns-then-is_empty-clause-delivered c = λ apart q h kept each shown_is.
+returns-then-is_empty-clause-delivered c = λ apart gathered.
+    let ks : List Kept = c.args.samples.now.items in
     let none : length c.args.access.now.found.items ≡ 0 =
     grind (arith, nat_tests, c.args.access.now.found.ok.0, c.is_empty.ensures, c.if-is_empty.true) in
     let empty : c.args.access.now.found.items ≡ [] = no-items c.args.access.now.found.items none in
-    shown_is
-    ∙ (ap (λ (cs : List Candidate). shown c.args.kind (collection_of q h (map sample_in cs))) empty
-    ∙ (shown-none c.args.kind ∙ ap (λ (cs : List Candidate). collection_of q h (map sample_in cs)) (sym empty)))
+    gathered
+    ∙ (ap (λ (cs : List Candidate). collected c.args.kind ks cs) empty
+    ∙ ap (λ (cs : List Candidate). collected Read ks cs) (sym empty))
 
 pub returns-clause-items : goal.returns-clause-items
 returns-clause-items c = λ ss at_places all.
@@ -59,15 +54,12 @@ returns-clause-items c = λ ss at_places all.
     ]
 
 pub returns-clause-delivered : goal.returns-clause-delivered
-returns-clause-delivered c = λ apart q h kept each shown_is. elim c.match-kind.branch [
-  | in-Read w ↦
-      ap (λ (a : Access). a.samples.items) w.access-is
-      ∙ (shown_is
-      ∙ ap (λ (kind : AccessKind). shown kind (collection_of q h (map sample_in c.args.access.now.found.items)))
-      w.in-Read.is)
-  | in-Take w ↦
-      ap (λ (a : Access). a.samples.items) w.access-is
-      ∙ w.remove.ensures.delivered apart q h kept each (shown_is
-      ∙ ap (λ (kind : AccessKind). shown kind (collection_of q h (map sample_in c.args.access.now.found.items)))
-      w.in-Take.is)
-]
+returns-clause-delivered c = λ apart gathered.
+    let collection : AccessKind → List Sample =
+    λ kind. collected kind c.args.samples.now.items c.args.access.now.found.items in
+    elim c.match-kind.branch [
+      | in-Read w ↦ ap (λ (a : Access). a.samples.items) w.access-is ∙ (gathered ∙ ap collection w.in-Read.is)
+      | in-Take w ↦
+          ap (λ (a : Access). a.samples.items) w.access-is
+          ∙ w.remove.ensures.delivered apart (gathered ∙ ap collection w.in-Take.is)
+    ]

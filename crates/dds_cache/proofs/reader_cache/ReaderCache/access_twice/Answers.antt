@@ -17,6 +17,7 @@ use Rattle.dds_cache.specs.Picking.{IsAccess}
 use Rattle.std.proofs.lemmas.Bool.Decides.{nat_tests}
 use Rattle.dds_cache.specs.Standing.{Stored, picked, qos_of}
 use Rattle.dds_cache.proofs.AnyLaws.{refused-twice}
+use Rattle.dds_cache.proofs.CollectionLaws.{collected-is}
 use Rattle.dds_cache.proofs.reader_cache.ReaderCache.access_twice.Goals as goal
 
 pub returns-in_err-found-clause-answer : goal.returns-in_err-found-clause-answer
@@ -55,7 +56,7 @@ returns-clause-answer g c = λ h stands.
     let count : ℕ = length c.enter.new.access.positions.items in
     let told = answered (count == 0) c.in_ok-samples.samples c.in_ok-first.first.items c.in_ok-samples.ensures in
     let first : c.in_ok-first.first.items ≡ collection_of q h (map sample_in cs) =
-    c.in_ok-first.ensures.same q h kept found in
+    c.in_ok-first.ensures.same ∙ collected-is q h c.deref.result.now cs kept found in
     let some : picked c.args.self.now h c.args.selection (g.T.Test.meaning c.args.test.now) ≢ [] = λ none.
     let empty : count ≡ 0 = ap (λ (v : Vec SamplePosition Global). length v.items) c.enter.ensures.positions
     ∙ ap length (is.positions_are ∙ none) in

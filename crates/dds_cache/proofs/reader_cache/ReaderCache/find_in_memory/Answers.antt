@@ -1,12 +1,10 @@
 use Rattle.std.proofs.Common.{List, ◌≡◌, sym, subst, ap, ◌∙◌, map, arith, Option, None, [], ◌∷◌, length, refl}
-use Rattle.std.specs.List.{All}
 use Rattle.dds_base.specs.declared.happening.Happening.{Happening}
 use Rattle.dds_base.specs.declared.qos.ReaderQos.{ReaderQos}
 use Rattle.dds_cache.specs.declared.kept.Kept.{Kept}
 use Rattle.dds_cache.specs.declared.access.Candidate.{Candidate}
-use Rattle.dds_cache.specs.Kept.{IsKept}
-use Rattle.dds_cache.specs.Finding.{IsCandidate, Holds, sample_in}
-use Rattle.dds_cache.specs.Picking.{Picks, IsAccess}
+use Rattle.dds_cache.specs.Finding.{Holds, sample_in}
+use Rattle.dds_cache.specs.Picking.{Picks, IsAccess, collected}
 use Rattle.dds_cache.specs.Standing.{Stored, StandsFor, qos_of}
 use Rattle.dds_cache.specs.Sound.{stored_of}
 use Rattle.std.specs.Result.{IfErr}
@@ -79,12 +77,10 @@ returns-clause-found g c = λ h stands.
     let picks : Picks q h c.args.selection (g.T.Test.meaning c.args.test.now) ks cs =
     subst (λ (xs : List Kept). Picks q h c.args.selection (g.T.Test.meaning c.args.test.now) xs cs)
     c.deref.ensures.value (c.in_ok-found.ensures.picks h holding) in
-    let kept : All (IsKept q h) c.deref-2.result.now =
-    subst (λ (xs : List Kept). All (IsKept q h) xs) (sym c.deref-2.ensures.value) old.each in
-    let each : All (IsCandidate q h c.deref-2.result.now) cs =
-    subst (λ (xs : List Kept). All (IsCandidate q h xs) cs) (sym c.deref-2.ensures.value) picks.each in
     subst (λ (t : Stored). IsAccess c.args.kind t.qos h c.args.selection (g.T.Test.meaning c.args.test.now) t.samples
     c.in_ok-access.access) c.self.view_is
     (accessed c.args.kind (stored_of c.self.inside) h c.args.selection
     (g.T.Test.meaning c.args.test.now) cs c.in_ok-access.access old picks c.in_ok-access.ensures.found
-    c.in_ok-access.ensures.gathered.same (c.in_ok-access.ensures.samples q h kept each))
+    c.in_ok-access.ensures.gathered.same
+    (c.in_ok-access.ensures.samples
+    ∙ ap (λ (xs : List Kept). collected c.args.kind xs cs) c.deref-2.ensures.value))
