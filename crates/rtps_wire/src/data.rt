@@ -10,7 +10,9 @@ ghost use Rattle.dds_base.specs.DatumText.{IsDatum};
 ghost use Rattle.rtps_wire.specs.Data.{IsData, IsBody, IsContent, IsStrength, content_flags, strength_text, sentinel_text, text_of_write, text_of_end, text_of_content, text_of_data};
 ghost use Rattle.rtps_wire.specs.DataAt.{data_head_at, shown_key_at, ended_at, body_by, body_at, inline_at, data_at};
 
-use crate::field::{Ids, MAX_SN, has_flag, order_of, put_ids, put_u16, put_u64, take_ids, take_sn};
+use crate::field::{
+    Ids, MAX_SN, has_flag, order_of, put_ids, put_u16s, put_u64, take_ids, take_sn,
+};
 use crate::names::{
     EXTRA_FLAGS, FLAG_DATA, FLAG_ENDIANNESS, FLAG_INLINE_QOS, FLAG_KEY, FLAG_NON_STANDARD,
     LEAST_OCTETS_TO_INLINE_QOS, LEN_DATUM_HEAD, LEN_KEY_FORM, LEN_PARAMETER_HEAD, LEN_PARAMETERS,
@@ -265,8 +267,7 @@ pub fn put_data(out: &mut Vec<u8>, d: &Data) -> Result<(), Code>
     ensures ok { OnOk result (out.new.items ≡ out.old.items ++ text_of_data d.now) }
     ensures memory { IfErr result (λ e. e ≡ Code.Memory) }
 {
-    put_u16(out, EXTRA_FLAGS)?;
-    put_u16(out, LEAST_OCTETS_TO_INLINE_QOS)?;
+    put_u16s(out, EXTRA_FLAGS, LEAST_OCTETS_TO_INLINE_QOS)?;
     put_ids(out, &d.reader_id, &d.writer_id)?;
     put_u64(out, d.writer_sn.number())?;
     put_content(out, &d.content)

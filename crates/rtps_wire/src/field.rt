@@ -101,12 +101,13 @@ pub fn take_count(order: Endianness, bytes: &[u8]) -> Option<(i32, &[u8])>
     Some((count.cast_signed(), rest))
 }
 
-/// A number of two octets.
-pub fn put_u16(out: &mut Vec<u8>, n: u16) -> Result<(), Code>
-    ensures ok { OnOk result (out.new.items ≡ out.old.items ++ number Little w16 n) }
+/// Two numbers of two octets.
+pub fn put_u16s(out: &mut Vec<u8>, first: u16, second: u16) -> Result<(), Code>
+    ensures ok { OnOk result
+        (out.new.items ≡ out.old.items ++ (number Little w16 first ++ number Little w16 second)) }
     ensures memory { IfErr result (λ e. e ≡ Code.Memory) }
 {
-    out.extend_from_slice(&n.to_le_bytes())?;
+    out.extend_from_slice([first.to_le_bytes(), second.to_le_bytes()].as_flattened())?;
     Ok(())
 }
 
@@ -115,8 +116,7 @@ pub fn put_ids(out: &mut Vec<u8>, reader: &EntityId, writer: &EntityId) -> Resul
     ensures ok { OnOk result (out.new.items ≡ out.old.items ++ (reader.now.0 ++ writer.now.0)) }
     ensures memory { IfErr result (λ e. e ≡ Code.Memory) }
 {
-    out.extend_from_slice(&reader.0)?;
-    out.extend_from_slice(&writer.0)?;
+    out.extend_from_slice([reader.0, writer.0].as_flattened())?;
     Ok(())
 }
 
@@ -127,8 +127,7 @@ pub fn put_u64(out: &mut Vec<u8>, number: u64) -> Result<(), Code>
 {
     let high = (number / HALF_RANGE) as u32;
     let low = (number % HALF_RANGE) as u32;
-    out.extend_from_slice(&high.to_le_bytes())?;
-    out.extend_from_slice(&low.to_le_bytes())?;
+    out.extend_from_slice([high.to_le_bytes(), low.to_le_bytes()].as_flattened())?;
     Ok(())
 }
 

@@ -10,7 +10,7 @@ ghost use Rattle.dds_base.specs.declared.endianness.Endianness.TheVariants.{Litt
 ghost use Rattle.rtps_wire.specs.Parameters.{parameter_text};
 ghost use Rattle.rtps_wire.specs.ParametersAt.{parameter_at, noted_at, parameters_at};
 
-use crate::field::{put_u16, take_count};
+use crate::field::{put_u16s, take_count};
 use crate::names::{
     LEN_ALIGNED, LEN_KEY, LEN_OWNERSHIP_STRENGTH, LEN_STATUS_INFO, PID_KEY_HASH,
     PID_OWNERSHIP_STRENGTH, PID_SENTINEL, PID_STATUS_INFO,
@@ -124,8 +124,7 @@ pub fn put_parameter(out: &mut Vec<u8>, id: u16, value: &[u8]) -> Result<(), Cod
         ≡ out.old.items ++ parameter_text Little (record { id = id; value = value.now })) }
     ensures memory { IfErr result (λ e. e ≡ Code.Memory) }
 {
-    put_u16(out, id)?;
-    put_u16(out, value.len() as u16)?;
+    put_u16s(out, id, value.len() as u16)?;
     out.extend_from_slice(value)?;
     Ok(())
 }

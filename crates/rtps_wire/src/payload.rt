@@ -13,8 +13,7 @@ pub fn put_key_form(out: &mut Vec<u8>, key: &Key) -> Result<(), Code>
     ensures ok { OnOk result (out.new.items ≡ out.old.items ++ spelling_of_key key.now) }
     ensures memory { IfErr result (λ e. e ≡ Code.Memory) }
 {
-    out.extend_from_slice(&CDR_LE)?;
-    out.extend_from_slice(&NO_OPTIONS)?;
+    out.extend_from_slice([CDR_LE, NO_OPTIONS].as_flattened())?;
     out.extend_from_slice(&key.0)?;
     Ok(())
 }

@@ -10,7 +10,7 @@ ghost use Rattle.rtps_wire.specs.Names.{minor_version, vendor_unknown};
 
 use crate::acknack::{is_acknack, put_acknack};
 use crate::data::{content_flags, content_len, is_content, is_data, put_data};
-use crate::field::{put_u16, put_u64};
+use crate::field::put_u64;
 use crate::gap::{is_gap, put_gap};
 use crate::header::MAX_MESSAGE;
 use crate::heartbeat::{is_heartbeat, put_heartbeat};
@@ -110,6 +110,9 @@ fn put_zeros(out: &mut Vec<u8>, count: usize) -> Result<(), Code>
     ensures ok { OnOk result (out.new.items ≡ out.old.items ++ replicate count 0) }
     ensures memory { IfErr result (λ e. e ≡ Code.Memory) }
 {
+    if count == 0 {
+        return Ok(());
+    }
     let zeros = [0; LEN_ALIGNED];
     out.extend_from_slice(&zeros[..count])?;
     Ok(())
@@ -121,9 +124,9 @@ fn put_submessage_header(out: &mut Vec<u8>, submessage: &Submessage, len: u16) -
         ≡ out.old.items ++ frame_text (id_of submessage.now) (flags_of submessage.now) len []) }
     ensures memory { IfErr result (λ e. e ≡ Code.Memory) }
 {
-    out.push(id_of(submessage))?;
-    out.push(flags_of(submessage))?;
-    put_u16(out, len)
+    let [low, high] = len.to_le_bytes();
+    out.extend_from_slice(&[id_of(submessage), flags_of(submessage), low, high])?;
+    Ok(())
 }
 
 /// Appends a submessage: its header, its fields, and zeros up to a multiple of 4.
@@ -207,9 +210,18 @@ fn put_header(out: &mut Vec<u8>, prefix: &GuidPrefix) -> Result<(), Code>
         (out.new.items ≡ out.old.items ++ header_text minor_version vendor_unknown prefix.now) }
     ensures memory { IfErr result (λ e. e ≡ Code.Memory) }
 {
-    out.extend_from_slice(b"RTPS")?;
-    out.extend_from_slice(&[MAJOR_VERSION, MINOR_VERSION])?;
-    out.extend_from_slice(&VENDOR_UNKNOWN)?;
+    let [vendor, product] = VENDOR_UNKNOWN;
+    let protocol = [
+        b'R',
+        b'T',
+        b'P',
+        b'S',
+        MAJOR_VERSION,
+        MINOR_VERSION,
+        vendor,
+        product,
+    ];
+    out.extend_from_slice(&protocol)?;
     out.extend_from_slice(&prefix.0)?;
     Ok(())
 }
