@@ -2,7 +2,7 @@
 //!
 //! RTPS 2.5, 8.4.12 (reliable StatefulReader), 8.3.8 (AckNack).
 
-ghost use Rattle.std.specs.Prelude.{◌≡◌, ◌+◌, ◌<◌, ◌≤◌, length, IfOk, IfSome};
+ghost use Rattle.std.specs.Prelude.{◌≡◌, ◌+◌, ◌<◌, ◌≤◌, length, IfSome};
 ghost use Rattle.rtps_reader.specs.Answer.{IsSayable};
 ghost use Rattle.rtps_wire.specs.Messages.{IsWritable};
 ghost use Rattle.dds_protocol.specs.DueMessages.{acknack_message, acknacks_due};
@@ -14,7 +14,7 @@ use crate::sending::{Announced, send};
 use dds_base::{EntityId, GuidPrefix};
 use rtps_reader::AckNackDue;
 use rtps_wire::{AckNack, Message, Submessage, Submessages};
-use std::alloc::{AllocError, Global};
+use std::alloc::Global;
 
 /// The ACKNACK of a reader of the peer of this prefix, as a message to the writer of this name.
 fn message(
@@ -23,13 +23,12 @@ fn message(
     reader: EntityId,
     writer: &WriterName,
     due: &AckNackDue,
-) -> Result<Message<'static>, AllocError>
+) -> Message<'static>
     requires { IsSayable due.now }
-    ensures says { IfOk result
-        (λ m. m ≡ acknack_message own writer.now.guid.prefix reader writer.now.guid.entity
-        due.now) }
-    ensures writable { IfOk result IsWritable }
-    ensures some { IfOk result (λ m. 1 ≤ length m.submessages) }
+    ensures says { result
+        ≡ acknack_message own writer.now.guid.prefix reader writer.now.guid.entity due.now }
+    ensures writable { IsWritable result }
+    ensures some { 1 ≤ length result.submessages }
 {
     let to = writer.guid.prefix;
     let writer_id = writer.guid.entity;
@@ -43,11 +42,13 @@ fn message(
         count: due.count,
         final_flag: due.is_final,
     };
-    let submessages = vec![in alloc; Submessage::InfoDst(to), Submessage::AckNack(acknack)]?;
-    Ok(Message {
+    let mut submessages = Submessages::new(alloc);
+    submessages.push_in_place(Submessage::InfoDst(to));
+    submessages.push_in_place(Submessage::AckNack(acknack));
+    Message {
         prefix: own,
-        submessages: Submessages::from_vec(submessages),
-    })
+        submessages,
+    }
 }
 
 /// Sends the ACKNACK of a reader of the peer of this prefix to the writer of this name, if one is due.
@@ -69,6 +70,6 @@ pub fn send_acknack(
 {
     if let Some(due) = due {
         let message = message(alloc, own, reader, writer, &due);
-        send(alloc, sent, message, writer.writer.peer);
+        send(alloc, sent, &message, writer.writer.peer);
     }
 }

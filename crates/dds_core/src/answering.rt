@@ -2,16 +2,19 @@
 //!
 //! RTPS 2.5, 8.4.7 (ReaderProxy), 8.4.9 (reliable StatefulWriter), 8.3.8 (AckNack, Data, Gap).
 
-ghost use Rattle.std.specs.Prelude.{◌≡◌, ◌++◌, ◌+◌, ◌^◌, ◌<◌, ◌≤◌, ◌↔◌, IsTrue, Some, length, IfOk, OnOk, []};
+ghost use Rattle.std.specs.Prelude.{◌≡◌, ◌++◌, ◌+◌, ◌^◌, ◌<◌, ◌≤◌, ◌↔◌, ◌∷◌, IsTrue, Some, length, IfOk, OnOk, []};
+ghost use Rattle.std.specs.Result.{ForOk};
 ghost use Rattle.rtps_wire.specs.Messages.{IsWritable};
+ghost use Rattle.rtps_wire.specs.declared.message.Message.{Message as MessageOf};
 ghost use Rattle.rtps_writer.specs.declared.answer.Answer.TheVariants as answer;
 ghost use Rattle.rtps_writer.specs.Standing.{StandsFor as RtpsStandsFor};
 ghost use Rattle.rtps_writer.specs.WriterState.{WriterState};
 ghost use Rattle.dds_base.specs.Written.{changes_of};
 ghost use Rattle.dds_protocol.specs.DueMessages.{data_of, answer_message, submessages_of};
 ghost use Rattle.dds_core.specs.Answering.{SpellsMore, IsFrom, HasRoom, AreRooms, AreAnswerable, CanAnswer, SendsAnswers};
+ghost use Rattle.dds_core.specs.Beating.{AddsTo, due_to};
 ghost use Rattle.dds_core.specs.Readiness.{receiver_at};
-ghost use Rattle.dds_core.specs.Sending.{AreMessages};
+ghost use Rattle.dds_core.specs.Sending.{AreMessages, max_unsent};
 
 use crate::matching::ReaderName;
 use crate::receiver::{MessageReceiver, is_for};
@@ -95,7 +98,7 @@ pub struct Answering {
 
 /// Adds a change, which lends its value, with its moment.
 fn push_data<'a>(
-    submessages: &mut Vec<Submessage<'a>>,
+    submessages: &mut Submessages<'a>,
     answering: &Answering,
     number: Sn,
     change: &'a Change,
@@ -103,9 +106,9 @@ fn push_data<'a>(
     requires short { length change.now.value ≤ 1024 }
     requires first { 1 ≤ number }
     requires small { number ≤ 2 ^ 62 }
-    ensures spells { OnOk result (SpellsMore submessages.old.items submessages.new.items) }
+    ensures spells { OnOk result (SpellsMore submessages.old submessages.new) }
     ensures adds { OnOk result
-        (submessages.new.items ≡ submessages.old.items
+        (submessages.new ≡ submessages.old
         ++ data_of answering.now.reader.guid.entity answering.now.entity number (Some change.now)) }
 {
     // These show the prover how many octets the names have.
@@ -128,7 +131,7 @@ fn push_data<'a>(
 
 /// Adds a GAP over these numbers.
 fn push_gap(
-    submessages: &mut Vec<Submessage<'_>>,
+    submessages: &mut Submessages<'_>,
     answering: &Answering,
     first: Sn,
     last: Sn,
@@ -136,9 +139,9 @@ fn push_gap(
     requires from { 1 ≤ first }
     requires order { first ≤ last }
     requires small { last < 2 ^ 62 }
-    ensures spells { OnOk result (SpellsMore submessages.old.items submessages.new.items) }
+    ensures spells { OnOk result (SpellsMore submessages.old submessages.new) }
     ensures adds { OnOk result
-        (submessages.new.items ≡ submessages.old.items
+        (submessages.new ≡ submessages.old
         ++ submessages_of [] answering.now.reader.guid.entity answering.now.entity
         (answer.Gap first last)) }
 {
@@ -158,16 +161,16 @@ fn push_gap(
 
 /// Adds what stands in a message for an answer.
 fn push_answer<'a>(
-    submessages: &mut Vec<Submessage<'a>>,
+    submessages: &mut Submessages<'a>,
     answering: &Answering,
     writer: &'a StatefulWriter,
     answer: Answer,
 ) -> Result<(), AllocError>
     requires { CanAnswer writer.now answer }
-    ensures spells { OnOk result (SpellsMore submessages.old.items submessages.new.items) }
+    ensures spells { OnOk result (SpellsMore submessages.old submessages.new) }
     ensures adds { (s : WriterState) → RtpsStandsFor writer.now s
-        → OnOk result (submessages.new.items
-        ≡ submessages.old.items
+        → OnOk result (submessages.new
+        ≡ submessages.old
         ++ submessages_of
         (changes_of s.written) answering.now.reader.guid.entity answering.now.entity answer) }
 {
@@ -203,14 +206,31 @@ fn message<'a>(
         answering.reader.guid.entity.as_slice(),
         answering.entity.as_slice(),
     );
-    let mut submessages = vec![in alloc; Submessage::InfoDst(to)]?;
+    let mut submessages = Submessages::new(alloc);
+    submessages.push_in_place(Submessage::InfoDst(to));
     for answer in answers {
         push_answer(&mut submessages, answering, writer, *answer)?;
     }
     Ok(Message {
         prefix: answering.own,
-        submessages: Submessages::from_vec(submessages),
+        submessages,
     })
+}
+
+/// Sends a message with answers, or counts it where it found no memory.
+fn send_made(alloc: Global, sent: &mut Announced, message: Result<Message<'_>, AllocError>, to: u8)
+    requires writable { ForOk message IsWritable }
+    requires some { ForOk message (λ m. 1 ≤ length m.submessages) }
+    requires room { sent.old.unsent < max_unsent }
+    ensures few { sent.new.unsent ≤ sent.old.unsent + 1 }
+    ensures adds { (m : MessageOf) → IfOk message.entry (λ x. x ≡ m)
+        → AddsTo (due_to to m ∷ []) sent.old sent.new }
+    ensures messages { AreMessages sent.old.packets.items → AreMessages sent.new.packets.items }
+{
+    match message {
+        Ok(message) => send(alloc, sent, &message, to),
+        Err(_) => sent.unsent += 1,
+    }
 }
 
 /// Sends answers, eight in a packet but in the last one.
@@ -234,7 +254,7 @@ pub fn send_answers(
         let count = usize::min(rest.len(), MAX_ANSWERS);
         let (group, after) = rest.split_at(count);
         let message = message(alloc, answering, writer, group);
-        send(alloc, sent, message, answering.reader.reader.peer);
+        send_made(alloc, sent, message, answering.reader.reader.peer);
         rest = after;
     }
 }

@@ -3,15 +3,15 @@
 //!
 //! RTPS 2.5, 8.4.9 (reliable StatefulWriter: heartbeatPeriod), 8.3.8 (Heartbeat), 8.7.2.2 (LIVELINESS).
 
-ghost use Rattle.std.specs.Prelude.{◌≡◌, ◌+◌, ◌≤◌, ℤ, Option, length, map, IfOk};
+ghost use Rattle.std.specs.Prelude.{◌≡◌, ◌+◌, ◌<◌, ◌≤◌, ◌∷◌, [], ℤ, Option, length, map};
 ghost use Rattle.rtps_wire.specs.Messages.{IsWritable};
 ghost use Rattle.rtps_writer.specs.Standing.{reader_count, StandsFor as RtpsStandsFor};
 ghost use Rattle.dds_machine.specs.declared.endpoint.Endpoint.{Endpoint};
 ghost use Rattle.dds_machine.specs.Part.{ReaderProxy, Writer};
 ghost use Rattle.dds_protocol.specs.DueMessages.{AreSent};
 ghost use Rattle.dds_core.specs.declared.matching.ReaderName.{ReaderName as NameOf};
-ghost use Rattle.dds_core.specs.Beating.{IsHeartbeatValid, message_to, told_to, is_peer_behind, Beats};
-ghost use Rattle.dds_core.specs.Sending.{AreMessages};
+ghost use Rattle.dds_core.specs.Beating.{IsHeartbeatValid, AddsTo, due_to, message_to, told_to, is_peer_behind, Beats};
+ghost use Rattle.dds_core.specs.Sending.{AreMessages, max_unsent};
 ghost use Rattle.dds_core.specs.Standing.{state_of};
 
 use crate::matching::{Destination, ReaderName};
@@ -19,7 +19,7 @@ use crate::sending::{Announced, send};
 use dds_base::{EntityId, GuidPrefix};
 use rtps_wire::{Heartbeat, Message, Submessage, Submessages};
 use rtps_writer::{HeartbeatDue, StatefulWriter};
-use std::alloc::{AllocError, Global};
+use std::alloc::Global;
 
 /// A HEARTBEAT of a writer, without a peer that it is for.
 #[derive(Clone, Copy)]
@@ -33,11 +33,11 @@ pub struct Beat {
 }
 
 /// The HEARTBEAT, as a message to the peer of this prefix.
-fn message(alloc: Global, beat: &Beat, to: GuidPrefix) -> Result<Message<'static>, AllocError>
+fn message(alloc: Global, beat: &Beat, to: GuidPrefix) -> Message<'static>
     requires { IsHeartbeatValid beat.now.due }
-    ensures says { IfOk result (λ m. m ≡ message_to beat.now to) }
-    ensures writable { IfOk result IsWritable }
-    ensures some { IfOk result (λ m. 1 ≤ length m.submessages) }
+    ensures says { result ≡ message_to beat.now to }
+    ensures writable { IsWritable result }
+    ensures some { 1 ≤ length result.submessages }
 {
     // These show the prover how many octets the names have.
     let (_prefix, _entity, _to) = (
@@ -54,11 +54,13 @@ fn message(alloc: Global, beat: &Beat, to: GuidPrefix) -> Result<Message<'static
         final_flag: beat.asserts,
         liveliness_flag: beat.asserts,
     };
-    let submessages = vec![in alloc; Submessage::InfoDst(to), Submessage::Heartbeat(heartbeat)]?;
-    Ok(Message {
+    let mut submessages = Submessages::new(alloc);
+    submessages.push_in_place(Submessage::InfoDst(to));
+    submessages.push_in_place(Submessage::Heartbeat(heartbeat));
+    Message {
         prefix: beat.prefix,
-        submessages: Submessages::from_vec(submessages),
-    })
+        submessages,
+    }
 }
 
 /// Whether some reader of this peer, among these readers of a writer, has not acknowledged all changes.
@@ -77,6 +79,20 @@ fn is_peer_behind(writer: &StatefulWriter, readers: &[ReaderName], peer: u8) -> 
         }
     }
     false
+}
+
+/// Sends a HEARTBEAT to a peer.
+fn send_beat(alloc: Global, beat: &Beat, destination: &Destination, sent: &mut Announced)
+    requires valid { IsHeartbeatValid beat.now.due }
+    requires room { sent.old.unsent < max_unsent }
+    ensures few { sent.new.unsent ≤ sent.old.unsent + 1 }
+    ensures adds { AddsTo
+        (due_to destination.now.peer (message_to beat.now destination.now.prefix) ∷ []) sent.old
+        sent.new }
+    ensures messages { AreMessages sent.old.packets.items → AreMessages sent.new.packets.items }
+{
+    let message = message(alloc, beat, destination.prefix);
+    send(alloc, sent, &message, destination.peer);
 }
 
 /// Sends a HEARTBEAT to each of these peers with a reader that is behind, among these readers of a writer.
@@ -99,8 +115,7 @@ pub fn send_beats(
 {
     for destination in destinations {
         if is_peer_behind(writer, readers, destination.peer) {
-            let message = message(alloc, beat, destination.prefix);
-            send(alloc, sent, message, destination.peer);
+            send_beat(alloc, beat, destination, sent);
         }
     }
 }
@@ -118,8 +133,7 @@ pub fn send_to_all(alloc: Global, beat: &Beat, destinations: &[Destination]) -> 
         unsent: 0,
     };
     for destination in destinations {
-        let message = message(alloc, beat, destination.prefix);
-        send(alloc, &mut sent, message, destination.peer);
+        send_beat(alloc, beat, destination, &mut sent);
     }
     sent
 }

@@ -2,10 +2,8 @@
 //!
 //! RTPS 2.5, 8.4.9 (the behaviour of a reliable StatefulWriter).
 
-ghost use Rattle.std.specs.Prelude.{◌≡◌, ◌+◌, ◌^◌, ◌<◌, ◌≤◌, [], ◌∷◌, length, set, IfOk};
-ghost use Rattle.std.specs.Result.{ForOk};
+ghost use Rattle.std.specs.Prelude.{◌≡◌, ◌+◌, ◌^◌, ◌<◌, ◌≤◌, [], ◌∷◌, length, set};
 ghost use Rattle.rtps_wire.specs.Data.{IsContent};
-ghost use Rattle.rtps_wire.specs.declared.message.Message.{Message as MessageOf};
 ghost use Rattle.rtps_wire.specs.Messages.{IsWritable};
 ghost use Rattle.rtps_wire.specs.declared.submessage.Submessage.TheVariants.{InfoDst};
 ghost use Rattle.dds_core.specs.Beating.{AddsTo, due_to};
@@ -16,7 +14,7 @@ use crate::matching::Destination;
 use dds_base::{EntityId, GuidPrefix, Moment, Octets, Sn};
 use dds_protocol::Packet;
 use rtps_wire::{Data, DataContent, Message, Submessage, Submessages, write_message};
-use std::alloc::{AllocError, Global};
+use std::alloc::Global;
 
 /// Who announces a change, and when it was made.
 #[derive(Clone, Copy)]
@@ -35,17 +33,12 @@ pub struct Announced {
 }
 
 /// The message that announces a change, without a peer that it is for.
-fn message<'a>(
-    alloc: Global,
-    sender: &Sender,
-    number: Sn,
-    content: DataContent<'a>,
-) -> Result<Message<'a>, AllocError>
+fn message<'a>(alloc: Global, sender: &Sender, number: Sn, content: DataContent<'a>) -> Message<'a>
     requires first { 1 ≤ number }
     requires small { number ≤ 2 ^ 48 }
     requires valid { IsContent content }
-    ensures says { IfOk result (Announces sender.now number content.entry) }
-    ensures writable { IfOk result IsAddressable }
+    ensures says { Announces sender.now number content.entry result }
+    ensures writable { IsAddressable result }
 {
     // These show the prover how many octets the names have.
     let (_prefix, _entity) = (sender.prefix.as_slice(), sender.entity.as_slice());
@@ -55,34 +48,13 @@ fn message<'a>(
         writer_sn: number,
         content,
     };
-    let submessages = vec![in alloc;
-        Submessage::InfoDst(GuidPrefix::UNKNOWN),
-        Submessage::InfoTs(Some(sender.moment.units())),
-        Submessage::Data(data),
-    ]?;
-    Ok(Message {
-        prefix: sender.prefix,
-        submessages: Submessages::from_vec(submessages),
-    })
-}
-
-/// The message, for the peer of this prefix.
-fn addressed(message: Message<'_>, to: GuidPrefix) -> Message<'_>
-    requires { 1 ≤ length message.submessages }
-    ensures { result ≡ record {
-      prefix = message.entry.prefix;
-      submessages = set message.entry.submessages 0 (InfoDst to);
-    } }
-{
-    let Message {
-        prefix,
-        submessages,
-    } = message;
-    let mut submessages = submessages.into_vec();
-    submessages[0] = Submessage::InfoDst(to);
+    let mut submessages = Submessages::new(alloc);
+    submessages.push_in_place(Submessage::InfoDst(GuidPrefix::UNKNOWN));
+    submessages.push_in_place(Submessage::InfoTs(Some(sender.moment.units())));
+    submessages.push_in_place(Submessage::Data(data));
     Message {
-        prefix,
-        submessages: Submessages::from_vec(submessages),
+        prefix: sender.prefix,
+        submessages,
     }
 }
 
@@ -98,24 +70,42 @@ pub fn push_packet(alloc: Global, packets: &mut Vec<Packet>, message: &Message, 
 }
 
 /// Sends a message that is due to a peer, or counts it where it finds no memory.
-pub fn send(alloc: Global, sent: &mut Announced, message: Result<Message<'_>, AllocError>, to: u8)
-    requires writable { ForOk message IsWritable }
-    requires some { ForOk message (λ m. 1 ≤ length m.submessages) }
+pub fn send(alloc: Global, sent: &mut Announced, message: &Message, to: u8)
+    requires writable { IsWritable message.now }
+    requires some { 1 ≤ length message.now.submessages }
     requires room { sent.old.unsent < max_unsent }
     ensures few { sent.new.unsent ≤ sent.old.unsent + 1 }
-    ensures adds { (m : MessageOf) → IfOk message.entry (λ x. x ≡ m)
-        → AddsTo (due_to to m ∷ []) sent.old sent.new }
+    ensures adds { AddsTo (due_to to message.now ∷ []) sent.old sent.new }
     ensures messages { AreMessages sent.old.packets.items → AreMessages sent.new.packets.items }
 {
-    let Ok(message) = message else {
-        sent.unsent += 1;
-        return;
-    };
     let before = sent.packets.len();
-    push_packet(alloc, &mut sent.packets, &message, to);
+    push_packet(alloc, &mut sent.packets, message, to);
     if sent.packets.len() == before {
         sent.unsent += 1;
     }
+}
+
+/// Adds the packet of a message that announces a change, for the peer of this destination, if there is memory for it.
+fn announce_to(
+    alloc: Global,
+    packets: &mut Vec<Packet>,
+    message: &mut Message,
+    destination: &Destination,
+)
+    requires writable { IsAddressable message.old }
+    requires some { 1 ≤ length message.old.submessages }
+    ensures is { message.new ≡ record {
+      prefix = message.old.prefix;
+      submessages = set message.old.submessages 0 (InfoDst destination.now.prefix);
+    } }
+    ensures writable { IsWritable message.new }
+    ensures adds { AddsPacket packets.old.items message.new destination.now.peer packets.new.items }
+{
+    // This shows the prover how many octets there are.
+    let _prefix = destination.prefix.as_slice();
+    let first = Submessage::InfoDst(destination.prefix);
+    message.submessages.replace_first(first);
+    push_packet(alloc, packets, message, destination.peer);
 }
 
 /// Announces a change of this number, of which a DATA says so much, to each of these peers.
@@ -135,13 +125,9 @@ pub fn announce(
         result.packets.items }
 {
     let mut packets = Vec::new(alloc);
-    if let Ok(mut message) = message(alloc, sender, number, content) {
-        for destination in destinations {
-            // This shows the prover how many octets there are.
-            let _prefix = destination.prefix.as_slice();
-            message = addressed(message, destination.prefix);
-            push_packet(alloc, &mut packets, &message, destination.peer);
-        }
+    let mut message = message(alloc, sender, number, content);
+    for destination in destinations {
+        announce_to(alloc, &mut packets, &mut message, destination);
     }
     let unsent = (destinations.len() - packets.len()) as u64;
     Announced { packets, unsent }

@@ -25,9 +25,11 @@
 //!         strength: None,
 //!     },
 //! };
+//! let mut submessages = Submessages::new(alloc);
+//! submessages.push(Submessage::Data(data))?;
 //! let message = Message {
 //!     prefix: GuidPrefix([1; 12]),
-//!     submessages: Submessages::from_vec(vec![in alloc; Submessage::Data(data)]?),
+//!     submessages,
 //! };
 //! if is_writable(&message) {
 //!     let bytes = write_message(alloc, &message)?;
@@ -67,5 +69,5 @@ pub use message::{Message, Read};
 pub use names::MAX_SUBMESSAGE;
 pub use read::read_message;
 pub use seek::{Sought, has_submessage};
-pub use submessage::{Submessage, Submessages};
+pub use submessage::{FEW_SUBMESSAGES, Submessage, Submessages};
 pub use write::{is_writable, write_message};

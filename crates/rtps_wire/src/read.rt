@@ -2,7 +2,7 @@
 //!
 //! RTPS 2.5, 8.3.4 (the message receiver) and 9.4.
 
-ghost use Rattle.std.specs.Prelude.{◌≡◌, ◌+◌, ◌≤◌, ◌<◌, ℕ, List, length, IfOk, IfErr, IfSome, MatchResult, Some};
+ghost use Rattle.std.specs.Prelude.{◌≡◌, ◌+◌, ◌≤◌, ◌<◌, ℕ, List, length, IfOk, IfErr, IfSome, Some, []};
 ghost use Rattle.rtps_wire.specs.SubmessageAt.{known_at};
 ghost use Rattle.rtps_wire.specs.Submessages.{Reads};
 ghost use Rattle.rtps_wire.specs.Messages.{ReadsAll, ReadsMessage, HasFrame, HasSubmessage};
@@ -58,20 +58,23 @@ fn submessage_of(id: u8, flags: u8, body: &[u8]) -> Submessage<'_>
     known_of(id, flags, body).unwrap_or(Submessage::Other(id))
 }
 
-/// The submessages up to where reading ends, and what stands there.
-fn submessages_of(alloc: Global, bytes: &[u8]) -> Result<(Vec<Submessage<'_>>, &[u8]), Code>
-    ensures { MatchResult result
-        (λ x. ReadsAll bytes.now x.0.items x.1.now
-        × (length x.0.items + length x.1.now ≤ length bytes.now))
-        (λ e. (e ≡ Code.Memory) × HasFrame bytes.now) }
+/// Adds the submessages up to where reading ends. Returns what stands there.
+fn read_submessages<'a>(
+    submessages: &mut Submessages<'a>,
+    bytes: &'a [u8],
+) -> Result<&'a [u8], Code>
+    requires none { submessages.old ≡ [] }
+    ensures ok { IfOk result (λ left. ReadsAll bytes.now submessages.new left.now) }
+    ensures few { IfOk result
+        (λ left. length submessages.new + length left.now ≤ length bytes.now) }
+    ensures memory { IfErr result (λ e. (e ≡ Code.Memory) × HasFrame bytes.now) }
 {
-    let mut submessages = Vec::new(alloc);
     let mut left = bytes;
     while let Some((frame, rest)) = take_frame(left) {
         submessages.push(submessage_of(frame.id, frame.flags, frame.body))?;
         left = rest;
     }
-    Ok((submessages, left))
+    Ok(left)
 }
 
 /// The message that the bytes are. `None` where they are none: without the header of this protocol, or longer than
@@ -104,9 +107,9 @@ pub fn read_message(alloc: Global, bytes: &[u8]) -> Result<Option<Read<'_>>, Cod
     let Some((prefix, rest)) = take_header(bytes) else {
         return Ok(None);
     };
-    let (submessages, left) = submessages_of(alloc, rest)?;
+    let mut submessages = Submessages::new(alloc);
+    let left = read_submessages(&mut submessages, rest)?;
     let stop = bytes.len() - left.len();
-    let submessages = Submessages::from_vec(submessages);
     Ok(Some(Read {
         message: Message {
             prefix,

@@ -2,14 +2,19 @@
 //!
 //! RTPS 2.5, 8.3.4 and 9.4.5.
 
-ghost use Rattle.std.specs.Prelude.{◌≡◌};
+ghost use Rattle.std.specs.Prelude.{◌≡◌, ◌<◌, ◌≤◌, [], ◌∷◌, ◌++◌, length, set, IsOk, OnOk, OnErr};
 
 use crate::acknack::AckNack;
 use crate::data::Data;
 use crate::gap::Gap;
 use crate::heartbeat::Heartbeat;
 use dds_base::GuidPrefix;
+use smallvec::SmallVec;
+use std::alloc::{AllocError, Global};
 use std::marker::Model;
+
+/// How many submessages need no memory: few messages have more.
+pub const FEW_SUBMESSAGES: usize = 4;
 
 /// One part of a message. The value of a datum is lent.
 ///
@@ -34,27 +39,37 @@ pub enum Submessage<'a> {
     Other(u8),
 }
 
-/// Submessages, in the order in which they stand.
+impl<'a> Default for Submessage<'a> {
+    fn default() -> Submessage<'a> {
+        Submessage::Pad
+    }
+}
+
+/// Submessages, in the order in which they stand. Memory is needed for more than `FEW_SUBMESSAGES` alone.
 #[derive(Debug, Drop)]
 pub struct Submessages<'a> {
-    items: Vec<Submessage<'a>>,
+    items: SmallVec<Submessage<'a>, FEW_SUBMESSAGES>,
 }
 
 impl<'a> Model for Submessages<'a> {
-    ghost use Rattle.std.specs.Prelude.{List};
+    ghost use Rattle.std.specs.Prelude.{List, ◌≤◌};
     ghost use Rattle.rtps_wire.specs.declared.submessage.Submessage.{Submessage};
 
     ghost Value = { List Submessage };
 
     ghost view = { λ s. s.items.items };
+
+    ghost invariant = { λ s. 4 ≤ s.items.capacity };
 }
 
 impl<'a> Submessages<'a> {
-    /// The submessages of a `Vec`, as they stand there.
-    pub fn from_vec(items: Vec<Submessage<'a>>) -> Submessages<'a>
-        ensures items { result ≡ items.entry.items }
+    /// No submessages yet.
+    pub fn new(alloc: Global) -> Submessages<'a>
+        ensures none { result ≡ [] }
     {
-        Submessages { items }
+        Submessages {
+            items: SmallVec::new(alloc),
+        }
     }
 
     /// The submessages, in their order.
@@ -64,11 +79,35 @@ impl<'a> Submessages<'a> {
         self.items.as_slice()
     }
 
-    /// The `Vec` that holds the submessages.
-    pub fn into_vec(self) -> Vec<Submessage<'a>>
-        ensures items { result.items ≡ self.entry }
+    /// Adds a submessage at the end.
+    ///
+    /// # Errors
+    ///
+    /// Where a growth was refused; one of the first `FEW_SUBMESSAGES` needs none.
+    pub fn push(&mut self, submessage: Submessage<'a>) -> Result<(), AllocError>
+        // It stands at the end.
+        ensures ok { OnOk result (self.new ≡ self.old ++ submessage.entry ∷ []) }
+        // A refusal leaves the submessages as they were.
+        ensures err { OnErr result (self.new ≡ self.old) }
+        // One of the few is not refused.
+        ensures few { length self.old < FEW_SUBMESSAGES → IsOk result }
     {
-        let Submessages { items } = self;
-        items
+        Ok(self.items.push(submessage)?)
+    }
+
+    /// Adds one of the first `FEW_SUBMESSAGES` at the end.
+    pub fn push_in_place(&mut self, submessage: Submessage<'a>)
+        requires few { length self.old < FEW_SUBMESSAGES }
+        ensures items { self.new ≡ self.old ++ submessage.entry ∷ [] }
+    {
+        self.items.push_reserved(submessage);
+    }
+
+    /// Puts another submessage in the place of the first.
+    pub fn replace_first(&mut self, first: Submessage<'a>)
+        requires some { 1 ≤ length self.old }
+        ensures items { self.new ≡ set self.old 0 first.entry }
+    {
+        self.items[0] = first;
     }
 }

@@ -219,13 +219,13 @@ fn submessage_of<'a>(words: Words<'_>, value: &'a [u8]) -> Submessage<'a> {
 
 /// The message of so many submessages, whose values are this one.
 fn made_of<'a>(alloc: Global, words: Words<'_>, value: &'a [u8]) -> Message<'a> {
-    let mut submessages = Vec::new(alloc);
+    let mut submessages = Submessages::new(alloc);
     for _ in 0..number_of(words.fourth) {
         let _ = submessages.push(submessage_of(words, value));
     }
     Message {
         prefix: FIRST,
-        submessages: Submessages::from_vec(submessages),
+        submessages,
     }
 }
 

@@ -19,9 +19,9 @@ returns-clause-writable c =
       count = z;
       final_flag = c.args.due.now.is_final;
     }) ∷ [] in
+    let made = rw (c.push_in_place.ensures.items, c.new-submessages.ensures.none) at c.push_in_place-2.ensures.items in
     let all =
-    c.from_vec.ensures.items
-    ∙ (c.in_ok-submessages.ensures.items ∙ ap acknack (to_z-of_z w32 c.args.due.now.count fits)) in
+    made ∙ ap acknack (to_z-of_z w32 c.args.due.now.count fits) in
     subst (λ (ss : List Submessage). IsWritable (record { prefix = c.args.own; submessages = ss })) (sym all)
     (acknack_writable c.args.own c.args.writer.now.guid.prefix c.args.reader c.args.writer.now.guid.entity
     c.args.due.now c.as_slice-own.ensures.len c.as_slice-to.ensures.len c.as_slice-reader.ensures.len

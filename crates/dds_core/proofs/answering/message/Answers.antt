@@ -1,7 +1,5 @@
-use Rattle.std.proofs.Common.{List, sym, subst, arith}
-use Rattle.rtps_wire.specs.declared.submessage.Submessage.{Submessage}
+use Rattle.std.proofs.Common.{arith}
 use Rattle.rtps_wire.specs.declared.submessage.Submessage.TheVariants.{InfoDst}
-use Rattle.rtps_wire.specs.Messages.{IsWritable}
 use Rattle.dds_base.specs.Written.{changes_of}
 use Rattle.dds_protocol.specs.DueMessages.{submessages_of}
 use Rattle.dds_core.proofs.Replies.{answers_writable, stands_more}
@@ -12,10 +10,8 @@ returns-clause-writable c =
     let few = c.loop-answer.invariant.few in
     let eight = c.requires.few in
     let last = c.loop-answer-test.false in
-    subst (λ (ss : List Submessage). IsWritable (record { prefix = c.args.answering.now.own; submessages = ss }))
-    (sym c.from_vec.ensures.items)
-    (answers_writable c.args.answering.now.own c.loop-answer.submessages.items c.as_slice-own.ensures.len
-    c.loop-answer.invariant.each (omega (arith, few, eight, last)))
+    answers_writable c.args.answering.now.own c.loop-answer.submessages c.as_slice-own.ensures.len
+    c.loop-answer.invariant.each (omega (arith, few, eight, last))
 
 pub loop-answer-preserved : goal.loop-answer-preserved
 loop-answer-preserved c =
@@ -24,8 +20,8 @@ loop-answer-preserved c =
     record {
       says = λ s stands. stands_more
           (submessages_of (changes_of s.written) c.args.answering.now.reader.guid.entity c.args.answering.now.entity)
-          (InfoDst c.args.answering.now.reader.guid.prefix) c.loop-answer.submessages.items
-          c.push_answer.new.submessages.items
+          (InfoDst c.args.answering.now.reader.guid.prefix) c.loop-answer.submessages
+          c.push_answer.new.submessages
           c.args.answers.now c.loop-answer.answer-index c.answer-item.result c.loop-answer-test.true c.answer-item.is
           (c.loop-answer.invariant.says s stands) (c.in_ok-push_answer.ensures.adds s stands);
       each = c.in_ok-push_answer.ensures.spells.each c.loop-answer.invariant.each;

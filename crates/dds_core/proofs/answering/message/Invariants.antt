@@ -12,9 +12,9 @@ use Rattle.dds_core.proofs.answering.message.Given as goal
 abbrev pub invariant-loop-answer : goal.invariant-loop-answer
 invariant-loop-answer l = record {
   says : (s : WriterState) → RtpsStandsFor l.fn.writer s
-      → l.submessages.items ≡ InfoDst l.fn.answering.reader.guid.prefix ∷ flat_map
+      → l.submessages ≡ InfoDst l.fn.answering.reader.guid.prefix ∷ flat_map
       (submessages_of (changes_of s.written) l.fn.answering.reader.guid.entity l.fn.answering.entity)
       (take l.answer-index l.fn.answers);
-  each : AllByRecursion IsSpellable l.submessages.items;
-  few : length l.submessages.items ≤ 1 + 2 * l.answer-index;
+  each : AllByRecursion IsSpellable l.submessages;
+  few : length l.submessages ≤ 1 + 2 * l.answer-index;
 }

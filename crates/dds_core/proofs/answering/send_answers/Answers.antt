@@ -8,16 +8,16 @@ loop-rest-preserved c = record {
   can =
       answerable_after c.args.writer.now c.loop-rest.rest.now c.split_at.result.0.now c.split_at.result.1.now
       (search rules) c.loop-rest.invariant.can;
-  few = let few = c.loop-rest.invariant.few in let more = c.send.ensures.few in search rules;
+  few = let few = c.loop-rest.invariant.few in let more = c.send_made.ensures.few in search rules;
   sends = λ s stands.
       sent_more c.args.answering.now (changes_of s.written) c.args.answers.now c.loop-rest.rest.now
-      c.split_at.result.0.now c.split_at.result.1.now c.args.sent.now c.loop-rest.sent c.send.new.sent
+      c.split_at.result.0.now c.split_at.result.1.now c.args.sent.now c.loop-rest.sent c.send_made.new.sent
       (c.loop-rest.invariant.sends s stands) (search rules) (search rules)
       (search rules)
       (λ some. full_group c.loop-rest.rest.now c.split_at.result.0.now c.split_at.result.1.now c.min-count.result
       (search rules) (search rules) (search rules) some)
-      (c.send.ensures.adds _ (c.message-message.ensures.says s stands));
-  messages = λ h. c.send.ensures.messages (c.loop-rest.invariant.messages h);
+      (c.send_made.ensures.adds _ (c.message-message.ensures.says s stands));
+  messages = λ h. c.send_made.ensures.messages (c.loop-rest.invariant.messages h);
 }
 
 pub returns-clause-sends : goal.returns-clause-sends

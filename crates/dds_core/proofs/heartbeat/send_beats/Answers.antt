@@ -1,6 +1,5 @@
 use Rattle.std.proofs.Common.{◌+◌, take, sym, subst, ◌∙◌, arith, true, false}
 use Rattle.dds_core.specs.declared.sending.Announced.{Announced}
-use Rattle.dds_core.specs.Beating.{message_to}
 use Rattle.dds_core.proofs.Beating.{SentTo, adds_none, beats_more}
 use Rattle.dds_core.proofs.heartbeat.send_beats.Goals as goal
 use Rattle.dds_core.proofs.heartbeat.send_beats.Goals.{then-is_peer_behind, else-is_peer_behind}
@@ -14,19 +13,19 @@ loop-destination-preserved c =
     let few = before.few in
     elim c.if-is_peer_behind.branch [
       | then-is_peer_behind v ↦
-          let more = v.send.ensures.few in
+          let more = v.send_beat.ensures.few in
           subst (λ (x : Announced). SentTo beat c.args.writer.now c.args.readers.now (take (i + 1) ds)
           (i + 1) c.args.sent.now x) (sym v.sent-is)
           (record {
             few = omega (arith, few, more);
             beats = λ w answered same stands.
                 beats_more beat w ds i _ true c.args.sent.now.packets.items c.loop-destination.sent.packets.items
-                v.send.new.sent.packets.items c.args.sent.now.unsent c.loop-destination.sent.unsent
-                v.send.new.sent.unsent
+                v.send_beat.new.sent.packets.items c.args.sent.now.unsent c.loop-destination.sent.unsent
+                v.send_beat.new.sent.unsent
                 c.loop-destination-test.true (sym (c.is_peer_behind.ensures w answered same stands)
                 ∙ v.if-is_peer_behind.true) (before.beats w answered same stands)
-                (v.send.ensures.adds (message_to beat _) v.message-message.ensures.says);
-            messages = λ h. v.send.ensures.messages (before.messages h);
+                v.send_beat.ensures.adds;
+            messages = λ h. v.send_beat.ensures.messages (before.messages h);
           })
       | else-is_peer_behind v ↦
           subst (λ (x : Announced). SentTo beat c.args.writer.now c.args.readers.now (take (i + 1) ds)

@@ -16,9 +16,8 @@ returns-clause-found c =
     let h =
     header_found c.args.bytes.now (c.in-Some.prefix, c.in-Some.rest.now) (λ i. omega (arith, c.type_inv.bytes i))
     (sym c.in-Some.ensures.value) in
-    rw c.from_vec-submessages.ensures.items
-    (message_read c.args.bytes.now c.in-Some.rest.now c.in_ok-submessages.left.now c.in-Some.prefix
-    c.in_ok-submessages.submessages.items (omega arith) h c.in_ok-submessages.ensures.0)
+    (message_read c.args.bytes.now c.in-Some.rest.now c.in_ok-left.left.now c.in-Some.prefix
+    c.read_submessages.new.submessages (omega arith) h c.in_ok-left.ensures.ok)
 
 pub returns-clause-only : goal.returns-clause-only
 returns-clause-only c = λ m stop r.
@@ -26,21 +25,21 @@ returns-clause-only c = λ m stop r.
     header_found c.args.bytes.now (c.in-Some.prefix, c.in-Some.rest.now) (λ i. omega (arith, c.type_inv.bytes i))
     (sym c.in-Some.ensures.value) in
     let found : ReadsMessage c.args.bytes.now
-    (record { prefix = c.in-Some.prefix; submessages = c.from_vec-submessages.result })
-    (length c.args.bytes.now - length c.in_ok-submessages.left.now) = rw c.from_vec-submessages.ensures.items
-    (message_read c.args.bytes.now c.in-Some.rest.now c.in_ok-submessages.left.now c.in-Some.prefix
-    c.in_ok-submessages.submessages.items (omega arith) h c.in_ok-submessages.ensures.0) in
+    (record { prefix = c.in-Some.prefix; submessages = c.read_submessages.new.submessages })
+    (length c.args.bytes.now - length c.in_ok-left.left.now) =
+    (message_read c.args.bytes.now c.in-Some.rest.now c.in_ok-left.left.now c.in-Some.prefix
+    c.read_submessages.new.submessages (omega arith) h c.in_ok-left.ensures.ok) in
     let same =
-    message_one c.args.bytes.now (record { prefix = c.in-Some.prefix; submessages = c.from_vec-submessages.result })
-    m (length c.args.bytes.now - length c.in_ok-submessages.left.now) stop found r in
+    message_one c.args.bytes.now (record { prefix = c.in-Some.prefix; submessages = c.read_submessages.new.submessages })
+    m (length c.args.bytes.now - length c.in_ok-left.left.now) stop found r in
     cc
 
-pub returns-in_err-submessages-clause-memory : goal.returns-in_err-submessages-clause-memory
-returns-in_err-submessages-clause-memory c =
+pub returns-in_err-left-clause-memory : goal.returns-in_err-left-clause-memory
+returns-in_err-left-clause-memory c =
     let h =
     header_found c.args.bytes.now (c.in-Some.prefix, c.in-Some.rest.now) (λ i. omega (arith, c.type_inv.bytes i))
     (sym c.in-Some.ensures.value) in
-    let k = c.in_err-submessages.ensures in
+    let k = c.in_err-left.ensures.memory in
     let short : length c.args.bytes.now ≤ 65535 = omega arith in
     let has : HasSubmessage c.args.bytes.now =
     record {

@@ -3,7 +3,7 @@ use Rattle.std.proofs.lemmas.List.{append-nil, length-append}
 use Rattle.rtps_wire.specs.FrameAt.{frame_at}
 use Rattle.rtps_wire.specs.Messages.{HasFrame}
 use Rattle.rtps_wire.proofs.FrameLaws.{frame_found, frame_none}
-use Rattle.rtps_wire.proofs.read.submessages_of.Goals as goal
+use Rattle.rtps_wire.proofs.read.read_submessages.Goals as goal
 
 -- where reading has come to a submessage, one stood at the beginning
 begins : (left bytes : List ℕ) → HasFrame left → (left ≡ bytes) ⊎ HasFrame bytes → HasFrame bytes
@@ -13,9 +13,8 @@ begins left bytes here (inr there) = there
 pub loop-frame-init : goal.loop-frame-init
 loop-frame-init c =
     record {
-      on = λ ss end r. rw c.new-submessages.ensures.items r;
-      fewer = let none = ap length
-          c.new-submessages.ensures.items in omega (arith, none);
+      on = λ ss end r. rw c.requires.none r;
+      fewer = let none = ap length c.requires.none in omega (arith, none);
       first = inl refl;
       octets = λ i.
           omega (arith, c.type_inv.bytes i);
@@ -28,7 +27,7 @@ loop-frame-preserved c =
     (c.in-Some.frame.id, c.in-Some.frame.flags, c.in-Some.frame.body.now, c.in-Some.rest.now)
     c.loop-frame.invariant.octets (sym c.in-Some.ensures.value) in
     record {
-      on = λ ss end r. rw (c.in_ok-push.ensures.items, append_assoc)
+      on = λ ss end r. rw (c.in_ok-push.ensures.ok, append_assoc)
           (c.loop-frame.invariant.on (c.submessage_of.result ∷ ss) end (
             c.in-Some.frame.id,
             c.in-Some.frame.flags,
@@ -40,7 +39,7 @@ loop-frame-preserved c =
           ));
       fewer =
           let longer =
-          ap length c.in_ok-push.ensures.items ∙ length-append c.loop-frame.submessages.items
+          ap length c.in_ok-push.ensures.ok ∙ length-append c.loop-frame.submessages
           (c.submessage_of.result ∷ []) in
           let before = c.loop-frame.invariant.fewer in
           omega (arith, longer, before, c.in-Some.ensures.rest);
@@ -51,16 +50,16 @@ loop-frame-preserved c =
       octets = f.octets;
     }
 
-pub returns : goal.returns
-returns c =
+pub returns-clause-ok : goal.returns-clause-ok
+returns-clause-ok c =
     let none : frame_at c.loop-frame.left.now ≡ None = sym c.in_default.ensures.value in
     let all =
     c.loop-frame.invariant.on [] c.loop-frame.left.now
     (frame_none c.loop-frame.left.now c.loop-frame.invariant.octets none, refl) in
-    (rw (← append-nil c.loop-frame.submessages.items) all, c.loop-frame.invariant.fewer)
+    rw (← append-nil c.loop-frame.submessages) all
 
-pub returns-in_err-push : goal.returns-in_err-push
-returns-in_err-push c =
+pub returns-in_err-push-clause-memory : goal.returns-in_err-push-clause-memory
+returns-in_err-push-clause-memory c =
     let f =
     frame_found c.loop-frame.left.now
     (c.in-Some.frame.id, c.in-Some.frame.flags, c.in-Some.frame.body.now, c.in-Some.rest.now)
