@@ -26,7 +26,7 @@ use dds_machine::{Endpoint, Move, Reply, Report};
 use dds_protocol::Output;
 use rtps_reader::Step;
 use rtps_wire::{MAX_MESSAGE, Message, Submessage, read_message};
-use std::alloc::Global;
+use smallvec::SmallVec;
 
 /// The first of the readers of the peer of this prefix that a submessage is for, from a writer that it is matched with.
 fn named_reader(
@@ -48,25 +48,28 @@ fn named_reader(
     None
 }
 
+/// How many readers a peer has for which no memory is needed for the list of what is ready.
+const FEW_READERS: usize = 4;
+
 /// Makes ready what a submessage tells, for each of the readers of the peer of this prefix.
 fn prepare(
-    alloc: Global,
+    ready: &mut SmallVec<Option<Ready>, FEW_READERS>,
     readers: &mut [ReaderEnd],
     own: &GuidPrefix,
     receiver: &MessageReceiver,
     submessage: &Submessage,
-) -> Result<Vec<Option<Ready>>, Code>
-    ensures ready { IfOk result
-        (λ all. AreReady own.now (receiver_at receiver.now) submessage.now readers.new all.items) }
+) -> Result<(), Code>
+    requires none { ready.old.items ≡ [] }
+    ensures ready { OnOk result
+        (AreReady own.now (receiver_at receiver.now) submessage.now readers.new ready.new.items) }
     ensures alike { AreAlike readers.old readers.new }
     ensures memory { IfErr result (λ code. code ≡ Memory) }
 {
-    let mut ready = Vec::new(alloc);
     for index in 0..readers.len() {
         let one = readers[index].prepare(own, receiver, submessage)?;
         ready.push(one)?;
     }
-    Ok(ready)
+    Ok(())
 }
 
 /// Adds what a reader's step moved, for which there is room: the place in a writer's list goes on from this number.
@@ -120,20 +123,24 @@ impl Peer {
     }
 
     /// Each reader is told what is ready for it, one after the other. Adds the moves, for which there is room.
-    fn take_all(&mut self, moves: &mut Moves, sent: &mut Announced, ready: Vec<Option<Ready>>)
-        requires can { AllCanTake self.old.readers ready.items }
-        requires count { length ready.items ≡ length self.old.readers }
-        requires room { 2 * length ready.items ≤ moves.old.room }
-        requires few { length ready.items ≤ 16 }
+    fn take_all(
+        &mut self,
+        moves: &mut Moves,
+        sent: &mut Announced,
+        ready: &mut SmallVec<Option<Ready>, FEW_READERS>,
+    )
+        requires can { AllCanTake self.old.readers ready.old.items }
+        requires count { length ready.old.items ≡ length self.old.readers }
+        requires room { 2 * length ready.old.items ≤ moves.old.room }
+        requires few { length ready.old.items ≤ 16 }
         requires low { sent.old.unsent < 2 ^ 60 }
-        ensures takes { TakesAll self.old ready.items moves.old.items sent.old self.new
+        ensures takes { TakesAll self.old ready.old.items moves.old.items sent.old self.new
             moves.new.items sent.new }
         ensures prefix { self.new.prefix ≡ self.old.prefix }
         ensures twice { moves.new.twice ≡ moves.old.twice }
-        ensures few { sent.new.unsent ≤ sent.old.unsent + length ready.items }
+        ensures few { sent.new.unsent ≤ sent.old.unsent + length ready.old.items }
         ensures messages { AreMessages sent.old.packets.items → AreMessages sent.new.packets.items }
     {
-        let mut ready = ready;
         for index in 0..ready.len() {
             if let Some(one) = ready[index].take() {
                 self.take_at(moves, sent, index, one);
@@ -145,25 +152,21 @@ impl Peer {
     /// `docs/DECISIONS.md`, "Peers and the network".
     fn make_ready(
         &mut self,
+        ready: &mut SmallVec<Option<Ready>, FEW_READERS>,
         receiver: &MessageReceiver,
         submessage: &Submessage,
-    ) -> Result<Vec<Option<Ready>>, Code>
-        ensures ready { IfOk result
-            (λ all. AreReady self.old.prefix
-            (receiver_at receiver.now) submessage.now self.new.readers all.items) }
-        ensures few { IfOk result (λ all. length all.items ≤ 16) }
+    ) -> Result<(), Code>
+        requires none { ready.old.items ≡ [] }
+        ensures ready { OnOk result
+            (AreReady self.old.prefix
+            (receiver_at receiver.now) submessage.now self.new.readers ready.new.items) }
+        ensures few { OnOk result (length ready.new.items ≤ 16) }
         ensures stands { StandsAsWell self.old self.new }
         ensures count { length self.new.readers ≡ length self.old.readers }
         ensures prefix { self.new.prefix ≡ self.old.prefix }
         ensures memory { IfErr result (λ code. code ≡ Memory) }
     {
-        prepare(
-            self.alloc,
-            &mut self.readers,
-            &self.prefix,
-            receiver,
-            submessage,
-        )
+        prepare(ready, &mut self.readers, &self.prefix, receiver, submessage)
     }
 
     /// The first of the peer's readers that a submessage is for.
@@ -199,9 +202,10 @@ impl Peer {
         let Some(_index) = self.named(receiver, submessage) else {
             return Ok(());
         };
-        let ready = self.make_ready(receiver, submessage)?;
+        let mut ready = SmallVec::new(self.alloc);
+        self.make_ready(&mut ready, receiver, submessage)?;
         moves.reserve(2 * ready.len())?;
-        self.take_all(moves, sent, ready);
+        self.take_all(moves, sent, &mut ready);
         Ok(())
     }
 

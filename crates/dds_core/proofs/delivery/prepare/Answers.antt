@@ -10,7 +10,7 @@ loop-index-init c =
       alike = all_alike_self c.args.readers.now;
       count = search rules;
       each = λ i k r at_k at_r.
-          absurd (none_there c.new-ready.result.items i r c.new-ready.ensures.items at_r);
+          absurd (none_there c.args.ready.now.items i r c.requires.none at_r);
     }
 
 pub returns-in_err-one-clause-alike : goal.returns-in_err-one-clause-alike
@@ -34,5 +34,5 @@ loop-index-preserved c =
           ready_more c.args.own.now (receiver_at c.args.receiver.now) c.args.submessage.now c.loop-index.readers
           c.loop-index.ready.items c.push.new.self.items c.loop-index.index c.prepare.new.self c.in_ok-one.one
           c.loop-index.invariant.count
-          c.in_ok-push.ensures.items c.loop-index.invariant.each c.in_ok-one.ensures.ready;
+          c.in_ok-push.ensures.ok c.loop-index.invariant.each c.in_ok-one.ensures.ready;
     }

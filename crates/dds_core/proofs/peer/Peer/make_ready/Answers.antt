@@ -1,5 +1,5 @@
 use Rattle.std.proofs.Common.{List, sym, ◌∙◌, subst}
-use Rattle.std.specs.Prelude.{IfOk}
+use Rattle.std.specs.Prelude.{OnOk}
 use Rattle.std.proofs.lemmas.List.{with_items_is}
 use Rattle.dds_core.specs.Kept.{ReaderKept, PeerKept}
 use Rattle.dds_core.specs.Readiness.{receiver_at, AreReady, AreAlike}
@@ -12,12 +12,12 @@ returns-clause-ready c =
     let same =
     with_items_is c.self.inside.readers c.prepare.new.readers
     (c.prepare.ensures.alike.count ∙ c.deref_mut.ensures.len) in
-    subst (λ (rs : List ReaderKept). IfOk c.prepare.result
-    (λ all. AreReady c.args.self.now.prefix (receiver_at c.args.receiver.now) c.args.submessage.now rs all.items))
+    subst (λ (rs : List ReaderKept). OnOk c.prepare.result
+    (AreReady c.args.self.now.prefix (receiver_at c.args.receiver.now) c.args.submessage.now rs c.prepare.new.ready.items))
     (sym same)
-    (subst (λ (k : PeerKept). IfOk c.prepare.result
-    (λ all. AreReady k.prefix (receiver_at c.args.receiver.now) c.args.submessage.now c.prepare.new.readers
-    all.items)) c.self.view_is c.prepare.ensures.ready)
+    (subst (λ (k : PeerKept). OnOk c.prepare.result
+    (AreReady k.prefix (receiver_at c.args.receiver.now) c.args.submessage.now c.prepare.new.readers
+    c.prepare.new.ready.items)) c.self.view_is c.prepare.ensures.ready)
 
 pub returns-clause-stands : goal.returns-clause-stands
 returns-clause-stands c =

@@ -1,5 +1,6 @@
-use Rattle.std.proofs.Common.{◌≡◌, ◌+◌, ◌<◌, ◌≤◌, ℕ, List, Some, None, length, slice_get, refl, sym, ◌∙◌, ap, subst, arith, rules, length-set}
+use Rattle.std.proofs.Common.{◌≡◌, ◌+◌, ◌<◌, ◌≤◌, ℕ, List, Some, None, drop, length, set, slice_get, get_or, refl, sym, ◌∙◌, ap, subst, arith, rules, length-set}
 use Rattle.std.specs.Prelude.{Option}
+use Rattle.smallvec.proofs.SmallVecLemmas.{items-with_items}
 use Rattle.dds_core.specs.declared.reader_end.Ready.{Ready}
 use Rattle.dds_core.specs.Kept.{PeerKept}
 use Rattle.dds_core.specs.Moved.{MovesKept}
@@ -16,7 +17,7 @@ use Rattle.dds_core.proofs.peer.Peer.take_all.Goals as goal
 pub loop-index-init : goal.loop-index-init
 loop-index-init c =
     record {
-      takes = takes_none c.args.self.now c.args.ready.items c.args.moves.now.items c.args.sent.now;
+      takes = takes_none c.args.self.now c.args.ready.now.items c.args.moves.now.items c.args.sent.now;
       rest = refl;
       count = refl;
       few = omega arith;
@@ -29,9 +30,10 @@ pub take_at-requires-clause-can : goal.take_at-requires-clause-can
 take_at-requires-clause-can c =
     let i = c.loop-index.index in
     let within : i < length c.loop-index.ready.items = search rules in
-    let there : slice_get c.args.ready.items i ≡ Some c.index_mut.result.now =
-    still_ready c.args.ready.items c.loop-index.ready.items i c.index_mut.result.now c.index_mut.result.now
-    c.loop-index.invariant.rest within c.index_mut.ensures.value in
+    let d = c.index-deref_mut-index.result in
+    let there : slice_get c.args.ready.now.items i ≡ Some (get_or c.deref_mut.result.now i d) =
+    still_ready c.args.ready.now.items c.loop-index.ready.items i _ d c.loop-index.invariant.rest within
+    (ap (λ (rs : List (Option Ready)). get_or rs i d) c.deref_mut.ensures.value) in
     let can =
     c.requires.can i c.in-Some.one (there ∙ ap (λ (x : Option Ready). Some x) (sym c.in-Some.ensures.value)) in (
       can.0,
@@ -50,20 +52,30 @@ pub loop-index-preserved : goal.loop-index-preserved
 loop-index-preserved c =
     let i = c.loop-index.index in
     let within : i < length c.loop-index.ready.items = search rules in
-    let there : slice_get c.args.ready.items i ≡ Some c.index_mut.result.now =
-    still_ready c.args.ready.items c.loop-index.ready.items i c.index_mut.result.now c.index_mut.result.now
-    c.loop-index.invariant.rest within c.index_mut.ensures.value in
-    let rest = rest_more c.args.ready.items c.loop-index.ready.items i c.take.new.self c.loop-index.invariant.rest in
-    let count : length _ ≡ length c.args.ready.items =
-    length-set c.loop-index.ready.items i c.take.new.self ∙ c.loop-index.invariant.count in
+    let d = c.index-deref_mut-index.result in
+    let there : slice_get c.args.ready.now.items i ≡ Some (get_or c.deref_mut.result.now i d) =
+    still_ready c.args.ready.now.items c.loop-index.ready.items i _ d c.loop-index.invariant.rest within
+    (ap (λ (rs : List (Option Ready)). get_or rs i d) c.deref_mut.ensures.value) in
+    let left = set c.deref_mut.result.now i c.take.new.self in
+    let same =
+    items-with_items c.loop-index.ready left
+    (length-set c.deref_mut.result.now i c.take.new.self
+    ∙ ap (λ (rs : List (Option Ready)). length rs) c.deref_mut.ensures.value)
+    ∙ ap (λ (rs : List (Option Ready)). set rs i c.take.new.self) c.deref_mut.ensures.value in
+    let rest =
+    subst (λ (rs : List (Option Ready)). drop (i + 1) rs ≡ drop (i + 1) c.args.ready.now.items) (sym same)
+    (rest_more c.args.ready.now.items c.loop-index.ready.items i c.take.new.self c.loop-index.invariant.rest) in
+    let count =
+    ap (λ (rs : List (Option Ready)). length rs) same
+    ∙ (length-set c.loop-index.ready.items i c.take.new.self ∙ c.loop-index.invariant.count) in
     let room = c.loop-index.invariant.room in
     let few = c.loop-index.invariant.few in
     let known : i < length c.args.self.now.readers =
-    fewer c.args.self.now.readers c.args.ready.items i c.requires.count
+    fewer c.args.self.now.readers c.args.ready.now.items i c.requires.count
     (subst (λ n. i < n) c.loop-index.invariant.count within) in
     elim c.match-take.branch [
       | in-Some w ↦
-          let is : slice_get c.args.ready.items i ≡ Some (Some w.in-Some.one) =
+          let is : slice_get c.args.ready.now.items i ≡ Some (Some w.in-Some.one) =
           there ∙ ap (λ (x : Option Ready). Some x) (sym w.in-Some.ensures.value) in
           let more = w.take_at.ensures.few in
           let left = w.take_at.ensures.room in
@@ -71,8 +83,8 @@ loop-index-preserved c =
           record {
             takes =
                 of_three (λ (k : PeerKept) (m : MovesKept) (x : Announced). TakesSome c.args.self.now
-                c.args.ready.items (i + 1) c.args.moves.now.items c.args.sent.now k m.items x) w.self-is w.moves-is w.sent-is
-                (takes_more c.args.self.now c.loop-index.self w.take_at.new.self c.args.ready.items i w.in-Some.one
+                c.args.ready.now.items (i + 1) c.args.moves.now.items c.args.sent.now k m.items x) w.self-is w.moves-is w.sent-is
+                (takes_more c.args.self.now c.loop-index.self w.take_at.new.self c.args.ready.now.items i w.in-Some.one
                 c.args.moves.now.items c.loop-index.moves.items w.take_at.new.moves.items c.args.sent.now
                 c.loop-index.sent w.take_at.new.sent
                 c.loop-index.invariant.takes known is w.take_at.ensures.takes);
@@ -89,14 +101,14 @@ loop-index-preserved c =
                 ∙ (w.take_at.ensures.twice ∙ c.loop-index.invariant.twice);
           }
       | in_default w ↦
-          let none : slice_get c.args.ready.items i ≡ Some None =
+          let none : slice_get c.args.ready.now.items i ≡ Some None =
           there ∙ ap (λ (x : Option Ready). Some x) (sym c.take.ensures.value ∙ w.in_default.is) in
           let long = ap (λ (m : MovesKept). m.room) w.moves-is in
           record {
             takes =
                 of_three (λ (k : PeerKept) (m : MovesKept) (x : Announced). TakesSome c.args.self.now
-                c.args.ready.items (i + 1) c.args.moves.now.items c.args.sent.now k m.items x) w.self-is w.moves-is w.sent-is
-                (takes_skip c.args.self.now c.loop-index.self c.args.ready.items i c.args.moves.now.items
+                c.args.ready.now.items (i + 1) c.args.moves.now.items c.args.sent.now k m.items x) w.self-is w.moves-is w.sent-is
+                (takes_skip c.args.self.now c.loop-index.self c.args.ready.now.items i c.args.moves.now.items
                 c.loop-index.moves.items c.args.sent.now c.loop-index.sent c.loop-index.invariant.takes known none);
             few =
                 subst (λ (x : Announced). x.unsent ≤ c.args.sent.now.unsent + (i + 1)) (sym w.sent-is)
@@ -116,5 +128,5 @@ loop-index-preserved c =
 
 pub returns-clause-takes : goal.returns-clause-takes
 returns-clause-takes c =
-    takes_all c.args.self.now c.loop-index.self c.args.ready.items c.args.moves.now.items c.loop-index.moves.items
+    takes_all c.args.self.now c.loop-index.self c.args.ready.now.items c.args.moves.now.items c.loop-index.moves.items
     c.args.sent.now c.loop-index.sent c.loop-index.index (search rules) (search rules) c.loop-index.invariant.takes
