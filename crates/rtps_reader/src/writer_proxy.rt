@@ -124,6 +124,17 @@ fn note_run<S: Sink>(sink: &mut S, source: &Source, from: u64, to: u64, runs: &m
     }
 }
 
+/// The runs that were passed over. Where there are none, their memory is kept as room for those of the next step.
+fn passed_of(alloc: Global, runs: Vec<PassedRun>, room: &mut Vec<PassedRun>) -> Sequence<PassedRun>
+    ensures { result ≡ runs.items }
+{
+    if runs.is_empty() {
+        *room = runs;
+        return Sequence::from_vec(Vec::new(alloc));
+    }
+    Sequence::from_vec(runs)
+}
+
 /// Enters that the writer's liveliness was asserted, if it was.
 fn hear_if<S: Sink>(sink: &mut S, source: &Source, liveliness: bool)
     requires matched { IsMatched (S.qos sink.old) source.now.publication }
@@ -412,9 +423,10 @@ impl WriterProxy {
         let mut runs = mem::replace(&mut self.runs, Vec::new(self.alloc));
         runs.clear();
         self.advance(sink, source, &mut runs);
+        let passed = passed_of(self.alloc, runs, &mut self.runs);
         Step {
             to: self.window.place(),
-            passed: Sequence::from_vec(runs),
+            passed,
             heard: false,
             acknack: None,
         }
@@ -500,9 +512,10 @@ impl WriterProxy {
             unreachable!();
         }
         self.jump(Sn::new(number + 1));
+        let passed = passed_of(self.alloc, runs, &mut self.runs);
         Step {
             to: self.window.place(),
-            passed: Sequence::from_vec(runs),
+            passed,
             heard: false,
             acknack: None,
         }
