@@ -2,7 +2,7 @@
 //!
 //! DDS 1.4, 2.2.3 (HISTORY, RESOURCE_LIMITS, LIVELINESS, OWNERSHIP); RTPS 2.5, 9.3 (entity kinds, GUIDPREFIX_UNKNOWN).
 
-ghost use Rattle.std.specs.Prelude.{◌≡◌, ℤ, ◌&&◌, List};
+ghost use Rattle.std.specs.Prelude.{◌≡◌, ◌&&◌, List};
 ghost use Rattle.std.specs.List.{list_any};
 ghost use Rattle.dds_base.specs.declared.config.PeerConfig.{PeerConfig};
 ghost use Rattle.dds_base.specs.Matched.{same_topic, matched_writers_of};

@@ -2,7 +2,7 @@
 //!
 //! DDS 1.4, 2.2.2.1 (Entity).
 
-ghost use Rattle.std.specs.Prelude.{◌≡◌, ◌-◌, ◌==◌, Bool, true, false, length, get_or, set, replicate, IfOk, IfSome, IfNone, if◌then◌else◌};
+ghost use Rattle.std.specs.Prelude.{◌≡◌, ◌-◌, ◌==◌, true, false, length, get_or, set, replicate, IfOk, IfSome, IfNone, if◌then◌else◌};
 ghost use Rattle.dds_base.specs.EachEntity.{entity_or, everywhere, has_entity, with_entity};
 ghost use Rattle.dds_base.specs.Number.{is_number};
 

@@ -2,7 +2,7 @@
 //!
 //! DDS 1.4, 2.2.2.5 (SampleStateMask, ViewStateMask, InstanceStateMask), 2.3.3.
 
-ghost use Rattle.std.specs.Prelude.{⊤, List, [], ◌∷◌, codes};
+ghost use Rattle.std.specs.Prelude.{⊤, [], ◌∷◌, codes};
 
 use bitflags::{Flag, Flags, bitflag_items};
 

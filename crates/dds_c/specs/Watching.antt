@@ -11,7 +11,7 @@ use Rattle.dds_notices.specs.Notices.{Recording}
 use Rattle.dds_notices.specs.declared.mask.StatusMask.{StatusMask}
 use Rattle.dds_notices.specs.declared.notice.Notice.{Notice}
 use Rattle.dds_notices.specs.declared.notice.Status.{Status}
-use Rattle.dds_notices.specs.declared.notice.Status.TheVariants.{DataAvailable, LivelinessChanged, LivelinessLost, SampleLost}
+use Rattle.dds_notices.specs.declared.notice.Status.TheVariants.{LivelinessChanged, LivelinessLost, SampleLost}
 use Rattle.dds_script.specs.declared.prefix.Prefix.{Prefix}
 use Rattle.dds_c.specs.Answering.{refusing_number}
 use Rattle.dds_c.specs.Fetching.{changed_of}
@@ -85,6 +85,7 @@ RefusesToSet (Some entity) recorder None number = number ≡ 4
 abbrev pub no_total : FlatTotal
 no_total = record { total_count = 0; total_count_change = 0 }
 
+-- nothing of a change
 abbrev pub no_change : FlatChanged
 no_change = record {
   alive_count = pos 0;
@@ -100,6 +101,7 @@ kind_of Participant = 0
 kind_of (Writer number) = 1
 kind_of (Reader number) = 2
 
+-- the number of an entity, 0 of the participant
 abbrev pub number_of : Entity → ℕ
 number_of Participant = 0
 number_of (Writer number) = number

@@ -5,7 +5,7 @@
 ghost use Rattle.std.specs.Prelude.{◌≡◌, ◌≢◌, ◌⊎◌, None, Some, IfOk, IfErr, OnErr};
 ghost use Rattle.dds_base.specs.Refusal.{Refuses};
 ghost use Rattle.dds_core.specs.Listening.{RefusesFilter, RefusesListener};
-ghost use Rattle.dds_notices.specs.Notices.{Recording, opened, room_refusal};
+ghost use Rattle.dds_notices.specs.Notices.{opened, room_refusal};
 ghost use Rattle.dds_c.specs.Meaning.{recorder_notices, recorder_capacity, recorder_becomes};
 ghost use Rattle.dds_notices.specs.Masks.{status_bit};
 ghost use Rattle.dds_c.specs.Watching.{Between, FilterIsAdded, ListenerIsSet, NoticeFetched, NoticeWritten, RecorderIsSet, RefusesToAdd, RefusesToSet, RefusesWith, changed_in, entity_of, kept_at, kind_of, mask_of, notice_of, prefix_of, number_of, total_in};

@@ -2,7 +2,7 @@
 //!
 //! DDS 1.4, 2.2.2.5 (read, take, SampleInfo).
 
-ghost use Rattle.std.specs.Prelude.{◌≡◌, ◌+◌, ◌&&◌, Some, if◌then◌else◌, ◌<◌, ◌^◌, List, ℕ, false, true, map, filter, All, MatchOption, length, IfSome, IfOk, OnOk};
+ghost use Rattle.std.specs.Prelude.{◌≡◌, ◌+◌, ◌&&◌, Some, if◌then◌else◌, ◌<◌, ◌^◌, List, false, true, map, All, length, IfSome, IfOk, OnOk};
 ghost use Rattle.std.specs.List.Sorted.{IsPermutation, IsNonDecreasingBy, IsStableByKey};
 ghost use Rattle.std.specs.Ordering.{nat_cmp};
 ghost use Rattle.dds_base.specs.declared.happening.Happening.{Happening};

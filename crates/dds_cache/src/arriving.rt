@@ -2,11 +2,10 @@
 //!
 //! DDS 1.4, 2.2.2.5 (samples), 2.2.3 (HISTORY).
 
-ghost use Rattle.std.specs.Prelude.{◌≡◌, ◌+◌, ◌∷◌, [], ℕ, List, false, true, length, All, MatchOption, IfSome, ◌<◌, ◌≤◌, vec_len, vec_capacity};
+ghost use Rattle.std.specs.Prelude.{◌≡◌, ◌+◌, ◌∷◌, [], List, false, All, IfSome, ◌<◌, ◌≤◌, vec_len, vec_capacity};
 ghost use Rattle.dds_base.specs.declared.happening.Happening.{Happening};
 ghost use Rattle.dds_base.specs.declared.happening.Happening.TheVariants.{Came};
-ghost use Rattle.dds_base.specs.Happening.{is_read, is_taken};
-ghost use Rattle.dds_base.specs.Instance.{instance_state_of};
+ghost use Rattle.dds_base.specs.Happening.{is_read};
 ghost use Rattle.dds_base.specs.Life.{ends_with_write};
 ghost use Rattle.dds_instances.specs.Table.{Stands};
 ghost use Rattle.dds_cache.specs.Arriving.{TakesChange};

@@ -2,7 +2,7 @@
 //!
 //! DDS 1.4, 2.2.2.5 (instance_state), 2.2.3 (LIVELINESS).
 
-ghost use Rattle.std.specs.Prelude.{◌≡◌, ◌+◌, ◌∷◌, [], ℕ, List, Some, true, false, length, All, MatchOption, IfSome, ◌<◌, ◌≤◌, vec_len, vec_capacity, slice_get};
+ghost use Rattle.std.specs.Prelude.{◌≡◌, ◌+◌, ◌∷◌, [], List, Some, true, false, length, All, IfSome, ◌<◌, ◌≤◌, vec_len, vec_capacity};
 ghost use Rattle.dds_base.specs.declared.happening.Happening.{Happening};
 ghost use Rattle.dds_base.specs.declared.happening.Happening.TheVariants.{Died};
 ghost use Rattle.dds_base.specs.declared.key.Key.{Key};

@@ -2,7 +2,7 @@
 //!
 //! DDS 1.4, 2.2.2.5 (read, take, and their instance, next-instance and next-sample forms).
 
-ghost use Rattle.std.specs.Prelude.{◌≡◌, ℕ, List, length, filter, All, IfOk, IfErr, None};
+ghost use Rattle.std.specs.Prelude.{◌≡◌, List, length, filter, All, IfOk, IfErr, None};
 ghost use Rattle.std.specs.List.Sorted.{IsNonDecreasingBy};
 ghost use Rattle.dds_base.specs.declared.happening.Happening.{Happening};
 ghost use Rattle.dds_base.specs.declared.qos.ReaderQos.{ReaderQos};

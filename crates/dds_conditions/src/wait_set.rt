@@ -2,7 +2,7 @@
 //!
 //! DDS 1.4, 2.2.2.1 (WaitSet: attach_condition, detach_condition, wait).
 
-ghost use Rattle.std.specs.Prelude.{◌≡◌, [], Bool, true, filter, IsOk, IfOk, IfErr, OnOk, OnErr, None, Some};
+ghost use Rattle.std.specs.Prelude.{◌≡◌, [], Bool, true, IsOk, IfOk, IfErr, OnOk, OnErr, None, Some};
 ghost use Rattle.std.specs.Fn.{CalledAt};
 ghost use Rattle.std.specs.List.{list_any};
 ghost use Rattle.dds_base.specs.declared.code.Code.TheVariants.{Memory};

@@ -15,7 +15,7 @@ ghost use Rattle.dds_conditions.specs.declared.condition.Condition.TheVariants.{
 ghost use Rattle.dds_conditions.specs.Attached.{active_of, is_attached};
 ghost use Rattle.dds_base.specs.Number.{at_number};
 ghost use Rattle.dds_conditions.specs.Lent.{LendsWaitSet};
-ghost use Rattle.dds_conditions.specs.Watched.{attach_refusal, conditions_in, conditions_of, detaching_refusal, enabled_of, filter_refusal, free_refusal, guard_refusal, has_filter, is_timed_out, is_used, knows, knows_entity, number_refusal, opened, unless_there, use_refusal, uses_in, with_attached, with_condition, with_condition_at, with_deadline, with_detached, with_enabled, with_filter, with_made, with_wait_set, with_wait_set_at, without, without_condition};
+ghost use Rattle.dds_conditions.specs.Watched.{attach_refusal, conditions_of, detaching_refusal, enabled_of, filter_refusal, free_refusal, guard_refusal, has_filter, is_timed_out, is_used, knows, knows_entity, number_refusal, opened, unless_there, use_refusal, uses_in, with_attached, with_condition, with_condition_at, with_deadline, with_detached, with_enabled, with_filter, with_wait_set, with_wait_set_at, without, without_condition};
 
 use crate::condition::{Cond, Condition};
 use crate::wait_set::WaitSet;

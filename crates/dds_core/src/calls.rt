@@ -2,7 +2,7 @@
 //!
 //! DDS 1.4, 2.2.2.4 (DataWriter).
 
-ghost use Rattle.std.specs.Prelude.{◌≡◌, ◌+◌, ◌^◌, ◌<◌, ◌≤◌, length, true, []};
+ghost use Rattle.std.specs.Prelude.{◌≡◌, ◌+◌, ◌^◌, ◌<◌, ◌≤◌, length, []};
 ghost use Rattle.dds_machine.specs.declared.reply.Reply.TheVariants.{Done, Refused};
 ghost use Rattle.dds_machine.specs.declared.call.Call.TheVariants as call;
 ghost use Rattle.dds_protocol.specs.declared.event.Event.TheVariants as event;

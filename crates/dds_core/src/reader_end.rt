@@ -22,7 +22,7 @@ ghost use Rattle.dds_core.specs.Looking.{access_reply, TakesOnly, TellsFlags, Te
 ghost use Rattle.dds_core.specs.Twins.{Twins};
 ghost use Rattle.dds_core.specs.Storing.{Holds};
 ghost use Rattle.dds_cache.specs.Standing.{qos_of, AccessAnswers, AfterAccess};
-ghost use Rattle.dds_protocol.specs.Claims.{is_for, Names};
+ghost use Rattle.dds_protocol.specs.Claims.{is_for};
 ghost use Rattle.dds_machine.specs.Noticing.{data_raised, lost_raised, turn_raised};
 
 use crate::limits::limit_of;

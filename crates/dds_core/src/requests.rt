@@ -2,7 +2,7 @@
 //!
 //! RTPS 2.5, 8.4.9 (the behaviour of a reliable StatefulWriter).
 
-ghost use Rattle.std.specs.Prelude.{◌≡◌, ◌+◌, ◌^◌, ◌<◌, ◌≤◌, ℕ, Some, length, slice_get, IfSome, IfNone, OnOk, OnErr};
+ghost use Rattle.std.specs.Prelude.{◌≡◌, ◌+◌, ◌^◌, ◌<◌, ◌≤◌, Some, length, slice_get, IfSome, IfNone, OnOk, OnErr};
 ghost use Rattle.rtps_wire.specs.declared.submessage.Submessage.TheVariants as submessage;
 ghost use Rattle.dds_core.specs.Answering.{HasRoom, HaveRoom, AsksNone, IsAskedWriter, TakesRow, TakesAllRows};
 ghost use Rattle.dds_core.specs.Kept.{WriterKept};

@@ -2,7 +2,7 @@
 //!
 //! RTPS 2.5, 8.2 (HistoryCache of a reader); DDS 1.4, 2.2.3 (RESOURCE_LIMITS, LIVELINESS).
 
-ghost use Rattle.std.specs.Prelude.{◌≡◌, ◌+◌, ◌-◌, ◌^◌, ◌<◌, ◌≤◌, ℕ, true, false, List, [], Some, if◌then◌else◌, IfOk, IfErr, OnOk, length};
+ghost use Rattle.std.specs.Prelude.{◌≡◌, ◌+◌, ◌-◌, ◌^◌, ◌<◌, ◌≤◌, true, false, List, [], Some, if◌then◌else◌, IfOk, IfErr, length};
 ghost use Rattle.dds_base.specs.declared.code.Code.TheVariants.{Memory};
 ghost use Rattle.dds_base.specs.declared.happening.Happening.{Happening};
 ghost use Rattle.dds_base.specs.Access.{handle_of, has_match, instance_of};

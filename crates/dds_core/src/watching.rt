@@ -15,7 +15,7 @@ ghost use Rattle.dds_core.specs.Accesses.{condition_call};
 ghost use Rattle.dds_core.specs.Stepping.{Steps, StepsBy};
 ghost use Rattle.dds_core.specs.Sending.{SendsNothing};
 ghost use Rattle.dds_core.specs.Twins.{IsPlain, Twins};
-ghost use Rattle.dds_core.specs.Watching.{AreActive, AsksBy, Tells, TellsActive, TellsStatuses, TellsTrigger, TellsValue, active_reply, asked_of, conditions_reply, done_reply, made_reply};
+ghost use Rattle.dds_core.specs.Watching.{AreActive, AsksBy, TellsActive, TellsStatuses, TellsTrigger, TellsValue, active_reply, asked_of, conditions_reply, done_reply, made_reply};
 
 use crate::by_filter::ByFilter;
 use crate::output::{answered, reply_to_access};

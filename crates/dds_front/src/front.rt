@@ -2,8 +2,7 @@
 //!
 //! Fronts are this project's own.
 
-ghost use Rattle.std.specs.Prelude.{◌≡◌, ◌≤◌, [], false, max};
-ghost use Rattle.dds_front.specs.Fronts.{knows};
+ghost use Rattle.std.specs.Prelude.{◌≡◌, ◌≤◌, [], max};
 
 use crate::rule::{Look, Note, View};
 use crate::word::{HasWord, Word};

@@ -30,6 +30,7 @@ pub record KeptState : Type 0 where
   pub counted : Counted
   pub live : ℕ
 
+-- what the fields of the type keep, as lists
 abbrev pub state : Kept → KeptState
 state k = record { policy = k.policy; entries = k.entries.items; counted = k.keys.entries; live = k.live }
 
@@ -41,10 +42,12 @@ parts s = (s.entries, s.counted, s.live)
 abbrev pub left : ℕ → KeyCount → Entry → ℕ
 left depth count e = depth - (count.turns - e.turn)
 
+-- how many more changes of its key an entry outlives; under KEEP_ALL it is never dropped
 abbrev pub remaining_by : HistoryQos → Counted → Entry → ℕ
 remaining_by KeepAll counted e = 1
 remaining_by (KeepLast depth) counted e = left depth (count_in counted e.change.key) e
 
+-- an entry as a held change
 abbrev pub held_as : HistoryQos → Counted → Entry → HeldChange
 held_as policy counted e = record { number = e.number; change = e.change; remaining = remaining_by policy counted e }
 
@@ -52,6 +55,7 @@ held_as policy counted e = record { number = e.number; change = e.change; remain
 abbrev pub held_by : HistoryQos → Counted → List Entry → List HeldChange
 held_by policy counted es = filter (λ h. nat_lt 0 h.remaining) (map (λ e. held_as policy counted e) es)
 
+-- the changes that are held
 abbrev pub shown : KeptState → List HeldChange
 shown s = held_by s.policy s.counted s.entries
 
@@ -86,6 +90,7 @@ pub record IsFew (last : ℕ) (s : KeptState) : Type 0 where
   pub kept : (key : Key) → (count_in s.counted key).kept ≤ last
   pub live : s.live ≤ last
 
+-- the same by the policy: nothing is counted under KEEP_ALL
 abbrev pub IsFewBy : HistoryQos → ℕ → KeptState → Type 0
 IsFewBy KeepAll last s = Unit {0}
 IsFewBy (KeepLast depth) last s = IsFew last s
@@ -97,6 +102,7 @@ pub record Fits (depth last : ℕ) (s : KeptState) : Type 0 where
   pub live : s.live ≡ length (held_by (KeepLast depth) s.counted s.entries)
   pub few : IsFew last s
 
+-- the same by the policy
 abbrev pub FitsBy : HistoryQos → ℕ → KeptState → Type 0
 FitsBy KeepAll last s = Unit {0}
 FitsBy (KeepLast depth) last s = Fits depth last s
@@ -133,6 +139,7 @@ abbrev pub is_counted_by : HistoryQos → Counted → Entry → Bool
 is_counted_by KeepAll counted e = false
 is_counted_by (KeepLast depth) counted e = nat_lt 0 (left depth (count_in counted e.change.key) e)
 
+-- the same of what is kept
 abbrev pub is_counted : KeptState → Entry → Bool
 is_counted s e = is_counted_by s.policy s.counted e
 
@@ -162,6 +169,7 @@ pub record IsCounted (depth : ℕ) (key : Key) (old new : KeptState) (turn : ℕ
       → count_in new.counted k ≡ (if same_key key k then one_more depth (count_in old.counted key) else count_in old.counted k)
   pub live : new.live ≡ (if (count_in old.counted key).kept == depth then old.live else old.live + 1)
 
+-- the same by the policy: under KEEP_ALL nothing is counted
 abbrev pub IsCountedBy : HistoryQos → Key → KeptState → KeptState → ℕ → Type 0
 IsCountedBy KeepAll key old new turn = (new.policy ≡ old.policy) × (new.entries ≡ old.entries)
 IsCountedBy (KeepLast depth) key old new turn = IsCounted depth key old new turn

@@ -9,16 +9,16 @@
 //!
 //! DDS 1.4, 2.2.3 (HISTORY); RTPS 2.5, 8.2 (HistoryCache, CacheChange).
 
-ghost use Rattle.std.specs.Prelude.{◌≡◌, [], ℕ, ◌+◌, ◌-◌, ◌^◌, ◌<◌, ◌≤◌, ◌==◌, ◌&&◌, ◌||◌, not, find, filter, slice_get, drop, false, true, min, nat_le, nat_lt, Some, IfErr, IfSome, IfOk, OnOk, OnErr, if◌then◌else◌};
+ghost use Rattle.std.specs.Prelude.{◌≡◌, [], ℕ, ◌+◌, ◌-◌, ◌^◌, ◌<◌, ◌≤◌, ◌==◌, ◌&&◌, ◌||◌, find, filter, slice_get, false, true, min, nat_le, nat_lt, Some, IfErr, IfSome, IfOk, OnOk, OnErr, if◌then◌else◌};
 ghost use Rattle.std.specs.List.{reduce};
-ghost use Rattle.std.specs.Option.{option_copied, option_map, option_map_or, unwrap_or};
+ghost use Rattle.std.specs.Option.{option_copied, option_map, unwrap_or};
 ghost use Rattle.std.specs.VecDeque.{deque_len};
 ghost use Rattle.dds_base.specs.declared.code.Code.TheVariants.{Memory};
 ghost use Rattle.dds_base.specs.declared.key.Key.{Key};
 ghost use Rattle.dds_base.specs.declared.qos.HistoryQos.TheVariants.{KeepLast};
 ghost use Rattle.dds_base.specs.Happening.{same_key};
 ghost use Rattle.dds_history.specs.declared.held.Entry.{Entry};
-ghost use Rattle.dds_history.specs.Held.{HeldChange, IsNext, awaits, granted, kept_after, older_after};
+ghost use Rattle.dds_history.specs.Held.{IsNext, awaits, granted, kept_after, older_after};
 ghost use Rattle.dds_history.specs.Entries.{Gains, HasRuns, Holds, HoldsBefore, IsAfterFirst, Rises, count_in, goes_first, held_as, one_fewer, remaining_by, shown, state, is_counted, IsCounted, IsCountedBy, IsFew, IsFewBy};
 
 use dds_base::{Change, Code, HistoryQos, Key};

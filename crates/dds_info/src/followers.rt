@@ -2,7 +2,7 @@
 //!
 //! DDS 1.4, 2.2.2.5 (sample_rank, generation_rank, absolute_generation_rank).
 
-ghost use Rattle.std.specs.Prelude.{◌≡◌, ◌+◌, ◌<◌, ◌≤◌, ◌^◌, length, All, min, count_by};
+ghost use Rattle.std.specs.Prelude.{◌≡◌, ◌+◌, ◌<◌, ◌≤◌, ◌^◌, All, min, count_by};
 ghost use Rattle.dds_base.specs.Access.{own_generations, most_recent, is_of};
 ghost use Rattle.dds_info.specs.Followers.{IsFollowed, IsFirstFollowed, starts_with};
 

@@ -2,7 +2,7 @@
 //!
 //! DDS 1.4, 2.2.2.5 (sample_rank, generation_rank, absolute_generation_rank).
 
-ghost use Rattle.std.specs.Prelude.{◌≡◌, ◌+◌, ◌<◌, ◌^◌, ◌∷◌, [], List, length};
+ghost use Rattle.std.specs.Prelude.{◌≡◌, ◌+◌, ◌<◌, ◌^◌, ◌∷◌, [], List};
 ghost use Rattle.dds_base.specs.declared.sample.Picked.{Picked};
 ghost use Rattle.dds_base.specs.Access.{own_generations, with_ranks};
 ghost use Rattle.dds_info.specs.Followers.{IsFollowed};

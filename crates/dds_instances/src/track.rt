@@ -2,7 +2,7 @@
 //!
 //! DDS 1.4, 2.2.2.5 (SampleInfo: instance_state, view_state, the two generation counts).
 
-ghost use Rattle.std.specs.Prelude.{◌≡◌, ◌+◌, ◌∷◌, ◌<◌, ◌≤◌, ◌^◌, if◌then◌else◌, List, None, not, true, ℕ};
+ghost use Rattle.std.specs.Prelude.{◌≡◌, ◌+◌, ◌∷◌, ◌<◌, ◌≤◌, ◌^◌, if◌then◌else◌, List, None, true, ℕ};
 ghost use Rattle.dds_base.specs.declared.happening.Happening.{Happening};
 ghost use Rattle.dds_base.specs.declared.happening.Happening.TheVariants.{Came, Died};
 ghost use Rattle.dds_base.specs.declared.key.Key.{Key};
@@ -11,7 +11,7 @@ ghost use Rattle.dds_base.specs.Instance.{is_disposed, is_without_writers};
 ghost use Rattle.dds_base.specs.Life.{or_else, state_after, is_write, becomes_not_alive};
 ghost use Rattle.dds_base.specs.Ownership.{accepted_kind};
 ghost use Rattle.dds_base.specs.Presence.{marks};
-ghost use Rattle.dds_owner.specs.Standing.{Kept, StandsFor, TellsStrengths, has_writers};
+ghost use Rattle.dds_owner.specs.Standing.{StandsFor, TellsStrengths, has_writers};
 ghost use Rattle.dds_instances.specs.Track.{state_of_track, one_if, fresh, seen_at, is_born_dead, is_left_at_first, Counts, TracksEntry, Fits, Tracks};
 
 use dds_base::{Arrival, ChangeKind, Handle, InstanceState, Key, ReaderQos};

@@ -4,7 +4,7 @@
 //! DDS 1.4, 2.2.2.5 (SampleInfo).
 #![tactic(auto)]
 
-ghost use Rattle.std.specs.Prelude.{◌≡◌, ◌||◌, ◌+◌, ◌++◌, ◌∷◌, ℕ, List, Some, length, false, is_some, if◌then◌else◌};
+ghost use Rattle.std.specs.Prelude.{◌≡◌, ◌||◌, ◌+◌, ◌++◌, ◌∷◌, List, Some, length, false, is_some, if◌then◌else◌};
 ghost use Rattle.dds_base.specs.Access.{lives_begun};
 ghost use Rattle.dds_base.specs.Instance.{disposed_generations, introduced_by, is_known, known_instances, no_writers_generations, revives_disposed, revives_without_writers};
 ghost use Rattle.dds_base.specs.Life.{ends_life, last_accepted, last_marker, or_else};

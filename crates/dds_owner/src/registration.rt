@@ -2,7 +2,7 @@
 //!
 //! DDS 1.4, 2.2.2.4 (register_instance, unregister_instance), 2.2.3 (LIVELINESS).
 
-ghost use Rattle.std.specs.Prelude.{◌≡◌, not, map, IfOk};
+ghost use Rattle.std.specs.Prelude.{◌≡◌, map, IfOk};
 ghost use Rattle.std.specs.List.{list_any};
 ghost use Rattle.dds_owner.specs.Registration.{blank_registrations, entered, has_writer, is_there};
 

@@ -17,6 +17,7 @@ use Rattle.dds_pair.specs.declared.turn.Turn.TheVariants.{Stop, Receive, Tick}
 abbrev pub Sending : Type 0 → Type 1
 Sending K = K → Packet → K → Type 0
 
+-- what receiving octets, or none, may make of a link
 abbrev pub Receiving : Type 0 → Type 1
 Receiving K = K → Option (List ℕ) → K → Type 0
 

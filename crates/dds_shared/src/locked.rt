@@ -2,7 +2,7 @@
 //!
 //! Passes are this project's own.
 
-ghost use Rattle.std.specs.Prelude.{◌≡◌, ℕ, ◌++◌, ◌∷◌, [], ◌+◌, ◌<◌, ◌≤◌, length, All, OnOk, OnErr, IfErr, IfOk, IfNone, IfSome, ◌⊎◌, List};
+ghost use Rattle.std.specs.Prelude.{◌≡◌, ℕ, ◌++◌, ◌∷◌, [], ◌+◌, ◌<◌, ◌≤◌, length, All, OnOk, OnErr, IfErr, IfOk, IfNone, IfSome, ◌⊎◌};
 ghost use Rattle.dds_base.specs.declared.code.Code.TheVariants.{Memory, Mismatch, OutOfResources, PreconditionNotMet};
 ghost use Rattle.dds_machine.specs.declared.call.Call.TheVariants.{WaitLook};
 ghost use Rattle.dds_protocol.specs.declared.event.Event.TheVariants as event_of;

@@ -2,7 +2,7 @@
 //!
 //! Passes are this project's own.
 
-ghost use Rattle.std.specs.Prelude.{◌≡◌, ℕ, ◌++◌, ◌∷◌, [], ◌+◌, ◌<◌, ◌≤◌, length, OnOk, OnErr, IsOk, IfErr, MatchOption, List, max};
+ghost use Rattle.std.specs.Prelude.{◌≡◌, ◌++◌, ◌∷◌, [], ◌+◌, ◌<◌, ◌≤◌, length, OnOk, OnErr, IfErr, MatchOption, List, max};
 ghost use Rattle.dds_base.specs.declared.code.Code.TheVariants.{Memory};
 ghost use Rattle.dds_trace.specs.declared.trace.Entry.{Entry as EntryOf};
 ghost use Rattle.dds_shared.specs.Passes.{Grows, IsAsBefore, unused};

@@ -3,7 +3,7 @@
 //! Such orders are this project's own: a network may lose, repeat and reorder packets, but it makes none up (RTPS 2.5,
 //! 8.4, behaviour).
 
-ghost use Rattle.std.specs.Prelude.{◌≡◌, ℕ, List, ◌+◌, ◌<◌, ◌^◌, length, slice_index, Contains, IfOk, IfErr, MatchBool, MatchOption};
+ghost use Rattle.std.specs.Prelude.{◌≡◌, ℕ, ◌+◌, ◌<◌, ◌^◌, length, slice_index, Contains, IfOk, IfErr, MatchBool, MatchOption};
 ghost use Rattle.dds_trace.specs.declared.trace.Entry.{Entry};
 ghost use Rattle.dds_trace.specs.Faults.{IsCause};
 ghost use Rattle.dds_trace.specs.Weaving.{AllPlaced, IsBlocked, IsHonest, IsNext, MayStand, Reaches, none_placed};

@@ -4,6 +4,7 @@
 //! grammar", says why there are 256 places.
 
 ghost use Rattle.std.specs.Prelude.{◌≡◌, ◌≤◌, ◌<◌, ◌+◌, ◌^◌, ◌%◌, ◌==◌, ℕ, nat_lt, None, Some, is_some, IfOk, IsSome, if◌then◌else◌, replicate};
+ghost use Rattle.dds_base.specs.Bounds.{max_sn, window_width};
 ghost use Rattle.rtps_reader.specs.HeldChanges.{held_at, count_held};
 
 use dds_base::{Change, Sn};
@@ -25,7 +26,7 @@ pub struct HeldChanges {
 
 impl Model for HeldChanges {
     ghost use Rattle.std.specs.Prelude.{List, Option};
-    ghost use Rattle.dds_base.specs.declared.change.Change.{Change};
+ghost use Rattle.dds_base.specs.declared.change.Change.{Change};
     ghost use Rattle.rtps_reader.specs.HeldChanges.{ArePlaces};
 
     ghost Value = { List (Option Change) };
@@ -37,14 +38,14 @@ impl Model for HeldChanges {
 
 /// The place of a number.
 fn place_of(number: Sn) -> usize
-    ensures { result ≡ number % 256 }
+    ensures { result ≡ number % window_width }
 {
     (number.number() % WIDTH) as usize
 }
 
 /// A place for each number of a window, and nothing there.
 fn no_changes(alloc: Global) -> Result<Vec<Option<Change>>, AllocError>
-    ensures { IfOk result (λ places. places.items ≡ replicate 256 None) }
+    ensures { IfOk result (λ places. places.items ≡ replicate window_width None) }
 {
     let mut places = Vec::with_capacity(alloc, PLACES)?;
     for _ in 0..PLACES {
@@ -73,7 +74,7 @@ impl HeldChanges {
     pub fn put(&mut self, number: Sn, change: Change)
         requires free { held_at self.old number ≡ None }
         ensures each { (n : ℕ) → held_at self.new n ≡
-            (if n % 256 == number % 256 then Some change else held_at self.old n) }
+            (if n % window_width == number % window_width then Some change else held_at self.old n) }
         ensures count { count_held self.new ≡ count_held self.old + 1 }
     {
         self.places[place_of(number)] = Some(change);
@@ -85,7 +86,7 @@ impl HeldChanges {
         requires held { IsSome (held_at self.old number) }
         ensures taken { held_at self.old number ≡ Some result }
         ensures each { (n : ℕ) → held_at self.new n ≡
-            (if n % 256 == number % 256 then None else held_at self.old n) }
+            (if n % window_width == number % window_width then None else held_at self.old n) }
         ensures count { count_held self.new + 1 ≡ count_held self.old }
     {
         let Some(change) = self.places[place_of(number)].take() else {
@@ -106,7 +107,7 @@ impl HeldChanges {
     /// Lets go of the change at the place of a number, if one is held there.
     fn forget(&mut self, number: Sn)
         ensures { (n : ℕ) → held_at self.new n ≡
-            (if n % 256 == number % 256 then None else held_at self.old n) }
+            (if n % window_width == number % window_width then None else held_at self.old n) }
     {
         if !self.has(number) {
             return;
@@ -118,8 +119,8 @@ impl HeldChanges {
 /// Lets go of the changes of the window from one number on that are held below another.
 pub fn forget_below(held: &mut HeldChanges, from: u64, to: u64)
     requires forward { from ≤ to }
-    requires small { from ≤ 2 ^ 62 + 256 }
-    ensures { (n : ℕ) → from ≤ n → n < from + 256
+    requires small { from ≤ max_sn + window_width }
+    ensures { (n : ℕ) → from ≤ n → n < from + window_width
         → held_at held.new n ≡ (if nat_lt n to then None else held_at held.old n) }
 {
     for number in from..u64::min(to, from + WIDTH) {

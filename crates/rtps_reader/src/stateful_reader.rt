@@ -3,6 +3,7 @@
 //! RTPS 2.5, 8.4.10 (StatefulReader), 8.4.11, 8.4.12.
 
 ghost use Rattle.std.specs.Prelude.{◌≡◌, ℕ, ◌+◌, ◌-◌, ◌^◌, ◌<◌, ◌≤◌, List, length, true, false, OnOk, IsOk, IfOk, IfErr};
+ghost use Rattle.dds_base.specs.Bounds.{max_sn};
 ghost use Rattle.dds_base.specs.declared.code.Code.TheVariants.{Memory};
 ghost use Rattle.dds_base.specs.declared.happening.Happening.{Happening};
 ghost use Rattle.dds_base.specs.Counts.{is_later};
@@ -137,7 +138,7 @@ impl StatefulReader {
         // The sink knows the matched writers.
         requires writers { count_of self.old ≤ length (S.qos sink.old).writers }
         // The number is one that the wire has.
-        requires number { number ≤ 2 ^ 62 }
+        requires number { number ≤ max_sn }
         // The place goes on from what is known with the change.
         ensures moves { IfOk result (λ step. (t : Tracked) (h : List Happening)
             → Tracks self.old writer t → S.stands sink.old h
@@ -177,7 +178,7 @@ impl StatefulReader {
         // The sink knows the matched writers.
         requires writers { count_of self.old ≤ length (S.qos sink.old).writers }
         // The number is one that the wire has.
-        requires number { number ≤ 2 ^ 62 }
+        requires number { number ≤ max_sn }
         // The change comes, over all before it, or nothing happens.
         ensures jumps { IfOk result (λ step. (t : Tracked) (h : List Happening)
             → Tracks self.old writer t → S.stands sink.old h
@@ -218,7 +219,7 @@ impl StatefulReader {
         // The sink knows the matched writers.
         requires writers { count_of self.old ≤ length (S.qos sink.old).writers }
         // The base is one that the wire has.
-        requires base { list.now.base ≤ 2 ^ 62 }
+        requires base { list.now.base ≤ max_sn }
         // The place goes on from what is known with the GAP.
         ensures moves { IfOk result (λ step. (t : Tracked) (h : List Happening)
             → Tracks self.old writer t → S.stands sink.old h
@@ -259,7 +260,7 @@ impl StatefulReader {
         // The sink knows the matched writers.
         requires writers { count_of self.old ≤ length (S.qos sink.old).writers }
         // firstSN is one that the wire has.
-        requires first { heartbeat.now.first ≤ 2 ^ 62 }
+        requires first { heartbeat.now.first ≤ max_sn }
         // One of a greater count is heard, moves the place, and is answered.
         ensures accepted { IfOk result (λ step. (t : Tracked) (h : List Happening)
             → Tracks self.old writer t → S.stands sink.old h

@@ -2,7 +2,8 @@
 //!
 //! RTPS 2.5, 8.4.10 (WriterProxy, ChangeFromWriter).
 
-ghost use Rattle.std.specs.Prelude.{◌≡◌, ℕ, ◌+◌, ◌-◌, ◌*◌, ◌^◌, ◌<◌, ◌≤◌, ◌&&◌, ◌||◌, ◌==◌, min, List, ◌∷◌, ◌++◌, [], length, Bool, true, false, nat_lt, nat_le, is_none, None, Some, if◌then◌else◌, OnOk, IsOk, IfOk, IfErr, IfSome, vec_len, vec_capacity};
+ghost use Rattle.std.specs.Prelude.{◌≡◌, ℕ, ◌+◌, ◌-◌, ◌*◌, ◌^◌, ◌<◌, ◌≤◌, ◌&&◌, ◌||◌, ◌==◌, min, List, ◌∷◌, ◌++◌, [], length, true, false, None, Some, if◌then◌else◌, OnOk, IsOk, IfOk, IfErr, IfSome, vec_len, vec_capacity};
+ghost use Rattle.dds_base.specs.Bounds.{max_sn, window_width};
 ghost use Rattle.dds_base.specs.declared.code.Code.TheVariants.{Memory};
 ghost use Rattle.dds_base.specs.declared.happening.Happening.{Happening};
 ghost use Rattle.dds_base.specs.Ownership.{IsMatched};
@@ -58,9 +59,9 @@ pub struct WriterProxy {
 
 /// Whether a GAP names a number.
 fn is_named(start: Sn, list: &SnSet, number: u64) -> bool
-    requires small { list.now.base ≤ 2 ^ 62 }
+    requires small { list.now.base ≤ max_sn }
     ensures named { result ≡ is_named start list.now number }
-    ensures small { result ≡ true → number < 2 ^ 62 + 256 }
+    ensures small { result ≡ true → number < max_sn + window_width }
 {
     let base = list.base().number();
     (start.number() <= number && number < base) || list.has(Sn::new(number))
@@ -81,12 +82,12 @@ fn mark_if(window: &mut Window, number: u64, named: bool)
 
 /// Marks as irrelevant what a GAP names of the window.
 fn mark_named(window: &mut Window, start: Sn, list: &SnSet)
-    requires small { list.now.base ≤ 2 ^ 62 }
-    requires place { window_place window.old ≤ 2 ^ 62 + 256 }
+    requires small { list.now.base ≤ max_sn }
+    requires place { window_place window.old ≤ max_sn + window_width }
     ensures place { window_place window.new ≡ window_place window.old }
     ensures marks { (n : ℕ) → mark_of window.new n ≡ mark_named start list.now
-        (window_place window.old + 256) window.old n }
-    ensures small { (n : ℕ) → 2 ^ 62 + 256 ≤ n → mark_of window.old n ≡ None
+        (window_place window.old + window_width) window.old n }
+    ensures small { (n : ℕ) → max_sn + window_width ≤ n → mark_of window.old n ≡ None
         → mark_of window.new n ≡ None }
 {
     let place = window.place().number();
@@ -228,7 +229,7 @@ impl WriterProxy {
         ensures forward { window_place self.now.window ≤ result }
         ensures passable { ArePassable (tracked self.now) (window_place self.now.window) result }
         ensures stops { is_passable (tracked self.now) result ≡ false }
-        ensures small { result ≤ 2 ^ 62 + 256 }
+        ensures small { result ≤ max_sn + window_width }
     {
         let place = self.window.place().number();
         for number in place..place + WIDTH {
@@ -337,7 +338,7 @@ impl WriterProxy {
     /// Holds a received change, if its number is one of the window of which nothing is known.
     fn hold(&mut self, number: Sn, change: Change)
         requires sound { IsSound self.old }
-        requires small { number ≤ 2 ^ 62 }
+        requires small { number ≤ max_sn }
         ensures sound { IsSound self.new }
         ensures holds { SameTracked (with_data number change (tracked self.old)) (tracked self.new) }
         ensures held { count_held self.new.held ≤ count_held self.old.held + 1 }
@@ -355,7 +356,7 @@ impl WriterProxy {
     /// Makes irrelevant what a GAP names, as far as it is of the window and nothing is known of it.
     fn make_irrelevant(&mut self, start: Sn, list: &SnSet)
         requires sound { IsSound self.old }
-        requires small { list.now.base ≤ 2 ^ 62 }
+        requires small { list.now.base ≤ max_sn }
         ensures sound { IsSound self.new }
         ensures forgets { SameTracked (with_gap start list.now (tracked self.old))
             (tracked self.new) }
@@ -368,7 +369,7 @@ impl WriterProxy {
     /// Notes what an accepted HEARTBEAT tells.
     fn accept(&mut self, heartbeat: &HeartbeatSeen)
         requires sound { IsSound self.old }
-        requires small { heartbeat.now.first ≤ 2 ^ 62 }
+        requires small { heartbeat.now.first ≤ max_sn }
         ensures sound { IsSound self.new }
         ensures tells { SameTracked
             (with_heartbeat heartbeat.now.first heartbeat.now.count (tracked self.old))
@@ -442,7 +443,7 @@ impl WriterProxy {
     ) -> Result<Step, Code>
         requires sound { IsSound self.old }
         requires matched { IsMatched (S.qos sink.old) source.now.publication }
-        requires small { number ≤ 2 ^ 62 }
+        requires small { number ≤ max_sn }
         ensures moves { IfOk result
             (λ step. Moves (match_of (S.qos sink.old) source.now) (S.stands sink.old)
             (S.stands sink.new)
@@ -474,7 +475,7 @@ impl WriterProxy {
     fn jump(&mut self, to: Sn)
         requires sound { IsSound self.old }
         requires forward { window_place self.old.window ≤ to }
-        requires small { to ≤ 2 ^ 62 + 256 }
+        requires small { to ≤ max_sn + window_width }
         ensures sound { IsSound self.new }
         ensures place { window_place self.new.window ≡ to }
         ensures stays { Stays (tracked self.old) (tracked self.new) }
@@ -488,7 +489,7 @@ impl WriterProxy {
         requires sound { IsSound self.old }
         requires matched { IsMatched (S.qos sink.old) source.now.publication }
         requires forward { window_place self.old.window ≤ arrival.number }
-        requires small { arrival.number ≤ 2 ^ 62 }
+        requires small { arrival.number ≤ max_sn }
         requires writer { arrival.writer ≡ source.now.publication }
         requires moment { arrival.moment ≡ source.now.moment }
         requires runs { 1 ≤ vec_capacity self.old.runs }
@@ -531,7 +532,7 @@ impl WriterProxy {
     ) -> Result<Step, Code>
         requires sound { IsSound self.old }
         requires matched { IsMatched (S.qos sink.old) source.now.publication }
-        requires small { number ≤ 2 ^ 62 }
+        requires small { number ≤ max_sn }
         ensures jumps { IfOk result
             (λ step. JumpMoves (match_of (S.qos sink.old) source.now) (S.stands sink.old)
             (S.stands sink.new)
@@ -562,7 +563,7 @@ impl WriterProxy {
     ) -> Result<Step, Code>
         requires sound { IsSound self.old }
         requires matched { IsMatched (S.qos sink.old) source.now.publication }
-        requires small { list.now.base ≤ 2 ^ 62 }
+        requires small { list.now.base ≤ max_sn }
         ensures moves { IfOk result
             (λ step. Moves (match_of (S.qos sink.old) source.now) (S.stands sink.old)
             (S.stands sink.new)
@@ -586,7 +587,7 @@ impl WriterProxy {
     ) -> Result<Step, Code>
         requires sound { IsSound self.old }
         requires matched { IsMatched (S.qos sink.old) source.now.publication }
-        requires small { heartbeat.now.first ≤ 2 ^ 62 }
+        requires small { heartbeat.now.first ≤ max_sn }
         ensures moves { IfOk result
             (λ step. HeartbeatMoves (match_of (S.qos sink.old) source.now) (S.stands sink.old)
             (S.stands sink.new) (tracked self.old) heartbeat.now step (tracked self.new)) }

@@ -3,7 +3,7 @@
 //! RTPS 2.5, 8.4.10 (ChangeFromWriter: status), 8.4.12. `docs/DECISIONS.md`, "Sets, windows and the grammar", says why
 //! it is two rings.
 
-ghost use Rattle.std.specs.Prelude.{◌≡◌, ◌≤◌, ◌<◌, ◌+◌, ◌-◌, ◌%◌, ◌&&◌, ◌==◌, ℕ, false, nat_le, nat_lt, is_none, max, Some, None, Ok, IsTrue, IsOk, IsSome, IfOk, IfErr, OnOk, OnErr, if◌then◌else◌};
+ghost use Rattle.std.specs.Prelude.{◌≡◌, ◌≤◌, ◌<◌, ◌+◌, ◌-◌, ◌%◌, ◌&&◌, ◌==◌, ℕ, false, nat_le, nat_lt, is_none, max, Some, None, Ok, IsOk, IsSome, IfOk, IfErr, OnOk, OnErr, if◌then◌else◌};
 ghost use Rattle.dds_base.specs.declared.code.Code.TheVariants.{Memory};
 ghost use Rattle.rtps_sets.specs.NumberSet.{has_number};
 ghost use Rattle.rtps_sets.specs.Window.{window_place, mark_of, room_of, is_in_window, can_mark, in_ring, ring_mark, SameMarks};

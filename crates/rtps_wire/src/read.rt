@@ -2,7 +2,7 @@
 //!
 //! RTPS 2.5, 8.3.4 (the message receiver) and 9.4.
 
-ghost use Rattle.std.specs.Prelude.{◌≡◌, ◌+◌, ◌≤◌, ◌<◌, ℕ, List, length, IfOk, IfErr, IfSome, Some, []};
+ghost use Rattle.std.specs.Prelude.{◌≡◌, ◌+◌, ◌≤◌, ◌<◌, ℕ, length, IfOk, IfErr, IfSome, Some, []};
 ghost use Rattle.rtps_wire.specs.SubmessageAt.{known_at};
 ghost use Rattle.rtps_wire.specs.Submessages.{Reads};
 ghost use Rattle.rtps_wire.specs.Messages.{ReadsAll, ReadsMessage, HasFrame, HasSubmessage};

@@ -12,7 +12,7 @@ ghost use Rattle.dds_base.specs.Bounds.{max_sn};
 ghost use Rattle.dds_base.specs.Fields.{number};
 ghost use Rattle.dds_base.specs.declared.endianness.Endianness.TheVariants.{Little};
 ghost use Rattle.rtps_wire.specs.Names.{max_bits};
-ghost use Rattle.rtps_wire.specs.Sets.{words_for, set_of, SetField, word_of, words_of, text_of_set, IsSet};
+ghost use Rattle.rtps_wire.specs.Sets.{words_for, set_of, word_of, words_of, text_of_set, IsSet};
 ghost use Rattle.rtps_wire.specs.SetAt.{words_at, set_field_at, set_at};
 
 use crate::field::{MAX_SN, put_u64, take_sn};

@@ -2,7 +2,7 @@
 //!
 //! RTPS 2.5, 8.4.7 (ReaderProxy, requested_changes), 8.3.8 (AckNack, Data, Gap).
 
-ghost use Rattle.std.specs.Prelude.{◌≡◌, ◌≤◌, ◌<◌, ◌+◌, ◌&&◌, ℕ, [], ◌∷◌, nat_le, vec_len, vec_capacity, length};
+ghost use Rattle.std.specs.Prelude.{◌≡◌, ◌≤◌, ◌<◌, ◌+◌, ◌&&◌, [], ◌∷◌, nat_le, vec_len, vec_capacity, length};
 ghost use Rattle.dds_base.specs.Kept.{WriterHistory, is_kept};
 ghost use Rattle.dds_history.specs.Standing.{StandsFor as HistoryStandsFor};
 ghost use Rattle.rtps_sets.specs.NumberSet.{span};

@@ -4,7 +4,7 @@
 
 ghost use Rattle.std.specs.Prelude.{◌≡◌, ℕ, List, [], ◌∷◌, Option, Bool, nat_lt};
 ghost use Rattle.dds_base.specs.declared.change.Change.{Change};
-ghost use Rattle.dds_base.specs.Written.{Written, Registered, Changed, Asserted, LookedAt, Ticked, liveliness_lost_status};
+ghost use Rattle.dds_base.specs.Written.{Written, Changed, Asserted, LookedAt, Ticked, liveliness_lost_status};
 ghost use Rattle.rtps_writer.specs.LivelinessKept.{IsLiveliness};
 
 use dds_base::{LivelinessLostStatus, Moment, is_over};

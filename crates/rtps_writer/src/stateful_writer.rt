@@ -14,7 +14,7 @@ ghost use Rattle.rtps_sets.specs.NumberSet.{span};
 ghost use Rattle.rtps_writer.specs.Acknack.{acknack_answers, after_acknack, answers_after, applied, if_later, is_applied, newly_acknowledged};
 ghost use Rattle.rtps_writer.specs.Liveliness.{assert_refusal, asserted, heartbeat_asserted};
 ghost use Rattle.rtps_writer.specs.Standing.{StandsFor, reader_count};
-ghost use Rattle.rtps_writer.specs.WriterState.{WriterState, acknowledged_by, entering, heartbeat_due, history_of, is_reader_behind, last_of, opening, ticked};
+ghost use Rattle.rtps_writer.specs.WriterState.{WriterState, entering, heartbeat_due, history_of, is_reader_behind, last_of, opening, ticked};
 
 use crate::answer::{Answer, Answered, put_answers};
 use crate::heartbeat::HeartbeatDue;
