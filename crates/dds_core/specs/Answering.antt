@@ -25,6 +25,7 @@ use Rattle.dds_machine.specs.declared.reply.Move.{Move}
 use Rattle.dds_machine.specs.declared.reply.Move.TheVariants.{Acknowledged}
 use Rattle.dds_protocol.specs.Claims.{Receiver, is_for, Names}
 use Rattle.dds_protocol.specs.Peer.{Peer, state_of}
+use Rattle.rtps_wire.specs.declared.message.Message.{Message}
 use Rattle.dds_protocol.specs.DueMessages.{Due, answer_message}
 use Rattle.dds_protocol.specs.Protocol.{State, InTurn, WriterTakes, AreGrouped}
 use Rattle.dds_core.specs.declared.answering.Answering.{Answering}
@@ -127,11 +128,14 @@ pub record AreAnswerable (kept : Kept) (answers : List Answer) : Type 0 where
   pub few : length (changes_of state.written) < max_sn
   pub each : All (IsAnswerableIn state) answers
 
+-- the message with these answers, by whom they are given
+abbrev pub message_of : Answering → List Change → List Answer → Message
+message_of a changes answers =
+    answer_message a.own a.reader.guid.prefix a.reader.guid.entity a.entity changes answers
+
 -- a message with answers that is due
 abbrev pub answer_due : Answering → List Change → List Answer → Due
-answer_due a changes answers =
-    due_to a.reader.reader.peer
-    (answer_message a.own a.reader.guid.prefix a.reader.guid.entity a.entity changes answers)
+answer_due a changes answers = due_to a.reader.reader.peer (message_of a changes answers)
 
 -- the answers are sent, eight in a packet but in the last one
 pub record SendsAnswers (answering : Answering) (changes : List Change) (answers : List Answer)

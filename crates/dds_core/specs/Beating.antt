@@ -96,12 +96,14 @@ pub record Adds (dues : List Due) (old : List Packet) (before : ℕ) (new : List
 abbrev pub AddsTo : List Due → Announced → Announced → Type 0
 AddsTo dues old new = Adds dues old.packets.items old.unsent new.packets.items new.unsent
 
+-- the names are those of the readers that a writer is matched with
+abbrev pub AreReadersOf : Writer → List ReaderName → Type 0
+AreReadersOf w readers = map (λ (p : ReaderProxy). p.reader) w.readers ≡ map (λ (r : ReaderName). r.reader) readers
+
 -- for each writer that a writer's parts stand for, the HEARTBEATs to these peers are added
 abbrev pub Beats : Beat → Kept → List ReaderName → List Destination → List Packet → ℕ → List Packet → ℕ → Type 0
 Beats beat kept readers ds old before new after = (w : Writer) (answered : Endpoint → Option ℤ)
-    → map (λ (p : ReaderProxy). p.reader) w.readers ≡ map (λ (r : ReaderName). r.reader) readers
-    → RtpsStandsFor kept (state_of w answered)
-    → Adds (beats_to beat w ds) old before new after
+    → AreReadersOf w readers → RtpsStandsFor kept (state_of w answered) → Adds (beats_to beat w ds) old before new after
 
 -- for each writer that is stood for, what is due at its tick is added
 abbrev pub BeatsOf : GuidPrefix → WriterKept → List Packet → ℕ → List Packet → ℕ → Type 0

@@ -10,8 +10,8 @@ ghost use Rattle.rtps_writer.specs.declared.answer.Answer.TheVariants as answer;
 ghost use Rattle.rtps_writer.specs.Standing.{StandsFor as RtpsStandsFor};
 ghost use Rattle.rtps_writer.specs.WriterState.{WriterState};
 ghost use Rattle.dds_base.specs.Written.{changes_of};
-ghost use Rattle.dds_protocol.specs.DueMessages.{data_of, answer_message, submessages_of};
-ghost use Rattle.dds_core.specs.Answering.{SpellsMore, IsFrom, HasRoom, AreRooms, AreAnswerable, CanAnswer, SendsAnswers};
+ghost use Rattle.dds_protocol.specs.DueMessages.{data_of, submessages_of};
+ghost use Rattle.dds_core.specs.Answering.{SpellsMore, IsFrom, HasRoom, AreRooms, AreAnswerable, CanAnswer, SendsAnswers, message_of};
 ghost use Rattle.dds_core.specs.Beating.{AddsTo, due_to};
 ghost use Rattle.dds_core.specs.Readiness.{receiver_at};
 ghost use Rattle.dds_core.specs.Sending.{AreMessages, max_unsent};
@@ -194,8 +194,7 @@ fn message<'a>(
     requires few { length answers.now ≤ 8 }
     ensures says { (s : WriterState) → RtpsStandsFor writer.now s
         → IfOk result
-        (λ m. m ≡ answer_message answering.now.own answering.now.reader.guid.prefix
-        answering.now.reader.guid.entity answering.now.entity (changes_of s.written) answers.now) }
+        (λ m. m ≡ message_of answering.now (changes_of s.written) answers.now) }
     ensures writable { IfOk result IsWritable }
     ensures some { IfOk result (λ m. 1 ≤ length m.submessages) }
 {

@@ -3,14 +3,13 @@
 //!
 //! RTPS 2.5, 8.4.9 (reliable StatefulWriter: heartbeatPeriod), 8.3.8 (Heartbeat), 8.7.2.2 (LIVELINESS).
 
-ghost use Rattle.std.specs.Prelude.{◌≡◌, ◌+◌, ◌<◌, ◌≤◌, ◌∷◌, [], ℤ, Option, length, map};
+ghost use Rattle.std.specs.Prelude.{◌≡◌, ◌+◌, ◌<◌, ◌≤◌, ◌∷◌, [], ℤ, Option, length};
 ghost use Rattle.rtps_wire.specs.Messages.{IsWritable};
 ghost use Rattle.rtps_writer.specs.Standing.{reader_count, StandsFor as RtpsStandsFor};
 ghost use Rattle.dds_machine.specs.declared.endpoint.Endpoint.{Endpoint};
-ghost use Rattle.dds_machine.specs.Part.{ReaderProxy, Writer};
+ghost use Rattle.dds_machine.specs.Part.{Writer};
 ghost use Rattle.dds_protocol.specs.DueMessages.{AreSent};
-ghost use Rattle.dds_core.specs.declared.matching.ReaderName.{ReaderName as NameOf};
-ghost use Rattle.dds_core.specs.Beating.{IsHeartbeatValid, AddsTo, due_to, message_to, told_to, is_peer_behind, Beats};
+ghost use Rattle.dds_core.specs.Beating.{IsHeartbeatValid, AddsTo, due_to, message_to, told_to, is_peer_behind, AreReadersOf, Beats};
 ghost use Rattle.dds_core.specs.Sending.{AreMessages, max_unsent};
 ghost use Rattle.dds_core.specs.Standing.{state_of};
 
@@ -69,7 +68,7 @@ fn message(alloc: Global, beat: &Beat, to: GuidPrefix) -> Message<'static>
 fn is_peer_behind(writer: &StatefulWriter, readers: &[ReaderName], peer: u8) -> bool
     requires { reader_count writer.now ≡ length readers.now }
     ensures { (w : Writer) (answered : Endpoint → Option ℤ)
-        → map (λ (p : ReaderProxy). p.reader) w.readers ≡ map (λ (r : NameOf). r.reader) readers.now
+        → AreReadersOf w readers.now
         → RtpsStandsFor writer.now (state_of w answered)
         → result ≡ is_peer_behind w peer }
 {

@@ -258,9 +258,8 @@ impl WriterEnd {
     /// `OutOfResources` after 2^48 changes, `Timeout` where more than `max_samples` numbers would be kept.
     pub fn next(&self, change: &Change) -> Result<Sn, Code>
         ensures accepted { IfOk result
-            (λ number. (w : Writer) (answered : EndpointOf → Option ℤ)
-            → WriterStands self.now w answered →
-            (append_refusal (history_of w) change.now ≡ None)
+            (λ number. (w : Writer) (told : EndpointOf → Option ℤ) → WriterStands self.now w told
+            → (append_refusal (history_of w) change.now ≡ None)
             × (number ≡ length (writer_changes w) + 1)) }
         ensures refused { IfErr result
             (λ code. (w : Writer) (answered : EndpointOf → Option ℤ)
