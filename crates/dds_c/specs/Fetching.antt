@@ -2,14 +2,9 @@
 --
 -- DDS 1.4, 2.2.2.5 (SampleInfo), 2.2.4.1 (communication statuses), 2.3.3 (the bits of states).
 use Rattle.std.specs.Prelude.{◌≡◌, ◌⊎◌, ℕ, List, ◌++◌, length, drop, slice_get, nat_lt, if◌then◌else◌, Option, Some, None}
-use Rattle.dds_base.specs.declared.sample.InstanceState.{InstanceState}
-use Rattle.dds_base.specs.declared.sample.InstanceState.TheVariants.{Alive, NotAliveDisposed, NotAliveNoWriters}
 use Rattle.dds_base.specs.declared.sample.Sample.{Sample}
-use Rattle.dds_base.specs.declared.sample.SampleState.{SampleState}
-use Rattle.dds_base.specs.declared.sample.SampleState.TheVariants.{NotRead, Read}
-use Rattle.dds_base.specs.declared.sample.ViewState.{ViewState}
-use Rattle.dds_base.specs.declared.sample.ViewState.TheVariants.{New, NotNew}
 use Rattle.dds_base.specs.declared.status.LivelinessChangedStatus.{LivelinessChangedStatus}
+use Rattle.dds_base.specs.Access.{instance_state_bit, sample_state_bit, view_state_bit}
 use Rattle.dds_machine.specs.declared.reply.Reply.{Reply}
 use Rattle.dds_machine.specs.declared.reply.Reply.TheVariants.{Created, InstanceHandle, KeyValue, LivelinessChanged, LivelinessLost, SampleLost, Samples}
 use Rattle.dds_protocol.specs.declared.event.Packet.{Packet}
@@ -47,22 +42,6 @@ abbrev pub PacketFetched : Option Session → ℕ → ℕ → List ℕ → List 
 PacketFetched (Some s) at to old new needed code = PacketCopied (slice_get s.last.packets at) to old new needed code
 PacketFetched None at to old new needed code = CopiesNothing old new 4 code
 
--- DDS 1.4, 2.3.3 (READ_SAMPLE_STATE, NOT_READ_SAMPLE_STATE)
-abbrev pub sample_bit : SampleState → ℕ
-sample_bit Read = 1
-sample_bit NotRead = 2
-
--- DDS 1.4, 2.3.3 (NEW_VIEW_STATE, NOT_NEW_VIEW_STATE)
-abbrev pub view_bit : ViewState → ℕ
-view_bit New = 1
-view_bit NotNew = 2
-
--- DDS 1.4, 2.3.3 (ALIVE_INSTANCE_STATE and kin)
-abbrev pub instance_bit : InstanceState → ℕ
-instance_bit Alive = 1
-instance_bit NotAliveDisposed = 2
-instance_bit NotAliveNoWriters = 4
-
 -- what is said of a sample
 abbrev pub info_of : Sample → FlatInfo
 info_of s = record {
@@ -75,9 +54,9 @@ info_of s = record {
   sample_rank = s.info.sample_rank;
   generation_rank = s.info.generation_rank;
   absolute_generation_rank = s.info.absolute_generation_rank;
-  sample_state = sample_bit s.info.sample_state;
-  view_state = view_bit s.info.view_state;
-  instance_state = instance_bit s.info.instance_state;
+  sample_state = sample_state_bit s.info.sample_state;
+  view_state = view_state_bit s.info.view_state;
+  instance_state = instance_state_bit s.info.instance_state;
   valid_data = s.info.valid_data;
 }
 

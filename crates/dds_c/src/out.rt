@@ -3,7 +3,8 @@
 //! DDS 1.4, 2.2.2.5 (SampleInfo), 2.2.4.1 (communication statuses), 2.3.3 (the bits of states).
 
 ghost use Rattle.std.specs.Prelude.{◌≡◌};
-ghost use Rattle.dds_c.specs.Fetching.{Copies, changed_of, info_of, instance_bit, sample_bit, view_bit};
+ghost use Rattle.dds_base.specs.Access.{instance_state_bit, sample_state_bit, view_state_bit};
+ghost use Rattle.dds_c.specs.Fetching.{Copies, changed_of, info_of};
 
 use dds_base::{Code, InstanceState, LivelinessChangedStatus, Sample, SampleState, ViewState};
 
@@ -58,7 +59,7 @@ pub struct FlatChanged {
 }
 
 fn sample_bit(state: SampleState) -> u32
-    ensures { result ≡ sample_bit state }
+    ensures { result ≡ sample_state_bit state }
 {
     match state {
         SampleState::Read => 1,
@@ -67,7 +68,7 @@ fn sample_bit(state: SampleState) -> u32
 }
 
 fn view_bit(state: ViewState) -> u32
-    ensures { result ≡ view_bit state }
+    ensures { result ≡ view_state_bit state }
 {
     match state {
         ViewState::New => 1,
@@ -76,7 +77,7 @@ fn view_bit(state: ViewState) -> u32
 }
 
 fn instance_bit(state: InstanceState) -> u32
-    ensures { result ≡ instance_bit state }
+    ensures { result ≡ instance_state_bit state }
 {
     match state {
         InstanceState::Alive => 1,
