@@ -40,6 +40,11 @@ IsTaken {K} sends receives seat Receive link es after =
     × IsDone sends seat (event_of.Deliver octets) mid es after)
 IsTaken sends receives seat (Tick now) link es after = IsDone sends seat (event_of.Tick now) link es after
 
+-- a pass takes a turn that goes on, and its list grows by what that enters
+abbrev pub TakesTurn : {K : Type 0} → Sending K → Receiving K → Turn → Carried → Carried → K → K → Type 0
+TakesTurn sends receives turn was after link to =
+    (es : List Entry) × Grows was after es × IsTaken sends receives was.seat turn link es to
+
 -- turns, the newest first: the gate said each, and each was taken, with these entries in all
 abbrev pub AreTaken : {K G : Type 0} → Sending K → Receiving K → Saying G → ℕ → List Turn → K → G → List Entry → K → G
     → Type 0

@@ -6,9 +6,9 @@ ghost use Rattle.std.specs.Prelude.{◌≡◌, ◌⊎◌, ◌++◌, ◌∷◌, [
 ghost use Rattle.std.specs.List.{FoldsTo};
 ghost use Rattle.dds_base.specs.declared.code.Code.TheVariants as code_of;
 ghost use Rattle.dds_trace.specs.declared.trace.Entry.{Entry};
-ghost use Rattle.dds_shared.specs.Passes.{Grows, IsAsBefore};
+ghost use Rattle.dds_shared.specs.Passes.{IsAsBefore};
 ghost use Rattle.dds_pair.specs.declared.turn.Turn.TheVariants as turn_of;
-ghost use Rattle.dds_pair.specs.Serving.{Breaks, IsTaken, Stops};
+ghost use Rattle.dds_pair.specs.Serving.{Breaks, Stops, TakesTurn};
 
 use crate::gate::Gate;
 use crate::link::Link;
@@ -48,8 +48,8 @@ fn receive_once<N: Named<F, L>, F: Filter, L: Listener, K: Link, R: Wait>(
     pass: &mut Pass<N>,
     link: &mut K,
 ) -> Result<(), Code>
-    ensures ok { OnOk result ((es : List Entry) × Grows pass.old pass.new es
-        × IsTaken K.sends K.receives pass.old.seat turn_of.Receive link.old es link.new) }
+    ensures ok { OnOk result
+        (TakesTurn K.sends K.receives turn_of.Receive pass.old pass.new link.old link.new) }
     ensures refused { IfErr result (λ code. (code ≡ code_of.Link) ⊎ (code ≡ code_of.Memory)) }
     ensures err { OnErr result (IsAsBefore pass.old pass.new) }
 {
@@ -69,8 +69,8 @@ fn tick_once<N: Named<F, L>, F: Filter, L: Listener, K: Link, R: Wait>(
     link: &mut K,
     now: Moment,
 ) -> Result<(), Code>
-    ensures ok { OnOk result ((es : List Entry) × Grows pass.old pass.new es
-        × IsTaken K.sends K.receives pass.old.seat (turn_of.Tick now) link.old es link.new) }
+    ensures ok { OnOk result
+        (TakesTurn K.sends K.receives (turn_of.Tick now) pass.old pass.new link.old link.new) }
     ensures refused { IfErr result (λ code. code ≡ code_of.Memory) }
     ensures err { OnErr result (IsAsBefore pass.old pass.new) }
 {
@@ -88,8 +88,7 @@ fn take_turn<N: Named<F, L>, F: Filter, L: Listener, K: Link, R: Wait>(
     turn: Turn,
 ) -> Result<bool, Code>
     ensures ok { IfOk result (λ goes_on. MatchBool goes_on
-        ((es : List Entry) × Grows pass.old pass.new es
-        × IsTaken K.sends K.receives pass.old.seat turn link.old es link.new)
+        (TakesTurn K.sends K.receives turn pass.old pass.new link.old link.new)
         ((turn ≡ turn_of.Stop) × (pass.new ≡ pass.old) × (link.new ≡ link.old))) }
     ensures refused { IfErr result (λ code. (code ≡ code_of.Link) ⊎ (code ≡ code_of.Memory)) }
     ensures err { OnErr result (IsAsBefore pass.old pass.new) }
