@@ -42,10 +42,6 @@ entity_of kind number =
     if kind == 0 then Some Participant
     else (if kind == 1 then Some (Writer number) else (if kind == 2 then Some (Reader number) else None))
 
--- the mask of these bits
-abbrev pub mask_of : ℕ → StatusMask
-mask_of bits = record { 0 = bits }
-
 -- a listener was set at an entity, or taken away there; what was there before is kept aside, and nothing else changed
 pub record ListenerIsSet (entity : Entity) (mask : StatusMask) (recorder : Option Recording) (old new : Session) : Type 0 where
   pub sets : Sets recorder_notices recorder_capacity recorder_becomes old.core entity mask recorder
@@ -56,9 +52,6 @@ pub record ListenerIsSet (entity : Entity) (mask : StatusMask) (recorder : Optio
 abbrev pub SetAt : Option Entity → StatusMask → Option Recording → Session → Session → Type 0
 SetAt (Some entity) mask recorder old new = ListenerIsSet entity mask recorder old new
 SetAt None mask recorder old new = ⊥
-
-abbrev pub RecorderIsSet : ℕ → ℕ → ℕ → Option Recording → Session → Session → Type 0
-RecorderIsSet kind number mask recorder old new = SetAt (entity_of kind number) (mask_of mask) recorder old new
 
 -- the number of a code that refuses so
 pub record RefusesWith (Refused : Code → Type 0) (number : ℕ) : Type 0 where

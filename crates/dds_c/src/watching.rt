@@ -8,7 +8,7 @@ ghost use Rattle.dds_core.specs.Listening.{RefusesFilter, RefusesListener};
 ghost use Rattle.dds_notices.specs.Notices.{opened, room_refusal};
 ghost use Rattle.dds_c.specs.Meaning.{recorder_notices, recorder_capacity, recorder_becomes};
 ghost use Rattle.dds_notices.specs.Masks.{status_bit};
-ghost use Rattle.dds_c.specs.Watching.{Between, FilterIsAdded, ListenerIsSet, NoticeFetched, NoticeWritten, RecorderIsSet, RefusesToAdd, RefusesToSet, RefusesWith, changed_in, entity_of, kept_at, kind_of, mask_of, notice_of, prefix_of, number_of, total_in};
+ghost use Rattle.dds_c.specs.Watching.{Between, FilterIsAdded, ListenerIsSet, NoticeFetched, NoticeWritten, RefusesToAdd, RefusesToSet, RefusesWith, changed_in, entity_of, kept_at, kind_of, notice_of, prefix_of, number_of, total_in, SetAt};
 
 use crate::events::NOT_OPEN;
 use crate::out::{FlatChanged, FlatTotal, changed_of};
@@ -190,7 +190,7 @@ pub extern "C" fn cw_add_filter(
 
 /// The mask of these bits.
 fn status_mask(bits: u32) -> StatusMask
-    ensures { result ≡ mask_of bits }
+    ensures { result ≡ record { 0 = bits } }
 {
     StatusMask::from_bits_retain(bits)
 }
@@ -218,7 +218,7 @@ fn set_at(
     mask: u32,
     recorder: Option<Recorder>,
 ) -> u8
-    ensures set { result ≡ 0 → Between (RecorderIsSet kind number mask recorder)
+    ensures set { result ≡ 0 → Between (SetAt (entity_of kind number) (record { 0 = mask }) recorder)
         peer.old.held.session peer.new.held.session }
     ensures cause { result ≢ 0
         → RefusesToSet (entity_of kind number) recorder peer.old.held.session result }
@@ -254,7 +254,7 @@ pub extern "C" fn cw_set_recorder(
     room: usize,
 ) -> u8
     // A recorder that keeps nothing yet is set there, and what was there is kept aside.
-    ensures set { result ≡ 0 → Between (RecorderIsSet kind number mask (Some (opened room)))
+    ensures set { result ≡ 0 → Between (SetAt (entity_of kind number) (record { 0 = mask }) (Some (opened room)))
         peer.old.held.session peer.new.held.session }
     // A refusal is for the room, or for want of memory for it, or by the first cause that there is.
     ensures cause { result ≢ 0 → RefusesWith (Refuses (room_refusal room)) result
@@ -278,7 +278,7 @@ pub extern "C" fn cw_set_recorder(
 #[unsafe(no_mangle)]
 pub extern "C" fn cw_clear_recorder(alloc: Global, peer: &mut Peer, kind: u8, number: u8) -> u8
     // None is set there, and what was there is kept aside.
-    ensures set { result ≡ 0 → Between (RecorderIsSet kind number 65535 None)
+    ensures set { result ≡ 0 → Between (SetAt (entity_of kind number) (record { 0 = 65535 }) None)
         peer.old.held.session peer.new.held.session }
     // A refusal is by the first cause that there is.
     ensures cause { result ≢ 0
