@@ -26,7 +26,7 @@ pub struct HeldChanges {
 
 impl Model for HeldChanges {
     ghost use Rattle.std.specs.Prelude.{List, Option};
-ghost use Rattle.dds_base.specs.declared.change.Change.{Change};
+    ghost use Rattle.dds_base.specs.declared.change.Change.{Change};
     ghost use Rattle.rtps_reader.specs.HeldChanges.{ArePlaces};
 
     ghost Value = { List (Option Change) };
