@@ -1,6 +1,7 @@
 //! What is fetched of the last answer. A fetch changes nothing.
 //!
 //! The answer to an event stays until the next one: its packets and its samples, counted from 0, and its values.
+//! DDS 1.4, 2.2.2.5 (SampleInfo). The interface for C is this project's own.
 
 ghost use Rattle.std.specs.Prelude.{◌≡◌, slice_get};
 ghost use Rattle.dds_c.specs.Fetching.{PacketCopied, PacketFetched, SampleCopied, SampleFetched, ValueFetched, ValueWritten, changed_said, handle_said, key_said, number_said, sample_at, total_said, unsent_of};

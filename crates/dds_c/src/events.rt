@@ -1,4 +1,6 @@
 //! What happens to a peer but for its calls: datagrams that come, and time that goes on.
+//!
+//! RTPS 2.5, 8.3.4 (the message receiver). The interface for C is this project's own.
 
 ghost use Rattle.dds_protocol.specs.declared.event.Event.TheVariants.{Deliver, Tick};
 ghost use Rattle.dds_c.specs.Answering.{Happens, HappensCopied};

@@ -1,4 +1,6 @@
 //! What a caller holds of a peer.
+//!
+//! The interface for C is this project's own.
 
 ghost use Rattle.std.specs.Prelude.{◌≡◌, IfSome, IfNone};
 ghost use Rattle.std.specs.declared.option.Option.TheVariants.{None, Some};

@@ -1,4 +1,6 @@
 //! A peer and its last answer.
+//!
+//! The interface for C is this project's own.
 
 ghost use Rattle.std.specs.Prelude.{◌≡◌, ◌≢◌, None, IfOk, IfErr};
 ghost use Rattle.dds_base.specs.Refusal.{Refuses};
