@@ -9,6 +9,7 @@ ghost use Rattle.rtps_wire.specs.declared.message.Message.{Message as MessageOf}
 ghost use Rattle.rtps_writer.specs.declared.answer.Answer.TheVariants as answer;
 ghost use Rattle.rtps_writer.specs.Standing.{StandsFor as RtpsStandsFor};
 ghost use Rattle.rtps_writer.specs.WriterState.{WriterState};
+ghost use Rattle.dds_base.specs.Bounds.{max_value, window_width};
 ghost use Rattle.dds_base.specs.Written.{changes_of};
 ghost use Rattle.dds_protocol.specs.DueMessages.{data_of, submessages_of};
 ghost use Rattle.dds_core.specs.Answering.{SpellsMore, IsFrom, HasRoom, AreRooms, AreAnswerable, CanAnswer, SendsAnswers, message_of};
@@ -103,7 +104,7 @@ fn push_data<'a>(
     number: Sn,
     change: &'a Change,
 ) -> Result<(), AllocError>
-    requires short { length change.now.value ≤ 1024 }
+    requires short { length change.now.value ≤ max_value }
     requires first { 1 ≤ number }
     requires small { number ≤ 2 ^ 62 }
     ensures spells { OnOk result (SpellsMore submessages.old submessages.new) }
@@ -241,9 +242,9 @@ pub fn send_answers(
     sent: &mut Announced,
 )
     requires can { AreAnswerable writer.now answers.now }
-    requires few { length answers.now ≤ 256 }
+    requires few { length answers.now ≤ window_width }
     requires room { sent.old.unsent < 2 ^ 60 }
-    ensures few { sent.new.unsent ≤ sent.old.unsent + 256 }
+    ensures few { sent.new.unsent ≤ sent.old.unsent + window_width }
     ensures sends { (s : WriterState) → RtpsStandsFor writer.now s
         → SendsAnswers answering.now (changes_of s.written) answers.now sent.old sent.new }
     ensures messages { AreMessages sent.old.packets.items → AreMessages sent.new.packets.items }

@@ -3,6 +3,7 @@
 //! DDS 1.4, 2.2.2.4 (DataWriter).
 
 ghost use Rattle.std.specs.Prelude.{◌≡◌, ◌+◌, ◌^◌, ◌<◌, ◌≤◌, length, []};
+ghost use Rattle.dds_base.specs.Bounds.{max_peers, max_value};
 ghost use Rattle.dds_machine.specs.declared.reply.Reply.TheVariants.{Done, Refused};
 ghost use Rattle.dds_machine.specs.declared.call.Call.TheVariants as call;
 ghost use Rattle.dds_protocol.specs.declared.event.Event.TheVariants as event;
@@ -26,7 +27,7 @@ impl Peer {
         ensures step { StepsBy (T.meaning filters.now) self.old (event.Call call) result self.new }
         ensures sends { Sends self.old (event.Call call) result }
         ensures messages { AreMessages result.packets }
-        ensures few { result.unsent ≤ 16 }
+        ensures few { result.unsent ≤ max_peers }
         ensures twin { Twins twin.old result.reply twin.new }
     {
         match call {
@@ -116,7 +117,7 @@ impl Peer {
         ensures step { Steps self.old (event.Call (call.AssertLiveliness writer)) result self.new }
         ensures sends { Sends self.old (event.Call (call.AssertLiveliness writer)) result }
         ensures messages { AreMessages result.packets }
-        ensures few { result.unsent ≤ 16 }
+        ensures few { result.unsent ≤ max_peers }
         ensures plain { IsPlain result.reply }
     {
         let Some(index) = index_of(writer, self.writers.len()) else {
@@ -164,7 +165,7 @@ impl Peer {
         ensures step { Steps self.old (event.Call (call.Write writer key value)) result self.new }
         ensures sends { Sends self.old (event.Call (call.Write writer key value)) result }
         ensures messages { AreMessages result.packets }
-        ensures few { result.unsent ≤ 16 }
+        ensures few { result.unsent ≤ max_peers }
         ensures plain { IsPlain result.reply }
     {
         let Some(index) = index_of(writer, self.writers.len()) else {
@@ -180,7 +181,7 @@ impl Peer {
         ensures step { Steps self.old (event.Call (call.Dispose writer key)) result self.new }
         ensures sends { Sends self.old (event.Call (call.Dispose writer key)) result }
         ensures messages { AreMessages result.packets }
-        ensures few { result.unsent ≤ 16 }
+        ensures few { result.unsent ≤ max_peers }
         ensures plain { IsPlain result.reply }
     {
         let Some(index) = index_of(writer, self.writers.len()) else {
@@ -194,7 +195,7 @@ impl Peer {
         ensures step { Steps self.old (event.Call (call.Unregister writer key)) result self.new }
         ensures sends { Sends self.old (event.Call (call.Unregister writer key)) result }
         ensures messages { AreMessages result.packets }
-        ensures few { result.unsent ≤ 16 }
+        ensures few { result.unsent ≤ max_peers }
         ensures plain { IsPlain result.reply }
     {
         let Some(index) = index_of(writer, self.writers.len()) else {
@@ -212,11 +213,11 @@ impl Peer {
     /// are there before the history takes the change; where that finds no memory, none of them goes out.
     fn make(&mut self, index: usize, kind: ChangeKind, key: Key, value: Octets) -> Output
         requires within { index < length self.old.writers }
-        requires short { length value ≤ 1024 }
+        requires short { length value ≤ max_value }
         requires empty { IsValueOf kind value }
         ensures makes { Makes self.old index kind key value result self.new }
         ensures messages { AreMessages result.packets }
-        ensures few { result.unsent ≤ 16 }
+        ensures few { result.unsent ≤ max_peers }
         ensures plain { IsPlain result.reply }
     {
         let writer = &self.writers[index];

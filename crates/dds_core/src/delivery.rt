@@ -4,6 +4,7 @@
 //! do with an ACKNACK is in `requests`.
 
 ghost use Rattle.std.specs.Prelude.{◌≡◌, ◌++◌, ◌+◌, ◌*◌, ◌^◌, ◌<◌, ◌≤◌, [], length, IfSome, IfNone, IfErr, OnOk, OnErr};
+ghost use Rattle.dds_base.specs.Bounds.{max_ends};
 ghost use Rattle.dds_base.specs.declared.code.Code.TheVariants.{Memory};
 ghost use Rattle.dds_machine.specs.declared.reply.Reply.TheVariants.{Reported};
 ghost use Rattle.dds_protocol.specs.declared.event.Event.TheVariants as event;
@@ -48,8 +49,9 @@ fn named_reader(
     None
 }
 
-/// How many readers a peer has for which no memory is needed for the list of what is ready.
-const FEW_READERS: usize = 4;
+/// How many readers a peer has for which no memory is needed for the list of what is ready. The place of each is zeroed at
+/// each submessage.
+const FEW_READERS: usize = 1;
 
 /// Makes ready what a submessage tells, for each of the readers of the peer of this prefix.
 fn prepare(
@@ -132,7 +134,7 @@ impl Peer {
         requires can { AllCanTake self.old.readers ready.old.items }
         requires count { length ready.old.items ≡ length self.old.readers }
         requires room { 2 * length ready.old.items ≤ moves.old.room }
-        requires few { length ready.old.items ≤ 16 }
+        requires few { length ready.old.items ≤ max_ends }
         requires low { sent.old.unsent < 2 ^ 60 }
         ensures takes { TakesAll self.old ready.old.items moves.old.items sent.old self.new
             moves.new.items sent.new }
@@ -160,7 +162,7 @@ impl Peer {
         ensures ready { OnOk result
             (AreReady self.old.prefix
             (receiver_at receiver.now) submessage.now self.new.readers ready.new.items) }
-        ensures few { OnOk result (length ready.new.items ≤ 16) }
+        ensures few { OnOk result (length ready.new.items ≤ max_ends) }
         ensures stands { StandsAsWell self.old self.new }
         ensures count { length self.new.readers ≡ length self.old.readers }
         ensures prefix { self.new.prefix ≡ self.old.prefix }

@@ -4,6 +4,7 @@
 //! RTPS 2.5, 8.4.9 (reliable StatefulWriter: heartbeatPeriod), 8.3.8 (Heartbeat), 8.7.2.2 (LIVELINESS).
 
 ghost use Rattle.std.specs.Prelude.{◌≡◌, ◌+◌, ◌<◌, ◌≤◌, ◌∷◌, [], ℤ, Option, length};
+ghost use Rattle.dds_base.specs.Bounds.{max_peers};
 ghost use Rattle.rtps_wire.specs.Messages.{IsWritable};
 ghost use Rattle.rtps_writer.specs.Standing.{reader_count, StandsFor as RtpsStandsFor};
 ghost use Rattle.dds_machine.specs.declared.endpoint.Endpoint.{Endpoint};
@@ -105,7 +106,7 @@ pub fn send_beats(
 )
     requires valid { IsHeartbeatValid beat.now.due }
     requires count { reader_count writer.now ≡ length readers.now }
-    requires few { length destinations.now ≤ 16 }
+    requires few { length destinations.now ≤ max_peers }
     requires room { sent.old.unsent ≤ 256 }
     ensures few { sent.new.unsent ≤ sent.old.unsent + 16 }
     ensures beats { Beats beat.now writer.now readers.now destinations.now sent.old.packets.items
@@ -122,9 +123,9 @@ pub fn send_beats(
 /// Sends a HEARTBEAT to each of these peers.
 pub fn send_to_all(alloc: Global, beat: &Beat, destinations: &[Destination]) -> Announced
     requires valid { IsHeartbeatValid beat.now.due }
-    requires few { length destinations.now ≤ 16 }
+    requires few { length destinations.now ≤ max_peers }
     ensures sent { AreSent (told_to beat.now destinations.now) result.packets.items result.unsent }
-    ensures few { result.unsent ≤ 16 }
+    ensures few { result.unsent ≤ max_peers }
     ensures messages { AreMessages result.packets.items }
 {
     let mut sent = Announced {

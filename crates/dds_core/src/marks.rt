@@ -4,6 +4,7 @@
 //! says why it is seen from outside.
 
 ghost use Rattle.std.specs.Prelude.{◌≤◌, length};
+ghost use Rattle.dds_base.specs.Bounds.{max_ends};
 ghost use Rattle.dds_core.specs.Noticing.{MarksReaders, MarksWriters};
 
 use crate::reader_end::ReaderEnd;
@@ -30,7 +31,7 @@ pub struct Marks {
 
 /// How often the liveliness of each of these writers was lost.
 pub fn mark_writers(writers: &[WriterEnd]) -> [u64; MAX_ENDS]
-    requires few { length writers.now ≤ 16 }
+    requires few { length writers.now ≤ max_ends }
     ensures { MarksWriters writers.now (length writers.now) result }
 {
     let mut marks = [0; MAX_ENDS];
@@ -42,7 +43,7 @@ pub fn mark_writers(writers: &[WriterEnd]) -> [u64; MAX_ENDS]
 
 /// The marks of each of these readers.
 pub fn mark_readers(readers: &[ReaderEnd]) -> [ReaderMark; MAX_ENDS]
-    requires few { length readers.now ≤ 16 }
+    requires few { length readers.now ≤ max_ends }
     ensures { MarksReaders readers.now (length readers.now) result }
 {
     let mut marks = [ReaderMark::NOTHING; MAX_ENDS];

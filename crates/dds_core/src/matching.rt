@@ -3,6 +3,7 @@
 //! RTPS 2.5, 8.4.7 (StatefulWriter, matched_readers), 8.4.10 (StatefulReader, matched_writers).
 
 ghost use Rattle.std.specs.Prelude.{◌≡◌, ◌+◌, ◌++◌, ◌≤◌, length, IfOk, OnOk, None};
+ghost use Rattle.dds_base.specs.Bounds.{max_ends, max_peers, max_readers};
 ghost use Rattle.dds_base.specs.Checked.{check_refusal};
 ghost use Rattle.dds_base.specs.Matched.{of_matched_writers};
 ghost use Rattle.dds_base.specs.MatchedAt.{of_readers_in, of_writers_in};
@@ -47,9 +48,9 @@ pub fn destinations(
     peers: &[PeerConfig],
     topic: u32,
 ) -> Result<Vec<Destination>, AllocError>
-    requires few { length peers.now ≤ 16 }
+    requires few { length peers.now ≤ max_peers }
     ensures names { IfOk result (λ all. all.items ≡ destinations topic 1 peers.now) }
-    ensures few { IfOk result (λ all. length all.items ≤ 16) }
+    ensures few { IfOk result (λ all. length all.items ≤ max_peers) }
 {
     let mut all = Vec::new(alloc);
     for (index, peer) in peers.iter().enumerate() {
@@ -70,7 +71,7 @@ fn push_readers(
     peer: &PeerConfig,
     topic: u32,
 ) -> Result<(), AllocError>
-    requires few { length peer.now.readers ≤ 16 }
+    requires few { length peer.now.readers ≤ max_ends }
     ensures names { OnOk result
         (all.new.items
         ≡ all.old.items ++ of_readers_in (reader_name number peer.now) topic 1 peer.now.readers) }
@@ -101,7 +102,7 @@ pub fn reliable_readers(
 ) -> Result<Vec<ReaderName>, AllocError>
     requires checked { check_refusal peers.now ≡ None }
     ensures names { IfOk result (λ all. all.items ≡ reader_names topic peers.now) }
-    ensures many { IfOk result (λ all. length all.items ≤ 256) }
+    ensures many { IfOk result (λ all. length all.items ≤ max_readers) }
 {
     let mut all = Vec::new(alloc);
     for (index, peer) in peers.iter().enumerate() {
@@ -124,7 +125,7 @@ fn push_writers(
     peer: &PeerConfig,
     topic: u32,
 ) -> Result<(), AllocError>
-    requires few { length peer.now.writers ≤ 16 }
+    requires few { length peer.now.writers ≤ max_ends }
     ensures names { OnOk result
         (all.new.names.items ≡ all.old.names.items
         ++ of_writers_in (writer_name number peer.now) topic 1 peer.now.writers) }

@@ -3,6 +3,7 @@
 //! RTPS 2.5, 8.4.9 (the behaviour of a reliable StatefulWriter).
 
 ghost use Rattle.std.specs.Prelude.{◌≡◌, ◌+◌, ◌^◌, ◌<◌, ◌≤◌, Some, length, slice_get, IfSome, IfNone, OnOk, OnErr};
+ghost use Rattle.dds_base.specs.Bounds.{max_readers, window_width};
 ghost use Rattle.rtps_wire.specs.declared.submessage.Submessage.TheVariants as submessage;
 ghost use Rattle.dds_core.specs.Answering.{HasRoom, HaveRoom, AsksNone, IsAskedWriter, TakesRow, TakesAllRows};
 ghost use Rattle.dds_core.specs.Kept.{WriterKept};
@@ -73,7 +74,7 @@ impl Peer {
             moves.new.items sent.new }
         ensures twice { moves.new.twice ≡ moves.old.twice }
         ensures room { moves.old.room ≤ moves.new.room + 1 }
-        ensures few { sent.new.unsent ≤ sent.old.unsent + 256 }
+        ensures few { sent.new.unsent ≤ sent.old.unsent + window_width }
         ensures messages { AreMessages sent.old.packets.items → AreMessages sent.new.packets.items }
     {
         let (alloc, prefix) = (self.alloc, self.prefix);
@@ -101,7 +102,7 @@ impl Peer {
         requires within { (k : WriterKept) × (slice_get self.old.writers index ≡ Some k)
             × (length rooms.items ≡ length k.readers) }
         requires base { 1 ≤ body.now.reader_sn_state.base }
-        requires few { length rooms.items ≤ 256 }
+        requires few { length rooms.items ≤ max_readers }
         requires rooms { HaveRoom body.now.reader_sn_state rooms.items }
         requires moves { length rooms.items ≤ moves.old.room }
         requires low { sent.old.unsent < 2 ^ 59 }

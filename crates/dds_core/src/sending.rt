@@ -3,6 +3,7 @@
 //! RTPS 2.5, 8.4.9 (the behaviour of a reliable StatefulWriter).
 
 ghost use Rattle.std.specs.Prelude.{◌≡◌, ◌+◌, ◌^◌, ◌<◌, ◌≤◌, [], ◌∷◌, length, set};
+ghost use Rattle.dds_base.specs.Bounds.{max_changes};
 ghost use Rattle.rtps_wire.specs.Data.{IsContent};
 ghost use Rattle.rtps_wire.specs.Messages.{IsWritable};
 ghost use Rattle.rtps_wire.specs.declared.submessage.Submessage.TheVariants.{InfoDst};
@@ -35,7 +36,7 @@ pub struct Announced {
 /// The message that announces a change, without a peer that it is for.
 fn message<'a>(alloc: Global, sender: &Sender, number: Sn, content: DataContent<'a>) -> Message<'a>
     requires first { 1 ≤ number }
-    requires small { number ≤ 2 ^ 48 }
+    requires small { number ≤ max_changes }
     requires valid { IsContent content }
     ensures says { Announces sender.now number content.entry result }
     ensures writable { IsAddressable result }
@@ -117,7 +118,7 @@ pub fn announce(
     content: DataContent<'_>,
 ) -> Announced
     requires first { 1 ≤ number }
-    requires small { number ≤ 2 ^ 48 }
+    requires small { number ≤ max_changes }
     requires valid { IsContent content }
     ensures counted { length result.packets.items + result.unsent ≡ length destinations.now }
     ensures few { result.unsent ≤ length destinations.now }

@@ -3,6 +3,7 @@
 //! RTPS 2.5, 8.4.7 (StatefulWriter); DDS 1.4, 2.2.2.4 (DataWriter).
 
 ghost use Rattle.std.specs.Prelude.{◌≡◌, ◌≢◌, ◌+◌, ◌^◌, ◌<◌, ◌≤◌, ℤ, Option, length, map, nat_le, slice_get, slice_index, Some, None, true, false, IfSome, IfNone, IfOk, IfErr, OnOk, OnErr};
+ghost use Rattle.dds_base.specs.Bounds.{max_changes, max_ends, max_peers, max_readers, max_value, window_width};
 ghost use Rattle.dds_base.specs.Checked.{check_refusal};
 ghost use Rattle.dds_base.specs.declared.code.Code.TheVariants.{Memory, OutOfResources, PreconditionNotMet};
 ghost use Rattle.dds_base.specs.Kept.{append_refusal};
@@ -265,7 +266,7 @@ impl WriterEnd {
             (λ code. (w : Writer) (answered : EndpointOf → Option ℤ)
             → WriterStands self.now w answered
             → Refuses (append_refusal (history_of w) change.now) code) }
-        ensures number { IfOk result (λ number. (1 ≤ number) × (number ≤ 2 ^ 48)) }
+        ensures number { IfOk result (λ number. (1 ≤ number) × (number ≤ max_changes)) }
     {
         if let Some(code) = self.writer.refusal(change) {
             return Err(code);
@@ -285,11 +286,11 @@ impl WriterEnd {
         change: &Change,
     ) -> Announced
         requires first { 1 ≤ number }
-        requires small { number ≤ 2 ^ 48 }
-        requires short { length change.now.value ≤ 1024 }
+        requires small { number ≤ max_changes }
+        requires short { length change.now.value ≤ max_value }
         ensures counted { length result.packets.items + result.unsent
             ≡ length self.now.destinations }
-        ensures few { result.unsent ≤ 16 }
+        ensures few { result.unsent ≤ max_peers }
         ensures announces { AreAnnouncements
             (record { prefix = prefix; entity = self.now.entity; moment = moment }) number
             (content_of change.now) self.now.destinations result.packets.items }
@@ -320,7 +321,7 @@ impl WriterEnd {
     /// In this order, and each leaves the writer as it was: `OutOfResources` after 2^48 changes, `Timeout` where more
     /// than `max_samples` numbers would be kept, `Memory` where a growth was refused.
     pub fn append(&mut self, change: Change) -> Result<Sn, Code>
-        requires short { length change.value ≤ 1024 }
+        requires short { length change.value ≤ max_value }
         ensures ok { OnOk result (Enters self.old (Changed change) self.new) }
         ensures accepted { IfOk result
             (λ number. (w : Writer) (answered : EndpointOf → Option ℤ)
@@ -331,7 +332,7 @@ impl WriterEnd {
             (λ code. (w : Writer) (answered : EndpointOf → Option ℤ)
             → WriterStands self.old w answered
             → Refuses (append_refusal (history_of w) change) code) }
-        ensures number { IfOk result (λ number. (1 ≤ number) × (number ≤ 2 ^ 48)) }
+        ensures number { IfOk result (λ number. (1 ≤ number) × (number ≤ max_changes)) }
         ensures err { OnErr result (self.new ≡ self.old) }
     {
         self.writer.write(change)
@@ -399,7 +400,7 @@ impl WriterEnd {
         receiver: &MessageReceiver,
         body: &AckNack,
     ) -> Result<Vec<Option<Room>>, AllocError>
-        ensures few { IfOk result (λ all. length all.items ≤ 256) }
+        ensures few { IfOk result (λ all. length all.items ≤ max_readers) }
         ensures rooms { IfOk result
             (λ all. AreRooms own.now self.now.entity
             (receiver_at receiver.now) body.now self.now.readers all.items) }
@@ -428,7 +429,7 @@ impl WriterEnd {
         ensures takes { TakesAckNack self.old prefix row body.now sent.old self.new result
             sent.new }
         ensures same { writer_identity self.new ≡ writer_identity self.old }
-        ensures few { sent.new.unsent ≤ sent.old.unsent + 256 }
+        ensures few { sent.new.unsent ≤ sent.old.unsent + window_width }
         ensures messages { AreMessages sent.old.packets.items → AreMessages sent.new.packets.items }
     {
         let set = &body.reader_sn_state;
@@ -464,7 +465,7 @@ impl WriterEnd {
         ensures ok { OnOk result (Enters self.old (Asserted now) self.new) }
         ensures tells { IfOk result
             (λ sent. TellsOf prefix self.old sent.packets.items sent.unsent) }
-        ensures few { IfOk result (λ sent. sent.unsent ≤ 16) }
+        ensures few { IfOk result (λ sent. sent.unsent ≤ max_peers) }
         ensures refused { IfErr result (λ code. (code ≡ OutOfResources) × HasNoCount self.old) }
         ensures messages { IfOk result (λ sent. AreMessages sent.packets.items) }
         ensures err { OnErr result (self.new ≡ self.old) }
@@ -516,7 +517,7 @@ pub fn tick_all(
     writers: &mut [WriterEnd],
     now: Moment,
 ) -> Announced
-    requires few { length writers.old ≤ 16 }
+    requires few { length writers.old ≤ max_ends }
     ensures ticks { AllTick writers.old now writers.new }
     ensures beats { BeatsOfAll prefix writers.old result.packets.items result.unsent }
     ensures few { result.unsent ≤ 256 }
