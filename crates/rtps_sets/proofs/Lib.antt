@@ -1,5 +1,6 @@
 pub mod WordLaws
 pub mod RingLaws
+pub mod MirrorLaws
 pub mod SpanLaws
 pub mod MemberLaws
 pub mod MarkLaws

@@ -1,5 +1,5 @@
 -- The bits of a ring, word by word.
-use Rattle.std.proofs.Common.{◌≡◌, ℕ, zero, suc, ◌-◌, ◌+◌, ◌*◌, ◌/◌, ◌%◌, ◌^◌, ◌<◌, ◌≤◌, min, max, Bool, false, not, ◌&&◌, ◌||◌, List, get_or, set, eqb, ltb, refl, inl, inr, sym, ap, ◌∙◌, arith, add-zero, bit_or, bit_and, w64, get_or-set_same, get_or-set_other}
+use Rattle.std.proofs.Common.{◌≡◌, ℕ, zero, suc, ◌-◌, ◌+◌, ◌*◌, ◌/◌, ◌%◌, ◌^◌, ◌<◌, ◌≤◌, min, max, Bool, not, ◌&&◌, ◌||◌, List, get_or, set, eqb, ltb, refl, inl, inr, sym, ap, ◌∙◌, arith, add-zero, bit_or, bit_and, w64, get_or-set_same, get_or-set_other}
 use Rattle.std.specs.Prelude.{◌⊎◌}
 use Rattle.std.specs.Int.{bit_at, bit_not}
 use Rattle.std.proofs.lemmas.Bool.{cases_lt, lt-ltb, le-ltb}
@@ -11,15 +11,15 @@ bit_mod : (n i : ℕ) → i < 64 → bit_at (n % 2 ^ 64) i ≡ bit_at n i
 bit_mod n i lt =
     sym (bit_at_cat_low (n / 2 ^ 64) 64 (n % 2 ^ 64) i lt) ∙ ap (λ (m : ℕ). bit_at m i) (shr_split n 64)
 
-bit_shr : (n by i : ℕ) → bit_at (n / 2 ^ by) i ≡ bit_at n (by + i)
+pub bit_shr : (n by i : ℕ) → bit_at (n / 2 ^ by) i ≡ bit_at n (by + i)
 bit_shr n by i = ap (λ (m : ℕ). m % 2) (shr-shr n by i)
 
-bit_shl_low : (n by i : ℕ) → i < by → i < 64 → bit_at (n * 2 ^ by % 2 ^ 64) i ≡ 0
+pub bit_shl_low : (n by i : ℕ) → i < by → i < 64 → bit_at (n * 2 ^ by % 2 ^ 64) i ≡ 0
 bit_shl_low n by i lt less =
     bit_mod (n * 2 ^ by) i less
     ∙ (ap (λ (m : ℕ). bit_at m i) (sym (add-zero (n * 2 ^ by))) ∙ (bit_at_cat_low n by 0 i lt ∙ bit_at-zero i))
 
-bit_shl_high : (n by i : ℕ) → by ≤ i → i < 64 → bit_at (n * 2 ^ by % 2 ^ 64) i ≡ bit_at n (i - by)
+pub bit_shl_high : (n by i : ℕ) → by ≤ i → i < 64 → bit_at (n * 2 ^ by % 2 ^ 64) i ≡ bit_at n (i - by)
 bit_shl_high n by i le less =
     bit_mod (n * 2 ^ by) i less
     ∙ (ap (λ (m : ℕ). bit_at m i) (sym (add-zero (n * 2 ^ by))) ∙ bit_at_cat_high n by 0 i (pow_pos by) le)
@@ -151,14 +151,14 @@ below_in_word at i end count is = by (cases_lt i count)
     by (inl less) = rw (lt-ltb i count less, lt-ltb (64 * at + i) end (omega (arith, is, less))) refl
     by (inr more) = rw (le-ltb i count more, le-ltb (64 * at + i) end (omega (arith, is, more))) refl
 
--- one word more has its bits below a place
-pub below_more : (words : List ℕ) (at end word : ℕ) (flags : List Bool) → AreWords words → at < 4
-    → ((k : ℕ) → k < 64 * at → bit_of words k ≡ (ltb k end && get_or flags k false))
-    → ((i : ℕ) → i < 64 → eqb (bit_at word i) 1 ≡ (ltb (64 * at + i) end && get_or flags (64 * at + i) false))
-    → (k : ℕ) → k < 64 * (at + 1) → bit_of (set words at word) k ≡ (ltb k end && get_or flags k false)
-below_more words at end word flags are lt so_far each k high = by (cases_lt k (64 * at))
+-- one word more has its bits
+pub bits_more : (words : List ℕ) (at word : ℕ) (flag : ℕ → Bool) → AreWords words → at < 4
+    → ((k : ℕ) → k < 64 * at → bit_of words k ≡ flag k)
+    → ((i : ℕ) → i < 64 → eqb (bit_at word i) 1 ≡ flag (64 * at + i))
+    → (k : ℕ) → k < 64 * (at + 1) → bit_of (set words at word) k ≡ flag k
+bits_more words at word flag are lt so_far each k high = by (cases_lt k (64 * at))
   where
-    by : (k < 64 * at) ⊎ (64 * at ≤ k) → bit_of (set words at word) k ≡ (ltb k end && get_or flags k false)
+    by : (k < 64 * at) ⊎ (64 * at ≤ k) → bit_of (set words at word) k ≡ flag k
     by (inl less) =
         ap (λ (v : ℕ). eqb (bit_at v (k % 64)) 1)
         (get_or-set_other words at (k / 64) word 0 (λ e. omega (arith, e, less)))
@@ -167,4 +167,4 @@ below_more words at end word flags are lt so_far each k high = by (cases_lt k (6
         let here : k / 64 ≡ at = omega (arith, more, high) in
         let place : 64 * at + k % 64 ≡ k = omega (arith, more, high) in
         rw here (rw (get_or-set_same words at word 0 (omega (arith, are.count, lt)))
-        (each (k % 64) (omega arith) ∙ ap (λ (n : ℕ). ltb n end && get_or flags n false) place))
+        (each (k % 64) (omega arith) ∙ ap flag place))

@@ -5,8 +5,10 @@
 ghost use Rattle.std.specs.Prelude.{◌≡◌, ◌≤◌, ◌<◌, ◌+◌, ◌*◌, ◌%◌, ◌==◌, ◌&&◌, ◌||◌, ℕ, false, not, true, nat_lt, length, replicate, slice_index_or, slice_set};
 ghost use Rattle.std.specs.Int.{bit_at};
 ghost use Rattle.rtps_sets.specs.Bits.{is_free, AreWords, IsSpan};
+ghost use Rattle.rtps_sets.specs.Mirror.{wire_flag};
 ghost use Rattle.rtps_sets.specs.NumberSet.{span};
 
+use crate::mirror::{mirrored, pair_at};
 use std::marker::Model;
 
 /// 256 bits. They take no memory.
@@ -46,6 +48,33 @@ impl Bits {
         ensures count { length self.now ≡ 256 }
     {
         (self.words[place / 64] >> (place % 64)) & 1 == 1
+    }
+
+    /// The bits below a count that words of 32 have, the first place of each at its highest bit.
+    pub fn from_words(count: usize, words: &[u32]) -> Bits
+        ensures each { (k : ℕ) → k < 256 → slice_index_or result k false
+            ≡ (nat_lt k count && wire_flag words.now k) }
+        ensures count { length result ≡ 256 }
+    {
+        let mut made = [0; 4];
+        for at in 0..4 {
+            let left = count.saturating_sub(64 * at);
+            made[at] = mirrored(pair_at(words, at)) & low_bits(left);
+        }
+        Bits { words: made }
+    }
+
+    /// The same bits in words of 32, the first place of each at its highest bit.
+    pub fn to_words(&self) -> [u32; 8]
+        ensures { (k : ℕ) → k < 256 → wire_flag result k ≡ slice_index_or self.now k false }
+    {
+        let mut words = [0; 8];
+        for at in 0..4 {
+            let pair = mirrored(self.words[at]);
+            words[2 * at] = (pair & 0xffff_ffff) as u32;
+            words[2 * at + 1] = (pair >> 32) as u32;
+        }
+        words
     }
 
     /// Sets the bit of a place.

@@ -5,6 +5,7 @@
 #![tactic(auto)]
 
 mod bits;
+mod mirror;
 mod sn_set;
 mod window;
 

@@ -2,7 +2,8 @@
 //!
 //! RTPS 2.5, 8.3.5.5 (SequenceNumberSet).
 
-ghost use Rattle.std.specs.Prelude.{◌≡◌, ◌≤◌, ◌<◌, ◌+◌, ◌-◌, ◌==◌, ◌||◌, ℕ, false, true, IsTrue, length, slice_set};
+ghost use Rattle.std.specs.Prelude.{◌≡◌, ◌≤◌, ◌<◌, ◌+◌, ◌-◌, ◌/◌, ◌%◌, ◌==◌, ◌&&◌, ◌||◌, ℕ, false, true, nat_lt, IsTrue, length, slice_index_or, slice_set};
+ghost use Rattle.std.specs.Int.{bit_at};
 ghost use Rattle.rtps_sets.specs.NumberSet.{empty_from, has_number, span};
 
 use crate::bits::Bits;
@@ -61,6 +62,36 @@ impl SnSet {
             base: base.number(),
             members,
         }
+    }
+
+    /// The set from a base on whose members words of 32 places name: place `k` stands at the bit of worth
+    /// `2^(31 - k % 32)` of word `k / 32`. Places from `count` on are not members, whatever the words have there, nor are
+    /// places past the words.
+    ///
+    /// RTPS 2.5, 9.4.2 (SequenceNumberSet: numBits, bitmap).
+    pub fn from_words(base: Sn, count: usize, words: &[u32]) -> SnSet
+        // The number from which on members lie.
+        ensures base { result.base ≡ base }
+        // A place is a member where it is below the count and the words have its bit.
+        ensures members { (place : ℕ) → place < 256 → slice_index_or result.members place false
+            ≡ (nat_lt place count
+            && bit_at (slice_index_or words.now (place / 32) 0) (31 - place % 32) == 1) }
+        // There are 256 places.
+        ensures places { length result.members ≡ 256 }
+    {
+        SnSet::with_members(base, Bits::from_words(count, words))
+    }
+
+    /// All 256 places in words of 32: place `k` stands at the bit of worth `2^(31 - k % 32)` of word `k / 32`.
+    ///
+    /// RTPS 2.5, 9.4.2 (SequenceNumberSet: bitmap).
+    pub fn words(&self) -> [u32; 8]
+        // The words have the bit of a place where it is a member.
+        ensures members { (place : ℕ) → place < 256
+            → (bit_at (slice_index_or result (place / 32) 0) (31 - place % 32) == 1)
+            ≡ slice_index_or self.now.members place false }
+    {
+        self.members.to_words()
     }
 
     /// The number from which on the members lie.

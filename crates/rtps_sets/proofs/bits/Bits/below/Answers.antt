@@ -1,6 +1,6 @@
-use Rattle.std.proofs.Common.{◌∙◌, arith}
+use Rattle.std.proofs.Common.{ltb, ◌&&◌, get_or, false, ◌∙◌, arith}
 use Rattle.rtps_sets.specs.BitLaws.{bit_in}
-use Rattle.rtps_sets.proofs.RingLaws.{below_more}
+use Rattle.rtps_sets.proofs.RingLaws.{bits_more}
 use Rattle.rtps_sets.proofs.WordLaws.{words_with}
 use Rattle.rtps_sets.proofs.bits.Bits.below.Goals as goal
 
@@ -9,7 +9,8 @@ loop-at-preserved c =
     let it = c.loop-at.invariant in
     record {
       words = words_with c.loop-at.words c.loop-at.at c.word_below.result it.words (omega (arith, c.word_below.type_inv));
-      bits = below_more c.loop-at.words c.loop-at.at c.args.end c.word_below.result c.args.self.now it.words
+      bits = bits_more c.loop-at.words c.loop-at.at c.word_below.result
+          (λ k. ltb k c.args.end && get_or c.args.self.now k false) it.words
           c.loop-at-test.true it.bits c.word_below.ensures;
     }
 
