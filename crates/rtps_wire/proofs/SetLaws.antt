@@ -1,11 +1,13 @@
 -- Sets in bytes are read as they stand there.
-use Rattle.std.proofs.Common.{◌≡◌, ℕ, zero, suc, ◌+◌, ◌-◌, ◌*◌, ◌/◌, ◌%◌, ◌^◌, ◌<◌, ◌≤◌, Bool, true, false, cond, eqb, ltb, ◌||◌, List, [], ◌∷◌, ◌++◌, length, get_or, set, take, replicate, Option, Some, None, refl, sym, ap, subst, ◌∙◌, append_assoc, arith, inl, inr}
+use Rattle.std.proofs.Common.{◌≡◌, ℕ, zero, suc, ◌+◌, ◌-◌, ◌*◌, ◌/◌, ◌%◌, ◌^◌, ◌<◌, ◌≤◌, Bool, false, cond, eqb, ltb, ◌&&◌, ◌||◌, List, [], ◌∷◌, ◌++◌, length, get_or, take, replicate, Option, Some, None, refl, sym, ap, subst, ◌∙◌, append_assoc, arith, inl, inr}
+use Rattle.std.specs.Prelude.{◌⊎◌}
 use Rattle.std.specs.List.{flat_map, AllByRecursion}
 use Rattle.std.specs.Option.{option_map}
-use Rattle.std.specs.Int.{w32}
+use Rattle.std.specs.Int.{w32, bit_at}
 use Rattle.std.specs.Int.RustNames.{bit_and}
-use Rattle.std.proofs.lemmas.Bool.{cases_lt, ltb-false, le-ltb}
-use Rattle.std.proofs.lemmas.List.{length-append, get_or_append_left, get_or-append-add, set_at as set_in, take_more, length-take-le, append-nil}
+use Rattle.std.proofs.lemmas.Bool.{cases_lt, ltb-false, le-ltb, lt-ltb}
+use Rattle.std.proofs.lemmas.List.{length-append, length-replicate, get_or_append_left, get_or-append_right, get_or-append-add, get_or-replicate, get_or-take, ext_get_or, length-take-le, append-nil}
+use Rattle.std.proofs.lemmas.Nat.Bits.{shr_and_one}
 use Rattle.std.proofs.lemmas.Option.{option_and_then_some}
 use Rattle.dds_base.specs.declared.endianness.Endianness.{Endianness}
 use Rattle.dds_base.specs.Fields.{number, number_at, ◌>>=◌}
@@ -153,7 +155,7 @@ unfolding bits_below
 bits_length zero w = refl
 bits_length (suc n) w = ap suc (bits_length n w)
 
-bits_at : (n k w : ℕ) → k < n → get_or (bits_below n w) k false ≡ eqb (bit_and (w / 2 ^ (n - 1 - k)) 1) 1
+pub bits_at : (n k w : ℕ) → k < n → get_or (bits_below n w) k false ≡ eqb (bit_and (w / 2 ^ (n - 1 - k)) 1) 1
 unfolding bits_below
 bits_at zero k w lt = absurd (omega arith)
 bits_at (suc n) zero w lt = let e : suc n - 1 - 0 ≡ n = omega arith in rw e refl
@@ -184,31 +186,47 @@ flag_at (w ∷ ws) i lt =
           ∙ rw (q, r) (flag_at ws (i - 32) (omega arith))
     ]
 
--- the first i flags, and false in the other places
-abbrev pub filled : List Bool → ℕ → List Bool
-filled bits i = take i bits ++ replicate (256 - i) false
+-- the members that words name below a count
+pub members_are : (ws : List ℕ) (count : ℕ) (members : List Bool) → count ≤ 256 → length ws ≡ words_for count
+    → length members ≡ 256
+    → ((place : ℕ) → place < 256 → get_or members place false
+    ≡ (ltb place count && eqb (bit_at (get_or ws (place / 32) 0) (31 - place % 32)) 1))
+    → members ≡ take count (flat_map word_bits ws) ++ replicate (256 - count) false
+members_are ws count members few enough long each =
+    ext_get_or false members (flags ++ replicate (256 - count) false)
+    (omega (
+      arith,
+      few,
+      long,
+      len,
+      length-append flags (replicate (256 - count) false),
+      length-replicate (256 - count) false,
+    ))
+    (λ place lt. by place (omega (arith, lt, long)) (cases_lt place count))
+  where
+    flags : List Bool
+    flags = take count (flat_map word_bits ws)
 
-pub filled_true : (bits : List Bool) (i : ℕ) → i < length bits → i < 256 → get_or bits i false ≡ true
-    → set (filled bits i) i true ≡ filled bits (i + 1)
-filled_true bits i lt small e =
-    let k : 256 - i ≡ suc (256 - (i + 1)) = omega arith in
-    let one : filled bits i ≡ take i bits ++ false ∷ replicate (256 - (i + 1)) false = rw k refl in
-    let more : take (i + 1) bits ≡ take i bits ++ true ∷ [] =
-    take_more bits i false lt ∙ ap (λ (b : Bool). take i bits ++ b ∷ []) e in
-    ap (λ (z : List Bool). set z i true) one
-    ∙ set_in (take i bits) false (replicate (256 - (i + 1)) false) true i (length-take-le i bits (omega arith))
-    ∙ sym (append_assoc (take i bits) (true ∷ []) (replicate (256 - (i + 1)) false))
-    ∙ ap (λ (z : List Bool). z ++ replicate (256 - (i + 1)) false) (sym more)
+    len : length flags ≡ count
+    len = length-take-le count (flat_map word_bits ws) (omega (arith, enough, flags_length ws))
 
-pub filled_false : (bits : List Bool) (i : ℕ) → i < length bits → i < 256 → get_or bits i false ≡ false
-    → filled bits i ≡ filled bits (i + 1)
-filled_false bits i lt small e =
-    let k : 256 - i ≡ suc (256 - (i + 1)) = omega arith in
-    let one : filled bits i ≡ take i bits ++ false ∷ replicate (256 - (i + 1)) false = rw k refl in
-    let more : take (i + 1) bits ≡ take i bits ++ false ∷ [] =
-    take_more bits i false lt ∙ ap (λ (b : Bool). take i bits ++ b ∷ []) e in
-    one ∙ sym (append_assoc (take i bits) (false ∷ []) (replicate (256 - (i + 1)) false))
-    ∙ ap (λ (z : List Bool). z ++ replicate (256 - (i + 1)) false) (sym more)
+    by : (place : ℕ) → place < 256 → (place < count) ⊎ (count ≤ place)
+        → get_or members place false ≡ get_or (flags ++ replicate (256 - count) false) place false
+    by place small (inl below) =
+        let inside : place < 32 * length ws = omega (arith, below, enough) in
+        each place small
+        ∙ (ap (λ (b : Bool). b && eqb (bit_at (get_or ws (place / 32) 0) (31 - place % 32)) 1)
+        (lt-ltb place count below)
+        ∙ (ap (λ (n : ℕ). eqb n 1) (sym (shr_and_one (get_or ws (place / 32) 0) (31 - place % 32)))
+        ∙ (sym (flag_at ws place inside)
+        ∙ (sym (get_or-take count (flat_map word_bits ws) place false below)
+        ∙ sym (get_or_append_left flags (replicate (256 - count) false) false place (omega (arith, below, len)))))))
+    by place small (inr past) =
+        each place small
+        ∙ (ap (λ (b : Bool). b && eqb (bit_at (get_or ws (place / 32) 0) (31 - place % 32)) 1)
+        (le-ltb place count past)
+        ∙ (sym (get_or-replicate (256 - count) (place - count) false false (omega (arith, small, past)))
+        ∙ sym (get_or-append_right flags (replicate (256 - count) false) count place false len past)))
 
 -- ---- a set
 

@@ -1,16 +1,19 @@
 -- A set that is written is read as itself.
-use Rattle.std.proofs.Common.{◌≡◌, ℕ, zero, suc, ◌+◌, ◌-◌, ◌*◌, ◌/◌, ◌%◌, ◌^◌, ◌<◌, ◌≤◌, Bool, true, false, cond, eqb, leb, List, [], ◌∷◌, ◌++◌, length, get_or, take, drop, replicate, refl, sym, ap, ◌∙◌, append_assoc, arith}
+use Rattle.std.proofs.Common.{◌≡◌, ℕ, zero, suc, ◌+◌, ◌-◌, ◌*◌, ◌/◌, ◌%◌, ◌^◌, ◌<◌, ◌≤◌, Bool, true, false, cond, eqb, List, [], ◌∷◌, ◌++◌, length, get_or, set, take, drop, replicate, refl, sym, ap, ◌∙◌, append_assoc, arith, inl, inr, get_or-set_same, get_or-set_other}
 use Rattle.std.specs.List.{flat_map, AllByRecursion}
-use Rattle.std.specs.Int.{w32}
+use Rattle.std.specs.Int.{w32, bit_at}
 use Rattle.std.specs.Int.RustNames.{bit_and}
 use Rattle.std.proofs.Math.Nat.{pow-suc}
 use Rattle.std.proofs.lemmas.Nat.{and_mask, field_of, mod-pow-add, shr_high, mod_low}
-use Rattle.std.proofs.lemmas.List.{length-append, drop-drop, get_or-drop, append-nil}
-use Rattle.std.proofs.lemmas.Bool.{le-leb}
-use Rattle.rtps_sets.specs.NumberSet.{NumberSet, span, has_number}
+use Rattle.std.proofs.lemmas.List.{length-append, drop-drop, get_or-drop}
+use Rattle.std.specs.Prelude.{◌⊎◌}
+use Rattle.std.proofs.lemmas.Bool.{cases_eq}
+use Rattle.std.proofs.lemmas.Nat.Bits.{shr_and_one, bit_at-lt, same_from_bits_below}
+use Rattle.rtps_sets.specs.NumberSet.{NumberSet, span}
 use Rattle.rtps_sets.proofs.SpanLaws.{span_le, span_all}
 use Rattle.rtps_wire.specs.Sets.{set_text, bits_below, word_bits, words_for, word_of, words_of, set_field_of, set_of, IsSetField, IsSet}
 use Rattle.rtps_wire.specs.Fields.{sn_text}
+use Rattle.rtps_wire.proofs.SetLaws.{bits_at}
 use Rattle.dds_base.specs.declared.endianness.Endianness.TheVariants.{Little}
 use Rattle.dds_base.specs.Fields.{number}
 
@@ -139,61 +142,81 @@ set_again s valid =
 
 -- ---- writing
 
-has_at : (s : NumberSet) (p k : ℕ) → has_number s (s.base + p + k) ≡ get_or s.members (p + k) false
-has_at s p k =
-    let le : leb s.base (s.base + p + k) ≡ true = le-leb _ _ (omega arith) in
-    let e : s.base + p + k - s.base ≡ p + k = omega arith in
-    rw (le, e) refl
+-- the flags of a written word
+word_flag : (n k : ℕ) (fs : List Bool) → k < n → eqb (bit_at (word_of n fs) (n - 1 - k)) 1 ≡ get_or fs k false
+word_flag n k fs lt =
+    ap (λ (m : ℕ). eqb m 1) (sym (shr_and_one (word_of n fs) (n - 1 - k)))
+    ∙ (sym (bits_at n k (word_of n fs) lt)
+    ∙ (ap (λ (z : List Bool). get_or z k false) (bits_word n fs) ∙ front_at n k fs lt))
+  where
+    front_at : (n k : ℕ) (fs : List Bool) → k < n → get_or (front n fs) k false ≡ get_or fs k false
+    front_at zero k fs lt = absurd (omega arith)
+    front_at (suc n) zero fs lt = refl
+    front_at (suc n) (suc k) [] lt = front_at n k [] (omega (arith, lt))
+    front_at (suc n) (suc k) (f ∷ fs) lt = front_at n k fs (omega (arith, lt))
 
-more : (fs : List Bool) (p k : ℕ) → k < 32
-    → word_of (32 - k) (drop (p + k) fs) ≡ cond (get_or fs (p + k) false) (2 ^ (31 - k)) 0 + word_of (32 - (k + 1))
-    (drop (p + (k + 1)) fs)
-unfolding word_of
-more fs p k lt =
-    let e : 32 - k ≡ suc (31 - k) = omega arith in
-    let f : 32 - (k + 1) ≡ 31 - k = omega arith in
-    let g : p + k + 1 ≡ p + (k + 1) = omega arith in
-    let z : p + k + 0 ≡ p + k = omega arith in
-    rw (e, f) (rw (get_or-drop (p + k) fs 0 false, drop-drop 1 (p + k) fs, g, z) refl)
+same_digit : (a b : ℕ) → a < 2 → b < 2 → eqb a 1 ≡ eqb b 1 → a ≡ b
+same_digit zero zero x y e = refl
+same_digit zero (suc zero) x y e = absurd (cc)
+same_digit (suc zero) zero x y e = absurd (cc)
+same_digit (suc zero) (suc zero) x y e = refl
+same_digit (suc (suc a)) b x y e = absurd (omega arith)
+same_digit zero (suc (suc b)) x y e = absurd (omega arith)
+same_digit (suc zero) (suc (suc b)) x y e = absurd (omega arith)
 
-pub word_step : (s : NumberSet) (p k word total : ℕ) (b : Bool) → k < 32 → b ≡ has_number s (s.base + p + k)
-    → word + word_of (32 - k) (drop (p + k) s.members) ≡ total
-    → (word + cond b (2 ^ (31 - k)) 0) + word_of (32 - (k + 1)) (drop (p + (k + 1)) s.members) ≡ total
-word_step s p k word total b lt e so_far =
-    let same : b ≡ get_or s.members (p + k) false = e ∙ has_at s p k in
-    let step = more s.members p k lt in
-    rw same (omega (arith, step, so_far))
+-- a word with these flags is the written one
+pub word_is : (words : List ℕ) (fs : List Bool) (at : ℕ) → at < 8 → get_or words at 0 < 2 ^ 32
+    → ((place : ℕ) → place < 256
+    → eqb (bit_at (get_or words (place / 32) 0) (31 - place % 32)) 1 ≡ get_or fs place false)
+    → get_or words at 0 ≡ word_of 32 (drop (32 * at) fs)
+word_is words fs at lt small each =
+    same_from_bits_below 32 (get_or words at 0) (word_of 32 (drop (32 * at) fs)) small (word_below 32 (drop (32 * at) fs))
+    (λ i less. same_digit (bit_at (get_or words at 0) i) (bit_at (word_of 32 (drop (32 * at) fs)) i)
+    (bit_at-lt (get_or words at 0) i) (bit_at-lt (word_of 32 (drop (32 * at) fs)) i) (flag i less))
+  where
+    flag : (i : ℕ) → i < 32
+        → eqb (bit_at (get_or words at 0) i) 1 ≡ eqb (bit_at (word_of 32 (drop (32 * at) fs)) i) 1
+    flag i less =
+        let word : (32 * at + (31 - i)) / 32 ≡ at = omega (arith, less) in
+        let bit : 31 - (32 * at + (31 - i)) % 32 ≡ i = omega (arith, less) in
+        let back : 32 - 1 - (31 - i) ≡ i = omega (arith, less) in
+        let here : eqb (bit_at (get_or words at 0) i) 1 ≡ get_or fs (32 * at + (31 - i)) false =
+        rw (word, bit) at (each (32 * at + (31 - i)) (omega (arith, lt, less))) in
+        let there : eqb (bit_at (word_of 32 (drop (32 * at) fs)) i) 1 ≡ get_or (drop (32 * at) fs) (31 - i) false =
+        rw back at (word_flag 32 (31 - i) (drop (32 * at) fs) (omega (arith, less))) in
+        here ∙ (sym (get_or-drop (32 * at) fs (31 - i) false) ∙ sym there)
 
-pub word_end : (fs : List Bool) (k word total : ℕ) → 32 ≤ k → word + word_of (32 - k) fs ≡ total → word ≡ total
-unfolding word_of
-word_end fs k word total le so_far =
-    let z : 32 - k ≡ 0 = omega arith in
-    let none : word_of (32 - k) fs ≡ 0 = rw z refl in
-    omega (arith, so_far, none)
+-- one word more has its octets
+pub octets_more : (octets : List (List ℕ)) (o : List ℕ) (fs : List Bool) (at : ℕ) → at < length octets
+    → o ≡ number Little w32 (word_of 32 (drop (32 * at) fs))
+    → ((k : ℕ) → k < at → get_or octets k [] ≡ number Little w32 (word_of 32 (drop (32 * k) fs)))
+    → (k : ℕ) → k < at + 1 → get_or (set octets at o) k [] ≡ number Little w32 (word_of 32 (drop (32 * k) fs))
+octets_more octets o fs at lt here so_far k less = by (cases_eq k at)
+  where
+    by : (k ≡ at) ⊎ (k ≡ at → ⊥) → get_or (set octets at o) k [] ≡ number Little w32 (word_of 32 (drop (32 * k) fs))
+    by (inl same) = rw same (get_or-set_same octets at o [] lt ∙ here)
+    by (inr ne) = get_or-set_other octets at k o [] ne ∙ so_far k (omega (arith, less, ne))
 
-pub words_step : (out : List ℕ) (fs : List Bool) (n j : ℕ) (total : List ℕ) → j < n
-    → out ++ flat_map (number Little w32) (words_of (n - j) (drop (32 * j) fs)) ≡ total
-    → (out ++ number Little w32 (word_of 32 (drop (32 * j) fs)))
-    ++ flat_map (number Little w32) (words_of (n - (j + 1)) (drop (32 * (j + 1)) fs)) ≡ total
+-- the octets of the first words, put together
+pub octets_are : (n : ℕ) (octets : List (List ℕ)) (fs : List Bool) → n ≤ length octets
+    → ((k : ℕ) → k < n → get_or octets k [] ≡ number Little w32 (word_of 32 (drop (32 * k) fs)))
+    → take (4 * n) (flat_map (λ x. x) octets) ≡ flat_map (number Little w32) (words_of n fs)
 unfolding words_of
-words_step out fs n j total lt so_far =
-    let e : n - j ≡ suc (n - (j + 1)) = omega arith in
-    let g : 32 * j + 32 ≡ 32 * (j + 1) = omega arith in
-    let one : words_of (n - j) (drop (32 * j) fs)
-    ≡ word_of 32 (drop (32 * j) fs) ∷ words_of (n - (j + 1)) (drop (32 * (j + 1)) fs) = rw e
-    (ap (λ (z : List Bool). word_of 32 (drop (32 * j) fs) ∷ words_of (n - (j + 1)) z)
-    (drop-drop 32 (32 * j) fs ∙ ap (λ (m : ℕ). drop m fs) g)) in
-    append_assoc out (number Little w32 (word_of 32 (drop (32 * j) fs)))
-    (flat_map (number Little w32) (words_of (n - (j + 1)) (drop (32 * (j + 1)) fs)))
-    ∙ ap (λ (z : List ℕ). out ++ flat_map (number Little w32) z) (sym one) ∙ so_far
-
-pub words_end : (out : List ℕ) (fs : List Bool) (n j : ℕ) (total : List ℕ) → n ≤ j
-    → out ++ flat_map (number Little w32) (words_of (n - j) (drop (32 * j) fs)) ≡ total → out ≡ total
-unfolding words_of
-words_end out fs n j total le so_far =
-    let z : n - j ≡ 0 = omega arith in
-    let none : words_of (n - j) (drop (32 * j) fs) ≡ [] = rw z refl in
-    sym (append-nil out) ∙ ap (λ (x : List ℕ). out ++ flat_map (number Little w32) x) (sym none) ∙ so_far
+octets_are zero octets fs le each = refl
+octets_are (suc n) [] fs le each = absurd (omega (arith, le))
+octets_are (suc n) (o ∷ os) fs le each =
+    let first : o ≡ number Little w32 (word_of 32 fs) = each 0 (omega arith) in
+    let four : 4 * suc n ≡ suc (suc (suc (suc (4 * n)))) = omega arith in
+    rw (first, four)
+    (ap (λ (z : List ℕ). number Little w32 (word_of 32 fs) ++ z)
+    (octets_are n os (drop 32 fs) (omega (arith, le)) (λ k lt. next k (each (suc k) (omega (arith, lt))))))
+  where
+    next : (k : ℕ) → get_or os k [] ≡ number Little w32 (word_of 32 (drop (32 * suc k) fs))
+        → get_or os k [] ≡ number Little w32 (word_of 32 (drop (32 * k) (drop 32 fs)))
+    next k e =
+        let sum : 32 * suc k ≡ 32 + 32 * k = omega arith in
+        e ∙ ap (λ (m : ℕ). number Little w32 (word_of 32 (drop m fs))) sum
+        ∙ ap (λ (z : List Bool). number Little w32 (word_of 32 z)) (sym (drop-drop (32 * k) 32 fs))
 
 octets_len : (ws : List ℕ) → length (flat_map (number Little w32) ws) ≡ 4 * length ws
 octets_len [] = refl

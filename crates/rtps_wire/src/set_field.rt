@@ -4,7 +4,7 @@
 //!
 //! RTPS 2.5, 9.4.2 (SequenceNumberSet).
 
-ghost use Rattle.std.specs.Prelude.{◌≡◌, ◌≤◌, ◌^◌, ◌++◌, length, drop, IfSome, OnOk, IfErr, IsTrue, ◌↔◌};
+ghost use Rattle.std.specs.Prelude.{◌≡◌, ◌≤◌, ◌++◌, length, IfSome, OnOk, IfErr, IsTrue, ◌↔◌};
 ghost use Rattle.std.specs.Option.{option_map};
 ghost use Rattle.std.specs.List.{flat_map};
 ghost use Rattle.std.specs.Int.{w32};
@@ -12,7 +12,7 @@ ghost use Rattle.dds_base.specs.Bounds.{max_sn};
 ghost use Rattle.dds_base.specs.Fields.{number};
 ghost use Rattle.dds_base.specs.declared.endianness.Endianness.TheVariants.{Little};
 ghost use Rattle.rtps_wire.specs.Names.{max_bits};
-ghost use Rattle.rtps_wire.specs.Sets.{words_for, set_of, word_of, words_of, text_of_set, IsSet};
+ghost use Rattle.rtps_wire.specs.Sets.{words_for, set_of, words_of, text_of_set, IsSet};
 ghost use Rattle.rtps_wire.specs.SetAt.{words_at, set_field_at, set_at};
 
 use crate::field::{MAX_SN, put_u64, take_sn};
@@ -55,14 +55,7 @@ fn set_from(base: u64, count: usize, words: &[u32]) -> SnSet
     requires words { length words.now ≡ words_for count }
     ensures { result ≡ set_of (record { base = base; num_bits = count; words = words.now }) }
 {
-    let mut set = SnSet::new(Sn::new(base));
-    for i in 0..count {
-        let word = words[i / 32];
-        if (word >> (31 - i % 32)) & 1 == 1 {
-            set.insert(Sn::new(base + i as u64));
-        }
-    }
-    set
+    SnSet::from_words(Sn::new(base), count, words)
 }
 
 /// The set at the front, and the bytes after it. `None` where there is no valid one.
@@ -80,32 +73,19 @@ pub fn take_set(order: Endianness, bytes: &[u8]) -> Option<(SnSet, &[u8])>
     Some((set_from(base, count, words.as_slice()), rest))
 }
 
-/// The word of the 32 places from this one on.
-fn word_from(set: &SnSet, place: usize) -> u32
-    requires base { set.now.base ≤ max_sn }
-    requires place { place ≤ max_bits }
-    ensures { result ≡ word_of 32 (drop place set.now.members) }
-{
-    let base = set.base().number();
-    let mut word = 0u32;
-    for k in 0..32 {
-        if set.has(Sn::new(base + place as u64 + k)) {
-            word += 1 << (31 - k);
-        }
-    }
-    word
-}
-
+/// Appends the first words of a set, as many as are asked for.
 fn put_words(out: &mut Vec<u8>, set: &SnSet, count: usize) -> Result<(), Code>
-    requires base { set.now.base ≤ max_sn }
-    requires count { count ≤ MAX_WORDS }
+    requires { count ≤ MAX_WORDS }
     ensures ok { OnOk result (out.new.items
         ≡ out.old.items ++ flat_map (number Little w32) (words_of count set.now.members)) }
     ensures memory { IfErr result (λ e. e ≡ Code.Memory) }
 {
-    for j in 0..count {
-        out.extend_from_slice(&word_from(set, 32 * j).to_le_bytes())?;
+    let words = set.words();
+    let mut octets = [[0; LEN_WORD]; MAX_WORDS];
+    for at in 0..MAX_WORDS {
+        octets[at] = words[at].to_le_bytes();
     }
+    out.extend_from_slice(&octets.as_flattened()[..LEN_WORD * count])?;
     Ok(())
 }
 
