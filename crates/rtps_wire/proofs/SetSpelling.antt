@@ -1,5 +1,5 @@
 -- A set that is written is read as itself.
-use Rattle.std.proofs.Common.{◌≡◌, ℕ, zero, suc, ◌+◌, ◌-◌, ◌*◌, ◌/◌, ◌%◌, ◌^◌, ◌<◌, ◌≤◌, Bool, true, false, cond, eqb, List, [], ◌∷◌, ◌++◌, length, get_or, set, take, drop, replicate, refl, sym, ap, ◌∙◌, append_assoc, arith, inl, inr, get_or-set_same, get_or-set_other}
+use Rattle.std.proofs.Common.{◌≡◌, ℕ, zero, suc, ◌+◌, ◌-◌, ◌*◌, ◌/◌, ◌%◌, ◌^◌, ◌<◌, ◌≤◌, Bool, true, false, cond, eqb, List, [], ◌∷◌, ◌++◌, length, length-set, get_or, set, take, drop, replicate, refl, sym, ap, ◌∙◌, append_assoc, arith, inl, inr, get_or-set_same, get_or-set_other}
 use Rattle.std.specs.List.{flat_map, AllByRecursion}
 use Rattle.std.specs.Int.{w32, bit_at}
 use Rattle.std.specs.Int.RustNames.{bit_and}
@@ -186,37 +186,79 @@ word_is words fs at lt small each =
         rw back at (word_flag 32 (31 - i) (drop (32 * at) fs) (omega (arith, less))) in
         here ∙ (sym (get_or-drop (32 * at) fs (31 - i) false) ∙ sym there)
 
--- one word more has its octets
-pub octets_more : (octets : List (List ℕ)) (o : List ℕ) (fs : List Bool) (at : ℕ) → at < length octets
-    → o ≡ number Little w32 (word_of 32 (drop (32 * at) fs))
-    → ((k : ℕ) → k < at → get_or octets k [] ≡ number Little w32 (word_of 32 (drop (32 * k) fs)))
-    → (k : ℕ) → k < at + 1 → get_or (set octets at o) k [] ≡ number Little w32 (word_of 32 (drop (32 * k) fs))
-octets_more octets o fs at lt here so_far k less = by (cases_eq k at)
-  where
-    by : (k ≡ at) ⊎ (k ≡ at → ⊥) → get_or (set octets at o) k [] ≡ number Little w32 (word_of 32 (drop (32 * k) fs))
-    by (inl same) = rw same (get_or-set_same octets at o [] lt ∙ here)
-    by (inr ne) = get_or-set_other octets at k o [] ne ∙ so_far k (omega (arith, less, ne))
-
--- the octets of the first words, put together
-pub octets_are : (n : ℕ) (octets : List (List ℕ)) (fs : List Bool) → n ≤ length octets
-    → ((k : ℕ) → k < n → get_or octets k [] ≡ number Little w32 (word_of 32 (drop (32 * k) fs)))
-    → take (4 * n) (flat_map (λ x. x) octets) ≡ flat_map (number Little w32) (words_of n fs)
-unfolding words_of
-octets_are zero octets fs le each = refl
-octets_are (suc n) [] fs le each = absurd (omega (arith, le))
-octets_are (suc n) (o ∷ os) fs le each =
-    let first : o ≡ number Little w32 (word_of 32 fs) = each 0 (omega arith) in
-    let four : 4 * suc n ≡ suc (suc (suc (suc (4 * n)))) = omega arith in
+-- the octets of numbers, put together
+octets_are : (ws : List ℕ) (octets : List (List ℕ)) → length ws ≤ length octets
+    → ((k : ℕ) → k < length ws → get_or octets k [] ≡ number Little w32 (get_or ws k 0))
+    → take (4 * length ws) (flat_map (λ x. x) octets) ≡ flat_map (number Little w32) ws
+octets_are [] octets le each = refl
+octets_are (w ∷ ws) [] le each = absurd (omega (arith, le))
+octets_are (w ∷ ws) (o ∷ os) le each =
+    let first : o ≡ number Little w32 w = each 0 (omega arith) in
+    let four : 4 * suc (length ws) ≡ suc (suc (suc (suc (4 * length ws)))) = omega arith in
     rw (first, four)
-    (ap (λ (z : List ℕ). number Little w32 (word_of 32 fs) ++ z)
-    (octets_are n os (drop 32 fs) (omega (arith, le)) (λ k lt. next k (each (suc k) (omega (arith, lt))))))
+    (ap (λ (z : List ℕ). number Little w32 w ++ z)
+    (octets_are ws os (omega (arith, le)) (λ k lt. each (suc k) (omega (arith, lt)))))
+
+word_in : (n k : ℕ) (fs : List Bool) → k < n → get_or (words_of n fs) k 0 ≡ word_of 32 (drop (32 * k) fs)
+unfolding words_of
+word_in zero k fs lt = absurd (omega arith)
+word_in (suc n) zero fs lt = refl
+word_in (suc n) (suc k) fs lt =
+    let sum : 32 + 32 * k ≡ 32 * suc k = omega arith in
+    word_in n k (drop 32 fs) (omega (arith, lt))
+    ∙ (ap (λ (z : List Bool). word_of 32 z) (drop-drop (32 * k) 32 fs)
+    ∙ ap (λ (m : ℕ). word_of 32 (drop m fs)) sum)
+
+-- the octets of a set, word by word: of its head, and of so many words of these flags
+pub record AreSetOctets (octets : List (List ℕ)) (base bits : ℕ) (fs : List Bool) (words : ℕ) : Type 0 where
+  pub count : length octets ≡ 11
+  pub high : get_or octets 0 [] ≡ number Little w32 (base / 2 ^ 32)
+  pub low : get_or octets 1 [] ≡ number Little w32 (base % 2 ^ 32)
+  pub bits_are : get_or octets 2 [] ≡ number Little w32 bits
+  pub words_are : (k : ℕ) → k < words → get_or octets (3 + k) [] ≡ number Little w32 (word_of 32 (drop (32 * k) fs))
+
+-- one word more has its octets
+pub set_octets_more : (octets : List (List ℕ)) (base bits : ℕ) (fs : List Bool) (at : ℕ) (o : List ℕ)
+    → AreSetOctets octets base bits fs at → at < 8 → o ≡ number Little w32 (word_of 32 (drop (32 * at) fs))
+    → AreSetOctets (set octets (3 + at) o) base bits fs (at + 1)
+set_octets_more octets base bits fs at o are lt here = record {
+  count = length-set octets (3 + at) o ∙ are.count;
+  high = get_or-set_other octets (3 + at) 0 o [] (λ e. omega (arith, e)) ∙ are.high;
+  low = get_or-set_other octets (3 + at) 1 o [] (λ e. omega (arith, e)) ∙ are.low;
+  bits_are = get_or-set_other octets (3 + at) 2 o [] (λ e. omega (arith, e)) ∙ are.bits_are;
+  words_are = λ k less. by k less (cases_eq k at);
+}
   where
-    next : (k : ℕ) → get_or os k [] ≡ number Little w32 (word_of 32 (drop (32 * suc k) fs))
-        → get_or os k [] ≡ number Little w32 (word_of 32 (drop (32 * k) (drop 32 fs)))
-    next k e =
-        let sum : 32 * suc k ≡ 32 + 32 * k = omega arith in
-        e ∙ ap (λ (m : ℕ). number Little w32 (word_of 32 (drop m fs))) sum
-        ∙ ap (λ (z : List Bool). number Little w32 (word_of 32 z)) (sym (drop-drop (32 * k) 32 fs))
+    by : (k : ℕ) → k < at + 1 → (k ≡ at) ⊎ (k ≡ at → ⊥)
+        → get_or (set octets (3 + at) o) (3 + k) [] ≡ number Little w32 (word_of 32 (drop (32 * k) fs))
+    by k less (inl same) =
+        rw same (get_or-set_same octets (3 + at) o [] (omega (arith, are.count, lt)) ∙ here)
+    by k less (inr ne) =
+        get_or-set_other octets (3 + at) (3 + k) o [] (λ e. ne (omega (arith, e)))
+        ∙ are.words_are k (omega (arith, less, ne))
+
+-- the octets of so many words, put together
+pub set_octets : (octets : List (List ℕ)) (base bits : ℕ) (fs : List Bool) (at n : ℕ)
+    → AreSetOctets octets base bits fs at → 8 ≤ at → n ≤ 8
+    → take (12 + 4 * n) (flat_map (λ x. x) octets)
+    ≡ set_text Little (record { base = base; num_bits = bits; words = words_of n fs })
+set_octets octets base bits fs at n are all le =
+    let len : 12 + 4 * n ≡ 4 * length numbers = omega (arith, words_len n fs) in
+    ap (λ (m : ℕ). take m (flat_map (λ x. x) octets)) len
+    ∙ octets_are numbers octets (omega (arith, are.count, words_len n fs, le)) each
+  where
+    numbers : List ℕ
+    numbers = base / 2 ^ 32 ∷ base % 2 ^ 32 ∷ bits ∷ words_of n fs
+
+    each : (k : ℕ) → k < length numbers → get_or octets k [] ≡ number Little w32 (get_or numbers k 0)
+    each zero lt = are.high
+    each (suc zero) lt = are.low
+    each (suc (suc zero)) lt = are.bits_are
+    each (suc (suc (suc k))) lt =
+        let less : k < n = omega (arith, lt, words_len n fs) in
+        let place : suc (suc (suc k)) ≡ 3 + k = omega arith in
+        ap (λ (m : ℕ). get_or octets m []) place
+        ∙ (are.words_are k (omega (arith, less, le, all)) ∙ ap (λ (w : ℕ). number Little w32 w) (sym (word_in n k fs less)))
 
 octets_len : (ws : List ℕ) → length (flat_map (number Little w32) ws) ≡ 4 * length ws
 octets_len [] = refl
@@ -233,26 +275,6 @@ text_of_set_len s =
           (words_of (words_for (span s.members)) s.members),
       words_len (words_for (span s.members)) s.members,
     )
-
--- the parts of a set, put one after another
-pub set_parts : (s : NumberSet) (o u b e p : List ℕ) (base n : ℕ) → base ≡ s.base → n ≡ span s.members
-    → u ≡ o ++ sn_text Little base
-    → b ≡ number Little w32 n → e ≡ u ++ b → p ≡ e ++ flat_map (number Little w32) (words_of (words_for n) s.members)
-    → p ≡ o ++ set_text Little (set_field_of s)
-set_parts s o u b e p base n hb hn hu ho he hp =
-    let head = sn_text Little s.base in
-    let mid = number Little w32 (span s.members) in
-    let tail = flat_map (number Little w32) (words_of (words_for (span s.members)) s.members) in
-    let u' : u ≡ o ++ sn_text Little s.base = hu ∙ ap (λ (x : ℕ). o ++ sn_text Little x) hb in
-    let b' : b ≡ number Little w32 (span s.members) = ho ∙ ap (number Little w32) hn in
-    let e' : e ≡ (o ++ sn_text Little s.base) ++ number Little w32 (span s.members) =
-    he ∙ ap (λ (x : List ℕ). x ++ b) u' ∙ ap (λ (x : List ℕ). (o ++ sn_text Little s.base) ++ x) b' in
-    let p' : p ≡ ((o ++ sn_text Little s.base) ++ number Little w32 (span s.members))
-    ++ flat_map (number Little w32) (words_of (words_for (span s.members)) s.members) = hp
-    ∙ ap (λ (x : ℕ). e ++ flat_map (number Little w32) (words_of (words_for x) s.members)) hn
-    ∙ ap (λ (x : List ℕ). x ++ flat_map (number Little w32) (words_of (words_for (span s.members)) s.members)) e' in
-    p' ∙ append_assoc (o ++ head) mid tail ∙ append_assoc o head (mid ++ tail)
-    ∙ ap (λ (x : List ℕ). o ++ x) (sym (append_assoc head mid tail))
 
 pub acknack_parts : (o ids s n a d p : List ℕ)
     → a ≡ o ++ ids → d ≡ a ++ s → p ≡ d ++ n → p ≡ o ++ (ids ++ (s ++ n))

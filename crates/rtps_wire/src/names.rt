@@ -178,6 +178,12 @@ pub const LEN_STRENGTH: usize = LEN_PARAMETER_HEAD + LEN_OWNERSHIP_STRENGTH;
 /// The most words of a set: each has 32 bits.
 pub const MAX_WORDS: usize = MAX_BITS / 32;
 
+/// What stands before the words of a set, in words: its base in two, and its number of bits.
+pub const SET_HEAD_WORDS: usize = LEN_SET_HEAD / LEN_WORD;
+
+/// The longest set, in words.
+pub const MAX_SET_WORDS: usize = SET_HEAD_WORDS + MAX_WORDS;
+
 /// The longest set: of 256 bits.
 pub const MAX_SET: usize = LEN_SET_HEAD + MAX_WORDS * LEN_WORD;
 

@@ -4,19 +4,19 @@
 //!
 //! RTPS 2.5, 9.4.2 (SequenceNumberSet).
 
-ghost use Rattle.std.specs.Prelude.{◌≡◌, ◌≤◌, ◌++◌, length, IfSome, OnOk, IfErr, IsTrue, ◌↔◌};
+ghost use Rattle.std.specs.Prelude.{◌≡◌, ◌≤◌, ◌+◌, ◌*◌, ◌++◌, ℕ, length, take, IfSome, OnOk, IfErr, IsTrue, ◌↔◌};
 ghost use Rattle.std.specs.Option.{option_map};
 ghost use Rattle.std.specs.List.{flat_map};
-ghost use Rattle.std.specs.Int.{w32};
 ghost use Rattle.dds_base.specs.Bounds.{max_sn};
-ghost use Rattle.dds_base.specs.Fields.{number};
 ghost use Rattle.dds_base.specs.declared.endianness.Endianness.TheVariants.{Little};
 ghost use Rattle.rtps_wire.specs.Names.{max_bits};
-ghost use Rattle.rtps_wire.specs.Sets.{words_for, set_of, words_of, text_of_set, IsSet};
+ghost use Rattle.rtps_wire.specs.Sets.{words_for, set_of, set_text, words_of, text_of_set, IsSet};
 ghost use Rattle.rtps_wire.specs.SetAt.{words_at, set_field_at, set_at};
 
-use crate::field::{MAX_SN, put_u64, take_sn};
-use crate::names::{LEN_SET_HEAD, LEN_WORD, MAX_SET, MAX_WORDS};
+use crate::field::{MAX_SN, take_sn};
+use crate::names::{
+    HALF_RANGE, LEN_SET_HEAD, LEN_WORD, MAX_SET, MAX_SET_WORDS, MAX_WORDS, SET_HEAD_WORDS,
+};
 use arrayvec::ArrayVec;
 use dds_base::{Code, Endianness, Sn, take_u32};
 use rtps_sets::{MAX_BITS, SnSet};
@@ -73,20 +73,26 @@ pub fn take_set(order: Endianness, bytes: &[u8]) -> Option<(SnSet, &[u8])>
     Some((set_from(base, count, words.as_slice()), rest))
 }
 
-/// Appends the first words of a set, as many as are asked for.
-fn put_words(out: &mut Vec<u8>, set: &SnSet, count: usize) -> Result<(), Code>
-    requires { count ≤ MAX_WORDS }
-    ensures ok { OnOk result (out.new.items
-        ≡ out.old.items ++ flat_map (number Little w32) (words_of count set.now.members)) }
-    ensures memory { IfErr result (λ e. e ≡ Code.Memory) }
+/// The octets of a set with so many bits, word by word: its base, their number, and the words of all its places.
+fn octets_of(set: &SnSet, bits: usize) -> [[u8; LEN_WORD]; MAX_SET_WORDS]
+    requires { bits ≤ MAX_BITS }
+    ensures { (n : ℕ) → n ≤ MAX_WORDS → take (LEN_SET_HEAD + LEN_WORD * n) (flat_map (λ x. x) result)
+        ≡ set_text Little (record {
+          base = set.now.base;
+          num_bits = bits;
+          words = words_of n set.now.members;
+        }) }
 {
+    let base = set.base().number();
     let words = set.words();
-    let mut octets = [[0; LEN_WORD]; MAX_WORDS];
+    let mut octets = [[0; LEN_WORD]; MAX_SET_WORDS];
+    octets[0] = ((base / HALF_RANGE) as u32).to_le_bytes();
+    octets[1] = ((base % HALF_RANGE) as u32).to_le_bytes();
+    octets[2] = (bits as u32).to_le_bytes();
     for at in 0..MAX_WORDS {
-        octets[at] = words[at].to_le_bytes();
+        octets[SET_HEAD_WORDS + at] = words[at].to_le_bytes();
     }
-    out.extend_from_slice(&octets.as_flattened()[..LEN_WORD * count])?;
-    Ok(())
+    octets
 }
 
 /// Appends the written form of a set: the least number of bits, those past it zero.
@@ -96,9 +102,9 @@ pub fn put_set(out: &mut Vec<u8>, set: &SnSet) -> Result<(), Code>
     ensures memory { IfErr result (λ e. e ≡ Code.Memory) }
 {
     let bits = set.bits();
-    put_u64(out, set.base().number())?;
-    out.extend_from_slice(&(bits as u32).to_le_bytes())?;
-    put_words(out, set, words_for(bits))?;
+    let octets = octets_of(set, bits);
+    let len = LEN_SET_HEAD + LEN_WORD * words_for(bits);
+    out.extend_from_slice(&octets.as_flattened()[..len])?;
     Ok(())
 }
 
