@@ -1,16 +1,16 @@
 -- Sets in bytes are read as they stand there.
-use Rattle.std.proofs.Common.{◌≡◌, ℕ, zero, suc, ◌+◌, ◌-◌, ◌*◌, ◌/◌, ◌%◌, ◌^◌, ◌<◌, ◌≤◌, Bool, false, cond, eqb, ltb, ◌&&◌, ◌||◌, List, [], ◌∷◌, ◌++◌, length, get_or, take, replicate, Option, Some, None, refl, sym, ap, subst, ◌∙◌, append_assoc, arith, inl, inr}
+use Rattle.std.proofs.Common.{◌≡◌, ℕ, zero, suc, ◌+◌, ◌-◌, ◌*◌, ◌/◌, ◌%◌, ◌^◌, ◌<◌, ◌≤◌, Bool, false, cond, eqb, ltb, ◌&&◌, ◌||◌, List, [], ◌∷◌, ◌++◌, length, get_or, take, drop, replicate, Option, Some, None, refl, sym, ap, subst, ◌∙◌, append_assoc, arith, inl, inr}
 use Rattle.std.specs.Prelude.{◌⊎◌}
 use Rattle.std.specs.List.{flat_map, AllByRecursion}
 use Rattle.std.specs.Option.{option_map}
 use Rattle.std.specs.Int.{w32, bit_at}
 use Rattle.std.specs.Int.RustNames.{bit_and}
 use Rattle.std.proofs.lemmas.Bool.{cases_lt, ltb-false, le-ltb, lt-ltb}
-use Rattle.std.proofs.lemmas.List.{length-append, length-replicate, get_or_append_left, get_or-append_right, get_or-append-add, get_or-replicate, get_or-take, ext_get_or, length-take-le, append-nil}
+use Rattle.std.proofs.lemmas.List.{length-append, length-replicate, get_or_append_left, get_or-append_right, get_or-append-add, get_or-replicate, get_or-take, ext_get_or, length-take-le, append-nil, drop-drop, length-drop}
 use Rattle.std.proofs.lemmas.Nat.Bits.{shr_and_one}
 use Rattle.std.proofs.lemmas.Option.{option_and_then_some}
 use Rattle.dds_base.specs.declared.endianness.Endianness.{Endianness}
-use Rattle.dds_base.specs.Fields.{number, number_at, ◌>>=◌}
+use Rattle.dds_base.specs.Fields.{number, number_at, number_of, ◌>>=◌}
 use Rattle.dds_base.proofs.FieldLaws.{AreOctets, Takes, Takes-then, IsField, guard_some, some_is, field_u32}
 use Rattle.rtps_sets.specs.NumberSet.{NumberSet}
 use Rattle.rtps_wire.specs.Fields.{sn_text}
@@ -43,14 +43,28 @@ words_step order front n i w rest after total lt e so_far =
     ≡ with_front front (words_at order (n - (i + 1)) after >>= λ ws. Some (w ∷ ws.0, ws.1)) = rw (k, e) refl in
     one_more front w (words_at order (n - (i + 1)) after) ∙ sym one ∙ so_far
 
-pub words_fail : (order : Endianness) (front : List ℕ) (n i : ℕ) (rest : List ℕ) (total : Option (List ℕ × List ℕ))
-    → i < n → number_at order w32 rest ≡ None
-    → with_front front (words_at order (n - i) rest) ≡ total → None ≡ total
-unfolding words_at
-words_fail order front n i rest total lt e so_far =
-    let k : n - i ≡ suc (n - (i + 1)) = omega arith in
-    let one : with_front front (words_at order (n - i) rest) ≡ None = rw (k, e) refl in
-    sym one ∙ so_far
+-- the next word
+pub word_there : (order : Endianness) (bytes : List ℕ) (n i w : ℕ) → 4 * n ≤ length bytes → i < n
+    → w ≡ number_of order w32 (take 4 (drop (4 * i) bytes))
+    → number_at order w32 (drop (4 * i) bytes) ≡ Some (w, drop (4 * (i + 1)) bytes)
+unfolding number_at
+word_there order bytes n i w long lt is =
+    let enough : ltb (length (drop (4 * i) bytes)) 4 ≡ false =
+    le-ltb _ _ (omega (arith, long, lt, length-drop (4 * i) bytes)) in
+    let next : 4 * i + 4 ≡ 4 * (i + 1) = omega arith in
+    rw (enough, drop-drop 4 (4 * i) bytes, next, is) refl
+
+-- there are not so many
+pub words_short : (order : Endianness) (n : ℕ) (bytes : List ℕ) → length bytes < 4 * n → words_at order n bytes ≡ None
+unfolding words_at number_at
+words_short order zero bytes lt = absurd (omega (arith, lt))
+words_short order (suc n) bytes lt =
+    elim (cases_lt (length bytes) 4) [
+      | inl few ↦ rw (lt-ltb (length bytes) 4 few) refl
+      | inr more ↦
+          rw (le-ltb (length bytes) 4 more)
+          (rw (words_short order n (drop 4 bytes) (omega (arith, length-drop 4 bytes, lt, more))) refl)
+    ]
 
 pub words_start : (read : Option (List ℕ × List ℕ)) → with_front [] read ≡ read
 words_start None = refl

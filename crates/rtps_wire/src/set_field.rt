@@ -4,10 +4,12 @@
 //!
 //! RTPS 2.5, 9.4.2 (SequenceNumberSet).
 
-ghost use Rattle.std.specs.Prelude.{◌≡◌, ◌≤◌, ◌+◌, ◌*◌, ◌++◌, ℕ, length, take, IfSome, OnOk, IfErr, IsTrue, ◌↔◌};
+ghost use Rattle.std.specs.Prelude.{◌≡◌, ◌≤◌, ◌+◌, ◌*◌, ◌++◌, ℕ, length, take, drop, IfSome, OnOk, IfErr, IsTrue, ◌↔◌};
 ghost use Rattle.std.specs.Option.{option_map};
 ghost use Rattle.std.specs.List.{flat_map};
+ghost use Rattle.std.specs.Int.{w32};
 ghost use Rattle.dds_base.specs.Bounds.{max_sn};
+ghost use Rattle.dds_base.specs.Fields.{number_of};
 ghost use Rattle.dds_base.specs.declared.endianness.Endianness.TheVariants.{Little};
 ghost use Rattle.rtps_wire.specs.Names.{max_bits};
 ghost use Rattle.rtps_wire.specs.Sets.{words_for, set_of, set_text, words_of, text_of_set, IsSet};
@@ -21,6 +23,24 @@ use arrayvec::ArrayVec;
 use dds_base::{Code, Endianness, Sn, take_u32};
 use rtps_sets::{MAX_BITS, SnSet};
 
+/// The word that stands at a place, in this order.
+fn word_at(order: Endianness, bytes: &[u8], place: usize) -> u32
+    requires { place + LEN_WORD ≤ length bytes.now }
+    ensures { result ≡ number_of order w32 (take LEN_WORD (drop place bytes.now)) }
+{
+    let octets = [
+        bytes[place],
+        bytes[place + 1],
+        bytes[place + 2],
+        bytes[place + 3],
+    ];
+    match order {
+        Endianness::Big => u32::from_be_bytes(octets),
+        Endianness::Little => u32::from_le_bytes(octets),
+    }
+}
+
+/// As many words as are asked for, and the bytes after them. `None` where there are fewer.
 fn take_words(
     order: Endianness,
     count: usize,
@@ -30,14 +50,15 @@ fn take_words(
     ensures value { option_map (λ x. (x.0.items, x.1.now)) result ≡ words_at order count bytes.now }
     ensures len { IfSome result (λ x. length x.0.items ≡ count) }
 {
-    let mut words = ArrayVec::new();
-    let mut rest = bytes;
-    for _ in 0..count {
-        let (word, after) = take_u32(order, rest)?;
-        words.push(word);
-        rest = after;
+    let len = LEN_WORD * count;
+    if bytes.len() < len {
+        return None;
     }
-    Some((words, rest))
+    let mut words = ArrayVec::new();
+    for at in 0..count {
+        words.push(word_at(order, bytes, LEN_WORD * at));
+    }
+    Some((words, &bytes[len..]))
 }
 
 /// How many words these bits take: one for each 32 begun.
