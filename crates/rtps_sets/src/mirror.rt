@@ -15,10 +15,13 @@ fn swapped(word: u64, by: usize, mask: u64) -> u64
     (word >> by) & mask | (word & mask) << by
 }
 
-/// The lower 32 bits in the other order, and so the upper ones.
+/// The lower 32 bits in the other order, and so the upper ones. A word without any bit costs nothing.
 pub fn mirrored(word: u64) -> u64
     ensures { (i : ℕ) → i < 64 → bit_at result i ≡ bit_at word (mirror i) }
 {
+    if word == 0 {
+        return 0;
+    }
     let ones = swapped(word, 1, 0x5555_5555_5555_5555);
     let twos = swapped(ones, 2, 0x3333_3333_3333_3333);
     let fours = swapped(twos, 4, 0x0f0f_0f0f_0f0f_0f0f);
