@@ -1,16 +1,16 @@
 -- How many of the kept samples were read, and how many have data.
-use Rattle.std.proofs.Common.{◌≡◌, ℕ, ◌+◌, ◌≤◌, List, [], ◌∷◌, ◌++◌, length, get_or, Bool, true, false, cond, sym, ap, ◌∙◌, arith, ⊎_elim}
+use Rattle.std.proofs.Common.{◌≡◌, ℕ, ◌+◌, ◌≤◌, ◌<◌, List, [], ◌∷◌, ◌++◌, length, get_or, set, Bool, true, false, cond, sym, ap, ◌∙◌, arith, ⊎_elim}
 use Rattle.std.specs.Prelude.{if◌then◌else◌}
 use Rattle.std.specs.List.{All, count_by}
 use Rattle.std.proofs.lemmas.Bool.{cases_Bool}
-use Rattle.std.proofs.lemmas.List.Sums.{count_by-le-length, get_or-le-sum_by, sum_by-cons, sum_by_push}
+use Rattle.std.proofs.lemmas.List.Sums.{count_by-le-length, get_or-le-sum_by, sum_by-cons, sum_by-set, sum_by_push}
 use Rattle.std.proofs.lemmas.List.Elements.{All-cons, All-head, All-nil, All-tail, All-weaker}
 use Rattle.dds_base.specs.declared.mask.SampleStateMask.{SampleStateMask}
 use Rattle.dds_base.specs.declared.sample.SampleState.TheVariants.{Read as HasBeenRead, NotRead}
 use Rattle.dds_base.specs.Access.{asks_for_sample_state}
 use Rattle.dds_cache.specs.declared.counts.Counts.{Counts}
 use Rattle.dds_cache.specs.declared.kept.Kept.{Kept}
-use Rattle.dds_cache.specs.Kept.{IsCounted, IsUnasked, has_data, was_read}
+use Rattle.dds_cache.specs.Kept.{IsCounted, IsUnasked, has_data, read_if, was_read}
 
 -- where as many pass as there are, each does
 all-counted : (p : Kept → Bool) (ks : List Kept) → length ks ≤ count_by p ks → All (λ (k : Kept). p k ≡ true) ks
@@ -74,4 +74,30 @@ counted-more ks k old new unread counted reads writes =
     record {
       reads = omega (arith, reads, counted.reads, more, one);
       writes = omega (arith, writes, counted.writes, more_data);
+    }
+
+-- the counts once one of the samples is marked as read
+pub counted-read : (ks : List Kept) (at : ℕ) (k v : Kept) (old new : Counts) → at < length ks → k ≡ get_or ks at k
+    → v ≡ read_if true k → IsCounted ks old → new.reads ≡ old.reads + cond k.is_read 0 1 → new.writes ≡ old.writes
+    → IsCounted (set ks at v) new
+counted-read ks at k v old new within is marked counted reads writes =
+    let same : (p : Kept → Bool) → cond {A = ℕ} (p (get_or ks at k)) 1 0 ≡ cond (p k) 1 0 =
+    λ p. ap (λ (x : Kept). cond (p x) 1 0) (sym is) in
+    let changed : count_by was_read (set ks at v) + cond (was_read (get_or ks at k)) 1 0
+    ≡ count_by was_read ks + cond (was_read v) 1 0 = sum_by-set (λ x. cond (was_read x) 1 0) ks at v k within in
+    let more_data : count_by has_data (set ks at v) + cond (has_data (get_or ks at k)) 1 0
+    ≡ count_by has_data ks + cond (has_data v) 1 0 = sum_by-set (λ x. cond (has_data x) 1 0) ks at v k within in
+    let one : cond {A = ℕ} (was_read v) 1 0 ≡ 1 = ap (λ (x : Kept). cond (was_read x) 1 0) marked in
+    let other : cond {A = ℕ} (has_data v) 1 0 ≡ cond (has_data k) 1 0 =
+    ap (λ (x : Kept). cond (has_data x) 1 0) marked in
+    record {
+      reads = ⊎_elim
+          (λ was. let before : cond {A = ℕ} (was_read k) 1 0 ≡ 1 = ap (λ (b : Bool). cond b 1 0) was in
+          let none : cond {A = ℕ} k.is_read 0 1 ≡ 0 = ap (λ (b : Bool). cond b 0 1) was in
+          omega (arith, reads, counted.reads, changed, same was_read, one, before, none))
+          (λ was. let before : cond {A = ℕ} (was_read k) 1 0 ≡ 0 = ap (λ (b : Bool). cond b 1 0) was in
+          let more : cond {A = ℕ} k.is_read 0 1 ≡ 1 = ap (λ (b : Bool). cond b 0 1) was in
+          omega (arith, reads, counted.reads, changed, same was_read, one, before, more))
+          (cases_Bool k.is_read);
+      writes = omega (arith, writes, counted.writes, more_data, same has_data, other);
     }

@@ -92,7 +92,7 @@ described-is q h known_is k is_known key kept =
 
 -- ---- one kept sample after another
 
-filter-more : (p : Kept → Bool) (ks : List Kept) (at : ℕ) (k : Kept) (b : Bool) → at < length ks → k ≡ get_or ks at k
+pub filter-more : (p : Kept → Bool) (ks : List Kept) (at : ℕ) (k : Kept) (b : Bool) → at < length ks → k ≡ get_or ks at k
     → p k ≡ b → filter p (take (at + 1) ks) ≡ filter p (take at ks) ++ cond b (k ∷ []) []
 filter-more p ks at k b within is passes =
     ap (λ (xs : List Kept). filter p xs) (take_more ks at k within ∙ ap (λ (x : Kept). take at ks ++ x ∷ []) (sym is))
@@ -109,6 +109,26 @@ candidates-none q h masks test ks at k cs within is unwanted so_far = record {
   each = so_far.each;
 }
 
+-- a kept sample that is found is a candidate
+pub found-candidate : (q : ReaderQos) (h : List Happening) (masks : Masks) (test : Key → List ℕ → Bool) (ks : List Kept)
+    (at : ℕ) (k : Kept) (c : Candidate) → at < length ks → k ≡ get_or ks at k → IsKept q h k
+    → IsFound q h masks test k at c → IsCandidate q h ks c
+found-candidate q h masks test ks at k c within is kept found = record {
+  within = subst (λ (n : ℕ). n < length ks) (sym found.at_is) within;
+  there =
+      λ d. ap (λ (n : ℕ). (get_or ks n d).sample) found.at_is
+      ∙ (ap (λ (x : Kept). x.sample) (get_or_default ks at d k within ∙ sym is) ∙ sym found.sample_is);
+  is_known =
+      subst (λ (s : SamplePosition). list_any (λ i. same_key i s.key) (known_instances q h) ≡ true)
+      (sym found.sample_is) kept.is_known;
+  present =
+      ap (λ (s : SamplePosition). is_present q h s.key s.position) found.sample_is
+      ∙ (and_parts (is_present q h k.sample.key k.sample.position) (is_asked_for q h masks test k.sample)
+      found.wanted).0;
+  picked_is = found.picked_is ∙ ap (λ (s : SamplePosition). picked_of q h s) (sym found.sample_is);
+  small = found.small;
+}
+
 pub candidates-some : (q : ReaderQos) (h : List Happening) (masks : Masks) (test : Key → List ℕ → Bool) (ks : List Kept)
     (at : ℕ) (k : Kept) (c : Candidate) (cs : List Candidate) → at < length ks → k ≡ get_or ks at k → IsKept q h k
     → IsFound q h masks test k at c → AreCandidates q h masks test ks (take at ks) cs
@@ -122,21 +142,8 @@ candidates-some q h masks test ks at k c cs within is kept found so_far = record
       ∙ (sym (map-append sample_of (filter (is_wanted q h masks test) (take at ks)) (k ∷ []))
       ∙ ap (λ (xs : List Kept). map sample_of xs)
       (sym (filter-more (is_wanted q h masks test) ks at k true within is found.wanted)))));
-  each = All-push (IsCandidate q h ks) cs c so_far.each (record {
-    within = subst (λ (n : ℕ). n < length ks) (sym found.at_is) within;
-    there =
-        λ d. ap (λ (n : ℕ). (get_or ks n d).sample) found.at_is
-        ∙ (ap (λ (x : Kept). x.sample) (get_or_default ks at d k within ∙ sym is) ∙ sym found.sample_is);
-    is_known =
-        subst (λ (s : SamplePosition). list_any (λ i. same_key i s.key) (known_instances q h) ≡ true)
-        (sym found.sample_is) kept.is_known;
-    present =
-        ap (λ (s : SamplePosition). is_present q h s.key s.position) found.sample_is
-        ∙ (and_parts (is_present q h k.sample.key k.sample.position) (is_asked_for q h masks test k.sample)
-        found.wanted).0;
-    picked_is = found.picked_is ∙ ap (λ (s : SamplePosition). picked_of q h s) (sym found.sample_is);
-    small = found.small;
-  });
+  each =
+      All-push (IsCandidate q h ks) cs c so_far.each (found-candidate q h masks test ks at k c within is kept found);
 }
 
 -- ---- the candidates by handle are the matching samples

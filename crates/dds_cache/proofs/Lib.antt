@@ -5,6 +5,7 @@ pub mod KeptLaws
 pub mod StandingLaws
 pub mod GroupLaws
 pub mod FindingLaws
+pub mod FirstLaws
 pub mod PickLaws
 pub mod PlaceLaws
 pub mod CollectionLaws

@@ -5,8 +5,7 @@ use Rattle.std.specs.List.{All}
 use Rattle.std.specs.List.Sorted.{IsNonDecreasingBy}
 use Rattle.std.proofs.lemmas.List.Kept.{IsNonDecreasingBy-filter}
 use Rattle.std.proofs.lemmas.List.Sorted.{IsNonDecreasingBy-take}
-use Rattle.std.proofs.lemmas.List.{take-map}
-use Rattle.std.proofs.lemmas.List.Elements.{All-take, All-filter, All-head, All-tail, All-weaker}
+use Rattle.std.proofs.lemmas.List.Elements.{All-filter, All-head, All-tail, All-weaker}
 use Rattle.dds_base.specs.declared.key.Key.{Key}
 use Rattle.dds_base.specs.declared.happening.SamplePosition.{SamplePosition}
 use Rattle.dds_base.specs.declared.happening.Happening.{Happening}
@@ -20,18 +19,9 @@ use Rattle.dds_base.specs.Selection.{picked_by, selection_refusal}
 use Rattle.dds_cache.specs.declared.access.Candidate.{Candidate}
 use Rattle.dds_cache.specs.declared.kept.Kept.{Kept}
 use Rattle.dds_cache.specs.Finding.{IsCandidate, Finds, sample_in, handle_in}
+use Rattle.dds_cache.specs.First.{AreOfForm, of_form}
 use Rattle.dds_cache.specs.Picking.{limit_in, masks_in, test_in, of_selection, has_handle, first_above, Picks}
-
--- those of one instance
-abbrev pub of_handle : ReaderQos → List Happening → ℕ → List SamplePosition → List SamplePosition
-of_handle q h n ss = filter (λ (s : SamplePosition). handle_of q h s.key == n) ss
-
--- those of the matching samples that are of an instance that the access asks for
-abbrev pub of_form : ReaderQos → List Happening → Selection → List SamplePosition → List SamplePosition
-of_form q h (Any max masks) ss = ss
-of_form q h (Instance handle max masks) ss = of_handle q h handle ss
-of_form q h (NextInstance previous max masks) ss = of_handle q h (next_handle q h previous ss) ss
-of_form q h NextSample ss = ss
+use Rattle.dds_cache.proofs.FirstLaws.{at_most-all, at_most-map}
 
 -- the handle of a candidate is that of its instance
 abbrev pub IsOfHandle : ReaderQos → List Happening → Candidate → Type 0
@@ -88,16 +78,6 @@ asked-all P (Instance handle max masks) cs all = All-filter (has_handle handle) 
 asked-all P (NextInstance previous max masks) cs all = All-filter (has_handle (first_above previous cs)) P cs all
 asked-all P NextSample cs all = all
 
--- ---- the first ones
-
-at_most-map : (max : Option ℕ) (cs : List Candidate) → map sample_in (at_most max cs) ≡ at_most max (map sample_in cs)
-at_most-map None cs = refl
-at_most-map (Some n) cs = sym (take-map sample_in n cs)
-
-pub at_most-all : (P : Candidate → Type 0) (max : Option ℕ) (cs : List Candidate) → All P cs → All P (at_most max cs)
-at_most-all P None cs all = all
-at_most-all P (Some n) cs all = All-take P n cs all
-
 -- ---- what is picked
 
 by-form : (q : ReaderQos) (h : List Happening) (selection : Selection) (test : Key → List ℕ → Bool)
@@ -133,6 +113,22 @@ picked q h selection test masks limit ks found restricted new good limited maske
           (at_most-all (IsCandidate q h ks) limit (of_selection selection found)
           (asked-all (IsCandidate q h ks) selection found finds.each));
     }
+
+-- what the first instance that is asked for tells is picked
+pub picked-first : (q : ReaderQos) (h : List Happening) (selection : Selection) (test : Key → List ℕ → Bool)
+    (masks : Masks) (limit : Option ℕ) (ks : List Kept) (found : List Candidate) → selection_refusal q h selection ≡ None
+    → limit ≡ limit_in selection → masks ≡ masks_in selection
+    → AreOfForm q h selection masks (test_in selection test) limit ks found → Picks q h selection test ks found
+picked-first q h selection test masks limit ks found good limited masked of = record {
+  good = good;
+  samples_are =
+      of.samples_are
+      ∙ (ap (λ (m : Masks). at_most limit (of_form q h selection (matching_samples q h m (test_in selection test)))) masked
+      ∙ (ap (λ (l : Option ℕ). at_most l
+      (of_form q h selection (matching_samples q h (masks_in selection) (test_in selection test)))) limited
+      ∙ by-form q h selection test));
+  each = of.each;
+}
 
 -- what holds of each that was found holds of each that is picked
 pub picked-all : (P : Candidate → Type 0) (selection : Selection) (limit : Option ℕ)

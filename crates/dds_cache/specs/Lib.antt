@@ -3,6 +3,7 @@ pub mod Standing
 pub mod Sound
 pub mod Finding
 pub mod Picking
+pub mod First
 pub mod Room
 pub mod Settling
 pub mod Arriving

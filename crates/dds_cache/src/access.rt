@@ -10,7 +10,10 @@ ghost use Rattle.dds_base.specs.declared.sample.SampleState.TheVariants.{Read as
 ghost use Rattle.dds_base.specs.Access.{own_generations};
 ghost use Rattle.dds_base.specs.Presence.{present_samples};
 ghost use Rattle.std.specs.List.{list_any};
+ghost use Rattle.dds_base.specs.Access.{at_most};
+ghost use Rattle.dds_instances.specs.Known.{IsKnown};
 ghost use Rattle.dds_instances.specs.Table.{Stands};
+ghost use Rattle.dds_cache.specs.First.{AreFirstOf, IsAmongKnown, IsCountable, IsFull, IsOf, TellsFoundOf};
 ghost use Rattle.dds_cache.specs.Kept.{IsKept, is_live, sample_state_in};
 ghost use Rattle.dds_cache.specs.Finding.{are_asked_for, asks_for, is_sought, is_wanted, passes, described_by, IsSmall, IsPlaced, AreCandidates, Holds, Finds, TellsFound, sample_in, handle_in};
 
@@ -56,7 +59,7 @@ fn sample_state(is_read: bool) -> SampleState
 
 /// What is known of a kept sample before its ranks, by what is known of its instance.
 fn picked(kept: &Kept, known: &KnownInstance) -> Picked
-    requires small { known.now.disposed_generations + known.now.no_writers_generations < 2 ^ 64 }
+    requires small { IsCountable known.now }
     ensures { result ≡ described_by kept.now known.now }
 {
     Picked {
@@ -114,7 +117,7 @@ fn is_match<T: Test>(
 }
 
 /// Whether a selection asks for the instance of a handle.
-fn asks_for_handle(selection: &Selection, handle: Handle) -> bool
+pub fn asks_for_handle(selection: &Selection, handle: Handle) -> bool
     ensures { result ≡ asks_for selection.now handle }
 {
     match *selection {
@@ -164,6 +167,34 @@ pub fn is_any_match<T: Test>(
     false
 }
 
+/// A kept sample of a known instance as a candidate, if it is present, meets the masks and passes the test.
+fn candidate_of<T: Test>(
+    known: &KnownInstance,
+    qos: &ReaderQos,
+    masks: Masks,
+    test: &T,
+    kept: &Kept,
+    at: usize,
+) -> Option<Candidate>
+    requires small { IsSmall kept.now }
+    requires counts { IsCountable known.now }
+    ensures placed { IfSome result (λ c. (c.at ≡ at) × (own_generations c.picked < 2 ^ 64)) }
+    ensures handle { IfSome result (λ c. c.picked.instance_handle ≡ kept.now.handle) }
+    ensures wanted { (h : List Happening) → IsKnown qos.now h known.now
+        → known.now.key ≡ kept.now.sample.key → IsKept qos.now h kept.now
+        → TellsFound qos.now h masks (T.meaning test.now) kept.now at result }
+{
+    if is_found(kept, qos, masks, test, known) {
+        Some(Candidate {
+            sample: kept.sample,
+            picked: picked(kept, known),
+            at,
+        })
+    } else {
+        None
+    }
+}
+
 /// The kept sample at an index as a candidate, if it is present, meets the masks and passes the test.
 fn as_candidate<T: Test>(
     instances: &Instances,
@@ -181,17 +212,31 @@ fn as_candidate<T: Test>(
 {
     match instances.known(kept.sample.key) {
         None => None,
-        Some(known) => {
-            if is_found(kept, qos, masks, test, &known) {
-                Some(Candidate {
-                    sample: kept.sample,
-                    picked: picked(kept, &known),
-                    at,
-                })
-            } else {
-                None
-            }
-        }
+        Some(known) => candidate_of(&known, qos, masks, test, kept, at),
+    }
+}
+
+/// The same of a sample of one instance; none of another.
+fn as_candidate_of<T: Test>(
+    known: &KnownInstance,
+    qos: &ReaderQos,
+    masks: Masks,
+    test: &T,
+    kept: &Kept,
+    at: usize,
+) -> Option<Candidate>
+    requires small { IsSmall kept.now }
+    requires counts { IsCountable known.now }
+    ensures placed { IfSome result (λ c. (c.at ≡ at) × (own_generations c.picked < 2 ^ 64)) }
+    ensures handle { IfSome result (IsOf known.now.handle) }
+    ensures wanted { (h : List Happening) → IsAmongKnown qos.now h known.now
+        → IsKept qos.now h kept.now
+        → TellsFoundOf qos.now h masks (T.meaning test.now) known.now.key kept.now at result }
+{
+    if kept.handle == known.handle {
+        candidate_of(known, qos, masks, test, kept, at)
+    } else {
+        None
     }
 }
 
@@ -216,6 +261,58 @@ fn find_candidates<T: Test>(
             found.push(candidate)?;
         }
     }
+    Ok(found)
+}
+
+/// Leaves the first ones, `max` of them at most.
+pub fn cut_to(found: &mut Vec<Candidate>, max: Option<u32>)
+    ensures { found.new.items ≡ at_most max found.old.items }
+{
+    if let Some(max) = max {
+        found.truncate(max as usize);
+    }
+}
+
+/// Whether so many are as many as are asked for.
+pub fn is_full(max: Option<u32>, count: usize) -> bool
+    ensures { result ≡ true → IsFull max count }
+{
+    match max {
+        None => false,
+        Some(max) => max as usize <= count,
+    }
+}
+
+/// The candidates of one instance, in the order in which they came, the first `max` of them at most. It goes over the
+/// samples as far as the last that it needs.
+pub fn find_in_instance<T: Test>(
+    alloc: Global,
+    known: &KnownInstance,
+    qos: &ReaderQos,
+    masks: Masks,
+    test: &T,
+    samples: &[Kept],
+    max: Option<u32>,
+) -> Result<Vec<Candidate>, AllocError>
+    requires small { All IsSmall samples.now }
+    requires counts { IsCountable known.now }
+    ensures placed { IfOk result (λ found. All (IsPlaced (length samples.now)) found.items) }
+    ensures handles { IfOk result (λ found. All (IsOf known.now.handle) found.items) }
+    ensures found { IfOk result (λ found. (h : List Happening) → IsAmongKnown qos.now h known.now
+        → All (IsKept qos.now h) samples.now
+        → AreFirstOf qos.now h masks (T.meaning test.now) known.now.key max samples.now
+        samples.now found.items) }
+{
+    let mut found = Vec::new(alloc);
+    for at in 0..samples.len() {
+        if is_full(max, found.len()) {
+            break;
+        }
+        if let Some(candidate) = as_candidate_of(known, qos, masks, test, &samples[at], at) {
+            found.push(candidate)?;
+        }
+    }
+    cut_to(&mut found, max);
     Ok(found)
 }
 

@@ -14,6 +14,7 @@ mod counts;
 mod dying;
 mod ending;
 mod entering;
+mod first;
 mod kept;
 mod masks;
 mod pick;

@@ -2,22 +2,23 @@
 //!
 //! DDS 1.4, 2.2.2.5 (read, take, and their instance, next-instance and next-sample forms).
 
-ghost use Rattle.std.specs.Prelude.{◌≡◌, List, length, filter, All, IfOk, IfErr, None};
+ghost use Rattle.std.specs.Prelude.{◌≡◌, List, length, filter, All, IfOk, IfErr, IfSome, None};
 ghost use Rattle.std.specs.List.Sorted.{IsNonDecreasingBy};
 ghost use Rattle.dds_base.specs.declared.happening.Happening.{Happening};
 ghost use Rattle.dds_base.specs.declared.qos.ReaderQos.{ReaderQos};
-ghost use Rattle.dds_base.specs.Access.{at_most};
 ghost use Rattle.dds_base.specs.Refusal.{Refuses};
 ghost use Rattle.dds_base.specs.Selection.{picked_by, selection_refusal};
 ghost use Rattle.dds_instances.specs.Table.{Stands};
 ghost use Rattle.dds_cache.specs.Finding.{Finds, Holds, IsPlaced, IsSmall, handle_in};
+ghost use Rattle.dds_cache.specs.First.{AreOfForm};
 ghost use Rattle.dds_cache.specs.Kept.{IsCounted};
 ghost use Rattle.dds_cache.specs.Picking.{IsLimit, IsRequestWith, IsRequest, Picks, TellsAny, test_in};
 ghost use Rattle.dds_cache.specs.Picking.{has_handle, first_above, of_selection};
 
-use crate::access::{Candidate, find_matching, is_any_match};
+use crate::access::{Candidate, cut_to, find_matching, is_any_match};
 use crate::asking::is_none_asked;
 use crate::counts::Counts;
+use crate::first::find_first;
 use crate::kept::Kept;
 use crate::test::{Everything, Test};
 use dds_base::{Code, Handle, Masks, ReaderQos, Selection};
@@ -112,15 +113,6 @@ fn restrict(found: &mut Vec<Candidate>, selection: &Selection)
     }
 }
 
-/// Leaves the first ones, `max` of them at most.
-fn cut_to(found: &mut Vec<Candidate>, max: Option<u32>)
-    ensures { found.new.items ≡ at_most max found.old.items }
-{
-    if let Some(max) = max {
-        found.truncate(max as usize);
-    }
-}
-
 /// The present samples that meet the masks and pass the test, but for the next sample: that is found without a test.
 fn find_asked<T: Test>(
     alloc: Global,
@@ -145,6 +137,47 @@ fn find_asked<T: Test>(
         }
         Selection::Any { .. } | Selection::Instance { .. } | Selection::NextInstance { .. } => {
             find_matching(alloc, instances, qos, masks, test, samples)
+        }
+    }
+}
+
+/// What the first instance that an access asks for tells of it, as `find_first` has it; the next sample is found without a
+/// test.
+fn find_asked_first<T: Test>(
+    alloc: Global,
+    instances: &Instances,
+    qos: &ReaderQos,
+    samples: &[Kept],
+    selection: &Selection,
+    request: Request,
+    test: &T,
+) -> Result<Option<Vec<Candidate>>, AllocError>
+    requires small { All IsSmall samples.now }
+    ensures placed { IfOk result
+        (λ settled. IfSome settled (λ found. All (IsPlaced (length samples.now)) found.items)) }
+    ensures found { IfOk result (λ settled. IfSome settled (λ found. (h : List Happening)
+        → Holds qos.now instances.now samples.now h
+        → AreOfForm qos.now h selection.now request.masks
+        (test_in selection.now (T.meaning test.now)) request.limit samples.now found.items)) }
+    ensures sorted { IfOk result
+        (λ settled. IfSome settled (λ found. IsNonDecreasingBy handle_in found.items)) }
+{
+    let Request { limit, masks } = request;
+    match *selection {
+        Selection::NextSample => find_first(
+            alloc,
+            instances,
+            qos,
+            samples,
+            selection,
+            masks,
+            limit,
+            &Everything,
+        ),
+        Selection::Any { .. } | Selection::Instance { .. } | Selection::NextInstance { .. } => {
+            find_first(
+                alloc, instances, qos, samples, selection, masks, limit, test,
+            )
         }
     }
 }
@@ -183,7 +216,8 @@ pub fn picks_any<T: Test>(
 }
 
 /// The kept samples that an access picks by a test, with what is known of each before its ranks. It goes over them only
-/// where the masks don't tell alone that none is asked for, and takes memory only then.
+/// where the masks don't tell alone that none is asked for, and takes memory only then; and only as far as the last that
+/// it picks, where the first instance that it asks for has as many as it asks for.
 ///
 /// # Errors
 ///
@@ -211,6 +245,11 @@ pub fn pick<T: Test>(
     let request = request_by(instances, &selection)?;
     if is_none_asked(instances, samples, counts, request.masks) {
         return Ok(Vec::new(alloc));
+    }
+    if let Some(found) = find_asked_first(
+        alloc, instances, qos, samples, &selection, request, test,
+    )? {
+        return Ok(found);
     }
     let mut found = find_asked(
         alloc,

@@ -17,15 +17,19 @@ use crate::counts::{Counts, count};
 use crate::kept::Kept;
 use std::alloc::Global;
 
-/// Marks the samples that a read returned, each at its place.
-fn mark_read(samples: &mut Vec<Kept>, found: &[Candidate])
+/// Marks the samples that a read returned, each at its place, and counts those that were not read before.
+fn mark_read(samples: &mut Vec<Kept>, counts: &mut Counts, found: &[Candidate])
     requires placed { All (IsPlaced (length samples.old.items)) found.now }
+    requires counted { IsCounted samples.old.items counts.old }
     ensures items { AreChanged read_if found.now samples.old.items samples.new.items }
+    ensures counted { IsCounted samples.new.items counts.new }
     ensures len { vec_len samples.new ≡ vec_len samples.old }
     ensures capacity { vec_capacity samples.new ≡ vec_capacity samples.old }
 {
     for candidate in found {
-        samples[candidate.at].mark_read();
+        let kept = &mut samples[candidate.at];
+        counts.reads += usize::from(!kept.is_read);
+        kept.mark_read();
     }
 }
 
@@ -38,8 +42,8 @@ fn remove_out(samples: &mut Vec<Kept>)
     samples.retain(|k| !k.is_out);
 }
 
-/// Takes out what a take returns: the samples go, and their values are its collection's.
-fn remove(alloc: Global, samples: &mut Vec<Kept>, access: &mut Access)
+/// Takes out what a take returns: the samples go, and their values are its collection's. It counts those that are left.
+fn remove(alloc: Global, samples: &mut Vec<Kept>, counts: &mut Counts, access: &mut Access)
     requires gathered { IsGathered (length samples.old.items) access.old }
     ensures items { (ss : List Position) → AreAt ss access.old.found.items samples.old.items
         → All IsIn samples.old.items
@@ -47,11 +51,13 @@ fn remove(alloc: Global, samples: &mut Vec<Kept>, access: &mut Access)
     ensures positions { access.new.positions ≡ access.old.positions }
     ensures delivered { IsDelivered Take samples.old.items access.old access.new }
     ensures small { All IsSmall samples.old.items → All IsSmall samples.new.items }
+    ensures counted { IsCounted samples.new.items counts.new }
     ensures len { vec_len samples.new ≤ vec_len samples.old }
     ensures capacity { vec_capacity samples.old ≤ vec_capacity samples.new }
 {
     take_out(alloc, samples, &access.found, &mut access.samples);
     remove_out(samples);
+    *counts = count(samples);
 }
 
 /// What an access leaves of the kept samples, and their counts; what it returns is whole then.
@@ -77,8 +83,7 @@ pub fn settle(
         return;
     }
     match kind {
-        AccessKind::Read => mark_read(samples, &access.found),
-        AccessKind::Take => remove(alloc, samples, access),
+        AccessKind::Read => mark_read(samples, counts, &access.found),
+        AccessKind::Take => remove(alloc, samples, counts, access),
     }
-    *counts = count(samples);
 }

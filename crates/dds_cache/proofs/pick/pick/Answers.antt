@@ -30,16 +30,16 @@ returns-then-is_none_asked-clause-picks g c = λ h holds.
 pub returns-clause-placed : goal.returns-clause-placed
 returns-clause-placed g c =
     picked-all (IsPlaced (length c.args.samples.now)) c.args.selection c.in_ok-request.request.limit
-    c.in_ok-found.found.items c.restrict.new.found.items c.cut_to.new.found.items c.restrict.ensures c.cut_to.ensures
-    c.in_ok-found.ensures.placed
+    c.in_ok-found-2.found.items c.restrict.new.found.items c.cut_to.new.found.items c.restrict.ensures c.cut_to.ensures
+    c.in_ok-found-2.ensures.placed
 
 pub returns-clause-picks : goal.returns-clause-picks
 returns-clause-picks g c = λ h holds.
     let asked = c.in_ok-request.ensures c.args.qos.now h holds.instances in
     picked c.args.qos.now h c.args.selection
     (g.T.Test.meaning c.args.test.now) c.in_ok-request.request.masks c.in_ok-request.request.limit
-    c.args.samples.now c.in_ok-found.found.items c.restrict.new.found.items c.cut_to.new.found.items asked.0 asked.1
-    asked.2 (c.in_ok-found.ensures.found h holds) c.restrict.ensures c.cut_to.ensures
+    c.args.samples.now c.in_ok-found-2.found.items c.restrict.new.found.items c.cut_to.new.found.items asked.0 asked.1
+    asked.2 (c.in_ok-found-2.ensures.found h holds) c.restrict.ensures c.cut_to.ensures
 
 pub returns-then-is_none_asked-clause-sorted : goal.returns-then-is_none_asked-clause-sorted
 returns-then-is_none_asked-clause-sorted g c =
@@ -48,5 +48,5 @@ returns-then-is_none_asked-clause-sorted g c =
 
 pub returns-clause-sorted : goal.returns-clause-sorted
 returns-clause-sorted g c =
-    picked-sorted c.args.selection c.in_ok-request.request.limit c.in_ok-found.found.items
-    c.restrict.new.found.items c.cut_to.new.found.items c.restrict.ensures c.cut_to.ensures c.in_ok-found.ensures.sorted
+    picked-sorted c.args.selection c.in_ok-request.request.limit c.in_ok-found-2.found.items
+    c.restrict.new.found.items c.cut_to.new.found.items c.restrict.ensures c.cut_to.ensures c.in_ok-found-2.ensures.sorted

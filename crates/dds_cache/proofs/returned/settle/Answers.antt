@@ -12,7 +12,6 @@ use Rattle.dds_cache.specs.Kept.{read_if}
 use Rattle.dds_cache.specs.Settling.{settled}
 use Rattle.dds_cache.proofs.PlaceLaws.{changed-among, settled-none}
 use Rattle.dds_cache.proofs.returned.settle.Goals as goal
-use Rattle.dds_cache.proofs.returned.settle.Goals.{in-Read, in-Take}
 
 -- a list that is empty
 no-items : (cs : List Candidate) → length cs ≡ 0 → cs ≡ []
@@ -37,29 +36,10 @@ returns-then-is_empty-clause-delivered c = λ apart gathered.
     ∙ (ap (λ (cs : List Candidate). collected c.args.kind ks cs) empty
     ∙ ap (λ (cs : List Candidate). collected Read ks cs) (sym empty))
 
-pub returns-clause-items : goal.returns-clause-items
-returns-clause-items c = λ ss at_places all.
+pub returns-in-Read-clause-items : goal.returns-in-Read-clause-items
+returns-in-Read-clause-items c = λ ss at_places all.
     let ks : List Kept = c.args.samples.now.items in
-    elim c.match-kind.branch [
-      | in-Read w ↦
-          ap (λ (v : Vec Kept Global). v.items) w.samples-is
-          ∙ (changed-among read_if ss c.args.access.now.found.items ks w.mark_read.new.samples.items
-          (subst (λ (cs : List Candidate). AreChanged read_if cs ks w.mark_read.new.samples.items) w.deref.ensures.value
-          w.mark_read.ensures.items) at_places
-          ∙ sym (ap (λ (kind : AccessKind). settled kind ss ks) w.in-Read.is))
-      | in-Take w ↦
-          ap (λ (v : Vec Kept Global). v.items) w.samples-is
-          ∙ (w.remove.ensures.items ss at_places all
-          ∙ sym (ap (λ (kind : AccessKind). settled kind ss ks) w.in-Take.is))
-    ]
-
-pub returns-clause-delivered : goal.returns-clause-delivered
-returns-clause-delivered c = λ apart gathered.
-    let collection : AccessKind → List Sample =
-    λ kind. collected kind c.args.samples.now.items c.args.access.now.found.items in
-    elim c.match-kind.branch [
-      | in-Read w ↦ ap (λ (a : Access). a.samples.items) w.access-is ∙ (gathered ∙ ap collection w.in-Read.is)
-      | in-Take w ↦
-          ap (λ (a : Access). a.samples.items) w.access-is
-          ∙ w.remove.ensures.delivered apart (gathered ∙ ap collection w.in-Take.is)
-    ]
+    changed-among read_if ss c.args.access.now.found.items ks c.mark_read.new.samples.items
+    (subst (λ (cs : List Candidate). AreChanged read_if cs ks c.mark_read.new.samples.items) c.deref.ensures.value
+    c.mark_read.ensures.items) at_places
+    ∙ sym (ap (λ (kind : AccessKind). settled kind ss ks) c.in-Read.is)

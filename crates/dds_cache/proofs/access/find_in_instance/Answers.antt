@@ -1,0 +1,83 @@
+use Rattle.std.proofs.Common.{ℕ, ◌≤◌, ◌⊎◌, ◌<◌, ◌+◌, List, None, inl, inr, take, length, sym, ap, ◌∙◌, subst}
+use Rattle.std.specs.List.{All}
+use Rattle.std.proofs.lemmas.List.Elements.{All-push}
+use Rattle.dds_cache.specs.declared.kept.Kept.{Kept}
+use Rattle.dds_cache.specs.declared.access.Candidate.{Candidate}
+use Rattle.dds_cache.specs.Kept.{IsKept}
+use Rattle.dds_cache.specs.Finding.{IsPlaced}
+use Rattle.dds_cache.specs.First.{AreFirstOf, IsFull, IsOf}
+use Rattle.dds_cache.proofs.FirstLaws.{cut-each, first-cut, first-none, first-some}
+use Rattle.dds_cache.proofs.access.find_in_instance.Goals as goal
+use Rattle.dds_cache.proofs.access.find_in_instance.Goals.{in-Some+in_ok-push, in_default, else-loop-at-test, then-loop-at-test+then-is_full}
+
+pub loop-at-preserved : goal.loop-at-preserved
+loop-at-preserved g c =
+    let ks : List Kept = c.args.samples.now in
+    let k : Kept = c.index-samples-at.result in
+    record {
+      placed = elim c.match-as_candidate_of.branch [
+        | in-Some+in_ok-push w ↦ subst (λ (cs : List Candidate). All (IsPlaced (length ks)) cs)
+            (sym (ap (λ v. v.items) w.found-is ∙ w.in_ok-push.ensures.items))
+            (All-push (IsPlaced (length ks)) c.loop-at.found.items _ c.loop-at.invariant.placed
+            (record {
+              within = subst (λ (n : ℕ). n < length ks)
+                  (sym w.in-Some.ensures.placed.0) c.loop-at-test.true;
+              small = w.in-Some.ensures.placed.1;
+            }))
+        | in_default w ↦
+            subst (λ (cs : List Candidate). All (IsPlaced (length ks)) cs)
+            (sym (ap (λ v. v.items) w.found-is)) c.loop-at.invariant.placed
+      ];
+      handles = elim c.match-as_candidate_of.branch [
+        | in-Some+in_ok-push w ↦ subst (λ (cs : List Candidate). All (IsOf c.args.known.now.handle) cs)
+            (sym (ap (λ v. v.items) w.found-is ∙ w.in_ok-push.ensures.items))
+            (All-push (IsOf c.args.known.now.handle) c.loop-at.found.items _ c.loop-at.invariant.handles
+            w.in-Some.ensures.handle)
+        | in_default w ↦
+            subst (λ (cs : List Candidate). All (IsOf c.args.known.now.handle) cs)
+            (sym (ap (λ v. v.items) w.found-is)) c.loop-at.invariant.handles
+      ];
+      found = λ h among all.
+          let kept : IsKept c.args.qos.now h k =
+          subst (λ (x : Kept). IsKept c.args.qos.now h x) (sym c.index-samples-at.is)
+          (all c.loop-at.at k c.loop-at-test.true) in
+          let so_far = c.loop-at.invariant.found h among all in
+          let P : List Candidate → Type 0 =
+          λ cs. AreFirstOf c.args.qos.now h c.args.masks
+          (g.T.Test.meaning c.args.test.now) c.args.known.now.key None ks (take (c.loop-at.at + 1) ks) cs in
+          elim c.match-as_candidate_of.branch [
+            | in-Some+in_ok-push w ↦
+                subst P (sym (ap (λ v. v.items) w.found-is ∙ w.in_ok-push.ensures.items))
+                (first-some c.args.qos.now h c.args.masks
+                (g.T.Test.meaning c.args.test.now) c.args.known.now.key ks c.loop-at.at k _ c.loop-at.found.items
+                c.loop-at-test.true c.index-samples-at.is kept (w.in-Some.ensures.wanted h among kept) so_far)
+            | in_default w ↦
+                subst P (sym (ap (λ v. v.items) w.found-is))
+                (first-none c.args.qos.now h c.args.masks
+                (g.T.Test.meaning c.args.test.now) c.args.known.now.key ks c.loop-at.at k c.loop-at.found.items
+                c.loop-at-test.true c.index-samples-at.is (w.in_default.ensures.wanted h among kept) so_far)
+          ];
+    }
+
+pub returns-clause-placed : goal.returns-clause-placed
+returns-clause-placed g c =
+    cut-each (IsPlaced (length c.args.samples.now)) c.args.max c.loop-at.found.items c.cut_to.new.found.items
+    c.cut_to.ensures c.loop-at.invariant.placed
+
+pub returns-clause-handles : goal.returns-clause-handles
+returns-clause-handles g c =
+    cut-each (IsOf c.args.known.now.handle) c.args.max c.loop-at.found.items c.cut_to.new.found.items
+    c.cut_to.ensures c.loop-at.invariant.handles
+
+pub returns-clause-found : goal.returns-clause-found
+returns-clause-found g c = λ h among all.
+    let done : IsFull c.args.max (length c.loop-at.found.items) ⊎ (length c.args.samples.now ≤ c.loop-at.at) =
+    elim c.loop-at-test.branch [
+      | else-loop-at-test w ↦ inr w.loop-at-test.false
+      | then-loop-at-test+then-is_full w ↦
+          inl (subst (λ (n : ℕ). IsFull c.args.max n) (w.len.ensures ∙ c.loop-at.found.ok.0)
+          (w.is_full.ensures w.if-is_full.true))
+    ] in
+    first-cut c.args.qos.now h c.args.masks
+    (g.T.Test.meaning c.args.test.now) c.args.known.now.key c.args.max c.args.samples.now c.loop-at.at
+    c.loop-at.found.items c.cut_to.new.found.items done c.cut_to.ensures (c.loop-at.invariant.found h among all)

@@ -1,0 +1,109 @@
+-- The samples that an access picks of the first instance that it asks for. Inner functions alone cite this: nothing here
+-- has to be believed.
+--
+-- DDS 1.4, 2.2.2.5 (read, take, and their instance, next-instance and next-sample forms: max_samples).
+use Rattle.std.specs.Prelude.{◌≡◌, ℕ, ◌≤◌, ◌<◌, ◌^◌, ◌+◌, ◌⊎◌, List, All, map, filter, take, Bool, true, false, ◌&&◌, ◌==◌, Option, None, Some, MatchOption, slice_get}
+use Rattle.dds_base.specs.declared.key.Key.{Key}
+use Rattle.dds_base.specs.declared.happening.SamplePosition.{SamplePosition}
+use Rattle.dds_base.specs.declared.happening.Happening.{Happening}
+use Rattle.dds_base.specs.declared.mask.Masks.{Masks}
+use Rattle.dds_base.specs.declared.qos.ReaderQos.{ReaderQos}
+use Rattle.dds_base.specs.declared.selection.Selection.{Selection}
+use Rattle.dds_base.specs.declared.selection.Selection.TheVariants.{Any, Instance, NextInstance, NextSample}
+use Rattle.dds_base.specs.Access.{at_most, handle_of, matching_samples, next_handle}
+use Rattle.dds_base.specs.Happening.{same_key}
+use Rattle.dds_base.specs.Instance.{known_instances}
+use Rattle.dds_instances.specs.Known.{IsKnown}
+use Rattle.dds_instances.specs.declared.known.KnownInstance.{KnownInstance}
+use Rattle.dds_cache.specs.declared.access.Candidate.{Candidate}
+use Rattle.dds_cache.specs.declared.kept.Kept.{Kept}
+use Rattle.dds_cache.specs.Finding.{IsCandidate, IsFound, asks_for, is_wanted, sample_in, sample_of}
+
+-- an access does not ask for instance i
+abbrev pub IsPassedBy : ReaderQos → List Happening → Selection → Key → Type 0
+IsPassedBy q h selection i = asks_for selection (handle_of q h i) ≡ false
+
+-- what is known of the first of the known instances that an access asks for
+pub record IsFirstAsked (q : ReaderQos) (h : List Happening) (selection : Selection) (known : KnownInstance) : Type 0
+  where
+    pub place : ℕ
+    pub there : slice_get (known_instances q h) place ≡ Some known.key
+    pub before : All (IsPassedBy q h selection) (take place (known_instances q h))
+    pub asked : asks_for selection (handle_of q h known.key) ≡ true
+    pub is_known : IsKnown q h known
+
+-- what is known of the instance at a place, if there is one that an access asks for
+abbrev pub TellsAsked : ReaderQos → List Happening → Selection → ℕ → Option KnownInstance → Type 0
+TellsAsked q h selection place None =
+    MatchOption (slice_get (known_instances q h) place) (Unit {0}) (IsPassedBy q h selection)
+TellsAsked q h selection place (Some known) =
+    (slice_get (known_instances q h) place ≡ Some known.key)
+    × (asks_for selection (handle_of q h known.key) ≡ true) × IsKnown q h known
+
+-- the two generation counts of an instance can be added
+abbrev pub IsCountable : KnownInstance → Type 0
+IsCountable known = known.disposed_generations + known.no_writers_generations < 2 ^ 64
+
+-- what is known of one of the known instances
+pub record IsAmongKnown (q : ReaderQos) (h : List Happening) (known : KnownInstance) : Type 0 where
+  pub place : ℕ
+  pub there : slice_get (known_instances q h) place ≡ Some known.key
+  pub is_known : IsKnown q h known
+
+-- the wanted ones of a list of kept samples that are of instance i
+abbrev pub wanted_in : ReaderQos → List Happening → Masks → (Key → List ℕ → Bool) → Key → List Kept
+    → List SamplePosition
+wanted_in q h masks test i ks =
+    filter (λ (s : SamplePosition). same_key i s.key) (map sample_of (filter (is_wanted q h masks test) ks))
+
+-- a kept sample is of instance i, and found as a candidate
+abbrev pub IsFoundOf : ReaderQos → List Happening → Masks → (Key → List ℕ → Bool) → Key → Kept → ℕ → Candidate
+    → Type 0
+IsFoundOf q h masks test i k at c = (same_key i k.sample.key ≡ true) × IsFound q h masks test k at c
+
+-- whether a kept sample is a wanted one of instance i, as the candidate that it is then
+abbrev pub TellsFoundOf : ReaderQos → List Happening → Masks → (Key → List ℕ → Bool) → Key → Kept → ℕ
+    → Option Candidate → Type 0
+TellsFoundOf q h masks test i k at found =
+    MatchOption found ((same_key i k.sample.key && is_wanted q h masks test k) ≡ false)
+    (IsFoundOf q h masks test i k at)
+
+-- the candidates are the wanted ones of instance i among some of the kept samples, in their order, so many at most
+pub record AreFirstOf (q : ReaderQos) (h : List Happening) (masks : Masks) (test : Key → List ℕ → Bool) (i : Key)
+    (max : Option ℕ) (ks wanted : List Kept) (cs : List Candidate) : Type 0 where
+  pub samples_are : map sample_in cs ≡ at_most max (wanted_in q h masks test i wanted)
+  pub each : All (IsCandidate q h ks) cs
+
+-- a candidate is of the instance of this handle
+abbrev pub IsOf : ℕ → Candidate → Type 0
+IsOf n c = c.picked.instance_handle ≡ n
+
+-- so many are as many as are asked for
+abbrev pub IsFull : Option ℕ → ℕ → Type 0
+IsFull None n = ⊥
+IsFull (Some max) n = max ≤ n
+
+-- what was found of the first instance that an access asks for is all that it picks: by how many instances are known,
+-- and how many samples were found of that one
+abbrev pub Settles : Selection → Option ℕ → ℕ → ℕ → Type 0
+Settles (Any max masks) limit known found = (known ≡ 1) ⊎ IsFull limit found
+Settles (Instance handle max masks) limit known found = Unit {0}
+Settles (NextInstance previous max masks) limit known found = 0 < found
+Settles NextSample limit known found = (known ≡ 1) ⊎ IsFull limit found
+
+-- those of one instance
+abbrev pub of_handle : ReaderQos → List Happening → ℕ → List SamplePosition → List SamplePosition
+of_handle q h n ss = filter (λ (s : SamplePosition). handle_of q h s.key == n) ss
+
+-- those of the matching samples that are of an instance that the access asks for
+abbrev pub of_form : ReaderQos → List Happening → Selection → List SamplePosition → List SamplePosition
+of_form q h (Any max masks) ss = ss
+of_form q h (Instance handle max masks) ss = of_handle q h handle ss
+of_form q h (NextInstance previous max masks) ss = of_handle q h (next_handle q h previous ss) ss
+of_form q h NextSample ss = ss
+
+-- the candidates are those that an access of this form picks, so many at most
+pub record AreOfForm (q : ReaderQos) (h : List Happening) (selection : Selection) (masks : Masks)
+    (test : Key → List ℕ → Bool) (max : Option ℕ) (ks : List Kept) (cs : List Candidate) : Type 0 where
+  pub samples_are : map sample_in cs ≡ at_most max (of_form q h selection (matching_samples q h masks test))
+  pub each : All (IsCandidate q h ks) cs

@@ -1,0 +1,108 @@
+//! The samples that an access picks of the first instance that it asks for, which are often all.
+//!
+//! DDS 1.4, 2.2.2.5 (read, take, and their instance, next-instance and next-sample forms: max_samples).
+
+ghost use Rattle.std.specs.Prelude.{◌≡◌, List, length, All, IfOk, IfSome, true, MatchOption};
+ghost use Rattle.std.specs.List.Sorted.{IsNonDecreasingBy};
+ghost use Rattle.dds_base.specs.declared.happening.Happening.{Happening};
+ghost use Rattle.dds_base.specs.declared.qos.ReaderQos.{ReaderQos};
+ghost use Rattle.dds_base.specs.Instance.{known_instances};
+ghost use Rattle.dds_instances.specs.Table.{Stands};
+ghost use Rattle.dds_cache.specs.Finding.{Holds, IsPlaced, IsSmall, handle_in};
+ghost use Rattle.dds_cache.specs.First.{AreOfForm, IsCountable, IsFirstAsked, IsPassedBy, Settles, TellsAsked};
+
+use crate::access::{Candidate, asks_for_handle, find_in_instance, is_full};
+use crate::kept::Kept;
+use crate::test::Test;
+use dds_base::{Masks, ReaderQos, Selection};
+use dds_instances::{Instances, KnownInstance};
+use std::alloc::{AllocError, Global};
+
+/// What is known of the instance at a place, if an access asks for it.
+fn asked_at(instances: &Instances, selection: &Selection, place: usize) -> Option<KnownInstance>
+    ensures counts { IfSome result IsCountable }
+    ensures asked { (q : ReaderQos) (h : List Happening) → Stands q instances.now h
+        → TellsAsked q h selection.now place result }
+{
+    match instances.at(place) {
+        None => None,
+        Some(known) => {
+            if asks_for_handle(selection, known.handle) {
+                Some(known)
+            } else {
+                None
+            }
+        }
+    }
+}
+
+/// What is known of the first of the known instances that an access asks for. It goes over those before it.
+fn first_asked(instances: &Instances, selection: &Selection) -> Option<KnownInstance>
+    ensures counts { IfSome result IsCountable }
+    ensures first { (q : ReaderQos) (h : List Happening) → Stands q instances.now h
+        → MatchOption result (All (IsPassedBy q h selection.now) (known_instances q h))
+        (IsFirstAsked q h selection.now) }
+{
+    for place in 0..instances.len() {
+        if let Some(known) = asked_at(instances, selection, place) {
+            return Some(known);
+        }
+    }
+    None
+}
+
+/// Whether what was found of the first instance that an access asks for is all that it picks: by how many instances are
+/// known, and how many samples were found of that one.
+fn is_settled(selection: &Selection, max: Option<u32>, known: usize, found: usize) -> bool
+    ensures { result ≡ true → Settles selection.now max known found }
+{
+    match *selection {
+        Selection::Any { .. } | Selection::NextSample => known == 1 || is_full(max, found),
+        Selection::Instance { .. } => true,
+        Selection::NextInstance { .. } => 0 < found,
+    }
+}
+
+/// Whether that can be so: not where an access asks for all samples of several instances.
+fn may_settle(selection: &Selection, max: Option<u32>, known: usize) -> bool {
+    match *selection {
+        Selection::Any { .. } => known == 1 || max.is_some(),
+        _ => true,
+    }
+}
+
+/// The samples that an access picks, where the first instance that it asks for has them, or none is asked for; `None`
+/// where others may have some too.
+pub fn find_first<T: Test>(
+    alloc: Global,
+    instances: &Instances,
+    qos: &ReaderQos,
+    samples: &[Kept],
+    selection: &Selection,
+    masks: Masks,
+    max: Option<u32>,
+    test: &T,
+) -> Result<Option<Vec<Candidate>>, AllocError>
+    requires small { All IsSmall samples.now }
+    ensures placed { IfOk result
+        (λ settled. IfSome settled (λ found. All (IsPlaced (length samples.now)) found.items)) }
+    ensures found { IfOk result (λ settled. IfSome settled (λ found. (h : List Happening)
+        → Holds qos.now instances.now samples.now h
+        → AreOfForm qos.now h selection.now masks (T.meaning test.now) max samples.now
+        found.items)) }
+    ensures sorted { IfOk result
+        (λ settled. IfSome settled (λ found. IsNonDecreasingBy handle_in found.items)) }
+{
+    if !may_settle(selection, max, instances.len()) {
+        return Ok(None);
+    }
+    let Some(known) = first_asked(instances, selection) else {
+        return Ok(Some(Vec::new(alloc)));
+    };
+    let found = find_in_instance(alloc, &known, qos, masks, test, samples, max)?;
+    if is_settled(selection, max, instances.len(), found.len()) {
+        Ok(Some(found))
+    } else {
+        Ok(None)
+    }
+}
