@@ -15,6 +15,7 @@ use Rattle.dds_base.specs.declared.sample.Picked.{Picked}
 use Rattle.dds_base.specs.declared.sample.Sample.{Sample}
 use Rattle.dds_base.specs.declared.qos.ReaderQos.{ReaderQos}
 use Rattle.dds_base.specs.Access.{picked_of, with_ranks, value_of, collection_of}
+use Rattle.dds_base.specs.Presence.{is_present}
 use Rattle.dds_base.proofs.Lists.{drop-step}
 use Rattle.dds_info.specs.declared.ranks.Next.{Next}
 use Rattle.dds_info.specs.Ranking.{AreTold, StandsBefore}
@@ -25,6 +26,7 @@ use Rattle.dds_cache.specs.declared.kept.Kept.{Kept}
 use Rattle.dds_cache.specs.Kept.{IsKept}
 use Rattle.dds_cache.specs.Finding.{IsCandidate, handle_in, sample_in, picked_in}
 use Rattle.dds_cache.specs.Picking.{as_sample, collected, value_at, value_for}
+use Rattle.dds_cache.proofs.KeptLaws.{present-in}
 
 -- what is known of candidates is what the definitions say of their samples
 described : (q : ReaderQos) (h : List Happening) (ks : List Kept) (cs : List Candidate) → All (IsCandidate q h ks) cs
@@ -58,7 +60,8 @@ value-in q h ks c kept is =
     let d : Kept = some_kept c.sample in
     let one : IsKept q h (get_or ks c.at d) = kept c.at d is.within in
     ap (λ (k : Option Kept). value_at Read k) (slice_get-get_or ks c.at d is.within)
-    ∙ (one.is_of.value_is ∙ ap (λ (s : SamplePosition). value_of q h s) (is.there d))
+    ∙ (one.is_of.value_is (present-in q h (get_or ks c.at d) one
+    (ap (λ (s : SamplePosition). is_present q h s.key s.position) (is.there d) ∙ is.present)) ∙ ap (λ (s : SamplePosition). value_of q h s) (is.there d))
 
 -- the collection of candidates is that of their samples
 pub collected-is : (q : ReaderQos) (h : List Happening) (ks : List Kept) (cs : List Candidate) → All (IsKept q h) ks

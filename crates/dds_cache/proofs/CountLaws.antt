@@ -1,5 +1,5 @@
 -- The present samples are counted among those kept.
-use Rattle.std.proofs.Common.{◌≡◌, ℕ, ◌+◌, List, [], ◌∷◌, ◌++◌, length, map, filter, get_or, Bool, true, false, ◌&&◌, ◌||◌, sym, ap, ◌∙◌, refl, cond, arith, suc, ⊎_elim}
+use Rattle.std.proofs.Common.{◌≡◌, ℕ, ◌+◌, List, [], ◌∷◌, ◌++◌, length, map, filter, get_or, Bool, true, false, not, ◌&&◌, ◌||◌, sym, ap, ◌∙◌, refl, cond, arith, suc, ⊎_elim}
 use Rattle.std.specs.List.{list_any, All, flat_map, count_by, IsDistinct, AllByRecursion}
 use Rattle.std.specs.Prelude.{if◌then◌else◌, nat_lt}
 use Rattle.std.proofs.lemmas.Bool.{cases_Bool, lt-ltb}
@@ -16,11 +16,11 @@ use Rattle.dds_base.specs.declared.mask.Masks.{Masks}
 use Rattle.dds_base.specs.declared.selection.Selection.{Selection}
 use Rattle.dds_base.specs.declared.qos.ReaderQos.{ReaderQos}
 use Rattle.dds_base.specs.declared.sample.SampleState.TheVariants.{Read as HasBeenRead, NotRead}
-use Rattle.dds_base.specs.Access.{asks_for_sample_state, handle_of, sample_state_of, value_of}
+use Rattle.dds_base.specs.Access.{asks_for_sample_state, handle_of, meets, sample_state_of, value_of}
 use Rattle.dds_base.specs.Happening.{same_key}
 use Rattle.dds_base.specs.Instance.{known_instances}
 use Rattle.dds_base.specs.Presence.{is_present, present_of, present_samples}
-use Rattle.dds_base.specs.Life.{up_to}
+use Rattle.dds_base.specs.Life.{is_at, is_kept_write, last_marker, up_to}
 use Rattle.dds_base.proofs.KeyLaws.{key-same, same_key-comm}
 use Rattle.dds_cache.specs.declared.kept.Kept.{Kept}
 use Rattle.dds_cache.specs.Kept.{IsKept, IsUnasked, positions_in, sample_at}
@@ -145,11 +145,22 @@ pub unmet-unasked : (q : ReaderQos) (h : List Happening) (masks : Masks) (ks : L
     → All (IsUnasked masks.samples) ks → All (IsUnmet q h masks) ks
 unmet-unasked q h masks ks kept unasked = λ n d within. one (get_or ks n d) (kept n d within) (unasked n d within)
   where
+    and-none : (b : Bool) → (b && false) ≡ false
+    and-none true = refl
+    and-none false = refl
+
     one : (k : Kept) → IsKept q h k → IsUnasked masks.samples k → IsUnmet q h masks k
     one k is unasked =
-        ap (λ (b : Bool). asks_for_sample_state masks.samples (if b then HasBeenRead else NotRead)
+        ⊎_elim
+        (λ out. ap (λ (b : Bool). (not b && (is_kept_write q h k.sample.key k.sample.position
+        || is_at (last_marker q k.sample.key h) k.sample.position)) && meets q h masks k.sample)
+        (sym is.out_is ∙ out))
+        (λ stays. ap (λ (b : Bool). is_present q h k.sample.key k.sample.position && b)
+        (ap (λ (b : Bool). asks_for_sample_state masks.samples (if b then HasBeenRead else NotRead)
         && asks_for_states q h masks k.sample.key) (sym is.read_is)
-        ∙ ap (λ (b : Bool). b && asks_for_states q h masks k.sample.key) unasked
+        ∙ ap (λ (b : Bool). b && asks_for_states q h masks k.sample.key) (unasked stays))
+        ∙ and-none (is_present q h k.sample.key k.sample.position))
+        (cases_Bool k.is_out)
 
 -- what is so of each instance of a list is so of one that is among them
 of-known : (p : Key → Bool) (x : Key) (ks : List Key) → All (λ (i : Key). p i ≡ false) ks
@@ -167,9 +178,12 @@ pub unmet-instances : (q : ReaderQos) (h : List Happening) (masks : Masks) (ks :
     → All (λ (i : Key). asks_for_states q h masks i ≡ false) (known_instances q h) → All (IsUnmet q h masks) ks
 unmet-instances q h masks ks kept unasked =
     All-weaker (IsKept q h) (IsUnmet q h masks)
-    (λ k is. ap (λ (b : Bool). asks_for_sample_state masks.samples (sample_state_of h k.sample) && b)
+    (λ k is. ap (λ (b : Bool). is_present q h k.sample.key k.sample.position
+    && (asks_for_sample_state masks.samples (sample_state_of h k.sample) && b))
     (of-known (asks_for_states q h masks) k.sample.key (known_instances q h) unasked is.is_known)
-    ∙ and-false (asks_for_sample_state masks.samples (sample_state_of h k.sample))) ks kept
+    ∙ (ap (λ (b : Bool). is_present q h k.sample.key k.sample.position && b)
+    (and-false (asks_for_sample_state masks.samples (sample_state_of h k.sample)))
+    ∙ and-false (is_present q h k.sample.key k.sample.position))) ks kept
   where
     and-false : (b : Bool) → (b && false) ≡ false
     and-false true = refl
@@ -184,12 +198,12 @@ unsought q h selection masks test ks kept present unmet =
     present-any q h (is_sought q h selection masks test) ks kept present
     ∙ list_any_none (passes q h (is_sought q h selection masks test)) ks
     (All-weaker (IsUnmet q h masks) (λ (k : Kept). passes q h (is_sought q h selection masks test) k ≡ false)
-    (λ k none. ap (λ (b : Bool). is_present q h k.sample.key k.sample.position
-    && (asks_for selection (handle_of q h k.sample.key) && (b && test k.sample.key (value_of q h k.sample)))) none
-    ∙ and-false (is_present q h k.sample.key k.sample.position) (asks_for selection (handle_of q h k.sample.key))) ks
-    unmet)
+    (λ k none. neither (is_present q h k.sample.key k.sample.position)
+    (asks_for selection (handle_of q h k.sample.key)) (meets q h masks k.sample)
+    (test k.sample.key (value_of q h k.sample)) none) ks unmet)
   where
-    and-false : (a b : Bool) → (a && (b && false)) ≡ false
-    and-false true true = refl
-    and-false true false = refl
-    and-false false b = refl
+    neither : (p a m t : Bool) → (p && m) ≡ false → (p && (a && (m && t))) ≡ false
+    neither true a true t e = absurd (let clash : true ≡ false = e in cc)
+    neither true true false t e = refl
+    neither true false false t e = refl
+    neither false a m t e = refl

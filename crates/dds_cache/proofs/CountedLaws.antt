@@ -1,5 +1,5 @@
 -- How many of the kept samples were read, and how many have data.
-use Rattle.std.proofs.Common.{◌≡◌, ℕ, ◌+◌, ◌≤◌, ◌<◌, List, [], ◌∷◌, ◌++◌, length, get_or, set, Bool, true, false, cond, sym, ap, ◌∙◌, arith, ⊎_elim}
+use Rattle.std.proofs.Common.{◌≡◌, ℕ, ◌+◌, ◌≤◌, ◌<◌, List, [], ◌∷◌, ◌++◌, length, get_or, set, Bool, true, false, not, ◌&&◌, cond, sym, ap, ◌∙◌, refl, ◌-◌, arith, ⊎_elim}
 use Rattle.std.specs.Prelude.{if◌then◌else◌}
 use Rattle.std.specs.List.{All, count_by}
 use Rattle.std.proofs.lemmas.Bool.{cases_Bool}
@@ -10,20 +10,53 @@ use Rattle.dds_base.specs.declared.sample.SampleState.TheVariants.{Read as HasBe
 use Rattle.dds_base.specs.Access.{asks_for_sample_state}
 use Rattle.dds_cache.specs.declared.counts.Counts.{Counts}
 use Rattle.dds_cache.specs.declared.kept.Kept.{Kept}
-use Rattle.dds_cache.specs.Kept.{IsCounted, IsUnasked, has_data, read_if, was_read}
+use Rattle.dds_cache.specs.Kept.{IsCounted, IsUnasked, has_data, is_in, out_if, read_if, was_read, was_taken}
 
--- where as many pass as there are, each does
-all-counted : (p : Kept → Bool) (ks : List Kept) → length ks ≤ count_by p ks → All (λ (k : Kept). p k ≡ true) ks
-all-counted p [] many = All-nil (λ (k : Kept). p k ≡ true)
-all-counted p (k ∷ ks) many =
-    let more : count_by p (k ∷ ks) ≡ cond (p k) 1 0 + count_by p ks = sum_by-cons (λ x. cond (p x) 1 0) k ks in
-    let few : count_by p ks ≤ length ks = count_by-le-length p ks in
+-- no more were read, or are gone, than there are
+few-counted : (ks : List Kept) → count_by was_read ks + count_by was_taken ks ≤ length ks
+few-counted [] = grind arith
+few-counted (k ∷ ks) =
+    let reads : count_by was_read (k ∷ ks) ≡ cond (was_read k) 1 0 + count_by was_read ks =
+    sum_by-cons (λ x. cond (was_read x) 1 0) k ks in
+    let outs : count_by was_taken (k ∷ ks) ≡ cond (was_taken k) 1 0 + count_by was_taken ks =
+    sum_by-cons (λ x. cond (was_taken x) 1 0) k ks in
+    let few = few-counted ks in
+    let one : cond {A = ℕ} (not k.is_out && k.is_read) 1 0 + cond k.is_out 1 0 ≤ 1 = at-most k.is_out k.is_read in
+    omega (arith, reads, outs, few, one)
+  where
+    at-most : (out read : Bool) → cond {A = ℕ} (not out && read) 1 0 + cond out 1 0 ≤ 1
+    at-most true read = omega arith
+    at-most false true = omega arith
+    at-most false false = omega arith
+
+-- where as many were read, or are gone, as there are, each of the others was read
+all-counted : (ks : List Kept) → length ks ≤ count_by was_read ks + count_by was_taken ks
+    → All (λ (k : Kept). k.is_out ≡ false → k.is_read ≡ true) ks
+all-counted [] many = All-nil (λ (k : Kept). k.is_out ≡ false → k.is_read ≡ true)
+all-counted (k ∷ ks) many =
+    let reads : count_by was_read (k ∷ ks) ≡ cond (was_read k) 1 0 + count_by was_read ks =
+    sum_by-cons (λ x. cond (was_read x) 1 0) k ks in
+    let outs : count_by was_taken (k ∷ ks) ≡ cond (was_taken k) 1 0 + count_by was_taken ks =
+    sum_by-cons (λ x. cond (was_taken x) 1 0) k ks in
+    let few = few-counted ks in
     ⊎_elim
-    (λ yes. let one : cond {A = ℕ} (p k) 1 0 ≡ 1 = ap (λ (b : Bool). cond b 1 0) yes in
-    All-cons (λ (x : Kept). p x ≡ true) k ks yes (all-counted p ks (omega (arith, more, one, many))))
-    (λ no. let none : cond {A = ℕ} (p k) 1 0 ≡ 0 = ap (λ (b : Bool). cond b 1 0) no in
-    absurd (omega (arith, more, none, few, many)))
-    (cases_Bool (p k))
+    (λ was. All-cons (λ (x : Kept). x.is_out ≡ false → x.is_read ≡ true) k ks (λ stays. was)
+    (all-counted ks (omega (arith, reads, outs, many, at-most k.is_out k.is_read))))
+    (λ unread. ⊎_elim
+    (λ out. All-cons (λ (x : Kept). x.is_out ≡ false → x.is_read ≡ true) k ks
+    (λ stays. absurd (let clash : true ≡ false = sym out ∙ stays in cc))
+    (all-counted ks (omega (arith, reads, outs, many, at-most k.is_out k.is_read))))
+    (λ stays. let none : cond {A = ℕ} (not k.is_out && k.is_read) 1 0 + cond k.is_out 1 0 ≡ 0 =
+    ap (λ (b : Bool). cond {A = ℕ} (not b && k.is_read) 1 0 + cond b 1 0) stays
+    ∙ ap (λ (b : Bool). cond {A = ℕ} b 1 0 + 0) unread in
+    absurd (omega (arith, reads, outs, many, few, none)))
+    (cases_Bool k.is_out))
+    (cases_Bool k.is_read)
+  where
+    at-most : (out read : Bool) → cond {A = ℕ} (not out && read) 1 0 + cond out 1 0 ≤ 1
+    at-most true read = omega arith
+    at-most false true = omega arith
+    at-most false false = omega arith
 
 -- where as many pass as none, none does
 none-counted : (p : Kept → Bool) (ks : List Kept) → count_by p ks ≡ 0 → All (λ (k : Kept). p k ≡ false) ks
@@ -38,18 +71,21 @@ none-counted p ks none k d within =
 
 -- a mask that does not ask for the samples that were read asks for none, where all were
 pub unasked-read : (mask : SampleStateMask) (ks : List Kept) (counts : Counts) → IsCounted ks counts
-    → counts.reads ≡ length ks → asks_for_sample_state mask HasBeenRead ≡ false → All (IsUnasked mask) ks
+    → counts.reads ≡ length ks - counts.outs → asks_for_sample_state mask HasBeenRead ≡ false
+    → All (IsUnasked mask) ks
 unasked-read mask ks counts counted all unasked =
-    All-weaker (λ (k : Kept). was_read k ≡ true) (IsUnasked mask)
-    (λ k was. ap (λ (b : Bool). asks_for_sample_state mask (if b then HasBeenRead else NotRead)) was ∙ unasked) ks
-    (all-counted was_read ks (omega (arith, all, counted.reads)))
+    All-weaker (λ (k : Kept). k.is_out ≡ false → k.is_read ≡ true) (IsUnasked mask)
+    (λ k was stays. ap (λ (b : Bool). asks_for_sample_state mask (if b then HasBeenRead else NotRead)) (was stays)
+    ∙ unasked) ks
+    (all-counted ks (omega (arith, all, counted.reads, counted.outs, count_by-le-length was_taken ks)))
 
 -- and one that does not ask for those that were not asks for none, where none was
 pub unasked-unread : (mask : SampleStateMask) (ks : List Kept) (counts : Counts) → IsCounted ks counts
     → counts.reads ≡ 0 → asks_for_sample_state mask NotRead ≡ false → All (IsUnasked mask) ks
 unasked-unread mask ks counts counted none unasked =
     All-weaker (λ (k : Kept). was_read k ≡ false) (IsUnasked mask)
-    (λ k was. ap (λ (b : Bool). asks_for_sample_state mask (if b then HasBeenRead else NotRead)) was ∙ unasked) ks
+    (λ k was stays. ap (λ (b : Bool). asks_for_sample_state mask (if b then HasBeenRead else NotRead))
+    (sym (ap (λ (b : Bool). not b && k.is_read) stays) ∙ was) ∙ unasked) ks
     (none-counted was_read ks (sym counted.reads ∙ none))
 
 -- as many pass the one test as pass the other, where each sample passes both or none
@@ -63,41 +99,86 @@ count-agree p r (k ∷ ks) same =
     ∙ sym (sum_by-cons (λ x. cond (r x) 1 0) k ks)))
 
 -- the counts once a sample is added that was not read
-pub counted-more : (ks : List Kept) (k : Kept) (old new : Counts) → k.is_read ≡ false → IsCounted ks old
-    → new.reads ≡ old.reads → new.writes ≡ old.writes + cond k.valid_data 1 0 → IsCounted (ks ++ k ∷ []) new
-counted-more ks k old new unread counted reads writes =
-    let one : cond {A = ℕ} (was_read k) 1 0 ≡ 0 = ap (λ (b : Bool). cond b 1 0) unread in
+pub counted-more : (ks : List Kept) (k : Kept) (old new : Counts) → k.is_read ≡ false → k.is_out ≡ false
+    → IsCounted ks old → new.outs ≡ old.outs → new.reads ≡ old.reads
+    → new.writes ≡ old.writes + cond k.valid_data 1 0 → IsCounted (ks ++ k ∷ []) new
+counted-more ks k old new unread stays counted outs reads writes =
+    let one : cond {A = ℕ} (was_read k) 1 0 ≡ 0 =
+    ap (λ (b : Bool). cond (not b && k.is_read) 1 0) stays ∙ ap (λ (b : Bool). cond b 1 0) unread in
+    let own : cond {A = ℕ} (has_data k) 1 0 ≡ cond k.valid_data 1 0 =
+    ap (λ (b : Bool). cond (not b && k.valid_data) 1 0) stays in
+    let none : cond {A = ℕ} (was_taken k) 1 0 ≡ 0 = ap (λ (b : Bool). cond b 1 0) stays in
+    let more_outs : count_by was_taken (ks ++ k ∷ []) ≡ count_by was_taken ks + cond (was_taken k) 1 0 =
+    sum_by_push (λ x. cond (was_taken x) 1 0) ks k in
     let more : count_by was_read (ks ++ k ∷ []) ≡ count_by was_read ks + cond (was_read k) 1 0 =
     sum_by_push (λ x. cond (was_read x) 1 0) ks k in
     let more_data : count_by has_data (ks ++ k ∷ []) ≡ count_by has_data ks + cond (has_data k) 1 0 =
     sum_by_push (λ x. cond (has_data x) 1 0) ks k in
     record {
+      outs = omega (arith, outs, counted.outs, more_outs, none);
       reads = omega (arith, reads, counted.reads, more, one);
-      writes = omega (arith, writes, counted.writes, more_data);
+      writes = omega (arith, writes, counted.writes, more_data, own);
     }
+
+-- how a count changes where one of the samples does
+one-changed : (p : Kept → Bool) (ks : List Kept) (at : ℕ) (k v : Kept) → at < length ks → k ≡ get_or ks at k
+    → count_by p (set ks at v) + cond (p k) 1 0 ≡ count_by p ks + cond (p v) 1 0
+one-changed p ks at k v within is =
+    ap (λ (x : Kept). count_by p (set ks at v) + cond (p x) 1 0) is
+    ∙ sum_by-set (λ x. cond (p x) 1 0) ks at v k within
 
 -- the counts once one of the samples is marked as read
 pub counted-read : (ks : List Kept) (at : ℕ) (k v : Kept) (old new : Counts) → at < length ks → k ≡ get_or ks at k
-    → v ≡ read_if true k → IsCounted ks old → new.reads ≡ old.reads + cond k.is_read 0 1 → new.writes ≡ old.writes
+    → v ≡ read_if true k → IsCounted ks old → new.outs ≡ old.outs
+    → new.reads ≡ old.reads + (if is_in k && not k.is_read then 1 else 0) → new.writes ≡ old.writes
     → IsCounted (set ks at v) new
-counted-read ks at k v old new within is marked counted reads writes =
-    let same : (p : Kept → Bool) → cond {A = ℕ} (p (get_or ks at k)) 1 0 ≡ cond (p k) 1 0 =
-    λ p. ap (λ (x : Kept). cond (p x) 1 0) (sym is) in
-    let changed : count_by was_read (set ks at v) + cond (was_read (get_or ks at k)) 1 0
-    ≡ count_by was_read ks + cond (was_read v) 1 0 = sum_by-set (λ x. cond (was_read x) 1 0) ks at v k within in
-    let more_data : count_by has_data (set ks at v) + cond (has_data (get_or ks at k)) 1 0
-    ≡ count_by has_data ks + cond (has_data v) 1 0 = sum_by-set (λ x. cond (has_data x) 1 0) ks at v k within in
-    let one : cond {A = ℕ} (was_read v) 1 0 ≡ 1 = ap (λ (x : Kept). cond (was_read x) 1 0) marked in
-    let other : cond {A = ℕ} (has_data v) 1 0 ≡ cond (has_data k) 1 0 =
-    ap (λ (x : Kept). cond (has_data x) 1 0) marked in
-    record {
-      reads = ⊎_elim
-          (λ was. let before : cond {A = ℕ} (was_read k) 1 0 ≡ 1 = ap (λ (b : Bool). cond b 1 0) was in
-          let none : cond {A = ℕ} k.is_read 0 1 ≡ 0 = ap (λ (b : Bool). cond b 0 1) was in
-          omega (arith, reads, counted.reads, changed, same was_read, one, before, none))
-          (λ was. let before : cond {A = ℕ} (was_read k) 1 0 ≡ 0 = ap (λ (b : Bool). cond b 1 0) was in
-          let more : cond {A = ℕ} k.is_read 0 1 ≡ 1 = ap (λ (b : Bool). cond b 0 1) was in
-          omega (arith, reads, counted.reads, changed, same was_read, one, before, more))
-          (cases_Bool k.is_read);
-      writes = omega (arith, writes, counted.writes, more_data, same has_data, other);
-    }
+counted-read ks at k v old new within is marked counted outs reads writes = record {
+  outs =
+      (let change = one-changed was_taken ks at k v within is in
+      let same : cond {A = ℕ} (was_taken v) 1 0 ≡ cond (was_taken k) 1 0 =
+      ap (λ (x : Kept). cond (was_taken x) 1 0) marked in
+      omega (arith, outs, counted.outs, change, same));
+  reads =
+      (let change = one-changed was_read ks at k v within is in
+      let now : cond {A = ℕ} (was_read v) 1 0 ≡ cond (was_read k) 1 0 + (if is_in k && not k.is_read then 1 else 0) =
+      ap (λ (x : Kept). cond (was_read x) 1 0) marked ∙ table k.is_out k.is_read in
+      omega (arith, reads, counted.reads, change, now));
+  writes =
+      (let change = one-changed has_data ks at k v within is in
+      let same : cond {A = ℕ} (has_data v) 1 0 ≡ cond (has_data k) 1 0 =
+      ap (λ (x : Kept). cond (has_data x) 1 0) marked in
+      omega (arith, writes, counted.writes, change, same));
+}
+  where
+    table : (out read : Bool) → cond {A = ℕ} (not out && true) 1 0
+        ≡ cond (not out && read) 1 0 + (if not out && not read then 1 else 0)
+    table true read = omega arith
+    table false true = omega arith
+    table false false = omega arith
+
+-- the counts once a take has returned one of the samples
+pub counted-out : (ks : List Kept) (at : ℕ) (k v : Kept) (old new : Counts) → at < length ks → k ≡ get_or ks at k
+    → v ≡ out_if true k → IsCounted ks old → new.outs ≡ old.outs + (if is_in k then 1 else 0)
+    → new.reads ≡ old.reads - (if was_read k then 1 else 0) → new.writes ≡ old.writes - (if has_data k then 1 else 0)
+    → IsCounted (set ks at v) new
+counted-out ks at k v old new within is marked counted outs reads writes = record {
+  outs =
+      (let change = one-changed was_taken ks at k v within is in
+      let now : cond {A = ℕ} (was_taken v) 1 0 ≡ cond (was_taken k) 1 0 + (if is_in k then 1 else 0) =
+      ap (λ (x : Kept). cond (was_taken x) 1 0) marked ∙ table k.is_out in
+      omega (arith, outs, counted.outs, change, now));
+  reads =
+      (let change = one-changed was_read ks at k v within is in
+      let none : cond {A = ℕ} (was_read v) 1 0 ≡ 0 = ap (λ (x : Kept). cond (was_read x) 1 0) marked in
+      let same : cond {A = ℕ} (was_read k) 1 0 ≡ (if was_read k then 1 else 0) = refl in
+      omega (arith, reads, counted.reads, change, none, same));
+  writes =
+      (let change = one-changed has_data ks at k v within is in
+      let none : cond {A = ℕ} (has_data v) 1 0 ≡ 0 = ap (λ (x : Kept). cond (has_data x) 1 0) marked in
+      let same : cond {A = ℕ} (has_data k) 1 0 ≡ (if has_data k then 1 else 0) = refl in
+      omega (arith, writes, counted.writes, change, none, same));
+}
+  where
+    table : (out : Bool) → cond {A = ℕ} true 1 0 ≡ cond out 1 0 + (if not out then 1 else 0)
+    table true = omega arith
+    table false = omega arith

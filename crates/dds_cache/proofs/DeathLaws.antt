@@ -61,7 +61,7 @@ newest-died q w moment h known_is k is_known same valid number disposed no_write
         no_writers_is = no_writers ∙ (is_known.no_writers_is ∙ ap (λ (x : Key). no_writers_generations q x g) same);
         timestamp_is = timestamp;
         publication_is = publication;
-        value_is = value;
+        value_is = λ _. value;
       };
     }
 

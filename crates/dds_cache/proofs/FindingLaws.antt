@@ -35,7 +35,7 @@ use Rattle.dds_cache.specs.Kept.{IsKept, is_live, sample_at, position_of, positi
 use Rattle.dds_cache.specs.Finding.{are_asked_for, is_asked_for, is_wanted, described_by, IsFound, IsCandidate, AreCandidates, Holds, sample_in, sample_of, handle_in, passes}
 use Rattle.dds_base.proofs.KeyLaws.{key-same, same_key-comm}
 use Rattle.dds_cache.proofs.EndLaws.{handle-bounds, handles-rise}
-use Rattle.dds_cache.proofs.KeptLaws.{live-present}
+use Rattle.dds_cache.proofs.KeptLaws.{live-present, present-in}
 use Rattle.dds_cache.proofs.RiseLaws.{by-key}
 use Rattle.dds_cache.proofs.GroupLaws.{group, groups, grouped, flat_map-same}
 
@@ -58,12 +58,17 @@ pub found-is : (q : ReaderQos) (h : List Happening) (masks : Masks) (test : Key 
     → (is_live q known_is k && (are_asked_for masks (if k.is_read then HasBeenRead else NotRead) known_is.view
     (Some known_is.state) && test k.sample.key k.value)) ≡ is_wanted q h masks test k
 found-is q h masks test known_is k is_known key kept =
-    ap (λ (b : Bool). b && (are_asked_for masks (if k.is_read then HasBeenRead else NotRead) known_is.view
-    (Some known_is.state) && test k.sample.key k.value)) (live-present q h known_is k is_known key kept)
-    ∙ (ap (λ (b : Bool). is_present q h k.sample.key k.sample.position && (b && test k.sample.key k.value))
+    let asked : Bool = are_asked_for masks (if k.is_read then HasBeenRead else NotRead) known_is.view
+    (Some known_is.state) && test k.sample.key k.value in
+    ap (λ (b : Bool). b && asked) (live-present q h known_is k is_known key kept)
+    ∙ ⊎_elim
+    (λ there. ap (λ (b : Bool). is_present q h k.sample.key k.sample.position && (b && test k.sample.key k.value))
     (asked-is q h masks known_is k is_known key kept)
     ∙ ap (λ (v : List ℕ). is_present q h k.sample.key k.sample.position
-    && (meets q h masks k.sample && test k.sample.key v)) kept.is_of.value_is)
+    && (meets q h masks k.sample && test k.sample.key v)) (kept.is_of.value_is (present-in q h k kept there)))
+    (λ gone. ap (λ (b : Bool). b && asked) gone
+    ∙ sym (ap (λ (b : Bool). b && is_asked_for q h masks test k.sample) gone))
+    (cases_Bool (is_present q h k.sample.key k.sample.position))
 
 -- what is said of it before its ranks
 pub described-is : (q : ReaderQos) (h : List Happening) (known_is : KnownInstance) (k : Kept) → IsKnown q h known_is

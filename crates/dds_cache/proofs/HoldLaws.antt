@@ -22,10 +22,11 @@ use Rattle.dds_base.proofs.KeyLaws.{key-same}
 use Rattle.dds_instances.specs.Table.{Table}
 use Rattle.dds_cache.specs.declared.kept.Kept.{Kept}
 use Rattle.dds_cache.specs.Finding.{Holds}
-use Rattle.dds_cache.specs.Kept.{IsFresh, IsKept, is_among, is_here, position_of, positions_in, sample_at}
+use Rattle.dds_cache.specs.Kept.{IsFresh, IsKept, is_among, is_here, out_if, position_of, positions_in, sample_at, taken}
 use Rattle.dds_cache.proofs.PresenceLaws.{present-reached, reached}
 use Rattle.dds_cache.proofs.StandingLaws.{apart-taken, holds-apart}
-use Rattle.dds_cache.specs.Sweeping.{stays}
+use Rattle.dds_base.specs.Instance.{is_known}
+use Rattle.dds_cache.specs.Sweeping.{stays, stays_of}
 use Rattle.dds_cache.proofs.SweepLaws.{IsApart, stays-present}
 
 -- ---- whether something of an instance is present
@@ -138,6 +139,42 @@ left-there q ss h table i ks holds =
     (λ j within. present-reached q (Took ss) h i j (omega (arith, within)))
     ∙ ap (λ (b : Bool). has_there q g i (if b then Some (length h + 1) else last_marker q i h))
     (quiet-unmarked q i h (Took ss) refl refl)))
+
+-- what a sweep would leave of an instance, of what is kept, is what is present of it
+pub any-stays : (q : ReaderQos) (h : List Happening) (i : Key) (ks : List Kept) → All (IsKept q h) ks
+    → list_any (stays_of q h i) ks ≡ list_any (is_here q h i) ks
+any-stays q h i ks each =
+    any-agree (stays_of q h i) (is_here q h i) ks
+    (λ n d within. sym (here-by q h i (get_or ks n d) (stays q h (get_or ks n d)) (each n d within) refl))
+
+-- once those that a take returned are marked, it is what is present of the others
+pub marked-there : (q : ReaderQos) (ss : List SamplePosition) (h : List Happening) (i : Key) (ks : List Kept)
+    → All (IsKept q h) ks
+    → list_any (stays_of q h i) (map (taken ss) ks) ≡ list_any (is_here q h i) (filter (λ k. not (is_among ss k)) ks)
+marked-there q ss h i [] each = refl
+marked-there q ss h i (k ∷ ks) each =
+    one (is_among ss k) (here-by q h i k (stays q h k) (All-head (IsKept q h) k ks each) refl)
+    (marked-there q ss h i ks (All-tail (IsKept q h) k ks each))
+  where
+    rest : List Kept
+    rest = filter (λ x. not (is_among ss x)) ks
+
+    gone : (a b : Bool) → (a && (b && false)) ≡ false
+    gone true true = refl
+    gone true false = refl
+    gone false b = refl
+
+    one : (b : Bool) → is_here q h i k ≡ (same_key k.sample.key i && stays q h k)
+        → list_any (stays_of q h i) (map (taken ss) ks) ≡ list_any (is_here q h i) rest
+        → (stays_of q h i (out_if b k) || list_any (stays_of q h i) (map (taken ss) ks))
+        ≡ list_any (is_here q h i) (cond (not b) (k ∷ rest) rest)
+    one true here later =
+        ap (λ (x : Bool). x || list_any (stays_of q h i) (map (taken ss) ks))
+        (gone (same_key k.sample.key i) (is_known q h k.sample.key))
+        ∙ later
+    one false here later =
+        ap (λ (x : Bool). x || list_any (stays_of q h i) (map (taken ss) ks)) (sym here)
+        ∙ ap (λ (x : Bool). is_here q h i k || x) later
 
 -- ---- whether a change ends a life
 

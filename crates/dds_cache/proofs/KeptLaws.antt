@@ -2,6 +2,7 @@
 use Rattle.std.proofs.Common.{◌≡◌, ℕ, ◌+◌, ◌-◌, List, [], ◌∷◌, length, Bool, true, false, not, ◌&&◌, ◌||◌, sym, ap, ◌∙◌, refl, subst, Option, Some, None, arith}
 use Rattle.std.specs.Prelude.{if◌then◌else◌, is_some, IfSome, MatchOption}
 use Rattle.std.specs.List.{list_any}
+use Rattle.std.proofs.lemmas.Bool.{and_parts}
 use Rattle.dds_base.specs.declared.key.Key.{Key}
 use Rattle.dds_base.specs.declared.happening.Arrival.{Arrival}
 use Rattle.dds_base.specs.declared.happening.Happening.TheVariants.{Came}
@@ -32,12 +33,16 @@ number-next : (ends : Bool) (more all own past number : ℕ) → ends ≡ false 
 number-next true more all own past number is before = absurd (let clash : true ≡ false = is in cc)
 number-next false more all own past number is before = omega (arith, before)
 
+or-false : (a b : Bool) → (a || b) ≡ false → b ≡ false
+or-false true b e = absurd cc
+or-false false b e = e
+
 -- of an instance that is still known
-pub kept-next : (q : ReaderQos) (e : Happening) (h : List Happening) (k : Kept) (r : Bool)
-    → is_known q (e ∷ h) k.sample.key ≡ true → list_any (same_sample k.sample) (taken_by e) ≡ false
-    → r ≡ (list_any (same_sample k.sample) (read_by e) || k.is_read) → IsKept q h k
-    → IsKept q (e ∷ h) (record k { is_read = r })
-kept-next q e h k r lives untaken read_is kept =
+pub kept-next : (q : ReaderQos) (e : Happening) (h : List Happening) (k : Kept) (r o : Bool) (v : List ℕ)
+    → is_known q (e ∷ h) k.sample.key ≡ true → r ≡ (list_any (same_sample k.sample) (read_by e) || k.is_read)
+    → o ≡ (list_any (same_sample k.sample) (taken_by e) || k.is_out) → (o ≡ false → v ≡ k.value) → IsKept q h k
+    → IsKept q (e ∷ h) (record k { is_read = r; is_out = o; value = v })
+kept-next q e h k r o v lives read_is out_is value_is kept =
     let i : Key = k.sample.key in
     let older : as_of k.sample.position (e ∷ h) ≡ as_of k.sample.position h =
     as_of-older e h k.sample.position kept.in_past in
@@ -51,9 +56,8 @@ kept-next q e h k r lives untaken read_is kept =
           number-next (ends_life q i h e) (if is_write (accepted_kind q i h e) then 1 else 0) _ _ _ k.number
           (known-lives q e h i lives) kept.numbered
           ∙ ap (λ (g : List Happening). writes_in_life q i (e ∷ h) + accepted_writes q i g) (sym older);
-      untaken = ap (λ (b : Bool). b || is_taken k.sample h) untaken ∙ kept.untaken;
+      out_is = out_is ∙ ap (λ (b : Bool). list_any (same_sample k.sample) (taken_by e) || b) kept.out_is;
       read_is = read_is ∙ ap (λ (b : Bool). list_any (same_sample k.sample) (read_by e) || b) kept.read_is;
-      stays = kept.stays;
       is_of =
           record {
             valid_is = past.valid_is;
@@ -63,7 +67,8 @@ kept-next q e h k r lives untaken read_is kept =
             timestamp_is = past.timestamp_is;
             publication_is = past.publication_is;
             value_is =
-                past.value_is;
+                λ stays. value_is stays
+                ∙ past.value_is (or-false (list_any (same_sample k.sample) (taken_by e)) k.is_out (sym out_is ∙ stays));
           };
     }
 
@@ -78,10 +83,21 @@ live-by-present q h k kept =
     let j : ℕ = k.sample.position in
     let later : writes_in_life q i h - k.number ≡ accepted_writes q i h - accepted_writes q i (as_of j h) =
     omega (arith, kept.numbered) in
-    ap (λ (b : Bool). (b && keeps q.history (writes_in_life q i h - k.number)) || is_at (last_marker q i h) j)
-    kept.is_of.valid_is
-    ∙ (ap (λ (n : ℕ). (ends_with_write q i (as_of j h) && keeps q.history n) || is_at (last_marker q i h) j) later
-    ∙ sym (ap (λ (b : Bool). not b && (is_kept_write q h i j || is_at (last_marker q i h) j)) kept.untaken))
+    ap (λ (b : Bool). not k.is_out && ((b && keeps q.history (writes_in_life q i h - k.number))
+    || is_at (last_marker q i h) j)) kept.is_of.valid_is
+    ∙ (ap (λ (n : ℕ). not k.is_out && ((ends_with_write q i (as_of j h) && keeps q.history n)
+    || is_at (last_marker q i h) j)) later
+    ∙ ap (λ (b : Bool). not b && (is_kept_write q h i j || is_at (last_marker q i h) j)) kept.out_is)
+
+not-true : (b : Bool) → not b ≡ true → b ≡ false
+not-true true e = absurd (let clash : false ≡ true = e in cc)
+not-true false e = refl
+
+-- no take returned a kept sample that is present
+pub present-in : (q : ReaderQos) (h : List Happening) (k : Kept) → IsKept q h k
+    → is_present q h k.sample.key k.sample.position ≡ true → k.is_out ≡ false
+present-in q h k kept present =
+    kept.out_is ∙ not-true (is_taken k.sample h) (and_parts (not (is_taken k.sample h)) _ present).0
 
 -- what is known of an instance says of a kept sample of it whether it is live
 pub live-known : (q : ReaderQos) (h : List Happening) (known : KnownInstance) (k : Kept) → IsKnown q h known
@@ -148,14 +164,14 @@ kept-newest q e h i known_is k taken read fresh sample stays is_known key newest
           ap (λ (x : Key). list_any (λ y. same_key y x) (known_instances q (e ∷ h))) (key_is ∙ sym key)
           ∙ known-stated q (e ∷ h) known_is.key known_is.state is_known.state_is;
       handle_is = newest.handle_is;
-      untaken =
-          ap (λ (ss : List SamplePosition). list_any (same_sample k.sample) ss || is_taken k.sample h) taken
-          ∙ (ap (λ (s : SamplePosition). is_taken s h) sample ∙ fresh.untaken);
+      out_is =
+          stays
+          ∙ sym (ap (λ (ss : List SamplePosition). list_any (same_sample k.sample) ss || is_taken k.sample h) taken
+          ∙ (ap (λ (s : SamplePosition). is_taken s h) sample ∙ fresh.untaken));
       read_is =
           newest.read_is
           ∙ sym (ap (λ (ss : List SamplePosition). list_any (same_sample k.sample) ss || is_read k.sample h) read
           ∙ (ap (λ (s : SamplePosition). is_read s h) sample ∙ fresh.unread));
-      stays = stays;
       numbered =
           (let sum : accepted_writes q k.sample.key (e ∷ h) + k.number
           ≡ writes_in_life q k.sample.key (e ∷ h) + accepted_writes q k.sample.key (e ∷ h) =
@@ -197,7 +213,7 @@ newest-came q a h known_is k is_known key sample valid number disposed no_writer
         timestamp_is = timestamp;
         publication_is = publication;
         value_is =
-            value ∙ (ap (λ (b : Bool). value_if b a.change.value) valid
+            λ _. value ∙ (ap (λ (b : Bool). value_if b a.change.value) valid
             ∙ ap (λ (x : Key). newest_value q x g) (sym sample));
       };
     }

@@ -1,5 +1,5 @@
 -- The kept samples that an access returned are found again at the places of the candidates.
-use Rattle.std.proofs.Common.{◌≡◌, ℕ, zero, suc, ◌+◌, ◌≤◌, ◌<◌, ◌≢◌, List, [], ◌∷◌, ◌++◌, length, map, filter, get_or, set, take, Bool, true, false, not, ◌&&◌, ◌||◌, ◌==◌, cond, sym, ap, ◌∙◌, refl, subst, arith, ⊎_elim, Option, Some, None}
+use Rattle.std.proofs.Common.{◌≡◌, ℕ, zero, suc, ◌+◌, ◌≤◌, ◌<◌, ◌≢◌, List, [], ◌∷◌, ◌++◌, length, map, filter, get_or, set, take, Bool, true, false, ◌&&◌, ◌||◌, ◌==◌, cond, sym, ap, ◌∙◌, refl, subst, arith, ⊎_elim, Option, Some, None}
 use Rattle.std.specs.Prelude.{nat_lt}
 use Rattle.std.specs.List.{list_any, All, count_by}
 use Rattle.std.proofs.lemmas.Bool.{and_parts, cases_Bool}
@@ -28,7 +28,7 @@ use Rattle.dds_cache.specs.declared.access.Candidate.{Candidate}
 use Rattle.dds_cache.specs.declared.access_kind.AccessKind.{AccessKind}
 use Rattle.dds_cache.specs.declared.access_kind.AccessKind.TheVariants.{Read, Take}
 use Rattle.dds_cache.specs.declared.kept.Kept.{Kept}
-use Rattle.dds_cache.specs.Kept.{IsIn, is_among, is_here, out_if, read_if, position_of, positions_in, sample_at, IsKept}
+use Rattle.dds_cache.specs.Kept.{is_among, is_here, out_if, read_if, position_of, positions_in, sample_at, IsKept}
 use Rattle.dds_cache.specs.Settling.{settled}
 use Rattle.dds_cache.specs.Finding.{AreAt, AreChanged, Holds, IsCandidate, IsSmall, is_place, sample_in, AreApart, is_asked_for, passes}
 use Rattle.dds_cache.specs.Picking.{Picks}
@@ -385,25 +385,6 @@ changed-among change ss cs old new changed at_places =
     ∙ (ap (λ (b : Bool). change b (get_or old at d)) (sym (at_places at d inside))
     ∙ sym (get_or-map (λ k. change (is_among ss k) k) old at d d inside)))
 
--- those that are out are those among the samples
-pub removed-among : (ss : List SamplePosition) (ks : List Kept) → All IsIn ks
-    → filter (λ k. not k.is_out) (map (λ k. out_if (is_among ss k) k) ks) ≡ filter (λ k. not (is_among ss k)) ks
-removed-among ss [] all = refl
-removed-among ss (k ∷ ks) all =
-    one (is_among ss k) k.is_out k (removed-among ss ks (All-tail IsIn k ks all)) (All-head IsIn k ks all) refl
-  where
-    one : (b out : Bool) (k : Kept)
-        → filter (λ k. not k.is_out) (map (λ k. out_if (is_among ss k) k) ks) ≡ filter (λ k. not (is_among ss k)) ks
-        → out ≡ false → k.is_out ≡ out
-        → cond (not (b || k.is_out)) (out_if b k ∷ filter (λ k. not k.is_out) (map (λ k. out_if (is_among ss k) k) ks))
-        (filter (λ k. not k.is_out) (map (λ k. out_if (is_among ss k) k) ks))
-        ≡ cond (not b) (k ∷ filter (λ k. not (is_among ss k)) ks) (filter (λ k. not (is_among ss k)) ks)
-    one true out k rest inside is = rest
-    one false out k rest inside is =
-        ap (λ (b : Bool). cond (not b) (k ∷ filter (λ k. not k.is_out) (map (λ k. out_if (is_among ss k) k) ks))
-        (filter (λ k. not k.is_out) (map (λ k. out_if (is_among ss k) k) ks))) (is ∙ inside)
-        ∙ ap (λ (xs : List Kept). k ∷ xs) rest
-
 -- a change of marks leaves the counts
 pub small-changed : (change : Bool → Kept → Kept) (cs : List Candidate) (old new : List Kept)
     → ((b : Bool) (k : Kept) → IsSmall k → IsSmall (change b k)) → AreChanged change cs old new → All IsSmall old
@@ -422,6 +403,6 @@ settled-none Read ss (k ∷ ks) at_places =
     ∙ ap (λ (xs : List Kept). k ∷ xs)
     (settled-none Read ss ks (λ at d within. at_places (suc at) d (omega (arith, within))))
 settled-none Take ss (k ∷ ks) at_places =
-    ap (λ (b : Bool). cond (not b) (k ∷ settled Take ss ks) (settled Take ss ks)) (at_places 0 k (omega arith))
+    ap (λ (b : Bool). out_if b k ∷ settled Take ss ks) (at_places 0 k (omega arith))
     ∙ ap (λ (xs : List Kept). k ∷ xs)
     (settled-none Take ss ks (λ at d within. at_places (suc at) d (omega (arith, within))))

@@ -34,7 +34,7 @@ use Rattle.dds_cache.specs.Sweeping.{stays}
 use Rattle.dds_cache.proofs.EndLaws.{known, known-accepted, short}
 use Rattle.dds_cache.proofs.PresenceLaws.{count-grew, ended-absent, filter-narrow, present-reached, reached, unmarked-other}
 use Rattle.dds_cache.proofs.StandingLaws.{adds-nothing, adds-one, each-after, present-after}
-use Rattle.dds_cache.proofs.SweepLaws.{Leaves, apart-quiet, leaves-swept, present-stays}
+use Rattle.dds_cache.proofs.SweepLaws.{Leaves, apart-quiet, leaves-swept, present-stays, ripe-one}
 use Rattle.dds_cache.proofs.GroupLaws.{unequal}
 use Rattle.dds_cache.proofs.CountLaws.{present-count}
 use Rattle.dds_cache.proofs.CountedLaws.{count-agree}
@@ -53,12 +53,13 @@ marker-older q e h i j older =
     ∙ sym (ap (λ (b : Bool). not b && is_at (last_marker q i h) j) unmarked))
     (cases_Bool (marks q i h e))
 
-write-table : (v k m : Bool) → (v && (k || m)) ≡ (((v && k) || m) && v)
-write-table true true m = refl
-write-table true false true = refl
-write-table true false false = refl
-write-table false k true = refl
-write-table false k false = refl
+write-table : (o v k m : Bool) → (not o && (v && (k || m))) ≡ ((not o && ((v && k) || m)) && v)
+write-table true v k m = refl
+write-table false true true m = refl
+write-table false true false true = refl
+write-table false true false false = refl
+write-table false false k true = refl
+write-table false false k false = refl
 
 -- a kept sample is a present write after an entry that is no access
 write-next : (q : ReaderQos) (a : Arrival) (h : List Happening) (known : KnownInstance) (k : Kept) → IsKnown q h known
@@ -87,18 +88,18 @@ write-next q a h known k is_known key kept =
     let at : (not m && is_at known.last_marker j) ≡ is_at m' j =
     ap (λ (x : Option ℕ). not m && is_at x j) marker ∙ sym (marker-older q e h i j kept.in_past) in
     let valid : k.valid_data ≡ ends_with_write q i (as_of j h) = kept.is_of.valid_is in
-    ap (λ (n : ℕ). k.valid_data && (keeps q.history n || (not m && is_at known.last_marker j))) later
-    ∙ (ap (λ (b : Bool). k.valid_data && (keeps q.history
-    (accepted_writes q i (e ∷ h) - accepted_writes q i (as_of j h)) || b)) at
-    ∙ (ap (λ (b : Bool). b && (keeps q.history (accepted_writes q i (e ∷ h) - accepted_writes q i (as_of j h)) || is_at
-    m' j)) valid
-    ∙ (write-table (ends_with_write q i (as_of j h))
+    ap (λ (n : ℕ). not k.is_out && (k.valid_data && (keeps q.history n || (not m && is_at known.last_marker j)))) later
+    ∙ (ap (λ (b : Bool). not k.is_out && (k.valid_data && (keeps q.history
+    (accepted_writes q i (e ∷ h) - accepted_writes q i (as_of j h)) || b))) at
+    ∙ (ap (λ (b : Bool). not k.is_out && (b && (keeps q.history
+    (accepted_writes q i (e ∷ h) - accepted_writes q i (as_of j h)) || is_at m' j))) valid
+    ∙ (write-table k.is_out (ends_with_write q i (as_of j h))
     (keeps q.history (accepted_writes q i (e ∷ h) - accepted_writes q i (as_of j h))) (is_at m' j)
-    ∙ (ap (λ (g : List Happening).
-    ((ends_with_write q i g && keeps q.history (accepted_writes q i (e ∷ h) - accepted_writes q i g)) || is_at m' j)
+    ∙ (ap (λ (g : List Happening). (not k.is_out
+    && ((ends_with_write q i g && keeps q.history (accepted_writes q i (e ∷ h) - accepted_writes q i g)) || is_at m' j))
     && ends_with_write q i g) (sym past)
-    ∙ (sym (ap (λ (b : Bool). (not b && (is_kept_write q (e ∷ h) i j || is_at m' j))
-    && ends_with_write q i (as_of j (e ∷ h))) kept.untaken)
+    ∙ (ap (λ (b : Bool). (not b && (is_kept_write q (e ∷ h) i j || is_at m' j))
+    && ends_with_write q i (as_of j (e ∷ h))) kept.out_is
     ∙ sym (ap (λ (b : Bool). b && ends_with_write q i (as_of j (e ∷ h)))
     (present-reached q e h i j (omega (arith, kept.in_past)))))))))
 
@@ -128,13 +129,13 @@ write-after q a h known k w m written marked is_known key kept =
     flipped : (x y : Key) → same_key x y ≡ false → same_key y x ≡ false
     flipped x y other = same_key-comm y x ∙ other
 
-keep-table : (t v m : Bool) → t ≡ false → ((not t && ((v && true) || m)) && v) ≡ v
-keep-table true v m e = absurd cc
-keep-table false true m e = refl
-keep-table false false true e = refl
-keep-table false false false e = refl
+keep-table : (t v m : Bool) → ((not t && ((v && true) || m)) && v) ≡ (not t && v)
+keep-table true v m = refl
+keep-table false true m = refl
+keep-table false false true = refl
+keep-table false false false = refl
 
--- where the history keeps all, a kept sample is a present write after an entry if it has data
+-- where the history keeps all, a kept sample is a present write after an entry if it has data, and no take returned it
 write-kept : (q : ReaderQos) (e : Happening) (h : List Happening) (k : Kept) → q.history ≡ KeepAll → taken_by e ≡ []
     → IsKept q h k → is_present_write q (e ∷ h) k ≡ has_data k
 write-kept q e h k all untaken kept =
@@ -143,14 +144,16 @@ write-kept q e h k all untaken kept =
     let past : as_of j (e ∷ h) ≡ as_of j h = as_of-older e h j kept.in_past in
     let w : Bool = ends_with_write q i (as_of j (e ∷ h)) in
     let m : Option ℕ = reached q i h e in
-    let gone : is_taken k.sample (e ∷ h) ≡ false =
-    ap (λ (ss : List SamplePosition). list_any (same_sample k.sample) ss || is_taken k.sample h) untaken ∙ kept.untaken
-    in
+    let out : is_taken k.sample (e ∷ h) ≡ k.is_out =
+    ap (λ (ss : List SamplePosition). list_any (same_sample k.sample) ss || is_taken k.sample h) untaken
+    ∙ sym kept.out_is in
     ap (λ (b : Bool). b && w) (present-reached q e h i j (omega (arith, kept.in_past)))
     ∙ (ap (λ (history : HistoryQos). (not (is_taken k.sample (e ∷ h))
     && ((w && keeps history (later_writes q (e ∷ h) i j)) || is_at m j)) && w) all
-    ∙ (keep-table (is_taken k.sample (e ∷ h)) w (is_at m j) gone
-    ∙ (ap (λ (g : List Happening). ends_with_write q i g) past ∙ sym kept.is_of.valid_is)))
+    ∙ (keep-table (is_taken k.sample (e ∷ h)) w (is_at m j)
+    ∙ (ap (λ (b : Bool). not b && w) out
+    ∙ (ap (λ (g : List Happening). not k.is_out && ends_with_write q i g) past
+    ∙ ap (λ (b : Bool). not k.is_out && b) (sym kept.is_of.valid_is)))))
 
 -- so as many are present writes after a change as have data
 pub writes-all : (q : ReaderQos) (a : Arrival) (h : List Happening) (ks : List Kept) → q.history ≡ KeepAll
@@ -193,7 +196,7 @@ newest-kept q a h fresh known present =
       no_writers_is = refl;
       timestamp_is = refl;
       publication_is = refl;
-      value_is = refl;
+      value_is = λ _. refl;
     } in
     record {
       sample_is = refl;
@@ -201,9 +204,8 @@ newest-kept q a h fresh known present =
         in_past = omega arith;
         is_known = known;
         handle_is = refl;
-        untaken = fresh.untaken;
+        out_is = sym fresh.untaken;
         read_is = sym fresh.unread;
-        stays = refl;
         numbered =
             (let sum : accepted_writes q a.change.key g + writes_in_life q a.change.key g
             ≡ writes_in_life q a.change.key g + accepted_writes q a.change.key g = omega arith in sum)
@@ -232,7 +234,7 @@ count-swept q e h ks taken read each =
     sym (length-filter p (filter (stays q (e ∷ h)) ks))
     ∙ (ap length (filter-narrow (stays q (e ∷ h)) p ks
     (All-weaker (IsKept q h) (λ (k : Kept). p k ≡ true → stays q (e ∷ h) k ≡ true)
-    (λ k kept there. present-stays q e h k.sample.key k (apart-quiet e k taken read) kept
+    (λ k kept there. present-stays q e h k.sample.key k (ripe-one q e h k (apart-quiet e k taken read) kept)
     (ap (λ (b : Bool). b && is_present q (e ∷ h) k.sample.key k.sample.position) (same_key-refl k.sample.key)
     ∙ (and_parts (is_present q (e ∷ h) k.sample.key k.sample.position) _ there).0)) ks each))
     ∙ length-filter p ks)
@@ -307,7 +309,7 @@ leaves-write q a h w m written marked fresh =
     ∙ (let none : accepted_writes q i g - accepted_writes q i g ≡ 0 = omega arith in none) in
     ap (λ (b : Bool). b && (keeps q.history 0 || m)) written
     ∙ (ap (λ (b : Bool). ends_with_write q i g && (keeps q.history 0 || b)) marker
-    ∙ (write-table (ends_with_write q i g) (keeps q.history 0) (is_at m' n)
+    ∙ (write-table false (ends_with_write q i g) (keeps q.history 0) (is_at m' n)
     ∙ (ap (λ (x : ℕ). ((ends_with_write q i g && keeps q.history x) || is_at m' n) && ends_with_write q i g) (sym later)
     ∙ (ap (λ (x : List Happening).
     ((ends_with_write q i x && keeps q.history (later_writes q g i n)) || is_at m' n) && ends_with_write q i g)

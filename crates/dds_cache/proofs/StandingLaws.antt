@@ -24,16 +24,16 @@ use Rattle.dds_cache.specs.declared.collection.Access.{Access}
 use Rattle.dds_cache.specs.Finding.{AreApart, Holds, IsCandidate, sample_in}
 use Rattle.dds_cache.specs.Picking.{Picks, IsAccess, collected}
 use Rattle.dds_cache.specs.declared.kept.Kept.{Kept}
-use Rattle.dds_cache.specs.Kept.{IsKept, IsKeptAt, IsFresh, IsNewAt, Adds, sample_at, is_here, position_of, positions_in, is_among, marked}
+use Rattle.dds_cache.specs.Kept.{IsKept, IsKeptAt, IsFresh, IsNewAt, Adds, sample_at, is_here, is_in, position_of, positions_in, is_among, marked, taken}
 use Rattle.dds_cache.specs.declared.access_kind.AccessKind.{AccessKind}
 use Rattle.dds_cache.specs.declared.access_kind.AccessKind.TheVariants.{Read as Reading, Take as Taking}
-use Rattle.dds_cache.specs.Sweeping.{left_since, stays}
+use Rattle.dds_cache.specs.Sweeping.{AreIn, left_since, stays}
 use Rattle.dds_base.specs.Instance.{known_instances}
 use Rattle.dds_cache.specs.Standing.{Stored, StandsFor, entry_of}
 use Rattle.dds_cache.proofs.PresenceLaws.{here-append, present-next, present-dropped, quiet-absent, other-absent}
 use Rattle.dds_cache.proofs.EndLaws.{known, still-quiet}
-use Rattle.dds_cache.proofs.KeptLaws.{kept-next}
-use Rattle.dds_cache.proofs.SweepLaws.{IsApart, Leaves, all-filtered, apart-quiet, here-stays, leaves-all, leaves-since, past-kept}
+use Rattle.dds_cache.proofs.KeptLaws.{kept-next, present-in}
+use Rattle.dds_cache.proofs.SweepLaws.{IsApart, IsRipe, Leaves, all-filtered, apart-quiet, here-stays, leaves-all, past-kept, ripe-since}
 use Rattle.dds_cache.proofs.GroupLaws.{unequal}
 use Rattle.dds_cache.proofs.PlaceLaws.{apart-picked}
 use Rattle.dds_cache.proofs.DataLaws.{brings-added, none-noted}
@@ -231,18 +231,23 @@ stands-still h old new qos samples counted noted instances stands =
 
 -- ---- a read
 
-positions-marked : (q : ReaderQos) (g : List Happening) (i : Key) (ss : List SamplePosition) (ks : List Kept)
-    → positions_in q g i (map (marked ss) ks) ≡ positions_in q g i ks
-positions-marked q g i ss [] = refl
-positions-marked q g i ss (k ∷ ks) = one (is_here q g i k) k (positions-marked q g i ss ks)
+-- a mark leaves the positions
+positions-marked : (q : ReaderQos) (g : List Happening) (i : Key) (mark : Kept → Kept) (ks : List Kept)
+    → ((k : Kept) → (mark k).sample ≡ k.sample) → positions_in q g i (map mark ks) ≡ positions_in q g i ks
+positions-marked q g i mark [] same = refl
+positions-marked q g i mark (k ∷ ks) same =
+    ap (λ (s : SamplePosition). map position_of (cond (same_key s.key i && is_present q g i s.position)
+    (mark k ∷ filter (is_here q g i) (map mark ks)) (filter (is_here q g i) (map mark ks)))) (same k)
+    ∙ one (is_here q g i k) (positions-marked q g i mark ks same)
   where
-    one : (b : Bool) (k : Kept) → map position_of (filter (is_here q g i) (map (marked ss) ks))
-        ≡ map position_of (filter (is_here q g i) ks)
-        → map position_of (cond b (marked ss k ∷ filter (is_here q g i) (map (marked ss) ks))
-        (filter (is_here q g i) (map (marked ss) ks)))
+    one : (b : Bool) → positions_in q g i (map mark ks) ≡ positions_in q g i ks
+        → map position_of (cond b (mark k ∷ filter (is_here q g i) (map mark ks))
+        (filter (is_here q g i) (map mark ks)))
         ≡ map position_of (cond b (k ∷ filter (is_here q g i) ks) (filter (is_here q g i) ks))
-    one true k rest = ap (λ (ps : List ℕ). position_of k ∷ ps) rest
-    one false k rest = rest
+    one true rest =
+        ap (λ (s : SamplePosition). s.position ∷ positions_in q g i (map mark ks)) (same k)
+        ∙ ap (λ (ps : List ℕ). position_of k ∷ ps) rest
+    one false rest = rest
 
 -- samples of the past are none of what has not happened
 none-later : (h : List Happening) (i : Key) (j : ℕ) (ss : List SamplePosition) → length h < j
@@ -269,14 +274,14 @@ holds-read q ss h before table ks stands kept =
       each =
           All-map (IsKept q (e ∷ h)) (marked ss) ks
           (All-weaker (IsKept q h) (λ (k : Kept). IsKept q (e ∷ h) (marked ss k))
-          (λ k is. kept-next q e h k (is_among ss k || k.is_read)
-          (still-quiet q e h k.sample.key refl refl refl (sym (known q h k.sample.key) ∙ is.is_known)) refl refl is)
-          ks kept.each);
+          (λ k is. kept-next q e h k (is_among ss k || k.is_read) k.is_out k.value
+          (still-quiet q e h k.sample.key refl refl refl (sym (known q h k.sample.key) ∙ is.is_known)) refl refl
+          (λ _. refl) is) ks kept.each);
       past =
           All-map (λ (k : Kept). position_of k ≤ length h) (marked ss) ks
           (All-weaker (λ (k : Kept). position_of k ≤ length h) (λ (k : Kept). position_of (marked ss k) ≤ length h)
           (λ k is. is) ks (past-kept q h ks kept.each));
-      same = λ i. positions-marked q (e ∷ h) i ss ks;
+      same = λ i. positions-marked q (e ∷ h) i (marked ss) ks (λ k. refl);
     })
     (adds-none q e h (map (marked ss) ks) (λ i. quiet-absent q e h i refl refl))
     kept
@@ -324,26 +329,57 @@ holds-apart q ss h table i ks kept =
     ∙ sym (present-dropped q (Took ss ∷ h) i (λ k. not (is_among ss k)) ks
     (λ k d within. here-untaken q ss h i (get_or ks k d))))
 
--- the samples that a take returned are gone, and those of the lives that it ended
+-- a sample is marked as one that a take returned, if it was returned, and is then what is kept of it
+ripe-taken : (q : ReaderQos) (ss : List SamplePosition) (h : List Happening) (k : Kept) → IsKept q h k
+    → IsRipe q (Took ss) h (taken ss k)
+ripe-taken q ss h k kept = record {
+  past = kept.in_past;
+  was_known = sym (known q h k.sample.key) ∙ kept.is_known;
+  kept = λ lives.
+      kept-next q (Took ss) h k k.is_read (is_among ss k || k.is_out) (if is_among ss k then [] else k.value) lives refl
+      refl (value-stays (is_among ss k)) kept;
+}
+  where
+    value-stays : (b : Bool) → (b || k.is_out) ≡ false → (if b then [] else k.value) ≡ k.value
+    value-stays true e = absurd (let clash : true ≡ false = e in cc)
+    value-stays false e = refl
+
+-- the samples that a take returned are marked, and those of the lives that it ended are gone
 pub holds-took : (q : ReaderQos) (ss : List SamplePosition) (h : List Happening) (before table : Table) (known : ℕ)
     (ks : List Kept) → known ≡ length (known_instances q h) → Stands q table (Took ss ∷ h) → Holds q before ks h
-    → Holds q table (left_since q (Took ss ∷ h) known (filter (λ k. not (is_among ss k)) ks)) (Took ss ∷ h)
+    → Holds q table (left_since q (Took ss ∷ h) known (map (taken ss) ks)) (Took ss ∷ h)
 holds-took q ss h before table known ks counted stands kept =
     let e : Happening = Took ss in
-    let keep : Kept → Bool = λ k. not (is_among ss k) in
-    let left : Leaves q e h (filter keep ks) (left_since q (e ∷ h) known (filter keep ks)) =
-    leaves-since q e h known (filter keep ks) counted (apart-taken ss ks) (All-filter keep (IsKept q h) ks kept.each) in
-    holds-next q e h before table ks (left_since q (e ∷ h) known (filter keep ks))
-    (left_since q (e ∷ h) known (filter keep ks)) stands
-    (record {
-      each = left.each;
-      past = left.past;
-      same = λ i.
-          left.same i
-          ∙ present-dropped q (e ∷ h) i keep ks (λ k d within. here-untaken q ss h i (get_or ks k d));
-    })
-    (adds-none q e h (left_since q (e ∷ h) known (filter keep ks)) (λ i. quiet-absent q e h i refl refl))
-    kept
+    let left : List Kept = left_since q (e ∷ h) known (map (taken ss) ks) in
+    holds-next q e h before table ks left left stands
+    (ripe-since q e h known ks (map (taken ss) ks) counted
+    (All-map (IsRipe q e h) (taken ss) ks
+    (All-weaker (IsKept q h) (λ (k : Kept). IsRipe q e h (taken ss k)) (λ k is. ripe-taken q ss h k is) ks kept.each))
+    (λ i. positions-marked q (e ∷ h) i (taken ss) ks (λ k. refl)))
+    (adds-none q e h left (λ i. quiet-absent q e h i refl refl)) kept
+
+-- those that takes returned can be let go
+pub holds-in : (q : ReaderQos) (table : Table) (h : List Happening) (ks left : List Kept) → AreIn ks left
+    → Holds q table ks h → Holds q table left h
+holds-in q table h ks left are kept =
+    ⊎_elim
+    (λ same. subst (λ (xs : List Kept). Holds q table xs h) (sym same) kept)
+    (λ fewer. subst (λ (xs : List Kept). Holds q table xs h) (sym fewer) (record {
+      instances = kept.instances;
+      each = All-filter is_in (IsKept q h) ks kept.each;
+      present = λ i.
+          kept.present i
+          ∙ sym (present-dropped q h i is_in ks
+          (All-weaker (IsKept q h) (λ (k : Kept). is_here q h i k ≡ true → is_in k ≡ true) (λ k is. here-in i k is) ks
+          kept.each));
+    }))
+    are
+  where
+    here-in : (i : Key) (k : Kept) → IsKept q h k → is_here q h i k ≡ true → is_in k ≡ true
+    here-in i k is here =
+        let both = and_parts (same_key k.sample.key i) (is_present q h i k.sample.position) here in
+        ap (λ (b : Bool). not b) (present-in q h k is
+        (ap (λ (x : Key). is_present q h x k.sample.position) (key-same k.sample.key i both.0) ∙ both.1))
 
 -- samples that are no longer present can be swept out
 pub stands-swept : (h : List Happening) (old new : Stored) (keep : Kept → Bool) → new.qos ≡ old.qos

@@ -101,67 +101,105 @@ apart-quiet e k taken read = record {
 kept-apart : (q : ReaderQos) (e : Happening) (h : List Happening) (k : Kept) → IsApart e k
     → is_known q (e ∷ h) k.sample.key ≡ true → IsKept q h k → IsKept q (e ∷ h) k
 kept-apart q e h k apart lives kept =
-    kept-next q e h k k.is_read lives apart.untaken (sym (ap (λ (b : Bool). b || k.is_read) apart.unread)) kept
+    kept-next q e h k k.is_read k.is_out k.value lives (sym (ap (λ (b : Bool). b || k.is_read) apart.unread))
+    (sym (ap (λ (b : Bool). b || k.is_out) apart.untaken)) (λ _. refl) kept
+
+-- a sample of the past, of an instance that was known: if that still is, what is kept of it is so after the entry
+pub record IsRipe (q : ReaderQos) (e : Happening) (h : List Happening) (k : Kept) : Type 0 where
+  pub past : k.sample.position ≤ length h
+  pub was_known : is_known q h k.sample.key ≡ true
+  pub kept : is_known q (e ∷ h) k.sample.key ≡ true → IsKept q (e ∷ h) k
+
+-- so one that was kept, where the entry did not return it
+pub ripe-one : (q : ReaderQos) (e : Happening) (h : List Happening) (k : Kept) → IsApart e k → IsKept q h k
+    → IsRipe q e h k
+ripe-one q e h k apart kept = record {
+  past = kept.in_past;
+  was_known = sym (known q h k.sample.key) ∙ kept.is_known;
+  kept = λ lives. kept-apart q e h k apart lives kept;
+}
+
+ripe-apart : (q : ReaderQos) (e : Happening) (h : List Happening) (ks : List Kept) → All (IsApart e) ks
+    → All (IsKept q h) ks → All (IsRipe q e h) ks
+ripe-apart q e h ks apart each =
+    λ n d within. ripe-one q e h (get_or ks n d) (apart n d within) (each n d within)
+
+past-ripe : (q : ReaderQos) (e : Happening) (h : List Happening) (ks : List Kept) → All (IsRipe q e h) ks
+    → All (λ (k : Kept). position_of k ≤ length h) ks
+past-ripe q e h ks ripe =
+    All-weaker (IsRipe q e h) (λ (k : Kept). position_of k ≤ length h) (λ k is. is.past) ks ripe
 
 -- where no life has ended, all are left
-pub leaves-all : (q : ReaderQos) (e : Happening) (h : List Happening) (ks : List Kept)
-    → ((i : Key) → is_known q h i ≡ true → is_known q (e ∷ h) i ≡ true) → All (IsApart e) ks → All (IsKept q h) ks
-    → Leaves q e h ks ks
-leaves-all q e h ks lives apart each = record {
-  each = λ n d within.
-      let k : Kept = get_or ks n d in
-      kept-apart q e h k (apart n d within)
-      (lives k.sample.key (sym (known q h k.sample.key) ∙ (each n d within).is_known)) (each n d within);
-  past = past-kept q h ks each;
-  same = λ i. refl;
+ripe-all : (q : ReaderQos) (e : Happening) (h : List Happening) (ks now : List Kept)
+    → ((i : Key) → is_known q h i ≡ true → is_known q (e ∷ h) i ≡ true) → All (IsRipe q e h) now
+    → ((i : Key) → positions_in q (e ∷ h) i now ≡ positions_in q (e ∷ h) i ks) → Leaves q e h ks now
+ripe-all q e h ks now lives ripe same = record {
+  each =
+      All-weaker (IsRipe q e h) (IsKept q (e ∷ h)) (λ k is. is.kept (lives k.sample.key is.was_known)) now ripe;
+  past = past-ripe q e h now ripe;
+  same = same;
 }
 
 -- a sample that is present after the entry stays in a sweep
-pub present-stays : (q : ReaderQos) (e : Happening) (h : List Happening) (i : Key) (k : Kept) → IsApart e k → IsKept q h k
+pub present-stays : (q : ReaderQos) (e : Happening) (h : List Happening) (i : Key) (k : Kept) → IsRipe q e h k
     → is_here q (e ∷ h) i k ≡ true → stays q (e ∷ h) k ≡ true
-present-stays q e h i k apart kept here =
+present-stays q e h i k ripe here =
     let x : Key = k.sample.key in
     let both = and_parts (same_key x i) (is_present q (e ∷ h) i k.sample.position) here in
     let present : is_present q (e ∷ h) x k.sample.position ≡ true =
     ap (λ (y : Key). is_present q (e ∷ h) y k.sample.position) (key-same x i both.0) ∙ both.1 in
     ⊎_elim
     (λ over. absurd (let clash : false ≡ true =
-    sym (ended-absent q e h x k.sample.position over (omega (arith, kept.in_past))) ∙ present in cc))
-    (λ goes_on. stays-present q (e ∷ h) k (kept-apart q e h k apart
-    (still-known q e h x goes_on (sym (known q h x) ∙ kept.is_known)) kept) ∙ present)
+    sym (ended-absent q e h x k.sample.position over (omega (arith, ripe.past))) ∙ present in cc))
+    (λ goes_on. stays-present q (e ∷ h) k (ripe.kept (still-known q e h x goes_on ripe.was_known)) ∙ present)
     (cases_Bool (ends_life q x h e))
 
 -- and a sweep leaves each that is present
-pub leaves-swept : (q : ReaderQos) (e : Happening) (h : List Happening) (ks : List Kept) → All (IsApart e) ks
-    → All (IsKept q h) ks → Leaves q e h ks (filter (stays q (e ∷ h)) ks)
-leaves-swept q e h ks apart each =
-    let both : All (λ (k : Kept). IsApart e k × IsKept q h k) ks = λ n d within. (apart n d within, each n d within) in
-    record {
-      each =
-          All-weaker (λ (k : Kept). (IsApart e k × IsKept q h k) × (stays q (e ∷ h) k ≡ true)) (IsKept q (e ∷ h))
-          (λ k is. kept-apart q e h k is.0.0 (and_parts (is_known q (e ∷ h) k.sample.key) _ is.1).0 is.0.1)
-          (filter (stays q (e ∷ h)) ks)
-          (all-filtered (stays q (e ∷ h)) (λ (k : Kept). IsApart e k × IsKept q h k) ks both);
-      past = All-filter (stays q (e ∷ h)) (λ (k : Kept). position_of k ≤ length h) ks (past-kept q h ks each);
-      same = λ i. present-dropped q (e ∷ h) i (stays q (e ∷ h)) ks
-          (All-weaker (λ (k : Kept). IsApart e k × IsKept q h k)
-          (λ (k : Kept). is_here q (e ∷ h) i k ≡ true → stays q (e ∷ h) k ≡ true)
-          (λ k is. present-stays q e h i k is.0 is.1) ks both);
-    }
+ripe-swept : (q : ReaderQos) (e : Happening) (h : List Happening) (ks now : List Kept) → All (IsRipe q e h) now
+    → ((i : Key) → positions_in q (e ∷ h) i now ≡ positions_in q (e ∷ h) i ks)
+    → Leaves q e h ks (filter (stays q (e ∷ h)) now)
+ripe-swept q e h ks now ripe same = record {
+  each =
+      All-weaker (λ (k : Kept). IsRipe q e h k × (stays q (e ∷ h) k ≡ true)) (IsKept q (e ∷ h))
+      (λ k is. is.0.kept (and_parts (is_known q (e ∷ h) k.sample.key) _ is.1).0) (filter (stays q (e ∷ h)) now)
+      (all-filtered (stays q (e ∷ h)) (IsRipe q e h) now ripe);
+  past = All-filter (stays q (e ∷ h)) (λ (k : Kept). position_of k ≤ length h) now (past-ripe q e h now ripe);
+  same = λ i. present-dropped q (e ∷ h) i (stays q (e ∷ h)) now
+      (All-weaker (IsRipe q e h) (λ (k : Kept). is_here q (e ∷ h) i k ≡ true → stays q (e ∷ h) k ≡ true)
+      (λ k is. present-stays q e h i k is) now ripe)
+      ∙ same i;
+}
 
 -- what is left, by how many instances were known before
+pub ripe-since : (q : ReaderQos) (e : Happening) (h : List Happening) (before : ℕ) (ks now : List Kept)
+    → before ≡ length (known_instances q h) → All (IsRipe q e h) now
+    → ((i : Key) → positions_in q (e ∷ h) i now ≡ positions_in q (e ∷ h) i ks)
+    → Leaves q e h ks (left_since q (e ∷ h) before now)
+ripe-since q e h before ks now counted ripe same =
+    ⊎_elim
+    (λ fewer. subst (λ (b : Bool). Leaves q e h ks (if b then filter (stays q (e ∷ h)) now else now)) (sym fewer)
+    (ripe-swept q e h ks now ripe same))
+    (λ many. let no_fewer : before ≤ length (known_instances q (e ∷ h)) =
+    ltb-false (length (known_instances q (e ∷ h))) before many in
+    subst (λ (b : Bool). Leaves q e h ks (if b then filter (stays q (e ∷ h)) now else now)) (sym many)
+    (ripe-all q e h ks now (λ i. still-known-by q e h i (omega (arith, no_fewer, counted))) ripe same))
+    (cases_Bool (nat_lt (length (known_instances q (e ∷ h))) before))
+
+-- the same where the entry returned none of them
+pub leaves-all : (q : ReaderQos) (e : Happening) (h : List Happening) (ks : List Kept)
+    → ((i : Key) → is_known q h i ≡ true → is_known q (e ∷ h) i ≡ true) → All (IsApart e) ks → All (IsKept q h) ks
+    → Leaves q e h ks ks
+leaves-all q e h ks lives apart each = ripe-all q e h ks ks lives (ripe-apart q e h ks apart each) (λ i. refl)
+
+pub leaves-swept : (q : ReaderQos) (e : Happening) (h : List Happening) (ks : List Kept) → All (IsApart e) ks
+    → All (IsKept q h) ks → Leaves q e h ks (filter (stays q (e ∷ h)) ks)
+leaves-swept q e h ks apart each = ripe-swept q e h ks ks (ripe-apart q e h ks apart each) (λ i. refl)
+
 pub leaves-since : (q : ReaderQos) (e : Happening) (h : List Happening) (before : ℕ) (ks : List Kept)
     → before ≡ length (known_instances q h) → All (IsApart e) ks → All (IsKept q h) ks
     → Leaves q e h ks (left_since q (e ∷ h) before ks)
 leaves-since q e h before ks counted apart each =
-    ⊎_elim
-    (λ fewer. subst (λ (b : Bool). Leaves q e h ks (if b then filter (stays q (e ∷ h)) ks else ks)) (sym fewer)
-    (leaves-swept q e h ks apart each))
-    (λ many. let no_fewer : before ≤ length (known_instances q (e ∷ h)) =
-    ltb-false (length (known_instances q (e ∷ h))) before many in
-    subst (λ (b : Bool). Leaves q e h ks (if b then filter (stays q (e ∷ h)) ks else ks)) (sym many)
-    (leaves-all q e h ks (λ i. still-known-by q e h i (omega (arith, no_fewer, counted))) apart each))
-    (cases_Bool (nat_lt (length (known_instances q (e ∷ h))) before))
+    ripe-since q e h before ks ks counted (ripe-apart q e h ks apart each) (λ i. refl)
 
 -- ---- samples that are let go
 

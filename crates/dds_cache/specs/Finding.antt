@@ -42,9 +42,9 @@ asks_for_states q h masks i =
     asks_for_view_state masks.views (view_state_of q i h)
     && asks_for_instance_state masks.instances (instance_state_of q i h)
 
--- a kept sample does not meet the masks
+-- a kept sample is not present, or does not meet the masks
 abbrev pub IsUnmet : ReaderQos → List Happening → Masks → Kept → Type 0
-IsUnmet q h masks k = meets q h masks k.sample ≡ false
+IsUnmet q h masks k = (is_present q h k.sample.key k.sample.position && meets q h masks k.sample) ≡ false
 
 -- a kept sample is present, meets the masks, and passes the test
 abbrev pub is_wanted : ReaderQos → List Happening → Masks → (Key → List ℕ → Bool) → Kept → Bool

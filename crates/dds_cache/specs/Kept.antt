@@ -25,24 +25,22 @@ use Rattle.dds_instances.specs.declared.known.KnownInstance.{KnownInstance}
 abbrev pub sample_at : Key → ℕ → SamplePosition
 sample_at i j = record { key = i; position = j }
 
--- what is kept of a sample by what had happened when its entry was the newest
+-- what is kept of a sample by what had happened when its entry was the newest; its value, unless a take has given it away
 pub record IsOf (q : ReaderQos) (past : List Happening) (k : Kept) : Type 0 where
   pub valid_is : k.valid_data ≡ ends_with_write q k.sample.key past
   pub disposed_is : k.disposed_generation_count ≡ disposed_generations q k.sample.key past
   pub no_writers_is : k.no_writers_generation_count ≡ no_writers_generations q k.sample.key past
   pub timestamp_is : k.source_timestamp ≡ timestamp_of past
   pub publication_is : k.publication_handle ≡ publication_of past
-  pub value_is : k.value ≡ newest_value q k.sample.key past
+  pub value_is : k.is_out ≡ false → k.value ≡ newest_value q k.sample.key past
 
--- a sample that no take returned, of a known instance, with what is kept of it; as many writes were accepted since it as
--- its number says
+-- a sample of a known instance, with what is kept of it; as many writes were accepted since it as its number says
 pub record IsKept (q : ReaderQos) (h : List Happening) (k : Kept) : Type 0 where
   pub in_past : k.sample.position ≤ length h
   pub is_known : IsTrue (list_any (λ i. same_key i k.sample.key) (known_instances q h))
   pub handle_is : k.handle ≡ handle_of q h k.sample.key
-  pub untaken : is_taken k.sample h ≡ false
   pub read_is : k.is_read ≡ is_read k.sample h
-  pub stays : k.is_out ≡ false
+  pub out_is : k.is_out ≡ is_taken k.sample h
   pub numbered : accepted_writes q k.sample.key h + k.number
       ≡ writes_in_life q k.sample.key h + accepted_writes q k.sample.key (as_of k.sample.position h)
   pub is_of : IsOf q (as_of k.sample.position h) k
@@ -63,11 +61,11 @@ position_of k = k.sample.position
 abbrev pub positions_in : ReaderQos → List Happening → Key → List Kept → List ℕ
 positions_in q h i ks = map position_of (filter (is_here q h i) ks)
 
--- by how many writes of its instance were accepted in its life, and its last marker, a kept sample is a write that the history
--- keeps, or that marker
+-- by how many writes of its instance were accepted in its life, and its last marker, a kept sample that no take returned is
+-- a write that the history keeps, or that marker
 abbrev pub is_live_by : ReaderQos → ℕ → Option ℕ → Kept → Bool
 is_live_by q accepted marker k =
-    (k.valid_data && keeps q.history (accepted - k.number)) || is_at marker k.sample.position
+    not k.is_out && ((k.valid_data && keeps q.history (accepted - k.number)) || is_at marker k.sample.position)
 
 -- the same by what is known of its instance
 abbrev pub is_live : ReaderQos → KnownInstance → Kept → Bool
@@ -117,7 +115,7 @@ without ss ks = filter (λ k. not (is_among ss k)) ks
 abbrev pub read_if : Bool → Kept → Kept
 read_if read k = record k { is_read = read || k.is_read }
 
--- a kept sample, marked as one that a take returns if so, and without its value then
+-- a kept sample, marked as one that a take returned if so, and without its value then
 abbrev pub out_if : Bool → Kept → Kept
 out_if out k = record k { is_out = out || k.is_out; value = if out then [] else k.value }
 
@@ -125,20 +123,29 @@ out_if out k = record k { is_out = out || k.is_out; value = if out then [] else 
 abbrev pub marked : List SamplePosition → Kept → Kept
 marked ss k = read_if (is_among ss k) k
 
--- no take is returning a kept sample
-abbrev pub IsIn : Kept → Type 0
-IsIn k = k.is_out ≡ false
+-- a kept sample after a take that returned these
+abbrev pub taken : List SamplePosition → Kept → Kept
+taken ss k = out_if (is_among ss k) k
 
--- a read returned a kept sample
+-- no take returned a kept sample
+abbrev pub is_in : Kept → Bool
+is_in k = not k.is_out
+
+-- a take returned a kept sample
+abbrev pub was_taken : Kept → Bool
+was_taken k = k.is_out
+
+-- no take returned a kept sample, and a read did
 abbrev pub was_read : Kept → Bool
-was_read k = k.is_read
+was_read k = not k.is_out && k.is_read
 
--- a kept sample has data
+-- no take returned a kept sample, and it has data
 abbrev pub has_data : Kept → Bool
-has_data k = k.valid_data
+has_data k = not k.is_out && k.valid_data
 
--- a read returned so many of the kept samples, and so many have data
+-- a take returned so many of the kept samples; of the others so many were read, and so many have data
 pub record IsCounted (ks : List Kept) (counts : Counts) : Type 0 where
+  pub outs : counts.outs ≡ count_by was_taken ks
   pub reads : counts.reads ≡ count_by was_read ks
   pub writes : counts.writes ≡ count_by has_data ks
 
@@ -146,6 +153,6 @@ pub record IsCounted (ks : List Kept) (counts : Counts) : Type 0 where
 abbrev pub sample_state_in : Kept → SampleState
 sample_state_in k = if k.is_read then HasBeenRead else NotRead
 
--- a mask does not ask for the sample state of a kept sample
+-- a mask does not ask for the sample state of a kept sample, or a take returned it
 abbrev pub IsUnasked : SampleStateMask → Kept → Type 0
-IsUnasked mask k = asks_for_sample_state mask (sample_state_in k) ≡ false
+IsUnasked mask k = k.is_out ≡ false → asks_for_sample_state mask (sample_state_in k) ≡ false

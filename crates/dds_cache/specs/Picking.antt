@@ -25,7 +25,7 @@ use Rattle.dds_cache.specs.declared.access_kind.AccessKind.TheVariants.{Read, Ta
 use Rattle.dds_cache.specs.declared.collection.Access.{Access}
 use Rattle.dds_cache.specs.declared.kept.Kept.{Kept}
 use Rattle.dds_cache.specs.declared.pick.Request.{Request}
-use Rattle.dds_cache.specs.Kept.{without}
+use Rattle.dds_cache.specs.Kept.{taken}
 use Rattle.dds_cache.specs.Finding.{AreApart, Holds, IsCandidate, IsPlaced, sample_in, picked_in, handle_in}
 
 -- how many samples an access asks for at most
@@ -125,12 +125,12 @@ pub record HoldsFound (q : ReaderQos) (table : Table) (ks : List Kept) (access :
   pub holds : Holds q table ks h
   pub found : IsFoundIn q h ks access
 
--- the instances and the samples are those of what happened, and what is left is without those that a take returned
-pub record HoldsWithout (q : ReaderQos) (table : Table) (taken : List SamplePosition) (ks left : List Kept)
+-- the instances and the samples are those of what happened, and those that a take returned are marked
+pub record HoldsMarked (q : ReaderQos) (table : Table) (ss : List SamplePosition) (ks marked : List Kept)
     (h : List Happening) : Type 0 where
   pub holds : Holds q table ks h
-  pub returnable : All (IsReturnable q h) taken
-  pub left_is : left ≡ without taken ks
+  pub returnable : All (IsReturnable q h) ss
+  pub marked_are : marked ≡ map (taken ss) ks
 
 -- an access that is not refused finds its samples among those that are kept, and has their collection
 pub record IsAccess (kind : AccessKind) (q : ReaderQos) (h : List Happening) (selection : Selection)

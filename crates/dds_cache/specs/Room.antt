@@ -28,5 +28,5 @@ present_writes_after q a h ks = count_by (is_present_write q (Came a ∷ h)) ks
 -- is accepted, and whether the change leaves a marker of it
 abbrev pub is_write_after : ReaderQos → KnownInstance → Bool → Bool → Kept → Bool
 is_write_after q known one_more is_marked k =
-    k.valid_data && (keeps q.history ((known.accepted_writes - k.number) + one_if one_more)
-    || (not is_marked && is_at known.last_marker k.sample.position))
+    not k.is_out && (k.valid_data && (keeps q.history ((known.accepted_writes - k.number) + one_if one_more)
+    || (not is_marked && is_at known.last_marker k.sample.position)))

@@ -7,9 +7,9 @@ use Rattle.dds_base.specs.declared.happening.SamplePosition.{SamplePosition}
 use Rattle.dds_cache.specs.declared.access_kind.AccessKind.{AccessKind}
 use Rattle.dds_cache.specs.declared.access_kind.AccessKind.TheVariants.{Read, Take}
 use Rattle.dds_cache.specs.declared.kept.Kept.{Kept}
-use Rattle.dds_cache.specs.Kept.{marked, without}
+use Rattle.dds_cache.specs.Kept.{marked, taken}
 
--- the kept samples after an access that returned these: a read marks them, a take removes them
+-- the kept samples after an access that returned these: it marks them
 abbrev pub settled : AccessKind → List SamplePosition → List Kept → List Kept
 settled Read returned kept = map (marked returned) kept
-settled Take returned kept = without returned kept
+settled Take returned kept = map (taken returned) kept

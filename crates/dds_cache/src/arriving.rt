@@ -52,6 +52,7 @@ pub fn left_by(
         → IsLeftBy qos.now (Came arrival) h arrival.change.key result }
     ensures small { IfSome result IsSmall }
     ensures unread { IfSome result (λ k. k.is_read ≡ false) }
+    ensures stays { IfSome result (λ k. k.is_out ≡ false) }
 {
     let Arrival { writer, change, .. } = arrival;
     let key = change.key;

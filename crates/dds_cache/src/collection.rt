@@ -10,11 +10,12 @@ ghost use Rattle.dds_base.specs.Access.{own_generations, with_ranks};
 ghost use Rattle.dds_info.specs.Ranking.{AreTold, StandsBefore};
 ghost use Rattle.dds_cache.specs.declared.access_kind.AccessKind.TheVariants.{Read, Take};
 ghost use Rattle.dds_cache.specs.Finding.{AreApart, AreChanged, IsPlaced, handle_in};
-ghost use Rattle.dds_cache.specs.Kept.{out_if};
+ghost use Rattle.dds_cache.specs.Kept.{IsCounted, out_if};
 ghost use Rattle.dds_cache.specs.Picking.{IsGathered, collected, value_for};
 
 use crate::access::{Candidate, positions};
 use crate::access_kind::AccessKind;
+use crate::counts::Counts;
 use crate::kept::Kept;
 use dds_base::{Code, Octets, Sample, SamplePosition};
 use dds_info::Ranks;
@@ -75,15 +76,18 @@ fn collect(
     Ok(collection)
 }
 
-/// Takes the values of the picked samples out, each from its place, into the collection.
+/// Takes the values of the picked samples out, each from its place, into the collection, and counts them as taken.
 pub fn take_out(
     alloc: Global,
     samples: &mut Vec<Kept>,
+    counts: &mut Counts,
     found: &[Candidate],
     collection: &mut Vec<Sample>,
 )
     requires placed { All (IsPlaced (length samples.old.items)) found.now }
     requires whole { length collection.old.items ≡ length found.now }
+    requires counted { IsCounted samples.old.items counts.old }
+    ensures counted { IsCounted samples.new.items counts.new }
     ensures items { AreChanged out_if found.now samples.old.items samples.new.items }
     ensures taken { AreApart found.now
         → collection.old.items ≡ collected Take samples.old.items found.now
@@ -92,8 +96,9 @@ pub fn take_out(
     ensures capacity { vec_capacity samples.new ≡ vec_capacity samples.old }
 {
     for (at, candidate) in found.iter().enumerate() {
-        let value = samples[candidate.at].take_out(alloc);
-        collection[at].value = value;
+        let kept = &mut samples[candidate.at];
+        counts.count_out(kept);
+        collection[at].value = kept.take_out(alloc);
     }
 }
 

@@ -1,20 +1,22 @@
-//! How many of the kept samples were read, and how many have data.
+//! How many of the kept samples a take returned, and how many of the others were read, and have data.
 //!
 //! DDS 1.4, 2.2.2.5 (sample_state, valid_data).
 
-ghost use Rattle.std.specs.Prelude.{◌≡◌, ◌<◌, ◌≤◌, ◌+◌, ◌++◌, ◌∷◌, [], true, false, All, vec_len, vec_capacity};
-ghost use Rattle.dds_cache.specs.Kept.{IsCounted, IsUnasked};
+ghost use Rattle.std.specs.Prelude.{◌≡◌, ◌<◌, ◌≤◌, ◌+◌, ◌-◌, ◌^◌, ◌&&◌, ◌++◌, ◌∷◌, [], if◌then◌else◌, not, true, false, All, vec_len, vec_capacity};
+ghost use Rattle.dds_cache.specs.Kept.{IsCounted, IsUnasked, has_data, is_in, was_read};
 
 use crate::kept::Kept;
 use crate::masks::asks_for_sample;
 use dds_base::{SampleState, SampleStateMask};
 
-/// How many of the kept samples were read, and how many have data.
+/// How many of the kept samples a take returned, and how many of the others were read, and have data.
 #[derive(Clone, Copy)]
 pub struct Counts {
-    /// How many of them a read returned.
+    /// How many of them a take returned.
+    pub outs: usize,
+    /// How many of the others a read returned.
     pub reads: usize,
-    /// How many of them have data.
+    /// How many of the others have data.
     pub writes: usize,
 }
 
@@ -22,13 +24,19 @@ pub struct Counts {
 pub fn count(samples: &[Kept]) -> Counts
     ensures { IsCounted samples.now result }
 {
+    let mut outs = 0;
     let mut reads = 0;
     let mut writes = 0;
     for kept in samples {
-        reads += usize::from(kept.is_read);
-        writes += usize::from(kept.valid_data);
+        outs += usize::from(kept.is_out);
+        reads += usize::from(kept.was_read());
+        writes += usize::from(kept.has_data());
     }
-    Counts { reads, writes }
+    Counts {
+        outs,
+        reads,
+        writes,
+    }
 }
 
 impl Counts {
@@ -37,8 +45,31 @@ impl Counts {
     pub fn exclude(&self, samples: &[Kept], mask: SampleStateMask) -> bool
         ensures { IsCounted samples.now self.now → result ≡ true → All (IsUnasked mask) samples.now }
     {
-        self.reads == samples.len() && !asks_for_sample(mask, SampleState::Read)
+        let others = samples.len().saturating_sub(self.outs);
+        self.reads == others && !asks_for_sample(mask, SampleState::Read)
             || self.reads == 0 && !asks_for_sample(mask, SampleState::NotRead)
+    }
+
+    /// Takes up that a read returns this one of the samples.
+    pub fn count_read(&mut self, kept: &Kept)
+        requires fits { self.old.reads + 1 < 2 ^ 64 }
+        ensures reads { self.new.reads ≡ self.old.reads + (if is_in kept.now && not kept.now.is_read then 1 else 0) }
+        ensures outs { self.new.outs ≡ self.old.outs }
+        ensures writes { self.new.writes ≡ self.old.writes }
+    {
+        self.reads += usize::from(!kept.is_out && !kept.is_read);
+    }
+
+    /// Takes up that a take returns this one of the samples.
+    pub fn count_out(&mut self, kept: &Kept)
+        requires fits { self.old.outs + 1 < 2 ^ 64 }
+        ensures outs { self.new.outs ≡ self.old.outs + (if is_in kept.now then 1 else 0) }
+        ensures reads { self.new.reads ≡ self.old.reads - (if was_read kept.now then 1 else 0) }
+        ensures writes { self.new.writes ≡ self.old.writes - (if has_data kept.now then 1 else 0) }
+    {
+        self.outs += usize::from(!kept.is_out);
+        self.reads = self.reads.saturating_sub(usize::from(kept.was_read()));
+        self.writes = self.writes.saturating_sub(usize::from(kept.has_data()));
     }
 }
 
@@ -46,6 +77,7 @@ impl Counts {
 pub fn add(samples: &mut Vec<Kept>, counts: &mut Counts, kept: Kept)
     requires room { vec_len samples.old < vec_capacity samples.old }
     requires unread { kept.is_read ≡ false }
+    requires stays { kept.is_out ≡ false }
     requires counted { IsCounted samples.old.items counts.old }
     ensures items { samples.new.items ≡ samples.old.items ++ kept ∷ [] }
     ensures counted { IsCounted samples.new.items counts.new }

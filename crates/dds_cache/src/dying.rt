@@ -33,6 +33,7 @@ fn marker_of(
     ensures marked { IfSome result (λ _. has_marked instances.now place ≡ true) }
     ensures small { IfSome result IsSmall }
     ensures unread { IfSome result (λ k. k.is_read ≡ false) }
+    ensures stays { IfSome result (λ k. k.is_out ≡ false) }
 {
     let known = instances.at(place)?;
     let position = instances.happened();

@@ -3,6 +3,7 @@
 //! DDS 1.4, 2.2.2.5 (instance_state), 2.2.3 (HISTORY).
 
 ghost use Rattle.std.specs.Prelude.{◌≡◌, List, true, All};
+ghost use Rattle.std.specs.List.{list_any};
 ghost use Rattle.dds_base.specs.declared.happening.Happening.{Happening};
 ghost use Rattle.dds_base.specs.declared.happening.Happening.TheVariants.{Came};
 ghost use Rattle.dds_base.specs.declared.key.Key.{Key};
@@ -12,6 +13,7 @@ ghost use Rattle.dds_base.specs.Life.{ends_life};
 ghost use Rattle.dds_instances.specs.Table.{Stands, alive_of, happened_of, is_held, room_of};
 ghost use Rattle.dds_cache.specs.Finding.{Holds};
 ghost use Rattle.dds_cache.specs.Kept.{IsFresh, IsKept, is_any_here};
+ghost use Rattle.dds_cache.specs.Sweeping.{stays_of};
 
 use crate::arriving::is_accepted_write;
 use crate::kept::{Kept, is_kept_after};
@@ -49,13 +51,12 @@ pub fn is_end(instances: &Instances, qos: &ReaderQos, samples: &[Kept], arrival:
     !is_any_present(instances, qos, samples, arrival.change.key)
 }
 
-/// Notes of which instances some sample is present, and of no other.
+/// Notes of which instances a sweep would leave some sample, and of no other.
 pub fn hold_present(instances: &mut Instances, qos: &ReaderQos, samples: &[Kept])
     ensures same { (q : ReaderQos) (h : List Happening) → Stands q instances.old h → Stands q instances.new h }
     ensures held { (h : List Happening) (i : Key) → Stands qos.now instances.old h
-        → All (IsKept qos.now h) samples.now
         → is_known qos.now h i ≡ true
-        → is_held instances.new i ≡ is_any_here qos.now h i samples.now }
+        → is_held instances.new i ≡ list_any (stays_of qos.now h i) samples.now }
     ensures room { room_of instances.new ≡ room_of instances.old }
     ensures alive { alive_of instances.new ≡ alive_of instances.old }
     ensures happened { happened_of instances.new ≡ happened_of instances.old }

@@ -8,7 +8,7 @@ ghost use Rattle.dds_base.specs.declared.happening.Happening.TheVariants.{Took};
 ghost use Rattle.dds_instances.specs.Table.{alive_of, happened_of, room_of};
 ghost use Rattle.dds_cache.specs.declared.kept.Kept.{Kept};
 ghost use Rattle.dds_cache.specs.Finding.{Holds, IsSmall};
-ghost use Rattle.dds_cache.specs.Picking.{HoldsFound, HoldsWithout, IsDelivered, IsGathered};
+ghost use Rattle.dds_cache.specs.Picking.{HoldsFound, HoldsMarked, IsDelivered, IsGathered};
 ghost use Rattle.dds_cache.specs.Kept.{IsCounted};
 ghost use Rattle.dds_cache.specs.Standing.{entry_of};
 
@@ -18,13 +18,13 @@ use crate::counts::Counts;
 use crate::ending::hold_present;
 use crate::kept::Kept;
 use crate::returned::settle;
-use crate::sweeping::let_go;
+use crate::sweeping::{let_go, let_out_go};
 use dds_base::{ReaderQos, SamplePosition};
 use dds_instances::Instances;
 use std::alloc::Global;
 
-/// Enters a take of these samples, which are kept no more, and lets those of the lives go that it ends. There is room for
-/// it, or it can be counted.
+/// Enters a take of these samples, which are marked, and lets those of the lives go that it ends; those that takes returned
+/// go too where they are more than half of all. There is room for it, or it can be counted.
 fn take_out(
     instances: &mut Instances,
     qos: &ReaderQos,
@@ -33,16 +33,16 @@ fn take_out(
     taken: &[SamplePosition],
 )
     requires entry { (1 ≤ room_of instances.old) ⊎ (happened_of instances.old + 1 < 2 ^ 64) }
+    requires counted { IsCounted samples.old.items counts.old }
     ensures holds { (h : List Happening) (ks : List Kept)
-        → HoldsWithout qos.now instances.old taken.now ks samples.old.items h
+        → HoldsMarked qos.now instances.old taken.now ks samples.old.items h
         → Holds qos.now instances.new samples.new.items (Took taken.now ∷ h) }
     ensures room { room_of instances.old ≤ room_of instances.new + 1 }
     ensures alive { alive_of instances.new ≤ alive_of instances.old }
     ensures len { vec_len samples.new ≤ vec_len samples.old }
     ensures capacity { vec_capacity samples.new ≡ vec_capacity samples.old }
     ensures small { All IsSmall samples.old.items → All IsSmall samples.new.items }
-    ensures counted { IsCounted samples.old.items counts.old
-        → IsCounted samples.new.items counts.new }
+    ensures counted { IsCounted samples.new.items counts.new }
 {
     let before = instances.len();
     if instances.is_any_left(taken) {
@@ -50,6 +50,7 @@ fn take_out(
     }
     instances.took(taken).unwrap();
     let_go(instances, qos, before, samples, counts);
+    let_out_go(samples, counts);
 }
 
 /// Enters that an access of this kind returned what it found, and makes it whole. There is room for it, or it can be

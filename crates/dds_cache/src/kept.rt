@@ -5,7 +5,7 @@
 ghost use Rattle.std.specs.Prelude.{◌≡◌, ◌+◌, true};
 ghost use Rattle.dds_base.specs.Life.{keeps, is_at};
 ghost use Rattle.dds_instances.specs.Track.{one_if};
-ghost use Rattle.dds_cache.specs.Kept.{is_live, out_if, read_if};
+ghost use Rattle.dds_cache.specs.Kept.{has_data, is_live, out_if, read_if, was_read};
 ghost use Rattle.dds_cache.specs.Room.{is_write_after};
 
 use dds_base::{Handle, HistoryQos, Moment, Octets, ReaderQos, SamplePosition};
@@ -23,13 +23,14 @@ pub struct Kept {
     pub number: u64,
     /// Whether a read returned it.
     pub is_read: bool,
-    /// Whether a take returns it, which lets it go before it ends.
+    /// Whether a take returned it: then it is gone, and its place is free once samples are swept out.
     pub is_out: bool,
     pub valid_data: bool,
     pub disposed_generation_count: u64,
     pub no_writers_generation_count: u64,
     pub source_timestamp: Moment,
     pub publication_handle: Handle,
+    /// Its value, none where a take returned it.
     pub value: Octets,
 }
 
@@ -60,17 +61,14 @@ pub fn is_position(at: Option<u64>, position: u64) -> bool
 }
 
 impl Kept {
-    /// Whether it is a write that the history keeps, or the last marker of its instance.
+    /// Whether no take returned it, and it is a write that the history keeps, or the last marker of its instance.
     pub fn is_live(&self, qos: &ReaderQos, known: &KnownInstance) -> bool
         ensures { result ≡ is_live qos.now known.now self.now }
     {
-        self.valid_data
-            && is_kept_after(
-                qos.history,
-                known.accepted_writes.saturating_sub(self.number),
-                false,
-            )
-            || is_position(known.last_marker, self.sample.position)
+        let later = known.accepted_writes.saturating_sub(self.number);
+        !self.is_out
+            && (self.valid_data && is_kept_after(qos.history, later, false)
+                || is_position(known.last_marker, self.sample.position))
     }
 
     /// Whether it is a write that is present after a change: by what is known of its instance before it, whether one
@@ -85,9 +83,24 @@ impl Kept {
         ensures { result ≡ is_write_after qos.now known.now one_more is_marked self.now }
     {
         let later = known.accepted_writes.saturating_sub(self.number);
-        self.valid_data
+        !self.is_out
+            && self.valid_data
             && (is_kept_after(qos.history, later, one_more)
                 || !is_marked && is_position(known.last_marker, self.sample.position))
+    }
+
+    /// Whether no take returned it, and a read did.
+    pub fn was_read(&self) -> bool
+        ensures { result ≡ was_read self.now }
+    {
+        !self.is_out && self.is_read
+    }
+
+    /// Whether no take returned it, and it has data.
+    pub fn has_data(&self) -> bool
+        ensures { result ≡ has_data self.now }
+    {
+        !self.is_out && self.valid_data
     }
 
     /// Takes up that a read returned it.
@@ -97,7 +110,7 @@ impl Kept {
         self.is_read = true;
     }
 
-    /// Takes up that a take returns it: gives its value away.
+    /// Takes up that a take returned it: gives its value away.
     pub fn take_out(&mut self, alloc: Global) -> Octets
         ensures left { self.new ≡ out_if true self.old }
         ensures value { result ≡ self.old.value }

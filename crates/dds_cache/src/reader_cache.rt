@@ -44,22 +44,23 @@ use std::marker::Model;
 /// What a reader holds: its instances, and its samples in the order in which they came.
 ///
 /// A change takes about the same time however many samples and instances there are; now and then the samples that are
-/// no longer present are swept out. A read or a take goes once over the samples, but where the masks ask for none by
-/// what is known of all, and sorts those that it returns by handle. An entry that may end the life of an instance goes
-/// over the samples too, and once more where it does, to let those go that it leaves behind.
+/// no longer present are swept out. A read or a take goes over the samples as far as the last that it returns, where one
+/// instance has all that it asks for; else once over them, and sorts those that it returns by handle; and over none where
+/// the masks ask for none by what is known of all. An entry that may end the life of an instance goes over the samples
+/// too, and once more where it does, to let those go that it leaves behind.
 #[derive(Drop)]
 pub struct ReaderCache {
     alloc: Global,
     qos: ReaderQos,
     instances: Instances,
-    /// The present samples, and some that are no longer present, but none that was taken, and none of an instance that is
-    /// not known any more.
+    /// The present samples, and some that are no longer present: dropped by the history, or taken; none of an instance that
+    /// is not known any more.
     samples: Vec<Kept>,
     /// How many changes came: at most `MAX_ARRIVALS`, where it stays.
     arrivals: u32,
     /// How many samples there are when they are swept next.
     sweep_at: usize,
-    /// How many of them were read, and how many have data.
+    /// How many of them were taken, and how many of the others were read, and have data.
     counts: Counts,
     /// For how many more entries there is memory.
     room: usize,

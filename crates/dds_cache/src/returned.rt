@@ -1,19 +1,18 @@
-//! What a read or a take leaves of the kept samples.
+//! What a read or a take makes of the kept samples.
 //!
 //! DDS 1.4, 2.2.2.5 (read: samples are READ afterwards; take: they are gone).
 
-ghost use Rattle.std.specs.Prelude.{◌≡◌, ◌≤◌, List, filter, length, not, All, vec_len, vec_capacity};
+ghost use Rattle.std.specs.Prelude.{◌≡◌, List, length, All, vec_len, vec_capacity};
 ghost use Rattle.dds_base.specs.declared.happening.SamplePosition.{SamplePosition as Position};
 ghost use Rattle.dds_cache.specs.Finding.{AreAt, AreChanged, IsPlaced, IsSmall};
-ghost use Rattle.dds_cache.specs.declared.access_kind.AccessKind.TheVariants.{Take};
-ghost use Rattle.dds_cache.specs.Kept.{IsCounted, IsIn, read_if, without};
+ghost use Rattle.dds_cache.specs.Kept.{IsCounted, read_if};
 ghost use Rattle.dds_cache.specs.Picking.{IsDelivered, IsGathered};
 ghost use Rattle.dds_cache.specs.Settling.{settled};
 
 use crate::access::Candidate;
 use crate::access_kind::AccessKind;
 use crate::collection::{Access, take_out};
-use crate::counts::{Counts, count};
+use crate::counts::Counts;
 use crate::kept::Kept;
 use std::alloc::Global;
 
@@ -28,39 +27,12 @@ fn mark_read(samples: &mut Vec<Kept>, counts: &mut Counts, found: &[Candidate])
 {
     for candidate in found {
         let kept = &mut samples[candidate.at];
-        counts.reads += usize::from(!kept.is_read);
+        counts.count_read(kept);
         kept.mark_read();
     }
 }
 
-/// Lets the samples go that are marked so.
-fn remove_out(samples: &mut Vec<Kept>)
-    ensures items { samples.new.items ≡ filter (λ k. not k.is_out) samples.old.items }
-    ensures len { vec_len samples.new ≤ vec_len samples.old }
-    ensures capacity { vec_capacity samples.old ≤ vec_capacity samples.new }
-{
-    samples.retain(|k| !k.is_out);
-}
-
-/// Takes out what a take returns: the samples go, and their values are its collection's. It counts those that are left.
-fn remove(alloc: Global, samples: &mut Vec<Kept>, counts: &mut Counts, access: &mut Access)
-    requires gathered { IsGathered (length samples.old.items) access.old }
-    ensures items { (ss : List Position) → AreAt ss access.old.found.items samples.old.items
-        → All IsIn samples.old.items
-        → samples.new.items ≡ without ss samples.old.items }
-    ensures positions { access.new.positions ≡ access.old.positions }
-    ensures delivered { IsDelivered Take samples.old.items access.old access.new }
-    ensures small { All IsSmall samples.old.items → All IsSmall samples.new.items }
-    ensures counted { IsCounted samples.new.items counts.new }
-    ensures len { vec_len samples.new ≤ vec_len samples.old }
-    ensures capacity { vec_capacity samples.old ≤ vec_capacity samples.new }
-{
-    take_out(alloc, samples, &access.found, &mut access.samples);
-    remove_out(samples);
-    *counts = count(samples);
-}
-
-/// What an access leaves of the kept samples, and their counts; what it returns is whole then.
+/// What an access makes of the kept samples, and of their counts; what it returns is whole then.
 pub fn settle(
     alloc: Global,
     kind: AccessKind,
@@ -71,19 +43,19 @@ pub fn settle(
     requires gathered { IsGathered (length samples.old.items) access.old }
     requires counted { IsCounted samples.old.items counts.old }
     ensures items { (ss : List Position) → AreAt ss access.old.found.items samples.old.items
-        → All IsIn samples.old.items → samples.new.items ≡ settled kind ss samples.old.items }
+        → samples.new.items ≡ settled kind ss samples.old.items }
     ensures positions { access.new.positions ≡ access.old.positions }
     ensures delivered { IsDelivered kind samples.old.items access.old access.new }
     ensures small { All IsSmall samples.old.items → All IsSmall samples.new.items }
     ensures counted { IsCounted samples.new.items counts.new }
-    ensures len { vec_len samples.new ≤ vec_len samples.old }
-    ensures capacity { vec_capacity samples.old ≤ vec_capacity samples.new }
+    ensures len { vec_len samples.new ≡ vec_len samples.old }
+    ensures capacity { vec_capacity samples.new ≡ vec_capacity samples.old }
 {
     if access.found.is_empty() {
         return;
     }
     match kind {
         AccessKind::Read => mark_read(samples, counts, &access.found),
-        AccessKind::Take => remove(alloc, samples, counts, access),
+        AccessKind::Take => take_out(alloc, samples, counts, &access.found, &mut access.samples),
     }
 }

@@ -7,7 +7,7 @@ ghost use Rattle.dds_base.specs.declared.happening.Happening.{Happening};
 ghost use Rattle.dds_instances.specs.Table.{Stands};
 ghost use Rattle.dds_cache.specs.Finding.{IsSmall};
 ghost use Rattle.dds_cache.specs.Kept.{IsCounted};
-ghost use Rattle.dds_cache.specs.Sweeping.{left_since, stays};
+ghost use Rattle.dds_cache.specs.Sweeping.{AreIn, left_since, stays};
 
 use crate::counts::{Counts, count};
 use crate::kept::Kept;
@@ -60,6 +60,22 @@ pub fn let_go(
 {
     if instances.len() < before {
         sweep(instances, qos, samples, counts);
+    }
+}
+
+/// Lets the samples go that takes returned, where they are more than half of all: so a take costs what it returns, and a
+/// place that it leaves is free before long.
+pub fn let_out_go(samples: &mut Vec<Kept>, counts: &mut Counts)
+    requires counted { IsCounted samples.old.items counts.old }
+    ensures items { AreIn samples.old.items samples.new.items }
+    ensures small { All IsSmall samples.old.items → All IsSmall samples.new.items }
+    ensures counted { IsCounted samples.new.items counts.new }
+    ensures len { vec_len samples.new ≤ vec_len samples.old }
+    ensures capacity { vec_capacity samples.new ≡ vec_capacity samples.old }
+{
+    if samples.len() / 2 < counts.outs {
+        samples.retain(|k| !k.is_out);
+        *counts = count(samples);
     }
 }
 

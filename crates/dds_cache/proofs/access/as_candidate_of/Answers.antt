@@ -1,6 +1,5 @@
 use Rattle.std.proofs.Common.{◌≡◌, ◌==◌, false, arith}
 use Rattle.std.proofs.lemmas.Bool.Decides.{nat_tests}
-use Rattle.dds_base.specs.declared.key.Key.{Key}
 use Rattle.dds_cache.proofs.FirstLaws.{found-of, of-handle-key, of-other-handle}
 use Rattle.dds_cache.proofs.access.as_candidate_of.Goals as goal
 

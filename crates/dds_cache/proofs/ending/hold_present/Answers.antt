@@ -1,10 +1,10 @@
-use Rattle.std.proofs.Common.{◌≡◌, List, ◌&&◌, get_or, sym, ap, ◌∙◌, subst}
+use Rattle.std.proofs.Common.{◌≡◌, List, Bool, ◌&&◌, get_or, sym, ap, ◌∙◌, subst}
 use Rattle.std.proofs.lemmas.List.Folds.{list_any_more}
 use Rattle.dds_base.specs.Happening.{same_key}
 use Rattle.dds_instances.specs.Table.{Stands, Table, alive_of, happened_of, is_held, room_of}
 use Rattle.dds_cache.specs.declared.kept.Kept.{Kept}
-use Rattle.dds_cache.specs.Kept.{IsKept, is_here}
-use Rattle.dds_cache.proofs.HoldLaws.{here-by, held-more, held-same}
+use Rattle.dds_cache.specs.Sweeping.{stays_of}
+use Rattle.dds_cache.proofs.HoldLaws.{held-more, held-same}
 use Rattle.dds_cache.proofs.ending.hold_present.Goals as goal
 use Rattle.dds_cache.proofs.ending.hold_present.Goals.{then-is_still_live, else-is_still_live}
 
@@ -19,17 +19,14 @@ loop-kept-preserved c =
         | else-is_still_live w ↦ subst (λ (t : Table). Stands q t h) (sym w.instances-is)
             (c.loop-kept.invariant.same q h stands)
       ];
-      held = λ h i stands each known.
+      held = λ h i stands known.
           let now = c.loop-kept.invariant.same c.args.qos.now h stands in
-          let kept : IsKept c.args.qos.now h k =
-          subst (λ (x : Kept). IsKept c.args.qos.now h x) (sym c.kept-item.is)
-          (each c.loop-kept.kept-index k c.loop-kept-test.true) in
-          let here : is_here c.args.qos.now h i (get_or ks c.loop-kept.kept-index k)
+          let here : stays_of c.args.qos.now h i (get_or ks c.loop-kept.kept-index k)
           ≡ (same_key k.sample.key i && c.is_still_live.result) =
-          ap (λ (x : Kept). is_here c.args.qos.now h i x) (sym c.kept-item.is)
-          ∙ here-by c.args.qos.now h i k c.is_still_live.result kept (c.is_still_live.ensures h now) in
-          let before = c.loop-kept.invariant.held h i stands each known in
-          let more = list_any_more (is_here c.args.qos.now h i) ks c.loop-kept.kept-index k c.loop-kept-test.true in
+          ap (λ (x : Kept). stays_of c.args.qos.now h i x) (sym c.kept-item.is)
+          ∙ ap (λ (b : Bool). same_key k.sample.key i && b) (sym (c.is_still_live.ensures h now)) in
+          let before = c.loop-kept.invariant.held h i stands known in
+          let more = list_any_more (stays_of c.args.qos.now h i) ks c.loop-kept.kept-index k c.loop-kept-test.true in
           elim c.if-is_still_live.branch [
             | then-is_still_live w ↦ ap (λ (t : Table). is_held t i) w.instances-is
                 ∙ (w.hold.ensures.held c.args.qos.now h i now known

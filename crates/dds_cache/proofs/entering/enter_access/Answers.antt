@@ -1,5 +1,4 @@
 use Rattle.std.proofs.Common.{◌≡◌, ◌∷◌, List, map, sym, ap, ◌∙◌, subst, Global, Vec}
-use Rattle.std.proofs.lemmas.List.Elements.{All-weaker}
 use Rattle.std.specs.List.{All}
 use Rattle.std.specs.Prelude.{OnOk, Result}
 use Rattle.dds_base.specs.declared.code.Code.{Code}
@@ -13,16 +12,11 @@ use Rattle.dds_cache.specs.declared.access_kind.AccessKind.{AccessKind}
 use Rattle.dds_cache.specs.declared.kept.Kept.{Kept}
 use Rattle.dds_cache.specs.declared.access.Candidate.{Candidate}
 use Rattle.dds_cache.specs.Finding.{AreAt, Holds, IsCandidate, sample_in}
-use Rattle.dds_cache.specs.Kept.{IsIn, IsKept}
 use Rattle.dds_cache.specs.Settling.{settled}
 use Rattle.dds_cache.specs.Standing.{entry_of}
 use Rattle.dds_cache.proofs.PlaceLaws.{at-places}
 use Rattle.dds_cache.proofs.StandingLaws.{holds-read}
 use Rattle.dds_cache.proofs.entering.enter_access.Goals as goal
-
--- what is kept of what happened is not being taken
-all-in : (q : ReaderQos) (h : List Happening) (ks : List Kept) → All (IsKept q h) ks → All IsIn ks
-all-in q h ks each = All-weaker (IsKept q h) IsIn (λ k is. is.stays) ks each
 
 placed : (q : ReaderQos) (table : Table) (h : List Happening) (ks : List Kept) (ss : List SamplePosition)
     (cs : List Candidate) → ss ≡ map sample_in cs → Holds q table ks h → All (IsCandidate q h ks) cs → AreAt ss cs ks
@@ -50,7 +44,7 @@ returns-in-Read-clause-holds c = λ h holds_found.
     (sym c.in-Read.is)
     (subst (λ (xs : List Kept). Holds q c.read.new.self xs (Read ss ∷ h))
     (sym (c.settle.ensures.items ss (placed q c.args.instances.now h ks ss c.args.access.now.found.items
-    (same ∙ c.requires.gathered.same) holds each) (all-in q h ks holds.each)
+    (same ∙ c.requires.gathered.same) holds each)
     ∙ ap (λ (kind : AccessKind). settled kind ss ks) c.in-Read.is))
     (holds-read q ss h c.args.instances.now c.read.new.self ks read holds)))
 
@@ -72,8 +66,8 @@ returns-in-Take-clause-holds c = λ h holds_found.
     (c.take_out.ensures.holds h ks (record {
       holds = holds;
       returnable = fits;
-      left_is = c.settle.ensures.items ss (placed q c.args.instances.now h ks ss c.args.access.now.found.items
-          (same ∙ c.requires.gathered.same) holds each) (all-in q h ks holds.each)
+      marked_are = c.settle.ensures.items ss (placed q c.args.instances.now h ks ss c.args.access.now.found.items
+          (same ∙ c.requires.gathered.same) holds each)
           ∙ ap (λ (kind : AccessKind). settled kind ss ks) c.in-Take.is;
     })))
 

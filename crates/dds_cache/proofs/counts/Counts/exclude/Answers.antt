@@ -1,19 +1,19 @@
-use Rattle.std.proofs.Common.{◌≡◌, arith, false}
+use Rattle.std.proofs.Common.{◌≡◌, ◌∙◌, arith, false}
 use Rattle.dds_base.specs.Access.{asks_for_sample_state}
 use Rattle.dds_base.specs.declared.sample.SampleState.TheVariants.{Read as HasBeenRead}
 use Rattle.dds_cache.proofs.CountedLaws.{unasked-read}
 use Rattle.dds_cache.proofs.counts.Counts.exclude.Goals as goal
-use Rattle.dds_cache.proofs.counts.Counts.exclude.Goals.{then-self-samples, else-self-samples}
+use Rattle.dds_cache.proofs.counts.Counts.exclude.Goals.{then-self-others, else-self-others}
 
 pub returns-then-not-asks_for_sample : goal.returns-then-not-asks_for_sample
-returns-then-not-asks_for_sample c = λ counted same. elim c.if-self-samples.branch [
-  | then-self-samples w ↦
+returns-then-not-asks_for_sample c = λ counted same. elim c.if-self-others.branch [
+  | then-self-others w ↦
       let unasked : asks_for_sample_state c.args.mask HasBeenRead ≡ false = grind (
         arith,
         same,
         w.value-is,
         w.asks_for_sample.ensures,
       ) in
-      unasked-read c.args.mask c.args.samples.now c.args.self.now counted w.if-self-samples.true unasked
-  | else-self-samples w ↦ absurd (grind (arith, same, w.value-is, w.if-self-samples.false))
+      unasked-read c.args.mask c.args.samples.now c.args.self.now counted (w.if-self-others.true ∙ c.saturating_sub-others.ensures) unasked
+  | else-self-others w ↦ absurd (grind (arith, same, w.value-is, w.if-self-others.false))
 ]

@@ -1,5 +1,5 @@
 use Rattle.std.proofs.Common.{List, ℕ, ◌≡◌, ◌+◌, ◌∷◌, length, sym, subst, refl, ◌∙◌, ap, arith}
-use Rattle.std.specs.List.{All, list_any}
+use Rattle.std.specs.List.{list_any}
 use Rattle.std.specs.Prelude.{OnOk, Result}
 use Rattle.dds_base.specs.declared.happening.Happening.TheVariants.{Died}
 use Rattle.dds_base.specs.declared.code.Code.{Code}
@@ -7,11 +7,11 @@ use Rattle.dds_base.specs.declared.happening.Happening.{Happening}
 use Rattle.dds_base.specs.declared.qos.ReaderQos.{ReaderQos}
 use Rattle.dds_instances.specs.Table.{HoldsPresent, Stands, Table}
 use Rattle.dds_cache.specs.declared.kept.Kept.{Kept}
-use Rattle.dds_cache.specs.Kept.{IsKept, is_here}
+use Rattle.dds_cache.specs.Sweeping.{stays_of}
 use Rattle.dds_cache.specs.Standing.{Stored, StandsFor}
 use Rattle.dds_cache.specs.Sound.{stored_of}
 use Rattle.dds_cache.proofs.DataLaws.{noted-by}
-use Rattle.dds_cache.proofs.HoldLaws.{any-here}
+use Rattle.dds_cache.proofs.HoldLaws.{any-here, any-stays}
 use Rattle.dds_cache.proofs.StandingLaws.{stands-added, fresh}
 use Rattle.dds_cache.proofs.SweepLaws.{Leaves, leaves-since}
 use Rattle.dds_cache.proofs.reader_cache.ReaderCache.bury.Goals as goal
@@ -24,11 +24,10 @@ returns-clause-stands c = λ h stands.
     let held : Table = c.hold_present.new.instances in
     let old : StandsFor (stored_of c.self.inside) h =
     subst (λ (t : Stored). StandsFor t h) (sym c.self.view_is) stands in
-    let each : All (IsKept q h) c.deref.result.now =
-    subst (λ (xs : List Kept). All (IsKept q h) xs) (sym c.deref.ensures.value) old.each in
     let present : HoldsPresent q h held = λ i known.
-    c.hold_present.ensures.held h i old.instances each known
-    ∙ (ap (λ (xs : List Kept). list_any (is_here q h i) xs) c.deref.ensures.value ∙ any-here q h i ks (old.present i)) in
+    c.hold_present.ensures.held h i old.instances known
+    ∙ (ap (λ (xs : List Kept). list_any (stays_of q h i) xs) c.deref.ensures.value
+    ∙ (any-stays q h i ks old.each ∙ any-here q h i ks (old.present i))) in
     let died : Stands q c.died.new.self (e ∷ h) =
     subst (λ (r : Result (Unit {0}) Code). OnOk r ((p : ReaderQos) (l : List Happening) (moment : ℕ)
     → Stands p held l → HoldsPresent p l held → Stands p c.died.new.self (Died c.args.writer moment ∷ l)))
