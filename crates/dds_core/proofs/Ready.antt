@@ -1,6 +1,6 @@
 -- What is made ready for each reader.
-use Rattle.std.proofs.Common.{◌≡◌, ◌⊎◌, ℕ, zero, suc, ◌+◌, ◌<◌, ◌≤◌, Bool, true, false, List, [], ◌∷◌, ◌++◌, Option, Some, set, drop, map, length, slice_get, get_or, refl, ap, sym, ◌∙◌, subst, arith, inl, inr, ⊎_elim, length-set}
-use Rattle.std.proofs.lemmas.Option.{same_Some, slice_get-get_or}
+use Rattle.std.proofs.Common.{◌≡◌, ◌⊎◌, ℕ, zero, suc, ◌+◌, ◌<◌, ◌≤◌, Bool, true, false, List, [], ◌∷◌, ◌++◌, Option, Some, None, IfSome, set, drop, map, length, slice_get, get_or, refl, ap, sym, ◌∙◌, subst, arith, inl, inr, ⊎_elim, length-set}
+use Rattle.std.proofs.lemmas.Option.{same_Some, slice_get-get_or, get_or_from_slice_get}
 use Rattle.dds_base.specs.declared.guid.GuidPrefix.{GuidPrefix}
 use Rattle.dds_base.specs.declared.happening.Happening.{Happening}
 use Rattle.dds_cache.specs.Standing.{qos_of}
@@ -14,15 +14,16 @@ use Rattle.rtps_sets.specs.NumberSet.{NumberSet}
 use Rattle.dds_machine.specs.declared.endpoint.Endpoint.{Endpoint}
 use Rattle.rtps_reader.specs.declared.step.Step.{Step}
 use Rattle.dds_machine.specs.declared.reply.Move.{Move}
-use Rattle.dds_protocol.specs.Claims.{Receiver}
+use Rattle.dds_protocol.specs.Claims.{Receiver, Names}
 use Rattle.dds_machine.specs.Part.{WriterProxy, Reader}
+use Rattle.dds_core.specs.declared.delivery.FirstNamed.{FirstNamed}
 use Rattle.dds_core.specs.declared.matching.WriterName.{WriterName}
 use Rattle.dds_core.specs.declared.reader_end.Ready.{Ready}
 use Rattle.dds_core.specs.declared.reader_end.Told.{Told}
 use Rattle.dds_core.specs.declared.reader_end.Told.TheVariants as told
 use Rattle.dds_core.specs.Kept.{ReaderKept, PeerKept}
 use Rattle.dds_core.specs.Identity.{ReaderIdentity, Identity, reader_identity, reliable_in, writer_identity, IsPeerOf}
-use Rattle.dds_core.specs.Readiness.{IsReadyFor, IsReadyWith, AreReady, IsAlike, AreAlike, CanTake, TakesTold, SameReader, moves_of, IsBounded, IsToldBounded, IsToldBy}
+use Rattle.dds_core.specs.Readiness.{IsNamedAt, IsFirstName, IsRowOf, IsFirstNamed, IsPrepared, IsReadyFor, IsReadyWith, AreReady, IsAlike, AreAlike, CanTake, TakesTold, SameReader, moves_of, IsBounded, IsToldBounded, IsToldBy, writer_guid}
 use Rattle.dds_core.specs.Receiving.{AllCanTake, TookAt, TakesAll, ReadersTake, StandsAsWell}
 use Rattle.dds_core.proofs.TakenSoFar.{TakesSome}
 use Rattle.dds_core.specs.Standing.{IsFirstRow, ReaderStands}
@@ -100,6 +101,68 @@ alike_more old now i k k' h lt is one = record {
       subst (λ (x : ReaderKept). IsAlike a x) s.1 (alike_on a k k' (h.each j a k at_a there) one))
       (λ o. h.each j a b at_a o.1) (set-cases now i k' j b at_b);
 }
+
+-- the first reader that is named, where it stands
+pub named_here : (own : GuidPrefix) (at : Receiver) (s : Submessage) (readers : List ReaderKept) (first : FirstNamed)
+    (i : ℕ) (k : ReaderKept) → IsFirstNamed own at s readers first → slice_get readers i ≡ Some k → i ≡ first.index
+    → IsNamedAt own at s k first.row
+named_here own at s readers first i k h at_k is =
+    subst (λ (x : ReaderKept). IsNamedAt own at s x first.row)
+    (same_Some h.reader k (sym h.there ∙ (ap (λ (n : ℕ). slice_get readers n) (sym is) ∙ at_k))) h.named
+
+-- more memory, and it is named as well
+named_alike : (own : GuidPrefix) (at : Receiver) (s : Submessage) (old new : ReaderKept) (row : ℕ) → IsAlike old new
+    → IsNamedAt own at s old row → IsNamedAt own at s new row
+named_alike own at s old new row h is = record {
+  reader_id = is.reader_id;
+  writer_id = is.writer_id;
+  by = is.by;
+  named = record {
+    is_for = is.named.is_for;
+    named = subst (λ (e : EntityId). Names is.reader_id e) (sym h.entity) is.named.named;
+    first = subst (λ (ns : List WriterName). IsFirstName ns (writer_guid at is.writer_id) row) (sym h.writers)
+        is.named.first;
+  };
+}
+
+-- what was made ready by the row that was found is ready for the reader
+pub ready_for : (own : GuidPrefix) (at : Receiver) (s : Submessage) (old new : ReaderKept) (row : Option ℕ)
+    (one : Option Ready) → IsAlike old new → IsRowOf own at s old row → IsPrepared row at s new one
+    → IsReadyFor own at s new one
+ready_for own at s old new None None h none is = λ reader_id writer_id by k here.
+    none reader_id writer_id by k
+    (record {
+      is_for = here.is_for;
+      named = subst (λ (e : EntityId). Names reader_id e) h.entity here.named;
+      first = subst (λ (ns : List WriterName). IsFirstName ns (writer_guid at writer_id) k) h.writers here.first;
+    })
+ready_for own at s old new None (Some ready) h none is = absurd cc
+ready_for own at s old new (Some row) None h named is = λ reader_id writer_id by k here. is reader_id writer_id by
+ready_for own at s old new (Some row) (Some ready) h named is =
+    let now : IsNamedAt own at s new ready.row =
+    subst (λ (n : ℕ). IsNamedAt own at s new n) (sym is.row_is) (named_alike own at s old new row h named) in
+    record {
+      reader_id = now.reader_id;
+      writer_id = now.writer_id;
+      by = now.by;
+      named = now.named;
+      told = is.told;
+      room = is.room;
+    }
+
+-- the row that was found, by another name of the reader
+pub row_is : (own : GuidPrefix) (at : Receiver) (s : Submessage) (readers : List ReaderKept) (i : ℕ) (a b : ReaderKept)
+    (row : Option ℕ) → i < length readers → IsRowOf own at s (get_or readers i a) row
+    → IsRowOf own at s (get_or readers i b) row
+row_is own at s readers i a b row lt h =
+    subst (λ (k : ReaderKept). IsRowOf own at s k row)
+    (get_or_from_slice_get readers i (get_or readers i b) a (slice_get-get_or readers i b lt)) h
+
+-- the row that was found is one of the reader's
+pub row_within : (own : GuidPrefix) (at : Receiver) (s : Submessage) (kept : ReaderKept) (row : Option ℕ)
+    → IsRowOf own at s kept row → IfSome row (λ n. n < length kept.writers)
+row_within own at s kept None h = tt
+row_within own at s kept (Some row) h = get-within kept.writers row h.named.first.name h.named.first.at
 
 pub ready_more : (own : GuidPrefix) (at : Receiver) (sub : Submessage) (now : List ReaderKept)
     (ready ready' : List (Option Ready)) (i : ℕ) (k' : ReaderKept) (one : Option Ready) → length ready ≡ i

@@ -29,6 +29,7 @@ use Rattle.dds_protocol.specs.Claims.{Receiver, IsToReader, Names}
 use Rattle.dds_protocol.specs.Peer.{Peer, state_of}
 use Rattle.dds_protocol.specs.DueMessages.{Due, acknacks_due}
 use Rattle.dds_protocol.specs.Protocol.{State, InTurn, MayNeedMemory, TakesChange, TakesGap, heard_as, TakesHeartbeat, TakesOrNot, ReaderTakes}
+use Rattle.dds_core.specs.declared.delivery.FirstNamed.{FirstNamed}
 use Rattle.dds_core.specs.declared.matching.WriterName.{WriterName}
 use Rattle.dds_core.specs.declared.sending.Announced.{Announced}
 use Rattle.dds_core.specs.declared.reader_end.Ready.{Ready}
@@ -37,7 +38,7 @@ use Rattle.dds_core.specs.declared.reader_end.Told.TheVariants as told
 use Rattle.dds_core.specs.Identity.{reliable_in}
 use Rattle.dds_core.specs.Kept.{ReaderKept, PeerKept}
 use Rattle.dds_core.proofs.Names.{own_reader_is}
-use Rattle.dds_core.specs.Readiness.{IsReadyWith, IsReadyFor, AreReady, IsNamedReader, NamesNone, NamedBy, IsToldBy, SameReader, TellsSo, moves_of, writer_guid}
+use Rattle.dds_core.specs.Readiness.{IsReadyWith, IsReadyFor, AreReady, IsFirstNamed, NamesNone, NamedBy, IsToldBy, SameReader, TellsSo, moves_of, writer_guid}
 use Rattle.dds_core.specs.Receiving.{TookAt, with_state, NeedsMemory, ReadersTook, TakesAll, TellsReaders, StandsAsWell}
 use Rattle.dds_core.proofs.TakenSoFar.{TakesSome}
 use Rattle.dds_core.specs.Beating.{AddsTo}
@@ -402,15 +403,15 @@ number_at first (suc count) (suc k) x at =
     let f = number_at (first + 1) count k x at in let lt = f.0 in let is = f.1 in (omega (arith, lt), omega (arith, is))
 
 -- one that names a reader may need memory
-pub named_needs : (old : PeerKept) (at : Receiver) (s : Submessage) (index : ℕ)
-    → IsNamedReader old.prefix at s old.readers index → NeedsMemory old at s
-named_needs old at s index is config peer stands =
+pub named_needs : (old : PeerKept) (at : Receiver) (s : Submessage) (first : FirstNamed)
+    → IsFirstNamed old.prefix at s old.readers first → NeedsMemory old at s
+named_needs old at s first is config peer stands =
     needs s is.named.reader_id is.named.writer_id is.named.by is.named.named.first.name.writer
-    (is_to config peer old stands index is.reader is.there at is.named.reader_id is.named.writer_id is.row
+    (is_to config peer old stands first.index is.reader is.there at is.named.reader_id is.named.writer_id first.row
     is.named.named)
   where
     own : Endpoint
-    own = record { peer = peer.number; number = suc index }
+    own = record { peer = peer.number; number = suc first.index }
 
     named_by : (a b d e : EntityId) (w : Endpoint) → a ≡ d → b ≡ e → IsToReader config old.prefix at a b w own
         → IsToReader config old.prefix at d e w own
@@ -429,15 +430,11 @@ named_needs old at s index is config peer stands =
         (w, own, named_by reader_id writer_id _ _ w by.0 by.1 to, refl)
     needs s reader_id writer_id by w to = absurd by
 
--- what was found among the readers of a peer, by another name of what that keeps
-pub needs_if : (found : Option ℕ) (inside now : PeerKept) (readers : List ReaderKept) (at : Receiver) (s : Submessage)
-    → inside ≡ now → readers ≡ inside.readers → IfSome found (IsNamedReader inside.prefix at s readers)
-    → IfSome found (λ index. NeedsMemory now at s)
-needs_if None inside now readers at s same are h = tt
-needs_if (Some index) inside now readers at s same are h =
-    named_needs now at s index
-    (subst (λ (k : PeerKept). IsNamedReader k.prefix at s k.readers index) same
-    (subst (λ (rs : List ReaderKept). IsNamedReader inside.prefix at s rs index) are h))
+-- so does what was found among the readers of a peer
+pub needs_if : (found : Option FirstNamed) (now : PeerKept) (at : Receiver) (s : Submessage)
+    → IfSome found (IsFirstNamed now.prefix at s now.readers) → IfSome found (λ first. NeedsMemory now at s)
+needs_if None now at s h = tt
+needs_if (Some first) now at s h = named_needs now at s first h
 
 -- a submessage that names none of the readers is taken up, and nothing is done
 pub nobody_told : (old : PeerKept) (at : Receiver) (s : Submessage) (moves : List Move) (sent : Announced)

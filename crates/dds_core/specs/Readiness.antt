@@ -16,7 +16,7 @@ use Rattle.rtps_reader.specs.declared.step.HeartbeatSeen.{HeartbeatSeen}
 use Rattle.rtps_reader.specs.declared.step.Step.{Step}
 use Rattle.rtps_reader.specs.Tracked.{Tracked, with_data, with_gap}
 use Rattle.rtps_reader.specs.Answer.{IsIdle}
-use Rattle.rtps_reader.specs.Reader.{Tracks, IsReady, AllStay, OthersStay, match_at, MovesOn, JumpsOn, TakesHeartbeat}
+use Rattle.rtps_reader.specs.Reader.{Tracks, IsReadyAt, AllStay, OthersStay, match_at, MovesOn, JumpsOn, TakesHeartbeat}
 use Rattle.rtps_wire.specs.declared.heartbeat.Heartbeat.{Heartbeat as HeartbeatBody}
 use Rattle.rtps_wire.specs.declared.submessage.Submessage.{Submessage}
 use Rattle.rtps_wire.specs.declared.submessage.Submessage.TheVariants.{Data, Heartbeat, AckNack, Gap}
@@ -27,6 +27,7 @@ use Rattle.dds_machine.specs.declared.reply.Move.TheVariants.{Place, Heard}
 use Rattle.dds_protocol.specs.Claims.{Receiver, is_for, Names}
 use Rattle.dds_protocol.specs.Protocol.{heard_as}
 use Rattle.dds_core.specs.Identity.{reliable_in}
+use Rattle.dds_core.specs.declared.delivery.FirstNamed.{FirstNamed}
 use Rattle.dds_core.specs.declared.matching.WriterName.{WriterName}
 use Rattle.dds_core.specs.declared.reader_end.Ready.{Ready}
 use Rattle.dds_core.specs.declared.reader_end.Told.{Told}
@@ -78,14 +79,6 @@ pub record IsNamedAt (own : GuidPrefix) (at : Receiver) (submessage : Submessage
   pub by : NamedBy submessage reader_id writer_id
   pub named : IsNamedFor own kept at reader_id writer_id row
 
--- it names the reader of this index, and one of its writers
-pub record IsNamedReader (own : GuidPrefix) (at : Receiver) (submessage : Submessage) (readers : List ReaderKept)
-    (index : ℕ) : Type 0 where
-  pub reader : ReaderKept
-  pub there : slice_get readers index ≡ Some reader
-  pub row : ℕ
-  pub named : IsNamedAt own at submessage reader row
-
 -- ---- what it tells
 
 -- what a HEARTBEAT says
@@ -132,9 +125,9 @@ IsToldBounded (told.Heartbeat seen) = seen.first ≤ max_sn
 
 -- ---- what is ready
 
--- the next submessage finds memory
-abbrev pub HasMemory : ReaderKept → Type 0
-HasMemory kept = IsReady kept.reader (room_of kept.store.cache)
+-- the next submessage of the writer of this row finds memory
+abbrev pub HasMemory : ReaderKept → ℕ → Type 0
+HasMemory kept row = IsReadyAt kept.reader row (room_of kept.store.cache)
 
 -- what is ready for a reader that a submessage names
 pub record IsReadyWith (own : GuidPrefix) (at : Receiver) (submessage : Submessage) (kept : ReaderKept)
@@ -144,7 +137,20 @@ pub record IsReadyWith (own : GuidPrefix) (at : Receiver) (submessage : Submessa
   pub by : NamedBy submessage reader_id writer_id
   pub named : IsNamedFor own kept at reader_id writer_id ready.row
   pub told : IsToldBy (reliable_in kept.store) at submessage ready.told
-  pub room : HasMemory kept
+  pub room : HasMemory kept ready.row
+
+-- what is ready for a reader, as its writer of this row tells it
+pub record IsPreparedAt (row : ℕ) (at : Receiver) (submessage : Submessage) (kept : ReaderKept)
+    (ready : Ready) : Type 0 where
+  pub row_is : ready.row ≡ row
+  pub told : IsToldBy (reliable_in kept.store) at submessage ready.told
+  pub room : HasMemory kept ready.row
+
+-- the same, or nothing, where there is no such row, or the submessage is none of a writer
+abbrev pub IsPrepared : Option ℕ → Receiver → Submessage → ReaderKept → Option Ready → Type 0
+IsPrepared None at submessage kept ready = ready ≡ None
+IsPrepared (Some row) at submessage kept None = NamesNobody submessage
+IsPrepared (Some row) at submessage kept (Some ready) = IsPreparedAt row at submessage kept ready
 
 -- what is ready for a reader, or nothing, where the submessage does not name it
 abbrev pub IsReadyFor : GuidPrefix → Receiver → Submessage → ReaderKept → Option Ready → Type 0
@@ -152,6 +158,20 @@ IsReadyFor own at submessage kept None =
     (reader_id writer_id : EntityId) → NamedBy submessage reader_id writer_id → (k : ℕ)
     → IsNamedFor own kept at reader_id writer_id k → ⊥
 IsReadyFor own at submessage kept (Some ready) = IsReadyWith own at submessage kept ready
+
+-- the row of the writer that the submessage is from, if it is for the reader
+abbrev pub IsRowOf : GuidPrefix → Receiver → Submessage → ReaderKept → Option ℕ → Type 0
+IsRowOf own at submessage kept None = IsReadyFor own at submessage kept None
+IsRowOf own at submessage kept (Some row) = IsNamedAt own at submessage kept row
+
+-- the first reader that the submessage names, and the row of its writer there
+pub record IsFirstNamed (own : GuidPrefix) (at : Receiver) (submessage : Submessage) (readers : List ReaderKept)
+    (first : FirstNamed) : Type 0 where
+  pub reader : ReaderKept
+  pub there : slice_get readers first.index ≡ Some reader
+  pub named : IsNamedAt own at submessage reader first.row
+  pub before : (i : ℕ) (k : ReaderKept) → i < first.index → slice_get readers i ≡ Some k
+      → IsReadyFor own at submessage k None
 
 -- nothing is for any of these readers
 abbrev pub NamesNone : GuidPrefix → Receiver → Submessage → List ReaderKept → Type 0
@@ -183,7 +203,7 @@ pub record AreAlike (old new : List ReaderKept) : Type 0 where
 pub record CanTake (kept : ReaderKept) (ready : Ready) : Type 0 where
   pub row : ready.row < length kept.writers
   pub bounded : IsToldBounded ready.told
-  pub room : HasMemory kept
+  pub room : HasMemory kept ready.row
 
 -- ---- what a reader does
 

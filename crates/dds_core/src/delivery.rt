@@ -3,14 +3,14 @@
 //! RTPS 2.5, 8.3.4 (the message receiver), 8.4.12 (the behaviour of a reliable StatefulReader). What the peer's writers
 //! do with an ACKNACK is in `requests`.
 
-ghost use Rattle.std.specs.Prelude.{◌≡◌, ◌++◌, ◌+◌, ◌*◌, ◌^◌, ◌<◌, ◌≤◌, [], length, IfSome, IfNone, IfErr, OnOk, OnErr};
+ghost use Rattle.std.specs.Prelude.{◌≡◌, ◌++◌, ◌+◌, ◌*◌, ◌^◌, ◌<◌, ◌≤◌, [], length, None, IfSome, IfNone, IfErr, OnOk, OnErr};
 ghost use Rattle.dds_base.specs.Bounds.{max_ends};
 ghost use Rattle.dds_base.specs.declared.code.Code.TheVariants.{Memory};
 ghost use Rattle.dds_machine.specs.declared.reply.Reply.TheVariants.{Reported};
 ghost use Rattle.dds_protocol.specs.declared.event.Event.TheVariants as event;
 ghost use Rattle.dds_core.specs.Stepping.{SoundSteps};
 ghost use Rattle.dds_core.specs.Sending.{AreMessages, max_unsent};
-ghost use Rattle.dds_core.specs.Readiness.{receiver_at, IsBounded, AreBounded, AreReady, AreAlike, IsNamedReader, NamesNone, moves_of};
+ghost use Rattle.dds_core.specs.Readiness.{receiver_at, IsBounded, AreBounded, AreReady, AreAlike, IsFirstNamed, IsNamedAt, IsReadyFor, IsRowOf, NamesNone, moves_of};
 ghost use Rattle.dds_core.specs.Receiving.{CanTakeAt, TakesAt, AllCanTake, TakesAll, TellsReaders, TakesOneMore, KeepsPeer, NeedsMemory, TakesMessage, StandsAsWell, ReceivesPacket};
 ghost use Rattle.dds_core.specs.Twins.{Twins};
 
@@ -29,24 +29,56 @@ use rtps_reader::Step;
 use rtps_wire::{MAX_MESSAGE, Message, Submessage, read_message};
 use smallvec::SmallVec;
 
+/// The first of a peer's readers that a submessage is for, and there the row of the writer that it is from.
+#[derive(Clone, Copy)]
+pub struct FirstNamed {
+    pub index: usize,
+    pub row: usize,
+}
+
 /// The first of the readers of the peer of this prefix that a submessage is for, from a writer that it is matched with.
 fn named_reader(
     readers: &[ReaderEnd],
     own: &GuidPrefix,
     receiver: &MessageReceiver,
     submessage: &Submessage,
-) -> Option<usize>
+) -> Option<FirstNamed>
     ensures found { IfSome result
-        (IsNamedReader own.now (receiver_at receiver.now) submessage.now readers.now) }
+        (IsFirstNamed own.now (receiver_at receiver.now) submessage.now readers.now) }
     ensures none { IfNone result
         (NamesNone own.now (receiver_at receiver.now) submessage.now readers.now) }
 {
     for (index, reader) in readers.iter().enumerate() {
-        if let Some(_row) = reader.named_row(own, receiver, submessage) {
-            return Some(index);
+        if let Some(row) = reader.named_row(own, receiver, submessage) {
+            return Some(FirstNamed { index, row });
         }
     }
     None
+}
+
+/// The row of the writer that a submessage is from, at the reader of this index: the readers before the first one that
+/// is named have none, and that one's was found.
+fn row_at(
+    first: FirstNamed,
+    index: usize,
+    reader: &ReaderEnd,
+    own: &GuidPrefix,
+    receiver: &MessageReceiver,
+    submessage: &Submessage,
+) -> Option<usize>
+    requires before { index < first.index
+        → IsReadyFor own.now (receiver_at receiver.now) submessage.now reader.now None }
+    requires there { index ≡ first.index
+        → IsNamedAt own.now (receiver_at receiver.now) submessage.now reader.now first.row }
+    ensures { IsRowOf own.now (receiver_at receiver.now) submessage.now reader.now result }
+{
+    if index < first.index {
+        return None;
+    }
+    if index == first.index {
+        return Some(first.row);
+    }
+    reader.named_row(own, receiver, submessage)
 }
 
 /// How many readers a peer has for which no memory is needed for the list of what is ready. The place of each is zeroed at
@@ -57,18 +89,22 @@ const FEW_READERS: usize = 1;
 fn prepare(
     ready: &mut SmallVec<Option<Ready>, FEW_READERS>,
     readers: &mut [ReaderEnd],
+    first: FirstNamed,
     own: &GuidPrefix,
     receiver: &MessageReceiver,
     submessage: &Submessage,
 ) -> Result<(), Code>
     requires none { ready.old.items ≡ [] }
+    requires first { IsFirstNamed own.now
+        (receiver_at receiver.now) submessage.now readers.old first }
     ensures ready { OnOk result
         (AreReady own.now (receiver_at receiver.now) submessage.now readers.new ready.new.items) }
     ensures alike { AreAlike readers.old readers.new }
     ensures memory { IfErr result (λ code. code ≡ Memory) }
 {
     for index in 0..readers.len() {
-        let one = readers[index].prepare(own, receiver, submessage)?;
+        let row = row_at(first, index, &readers[index], own, receiver, submessage);
+        let one = readers[index].prepare(row, receiver, submessage)?;
         ready.push(one)?;
     }
     Ok(())
@@ -155,10 +191,13 @@ impl Peer {
     fn make_ready(
         &mut self,
         ready: &mut SmallVec<Option<Ready>, FEW_READERS>,
+        first: FirstNamed,
         receiver: &MessageReceiver,
         submessage: &Submessage,
     ) -> Result<(), Code>
         requires none { ready.old.items ≡ [] }
+        requires first { IsFirstNamed self.old.prefix
+            (receiver_at receiver.now) submessage.now self.old.readers first }
         ensures ready { OnOk result
             (AreReady self.old.prefix
             (receiver_at receiver.now) submessage.now self.new.readers ready.new.items) }
@@ -168,13 +207,22 @@ impl Peer {
         ensures prefix { self.new.prefix ≡ self.old.prefix }
         ensures memory { IfErr result (λ code. code ≡ Memory) }
     {
-        prepare(ready, &mut self.readers, &self.prefix, receiver, submessage)
+        prepare(
+            ready,
+            &mut self.readers,
+            first,
+            &self.prefix,
+            receiver,
+            submessage,
+        )
     }
 
     /// The first of the peer's readers that a submessage is for.
-    fn named(&self, receiver: &MessageReceiver, submessage: &Submessage) -> Option<usize>
+    fn named(&self, receiver: &MessageReceiver, submessage: &Submessage) -> Option<FirstNamed>
+        ensures first { IfSome result (IsFirstNamed self.now.prefix
+            (receiver_at receiver.now) submessage.now self.now.readers) }
         ensures needs { IfSome result
-            (λ index. NeedsMemory self.now (receiver_at receiver.now) submessage.now) }
+            (λ first. NeedsMemory self.now (receiver_at receiver.now) submessage.now) }
         ensures none { IfNone result
             (NamesNone self.now.prefix (receiver_at receiver.now) submessage.now self.now.readers) }
     {
@@ -201,11 +249,11 @@ impl Peer {
         ensures needs { OnErr result
             (NeedsMemory self.old (receiver_at receiver.now) submessage.now) }
     {
-        let Some(_index) = self.named(receiver, submessage) else {
+        let Some(first) = self.named(receiver, submessage) else {
             return Ok(());
         };
         let mut ready = SmallVec::new(self.alloc);
-        self.make_ready(&mut ready, receiver, submessage)?;
+        self.make_ready(&mut ready, first, receiver, submessage)?;
         moves.reserve(2 * ready.len())?;
         self.take_all(moves, sent, &mut ready);
         Ok(())

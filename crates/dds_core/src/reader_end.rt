@@ -17,7 +17,7 @@ ghost use Rattle.dds_core.specs.Expiring.{Expires, HasRoomForDeaths, IsPastCount
 ghost use Rattle.dds_core.specs.Identity.{reader_identity};
 ghost use Rattle.dds_core.specs.Noticing.{MarksReader, RaisesSo, SeesStatus};
 ghost use Rattle.dds_core.specs.OpeningEnds.{OpensReader};
-ghost use Rattle.dds_core.specs.Readiness.{receiver_at, IsFirstName, IsNamedFor, IsNamedAt, NamedBy, NamesNobody, IsToldBy, HasMemory, IsReadyFor, IsAlike, CanTake, TakesTold, SameReader, IsPlaceAt};
+ghost use Rattle.dds_core.specs.Readiness.{receiver_at, IsFirstName, IsNamedFor, IsRowOf, NamedBy, NamesNobody, IsToldBy, HasMemory, IsPrepared, IsAlike, CanTake, TakesTold, SameReader, IsPlaceAt};
 ghost use Rattle.dds_core.specs.Looking.{access_reply, TakesOnly, TellsFlags, TellsLost, TellsLiveliness, TellsMatch};
 ghost use Rattle.dds_core.specs.Twins.{Twins};
 ghost use Rattle.dds_core.specs.Storing.{Holds};
@@ -345,13 +345,14 @@ impl ReaderEnd {
         }
     }
 
-    /// Makes memory for the next submessage.
-    fn make_room(&mut self) -> Result<(), Code>
-        ensures room { OnOk result (HasMemory self.new) }
+    /// Makes memory for the next submessage of the writer of this row.
+    fn make_room(&mut self, row: usize) -> Result<(), Code>
+        requires { row < length self.old.writers }
+        ensures room { OnOk result (HasMemory self.new row) }
         ensures alike { IsAlike self.old self.new }
         ensures memory { IfErr result (λ code. code ≡ Memory) }
     {
-        self.reader.reserve(&mut self.store)
+        self.reader.reserve_for(row, &mut self.store)
     }
 
     /// The row of the writer that a submessage is from, if it is for this reader of the peer of this prefix, and the
@@ -362,10 +363,7 @@ impl ReaderEnd {
         receiver: &MessageReceiver,
         submessage: &Submessage,
     ) -> Option<usize>
-        ensures found { IfSome result
-            (IsNamedAt own.now (receiver_at receiver.now) submessage.now self.now) }
-        ensures none { IfNone result
-            (IsReadyFor own.now (receiver_at receiver.now) submessage.now self.now None) }
+        ensures { IsRowOf own.now (receiver_at receiver.now) submessage.now self.now result }
     {
         let Some(ids) = ids_of(submessage) else {
             return None;
@@ -376,30 +374,28 @@ impl ReaderEnd {
         Some(row)
     }
 
-    /// Makes ready what a submessage tells this reader of the peer of this prefix: a copy of it, and memory for all
-    /// that it does.
+    /// Makes ready what a submessage tells this reader, from its writer of this row, if it is for the reader: a copy of
+    /// it, and memory for all that it does.
     ///
     /// # Errors
     ///
     /// `Memory` where a growth was refused; the reader is then as it was.
     pub fn prepare(
         &mut self,
-        own: &GuidPrefix,
+        row: Option<usize>,
         receiver: &MessageReceiver,
         submessage: &Submessage,
     ) -> Result<Option<Ready>, Code>
+        requires { IfSome row (λ at. at < length self.old.writers) }
         ensures ready { IfOk result
-            (IsReadyFor own.now (receiver_at receiver.now) submessage.now self.new) }
+            (IsPrepared row (receiver_at receiver.now) submessage.now self.new) }
         ensures alike { IsAlike self.old self.new }
         ensures memory { IfErr result (λ code. code ≡ Memory) }
     {
-        let Some(ids) = ids_of(submessage) else {
+        let Some(row) = row else {
             return Ok(None);
         };
-        let Some(row) = self.row_of(own, receiver, &ids.reader, &ids.writer) else {
-            return Ok(None);
-        };
-        self.make_room()?;
+        self.make_room(row)?;
         match told_by(self.alloc, self.is_reliable, receiver, submessage)? {
             Some(told) => Ok(Some(Ready { row, told })),
             None => Ok(None),

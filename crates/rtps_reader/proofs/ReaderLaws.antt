@@ -1,7 +1,7 @@
 -- A reader's proxies, of which one changes.
 use Rattle.std.proofs.Common.{◌≡◌, ◌≢◌, ℕ, zero, suc, ◌<◌, ◌≤◌, ◌+◌, List, [], ◌∷◌, ◌++◌, refl, ap, sym, ◌∙◌, subst}
 use Rattle.std.proofs.Common.{arith, length, ◌⊎◌, inl, inr, ⊎_elim, get_or, true, false}
-use Rattle.std.specs.Prelude.{None, Some, slice_get, slice_set, Result, Ok, Err, IfOk, OnErr, IsOk}
+use Rattle.std.specs.Prelude.{None, Some, slice_get, slice_set, Result, Ok, Err, IfOk, OnOk, OnErr, IsOk}
 use Rattle.std.proofs.lemmas.Bool.{cases_lt}
 use Rattle.std.proofs.lemmas.Option.{same_Some, slice_get-get_or}
 use Rattle.std.proofs.Math.ListN.{length-set}
@@ -22,7 +22,7 @@ use Rattle.rtps_reader.specs.Answer.{IsIdle, Accepts}
 use Rattle.rtps_reader.specs.declared.writer_proxy.Source.{Source}
 use Rattle.rtps_reader.specs.Proxy.{tracked, IsProxyReady}
 use Rattle.rtps_reader.specs.Sound.{AreSound, IsSound, ProxyKeepsRest}
-use Rattle.rtps_reader.specs.Reader.{Proxies, Tracks, count_of, IsReady, AllStay, OthersStay, match_at}
+use Rattle.rtps_reader.specs.Reader.{Proxies, Tracks, count_of, IsReady, IsReadyAt, AllStay, OthersStay, match_at}
 use Rattle.rtps_reader.specs.Reader.{JumpsOn, MovesOn, TakesHeartbeat, KeepsRest}
 use Rattle.rtps_reader.proofs.MoveLaws.{same_is}
 
@@ -269,14 +269,19 @@ stays (p ∷ rest) zero proxy new at same (suc k) t has = has
 stays (p ∷ rest) (suc writer) proxy new at same zero t has = has
 stays (p ∷ rest) (suc writer) proxy new at same (suc k) t has = stays rest writer proxy new at same k t has
 
+pub all_stay : {reader : Proxies} {items : List WriterProxy} {writer : ℕ} {proxy : WriterProxy}
+    → Opened reader items writer proxy → (new : WriterProxy) → SameTracked (tracked proxy) (tracked new)
+    → AllStay reader (record { proxies = slice_set items writer new })
+all_stay {items = items} {writer} {proxy} o new same =
+    subst (λ (u : Proxies). AllStay u (record { proxies = slice_set items writer new })) o.view
+    (stays items writer proxy new o.at same)
+
 stays_all : {E : Type 0} {reader : Proxies} {items : List WriterProxy} {writer : ℕ} {proxy : WriterProxy}
     → Opened reader items writer proxy → (new : WriterProxy) (r : Result Step E)
     → OnErr r (SameTracked (tracked proxy) (tracked new))
     → OnErr r (AllStay reader (record { proxies = slice_set items writer new }))
 stays_all o new (Ok step) same = tt
-stays_all {items = items} {writer} {proxy} o new (Err e) same = subst
-    (λ (u : Proxies). AllStay u (record { proxies = slice_set items writer new })) o.view
-    (stays items writer proxy new o.at same)
+stays_all o new (Err e) same = all_stay o new same
 
 others_stay : {reader : Proxies} {items : List WriterProxy} {writer : ℕ} {proxy : WriterProxy}
     → Opened reader items writer proxy → (new : WriterProxy)
@@ -285,10 +290,25 @@ others_stay {reader} {items} {writer} o new =
     subst (λ (u : Proxies). OthersStay writer u (record { proxies = slice_set items writer new })) o.view
     (λ k t ne has. (has.0, get-set_other items writer new k ne ∙ has.1, has.2))
 
-ready_of : {reader : Proxies} {items : List WriterProxy} {writer : ℕ} {proxy : WriterProxy}
-    → Opened reader items writer proxy → (spare : ℕ) → IsReady reader spare → IsProxyReady proxy spare
-ready_of {writer = writer} {proxy} o spare ready = ready writer proxy
+pub same_count : {reader : Proxies} {items : List WriterProxy} {writer : ℕ} {proxy : WriterProxy}
+    → Opened reader items writer proxy → (new : WriterProxy)
+    → count_of (record { proxies = slice_set items writer new }) ≡ count_of reader
+same_count {items = items} {writer} o new = length-set items writer new ∙ ap (λ (r : Proxies). count_of r) o.view
+
+pub ready_of : {reader : Proxies} {items : List WriterProxy} {writer : ℕ} {proxy : WriterProxy}
+    → Opened reader items writer proxy → (spare : ℕ) → IsReadyAt reader writer spare → IsProxyReady proxy spare
+ready_of {writer = writer} {proxy} o spare ready = ready proxy
     (ap (λ (r : Proxies). slice_get r.proxies writer) (sym o.view) ∙ o.at)
+
+-- a writer is ready where its proxy was made so
+pub ready_set : {T E : Type 0} {reader : Proxies} {items : List WriterProxy} {writer : ℕ} {proxy : WriterProxy}
+    → Opened reader items writer proxy → (new : WriterProxy) (spare : ℕ) (r : Result T E)
+    → OnOk r (IsProxyReady new spare)
+    → OnOk r (IsReadyAt (record { proxies = slice_set items writer new }) writer spare)
+ready_set {items = items} {writer} {proxy} o new spare (Ok t) ready = λ p is.
+    subst (λ (q : WriterProxy). IsProxyReady q spare)
+    (same_Some new p (sym (get-set_same items writer new proxy o.at) ∙ is)) ready
+ready_set o new spare (Err e) ready = tt
 
 -- what the proxy of a writer leaves alone, the reader does, and so for its refusals
 pub keeps_all : {S : Type 0} {Stands : S → List Happening → Type 0} {policies : S → ReaderQos} {spare : S → ℕ}
@@ -300,7 +320,7 @@ pub keeps_all : {S : Type 0} {Stands : S → List Happening → Type 0} {policie
 keeps_all {reader = reader} {items} {writer} {new = new} {answer = answer} o keeps = record {
   sayable = keeps.sayable;
   others = others_stay o new;
-  count = length-set items writer new ∙ ap (λ (r : Proxies). count_of r) o.view;
+  count = same_count o new;
   qos = keeps.qos;
   err = stays_all o new answer keeps.err;
   err_sink = keeps.err_sink;

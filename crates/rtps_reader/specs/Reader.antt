@@ -18,7 +18,7 @@ use Rattle.rtps_reader.specs.Jump.{Jumps}
 use Rattle.rtps_reader.specs.Answer.{Accepts, IsSayable}
 use Rattle.rtps_reader.specs.Proxy.{tracked, IsProxyReady}
 
--- what a reader keeps; callers see it through Tracks, count_of and IsReady
+-- what a reader keeps; callers see it through Tracks, count_of, IsReady and IsReadyAt
 pub record Proxies : Type 0 where
   pub proxies : List WriterProxy
 
@@ -30,9 +30,13 @@ Tracks reader index t = (p : WriterProxy) × (slice_get reader.proxies index ≡
 abbrev pub count_of : Proxies → ℕ
 count_of reader = length reader.proxies
 
+-- with a sink of so much spare memory the next submessage of this writer can't fail
+abbrev pub IsReadyAt : Proxies → ℕ → ℕ → Type 0
+IsReadyAt reader writer spare = (p : WriterProxy) → slice_get reader.proxies writer ≡ Some p → IsProxyReady p spare
+
 -- with a sink of so much spare memory the next submessage, of any of the writers, can't fail
 abbrev pub IsReady : Proxies → ℕ → Type 0
-IsReady reader spare = (index : ℕ) (p : WriterProxy) → slice_get reader.proxies index ≡ Some p → IsProxyReady p spare
+IsReady reader spare = (index : ℕ) → IsReadyAt reader index spare
 
 -- of all writers the same is known
 abbrev pub AllStay : Proxies → Proxies → Type 0
@@ -96,4 +100,4 @@ pub record KeepsRest {S : Type 0} (Stands : S → List Happening → Type 0) (po
   -- it is refused for want of memory alone
   pub memory : IfErr answer (λ code. code ≡ Memory)
   -- where memory was made for it, it succeeds
-  pub succeeds : IsReady old (spare before) → IsOk answer
+  pub succeeds : IsReadyAt old writer (spare before) → IsOk answer

@@ -9,7 +9,7 @@ ghost use Rattle.dds_base.specs.declared.happening.Happening.{Happening};
 ghost use Rattle.dds_base.specs.Counts.{is_later};
 ghost use Rattle.rtps_reader.specs.Tracked.{Tracked, fresh, with_data, with_gap};
 ghost use Rattle.rtps_reader.specs.Answer.{IsIdle};
-ghost use Rattle.rtps_reader.specs.Reader.{Tracks, count_of, IsReady, AllStay, match_at, MovesOn, JumpsOn, TakesHeartbeat, KeepsRest};
+ghost use Rattle.rtps_reader.specs.Reader.{Tracks, count_of, IsReady, IsReadyAt, AllStay, match_at, MovesOn, JumpsOn, TakesHeartbeat, KeepsRest};
 
 use crate::sink::Sink;
 use crate::step::{HeartbeatSeen, Step};
@@ -115,6 +115,35 @@ impl StatefulReader {
         Ok(())
     }
 
+    /// Makes all memory that the next submessage of this writer may take, here and at the sink. It changes that alone,
+    /// and looks at no other writer.
+    ///
+    /// # Errors
+    ///
+    /// `Memory` where a growth was refused.
+    pub fn reserve_for<S: Sink>(&mut self, writer: usize, sink: &mut S) -> Result<(), Code>
+        // The writer is a matched one.
+        requires matched { writer < count_of self.old }
+        // Nothing becomes known.
+        ensures same { AllStay self.old self.new }
+        // The writers stay.
+        ensures count { count_of self.new ≡ count_of self.old }
+        // Nothing happens.
+        ensures stands { (h : List Happening) → S.stands sink.old h → S.stands sink.new h }
+        // The policies stay.
+        ensures qos { S.qos sink.new ≡ S.qos sink.old }
+        // The next submessage of the writer can't fail.
+        ensures ok { OnOk result (IsReadyAt self.new writer (S.spare sink.new)) }
+        // The sink has no less memory than before.
+        ensures spare { S.spare sink.old ≤ S.spare sink.new }
+        // Where there is memory enough it succeeds.
+        ensures succeeds { IsReadyAt self.old writer (S.spare sink.old) → IsOk result }
+        // It is refused for want of memory alone.
+        ensures memory { IfErr result (λ code. code ≡ Memory) }
+    {
+        self.proxies[writer].reserve(sink)
+    }
+
     /// A change of a writer was received: it is held, if its number is one of the window of which nothing is known, and
     /// then the place goes as far as it can.
     ///
@@ -122,7 +151,8 @@ impl StatefulReader {
     ///
     /// # Errors
     ///
-    /// `Memory` where a growth was refused, and never after `reserve`; what is known and what happened is as it was.
+    /// `Memory` where a growth was refused, and never after `reserve`, or `reserve_for` of this writer; what is known
+    /// and what happened is as it was.
     ///
     /// RTPS 2.5, 8.4.10, 8.4.12 (received_change_set).
     pub fn on_data<S: Sink>(
@@ -162,7 +192,8 @@ impl StatefulReader {
     ///
     /// # Errors
     ///
-    /// `Memory` where a growth was refused, and never after `reserve`; what is known and what happened is as it was.
+    /// `Memory` where a growth was refused, and never after `reserve`, or `reserve_for` of this writer; what is known
+    /// and what happened is as it was.
     ///
     /// DDS 1.4, 2.2.3 (RELIABILITY: BEST_EFFORT); RTPS 2.5, 8.4.11 (best-effort StatefulReader).
     pub fn on_best_effort_data<S: Sink>(
@@ -203,7 +234,8 @@ impl StatefulReader {
     ///
     /// # Errors
     ///
-    /// `Memory` where a growth was refused, and never after `reserve`; what is known and what happened is as it was.
+    /// `Memory` where a growth was refused, and never after `reserve`, or `reserve_for` of this writer; what is known
+    /// and what happened is as it was.
     ///
     /// RTPS 2.5, 8.4.10, 8.4.12 (irrelevant_change_set).
     pub fn on_gap<S: Sink>(
@@ -245,7 +277,8 @@ impl StatefulReader {
     ///
     /// # Errors
     ///
-    /// `Memory` where a growth was refused, and never after `reserve`; what is known and what happened is as it was.
+    /// `Memory` where a growth was refused, and never after `reserve`, or `reserve_for` of this writer; what is known
+    /// and what happened is as it was.
     ///
     /// RTPS 2.5, 8.4.10, 8.4.12 (missing_changes_update, lost_changes_update; ACKNACK), 8.3.8 (Heartbeat: count).
     pub fn on_heartbeat<S: Sink>(

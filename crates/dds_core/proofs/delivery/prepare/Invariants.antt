@@ -1,4 +1,4 @@
-use Rattle.std.proofs.Common.{◌≡◌, ℕ, Some, slice_get, length}
+use Rattle.std.proofs.Common.{◌≡◌, ℕ, Some, drop, slice_get, length}
 use Rattle.std.specs.Prelude.{Option}
 use Rattle.dds_core.specs.declared.reader_end.Ready.{Ready}
 use Rattle.dds_core.specs.Kept.{ReaderKept}
@@ -8,6 +8,7 @@ use Rattle.dds_core.proofs.delivery.prepare.Given as goal
 abbrev pub invariant-loop-index : goal.invariant-loop-index
 invariant-loop-index l = record {
   alike : AreAlike l.initial.readers l.readers;
+  left : drop l.index l.readers ≡ drop l.index l.initial.readers;
   count : length l.ready.items ≡ l.index;
   each : (i : ℕ) (k : ReaderKept) (r : Option Ready) → slice_get l.readers i ≡ Some k
       → slice_get l.ready.items i ≡ Some r → IsReadyFor l.fn.own (receiver_at l.fn.receiver) l.fn.submessage k r;

@@ -2,10 +2,18 @@ use Rattle.std.proofs.Common.{List, sym, ◌∙◌, subst}
 use Rattle.std.specs.Prelude.{OnOk}
 use Rattle.std.proofs.lemmas.List.{with_items_is}
 use Rattle.dds_core.specs.Kept.{ReaderKept, PeerKept}
-use Rattle.dds_core.specs.Readiness.{receiver_at, AreReady, AreAlike}
+use Rattle.dds_core.specs.Readiness.{receiver_at, IsFirstNamed, AreReady, AreAlike}
 use Rattle.dds_core.specs.Receiving.{StandsAsWell}
 use Rattle.dds_core.proofs.Ready.{alike_core}
 use Rattle.dds_core.proofs.peer.Peer.make_ready.Goals as goal
+
+pub prepare-requires-clause-first : goal.prepare-requires-clause-first
+prepare-requires-clause-first c =
+    subst (λ (rs : List ReaderKept). IsFirstNamed c.self.inside.prefix
+    (receiver_at c.args.receiver.now) c.args.submessage.now rs c.args.first) (sym c.deref_mut.ensures.value)
+    (subst (λ (k : PeerKept). IsFirstNamed k.prefix
+    (receiver_at c.args.receiver.now) c.args.submessage.now k.readers c.args.first) (sym c.self.view_is)
+    c.requires.first)
 
 pub returns-clause-ready : goal.returns-clause-ready
 returns-clause-ready c =

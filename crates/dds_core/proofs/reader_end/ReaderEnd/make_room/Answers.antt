@@ -3,4 +3,4 @@ use Rattle.dds_core.proofs.reader_end.ReaderEnd.make_room.Goals as goal
 
 pub returns-clause-alike : goal.returns-clause-alike
 returns-clause-alike c =
-    alike_as c.self.view_is c.reserve.ensures.same c.reserve.ensures.qos c.reserve.ensures.stands
+    alike_as c.self.view_is c.reserve_for.ensures.same c.reserve_for.ensures.qos c.reserve_for.ensures.stands

@@ -4,8 +4,8 @@ use Rattle.dds_core.specs.Readiness.{receiver_at, IsNamedFor}
 use Rattle.dds_core.proofs.Named.{names_one}
 use Rattle.dds_core.proofs.reader_end.ReaderEnd.named_row.Goals as goal
 
-pub returns-in_default-row_of-clause-none : goal.returns-in_default-row_of-clause-none
-returns-in_default-row_of-clause-none c = λ reader_id writer_id by k here.
+pub returns-in_default-row_of : goal.returns-in_default-row_of
+returns-in_default-row_of c = λ reader_id writer_id by k here.
     let one =
     names_one c.args.submessage.now reader_id writer_id c.in-Some.ids.reader c.in-Some.ids.writer
     by c.in-Some.ensures in

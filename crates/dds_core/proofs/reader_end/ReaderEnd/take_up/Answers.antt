@@ -7,21 +7,23 @@ use Rattle.dds_core.proofs.reader_end.ReaderEnd.take_up.Goals as goal
 
 pub done-requires : goal.done-requires
 done-requires c =
-    c.on_data.ensures.keeps.succeeds (subst (λ (k : ReaderKept). HasMemory k) (sym c.self.view_is) c.requires.can.room)
+    c.on_data.ensures.keeps.succeeds
+    (subst (λ (k : ReaderKept). HasMemory k c.args.ready.row) (sym c.self.view_is) c.requires.can.room)
 
 pub done-requires-in-Gap : goal.done-requires-in-Gap
 done-requires-in-Gap c =
-    c.on_gap.ensures.keeps.succeeds (subst (λ (k : ReaderKept). HasMemory k) (sym c.self.view_is) c.requires.can.room)
+    c.on_gap.ensures.keeps.succeeds
+    (subst (λ (k : ReaderKept). HasMemory k c.args.ready.row) (sym c.self.view_is) c.requires.can.room)
 
 pub done-requires-in-Jump : goal.done-requires-in-Jump
 done-requires-in-Jump c =
     c.on_best_effort_data.ensures.keeps.succeeds
-    (subst (λ (k : ReaderKept). HasMemory k) (sym c.self.view_is) c.requires.can.room)
+    (subst (λ (k : ReaderKept). HasMemory k c.args.ready.row) (sym c.self.view_is) c.requires.can.room)
 
 pub done-requires-in-Heartbeat : goal.done-requires-in-Heartbeat
 done-requires-in-Heartbeat c =
     c.on_heartbeat.ensures.keeps.succeeds
-    (subst (λ (k : ReaderKept). HasMemory k) (sym c.self.view_is) c.requires.can.room)
+    (subst (λ (k : ReaderKept). HasMemory k c.args.ready.row) (sym c.self.view_is) c.requires.can.room)
 
 pub returns-in-Change-clause-told : goal.returns-in-Change-clause-told
 returns-in-Change-clause-told c =

@@ -1,10 +1,9 @@
 use Rattle.std.proofs.Common.{rules, arith, ap, ◌≡◌, ◌≤◌, ◌<◌, ◌+◌, sym, ◌∙◌, subst, ℕ, List, Option}
-use Rattle.std.specs.Prelude.{None, Some, false}
+use Rattle.std.specs.Prelude.{None, Some}
 use Rattle.dds_base.specs.declared.change.Change.{Change}
 use Rattle.dds_base.specs.declared.qos.ReaderQos.{ReaderQos}
 use Rattle.rtps_sets.specs.Window.{mark_of, window_place}
 use Rattle.rtps_sets.specs.declared.window.Mark.TheVariants as mark
-use Rattle.rtps_reader.specs.Tracked.{Held}
 use Rattle.rtps_reader.specs.Moving.{FindsNoRoom, HandsOn, match_of}
 use Rattle.rtps_reader.specs.HeldChanges.{count_held}
 use Rattle.rtps_reader.specs.Proxy.{tracked}
