@@ -2,7 +2,7 @@
 -- here has to be believed.
 --
 -- DDS 1.4, 2.2.2.1 (get_status_changes, get_trigger_value, WaitSet), 2.2.2.5 (ReadCondition, QueryCondition).
-use Rattle.std.specs.Prelude.{◌≡◌, ℕ, Bool, List, Option, Some, None, Result, Ok, Err, ◌==◌, if◌then◌else◌}
+use Rattle.std.specs.Prelude.{◌≡◌, ◌+◌, ◌<◌, ℕ, length, Bool, List, Option, Some, None, Result, Ok, Err, ◌==◌, if◌then◌else◌}
 use Rattle.dds_base.specs.declared.code.Code.{Code}
 use Rattle.dds_base.specs.declared.code.Code.TheVariants.{BadParameter, PreconditionNotMet}
 use Rattle.dds_base.specs.declared.config.Config.{Config}
@@ -75,16 +75,17 @@ AreActive tests kept wait_set active =
 -- what an access by a condition asks for, or why it is refused
 abbrev pub AsksBy : PeerKept → ℕ → Scope → ℕ → Result Asked Code → Type 0
 AsksBy kept reader scope condition (Ok asked) =
-    Tells kept (λ part. (condition_refusal part reader scope condition ≡ None)
+    (reader ≡ asked.index + 1) × (asked.index < length kept.readers)
+    × Tells kept (λ part. (condition_refusal part reader scope condition ≡ None)
     × (asked.selection ≡ condition_selection part scope condition)
     × (asked.filter ≡ filter_of (at_number part.dds.watch.conditions condition)))
 AsksBy kept reader scope condition (Err code) =
     Tells kept (λ part. condition_refusal part reader scope condition ≡ Some code)
 
--- what an access of a reader by this condition asks for, or why it is refused
-abbrev pub asked_of : ℕ → Scope → Option Condition → Result Asked Code
-asked_of reader scope None = Err BadParameter
-asked_of reader scope (Some (Guard value)) = Err PreconditionNotMet
-asked_of reader scope (Some (Samples other masks filter)) =
-    if other == reader then Ok (record { selection = selection_in scope masks; filter = filter })
+-- what an access of a reader, which has this index, by this condition asks for, or why it is refused
+abbrev pub asked_of : ℕ → ℕ → Scope → Option Condition → Result Asked Code
+asked_of index reader scope None = Err BadParameter
+asked_of index reader scope (Some (Guard value)) = Err PreconditionNotMet
+asked_of index reader scope (Some (Samples other masks filter)) =
+    if other == reader then Ok (record { index = index; selection = selection_in scope masks; filter = filter })
     else Err PreconditionNotMet

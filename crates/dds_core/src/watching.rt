@@ -69,16 +69,22 @@ fn is_valid(scope: &Scope) -> bool
     }
 }
 
-/// What an access by a condition asks for: the samples of a selection that pass the filter of a number, if there is
-/// one.
+/// What an access by a condition asks for: of the reader of an index, the samples of a selection that pass the filter of
+/// a number, if there is one.
 pub struct Asked {
+    pub index: usize,
     pub selection: Selection,
     pub filter: Option<u32>,
 }
 
-/// What an access of a reader by this condition asks for.
-fn asked_for(reader: u8, scope: Scope, condition: Option<Condition>) -> Result<Asked, Code>
-    ensures { result ≡ asked_of reader scope condition }
+/// What an access of a reader, which has this index, by this condition asks for.
+fn asked_for(
+    index: usize,
+    reader: u8,
+    scope: Scope,
+    condition: Option<Condition>,
+) -> Result<Asked, Code>
+    ensures { result ≡ asked_of index reader scope condition }
 {
     match condition {
         Some(
@@ -90,7 +96,11 @@ fn asked_for(reader: u8, scope: Scope, condition: Option<Condition>) -> Result<A
         ) => {
             if other == reader {
                 let selection = scope.selection(masks);
-                Ok(Asked { selection, filter })
+                Ok(Asked {
+                    index,
+                    selection,
+                    filter,
+                })
             } else {
                 Err(Code::PreconditionNotMet)
             }
@@ -365,10 +375,13 @@ impl Peer {
     fn asked_by(&self, reader: u8, scope: Scope, condition: u32) -> Result<Asked, Code>
         ensures { AsksBy self.now reader scope condition result }
     {
-        if index_of(reader, self.readers.len()).is_none() || !is_valid(&scope) {
+        let Some(index) = index_of(reader, self.readers.len()) else {
+            return Err(Code::BadParameter);
+        };
+        if !is_valid(&scope) {
             return Err(Code::BadParameter);
         }
-        asked_for(reader, scope, self.watch.condition(condition))
+        asked_for(index, reader, scope, self.watch.condition(condition))
     }
 
     pub(crate) fn access_by_condition<T: Filters>(
@@ -385,12 +398,13 @@ impl Peer {
         ensures sends { SendsNothing result }
         ensures twin { Twins twin.old result.reply twin.new }
     {
-        let Asked { selection, filter } = match self.asked_by(reader, scope, condition) {
+        let Asked {
+            index,
+            selection,
+            filter,
+        } = match self.asked_by(reader, scope, condition) {
             Ok(asked) => asked,
             Err(code) => return self.refused(code),
-        };
-        let Some(index) = index_of(reader, self.readers.len()) else {
-            return self.refused(Code::BadParameter);
         };
         let test = ByFilter { filters, filter };
         let samples = self.readers[index].access(kind, selection, &test, twin);
