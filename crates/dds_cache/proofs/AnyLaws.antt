@@ -3,7 +3,7 @@ use Rattle.std.proofs.Common.{◌≡◌, ◌≢◌, ℕ, zero, suc, ◌≤◌, �
 use Rattle.std.specs.Prelude.{nat_lt, if◌then◌else◌, ℤ, pos, negsuc, is_some, Result, Ok, Err, IfErr}
 use Rattle.std.specs.Result.{IsErr}
 use Rattle.std.specs.List.{list_any, All}
-use Rattle.std.proofs.lemmas.Bool.{cases_Bool, and_parts}
+use Rattle.std.proofs.lemmas.Bool.{cases_Bool, and_parts, and_right}
 use Rattle.std.proofs.lemmas.Bool.Decides.{nat_tests}
 use Rattle.std.proofs.lemmas.List.Elements.{All-nil, All-weaker}
 use Rattle.std.proofs.lemmas.List.Folds.{list_any_none}
@@ -48,16 +48,12 @@ any-filter p a (s ∷ ss) = one (p s) p a s ss (any-filter p a ss)
     and-true true = refl
     and-true false = refl
 
-    and-not : (b : Bool) → (b && false) ≡ false
-    and-not true = refl
-    and-not false = refl
-
     one : (b : Bool) (p a : SamplePosition → Bool) (s : SamplePosition) (ss : List SamplePosition)
         → list_any (λ s. a s && p s) ss ≡ list_any a (filter p ss)
         → ((a s && b) || list_any (λ s. a s && p s) ss) ≡ list_any a (cond b (s ∷ filter p ss) (filter p ss))
     one true p a s ss rest =
         ap (λ (b : Bool). b || list_any (λ s. a s && p s) ss) (and-true (a s)) ∙ ap (λ (b : Bool). a s || b) rest
-    one false p a s ss rest = ap (λ (b : Bool). b || list_any (λ s. a s && p s) ss) (and-not (a s)) ∙ rest
+    one false p a s ss rest = ap (λ (b : Bool). b || list_any (λ s. a s && p s) ss) (and_right (a s) false refl) ∙ rest
 
 tells-filter : (p : SamplePosition → Bool) (ss : List SamplePosition) → TellsAny (list_any p ss) (filter p ss)
 tells-filter p [] = refl

@@ -1,5 +1,5 @@
 -- The collection of picked samples, one sample after another.
-use Rattle.std.proofs.Common.{◌≡◌, ℕ, ◌+◌, ◌-◌, ◌<◌, ◌≤◌, ◌^◌, List, [], ◌∷◌, ◌++◌, Bool, true, false, ◌==◌, set, ⊎_elim, length, get_or, map, drop, reverse, sym, ap, ◌∙◌, refl, subst, arith, zero, suc, Option}
+use Rattle.std.proofs.Common.{◌≡◌, ℕ, ◌+◌, ◌-◌, ◌<◌, ◌≤◌, ◌^◌, List, [], ◌∷◌, ◌++◌, Bool, true, ◌==◌, set, ⊎_elim, length, get_or, map, drop, reverse, sym, ap, ◌∙◌, refl, subst, arith, zero, suc, Option}
 use Rattle.std.specs.Prelude.{slice_get, nat_lt, if◌then◌else◌}
 use Rattle.std.proofs.lemmas.Bool.{cases_Bool, eqb-true, eqb-false}
 use Rattle.std.proofs.lemmas.Bool.Decides.{nat_tests}
@@ -26,7 +26,7 @@ use Rattle.dds_cache.specs.declared.kept.Kept.{Kept}
 use Rattle.dds_cache.specs.Kept.{IsKept}
 use Rattle.dds_cache.specs.Finding.{IsCandidate, handle_in, sample_in, picked_in}
 use Rattle.dds_cache.specs.Picking.{as_sample, collected, value_at, value_for}
-use Rattle.dds_cache.proofs.KeptLaws.{present-in}
+use Rattle.dds_cache.proofs.KeptLaws.{present-in, some_kept}
 
 -- what is known of candidates is what the definitions say of their samples
 described : (q : ReaderQos) (h : List Happening) (ks : List Kept) (cs : List Candidate) → All (IsCandidate q h ks) cs
@@ -36,22 +36,6 @@ described q h ks (c ∷ cs) each =
     ap (λ (p : Picked). p ∷ map picked_in cs) (All-head (IsCandidate q h ks) c cs each).picked_is
     ∙ ap (λ (ps : List Picked). picked_of q h c.sample ∷ ps)
     (described q h ks cs (All-tail (IsCandidate q h ks) c cs each))
-
--- some kept sample
-some_kept : SamplePosition → Kept
-some_kept s = record {
-  sample = s;
-  handle = 0;
-  number = 0;
-  is_read = false;
-  is_out = false;
-  valid_data = false;
-  disposed_generation_count = 0;
-  no_writers_generation_count = 0;
-  source_timestamp = 0;
-  publication_handle = 0;
-  value = [];
-}
 
 -- the value of a candidate is that of its kept sample
 value-in : (q : ReaderQos) (h : List Happening) (ks : List Kept) (c : Candidate) → All (IsKept q h) ks

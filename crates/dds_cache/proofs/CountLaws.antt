@@ -2,7 +2,7 @@
 use Rattle.std.proofs.Common.{◌≡◌, ℕ, ◌+◌, List, [], ◌∷◌, ◌++◌, length, map, filter, get_or, Bool, true, false, not, ◌&&◌, ◌||◌, sym, ap, ◌∙◌, refl, cond, arith, suc, ⊎_elim}
 use Rattle.std.specs.List.{list_any, All, flat_map, count_by, IsDistinct, AllByRecursion}
 use Rattle.std.specs.Prelude.{if◌then◌else◌, nat_lt}
-use Rattle.std.proofs.lemmas.Bool.{cases_Bool, lt-ltb}
+use Rattle.std.proofs.lemmas.Bool.{and_right, cases_Bool, lt-ltb}
 use Rattle.std.proofs.lemmas.List.{length-append, length-map}
 use Rattle.std.proofs.lemmas.List.Sums.{length-filter, sum_by-cons}
 use Rattle.std.proofs.lemmas.List.Elements.{All-head, All-tail, All-weaker}
@@ -145,10 +145,6 @@ pub unmet-unasked : (q : ReaderQos) (h : List Happening) (masks : Masks) (ks : L
     → All (IsUnasked masks.samples) ks → All (IsUnmet q h masks) ks
 unmet-unasked q h masks ks kept unasked = λ n d within. one (get_or ks n d) (kept n d within) (unasked n d within)
   where
-    and-none : (b : Bool) → (b && false) ≡ false
-    and-none true = refl
-    and-none false = refl
-
     one : (k : Kept) → IsKept q h k → IsUnasked masks.samples k → IsUnmet q h masks k
     one k is unasked =
         ⊎_elim
@@ -159,7 +155,7 @@ unmet-unasked q h masks ks kept unasked = λ n d within. one (get_or ks n d) (ke
         (ap (λ (b : Bool). asks_for_sample_state masks.samples (if b then HasBeenRead else NotRead)
         && asks_for_states q h masks k.sample.key) (sym is.read_is)
         ∙ ap (λ (b : Bool). b && asks_for_states q h masks k.sample.key) (unasked stays))
-        ∙ and-none (is_present q h k.sample.key k.sample.position))
+        ∙ and_right (is_present q h k.sample.key k.sample.position) false refl)
         (cases_Bool k.is_out)
 
 -- what is so of each instance of a list is so of one that is among them
@@ -182,12 +178,8 @@ unmet-instances q h masks ks kept unasked =
     && (asks_for_sample_state masks.samples (sample_state_of h k.sample) && b))
     (of-known (asks_for_states q h masks) k.sample.key (known_instances q h) unasked is.is_known)
     ∙ (ap (λ (b : Bool). is_present q h k.sample.key k.sample.position && b)
-    (and-false (asks_for_sample_state masks.samples (sample_state_of h k.sample)))
-    ∙ and-false (is_present q h k.sample.key k.sample.position))) ks kept
-  where
-    and-false : (b : Bool) → (b && false) ≡ false
-    and-false true = refl
-    and-false false = refl
+    (and_right (asks_for_sample_state masks.samples (sample_state_of h k.sample)) false refl)
+    ∙ and_right (is_present q h k.sample.key k.sample.position) false refl)) ks kept
 
 -- where none of those that are kept meets the masks, no present sample is sought
 pub unsought : (q : ReaderQos) (h : List Happening) (selection : Selection) (masks : Masks)

@@ -12,6 +12,12 @@ use Rattle.dds_cache.specs.declared.counts.Counts.{Counts}
 use Rattle.dds_cache.specs.declared.kept.Kept.{Kept}
 use Rattle.dds_cache.specs.Kept.{IsCounted, IsUnasked, has_data, is_in, out_if, read_if, was_read, was_taken}
 
+-- a sample was read, or is gone, or neither
+at-most : (out read : Bool) → cond {A = ℕ} (not out && read) 1 0 + cond out 1 0 ≤ 1
+at-most true read = omega arith
+at-most false true = omega arith
+at-most false false = omega arith
+
 -- no more were read, or are gone, than there are
 few-counted : (ks : List Kept) → count_by was_read ks + count_by was_taken ks ≤ length ks
 few-counted [] = grind arith
@@ -23,11 +29,6 @@ few-counted (k ∷ ks) =
     let few = few-counted ks in
     let one : cond {A = ℕ} (not k.is_out && k.is_read) 1 0 + cond k.is_out 1 0 ≤ 1 = at-most k.is_out k.is_read in
     omega (arith, reads, outs, few, one)
-  where
-    at-most : (out read : Bool) → cond {A = ℕ} (not out && read) 1 0 + cond out 1 0 ≤ 1
-    at-most true read = omega arith
-    at-most false true = omega arith
-    at-most false false = omega arith
 
 -- where as many were read, or are gone, as there are, each of the others was read
 all-counted : (ks : List Kept) → length ks ≤ count_by was_read ks + count_by was_taken ks
@@ -52,11 +53,6 @@ all-counted (k ∷ ks) many =
     absurd (omega (arith, reads, outs, many, few, none)))
     (cases_Bool k.is_out))
     (cases_Bool k.is_read)
-  where
-    at-most : (out read : Bool) → cond {A = ℕ} (not out && read) 1 0 + cond out 1 0 ≤ 1
-    at-most true read = omega arith
-    at-most false true = omega arith
-    at-most false false = omega arith
 
 -- where as many pass as none, none does
 none-counted : (p : Kept → Bool) (ks : List Kept) → count_by p ks ≡ 0 → All (λ (k : Kept). p k ≡ false) ks

@@ -1,8 +1,8 @@
 -- Whether the newest entry has brought a sample, by how many samples are kept before and after it.
-use Rattle.std.proofs.Common.{◌≡◌, ℕ, ◌+◌, ◌≤◌, List, [], ◌∷◌, ◌++◌, length, filter, Option, Some, Bool, true, false, ◌==◌, ◌&&◌, ◌||◌, sym, ap, ◌∙◌, refl, arith}
+use Rattle.std.proofs.Common.{◌≡◌, ℕ, ◌+◌, ◌≤◌, List, [], ◌∷◌, ◌++◌, length, filter, Option, Some, Bool, false, ◌==◌, ◌&&◌, ◌||◌, sym, ap, ◌∙◌, refl, arith}
 use Rattle.std.specs.Prelude.{if◌then◌else◌, nat_lt}
 use Rattle.std.specs.List.{list_any, All}
-use Rattle.std.proofs.lemmas.Bool.{lt-ltb, le-ltb, eq-eqb}
+use Rattle.std.proofs.lemmas.Bool.{and_right, lt-ltb, le-ltb, eq-eqb}
 use Rattle.std.proofs.lemmas.List.{length-append}
 use Rattle.std.proofs.lemmas.List.Folds.{list_any-append, list_any_none}
 use Rattle.std.proofs.lemmas.List.Elements.{All-head, All-weaker}
@@ -38,16 +38,12 @@ brings-added q e h old new past adds kept present =
     ∙ (some q e h old adds.added adds.new_are
     ∙ ap (λ (ks : List Kept). nat_lt (length old) (length ks)) (sym adds.are)))))
   where
-    and-false : (b : Bool) → (b && false) ≡ false
-    and-false true = refl
-    and-false false = refl
-
     older : (q : ReaderQos) (e : Happening) (h : List Happening) (k : Kept) → position_of k ≤ length h
         → (is_present q (e ∷ h) k.sample.key k.sample.position && (k.sample.position == length (e ∷ h))) ≡ false
     older q e h k before =
         ap (λ (b : Bool). is_present q (e ∷ h) k.sample.key k.sample.position && b)
         (unequal k.sample.position (length (e ∷ h)) (λ same. omega (arith, same, before)))
-        ∙ and-false (is_present q (e ∷ h) k.sample.key k.sample.position)
+        ∙ and_right (is_present q (e ∷ h) k.sample.key k.sample.position) false refl
 
     some : (q : ReaderQos) (e : Happening) (h : List Happening) (old added : List Kept)
         → All (IsNewAt q (e ∷ h) (length h + 1)) added

@@ -2,7 +2,7 @@
 use Rattle.std.proofs.Common.{◌≡◌, ℕ, ◌+◌, ◌≤◌, List, [], ◌∷◌, ◌++◌, length, take, Bool, true, false, not, ◌-◌, ◌&&◌, ◌||◌, sym, ap, ◌∙◌, refl, cond, Option, Some, None, zero, suc, ⊎_elim, append_assoc, arith}
 use Rattle.std.specs.Prelude.{slice_get, is_some, count_by}
 use Rattle.std.specs.List.{list_any, IsDistinct, AllByRecursion}
-use Rattle.std.proofs.lemmas.Bool.{cases_Bool}
+use Rattle.std.proofs.lemmas.Bool.{and_right, cases_Bool}
 use Rattle.std.proofs.lemmas.List.{append-nil, take_more}
 use Rattle.std.proofs.lemmas.Option.{get_or_from_slice_get, slice_get_within}
 use Rattle.std.proofs.lemmas.List.Folds.{list_any-append}
@@ -76,11 +76,7 @@ died-absent q w moment h i off =
     && keeps q.history (accepted_writes q i g - accepted_writes q i x)) || is_at (last_marker q i g) n))
     (as_of-newest (Died w moment) h)
     ∙ (ap (λ (b : Bool). not (is_taken (sample_at i n) g) && (false || b)) off
-    ∙ and-false (not (is_taken (sample_at i n) g)))
-  where
-    and-false : (b : Bool) → (b && false) ≡ false
-    and-false true = refl
-    and-false false = refl
+    ∙ and_right (not (is_taken (sample_at i n) g)) false refl)
 
 -- of no instance
 pub adds-of-none : (q : ReaderQos) (g : List Happening) (n : ℕ) (ks : List Kept) → AddsOf q g n [] ks ks

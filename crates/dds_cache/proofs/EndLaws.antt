@@ -3,7 +3,7 @@
 use Rattle.std.proofs.Common.{◌≡◌, ℕ, ◌+◌, ◌-◌, ◌≤◌, ◌<◌, List, [], ◌∷◌, ◌++◌, length, filter, Bool, true, false, not, ◌&&◌, ◌||◌, sym, ap, ◌∙◌, refl, subst, cond, Option, Some, None, arith, suc, ⊎_elim}
 use Rattle.std.specs.Prelude.{if◌then◌else◌, is_some}
 use Rattle.std.specs.List.{list_any, AllByRecursion, IsDistinct}
-use Rattle.std.proofs.lemmas.Bool.{cases_Bool, and_parts}
+use Rattle.std.proofs.lemmas.Bool.{cases_Bool, and_parts, and_right}
 use Rattle.std.proofs.lemmas.List.{length-append, append-nil}
 use Rattle.std.proofs.lemmas.List.Elements.{filter-append}
 use Rattle.std.proofs.lemmas.List.Folds.{list_any-append}
@@ -77,11 +77,7 @@ known-other q a h i other known =
 -- a key that passes, among those of a list that do
 any-passing : (p : Key → Bool) (i : Key) (ks : List Key)
     → list_any (λ k. same_key k i) (filter p ks) ≡ (p i && list_any (λ k. same_key k i) ks)
-any-passing p i [] = sym (and-false (p i))
-  where
-    and-false : (b : Bool) → (b && false) ≡ false
-    and-false true = refl
-    and-false false = refl
+any-passing p i [] = sym (and_right (p i) false refl)
 any-passing p i (k ∷ ks) =
     ⊎_elim
     (λ same. let is : p k ≡ p i = ap p (key-same k i same) in

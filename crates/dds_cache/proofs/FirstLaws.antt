@@ -149,10 +149,6 @@ of-one-sorted n cs all = λ i j d le within.
 
 -- ---- the instance of a handle
 
-or-left : (a b : Bool) → a ≡ true → (a || b) ≡ true
-or-left true b is = refl
-or-left false b is = absurd (let clash : false ≡ true = is in cc)
-
 -- two of some keys with rising numbers have one number only where they are one
 rising-one : (f : Key → ℕ) (a b : ℕ) (ks : List Key) (i j : Key) → IsRising f a b ks
     → list_any (λ k. same_key k i) ks ≡ true → list_any (λ k. same_key k j) ks ≡ true → f i ≡ f j → i ≡ j

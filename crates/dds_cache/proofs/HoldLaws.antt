@@ -2,7 +2,7 @@
 use Rattle.std.proofs.Common.{◌≡◌, ℕ, ◌+◌, ◌-◌, ◌≤◌, List, [], ◌∷◌, length, filter, map, cond, Bool, true, false, not, ◌&&◌, ◌||◌, sym, ap, ◌∙◌, refl, Option, Some, arith, suc, add-one, ⊎_elim, get_or}
 use Rattle.std.specs.Prelude.{if◌then◌else◌}
 use Rattle.std.specs.List.{list_any, All}
-use Rattle.std.proofs.lemmas.Bool.{cases_Bool, ltb-false, le-ltb}
+use Rattle.std.proofs.lemmas.Bool.{and_right, cases_Bool, ltb-false, le-ltb}
 use Rattle.std.proofs.lemmas.List.Elements.{All-filter, All-head, All-tail}
 use Rattle.std.proofs.lemmas.List.Folds.{list_any-append}
 use Rattle.dds_base.specs.declared.key.Key.{Key}
@@ -182,10 +182,6 @@ or-none : (a : Bool) → (a || (false || false)) ≡ a
 or-none true = refl
 or-none false = refl
 
-pub and-false : (b : Bool) → (b && false) ≡ false
-and-false true = refl
-and-false false = refl
-
 -- what has a sample at the newest position is not over
 not-over : (q : ReaderQos) (e : Happening) (h : List Happening) (i : Key)
     → is_there q (e ∷ h) i (reached q i h e) (length h + 1) ≡ true → ends_life q i h e ≡ false
@@ -196,7 +192,7 @@ not-over q e h i there =
     ∙ (ap (λ (b : Bool). list_any now (up_to (length h)) || (b || false)) (ap now (sym (add-one (length h))) ∙ there)
     ∙ or-true (list_any now (up_to (length h)))) in
     ap (λ (b : Bool). is_nobody (registered_writers q i (e ∷ h)) && not b) some
-    ∙ and-false (is_nobody (registered_writers q i (e ∷ h)))
+    ∙ and_right (is_nobody (registered_writers q i (e ∷ h))) false refl
   where
     or-true : (a : Bool) → (a || true) ≡ true
     or-true true = refl
@@ -231,7 +227,7 @@ there-unkept q a h i m j unkept =
     ap (λ (b : Bool). not (is_taken (sample_at i j) h) && ((ends_with_write q i (as_of j (Came a ∷ h)) && b) || is_at m j))
     (keeps-none q.history _ unkept)
     ∙ (ap (λ (b : Bool). not (is_taken (sample_at i j) h) && (b || is_at m j))
-    (and-false (ends_with_write q i (as_of j (Came a ∷ h))) ∙ sym (and-false (ends_with_write q i (as_of j h))))
+    (and_right (ends_with_write q i (as_of j (Came a ∷ h))) false refl ∙ sym (and_right (ends_with_write q i (as_of j h)) false refl))
     ∙ sym (ap (λ (b : Bool). not (is_taken (sample_at i j) h) && ((ends_with_write q i (as_of j h) && b) || is_at m j))
     (keeps-none q.history _ unkept)))
 

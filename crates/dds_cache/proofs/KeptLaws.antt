@@ -25,6 +25,22 @@ use Rattle.dds_cache.specs.Kept.{IsKept, IsOf, IsFresh, is_live, is_live_by, sam
 use Rattle.dds_cache.proofs.EndLaws.{known, known-lives}
 use Rattle.dds_cache.proofs.PresenceLaws.{unstated}
 
+-- some kept sample, of which nothing is said but which it is
+pub some_kept : SamplePosition → Kept
+some_kept s = record {
+  sample = s;
+  handle = 0;
+  number = 0;
+  is_read = false;
+  is_out = false;
+  valid_data = false;
+  disposed_generation_count = 0;
+  no_writers_generation_count = 0;
+  source_timestamp = 0;
+  publication_handle = 0;
+  value = [];
+}
+
 -- ---- one more entry
 
 -- a count that goes on keeps its distance from one that is never reset
@@ -89,7 +105,7 @@ live-by-present q h k kept =
     || is_at (last_marker q i h) j)) later
     ∙ ap (λ (b : Bool). not b && (is_kept_write q h i j || is_at (last_marker q i h) j)) kept.out_is)
 
-not-true : (b : Bool) → not b ≡ true → b ≡ false
+pub not-true : (b : Bool) → not b ≡ true → b ≡ false
 not-true true e = absurd (let clash : false ≡ true = e in cc)
 not-true false e = refl
 

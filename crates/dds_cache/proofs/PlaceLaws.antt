@@ -34,6 +34,7 @@ use Rattle.dds_cache.specs.Finding.{AreAt, AreChanged, Holds, IsCandidate, IsSma
 use Rattle.dds_cache.specs.Picking.{Picks}
 use Rattle.dds_cache.proofs.CountLaws.{any-count, present-count}
 use Rattle.dds_cache.proofs.GroupLaws.{unequal}
+use Rattle.dds_cache.proofs.KeptLaws.{some_kept}
 
 -- ---- no two of those that are present are the same sample
 
@@ -266,28 +267,14 @@ at-sample q h ks (c ∷ cs) at d each =
     omega (arith, rest, more, more_samples, none))
     (cases_Bool (c.at == at))
 
-no_sample : Kept
-no_sample = record {
-  sample = record { key = record { 0 = [] }; position = 0 };
-  handle = 0;
-  number = 0;
-  is_read = false;
-  is_out = false;
-  valid_data = false;
-  disposed_generation_count = 0;
-  no_writers_generation_count = 0;
-  source_timestamp = 0;
-  publication_handle = 0;
-  value = [];
-}
-
 pub apart-picked : (q : ReaderQos) (table : Table) (h : List Happening) (ks : List Kept) (selection : Selection)
     (test : Key → List ℕ → Bool) (cs : List Candidate) → Holds q table ks h → Picks q h selection test ks cs
     → AreApart cs
 apart-picked q table h ks selection test cs holds picks = λ at.
-    let s : SamplePosition = (get_or ks at no_sample).sample in
+    let d : Kept = some_kept (sample_at (record { 0 = [] }) 0) in
+    let s : SamplePosition = (get_or ks at d).sample in
     let less : count_by (λ (c : Candidate). c.at == at) cs ≤ count_by (same_sample s) (map sample_in cs) =
-    at-sample q h ks cs at no_sample picks.each in
+    at-sample q h ks cs at d picks.each in
     let same : count_by (same_sample s) (map sample_in cs) ≡ count_by (same_sample s) (picked_by q h selection test) =
     ap (λ (ss : List SamplePosition). count_by (same_sample s) ss) picks.samples_are in
     let few : count_by (same_sample s) (picked_by q h selection test) ≤ 1 =

@@ -2,7 +2,7 @@
 use Rattle.std.proofs.Common.{◌≡◌, ℕ, ◌+◌, ◌-◌, ◌≤◌, ◌<◌, List, [], ◌∷◌, ◌++◌, length, map, filter, Bool, true, false, not, ◌&&◌, ◌||◌, sym, ap, ◌∙◌, refl, cond, Option, Some, None, arith, zero, suc, add-one, ⊎_elim}
 use Rattle.std.specs.Prelude.{if◌then◌else◌, nat_le}
 use Rattle.std.specs.List.{list_any, All}
-use Rattle.std.proofs.lemmas.Bool.{cases_Bool, lt-ltb, ltb-true, eqb-true, and_parts, or_cases}
+use Rattle.std.proofs.lemmas.Bool.{and_right, cases_Bool, lt-ltb, ltb-true, eqb-true, and_parts, or_cases}
 use Rattle.std.proofs.lemmas.List.{map-append}
 use Rattle.std.proofs.lemmas.List.Elements.{filter-append, All-head, All-tail, All-nil, All-push, All-weaker}
 use Rattle.dds_base.specs.declared.key.Key.{Key}
@@ -48,10 +48,6 @@ keeps-fewer (KeepLast depth) m n fewer is =
 
 -- ---- what an entry leaves, whether or not it ends a life
 
-and-false : (b : Bool) → (b && false) ≡ false
-and-false true = refl
-and-false false = refl
-
 -- the last marker once the entry has happened, unless the life is over then
 abbrev pub reached : ReaderQos → Key → List Happening → Happening → Option ℕ
 reached q i h e = if marks q i h e then Some (length h + 1) else last_marker q i h
@@ -82,7 +78,7 @@ there-start q i h e =
     && ((ends_with_write q i g && keeps q.history (accepted_writes q i (e ∷ h) - accepted_writes q i g))
     || is_at (reached q i h e) 0)) (as_of-start (e ∷ h))
     ∙ (ap (λ (b : Bool). not (is_taken (sample_at i 0) (e ∷ h)) && (false || b)) off
-    ∙ and-false (not (is_taken (sample_at i 0) (e ∷ h))))
+    ∙ and_right (not (is_taken (sample_at i 0) (e ∷ h))) false refl)
   where
     one : (marked : Bool) (n : ℕ) (m : Option ℕ) → is_at m 0 ≡ false
         → is_at (if marked then Some (n + 1) else m) 0 ≡ false
@@ -175,7 +171,7 @@ newest-absent q e h i written marked =
     present-reached q e h i n (omega arith)
     ∙ (ap (λ (b : Bool). not (is_taken (sample_at i n) (e ∷ h)) && (b || is_at (reached q i h e) n)) kept
     ∙ (ap (λ (b : Bool). not (is_taken (sample_at i n) (e ∷ h)) && b) at
-    ∙ and-false (not (is_taken (sample_at i n) (e ∷ h)))))
+    ∙ and_right (not (is_taken (sample_at i n) (e ∷ h))) false refl))
 
 -- ---- lists that are narrowed
 

@@ -2,7 +2,7 @@
 use Rattle.std.proofs.Common.{◌≡◌, Option, Some, None, ℕ, ◌+◌, ◌-◌, ◌^◌, min, ◌≤◌, ◌<◌, List, [], ◌∷◌, ◌++◌, length, map, filter, Bool, true, false, ◌&&◌, ◌||◌, sym, ap, ◌∙◌, refl, subst, cond, arith, ⊎_elim, ◌⊎◌, not, get_or}
 use Rattle.std.specs.Prelude.{if◌then◌else◌, nat_lt}
 use Rattle.std.specs.List.{list_any, All}
-use Rattle.std.proofs.lemmas.Bool.{cases_Bool, and_parts}
+use Rattle.std.proofs.lemmas.Bool.{cases_Bool, and_parts, and_right}
 use Rattle.std.proofs.lemmas.List.{append-nil}
 use Rattle.std.proofs.lemmas.List.Elements.{All-append, All-nil, All-cons, All-weaker, All-filter, All-head, All-tail, All-map}
 use Rattle.dds_base.specs.declared.key.Key.{Key}
@@ -32,7 +32,7 @@ use Rattle.dds_base.specs.Instance.{known_instances}
 use Rattle.dds_cache.specs.Standing.{Stored, StandsFor, entry_of}
 use Rattle.dds_cache.proofs.PresenceLaws.{here-append, present-next, present-dropped, quiet-absent, other-absent}
 use Rattle.dds_cache.proofs.EndLaws.{known, still-quiet}
-use Rattle.dds_cache.proofs.KeptLaws.{kept-next, present-in}
+use Rattle.dds_cache.proofs.KeptLaws.{kept-next, not-true, present-in, some_kept}
 use Rattle.dds_cache.proofs.SweepLaws.{IsApart, IsRipe, Leaves, all-filtered, apart-quiet, here-stays, leaves-all, past-kept, ripe-since}
 use Rattle.dds_cache.proofs.GroupLaws.{unequal}
 use Rattle.dds_cache.proofs.PlaceLaws.{apart-picked}
@@ -257,12 +257,8 @@ none-later h i j (s ∷ ss) later past =
     let first : s.position ≤ length h = All-head (λ (x : SamplePosition). x.position ≤ length h) s ss past in
     ap (λ (b : Bool). (same_key i s.key && b) || list_any (same_sample (sample_at i j)) ss)
     (unequal j s.position (λ same. omega (arith, same, first, later)))
-    ∙ (ap (λ (b : Bool). b || list_any (same_sample (sample_at i j)) ss) (and-false (same_key i s.key))
+    ∙ (ap (λ (b : Bool). b || list_any (same_sample (sample_at i j)) ss) (and_right (same_key i s.key) false refl)
     ∙ none-later h i j ss later (All-tail (λ (x : SamplePosition). x.position ≤ length h) s ss past))
-  where
-    and-false : (b : Bool) → (b && false) ≡ false
-    and-false true = refl
-    and-false false = refl
 
 -- the samples that a read returned are marked
 pub holds-read : (q : ReaderQos) (ss : List SamplePosition) (h : List Happening) (before table : Table) (ks : List Kept)
@@ -287,10 +283,6 @@ holds-read q ss h before table ks stands kept =
     kept
 
 -- ---- a take
-
-not-true : (b : Bool) → not b ≡ true → b ≡ false
-not-true true e = absurd (let clash : false ≡ true = e in cc)
-not-true false e = refl
 
 -- a sample that is there after a take was not among those it returned
 here-untaken : (q : ReaderQos) (ss : List SamplePosition) (h : List Happening) (i : Key) (k : Kept)
@@ -425,26 +417,10 @@ stands-stays h old new qos instances samples counted noted stands =
 returnable : (q : ReaderQos) (h : List Happening) (ks : List Kept) (c : Candidate) → All (IsKept q h) ks
     → IsCandidate q h ks c → IsReturnable q h c.sample
 returnable q h ks c kept is =
-    let k : Kept = get_or ks c.at (nothing c) in
-    let past : k.sample.position ≤ length h = (kept c.at (nothing c) is.within).in_past in
-    let same : k.sample.position ≡ c.sample.position = ap (λ (s : SamplePosition). s.position) (is.there (nothing c)) in
+    let k : Kept = get_or ks c.at (some_kept c.sample) in
+    let past : k.sample.position ≤ length h = (kept c.at (some_kept c.sample) is.within).in_past in
+    let same : k.sample.position ≡ c.sample.position = ap (λ (s : SamplePosition). s.position) (is.there (some_kept c.sample)) in
     record { in_past = omega (arith, past, same); is_known = is.is_known }
-  where
-    nothing : Candidate → Kept
-    nothing c =
-        record {
-          sample = c.sample;
-          handle = 0;
-          number = 0;
-          is_read = false;
-          is_out = false;
-          valid_data = false;
-          disposed_generation_count = 0;
-          no_writers_generation_count = 0;
-          source_timestamp = 0;
-          publication_handle = 0;
-          value = [];
-        }
 
 -- what was gathered of what an access picks
 pub accessed : (kind : AccessKind) (stored : Stored) (h : List Happening) (selection : Selection) (test : Key → List ℕ → Bool)

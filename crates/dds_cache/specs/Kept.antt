@@ -107,10 +107,6 @@ pub record Adds (q : ReaderQos) (e : Happening) (h : List Happening) (old new : 
 abbrev pub is_among : List SamplePosition → Kept → Bool
 is_among ss k = list_any (same_sample k.sample) ss
 
--- the kept samples without those that were returned
-abbrev pub without : List SamplePosition → List Kept → List Kept
-without ss ks = filter (λ k. not (is_among ss k)) ks
-
 -- a kept sample, marked as read if so
 abbrev pub read_if : Bool → Kept → Kept
 read_if read k = record k { is_read = read || k.is_read }

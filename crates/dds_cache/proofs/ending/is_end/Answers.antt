@@ -1,10 +1,11 @@
 use Rattle.std.proofs.Common.{◌≡◌, ◌∷◌, Bool, true, false, not, ◌&&◌, sym, ap, ◌∙◌, refl, rules}
+use Rattle.std.proofs.lemmas.Bool.{and_right}
 use Rattle.dds_base.specs.declared.happening.Happening.TheVariants.{Came}
 use Rattle.dds_base.specs.Life.{ends_with_write, keeps}
 use Rattle.dds_base.specs.declared.qos.ReaderQos.{ReaderQos}
 use Rattle.dds_base.specs.declared.happening.Arrival.{Arrival}
 use Rattle.dds_base.proofs.LifeLaws.{ends-marked, ends-registered}
-use Rattle.dds_cache.proofs.HoldLaws.{ends-by-kept, ends-written, and-false}
+use Rattle.dds_cache.proofs.HoldLaws.{ends-by-kept, ends-written}
 use Rattle.dds_cache.proofs.ending.is_end.Goals as goal
 use Rattle.dds_cache.proofs.ending.is_end.Goals.{then-not-would_be_left-via-then-not-would_be_left, then-not-would_be_left-via-else-not-would_be_left+then-would_mark, else-is_kept_after-via-then-is_kept_after+else-is_accepted_write, else-is_kept_after-via-else-is_kept_after}
 
@@ -37,7 +38,7 @@ returns c = λ h holds fresh.
       | else-is_kept_after-via-then-is_kept_after+else-is_accepted_write v ↦
           ap (λ (b : Bool). keeps q.history 0 && b)
           (sym (v.is_accepted_write.ensures h holds.instances) ∙ v.if-is_accepted_write.false)
-          ∙ and-false (keeps q.history 0)
+          ∙ and_right (keeps q.history 0) false refl
       | else-is_kept_after-via-else-is_kept_after v ↦
           ap (λ (b : Bool). b && w) (sym c.is_kept_after.ensures ∙ v.if-is_kept_after.false)
     ] in
