@@ -2,7 +2,9 @@ pub mod LivesLaws
 pub mod TrackLaws
 pub mod KnownLaws
 pub mod PlaceLaws
+pub mod RiseLaws
 pub mod StandingLaws
+pub mod HandleLaws
 pub mod EndingLaws
 pub mod HoldingLaws
 pub mod SeeingLaws

@@ -1,11 +1,12 @@
 -- What is kept of the instances follows one more change.
-use Rattle.std.proofs.Common.{◌≡◌, ◌≢◌, ℕ, ◌+◌, ◌<◌, ◌≤◌, List, [], ◌∷◌, ◌++◌, length, get_or, set, map, Bool, true, false, not, ◌&&◌, ◌||◌, ◌==◌, sym, ap, ◌∙◌, refl, subst, Option, Some, None, cond, arith, ⊎_elim, zero, suc}
-use Rattle.std.specs.Prelude.{is_some, if◌then◌else◌, find, slice_get, IfSome}
+use Rattle.std.proofs.Common.{◌≡◌, ◌≢◌, ℕ, ◌+◌, ◌<◌, ◌≤◌, List, [], ◌∷◌, ◌++◌, length, get_or, set, map, Bool, true, false, not, ◌&&◌, ◌||◌, sym, ap, ◌∙◌, refl, subst, Option, Some, None, cond, arith, ⊎_elim, zero, suc}
+use Rattle.std.specs.Prelude.{is_some, if◌then◌else◌, nat_lt, slice_get, IfSome}
 use Rattle.std.specs.Option.{option_map}
 use Rattle.std.specs.List.{All, filter, list_any}
 use Rattle.std.proofs.lemmas.Bool.{cases_eq, cases_Bool}
+use Rattle.std.proofs.lemmas.Bool.Decides.{nat_tests}
 use Rattle.std.proofs.lemmas.List.{append-nil, map-append, map-set, set-get_or, length-set, length-map, get_or-set_same, get_or-set_other, get_or-map, get_or_default}
-use Rattle.std.proofs.lemmas.Option.{slice_get-map}
+use Rattle.std.proofs.lemmas.Option.{slice_get-map, slice_get_read}
 use Rattle.std.proofs.lemmas.List.Elements.{All-append, All-cons, All-filter, All-nil, All-weaker, All-set, All-head, All-tail, filter_agree, filter_passes}
 use Rattle.dds_base.specs.declared.key.Key.{Key}
 use Rattle.dds_base.specs.declared.change.ChangeKind.{ChangeKind}
@@ -22,7 +23,7 @@ use Rattle.dds_base.specs.declared.qos.OwnershipQos.TheVariants.{Shared}
 use Rattle.dds_base.specs.Ownership.{accepted_kind, admits, is_registered, outranks_all, publication_handles, registered_writers}
 use Rattle.dds_base.specs.Presence.{is_accepted}
 use Rattle.dds_base.specs.Life.{becomes_not_alive, last_accepted, or_else, is_write, state_after, is_nobody, ends_life}
-use Rattle.dds_base.specs.Access.{handle_of, instance_of, lives_begun, state_of_known}
+use Rattle.dds_base.specs.Access.{handle_of, lives_begun, state_of_known}
 use Rattle.dds_base.specs.Instance.{known_instances, introduced_by, introduces, is_known, is_disposed, is_without_writers}
 use Rattle.dds_base.proofs.KeyLaws.{key-same, same_key-refl, same_key-comm}
 use Rattle.dds_base.proofs.LifeLaws.{accepted-other, quiet-goes-on, registered-other}
@@ -31,7 +32,7 @@ use Rattle.dds_instances.specs.declared.known.KnownInstance.{KnownInstance}
 use Rattle.dds_owner.specs.Standing.{Kept, KeptStrengths, StandsFor, TellsStrengths}
 use Rattle.dds_instances.specs.Track.{Tracks, TracksEntry, Fits, fresh, is_other, one_if, state_of_track}
 use Rattle.dds_instances.specs.Table.{Table, Stands}
-use Rattle.dds_instances.specs.Following.{key_of, Follows, IsForNextLife, IsLawful, IsPlaceOf, MayTakeUp, Reaches, TakeUp, track_with}
+use Rattle.dds_instances.specs.Following.{key_of, Follows, IsForNextLife, IsLawful, IsPlaceOf, MayTakeUp, Reaches, TakeUp}
 use Rattle.dds_instances.specs.Known.{IsKnown}
 use Rattle.dds_instances.proofs.LivesLaws.{known-on, or-some}
 use Rattle.dds_instances.proofs.TrackLaws.{HandsOut, state-tracked, tracks-next, tracks-stranger, one-rebirth, one_if-bound}
@@ -511,35 +512,18 @@ pub instance-at : (q : ReaderQos) (h : List Happening) (ts : List InstanceTrack)
 instance-at q h ts place follows =
     sym (slice_get-map key_of ts place) ∙ ap (λ (ks : List Key). slice_get ks place) follows.keys_are
 
+-- what is kept at a place
+pub track-there : (ts : List InstanceTrack) (place : ℕ) (t : InstanceTrack) → true ≡ nat_lt place (length ts)
+    → t ≡ get_or ts place t → slice_get ts place ≡ Some t
+track-there ts place t within is =
+    slice_get_read ts (length ts) place t refl (let below : place < length ts = grind (arith, nat_tests) in below) is
+
 -- what is kept at a place has every fact of all that is kept
 pub at-place : (P : InstanceTrack → Type 0) (ts : List InstanceTrack) (at : ℕ) (t : InstanceTrack) → All P ts
     → slice_get ts at ≡ Some t → P t
 at-place P [] at t all is = absurd cc
 at-place P (x ∷ ts) zero t all is = let same : x ≡ t = cc in subst P same (All-head P x ts all)
 at-place P (x ∷ ts) (suc at) t all is = at-place P ts at t (All-tail P x ts all) is
-
-find-keys : (p : InstanceTrack → Bool) (r : Key → Bool) (ts : List InstanceTrack)
-    → All (λ (t : InstanceTrack). p t ≡ r t.key) ts → option_map key_of (find p ts) ≡ find r (map key_of ts)
-find-keys p r [] same = refl
-find-keys p r (t ∷ ts) same =
-    one (p t) (find p ts)
-    ∙ (ap (λ (b : Bool). cond b (Some t.key) (option_map key_of (find p ts)))
-    (All-head (λ (x : InstanceTrack). p x ≡ r x.key) t ts same)
-    ∙ ap (λ (k : Option Key). cond (r t.key) (Some t.key) k)
-    (find-keys p r ts (All-tail (λ (x : InstanceTrack). p x ≡ r x.key) t ts same)))
-  where
-    one : (b : Bool) (o : Option InstanceTrack) → option_map key_of (cond b (Some t) o) ≡ cond b (Some t.key) (option_map key_of o)
-    one true o = refl
-    one false o = refl
-
-pub instance-with : (q : ReaderQos) (h : List Happening) (ts : List InstanceTrack) (handle : ℕ) → Follows q h ts
-    → option_map key_of (track_with ts handle) ≡ instance_of q h handle
-instance-with q h ts zero follows = refl
-instance-with q h ts (suc n) follows =
-    find-keys (λ t. t.handle == suc n) (λ i. handle_of q h i == suc n) ts
-    (λ k d within. ap (λ (m : ℕ). m == suc n)
-    ((follows.each k d within).handle_is (known-of q h ts follows k d within)))
-    ∙ ap (λ (ks : List Key). find (λ i. handle_of q h i == suc n) ks) follows.keys_are
 
 -- an unknown instance has no handle
 pub handle-none : (q : ReaderQos) (h : List Happening) (i : Key) → last_accepted q i h ≡ None → 0 ≡ handle_of q h i

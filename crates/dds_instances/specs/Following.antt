@@ -2,7 +2,7 @@
 -- has to be believed.
 --
 -- DDS 1.4, 2.2.2.5 (SampleInfo: instance_handle, instance_state, view_state, the two generation counts).
-use Rattle.std.specs.Prelude.{◌≡◌, ◌≢◌, ℕ, zero, suc, ◌+◌, ◌<◌, ◌==◌, Bool, List, [], ◌∷◌, ◌++◌, length, map, find, Option, None, All, true, false, slice_index_or}
+use Rattle.std.specs.Prelude.{◌≡◌, ◌≢◌, ℕ, ◌+◌, ◌<◌, Bool, List, [], ◌∷◌, ◌++◌, length, map, All, true, false, slice_index_or}
 use Rattle.std.specs.List.{list_any}
 use Rattle.dds_base.specs.declared.key.Key.{Key}
 use Rattle.dds_base.specs.declared.happening.Arrival.{Arrival}
@@ -39,11 +39,6 @@ pub record Reaches (q : ReaderQos) (h : List Happening) (e : Happening) (ts : Li
 -- it is noted right of each track whether something of its instance is present
 abbrev pub HeldRight : ReaderQos → List Happening → List InstanceTrack → Type 0
 HeldRight q h ts = All (λ (t : InstanceTrack). t.is_held ≡ has_there q h t.key (last_marker q t.key h)) ts
-
--- what is kept of the instance of a handle, none for a handle that names none
-abbrev pub track_with : List InstanceTrack → ℕ → Option InstanceTrack
-track_with ts zero = None
-track_with ts (suc n) = find (λ (t : InstanceTrack). t.handle == suc n) ts
 
 -- reads and takes returned samples of the past alone, and of known instances, so none of an unknown one since its last
 -- life ended

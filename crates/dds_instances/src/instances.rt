@@ -2,7 +2,7 @@
 //!
 //! DDS 1.4, 2.2.2.5 (SampleInfo: instance_handle, instance_state, view_state, the two generation counts).
 
-ghost use Rattle.std.specs.Prelude.{◌≡◌, ◌||◌, ◌+◌, ◌≤◌, ◌<◌, ◌^◌, ◌∷◌, [], List, ℕ, length, slice_get, true, false, All, IsOk, OnOk, OnErr, IfErr, IfOk, IfSome, None, MatchOption};
+ghost use Rattle.std.specs.Prelude.{◌≡◌, ◌||◌, ◌+◌, ◌≤◌, ◌<◌, ◌^◌, ◌∷◌, [], List, ℕ, length, slice_get, take, true, false, All, IsOk, OnOk, OnErr, IfErr, IfOk, IfSome, None, MatchOption};
 ghost use Rattle.std.specs.Option.{option_map};
 ghost use Rattle.dds_base.specs.declared.key.Key.{Key};
 ghost use Rattle.dds_base.specs.Happening.{same_key};
@@ -15,7 +15,7 @@ ghost use Rattle.dds_base.specs.declared.code.Code.TheVariants.{Memory};
 
 use crate::keeping::{
     add_blanks, bury_all, forget, forget_left, hold, hold_none, is_any_left, look_up,
-    note_strength, see_all, take_up, track_of,
+    note_strength, see_all, take_up,
 };
 use crate::known::{KnownInstance, told, view_of};
 use crate::track::{InstanceTrack, begins_dead, begins_left, count_if};
@@ -456,10 +456,34 @@ impl Instances {
         ensures key { (q : ReaderQos) (h : List Happening) → Stands q self.now h
             → result ≡ instance_of q h handle }
     {
-        match track_of(&self.tracks, handle) {
-            Some(track) => Some(track.key),
+        let below = Handle::new(handle.number().saturating_sub(1));
+        match self.tracks.get(self.place_above(below)) {
+            Some(track) => {
+                if track.handle == handle.number() {
+                    Some(track.key)
+                } else {
+                    None
+                }
+            }
             None => None,
         }
+    }
+
+    /// At which place among the known instances, which stand by handle, the first one above a handle stands, counted
+    /// from 0; as many as there are where none does. It takes about as many steps as the number of these has bits.
+    pub fn place_above(&self, previous: Handle) -> usize
+        // It is one of their places, or their number.
+        ensures within { (q : ReaderQos) (h : List Happening) → Stands q self.now h
+            → result ≤ length (known_instances q h) }
+        // None that stands before it is above the handle.
+        ensures before { (q : ReaderQos) (h : List Happening) → Stands q self.now h
+            → All (λ i. handle_of q h i ≤ previous) (take result (known_instances q h)) }
+        // The one that stands there is.
+        ensures above { (q : ReaderQos) (h : List Happening) → Stands q self.now h
+            → IfSome (slice_get (known_instances q h) result) (λ i. previous < handle_of q h i) }
+    {
+        self.tracks
+            .partition_point(|track| track.handle <= previous.number())
     }
 
     /// What is known of the instance at a place among the known ones, which stand by handle, counted from 0; none behind

@@ -3,7 +3,7 @@
 //! DDS 1.4, 2.2.2.5 (SampleInfo: instance_state, view_state, the two generation counts), 2.2.3 (OWNERSHIP_STRENGTH,
 //! LIVELINESS).
 
-ghost use Rattle.std.specs.Prelude.{Bool, ◌≡◌, ◌+◌, ◌<◌, ◌≤◌, ◌++◌, ◌∷◌, [], List, ℕ, true, false, None, option_copied, is_some, IsTrue, MatchOption, IfSome, IfErr, OnOk, map, count_by, length, All, vec_len, vec_capacity, filter};
+ghost use Rattle.std.specs.Prelude.{Bool, ◌≡◌, ◌+◌, ◌<◌, ◌≤◌, ◌++◌, ◌∷◌, [], List, ℕ, true, false, None, is_some, IsTrue, MatchOption, IfSome, IfErr, OnOk, map, count_by, length, All, vec_len, vec_capacity, filter};
 ghost use Rattle.std.specs.List.{list_any, IsDistinct};
 ghost use Rattle.indexmap.specs.IndexSet.{index_set_len, spare};
 ghost use Rattle.dds_base.specs.declared.happening.Happening.{Happening};
@@ -19,7 +19,7 @@ ghost use Rattle.dds_base.specs.declared.happening.SamplePosition.{SamplePositio
 ghost use Rattle.dds_instances.specs.Track.{Fits, Tracks, is_alive_track, held_as, held_too, is_other, lives_on, seen_in};
 ghost use Rattle.dds_instances.specs.Table.{is_any_left};
 ghost use Rattle.dds_instances.specs.declared.track.InstanceTrack.{InstanceTrack};
-ghost use Rattle.dds_instances.specs.Following.{key_of, AreBlank, Follows, FollowsBefore, HeldRight, IsForNextLife, IsPlaceOf, LivesRight, MayTakeUp, Reaches, TakeUp, track_with};
+ghost use Rattle.dds_instances.specs.Following.{key_of, AreBlank, Follows, FollowsBefore, HeldRight, IsForNextLife, IsPlaceOf, LivesRight, MayTakeUp, Reaches, TakeUp};
 
 use crate::place::{find, put_last};
 use crate::track::InstanceTrack;
@@ -345,14 +345,4 @@ pub fn look_up<'a>(
         Some(at) => Some(&tracks[at]),
         None => None,
     }
-}
-
-/// What is kept of the instance of a handle.
-pub fn track_of(tracks: &[InstanceTrack], handle: Handle) -> Option<&InstanceTrack>
-    ensures { option_copied result ≡ track_with tracks.now handle }
-{
-    if handle == Handle::NIL {
-        return None;
-    }
-    tracks.iter().find(|track| track.handle == handle.number())
 }

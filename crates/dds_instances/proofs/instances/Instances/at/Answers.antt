@@ -1,29 +1,23 @@
-use Rattle.std.proofs.Common.{◌≡◌, ℕ, ◌+◌, ◌<◌, ◌≤◌, List, true, false, Some, length, get_or, refl, sym, ap, ◌∙◌, arith, Option}
+use Rattle.std.proofs.Common.{◌≡◌, ℕ, ◌+◌, ◌≤◌, List, true, false, Some, length, sym, ap, ◌∙◌, arith, Option}
 use Rattle.std.specs.Prelude.{nat_lt, slice_get}
 use Rattle.std.specs.Option.{option_map, option_and_then}
 use Rattle.std.proofs.lemmas.Bool.Decides.{nat_tests}
-use Rattle.std.proofs.lemmas.Option.{slice_get_past, slice_get_read}
+use Rattle.std.proofs.lemmas.Option.{slice_get_past}
 use Rattle.dds_base.specs.Instance.{is_known}
 use Rattle.dds_base.specs.Life.{is_at}
 use Rattle.dds_instances.specs.declared.track.InstanceTrack.{InstanceTrack}
 use Rattle.dds_instances.specs.Table.{Table, happened_of}
 use Rattle.dds_instances.specs.Following.{Follows, key_of}
 use Rattle.dds_instances.specs.Track.{Fits, Tracks}
-use Rattle.dds_instances.proofs.StandingLaws.{at-place, follows-of, instance-at, known-of, told-tracked}
+use Rattle.dds_instances.proofs.StandingLaws.{at-place, follows-of, instance-at, known-of, told-tracked, track-there}
 use Rattle.dds_instances.proofs.instances.Instances.at.Goals as goal
-
--- what is kept at the place
-there : (ts : List InstanceTrack) (place : ℕ) (t : InstanceTrack) → true ≡ nat_lt place (length ts) → t ≡ get_or ts place t
-    → slice_get ts place ≡ Some t
-there ts place t within is =
-    slice_get_read ts (length ts) place t refl (let below : place < length ts = grind (arith, nat_tests) in below) is
 
 pub returns-in-Some-clause-key : goal.returns-in-Some-clause-key
 returns-in-Some-clause-key c = λ q h stands.
     let t : InstanceTrack = c.in-Some.track.now in
     ap Some c.told.ensures.key
     ∙ (sym (ap (λ (o : Option InstanceTrack). option_map key_of o)
-    (there c.deref.result.now c.args.place t c.in-Some.ensures.lookup.0 c.in-Some.ensures.lookup.1))
+    (track-there c.deref.result.now c.args.place t c.in-Some.ensures.lookup.0 c.in-Some.ensures.lookup.1))
     ∙ instance-at q h c.deref.result.now c.args.place
     (follows-of q h c.args.self.now c.deref.result.now
     (c.deref.ensures.value ∙ ap (λ (t : Table). t.tracks) c.self.view_is) stands))
@@ -35,7 +29,7 @@ returns-in-Some-clause-known c = λ q h stands.
     let follows : Follows q h ts =
     (follows-of q h c.args.self.now ts (c.deref.ensures.value ∙ ap (λ (t : Table). t.tracks) c.self.view_is) stands) in
     let is : slice_get ts c.args.place ≡ Some t =
-    there ts c.args.place t c.in-Some.ensures.lookup.0 c.in-Some.ensures.lookup.1 in
+    track-there ts c.args.place t c.in-Some.ensures.lookup.0 c.in-Some.ensures.lookup.1 in
     told-tracked q h t c.told.result (at-place (λ (x : InstanceTrack). Tracks q x.key h x) ts c.args.place t follows.each is)
     (at-place (λ (x : InstanceTrack). is_known q h x.key ≡ true) ts c.args.place t (known-of q h ts follows) is)
     c.told.ensures.key c.told.ensures.handle c.told.ensures.state c.told.ensures.view c.told.ensures.disposed
@@ -46,7 +40,8 @@ returns-in-Some-clause-marker c =
     let marker : Option InstanceTrack → Option ℕ = λ o. option_and_then (λ (t : InstanceTrack). t.last_marker) o in
     ap (λ (m : Option ℕ). is_at m (happened_of c.args.self.now)) c.told.ensures.marker
     ∙ (sym (ap (λ (o : Option InstanceTrack). is_at (marker o) (happened_of c.args.self.now))
-    (there c.deref.result.now c.args.place c.in-Some.track.now c.in-Some.ensures.lookup.0 c.in-Some.ensures.lookup.1))
+    (track-there c.deref.result.now c.args.place c.in-Some.track.now c.in-Some.ensures.lookup.0
+    c.in-Some.ensures.lookup.1))
     ∙ ap (λ (ts : List InstanceTrack). is_at (marker (slice_get ts c.args.place)) (happened_of c.args.self.now))
     (c.deref.ensures.value ∙ ap (λ (t : Table). t.tracks) c.self.view_is))
 
@@ -55,7 +50,8 @@ returns-in-Some-clause-small c =
     let fits : Fits (c.self.inside.happened + 1) c.in-Some.track.now =
     at-place (Fits (c.self.inside.happened + 1)) c.self.inside.tracks.items c.args.place c.in-Some.track.now
     c.self.invariant.fits (ap (λ (ts : List InstanceTrack). slice_get ts c.args.place) (sym c.deref.ensures.value)
-    ∙ there c.deref.result.now c.args.place c.in-Some.track.now c.in-Some.ensures.lookup.0 c.in-Some.ensures.lookup.1) in
+    ∙ track-there c.deref.result.now c.args.place c.in-Some.track.now c.in-Some.ensures.lookup.0
+    c.in-Some.ensures.lookup.1) in
     omega (arith, fits.generations, c.told.ensures.disposed, c.told.ensures.no_writers, c.self.invariant.counted)
 
 pub returns-in-None-clause-key : goal.returns-in-None-clause-key
