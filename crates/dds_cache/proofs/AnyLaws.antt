@@ -24,6 +24,7 @@ use Rattle.dds_base.specs.Refusal.{Refuses}
 use Rattle.dds_base.specs.Selection.{picked_by, selection_refusal, unless_bad}
 use Rattle.dds_instances.specs.Known.{IsReturnable}
 use Rattle.dds_instances.specs.Table.{Table}
+use Rattle.dds_instances.proofs.RiseLaws.{handle-bounds}
 use Rattle.dds_cache.specs.declared.access.Candidate.{Candidate}
 use Rattle.dds_cache.specs.declared.collection.Access.{Access}
 use Rattle.dds_cache.specs.declared.kept.Kept.{Kept}
@@ -34,7 +35,6 @@ use Rattle.dds_cache.specs.Picking.{IsAccess, collected, Picks, TellsAny, masks_
 use Rattle.dds_cache.specs.Standing.{AccessAnswers, Stored, picked, qos_of, refusal}
 use Rattle.dds_cache.specs.Twice.{first_of}
 use Rattle.dds_cache.proofs.CountLaws.{present-any}
-use Rattle.dds_cache.proofs.EndLaws.{handle-bounds}
 use Rattle.dds_cache.proofs.GroupLaws.{unequal}
 
 -- ---- some of those that pass

@@ -22,10 +22,10 @@ use Rattle.dds_base.specs.Instance.{known_instances}
 use Rattle.dds_base.specs.Presence.{is_present, present_of, present_samples}
 use Rattle.dds_base.specs.Life.{is_at, is_kept_write, last_marker, up_to}
 use Rattle.dds_base.proofs.KeyLaws.{key-same, same_key-comm}
+use Rattle.dds_instances.proofs.RiseLaws.{known-distinct}
 use Rattle.dds_cache.specs.declared.kept.Kept.{Kept}
 use Rattle.dds_cache.specs.Kept.{IsKept, IsUnasked, positions_in, sample_at}
 use Rattle.dds_cache.specs.Finding.{IsUnmet, asks_for, asks_for_states, is_sought, passes, sample_of}
-use Rattle.dds_cache.proofs.EndLaws.{known-distinct}
 use Rattle.dds_cache.proofs.GroupLaws.{flat_map-same}
 use Rattle.dds_cache.proofs.FindingLaws.{filter-flat_map, passing-all, wanted-of}
 

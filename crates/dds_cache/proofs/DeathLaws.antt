@@ -28,13 +28,14 @@ use Rattle.dds_instances.specs.declared.track.InstanceTrack.{InstanceTrack}
 use Rattle.dds_instances.specs.Known.{IsKnown, writes_in_life}
 use Rattle.dds_instances.specs.Table.{Table, has_marked, marked_of}
 use Rattle.dds_instances.specs.Track.{one_if}
+use Rattle.dds_instances.proofs.KnownLaws.{known}
+use Rattle.dds_instances.proofs.RiseLaws.{known-distinct}
 use Rattle.dds_cache.specs.declared.kept.Kept.{Kept}
 use Rattle.dds_cache.specs.Kept.{Adds, IsKept, IsKeptAt, IsNewAt, positions_in, sample_at}
 use Rattle.dds_cache.specs.Dying.{AddsOf}
 use Rattle.dds_cache.proofs.PresenceLaws.{here-append, unknown-absent}
 use Rattle.dds_cache.proofs.KeptLaws.{IsNewest}
 use Rattle.dds_cache.proofs.StandingLaws.{new-at, one-position}
-use Rattle.dds_cache.proofs.EndLaws.{known, known-distinct}
 
 pub some-same : (a b : Key) → Some a ≡ Some b → a ≡ b
 some-same a b e = cc

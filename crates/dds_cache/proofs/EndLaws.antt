@@ -1,12 +1,11 @@
--- The known instances after one more entry: each stands there once, they have their handles, and where there are no fewer
--- than before no life has ended.
-use Rattle.std.proofs.Common.{◌≡◌, ℕ, ◌+◌, ◌-◌, ◌≤◌, ◌<◌, List, [], ◌∷◌, ◌++◌, length, filter, Bool, true, false, not, ◌&&◌, ◌||◌, sym, ap, ◌∙◌, refl, subst, cond, Option, Some, None, arith, suc, ⊎_elim}
+-- The known instances after one more entry: which of them still are, and how many; where there are no fewer than before,
+-- no life has ended.
+use Rattle.std.proofs.Common.{◌≡◌, ℕ, ◌+◌, ◌-◌, ◌≤◌, List, [], ◌∷◌, ◌++◌, length, filter, Bool, true, false, not, ◌&&◌, ◌||◌, sym, ap, ◌∙◌, refl, cond, Option, Some, None, arith, suc, ⊎_elim}
 use Rattle.std.specs.Prelude.{if◌then◌else◌, is_some}
 use Rattle.std.specs.List.{list_any, AllByRecursion, IsDistinct}
-use Rattle.std.proofs.lemmas.Bool.{cases_Bool, and_parts, and_right}
+use Rattle.std.proofs.lemmas.Bool.{cases_Bool, and_parts}
 use Rattle.std.proofs.lemmas.List.{length-append, append-nil}
 use Rattle.std.proofs.lemmas.List.Elements.{filter-append}
-use Rattle.std.proofs.lemmas.List.Folds.{list_any-append}
 use Rattle.std.proofs.lemmas.List.Sums.{count_by-le-length, length-filter}
 use Rattle.dds_base.specs.declared.key.Key.{Key}
 use Rattle.dds_base.specs.declared.change.ChangeKind.{ChangeKind}
@@ -14,18 +13,18 @@ use Rattle.dds_base.specs.declared.happening.Arrival.{Arrival}
 use Rattle.dds_base.specs.declared.happening.Happening.{Happening}
 use Rattle.dds_base.specs.declared.happening.Happening.TheVariants.{Came, Passed, Heard, Died, Read, Took, Looked}
 use Rattle.dds_base.specs.declared.qos.ReaderQos.{ReaderQos}
-use Rattle.dds_base.specs.Access.{handle_of, lives_begun}
 use Rattle.dds_base.specs.declared.happening.SamplePosition.{SamplePosition}
 use Rattle.dds_base.specs.Happening.{same_key, taken_by}
 use Rattle.dds_base.specs.Instance.{introduced_by, introduces, is_known, known_instances}
 use Rattle.dds_base.specs.Life.{or_else, last_accepted, ends_life}
 use Rattle.dds_base.specs.Ownership.{accepted_kind, registered_writers}
 use Rattle.dds_base.proofs.KeyLaws.{key-same, same_key-comm, same_key-refl}
-use Rattle.dds_base.proofs.LifeLaws.{accepted-other, handle-kept, quiet-goes-on}
+use Rattle.dds_base.proofs.LifeLaws.{accepted-other, quiet-goes-on}
 use Rattle.dds_instances.specs.Track.{one_if}
+use Rattle.dds_instances.proofs.KnownLaws.{known}
+use Rattle.dds_instances.proofs.RiseLaws.{known-distinct, or-right}
 use Rattle.std.proofs.lemmas.Map.Keys.{IsDistinct-head, IsDistinct-tail}
 use Rattle.dds_cache.proofs.PresenceLaws.{writers-other}
-use Rattle.dds_cache.proofs.RiseLaws.{IsRising, or-right, rising-distinct, rising-passing, rising-push, rising-upper, rising-within}
 
 -- ---- when an instance is known
 
@@ -71,78 +70,6 @@ pub known-other : (q : ReaderQos) (a : Arrival) (h : List Happening) (i : Key) �
     → is_known q h i ≡ true → is_known q (Came a ∷ h) i ≡ true
 known-other q a h i other known =
     still-quiet q (Came a) h i (accepted-other q i h a other) (writers-other q a h i other) refl known
-
--- ---- the keys of the known instances
-
--- a key that passes, among those of a list that do
-any-passing : (p : Key → Bool) (i : Key) (ks : List Key)
-    → list_any (λ k. same_key k i) (filter p ks) ≡ (p i && list_any (λ k. same_key k i) ks)
-any-passing p i [] = sym (and_right (p i) false refl)
-any-passing p i (k ∷ ks) =
-    ⊎_elim
-    (λ same. let is : p k ≡ p i = ap p (key-same k i same) in
-    ap (λ (b : Bool). list_any (λ x. same_key x i) (cond b (k ∷ filter p ks) (filter p ks))) is
-    ∙ (own (p i) k i (filter p ks) same (any-passing p i ks)
-    ∙ sym (ap (λ (b : Bool). p i && (b || list_any (λ x. same_key x i) ks)) same)))
-    (λ other. skip (p k) k i (filter p ks) other
-    ∙ (any-passing p i ks ∙ sym (ap (λ (b : Bool). p i && (b || list_any (λ x. same_key x i) ks)) other)))
-    (cases_Bool (same_key k i))
-  where
-    own : (b : Bool) (k i : Key) (xs : List Key) → same_key k i ≡ true
-        → list_any (λ x. same_key x i) xs ≡ (b && list_any (λ x. same_key x i) ks)
-        → list_any (λ x. same_key x i) (cond b (k ∷ xs) xs) ≡ (b && true)
-    own true k i xs same rest = ap (λ (b : Bool). b || list_any (λ x. same_key x i) xs) same
-    own false k i xs same rest = rest
-
-    skip : (b : Bool) (k i : Key) (xs : List Key) → same_key k i ≡ false
-        → list_any (λ x. same_key x i) (cond b (k ∷ xs) xs) ≡ list_any (λ x. same_key x i) xs
-    skip true k i xs other = ap (λ (b : Bool). b || list_any (λ x. same_key x i) xs) other
-    skip false k i xs other = refl
-
-not-both : (a b : Bool) → (not a && false) ≡ true → b ≡ true
-not-both true b e = absurd cc
-not-both false b e = absurd cc
-
--- what an entry makes known is named
-pub introduced-there : (q : ReaderQos) (h : List Happening) (e : Happening) (i : Key) → introduces q i h e ≡ true
-    → list_any (λ k. same_key k i) (introduced_by q h e) ≡ true
-introduced-there q h (Came a) i new =
-    ⊎_elim
-    (λ same. let is : a.change.key ≡ i = key-same a.change.key i same in
-    ap (λ (b : Bool). list_any (λ k. same_key k i) (cond b (a.change.key ∷ []) []))
-    (ap (λ (x : Key). introduces q x h (Came a)) is ∙ new)
-    ∙ ap (λ (b : Bool). b || false) same)
-    (λ other. not-both (is_known q h i) _
-    (sym (ap (λ (k : Option ChangeKind). not (is_known q h i) && is_some k) (accepted-other q i h a other)) ∙ new))
-    (cases_Bool (same_key a.change.key i))
-introduced-there q h (Passed w first last) i new = not-both (is_known q h i) _ new
-introduced-there q h (Heard w m) i new = not-both (is_known q h i) _ new
-introduced-there q h (Died w m) i new = not-both (is_known q h i) _ new
-introduced-there q h (Read s) i new = not-both (is_known q h i) _ new
-introduced-there q h (Took s) i new = not-both (is_known q h i) _ new
-introduced-there q h (Looked k) i new = not-both (is_known q h i) _ new
-
--- an instance is among the known ones exactly where it is known
-pub known : (q : ReaderQos) (h : List Happening) (i : Key)
-    → list_any (λ k. same_key k i) (known_instances q h) ≡ is_known q h i
-known q [] i = refl
-known q (e ∷ h) i =
-    let all : List Key = known_instances q h ++ introduced_by q h e in
-    any-passing (is_known q (e ∷ h)) i all
-    ∙ ⊎_elim
-    (λ lives. ap (λ (b : Bool). b && list_any (λ k. same_key k i) all) lives
-    ∙ (list_any-append (λ k. same_key k i) (known_instances q h) (introduced_by q h e)
-    ∙ (ap (λ (b : Bool). b || list_any (λ k. same_key k i) (introduced_by q h e)) (known q h i)
-    ∙ (new (is_known q h i) (is_some (accepted_kind q i h e)) _
-    (sym (known-next q e h i (known-lives q e h i lives)) ∙ lives)
-    (introduced-there q h e i) ∙ sym lives))))
-    (λ gone. ap (λ (b : Bool). b && list_any (λ k. same_key k i) all) gone ∙ sym gone)
-    (cases_Bool (is_known q (e ∷ h) i))
-  where
-    new : (before accepted named : Bool) → (before || accepted) ≡ true
-        → ((not before && accepted) ≡ true → named ≡ true) → (before || named) ≡ true
-    new true accepted named some is = refl
-    new false accepted named some is = is some
 
 -- ---- how many are known
 
@@ -210,80 +137,6 @@ still-known-by q (Died w m) h i many is = no-fewer q (Died w m) h i refl many is
 still-known-by q (Read s) h i many is = no-fewer q (Read s) h i refl many is
 still-known-by q (Took s) h i many is = no-fewer q (Took s) h i refl many is
 still-known-by q (Looked k) h i many is = no-fewer q (Looked k) h i refl many is
-
--- ---- the handles of the known instances
-
--- those that were known, and still are, have the handles that they had
-rise-still : (q : ReaderQos) (e : Happening) (h : List Happening)
-    → IsRising (handle_of q h) 1 (1 + lives_begun q h) (known_instances q h)
-    → IsRising (handle_of q (e ∷ h)) 1 (1 + lives_begun q h) (filter (is_known q (e ∷ h)) (known_instances q h))
-rise-still q e h before =
-    rising-passing (handle_of q h) (handle_of q (e ∷ h)) (is_known q (e ∷ h)) 1 (1 + lives_begun q h)
-    (known_instances q h) (λ i there lives. handle-kept q i h e lives (sym (known q h i) ∙ there)) before
-
-rise-none : (q : ReaderQos) (e : Happening) (h : List Happening) → introduced_by q h e ≡ []
-    → IsRising (handle_of q h) 1 (1 + lives_begun q h) (known_instances q h)
-    → IsRising (handle_of q (e ∷ h)) 1 (1 + lives_begun q (e ∷ h)) (known_instances q (e ∷ h))
-rise-none q e h none before =
-    subst (λ (ks : List Key). IsRising (handle_of q (e ∷ h)) 1 (1 + (lives_begun q h + length ks))
-    (filter (is_known q (e ∷ h)) (known_instances q h ++ ks))) (sym none)
-    (subst (λ (ks : List Key). IsRising (handle_of q (e ∷ h)) 1 (1 + (lives_begun q h + 0))
-    (filter (is_known q (e ∷ h)) ks)) (sym (append-nil (known_instances q h)))
-    (rising-upper (handle_of q (e ∷ h)) 1 (1 + lives_begun q h) (1 + (lives_begun q h + 0))
-    (filter (is_known q (e ∷ h)) (known_instances q h)) (omega arith) (rise-still q e h before)))
-
-rise-one : (q : ReaderQos) (a : Arrival) (h : List Happening)
-    → IsRising (handle_of q h) 1 (1 + lives_begun q h) (known_instances q h)
-    → introduces q a.change.key h (Came a) ≡ true
-    → IsRising (handle_of q (Came a ∷ h)) 1 (1 + lives_begun q (Came a ∷ h)) (known_instances q (Came a ∷ h))
-rise-one q a h before new =
-    let g : List Happening = Came a ∷ h in
-    let x : Key = a.change.key in
-    let old : List Key = filter (is_known q g) (known_instances q h) in
-    let still : IsRising (handle_of q g) 1 (1 + lives_begun q h) old = rise-still q (Came a) h before in
-    let begun : lives_begun q g ≡ lives_begun q h + 1 =
-    ap (λ (b : Bool). lives_begun q h + length (cond b (x ∷ []) [])) new in
-    subst (λ (b : Bool). IsRising (handle_of q g) 1 (1 + (lives_begun q h + length (cond b (x ∷ []) [])))
-    (filter (is_known q g) (known_instances q h ++ cond b (x ∷ []) []))) (sym new)
-    (subst (λ (ks : List Key). IsRising (handle_of q g) 1 (1 + (lives_begun q h + 1)) ks)
-    (sym (filter-append (is_known q g) (known_instances q h) (x ∷ [])))
-    (⊎_elim
-    (λ lives. subst (λ (b : Bool). IsRising (handle_of q g) 1 (1 + (lives_begun q h + 1)) (old ++ cond b (x ∷ []) []))
-    (sym lives) (rising-upper (handle_of q g) 1 (1 + lives_begun q h + 1) (1 + (lives_begun q h + 1)) (old ++ x ∷ [])
-    (omega arith) (rising-push (handle_of q g) 1 (1 + lives_begun q h) old x (omega arith)
-    (let number : handle_of q g x ≡ lives_begun q g =
-    ap (λ (b : Bool). if not b then 0 else (if introduces q x h (Came a) then lives_begun q g else handle_of q h x)) lives
-    ∙ ap (λ (b : Bool). if b then lives_begun q g else handle_of q h x) new in omega (arith, number, begun)) still)))
-    (λ gone. subst (λ (b : Bool). IsRising (handle_of q g) 1 (1 + (lives_begun q h + 1)) (old ++ cond b (x ∷ []) []))
-    (sym gone) (subst (λ (ks : List Key). IsRising (handle_of q g) 1 (1 + (lives_begun q h + 1)) ks)
-    (sym (append-nil old)) (rising-upper (handle_of q g) 1 (1 + lives_begun q h) (1 + (lives_begun q h + 1)) old
-    (omega arith) still)))
-    (cases_Bool (is_known q g x))))
-
--- they rise, from 1 to the number of lives that have begun
-pub handles-rise : (q : ReaderQos) (h : List Happening)
-    → IsRising (handle_of q h) 1 (1 + lives_begun q h) (known_instances q h)
-handles-rise q [] = tt
-handles-rise q (Came a ∷ h) =
-    ⊎_elim (rise-one q a h (handles-rise q h))
-    (λ old. rise-none q (Came a) h (ap (λ (b : Bool). cond b (a.change.key ∷ []) []) old) (handles-rise q h))
-    (cases_Bool (introduces q a.change.key h (Came a)))
-handles-rise q (Passed w first last ∷ h) = rise-none q (Passed w first last) h refl (handles-rise q h)
-handles-rise q (Heard w m ∷ h) = rise-none q (Heard w m) h refl (handles-rise q h)
-handles-rise q (Died w m ∷ h) = rise-none q (Died w m) h refl (handles-rise q h)
-handles-rise q (Read s ∷ h) = rise-none q (Read s) h refl (handles-rise q h)
-handles-rise q (Took s ∷ h) = rise-none q (Took s) h refl (handles-rise q h)
-handles-rise q (Looked k ∷ h) = rise-none q (Looked k) h refl (handles-rise q h)
-
-pub known-distinct : (q : ReaderQos) (h : List Happening) → IsDistinct same_key (known_instances q h)
-known-distinct q h =
-    rising-distinct (handle_of q h) 1 (1 + lives_begun q h) (known_instances q h) (handles-rise q h)
-
-pub handle-bounds : (q : ReaderQos) (h : List Happening) (i : Key)
-    → list_any (λ k. same_key k i) (known_instances q h) ≡ true
-    → (1 ≤ handle_of q h i) × (handle_of q h i < 1 + lives_begun q h)
-handle-bounds q h i there =
-    rising-within (handle_of q h) 1 (1 + lives_begun q h) (known_instances q h) i (handles-rise q h) there
 
 -- ---- how many are known after a change
 

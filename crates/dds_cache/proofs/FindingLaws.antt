@@ -29,12 +29,12 @@ use Rattle.dds_base.specs.declared.sample.InstanceState.TheVariants.{Alive}
 use Rattle.dds_instances.specs.Table.{Table}
 use Rattle.dds_instances.specs.declared.known.KnownInstance.{KnownInstance}
 use Rattle.dds_instances.specs.Known.{IsKnown}
+use Rattle.dds_instances.proofs.RiseLaws.{handle-bounds, handles-rise}
 use Rattle.dds_cache.specs.declared.kept.Kept.{Kept}
 use Rattle.dds_cache.specs.declared.access.Candidate.{Candidate}
 use Rattle.dds_cache.specs.Kept.{IsKept, is_live, sample_at, position_of, positions_in, is_here}
 use Rattle.dds_cache.specs.Finding.{are_asked_for, is_asked_for, is_wanted, described_by, IsFound, IsCandidate, AreCandidates, Holds, sample_in, sample_of, handle_in, passes}
 use Rattle.dds_base.proofs.KeyLaws.{key-same, same_key-comm}
-use Rattle.dds_cache.proofs.EndLaws.{handle-bounds, handles-rise}
 use Rattle.dds_cache.proofs.KeptLaws.{live-present, present-in}
 use Rattle.dds_cache.proofs.RiseLaws.{by-key}
 use Rattle.dds_cache.proofs.GroupLaws.{group, groups, grouped, flat_map-same}

@@ -23,15 +23,14 @@ use Rattle.dds_base.specs.Presence.{present_of}
 use Rattle.dds_base.proofs.KeyLaws.{key-same, same_key-refl}
 use Rattle.dds_instances.specs.Table.{Table}
 use Rattle.dds_instances.specs.declared.known.KnownInstance.{KnownInstance}
+use Rattle.dds_instances.proofs.RiseLaws.{handles-rise, IsRising, rising-each, rising-within}
 use Rattle.dds_cache.specs.declared.access.Candidate.{Candidate}
 use Rattle.dds_cache.specs.declared.kept.Kept.{Kept}
 use Rattle.dds_cache.specs.Kept.{IsKept, sample_at}
 use Rattle.dds_cache.specs.Finding.{Holds, IsCandidate, TellsFound, asks_for, handle_in, is_asked_for, is_wanted, sample_in, sample_of}
 use Rattle.dds_cache.specs.First.{AreFirstOf, AreOfForm, IsAmongKnown, IsFirstAsked, IsFoundOf, IsFull, IsOf, IsPassedBy, Settles, TellsFoundOf, of_form, of_handle, wanted_in}
-use Rattle.dds_cache.proofs.EndLaws.{handles-rise}
 use Rattle.dds_cache.proofs.FindingLaws.{filter-flat_map, filter-more, found-candidate, wanted-of}
 use Rattle.dds_cache.proofs.GroupLaws.{unequal}
-use Rattle.dds_cache.proofs.RiseLaws.{IsRising, rising-within}
 
 -- ---- one kept sample after another
 
@@ -324,13 +323,6 @@ below-each q h X n ks own below =
     (λ s key. ap (λ (y : Key). nat_lt n (handle_of q h y)) key ∙ is) (X x) (own x)) ks below)
 
 -- ---- the instances after one have greater handles
-
-rising-each : (f : Key → ℕ) (a b : ℕ) (ks : List Key) → IsRising f a b ks → All (λ (k : Key). a ≤ f k) ks
-rising-each f a b [] rising = All-nil (λ (k : Key). a ≤ f k)
-rising-each f a b (k ∷ ks) rising =
-    All-cons (λ (x : Key). a ≤ f x) k ks rising.0
-    (All-weaker (λ (x : Key). f k + 1 ≤ f x) (λ (x : Key). a ≤ f x) (λ x is. omega (arith, is, rising.0)) ks
-    (rising-each f (f k + 1) b ks rising.2))
 
 rising-after : (f : Key → ℕ) (a b : ℕ) (xs : List Key) (i : Key) (ys : List Key) → IsRising f a b (xs ++ i ∷ ys)
     → All (λ (k : Key). (f k == f i) ≡ false) ys

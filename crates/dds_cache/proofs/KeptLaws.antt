@@ -20,9 +20,10 @@ use Rattle.dds_base.specs.Access.{handle_of, newest_value}
 use Rattle.dds_base.proofs.LifeLaws.{as_of-older, as_of-newest, handle-kept}
 use Rattle.dds_instances.specs.declared.known.KnownInstance.{KnownInstance}
 use Rattle.dds_instances.specs.Known.{IsKnown, writes_in_life}
+use Rattle.dds_instances.proofs.KnownLaws.{known}
 use Rattle.dds_cache.specs.declared.kept.Kept.{Kept}
 use Rattle.dds_cache.specs.Kept.{IsKept, IsOf, IsFresh, is_live, is_live_by, sample_at, value_if}
-use Rattle.dds_cache.proofs.EndLaws.{known, known-lives}
+use Rattle.dds_cache.proofs.EndLaws.{known-lives}
 use Rattle.dds_cache.proofs.PresenceLaws.{unstated}
 
 -- some kept sample, of which nothing is said but which it is

@@ -1,101 +1,15 @@
--- Keys whose numbers rise are distinct, and samples in groups by number are in groups by key.
-use Rattle.std.proofs.Common.{◌≡◌, ℕ, ◌+◌, ◌≤◌, ◌<◌, List, [], ◌∷◌, ◌++◌, filter, Bool, true, false, ◌==◌, ◌||◌, ◌⊎◌, inl, inr, sym, ap, ◌∙◌, refl, subst, cond, arith, zero, suc, ⊎_elim}
-use Rattle.std.specs.List.{list_any, All, flat_map, range_with_len, IsDistinct, AllByRecursion}
+-- Where the numbers of keys rise, samples in groups by number are in groups by key.
+use Rattle.std.proofs.Common.{◌≡◌, ℕ, ◌+◌, ◌<◌, List, [], ◌∷◌, ◌++◌, filter, Bool, true, false, ◌==◌, ◌||◌, ◌⊎◌, inl, inr, sym, ap, ◌∙◌, refl, subst, cond, arith, zero, suc, ⊎_elim}
+use Rattle.std.specs.List.{list_any, All, flat_map, range_with_len}
 use Rattle.std.proofs.lemmas.Bool.{cases_Bool, eqb-true, eqb-false, eq-eqb}
 use Rattle.std.proofs.lemmas.List.Concat.{flat_map-cons}
 use Rattle.std.proofs.lemmas.List.Elements.{All-head, All-tail, All-weaker}
-use Rattle.std.proofs.lemmas.Map.Keys.{IsDistinct-cons}
 use Rattle.dds_base.specs.declared.key.Key.{Key}
 use Rattle.dds_base.specs.declared.happening.SamplePosition.{SamplePosition}
 use Rattle.dds_base.specs.Happening.{same_key}
-use Rattle.dds_base.proofs.KeyLaws.{key-same, same_key-refl}
+use Rattle.dds_base.proofs.KeyLaws.{key-same}
+use Rattle.dds_instances.proofs.RiseLaws.{IsRising, rising-upper, rising-within}
 use Rattle.dds_cache.proofs.GroupLaws.{group, groups, unequal}
-
-pub or-right : (a b : Bool) → b ≡ true → (a || b) ≡ true
-or-right true b is = refl
-or-right false b is = is
-
--- the numbers of some keys rise, from a on and below b
-abbrev pub IsRising : (Key → ℕ) → ℕ → ℕ → List Key → Type 0
-IsRising f a b [] = Unit
-IsRising f a b (k ∷ ks) = (a ≤ f k) × (f k < b) × IsRising f (f k + 1) b ks
-
-rising-lower : (f : Key → ℕ) (a c b : ℕ) (ks : List Key) → c ≤ a → IsRising f a b ks → IsRising f c b ks
-rising-lower f a c b [] less rising = tt
-rising-lower f a c b (k ∷ ks) less rising = (omega (arith, less, rising.0), rising.1, rising.2)
-
-pub rising-upper : (f : Key → ℕ) (a b c : ℕ) (ks : List Key) → b ≤ c → IsRising f a b ks → IsRising f a c ks
-rising-upper f a b c [] more rising = tt
-rising-upper f a b c (k ∷ ks) more rising =
-    (rising.0, omega (arith, more, rising.1), rising-upper f (f k + 1) b c ks more rising.2)
-
--- those that pass rise by another numbering that agrees on them
-pub rising-passing : (f g : Key → ℕ) (p : Key → Bool) (a b : ℕ) (ks : List Key)
-    → ((i : Key) → list_any (λ k. same_key k i) ks ≡ true → p i ≡ true → g i ≡ f i) → IsRising f a b ks
-    → IsRising g a b (filter p ks)
-rising-passing f g p a b [] agree rising = tt
-rising-passing f g p a b (k ∷ ks) agree rising =
-    let rest : IsRising g (f k + 1) b (filter p ks) =
-    rising-passing f g p (f k + 1) b ks
-    (λ i there. agree i (or-right (same_key k i) (list_any (λ x. same_key x i) ks) there)) rising.2 in
-    ⊎_elim
-    (λ passes. let is : g k ≡ f k =
-    agree k (ap (λ (b : Bool). b || list_any (λ x. same_key x k) ks) (same_key-refl k)) passes in
-    subst (λ (b' : Bool). IsRising g a b (cond b' (k ∷ filter p ks) (filter p ks))) (sym passes) (
-      omega (arith, is, rising.0),
-      omega (arith, is, rising.1),
-      subst (λ (n : ℕ). IsRising g (n + 1) b (filter p ks)) (sym is) rest,
-    ))
-    (λ fails. subst (λ (b' : Bool). IsRising g a b (cond b' (k ∷ filter p ks) (filter p ks))) (sym fails)
-    (rising-lower g (f k + 1) a b (filter p ks) (omega (arith, rising.0)) rest))
-    (cases_Bool (p k))
-
--- one more, with the next number
-pub rising-push : (f : Key → ℕ) (a b : ℕ) (ks : List Key) (k : Key) → a ≤ b → f k ≡ b → IsRising f a b ks
-    → IsRising f a (b + 1) (ks ++ k ∷ [])
-rising-push f a b [] k within is rising = (omega (arith, within, is), omega (arith, is), tt)
-rising-push f a b (x ∷ ks) k within is rising = (
-  rising.0,
-  omega (arith, rising.1),
-  rising-push f (f x + 1) b ks k (omega (arith, rising.1)) is rising.2,
-)
-
--- the number of one of them is within the bounds
-pub rising-within : (f : Key → ℕ) (a b : ℕ) (ks : List Key) (i : Key) → IsRising f a b ks
-    → list_any (λ k. same_key k i) ks ≡ true → (a ≤ f i) × (f i < b)
-rising-within f a b [] i rising there = absurd (let clash : false ≡ true = there in cc)
-rising-within f a b (k ∷ ks) i rising there =
-    ⊎_elim
-    (λ same. let is : f k ≡ f i = ap f (key-same k i same) in
-    (omega (arith, is, rising.0), omega (arith, is, rising.1)))
-    (λ other. let rest = rising-within f (f k + 1) b ks i rising.2
-    (sym (ap (λ (b : Bool). b || list_any (λ x. same_key x i) ks) other) ∙ there) in
-    (omega (arith, rest.0, rising.0), rest.1))
-    (cases_Bool (same_key k i))
-
--- one with a smaller number is none of them
-apart-rising : (f : Key → ℕ) (a b : ℕ) (x : Key) (ks : List Key) → f x < a → IsRising f a b ks
-    → AllByRecursion (λ y. same_key x y ≡ false) ks
-apart-rising f a b x [] below rising = tt
-apart-rising f a b x (y ∷ ks) below rising = (
-  ⊎_elim
-      (λ same. let is : f x ≡ f y = ap f (key-same x y same) in absurd (omega (arith, is, below, rising.0)))
-      (λ other. other)
-      (cases_Bool (same_key x y)),
-  apart-rising f (f y + 1) b x ks (omega (arith, below, rising.0)) rising.2,
-)
-
-distinct-nil : IsDistinct same_key []
-unfolding IsDistinct
-distinct-nil = tt
-
-pub rising-distinct : (f : Key → ℕ) (a b : ℕ) (ks : List Key) → IsRising f a b ks → IsDistinct same_key ks
-rising-distinct f a b [] rising = distinct-nil
-rising-distinct f a b (k ∷ ks) rising =
-    IsDistinct-cons same_key k ks (apart-rising f (f k + 1) b k ks (omega arith) rising.2)
-    (rising-distinct f (f k + 1) b ks rising.2)
-
--- ---- groups by number are groups by key
 
 -- a sample of one of the keys, or of one with a number below those
 abbrev IsPlaced : (Key → ℕ) → ℕ → List Key → SamplePosition → Type 0

@@ -27,11 +27,12 @@ use Rattle.dds_base.proofs.LifeLaws.{accepted-other, as_of-newest, as_of-older, 
 use Rattle.dds_instances.specs.declared.known.KnownInstance.{KnownInstance}
 use Rattle.dds_instances.specs.Known.{IsKnown, writes_in_life}
 use Rattle.dds_instances.specs.Track.{one_if}
+use Rattle.dds_instances.proofs.KnownLaws.{known}
 use Rattle.dds_cache.specs.declared.kept.Kept.{Kept}
 use Rattle.dds_cache.specs.Kept.{Adds, IsFresh, IsKept, IsKeptAt, IsOf, has_data, positions_in, sample_at}
 use Rattle.dds_cache.specs.Room.{is_present_write, is_write_after}
 use Rattle.dds_cache.specs.Sweeping.{stays}
-use Rattle.dds_cache.proofs.EndLaws.{known, known-accepted, short}
+use Rattle.dds_cache.proofs.EndLaws.{known-accepted, short}
 use Rattle.dds_cache.proofs.PresenceLaws.{count-grew, ended-absent, filter-narrow, present-reached, reached, unmarked-other}
 use Rattle.dds_cache.proofs.StandingLaws.{adds-nothing, adds-one, each-after, present-after}
 use Rattle.dds_cache.proofs.SweepLaws.{Leaves, apart-quiet, leaves-swept, present-stays, ripe-one}

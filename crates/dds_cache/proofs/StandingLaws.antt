@@ -19,6 +19,7 @@ use Rattle.dds_base.specs.declared.selection.Selection.{Selection}
 use Rattle.dds_base.specs.StatusFlags.{brings_sample, data_available_at}
 use Rattle.dds_instances.specs.Table.{Table, Stands}
 use Rattle.dds_instances.specs.Known.{IsReturnable}
+use Rattle.dds_instances.proofs.KnownLaws.{known}
 use Rattle.dds_cache.specs.declared.access.Candidate.{Candidate}
 use Rattle.dds_cache.specs.declared.collection.Access.{Access}
 use Rattle.dds_cache.specs.Finding.{AreApart, Holds, IsCandidate, sample_in}
@@ -31,7 +32,7 @@ use Rattle.dds_cache.specs.Sweeping.{AreIn, left_since, stays}
 use Rattle.dds_base.specs.Instance.{known_instances}
 use Rattle.dds_cache.specs.Standing.{Stored, StandsFor, entry_of}
 use Rattle.dds_cache.proofs.PresenceLaws.{here-append, present-next, present-dropped, quiet-absent, other-absent}
-use Rattle.dds_cache.proofs.EndLaws.{known, still-quiet}
+use Rattle.dds_cache.proofs.EndLaws.{still-quiet}
 use Rattle.dds_cache.proofs.KeptLaws.{kept-next, not-true, present-in, some_kept}
 use Rattle.dds_cache.proofs.SweepLaws.{IsApart, IsRipe, Leaves, all-filtered, apart-quiet, here-stays, leaves-all, past-kept, ripe-since}
 use Rattle.dds_cache.proofs.GroupLaws.{unequal}

@@ -18,10 +18,11 @@ use Rattle.dds_base.specs.Presence.{is_present}
 use Rattle.dds_base.proofs.KeyLaws.{key-same}
 use Rattle.dds_instances.specs.declared.known.KnownInstance.{KnownInstance}
 use Rattle.dds_instances.specs.Known.{IsKnown, writes_in_life}
+use Rattle.dds_instances.proofs.KnownLaws.{known}
 use Rattle.dds_cache.specs.declared.kept.Kept.{Kept}
 use Rattle.dds_cache.specs.Kept.{IsKept, is_here, is_live, is_live_by, position_of, positions_in}
 use Rattle.dds_cache.specs.Sweeping.{left_since, stays}
-use Rattle.dds_cache.proofs.EndLaws.{known, still-known, still-known-by}
+use Rattle.dds_cache.proofs.EndLaws.{still-known, still-known-by}
 use Rattle.dds_cache.proofs.KeptLaws.{kept-next, known-stated, live-by-present, live-known}
 use Rattle.dds_cache.proofs.PresenceLaws.{ended-absent, present-dropped, unstated}
 
