@@ -1,5 +1,5 @@
--- The known instances after one more entry: which of them still are, and how many; where there are no fewer than before,
--- no life has ended.
+-- The known instances after one more entry: which of them still are, and how many; where there are no fewer than
+-- before, no life has ended.
 use Rattle.std.proofs.Common.{◌≡◌, ℕ, ◌+◌, ◌-◌, ◌≤◌, List, [], ◌∷◌, ◌++◌, length, filter, Bool, true, false, not, ◌&&◌, ◌||◌, sym, ap, ◌∙◌, refl, cond, Option, Some, None, arith, suc, ⊎_elim}
 use Rattle.std.specs.Prelude.{if◌then◌else◌, is_some}
 use Rattle.std.specs.List.{list_any, AllByRecursion, IsDistinct}

@@ -2,7 +2,7 @@
 -- has to be believed.
 --
 -- DDS 1.4, 2.2.2.5 (read, take, and their instance, next-instance and next-sample forms: max_samples).
-use Rattle.std.specs.Prelude.{◌≡◌, ℕ, ◌≤◌, ◌<◌, ◌^◌, ◌+◌, ◌⊎◌, List, All, map, filter, take, Bool, true, false, ◌&&◌, ◌==◌, Option, None, Some, MatchOption, slice_get}
+use Rattle.std.specs.Prelude.{◌≡◌, ℕ, ◌≤◌, ◌<◌, ◌^◌, ◌+◌, ◌⊎◌, List, All, map, filter, take, Bool, true, false, ◌&&◌, ◌==◌, Option, None, Some, IfSome, MatchOption, slice_get}
 use Rattle.dds_base.specs.declared.key.Key.{Key}
 use Rattle.dds_base.specs.declared.happening.SamplePosition.{SamplePosition}
 use Rattle.dds_base.specs.declared.happening.Happening.{Happening}
@@ -39,6 +39,13 @@ TellsAsked q h selection place None =
 TellsAsked q h selection place (Some known) =
     (slice_get (known_instances q h) place ≡ Some known.key)
     × (asks_for selection (handle_of q h known.key) ≡ true) × IsKnown q h known
+
+-- an access asks for none of the known instances before a place, and for none at all where it does not ask for the one
+-- that stands there
+pub record IsFirstPlace (q : ReaderQos) (h : List Happening) (selection : Selection) (place : ℕ) : Type 0 where
+  pub before : All (IsPassedBy q h selection) (take place (known_instances q h))
+  pub only : IfSome (slice_get (known_instances q h) place)
+      (λ i. IsPassedBy q h selection i → All (IsPassedBy q h selection) (known_instances q h))
 
 -- the two generation counts of an instance can be added
 abbrev pub IsCountable : KnownInstance → Type 0

@@ -9,12 +9,12 @@ ghost use Rattle.dds_base.specs.declared.qos.ReaderQos.{ReaderQos};
 ghost use Rattle.dds_base.specs.Instance.{known_instances};
 ghost use Rattle.dds_instances.specs.Table.{Stands};
 ghost use Rattle.dds_cache.specs.Finding.{Holds, IsPlaced, IsSmall, handle_in};
-ghost use Rattle.dds_cache.specs.First.{AreOfForm, IsCountable, IsFirstAsked, IsPassedBy, Settles, TellsAsked};
+ghost use Rattle.dds_cache.specs.First.{AreOfForm, IsCountable, IsFirstAsked, IsFirstPlace, IsPassedBy, Settles, TellsAsked};
 
 use crate::access::{Candidate, asks_for_handle, find_in_instance, is_full};
 use crate::kept::Kept;
 use crate::test::Test;
-use dds_base::{Masks, ReaderQos, Selection};
+use dds_base::{Handle, Masks, ReaderQos, Selection};
 use dds_instances::{Instances, KnownInstance};
 use std::alloc::{AllocError, Global};
 
@@ -36,19 +36,28 @@ fn asked_at(instances: &Instances, selection: &Selection, place: usize) -> Optio
     }
 }
 
-/// What is known of the first of the known instances that an access asks for. It goes over those before it.
+/// The place of the first of the known instances that an access may ask for.
+fn first_place(instances: &Instances, selection: &Selection) -> usize
+    ensures { (q : ReaderQos) (h : List Happening) → Stands q instances.now h
+        → IsFirstPlace q h selection.now result }
+{
+    match *selection {
+        Selection::Any { .. } | Selection::NextSample => 0,
+        Selection::Instance { handle, .. } => {
+            instances.place_above(Handle::new(handle.number().saturating_sub(1)))
+        }
+        Selection::NextInstance { previous, .. } => instances.place_above(previous),
+    }
+}
+
+/// What is known of the first of the known instances that an access asks for.
 fn first_asked(instances: &Instances, selection: &Selection) -> Option<KnownInstance>
     ensures counts { IfSome result IsCountable }
     ensures first { (q : ReaderQos) (h : List Happening) → Stands q instances.now h
         → MatchOption result (All (IsPassedBy q h selection.now) (known_instances q h))
         (IsFirstAsked q h selection.now) }
 {
-    for place in 0..instances.len() {
-        if let Some(known) = asked_at(instances, selection, place) {
-            return Some(known);
-        }
-    }
-    None
+    asked_at(instances, selection, first_place(instances, selection))
 }
 
 /// Whether what was found of the first instance that an access asks for is all that it picks: by how many instances are
