@@ -1,5 +1,5 @@
 -- How many of the kept samples were read, and how many have data.
-use Rattle.std.proofs.Common.{◌≡◌, ℕ, ◌+◌, ◌≤◌, ◌<◌, List, [], ◌∷◌, ◌++◌, length, get_or, set, Bool, true, false, not, ◌&&◌, cond, sym, ap, ◌∙◌, refl, ◌-◌, arith, ⊎_elim}
+use Rattle.std.proofs.Common.{◌≡◌, ℕ, ◌+◌, ◌≤◌, ◌<◌, List, [], ◌∷◌, ◌++◌, length, get_or, set, Bool, true, false, not, ◌&&◌, cond, sym, ap, subst, ◌∙◌, refl, ◌-◌, arith, ⊎_elim}
 use Rattle.std.specs.Prelude.{if◌then◌else◌}
 use Rattle.std.specs.List.{All, count_by}
 use Rattle.std.proofs.lemmas.Bool.{cases_Bool}
@@ -8,8 +8,11 @@ use Rattle.std.proofs.lemmas.List.Elements.{All-cons, All-head, All-nil, All-tai
 use Rattle.dds_base.specs.declared.mask.SampleStateMask.{SampleStateMask}
 use Rattle.dds_base.specs.declared.sample.SampleState.TheVariants.{Read as HasBeenRead, NotRead}
 use Rattle.dds_base.specs.Access.{asks_for_sample_state}
+use Rattle.dds_cache.specs.Chains.{AreChainsOf}
+use Rattle.dds_cache.specs.declared.chains.Chains.{Chains}
 use Rattle.dds_cache.specs.declared.counts.Counts.{Counts}
 use Rattle.dds_cache.specs.declared.kept.Kept.{Kept}
+use Rattle.dds_cache.proofs.ChainLaws.{chains-set}
 use Rattle.dds_cache.specs.Kept.{IsCounted, IsUnasked, has_data, is_in, out_if, read_if, was_read, was_taken}
 
 -- a sample was read, or is gone, or neither
@@ -97,8 +100,9 @@ count-agree p r (k ∷ ks) same =
 -- the counts once a sample is added that was not read
 pub counted-more : (ks : List Kept) (k : Kept) (old new : Counts) → k.is_read ≡ false → k.is_out ≡ false
     → IsCounted ks old → new.outs ≡ old.outs → new.reads ≡ old.reads
-    → new.writes ≡ old.writes + cond k.valid_data 1 0 → IsCounted (ks ++ k ∷ []) new
-counted-more ks k old new unread stays counted outs reads writes =
+    → new.writes ≡ old.writes + cond k.valid_data 1 0 → AreChainsOf (ks ++ k ∷ []) new.chains
+    → IsCounted (ks ++ k ∷ []) new
+counted-more ks k old new unread stays counted outs reads writes chains =
     let one : cond {A = ℕ} (was_read k) 1 0 ≡ 0 =
     ap (λ (b : Bool). cond (not b && k.is_read) 1 0) stays ∙ ap (λ (b : Bool). cond b 1 0) unread in
     let own : cond {A = ℕ} (has_data k) 1 0 ≡ cond k.valid_data 1 0 =
@@ -114,6 +118,7 @@ counted-more ks k old new unread stays counted outs reads writes =
       outs = omega (arith, outs, counted.outs, more_outs, none);
       reads = omega (arith, reads, counted.reads, more, one);
       writes = omega (arith, writes, counted.writes, more_data, own);
+      chains = chains;
     }
 
 -- how a count changes where one of the samples does
@@ -127,8 +132,8 @@ one-changed p ks at k v within is =
 pub counted-read : (ks : List Kept) (at : ℕ) (k v : Kept) (old new : Counts) → at < length ks → k ≡ get_or ks at k
     → v ≡ read_if true k → IsCounted ks old → new.outs ≡ old.outs
     → new.reads ≡ old.reads + (if is_in k && not k.is_read then 1 else 0) → new.writes ≡ old.writes
-    → IsCounted (set ks at v) new
-counted-read ks at k v old new within is marked counted outs reads writes = record {
+    → new.chains ≡ old.chains → IsCounted (set ks at v) new
+counted-read ks at k v old new within is marked counted outs reads writes chains = record {
   outs =
       (let change = one-changed was_taken ks at k v within is in
       let same : cond {A = ℕ} (was_taken v) 1 0 ≡ cond (was_taken k) 1 0 =
@@ -144,6 +149,10 @@ counted-read ks at k v old new within is marked counted outs reads writes = reco
       let same : cond {A = ℕ} (has_data v) 1 0 ≡ cond (has_data k) 1 0 =
       ap (λ (x : Kept). cond (has_data x) 1 0) marked in
       omega (arith, writes, counted.writes, change, same));
+  chains =
+      subst (λ (c : Chains). AreChainsOf (set ks at v) c) (sym chains)
+      (chains-set ks at k v old.chains within is (ap (λ (x : Kept). x.handle) marked)
+      (λ stays. ap (λ (x : Kept). x.is_out) (sym marked) ∙ stays) counted.chains);
 }
   where
     table : (out read : Bool) → cond {A = ℕ} (not out && true) 1 0
@@ -156,8 +165,8 @@ counted-read ks at k v old new within is marked counted outs reads writes = reco
 pub counted-out : (ks : List Kept) (at : ℕ) (k v : Kept) (old new : Counts) → at < length ks → k ≡ get_or ks at k
     → v ≡ out_if true k → IsCounted ks old → new.outs ≡ old.outs + (if is_in k then 1 else 0)
     → new.reads ≡ old.reads - (if was_read k then 1 else 0) → new.writes ≡ old.writes - (if has_data k then 1 else 0)
-    → IsCounted (set ks at v) new
-counted-out ks at k v old new within is marked counted outs reads writes = record {
+    → new.chains ≡ old.chains → IsCounted (set ks at v) new
+counted-out ks at k v old new within is marked counted outs reads writes chains = record {
   outs =
       (let change = one-changed was_taken ks at k v within is in
       let now : cond {A = ℕ} (was_taken v) 1 0 ≡ cond (was_taken k) 1 0 + (if is_in k then 1 else 0) =
@@ -173,6 +182,11 @@ counted-out ks at k v old new within is marked counted outs reads writes = recor
       let none : cond {A = ℕ} (has_data v) 1 0 ≡ 0 = ap (λ (x : Kept). cond (has_data x) 1 0) marked in
       let same : cond {A = ℕ} (has_data k) 1 0 ≡ (if has_data k then 1 else 0) = refl in
       omega (arith, writes, counted.writes, change, none, same));
+  chains =
+      subst (λ (c : Chains). AreChainsOf (set ks at v) c) (sym chains)
+      (chains-set ks at k v old.chains within is (ap (λ (x : Kept). x.handle) marked)
+      (λ stays. absurd (let clash : true ≡ false = sym (ap (λ (x : Kept). x.is_out) marked) ∙ stays in cc))
+      counted.chains);
 }
   where
     table : (out : Bool) → cond {A = ℕ} true 1 0 ≡ cond out 1 0 + (if not out then 1 else 0)

@@ -1,10 +1,10 @@
 -- What is found of the first instance that an access asks for is what the definitions pick.
-use Rattle.std.proofs.Common.{◌≡◌, ℕ, zero, suc, ◌+◌, ◌≤◌, ◌<◌, List, [], ◌∷◌, ◌++◌, length, get_or, take, drop, map, filter, Bool, true, false, ◌==◌, ◌&&◌, ◌||◌, sym, ap, ◌∙◌, refl, subst, cond, arith, ⊎_elim, ◌⊎◌, inl, inr, Option, Some, None, take-append-drop}
+use Rattle.std.proofs.Common.{◌≡◌, ℕ, zero, suc, ◌+◌, ◌≤◌, ◌<◌, List, [], ◌∷◌, ◌++◌, length, get_or, take, drop, map, filter, Bool, true, false, ◌==◌, ◌&&◌, ◌||◌, sym, ap, ◌∙◌, refl, subst, cond, arith, ⊎_elim, ◌⊎◌, inl, inr, Option, Some, None, take-append-drop, ◌≢◌, ◌-◌, not}
 use Rattle.std.specs.Prelude.{min, nat_lt, slice_get, if◌then◌else◌}
 use Rattle.std.specs.List.{list_any, All, flat_map}
 use Rattle.std.specs.List.Sorted.{IsNonDecreasingBy}
-use Rattle.std.proofs.lemmas.Bool.{cases_Bool, eqb-true, eqb-false, eq-eqb, ltb-true, ltb-false}
-use Rattle.std.proofs.lemmas.List.{append-nil, append_assoc, length-map, length-take, map-append, take_all, take_more, take-append-le, take-map}
+use Rattle.std.proofs.lemmas.Bool.{and_right, cases_Bool, eqb-true, eqb-false, eq-eqb, ltb-true, ltb-false}
+use Rattle.std.proofs.lemmas.List.{append-nil, append_assoc, get_or_default, length-map, length-take, map-append, take_all, take_more, take-append-le, take-map}
 use Rattle.std.proofs.lemmas.List.Concat.{flat_map-append, flat_map-cons}
 use Rattle.std.proofs.lemmas.List.Elements.{All-append, All-cons, All-head, All-nil, All-push, All-tail, All-take, All-weaker, filter-append}
 use Rattle.std.proofs.lemmas.List.Folds.{list_any_at}
@@ -26,7 +26,9 @@ use Rattle.dds_instances.specs.declared.known.KnownInstance.{KnownInstance}
 use Rattle.dds_instances.proofs.RiseLaws.{handles-rise, IsRising, rising-each, rising-within}
 use Rattle.dds_cache.specs.declared.access.Candidate.{Candidate}
 use Rattle.dds_cache.specs.declared.kept.Kept.{Kept}
+use Rattle.dds_cache.specs.Chains.{IsFirst}
 use Rattle.dds_cache.specs.Kept.{IsKept, sample_at}
+use Rattle.dds_base.specs.Life.{is_at, is_kept_write, last_marker}
 use Rattle.dds_cache.specs.Finding.{Holds, IsCandidate, TellsFound, asks_for, handle_in, is_asked_for, is_wanted, sample_in, sample_of}
 use Rattle.dds_cache.specs.First.{AreFirstOf, AreOfForm, IsAmongKnown, IsFirstAsked, IsFoundOf, IsFull, IsOf, IsPassedBy, Settles, TellsFoundOf, of_form, of_handle, wanted_in}
 use Rattle.dds_cache.proofs.FindingLaws.{filter-flat_map, filter-more, found-candidate, wanted-of}
@@ -81,6 +83,55 @@ first-some q h masks test i ks at k c cs within is kept found so_far = record {
   each =
       All-push (IsCandidate q h ks) cs c so_far.each (found-candidate q h masks test ks at k c within is kept found.1);
 }
+
+-- ---- past those that are not wanted
+
+-- one of some kept samples
+some-of : (ks : List Kept) (at : ℕ) → at < length ks → Kept
+some-of [] at within = absurd (omega (arith, within))
+some-of (k ∷ ks) at within = k
+
+passes-one : (q : ReaderQos) (h : List Happening) (masks : Masks) (test : Key → List ℕ → Bool) (i : Key)
+    (ks : List Kept) (at : ℕ) (cs : List Candidate)
+    → ((d : Kept) → at < length ks
+    → (same_key i (get_or ks at d).sample.key && is_wanted q h masks test (get_or ks at d)) ≡ false)
+    → AreFirstOf q h masks test i None ks (take at ks) cs → AreFirstOf q h masks test i None ks (take (at + 1) ks) cs
+passes-one q h masks test i ks at cs unwanted so_far =
+    ⊎_elim
+    (λ there. let within : at < length ks = ltb-true at (length ks) there in
+    let d : Kept = some-of ks at within in
+    first-none q h masks test i ks at (get_or ks at d) cs within (get_or_default ks at d (get_or ks at d) within)
+    (unwanted d within) so_far)
+    (λ behind. let over : length ks ≤ at = ltb-false at (length ks) behind in
+    subst (λ (xs : List Kept). AreFirstOf q h masks test i None ks xs cs)
+    (take_all at ks over ∙ sym (take_all (at + 1) ks (omega (arith, over)))) so_far)
+    (cases_Bool (nat_lt at (length ks)))
+
+passes-more : (q : ReaderQos) (h : List Happening) (masks : Masks) (test : Key → List ℕ → Bool) (i : Key)
+    (ks : List Kept) (at n : ℕ) (cs : List Candidate)
+    → ((j : ℕ) (d : Kept) → at ≤ j → j < at + n → j < length ks
+    → (same_key i (get_or ks j d).sample.key && is_wanted q h masks test (get_or ks j d)) ≡ false)
+    → AreFirstOf q h masks test i None ks (take at ks) cs → AreFirstOf q h masks test i None ks (take (at + n) ks) cs
+passes-more q h masks test i ks at zero cs unwanted so_far =
+    subst (λ (m : ℕ). AreFirstOf q h masks test i None ks (take m ks) cs) (omega arith) so_far
+passes-more q h masks test i ks at (suc n) cs unwanted so_far =
+    subst (λ (m : ℕ). AreFirstOf q h masks test i None ks (take m ks) cs) (omega arith)
+    (passes-one q h masks test i ks (at + n) cs
+    (λ d within. unwanted (at + n) d (omega arith) (omega arith) within)
+    (passes-more q h masks test i ks at n cs
+    (λ j d from below within. unwanted j d from (omega (arith, below)) within) so_far))
+
+-- where none is wanted from one place to another, those found before the one are those found before the other
+pub first-past : (q : ReaderQos) (h : List Happening) (masks : Masks) (test : Key → List ℕ → Bool) (i : Key)
+    (ks : List Kept) (at next : ℕ) (cs : List Candidate) → at ≤ next
+    → ((j : ℕ) (d : Kept) → at ≤ j → j < next → j < length ks
+    → (same_key i (get_or ks j d).sample.key && is_wanted q h masks test (get_or ks j d)) ≡ false)
+    → AreFirstOf q h masks test i None ks (take at ks) cs → AreFirstOf q h masks test i None ks (take next ks) cs
+first-past q h masks test i ks at next cs from unwanted so_far =
+    let there : at + (next - at) ≡ next = omega (arith, from) in
+    subst (λ (m : ℕ). AreFirstOf q h masks test i None ks (take m ks) cs) there
+    (passes-more q h masks test i ks at (next - at) cs
+    (λ j d above below within. unwanted j d above (omega (arith, below, there)) within) so_far)
 
 -- ---- so many at most
 
@@ -207,6 +258,36 @@ of-other-handle q h masks test known k among kept other =
     ∙ (ap (λ (x : Key). handle_of q h x) (sym (key-same known.key k.sample.key same)) ∙ sym among.is_known.handle_is))))
     (λ apart. ap (λ (b : Bool). b && is_wanted q h masks test k) apart)
     (cases_Bool (same_key known.key k.sample.key))
+
+-- one of another handle, or that a take returned, is none of the wanted ones of an instance
+pub unwanted-other : (q : ReaderQos) (h : List Happening) (masks : Masks) (test : Key → List ℕ → Bool)
+    (known : KnownInstance) (k : Kept) → IsAmongKnown q h known → IsKept q h k → k.handle ≢ known.handle
+    → (same_key known.key k.sample.key && is_wanted q h masks test k) ≡ false
+unwanted-other q h masks test known k among kept other =
+    of-other-handle q h masks test known k among kept
+    (⊎_elim (λ same. absurd (other (eqb-true k.handle known.handle same))) (λ apart. apart)
+    (cases_Bool (k.handle == known.handle)))
+
+pub unwanted-first : (q : ReaderQos) (h : List Happening) (masks : Masks) (test : Key → List ℕ → Bool)
+    (known : KnownInstance) (ks : List Kept) (first j : ℕ) (d : Kept) → IsAmongKnown q h known → All (IsKept q h) ks
+    → IsFirst ks known.handle first → j < first → j < length ks
+    → (same_key known.key (get_or ks j d).sample.key && is_wanted q h masks test (get_or ks j d)) ≡ false
+unwanted-first q h masks test known ks first j d among all begins below within =
+    ⊎_elim
+    (λ same. ⊎_elim
+    (λ out. gone (get_or ks j d) (all j d within) out)
+    (λ stays. let le : first ≤ j = begins j d within (eqb-true (get_or ks j d).handle known.handle same) stays in
+    absurd (omega (arith, le, below)))
+    (cases_Bool (get_or ks j d).is_out))
+    (λ apart. of-other-handle q h masks test known (get_or ks j d) among (all j d within) apart)
+    (cases_Bool ((get_or ks j d).handle == known.handle))
+  where
+    gone : (k : Kept) → IsKept q h k → k.is_out ≡ true → (same_key known.key k.sample.key && is_wanted q h masks test k) ≡ false
+    gone k kept out =
+        ap (λ (b : Bool). same_key known.key k.sample.key && ((not b && (is_kept_write q h k.sample.key k.sample.position
+        || is_at (last_marker q k.sample.key h) k.sample.position)) && is_asked_for q h masks test k.sample))
+        (sym kept.out_is ∙ out)
+        ∙ and_right (same_key known.key k.sample.key) false refl
 
 -- one of its handle is found as any is
 pub found-of : (q : ReaderQos) (h : List Happening) (masks : Masks) (test : Key → List ℕ → Bool) (i : Key) (k : Kept)

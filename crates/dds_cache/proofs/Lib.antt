@@ -11,6 +11,7 @@ pub mod PickLaws
 pub mod PlaceLaws
 pub mod CollectionLaws
 pub mod CountLaws
+pub mod ChainLaws
 pub mod CountedLaws
 pub mod AnyLaws
 pub mod DataLaws

@@ -10,3 +10,4 @@ pub mod Arriving
 pub mod Dying
 pub mod Sweeping
 pub mod Twice
+pub mod Chains

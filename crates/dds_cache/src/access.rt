@@ -13,10 +13,12 @@ ghost use Rattle.std.specs.List.{list_any};
 ghost use Rattle.dds_base.specs.Access.{at_most};
 ghost use Rattle.dds_instances.specs.Known.{IsKnown};
 ghost use Rattle.dds_instances.specs.Table.{Stands};
+ghost use Rattle.dds_cache.specs.Chains.{AreChainsOf};
 ghost use Rattle.dds_cache.specs.First.{AreFirstOf, IsAmongKnown, IsCountable, IsFull, IsOf, TellsFoundOf};
 ghost use Rattle.dds_cache.specs.Kept.{IsKept, is_live, sample_state_in};
 ghost use Rattle.dds_cache.specs.Finding.{are_asked_for, asks_for, is_sought, is_wanted, passes, described_by, IsSmall, IsPlaced, AreCandidates, Holds, Finds, TellsFound, sample_in, handle_in};
 
+use crate::chains::Chains;
 use crate::kept::Kept;
 use crate::masks::{asks_for_sample, asks_for_states};
 use crate::test::Test;
@@ -283,8 +285,8 @@ pub fn is_full(max: Option<u32>, count: usize) -> bool
     }
 }
 
-/// The candidates of one instance, in the order in which they came, the first `max` of them at most. It goes over the
-/// samples as far as the last that it needs.
+/// The candidates of one instance, in the order in which they came, the first `max` of them at most. It goes along its
+/// chain as far as the last that it needs.
 pub fn find_in_instance<T: Test>(
     alloc: Global,
     known: &KnownInstance,
@@ -292,10 +294,12 @@ pub fn find_in_instance<T: Test>(
     masks: Masks,
     test: &T,
     samples: &[Kept],
+    chains: &Chains,
     max: Option<u32>,
 ) -> Result<Vec<Candidate>, AllocError>
     requires small { All IsSmall samples.now }
     requires counts { IsCountable known.now }
+    requires chains { AreChainsOf samples.now chains.now }
     ensures placed { IfOk result (λ found. All (IsPlaced (length samples.now)) found.items) }
     ensures handles { IfOk result (λ found. All (IsOf known.now.handle) found.items) }
     ensures found { IfOk result (λ found. (h : List Happening) → IsAmongKnown qos.now h known.now
@@ -304,13 +308,12 @@ pub fn find_in_instance<T: Test>(
         samples.now found.items) }
 {
     let mut found = Vec::new(alloc);
-    for at in 0..samples.len() {
-        if is_full(max, found.len()) {
-            break;
-        }
+    let mut at = chains.first(known.handle);
+    while at < samples.len() && !is_full(max, found.len()) {
         if let Some(candidate) = as_candidate_of(known, qos, masks, test, &samples[at], at) {
             found.push(candidate)?;
         }
+        at = chains.next(samples, known.handle, at);
     }
     cut_to(&mut found, max);
     Ok(found)

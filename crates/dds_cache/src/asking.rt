@@ -45,8 +45,8 @@ fn asks_for_any(instances: &Instances, masks: Masks) -> bool
 /// Whether no kept sample meets the masks, as far as they tell it alone: by how many of the samples were read, and
 /// where fewer instances are known than samples are kept, by the states of the instances. It doesn't go over the
 /// samples.
-pub fn is_none_asked(instances: &Instances, samples: &[Kept], counts: Counts, masks: Masks) -> bool
-    requires counted { IsCounted samples.now counts }
+pub fn is_none_asked(instances: &Instances, samples: &[Kept], counts: &Counts, masks: Masks) -> bool
+    requires counted { IsCounted samples.now counts.now }
     ensures { (q : ReaderQos) (h : List Happening) → Holds q instances.now samples.now h
         → result ≡ true
         → All (IsUnmet q h masks) samples.now }

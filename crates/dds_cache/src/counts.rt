@@ -5,12 +5,15 @@
 ghost use Rattle.std.specs.Prelude.{◌≡◌, ◌<◌, ◌≤◌, ◌+◌, ◌-◌, ◌^◌, ◌&&◌, ◌++◌, ◌∷◌, [], if◌then◌else◌, not, true, false, All, vec_len, vec_capacity};
 ghost use Rattle.dds_cache.specs.Kept.{IsCounted, IsUnasked, has_data, is_in, was_read};
 
+use crate::chains::Chains;
 use crate::kept::Kept;
 use crate::masks::asks_for_sample;
 use dds_base::{SampleState, SampleStateMask};
+use std::alloc::Global;
 
-/// How many of the kept samples a take returned, and how many of the others were read, and have data.
-#[derive(Clone, Copy)]
+/// How many of the kept samples a take returned, how many of the others were read, and have data, and where those of each
+/// instance are.
+#[derive(Drop)]
 pub struct Counts {
     /// How many of them a take returned.
     pub outs: usize,
@@ -18,28 +21,39 @@ pub struct Counts {
     pub reads: usize,
     /// How many of the others have data.
     pub writes: usize,
-}
-
-/// Counts these samples. It goes once over them.
-pub fn count(samples: &[Kept]) -> Counts
-    ensures { IsCounted samples.now result }
-{
-    let mut outs = 0;
-    let mut reads = 0;
-    let mut writes = 0;
-    for kept in samples {
-        outs += usize::from(kept.is_out);
-        reads += usize::from(kept.was_read());
-        writes += usize::from(kept.has_data());
-    }
-    Counts {
-        outs,
-        reads,
-        writes,
-    }
+    /// Where those of each instance are.
+    pub chains: Chains,
 }
 
 impl Counts {
+    /// Of no samples.
+    pub fn new(alloc: Global) -> Counts
+        ensures { IsCounted [] result }
+    {
+        Counts {
+            outs: 0,
+            reads: 0,
+            writes: 0,
+            chains: Chains::new(alloc),
+        }
+    }
+
+    /// Counts these samples anew. It goes once over them.
+    pub fn renew(&mut self, samples: &[Kept])
+        ensures { IsCounted samples.now self.new }
+    {
+        self.outs = 0;
+        self.reads = 0;
+        self.writes = 0;
+        self.chains.clear();
+        for (place, kept) in samples.iter().enumerate() {
+            self.outs += usize::from(kept.is_out);
+            self.reads += usize::from(kept.was_read());
+            self.writes += usize::from(kept.has_data());
+            self.chains.append(kept.handle, place);
+        }
+    }
+
     /// Whether the mask asks for none of the samples that were counted: for none that was read where all were, or for
     /// none that was not where none was.
     pub fn exclude(&self, samples: &[Kept], mask: SampleStateMask) -> bool
@@ -56,6 +70,7 @@ impl Counts {
         ensures reads { self.new.reads ≡ self.old.reads + (if is_in kept.now && not kept.now.is_read then 1 else 0) }
         ensures outs { self.new.outs ≡ self.old.outs }
         ensures writes { self.new.writes ≡ self.old.writes }
+        ensures chains { self.new.chains ≡ self.old.chains }
     {
         self.reads += usize::from(!kept.is_out && !kept.is_read);
     }
@@ -66,6 +81,7 @@ impl Counts {
         ensures outs { self.new.outs ≡ self.old.outs + (if is_in kept.now then 1 else 0) }
         ensures reads { self.new.reads ≡ self.old.reads - (if was_read kept.now then 1 else 0) }
         ensures writes { self.new.writes ≡ self.old.writes - (if has_data kept.now then 1 else 0) }
+        ensures chains { self.new.chains ≡ self.old.chains }
     {
         self.outs += usize::from(!kept.is_out);
         self.reads = self.reads.saturating_sub(usize::from(kept.was_read()));
@@ -85,6 +101,7 @@ pub fn add(samples: &mut Vec<Kept>, counts: &mut Counts, kept: Kept)
     ensures capacity { vec_capacity samples.old ≤ vec_capacity samples.new }
 {
     counts.writes += usize::from(kept.valid_data);
+    counts.chains.append(kept.handle, samples.len());
     if samples.push(kept).is_err() {
         // Room was reserved.
         unreachable!();

@@ -9,9 +9,11 @@ ghost use Rattle.dds_base.specs.declared.qos.ReaderQos.{ReaderQos};
 ghost use Rattle.dds_base.specs.Instance.{known_instances};
 ghost use Rattle.dds_instances.specs.Table.{Stands};
 ghost use Rattle.dds_cache.specs.Finding.{Holds, IsPlaced, IsSmall, handle_in};
+ghost use Rattle.dds_cache.specs.Chains.{AreChainsOf};
 ghost use Rattle.dds_cache.specs.First.{AreOfForm, IsCountable, IsFirstAsked, IsFirstPlace, IsPassedBy, Settles, TellsAsked};
 
 use crate::access::{Candidate, asks_for_handle, find_in_instance, is_full};
+use crate::chains::Chains;
 use crate::kept::Kept;
 use crate::test::Test;
 use dds_base::{Handle, Masks, ReaderQos, Selection};
@@ -87,12 +89,14 @@ pub fn find_first<T: Test>(
     instances: &Instances,
     qos: &ReaderQos,
     samples: &[Kept],
+    chains: &Chains,
     selection: &Selection,
     masks: Masks,
     max: Option<u32>,
     test: &T,
 ) -> Result<Option<Vec<Candidate>>, AllocError>
     requires small { All IsSmall samples.now }
+    requires chains { AreChainsOf samples.now chains.now }
     ensures placed { IfOk result
         (λ settled. IfSome settled (λ found. All (IsPlaced (length samples.now)) found.items)) }
     ensures found { IfOk result (λ settled. IfSome settled (λ found. (h : List Happening)
@@ -108,7 +112,7 @@ pub fn find_first<T: Test>(
     let Some(known) = first_asked(instances, selection) else {
         return Ok(Some(Vec::new(alloc)));
     };
-    let found = find_in_instance(alloc, &known, qos, masks, test, samples, max)?;
+    let found = find_in_instance(alloc, &known, qos, masks, test, samples, chains, max)?;
     if is_settled(selection, max, instances.len(), found.len()) {
         Ok(Some(found))
     } else {

@@ -9,6 +9,7 @@ mod access;
 mod access_kind;
 mod arriving;
 mod asking;
+mod chains;
 mod collection;
 mod counts;
 mod dying;

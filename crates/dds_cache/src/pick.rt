@@ -11,12 +11,14 @@ ghost use Rattle.dds_base.specs.Selection.{picked_by, selection_refusal};
 ghost use Rattle.dds_instances.specs.Table.{Stands};
 ghost use Rattle.dds_cache.specs.Finding.{Finds, Holds, IsPlaced, IsSmall, handle_in};
 ghost use Rattle.dds_cache.specs.First.{AreOfForm};
+ghost use Rattle.dds_cache.specs.Chains.{AreChainsOf};
 ghost use Rattle.dds_cache.specs.Kept.{IsCounted};
 ghost use Rattle.dds_cache.specs.Picking.{IsLimit, IsRequestWith, IsRequest, Picks, TellsAny, test_in};
 ghost use Rattle.dds_cache.specs.Picking.{has_handle, first_above, of_selection};
 
 use crate::access::{Candidate, cut_to, find_matching, is_any_match};
 use crate::asking::is_none_asked;
+use crate::chains::Chains;
 use crate::counts::Counts;
 use crate::first::find_first;
 use crate::kept::Kept;
@@ -148,11 +150,13 @@ fn find_asked_first<T: Test>(
     instances: &Instances,
     qos: &ReaderQos,
     samples: &[Kept],
+    chains: &Chains,
     selection: &Selection,
     request: Request,
     test: &T,
 ) -> Result<Option<Vec<Candidate>>, AllocError>
     requires small { All IsSmall samples.now }
+    requires chains { AreChainsOf samples.now chains.now }
     ensures placed { IfOk result
         (λ settled. IfSome settled (λ found. All (IsPlaced (length samples.now)) found.items)) }
     ensures found { IfOk result (λ settled. IfSome settled (λ found. (h : List Happening)
@@ -169,6 +173,7 @@ fn find_asked_first<T: Test>(
             instances,
             qos,
             samples,
+            chains,
             selection,
             masks,
             limit,
@@ -176,7 +181,7 @@ fn find_asked_first<T: Test>(
         ),
         Selection::Any { .. } | Selection::Instance { .. } | Selection::NextInstance { .. } => {
             find_first(
-                alloc, instances, qos, samples, selection, masks, limit, test,
+                alloc, instances, qos, samples, chains, selection, masks, limit, test,
             )
         }
     }
@@ -228,12 +233,12 @@ pub fn pick<T: Test>(
     instances: &Instances,
     qos: &ReaderQos,
     samples: &[Kept],
-    counts: Counts,
+    counts: &Counts,
     selection: Selection,
     test: &T,
 ) -> Result<Vec<Candidate>, Code>
     requires small { All IsSmall samples.now }
-    requires counted { IsCounted samples.now counts }
+    requires counted { IsCounted samples.now counts.now }
     ensures placed { IfOk result (λ found. All (IsPlaced (length samples.now)) found.items) }
     ensures picks { IfOk result (λ found. (h : List Happening)
         → Holds qos.now instances.now samples.now h
@@ -247,7 +252,14 @@ pub fn pick<T: Test>(
         return Ok(Vec::new(alloc));
     }
     if let Some(found) = find_asked_first(
-        alloc, instances, qos, samples, &selection, request, test,
+        alloc,
+        instances,
+        qos,
+        samples,
+        &counts.chains,
+        &selection,
+        request,
+        test,
     )? {
         return Ok(found);
     }

@@ -24,7 +24,7 @@ use crate::access_kind::AccessKind;
 use crate::arriving::{add_left, is_accepted_write};
 use crate::asking::is_none_asked;
 use crate::collection::{Access, gather, twice};
-use crate::counts::{Counts, count};
+use crate::counts::Counts;
 use crate::dying::add_markers;
 use crate::ending::{hold_present, is_end};
 use crate::entering::enter_access;
@@ -96,7 +96,7 @@ impl ReaderCache {
             samples: Vec::new(alloc),
             arrivals: 0,
             sweep_at: next_sweep(0),
-            counts: count(&[]),
+            counts: Counts::new(alloc),
             room: 0,
             data_at: None,
         }
@@ -118,10 +118,12 @@ impl ReaderCache {
             return Ok(());
         }
         let entries = additional.checked_mul(2).ok_or(Code::Memory)?;
-        let places = entries
-            .checked_add(self.instances.len())
-            .ok_or(Code::Memory)?;
+        let known = self.instances.len();
+        let places = entries.checked_add(known).ok_or(Code::Memory)?;
         self.samples.reserve(places)?;
+        self.counts
+            .chains
+            .reserve(places, known.saturating_add(additional))?;
         self.instances.reserve(additional)?;
         self.room = additional;
         Ok(())
@@ -353,7 +355,7 @@ impl ReaderCache {
             &self.instances,
             &self.qos,
             &self.samples,
-            self.counts,
+            &self.counts,
             self.arrivals,
             arrival,
         )
@@ -369,7 +371,7 @@ impl ReaderCache {
         ensures matched { (h : List Happening) → StandsFor self.now h
             → result ≡ has_match (qos_of self.now) h masks (T.meaning test.now) }
     {
-        if is_none_asked(&self.instances, &self.samples, self.counts, masks) {
+        if is_none_asked(&self.instances, &self.samples, &self.counts, masks) {
             return false;
         }
         let any = Selection::Any { max: -1, masks };
@@ -396,7 +398,7 @@ impl ReaderCache {
             &self.instances,
             &self.qos,
             &self.samples,
-            self.counts,
+            &self.counts,
             selection,
             test,
         )?;

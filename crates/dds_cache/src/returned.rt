@@ -56,6 +56,11 @@ pub fn settle(
     }
     match kind {
         AccessKind::Read => mark_read(samples, counts, &access.found),
-        AccessKind::Take => take_out(alloc, samples, counts, &access.found, &mut access.samples),
+        AccessKind::Take => {
+            take_out(alloc, samples, counts, &access.found, &mut access.samples);
+            counts
+                .chains
+                .advance(samples, access.found[0].picked.instance_handle);
+        }
     }
 }

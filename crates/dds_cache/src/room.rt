@@ -132,9 +132,9 @@ fn writes_left(
     is_write: bool,
     is_marked: bool,
     samples: &[Kept],
-    counts: Counts,
+    counts: &Counts,
 ) -> usize
-    requires counted { IsCounted samples.now counts }
+    requires counted { IsCounted samples.now counts.now }
     ensures { (h : List Happening)
         → AwaitsChange qos.now instances.now arrival.now is_write is_marked h
         → All (IsKept qos.now h) samples.now
@@ -154,9 +154,9 @@ fn samples_fit(
     qos: &ReaderQos,
     arrival: &Arrival,
     samples: &[Kept],
-    counts: Counts,
+    counts: &Counts,
 ) -> bool
-    requires counted { IsCounted samples.now counts }
+    requires counted { IsCounted samples.now counts.now }
     ensures { (h : List Happening)
         → AwaitsAccepted qos.now instances.now samples.now arrival.now h
         → result ≡ is_within qos.now.max_samples (present_writes qos.now (Came arrival.now ∷ h)) }
@@ -188,11 +188,11 @@ pub fn is_room(
     instances: &Instances,
     qos: &ReaderQos,
     samples: &[Kept],
-    counts: Counts,
+    counts: &Counts,
     arrivals: u32,
     arrival: &Arrival,
 ) -> bool
-    requires counted { IsCounted samples.now counts }
+    requires counted { IsCounted samples.now counts.now }
     ensures { (h : List Happening) → Holds qos.now instances.now samples.now h
         → IsFresh h arrival.now.change.key
         → arrivals ≡ min (arrivals_of h) (2 ^ 31 - 1)

@@ -9,7 +9,7 @@ ghost use Rattle.dds_cache.specs.Finding.{IsSmall};
 ghost use Rattle.dds_cache.specs.Kept.{IsCounted};
 ghost use Rattle.dds_cache.specs.Sweeping.{AreIn, left_since, stays};
 
-use crate::counts::{Counts, count};
+use crate::counts::Counts;
 use crate::kept::Kept;
 use dds_base::ReaderQos;
 use dds_instances::Instances;
@@ -38,7 +38,7 @@ pub fn sweep(instances: &Instances, qos: &ReaderQos, samples: &mut Vec<Kept>, co
     ensures capacity { vec_capacity samples.new ≡ vec_capacity samples.old }
 {
     samples.retain(|k| is_still_live(instances, qos, k));
-    *counts = count(samples);
+    counts.renew(samples);
 }
 
 /// Lets the samples go that are no longer present, where fewer instances are known than before: lives have ended then,
@@ -75,7 +75,7 @@ pub fn let_out_go(samples: &mut Vec<Kept>, counts: &mut Counts)
 {
     if samples.len() / 2 < counts.outs {
         samples.retain(|k| !k.is_out);
-        *counts = count(samples);
+        counts.renew(samples);
     }
 }
 

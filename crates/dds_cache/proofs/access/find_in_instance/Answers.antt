@@ -1,14 +1,31 @@
-use Rattle.std.proofs.Common.{ℕ, ◌≤◌, ◌⊎◌, ◌<◌, ◌+◌, List, None, inl, inr, take, length, sym, ap, ◌∙◌, subst}
+use Rattle.std.proofs.Common.{ℕ, ◌≤◌, ◌⊎◌, ◌<◌, ◌+◌, List, [], None, get_or, refl, arith, inl, inr, take, length, sym, ap, ◌∙◌, subst}
 use Rattle.std.specs.List.{All}
-use Rattle.std.proofs.lemmas.List.Elements.{All-push}
+use Rattle.std.proofs.lemmas.List.Elements.{All-nil, All-push}
 use Rattle.dds_cache.specs.declared.kept.Kept.{Kept}
 use Rattle.dds_cache.specs.declared.access.Candidate.{Candidate}
 use Rattle.dds_cache.specs.Kept.{IsKept}
-use Rattle.dds_cache.specs.Finding.{IsPlaced}
+use Rattle.dds_cache.specs.Finding.{IsCandidate, IsPlaced}
 use Rattle.dds_cache.specs.First.{AreFirstOf, IsFull, IsOf}
-use Rattle.dds_cache.proofs.FirstLaws.{cut-each, first-cut, first-none, first-some}
+use Rattle.dds_cache.proofs.FirstLaws.{cut-each, first-cut, first-none, first-past, first-some, unwanted-first, unwanted-other}
 use Rattle.dds_cache.proofs.access.find_in_instance.Goals as goal
-use Rattle.dds_cache.proofs.access.find_in_instance.Goals.{in-Some+in_ok-push, in_default, else-loop-at-test, then-loop-at-test+then-is_full}
+use Rattle.dds_cache.proofs.access.find_in_instance.Goals.{in-Some+in_ok-push, in_default, else-loop-at-test, then-loop-at-test+else-not-is_full}
+
+pub loop-at-init : goal.loop-at-init
+loop-at-init g c = record {
+  placed = subst (λ (cs : List Candidate). All (IsPlaced (length c.args.samples.now)) cs) (sym c.new-found.ensures.items)
+      (All-nil (IsPlaced (length c.args.samples.now)));
+  handles = subst (λ (cs : List Candidate). All (IsOf c.args.known.now.handle) cs) (sym c.new-found.ensures.items)
+      (All-nil (IsOf c.args.known.now.handle));
+  found = λ h among all.
+      let ks : List Kept = c.args.samples.now in
+      subst (λ (cs : List Candidate). AreFirstOf c.args.qos.now h c.args.masks (g.T.Test.meaning c.args.test.now)
+      c.args.known.now.key None ks (take c.first-at.result ks) cs) (sym c.new-found.ensures.items)
+      (first-past c.args.qos.now h c.args.masks (g.T.Test.meaning c.args.test.now) c.args.known.now.key ks 0
+      c.first-at.result [] (omega arith)
+      (λ j d from below within. unwanted-first c.args.qos.now h c.args.masks (g.T.Test.meaning c.args.test.now)
+      c.args.known.now ks c.first-at.result j d among all (c.first-at.ensures ks c.requires.chains) below within)
+      (record { samples_are = refl; each = All-nil (IsCandidate c.args.qos.now h ks) }));
+}
 
 pub loop-at-preserved : goal.loop-at-preserved
 loop-at-preserved g c =
@@ -45,7 +62,7 @@ loop-at-preserved g c =
           let P : List Candidate → Type 0 =
           λ cs. AreFirstOf c.args.qos.now h c.args.masks
           (g.T.Test.meaning c.args.test.now) c.args.known.now.key None ks (take (c.loop-at.at + 1) ks) cs in
-          elim c.match-as_candidate_of.branch [
+          let here : P c.match-as_candidate_of.found.items = elim c.match-as_candidate_of.branch [
             | in-Some+in_ok-push w ↦
                 subst P (sym (ap (λ v. v.items) w.found-is ∙ w.in_ok-push.ensures.items))
                 (first-some c.args.qos.now h c.args.masks
@@ -56,7 +73,13 @@ loop-at-preserved g c =
                 (first-none c.args.qos.now h c.args.masks
                 (g.T.Test.meaning c.args.test.now) c.args.known.now.key ks c.loop-at.at k c.loop-at.found.items
                 c.loop-at-test.true c.index-samples-at.is (w.in_default.ensures.wanted h among kept) so_far)
-          ];
+          ] in
+          first-past c.args.qos.now h c.args.masks (g.T.Test.meaning c.args.test.now) c.args.known.now.key ks
+          (c.loop-at.at + 1) c.next-at.result c.match-as_candidate_of.found.items
+          (omega (arith, c.next-at.ensures.later))
+          (λ j d from below within. unwanted-other c.args.qos.now h c.args.masks (g.T.Test.meaning c.args.test.now)
+          c.args.known.now (get_or ks j d) among (all j d within)
+          (c.next-at.ensures.between c.requires.chains j d (omega (arith, from)) below within)) here;
     }
 
 pub returns-clause-placed : goal.returns-clause-placed
@@ -74,9 +97,9 @@ returns-clause-found g c = λ h among all.
     let done : IsFull c.args.max (length c.loop-at.found.items) ⊎ (length c.args.samples.now ≤ c.loop-at.at) =
     elim c.loop-at-test.branch [
       | else-loop-at-test w ↦ inr w.loop-at-test.false
-      | then-loop-at-test+then-is_full w ↦
+      | then-loop-at-test+else-not-is_full w ↦
           inl (subst (λ (n : ℕ). IsFull c.args.max n) (w.len.ensures ∙ c.loop-at.found.ok.0)
-          (w.is_full.ensures w.if-is_full.true))
+          (w.is_full.ensures w.if-not-is_full.false))
     ] in
     first-cut c.args.qos.now h c.args.masks
     (g.T.Test.meaning c.args.test.now) c.args.known.now.key c.args.max c.args.samples.now c.loop-at.at

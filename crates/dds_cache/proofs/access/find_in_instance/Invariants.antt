@@ -1,5 +1,5 @@
 -- the candidates of the instance among those so far
-use Rattle.std.proofs.Common.{List, None, take, length}
+use Rattle.std.proofs.Common.{List, None, take, length, ◌-◌}
 use Rattle.std.specs.List.{All}
 use Rattle.dds_base.specs.declared.happening.Happening.{Happening}
 use Rattle.dds_cache.specs.Kept.{IsKept}
@@ -15,3 +15,6 @@ invariant-loop-at g l = record {
       → AreFirstOf l.qos h l.masks (g.T.Test.meaning l.test) l.known.key None l.samples (take l.at l.samples)
       l.found.items;
 }
+
+abbrev pub decreases-loop-at : goal.decreases-loop-at
+decreases-loop-at g l = length l.samples - l.at

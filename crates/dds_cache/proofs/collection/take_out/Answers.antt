@@ -44,7 +44,7 @@ loop-at-preserved c =
           counted-out c.loop-at.samples.items one.at x c.take_out.new.self c.loop-at.counts c.count_out.new.self
           (omega (arith, placed, c.loop-at.invariant.done.same_len)) c.index_mut-kept.ensures.value
           c.take_out.ensures.left c.loop-at.invariant.counted c.count_out.ensures.outs c.count_out.ensures.reads
-          c.count_out.ensures.writes;
+          c.count_out.ensures.writes c.count_out.ensures.chains;
       len = c.loop-at.invariant.len;
       capacity = c.loop-at.invariant.capacity;
       whole =

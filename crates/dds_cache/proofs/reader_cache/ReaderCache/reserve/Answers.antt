@@ -11,7 +11,7 @@ returns c = record {
         let old : StandsFor (stored_of c.self.inside) h =
         subst (λ (t : Stored). StandsFor t h) (sym c.self.view_is) stands in
         stands-still h (stored_of c.self.inside) _ refl c.in_ok-reserve.ensures.items
-        refl refl (λ q s. c.in_ok-reserve-2.ensures.same q h s) old;
+        refl refl (λ q s. c.in_ok-reserve-3.ensures.same q h s) old;
     qos = search rules;
     room = search rules;
     more = search rules;

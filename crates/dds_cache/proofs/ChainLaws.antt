@@ -1,0 +1,266 @@
+-- The links and the spans of the kept samples, as one is added, and as some are marked.
+use Rattle.std.proofs.Common.{◌≡◌, ◌≢◌, ℕ, ◌+◌, ◌≤◌, ◌<◌, List, [], ◌∷◌, ◌++◌, length, get_or, set, Bool, true, false, cond, sym, ap, ◌∙◌, refl, subst, arith, ⊎_elim, ◌⊎◌, inl, inr, Option, Some, None, is_some}
+use Rattle.std.specs.Prelude.{nat_eq, nat_lt}
+use Rattle.std.proofs.lemmas.Bool.{cases_Bool, eqb-true, eqb-false, ltb-true, ltb-false}
+use Rattle.std.proofs.lemmas.List.{get_or_append_left, get_or_default, get_or_push, get_or-set_other, get_or-set_same, length-append, length-set}
+use Rattle.indexmap.specs.IndexMap.{Updates, get}
+use Rattle.dds_cache.specs.declared.chains.Chains.{Chains}
+use Rattle.dds_cache.specs.declared.chains.Span.{Span}
+use Rattle.dds_cache.specs.declared.kept.Kept.{Kept}
+use Rattle.dds_cache.specs.Chains.{AreChainsOf, AreOthers, IsFirst, IsLinked, IsSpan, Leads}
+
+-- a place among those with one more is an earlier one, or the last
+earlier-or-last : (ks : List Kept) (k : Kept) (at : ℕ) → at < length (ks ++ k ∷ [])
+    → (at < length ks) ⊎ (at ≡ length ks)
+earlier-or-last ks k at within =
+    let len : length (ks ++ k ∷ []) ≡ length ks + 1 = length-append ks (k ∷ []) in
+    one (cases_Bool (nat_eq at (length ks))) (omega (arith, len, within))
+  where
+    one : (nat_eq at (length ks) ≡ true) ⊎ (nat_eq at (length ks) ≡ false) → at ≤ length ks
+        → (at < length ks) ⊎ (at ≡ length ks)
+    one (inl same) within = inr (eqb-true at (length ks) same)
+    one (inr other) within =
+        let apart : at ≢ length ks = eqb-false at (length ks) other in
+        inl (omega (arith, within, apart))
+
+module _ (ks : List Kept) (k : Kept) (old led new : Chains) (span : Span) (link : ℕ) (linked : IsLinked ks old)
+    (leads : Leads old k.handle (length ks) span led) (links : new.links.items ≡ led.links.items ++ link ∷ [])
+    (updates : Updates nat_eq led.spans new.spans k.handle (Some span)) where
+  earlier : (at : ℕ) (d : Kept) → at < length ks → (get_or (ks ++ k ∷ []) at d).handle ≡ (get_or ks at d).handle
+  earlier at d within = ap (λ (x : Kept). x.handle) (get_or_append_left ks (k ∷ []) d at within)
+
+  last : (at : ℕ) (d : Kept) → at ≡ length ks → get_or (ks ++ k ∷ []) at d ≡ k
+  last at d is = get_or_push ks k d at (sym is)
+
+  link-is : (at : ℕ) → at < length ks → get_or new.links.items at 0 ≡ get_or led.links.items at 0
+  link-is at within =
+      ap (λ (xs : List ℕ). get_or xs at 0) links
+      ∙ get_or_append_left led.links.items (link ∷ []) 0 at (omega (arith, within, leads.len, linked.len))
+
+  -- none of the instance was kept, or it had a span
+  before : (at : ℕ) (d : Kept) → at < length ks → (get_or ks at d).handle ≡ k.handle
+      → (b : Span) × (get nat_eq old.spans k.handle ≡ Some b)
+  before at d within same = one (get nat_eq old.spans k.handle) refl
+    where
+      one : (o : Option Span) → get nat_eq old.spans k.handle ≡ o → (b : Span) × (get nat_eq old.spans k.handle ≡ Some b)
+      one (Some b) is = (b, is)
+      one None is = absurd (let clash : true ≡ false = sym (linked.each at d within)
+          ∙ (ap (λ (n : ℕ). is_some (get nat_eq old.spans n)) same ∙ ap is_some is) in cc)
+
+  passes-none : (at j : ℕ) (d e : Kept) → at < length ks → at < j → j < get_or new.links.items at 0
+      → j < length (ks ++ k ∷ []) → (get_or (ks ++ k ∷ []) j e).handle ≡ (get_or ks at d).handle → ⊥
+  passes-none at j d e within behind below inside same = one (earlier-or-last ks k j inside) (ended (get nat_eq old.spans k.handle) refl)
+    where
+      ended : (o : Option Span) → get nat_eq old.spans k.handle ≡ o
+          → ((b : Span) × (get nat_eq old.spans k.handle ≡ Some b) × (at ≡ b.last))
+          ⊎ ((b : Span) → get nat_eq old.spans k.handle ≡ Some b → at ≢ b.last)
+      ended None is = inr (λ b some. absurd (let clash : true ≡ false = sym (ap is_some some) ∙ ap is_some is in cc))
+      ended (Some b) is = ⊎_elim
+          (λ at_last. inl (b, is, eqb-true at b.last at_last))
+          (λ other. inr (λ c some at_last. eqb-false at b.last other
+          (at_last ∙ ap (λ (s : Span). s.last) (injected (sym some ∙ is)))))
+          (cases_Bool (nat_eq at b.last))
+        where
+          injected : {s t : Span} → Some s ≡ Some t → s ≡ t
+          injected same = cc
+
+      one : (j < length ks) ⊎ (j ≡ length ks)
+          → ((b : Span) × (get nat_eq old.spans k.handle ≡ Some b) × (at ≡ b.last))
+          ⊎ ((b : Span) → get nat_eq old.spans k.handle ≡ Some b → at ≢ b.last) → ⊥
+      one (inl there) (inl (b, is, at_last)) =
+          let s : IsSpan ks k.handle b = linked.spans k.handle b is in
+          let own : (get_or ks at d).handle ≡ k.handle = ap (λ (n : ℕ). (get_or ks n d).handle) at_last ∙ s.own d in
+          let le : j ≤ b.last = s.last j e there (sym (earlier j e there) ∙ (same ∙ own)) in
+          omega (arith, le, at_last, behind)
+      one (inl there) (inr apart) =
+          linked.links at d within j e behind
+          (omega (arith, below, link-is at within, leads.same at apart)) there (sym (earlier j e there) ∙ same)
+      one (inr new) (inl (b, is, at_last)) =
+          let led_to : get_or led.links.items b.last 0 ≤ length ks = leads.led b is in
+          let at_is : get_or led.links.items at 0 ≡ get_or led.links.items b.last 0 =
+          ap (λ (n : ℕ). get_or led.links.items n 0) at_last in
+          omega (arith, led_to, at_is, link-is at within, below, new)
+      one (inr new) (inr apart) =
+          let own : (get_or ks at d).handle ≡ k.handle = sym same ∙ ap (λ (x : Kept). x.handle) (last j e new) in
+          let found = before at d within own in
+          let s : IsSpan ks k.handle found.0 = linked.spans k.handle found.0 found.1 in
+          let le : at ≤ found.0.last = s.last at d within own in
+          let other : at ≢ found.0.last = apart found.0 found.1 in
+          linked.links at d within found.0.last d (omega (arith, le, other))
+          (omega (arith, below, link-is at within, leads.same at apart, s.within, new)) s.within
+          (s.own d ∙ sym own)
+
+  span-is : (n : ℕ) (s : Span) → get nat_eq new.spans n ≡ Some s → IsSpan (ks ++ k ∷ []) n s
+  span-is n s is = one (cases_Bool (nat_eq k.handle n))
+    where
+      len : length (ks ++ k ∷ []) ≡ length ks + 1
+      len = length-append ks (k ∷ [])
+
+      one : (nat_eq k.handle n ≡ true) ⊎ (nat_eq k.handle n ≡ false) → IsSpan (ks ++ k ∷ []) n s
+      one (inl own) =
+          let key : k.handle ≡ n = eqb-true k.handle n own in
+          let which : Some s ≡ Some span =
+          sym is ∙ (updates.0 n ∙ ap (λ (b : Bool). cond b (Some span) (get nat_eq led.spans n)) own) in
+          let same : s ≡ span = cc in
+          subst (λ (x : Span). IsSpan (ks ++ k ∷ []) n x) (sym same) (record {
+            within = omega (arith, len, leads.last);
+            own = λ d. ap (λ (x : Kept). x.handle) (last span.last d leads.last) ∙ key;
+            first = λ at d within is_own is_in. ⊎_elim
+                (λ there.
+                let own_old : (get_or ks at d).handle ≡ k.handle = sym (earlier at d there) ∙ (is_own ∙ sym key) in
+                let found = before at d there own_old in
+                let le : found.0.first ≤ at = (linked.spans k.handle found.0 found.1).first at d there own_old
+                (ap (λ (x : Kept). x.is_out) (sym (get_or_append_left ks (k ∷ []) d at there)) ∙ is_in) in
+                omega (arith, le, leads.stays found.0 found.1))
+                (λ new. omega (arith, new, leads.first)) (earlier-or-last ks k at within);
+            last = λ at d within is_own. omega (arith, within, len, leads.last);
+          })
+      one (inr other) =
+          let apart : k.handle ≢ n = eqb-false k.handle n other in
+          let before_is : get nat_eq old.spans n ≡ Some s =
+          ap (λ m. get nat_eq m n) (sym leads.spans)
+          ∙ (sym (updates.0 n ∙ ap (λ (b : Bool). cond b (Some span) (get nat_eq led.spans n)) other) ∙ is) in
+          let was : IsSpan ks n s = linked.spans n s before_is in
+          record {
+            within = omega (arith, len, was.within);
+            own = λ d. earlier s.last d was.within ∙ was.own d;
+            first = λ at d within is_own is_in. ⊎_elim
+                (λ there. was.first at d there (sym (earlier at d there) ∙ is_own)
+                (ap (λ (x : Kept). x.is_out) (sym (get_or_append_left ks (k ∷ []) d at there)) ∙ is_in))
+                (λ new. absurd (apart (sym (ap (λ (x : Kept). x.handle) (last at d new)) ∙ is_own)))
+                (earlier-or-last ks k at within);
+            last = λ at d within is_own. ⊎_elim
+                (λ there. was.last at d there (sym (earlier at d there) ∙ is_own))
+                (λ new. absurd (apart (sym (ap (λ (x : Kept). x.handle) (last at d new)) ∙ is_own)))
+                (earlier-or-last ks k at within);
+          }
+
+  has-span : (n : ℕ) → (n ≡ k.handle) ⊎ (is_some (get nat_eq old.spans n) ≡ true)
+      → is_some (get nat_eq new.spans n) ≡ true
+  has-span n from = one (nat_eq k.handle n) refl from
+    where
+      one : (b : Bool) → nat_eq k.handle n ≡ b → (n ≡ k.handle) ⊎ (is_some (get nat_eq old.spans n) ≡ true)
+          → is_some (get nat_eq new.spans n) ≡ true
+      one true is from =
+          ap is_some (updates.0 n ∙ ap (λ (b : Bool). cond b (Some span) (get nat_eq led.spans n)) is)
+      one false is (inl same) = absurd (eqb-false k.handle n is (sym same))
+      one false is (inr had) =
+          ap is_some (updates.0 n ∙ ap (λ (b : Bool). cond b (Some span) (get nat_eq led.spans n)) is)
+          ∙ (ap (λ m. is_some (get nat_eq m n)) leads.spans ∙ had)
+
+  -- with one more sample the chains are those of all of them
+  pub linked-more : IsLinked (ks ++ k ∷ []) new
+  linked-more = record {
+    len = ap length links ∙ (length-append led.links.items (link ∷ [])
+        ∙ (ap (λ (n : ℕ). n + 1) (leads.len ∙ linked.len) ∙ sym (length-append ks (k ∷ []))));
+    links = λ at d within j e behind below inside same. ⊎_elim
+        (λ there. passes-none at j d e there behind below inside (same ∙ earlier at d there))
+        (λ new. let len : length (ks ++ k ∷ []) ≡ length ks + 1 = length-append ks (k ∷ []) in
+        omega (arith, len, new, behind, inside))
+        (earlier-or-last ks k at within);
+    spans = span-is;
+    each = λ at d within. ⊎_elim
+        (λ there. ap (λ (n : ℕ). is_some (get nat_eq new.spans n)) (earlier at d there)
+        ∙ has-span (get_or ks at d).handle (inr (linked.each at d there)))
+        (λ new. has-span (get_or (ks ++ k ∷ []) at d).handle (inl (ap (λ (x : Kept). x.handle) (last at d new))))
+        (earlier-or-last ks k at within);
+  }
+
+-- the chains stay those of the samples where each keeps its handle, and those that takes returned stay so
+pub chains-same : (old new : List Kept) (chains : Chains) → length new ≡ length old
+    → ((at : ℕ) (d : Kept) → at < length old → (get_or new at d).handle ≡ (get_or old at d).handle)
+    → ((at : ℕ) (d : Kept) → at < length old → (get_or new at d).is_out ≡ false → (get_or old at d).is_out ≡ false)
+    → AreChainsOf old chains → AreChainsOf new chains
+chains-same old new chains len handles outs are = λ whole.
+    let linked : IsLinked old chains = are whole in
+    let within : (at : ℕ) → at < length new → at < length old = λ at inside. omega (arith, len, inside) in
+    record {
+      len = linked.len ∙ sym len;
+      links = λ at d inside j e behind below there same. linked.links at d (within at inside) j e behind below
+          (within j there) (sym (handles j e (within j there)) ∙ (same ∙ handles at d (within at inside)));
+      spans = λ n span is. let was : IsSpan old n span = linked.spans n span is in
+          record {
+            within = omega (arith, len, was.within);
+            own = λ d. handles span.last d was.within ∙ was.own d;
+            first = λ at d inside own stays. was.first at d (within at inside)
+                (sym (handles at d (within at inside)) ∙ own) (outs at d (within at inside) stays);
+            last = λ at d inside own. was.last at d (within at inside) (sym (handles at d (within at inside)) ∙ own);
+          };
+      each = λ at d inside. ap (λ (n : ℕ). is_some (get nat_eq chains.spans n)) (handles at d (within at inside))
+          ∙ linked.each at d (within at inside);
+    }
+
+-- so they do where one of them is changed that way
+pub chains-set : (ks : List Kept) (at : ℕ) (k v : Kept) (chains : Chains) → at < length ks → k ≡ get_or ks at k
+    → v.handle ≡ k.handle → (v.is_out ≡ false → k.is_out ≡ false) → AreChainsOf ks chains → AreChainsOf (set ks at v) chains
+chains-set ks at k v chains within is handle out =
+    chains-same ks (set ks at v) chains (length-set ks at v)
+    (λ j d inside. one (λ x. x.handle ≡ (get_or ks j d).handle) j d inside
+    (λ here. handle ∙ (ap (λ (x : Kept). x.handle) (is ∙ old j d here))) refl)
+    (λ j d inside. one (λ x. x.is_out ≡ false → (get_or ks j d).is_out ≡ false) j d inside
+    (λ here stays. ap (λ (x : Kept). x.is_out) (sym (is ∙ old j d here)) ∙ out stays) (λ stays. stays))
+  where
+    old : (j : ℕ) (d : Kept) → at ≡ j → get_or ks at k ≡ get_or ks j d
+    old j d here = get_or_default ks at k d within ∙ ap (λ (n : ℕ). get_or ks n d) here
+
+    one : (P : Kept → Type 0) (j : ℕ) (d : Kept) → j < length ks → (at ≡ j → P v) → P (get_or ks j d)
+        → P (get_or (set ks at v) j d)
+    one P j d inside changed same =
+        ⊎_elim
+        (λ here. let is : at ≡ j = eqb-true at j here in
+        subst P (sym (ap (λ (n : ℕ). get_or (set ks at v) n d) (sym is) ∙ get_or-set_same ks at v d within)) (changed is))
+        (λ other. subst P (sym (get_or-set_other ks at j v d (λ here. eqb-false at j other (sym here)))) same) (cases_Bool (nat_eq at j))
+
+-- behind one that a take returned the others begin
+pub first-after : (ks : List Kept) (n at next : ℕ) (k : Kept) → at < length ks → (get_or ks at k).is_out ≡ true
+    → IsFirst ks n at → AreOthers ks n at next → IsFirst ks n next
+first-after ks n at next k within out begins others = λ j d inside own stays.
+    let from : at ≤ j = begins j d inside own stays in
+    ⊎_elim
+    (λ here. let same : at ≡ j = eqb-true at j here in
+    absurd (let clash : true ≡ false = sym out ∙ (ap (λ (x : Kept). x.is_out) (get_or_default ks at k d within
+    ∙ ap (λ (m : ℕ). get_or ks m d) same) ∙ stays) in cc))
+    (λ behind. let apart : at ≢ j = eqb-false at j behind in
+    ⊎_elim
+    (λ below. absurd (others j d (omega (arith, from, apart)) (ltb-true j next below) inside own))
+    (λ reached. ltb-false j next reached) (cases_Bool (nat_lt j next)))
+    (cases_Bool (nat_eq at j))
+
+-- the samples of an instance may begin at another place
+pub linked-first : (ks : List Kept) (n first : ℕ) (before : Span) (old new : Chains) → IsLinked ks old
+    → new.links ≡ old.links → get nat_eq old.spans n ≡ Some before → IsFirst ks n first
+    → Updates nat_eq old.spans new.spans n (Some (record { first = first; last = before.last })) → IsLinked ks new
+linked-first ks n first before old new linked links was begins updates = record {
+  len = ap (λ v. length v.items) links ∙ linked.len;
+  links = λ at d within. subst (λ (m : ℕ). AreOthers ks (get_or ks at d).handle at m)
+      (sym (ap (λ v. get_or v.items at 0) links)) (linked.links at d within);
+  spans = λ m s is. one m s is (cases_Bool (nat_eq n m));
+  each = λ at d within. still (get_or ks at d).handle (linked.each at d within) (cases_Bool (nat_eq n (get_or ks at d).handle));
+}
+  where
+    span : Span
+    span = record { first = first; last = before.last }
+
+    one : (m : ℕ) (s : Span) → get nat_eq new.spans m ≡ Some s → (nat_eq n m ≡ true) ⊎ (nat_eq n m ≡ false)
+        → IsSpan ks m s
+    one m s is (inl own) =
+        let which : Some s ≡ Some span = sym is
+        ∙ (updates.0 m ∙ ap (λ (b : Bool). cond b (Some span) (get nat_eq old.spans m)) own) in
+        let same : s ≡ span = cc in
+        let old_span : IsSpan ks n before = linked.spans n before was in
+        subst (λ (x : ℕ). IsSpan ks x s) (eqb-true n m own) (subst (λ (x : Span). IsSpan ks n x) (sym same) (record {
+          within = old_span.within;
+          own = old_span.own;
+          first = begins;
+          last = old_span.last;
+        }))
+    one m s is (inr other) =
+        linked.spans m s
+        (sym (updates.0 m ∙ ap (λ (b : Bool). cond b (Some span) (get nat_eq old.spans m)) other) ∙ is)
+
+    still : (m : ℕ) → is_some (get nat_eq old.spans m) ≡ true → (nat_eq n m ≡ true) ⊎ (nat_eq n m ≡ false)
+        → is_some (get nat_eq new.spans m) ≡ true
+    still m had (inl own) =
+        ap is_some (updates.0 m ∙ ap (λ (b : Bool). cond b (Some span) (get nat_eq old.spans m)) own)
+    still m had (inr other) =
+        ap is_some (updates.0 m ∙ ap (λ (b : Bool). cond b (Some span) (get nat_eq old.spans m)) other) ∙ had

@@ -1,0 +1,161 @@
+//! Where the kept samples of each instance are.
+//!
+//! DDS 1.4, 2.2.2.5 (read_instance, take_instance, read_next_instance, take_next_instance).
+
+ghost use Rattle.std.specs.Prelude.{◌≡◌, ◌<◌, ◌≤◌, ◌∷◌, ◌++◌, [], List, length};
+ghost use Rattle.dds_cache.specs.declared.kept.Kept.{Kept};
+ghost use Rattle.dds_cache.specs.Chains.{AreChainsOf, AreOthers, IsFirst, Leads};
+
+use crate::kept::Kept;
+use dds_base::Handle;
+use indexmap::IndexMap;
+use std::alloc::{AllocError, Global};
+
+/// Between which places the kept samples of one instance are.
+#[derive(Clone, Copy)]
+struct Span {
+    /// None of them is before it, but for those that takes returned.
+    first: usize,
+    /// The last of them.
+    last: usize,
+}
+
+/// Where the kept samples of each instance are: each has a link to the next one of its instance.
+#[derive(Drop)]
+pub struct Chains {
+    /// By place, where the next sample of the instance is, or a place that is not behind it; `u32::MAX` where there is none.
+    links: Vec<u32>,
+    /// By handle, between which places the samples of an instance are.
+    spans: IndexMap<u64, Span>,
+    /// Whether they are of all kept samples. They are not once memory was refused, until they are made anew: samples are
+    /// then found by a pass over all.
+    is_whole: bool,
+}
+
+/// A link to a place, or to one before it where the place has no link.
+fn link_to(place: usize) -> u32
+    ensures { result ≤ place }
+{
+    u32::try_from(place).unwrap_or(u32::MAX)
+}
+
+impl Chains {
+    /// Of no samples.
+    pub fn new(alloc: Global) -> Chains
+        ensures { AreChainsOf [] result }
+    {
+        Chains {
+            links: Vec::new(alloc),
+            spans: IndexMap::new(alloc),
+            is_whole: true,
+        }
+    }
+
+    /// Makes room for so many more samples, and for those of so many instances in all.
+    pub fn reserve(&mut self, samples: usize, instances: usize) -> Result<(), AllocError>
+        ensures { (ks : List Kept) → AreChainsOf ks self.old → AreChainsOf ks self.new }
+    {
+        self.links.reserve(samples)?;
+        self.spans
+            .reserve(instances.saturating_sub(self.spans.len()))
+    }
+
+    /// Forgets all.
+    pub fn clear(&mut self)
+        ensures { AreChainsOf [] self.new }
+    {
+        self.links.clear();
+        self.spans.clear();
+        self.is_whole = true;
+    }
+
+    /// Has the last sample of an instance, if there is one, lead to a place behind all, and tells between which places those
+    /// of the instance are with one more there.
+    fn lead_to(&mut self, handle: Handle, place: usize) -> Span
+        ensures { Leads self.old handle place result self.new }
+    {
+        match self.spans.get(&handle.number()) {
+            None => Span {
+                first: place,
+                last: place,
+            },
+            Some(span) => {
+                let Span { first, last } = *span;
+                if let Some(link) = self.links.get_mut(last) {
+                    *link = link_to(place);
+                }
+                Span {
+                    first: first.min(place),
+                    last: place,
+                }
+            }
+        }
+    }
+
+    /// Takes up that a sample of the instance of a handle is added as the last, at a place.
+    pub fn append(&mut self, handle: Handle, place: usize)
+        ensures { (ks : List Kept) (k : Kept) → place ≡ length ks → k.handle ≡ handle
+            → AreChainsOf ks self.old → AreChainsOf (ks ++ k ∷ []) self.new }
+    {
+        let span = self.lead_to(handle, place);
+        let has_link = self.links.push(u32::MAX).is_ok();
+        let has_span = self.spans.insert(handle.number(), span).is_ok();
+        self.is_whole &= has_link & has_span;
+    }
+
+    /// Where the samples of an instance begin: none that no take returned is before it.
+    pub fn first(&self, handle: Handle) -> usize
+        ensures { (ks : List Kept) → AreChainsOf ks self.now → IsFirst ks handle result }
+    {
+        if !self.is_whole {
+            return 0;
+        }
+        match self.spans.get(&handle.number()) {
+            Some(span) => span.first,
+            None => usize::MAX,
+        }
+    }
+
+    /// Where the next sample of an instance may be, after a place: none is between.
+    pub fn next(&self, samples: &[Kept], handle: Handle, place: usize) -> usize
+        requires within { place < length samples.now }
+        ensures later { place < result }
+        ensures between { AreChainsOf samples.now self.now → AreOthers samples.now handle place result }
+    {
+        let following = place + 1;
+        if !self.is_whole || samples[place].handle != handle {
+            return following;
+        }
+        match self.links.get(place) {
+            Some(link) => following.max(*link as usize),
+            None => following,
+        }
+    }
+
+    /// Where the first sample of an instance is that no take returned, or a place behind all.
+    fn first_left(&self, samples: &[Kept], handle: Handle) -> usize
+        ensures { AreChainsOf samples.now self.now → IsFirst samples.now handle result }
+    {
+        let mut place = self.first(handle);
+        while place < samples.len() && samples[place].is_out {
+            place = self.next(samples, handle, place);
+        }
+        place
+    }
+
+    /// Takes up that takes returned samples of an instance: the others begin at the first that they left.
+    pub fn advance(&mut self, samples: &[Kept], handle: Handle)
+        ensures { AreChainsOf samples.now self.old → AreChainsOf samples.now self.new }
+    {
+        let first = self.first_left(samples, handle);
+        let Some(span) = self.spans.get(&handle.number()) else {
+            return;
+        };
+        let span = Span {
+            first,
+            last: span.last,
+        };
+        let has_span = self.spans.insert(handle.number(), span).is_ok();
+        self.is_whole &= has_span;
+    }
+}
