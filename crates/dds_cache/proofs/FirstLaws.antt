@@ -30,7 +30,7 @@ use Rattle.dds_cache.specs.Chains.{IsFirst}
 use Rattle.dds_cache.specs.Kept.{IsKept, sample_at}
 use Rattle.dds_base.specs.Life.{is_at, is_kept_write, last_marker}
 use Rattle.dds_cache.specs.Finding.{Holds, IsCandidate, TellsFound, asks_for, handle_in, is_asked_for, is_wanted, sample_in, sample_of}
-use Rattle.dds_cache.specs.First.{AreFirstOf, AreOfForm, IsAmongKnown, IsFirstAsked, IsFoundOf, IsFull, IsOf, IsPassedBy, Settles, TellsFoundOf, of_form, of_handle, wanted_in}
+use Rattle.dds_cache.specs.First.{AreFirstOf, AreOfForm, IsAmongKnown, IsFirstAsked, IsFoundOf, IsFull, IsOf, IsPassedBy, Settles, TellsFoundOf, asked_in, of_form, of_handle, wanted_in}
 use Rattle.dds_cache.proofs.FindingLaws.{filter-flat_map, filter-more, found-candidate, wanted-of}
 use Rattle.dds_cache.proofs.GroupLaws.{unequal}
 
@@ -149,7 +149,7 @@ pub at_most-map : (max : Option ℕ) (cs : List Candidate) → map sample_in (at
 at_most-map None cs = refl
 at_most-map (Some n) cs = sym (take-map sample_in n cs)
 
-at_most-full : {X : Type 0} (max : Option ℕ) (xs ys : List X) → IsFull max (length xs)
+pub at_most-full : {X : Type 0} (max : Option ℕ) (xs ys : List X) → IsFull max (length xs)
     → at_most max xs ≡ at_most max (xs ++ ys)
 at_most-full None xs ys full = absurd full
 at_most-full (Some n) xs ys full = sym (take-append-le n xs ys full)
@@ -298,10 +298,6 @@ found-of q h masks test i k at None key unwanted =
 found-of q h masks test i k at (Some c) key found = (own-same i k.sample.key key, found)
 
 -- ---- the samples of one instance after those of another
-
--- the samples of instance i that are asked for, among those that are present
-abbrev asked_in : ReaderQos → List Happening → Masks → (Key → List ℕ → Bool) → Key → List SamplePosition
-asked_in q h masks test i = filter (is_asked_for q h masks test) (present_of q h i)
 
 -- they are of instance i
 own-key : (p : SamplePosition → Bool) (i : Key) (ps : List ℕ)

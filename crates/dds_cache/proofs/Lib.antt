@@ -6,6 +6,7 @@ pub mod StandingLaws
 pub mod GroupLaws
 pub mod FindingLaws
 pub mod FirstLaws
+pub mod WalkLaws
 pub mod AskedLaws
 pub mod PickLaws
 pub mod PlaceLaws

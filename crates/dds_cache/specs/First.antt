@@ -2,7 +2,8 @@
 -- has to be believed.
 --
 -- DDS 1.4, 2.2.2.5 (read, take, and their instance, next-instance and next-sample forms: max_samples).
-use Rattle.std.specs.Prelude.{◌≡◌, ℕ, ◌≤◌, ◌<◌, ◌^◌, ◌+◌, ◌⊎◌, List, All, map, filter, take, Bool, true, false, ◌&&◌, ◌==◌, Option, None, Some, IfSome, MatchOption, slice_get}
+use Rattle.std.specs.Prelude.{◌≡◌, ℕ, ◌≤◌, ◌<◌, ◌^◌, ◌+◌, ◌++◌, ◌⊎◌, List, All, map, filter, take, Bool, true, false, ◌&&◌, ◌==◌, Option, None, Some, IfSome, MatchOption, slice_get}
+use Rattle.std.specs.List.{flat_map}
 use Rattle.dds_base.specs.declared.key.Key.{Key}
 use Rattle.dds_base.specs.declared.happening.SamplePosition.{SamplePosition}
 use Rattle.dds_base.specs.declared.happening.Happening.{Happening}
@@ -13,11 +14,12 @@ use Rattle.dds_base.specs.declared.selection.Selection.TheVariants.{Any, Instanc
 use Rattle.dds_base.specs.Access.{at_most, handle_of, matching_samples, next_handle}
 use Rattle.dds_base.specs.Happening.{same_key}
 use Rattle.dds_base.specs.Instance.{known_instances}
+use Rattle.dds_base.specs.Presence.{present_of}
 use Rattle.dds_instances.specs.Known.{IsKnown}
 use Rattle.dds_instances.specs.declared.known.KnownInstance.{KnownInstance}
 use Rattle.dds_cache.specs.declared.access.Candidate.{Candidate}
 use Rattle.dds_cache.specs.declared.kept.Kept.{Kept}
-use Rattle.dds_cache.specs.Finding.{IsCandidate, IsFound, asks_for, is_wanted, sample_in, sample_of}
+use Rattle.dds_cache.specs.Finding.{IsCandidate, IsFound, asks_for, is_asked_for, is_wanted, sample_in, sample_of}
 
 -- an access does not ask for instance i
 abbrev pub IsPassedBy : ReaderQos → List Happening → Selection → Key → Type 0
@@ -98,6 +100,13 @@ Settles (Instance handle max masks) limit known found = Unit {0}
 Settles (NextInstance previous max masks) limit known found = 0 < found
 Settles NextSample limit known found = (known ≡ 1) ⊎ IsFull limit found
 
+-- an access asks for all instances
+abbrev pub AsksForAll : Selection → Type 0
+AsksForAll (Any max masks) = Unit {0}
+AsksForAll (Instance handle max masks) = ⊥
+AsksForAll (NextInstance previous max masks) = ⊥
+AsksForAll NextSample = Unit {0}
+
 -- those of one instance
 abbrev pub of_handle : ReaderQos → List Happening → ℕ → List SamplePosition → List SamplePosition
 of_handle q h n ss = filter (λ (s : SamplePosition). handle_of q h s.key == n) ss
@@ -113,4 +122,21 @@ of_form q h NextSample ss = ss
 pub record AreOfForm (q : ReaderQos) (h : List Happening) (selection : Selection) (masks : Masks)
     (test : Key → List ℕ → Bool) (max : Option ℕ) (ks : List Kept) (cs : List Candidate) : Type 0 where
   pub samples_are : map sample_in cs ≡ at_most max (of_form q h selection (matching_samples q h masks test))
+  pub each : All (IsCandidate q h ks) cs
+
+-- the samples of instance i that are asked for, among those that are present
+abbrev pub asked_in : ReaderQos → List Happening → Masks → (Key → List ℕ → Bool) → Key → List SamplePosition
+asked_in q h masks test i = filter (is_asked_for q h masks test) (present_of q h i)
+
+-- the candidates are the matching samples, so many at most, in their order
+pub record AreFirstMatching (q : ReaderQos) (h : List Happening) (masks : Masks) (test : Key → List ℕ → Bool)
+    (max : Option ℕ) (ks : List Kept) (cs : List Candidate) : Type 0 where
+  pub samples_are : map sample_in cs ≡ at_most max (matching_samples q h masks test)
+  pub each : All (IsCandidate q h ks) cs
+
+-- whatever follows them, the candidates begin as the matching samples of the instances before a place do, so many at most
+pub record AreFirstUpTo (q : ReaderQos) (h : List Happening) (masks : Masks) (test : Key → List ℕ → Bool)
+    (max : Option ℕ) (ks : List Kept) (place : ℕ) (cs : List Candidate) : Type 0 where
+  pub samples_are : (rest : List SamplePosition) → at_most max (map sample_in cs ++ rest)
+      ≡ at_most max (flat_map (asked_in q h masks test) (take place (known_instances q h)) ++ rest)
   pub each : All (IsCandidate q h ks) cs

@@ -10,9 +10,10 @@ ghost use Rattle.dds_base.specs.Instance.{known_instances};
 ghost use Rattle.dds_instances.specs.Table.{Stands};
 ghost use Rattle.dds_cache.specs.Finding.{Holds, IsPlaced, IsSmall, handle_in};
 ghost use Rattle.dds_cache.specs.Chains.{AreChainsOf};
-ghost use Rattle.dds_cache.specs.First.{AreOfForm, IsCountable, IsFirstAsked, IsFirstPlace, IsPassedBy, Settles, TellsAsked};
+ghost use Rattle.dds_cache.specs.First.{AreOfForm, AsksForAll, IsCountable, IsFirstAsked, IsFirstPlace, IsPassedBy, Settles, TellsAsked};
 
 use crate::access::{Candidate, asks_for_handle, find_in_instance, is_full};
+use crate::by_instance::find_by_instance;
 use crate::chains::Chains;
 use crate::kept::Kept;
 use crate::test::Test;
@@ -82,8 +83,19 @@ fn may_settle(selection: &Selection, max: Option<u32>, known: usize) -> bool {
     }
 }
 
-/// The samples that an access picks, where the first instance that it asks for has them, or none is asked for; `None`
-/// where others may have some too.
+/// Whether it is best to go instance by instance: where an access asks for all instances, and no more of them are known
+/// than samples are kept.
+fn goes_by_instance(selection: &Selection, known: usize, kept: usize) -> bool
+    ensures { result ≡ true → AsksForAll selection.now }
+{
+    match *selection {
+        Selection::Any { .. } | Selection::NextSample => known <= kept,
+        Selection::Instance { .. } | Selection::NextInstance { .. } => false,
+    }
+}
+
+/// The samples that an access picks, where the first instance that it asks for has them, or none is asked for, or where
+/// it is best to go instance by instance; else `None`.
 pub fn find_first<T: Test>(
     alloc: Global,
     instances: &Instances,
@@ -106,16 +118,17 @@ pub fn find_first<T: Test>(
     ensures sorted { IfOk result
         (λ settled. IfSome settled (λ found. IsNonDecreasingBy handle_in found.items)) }
 {
-    if !may_settle(selection, max, instances.len()) {
-        return Ok(None);
-    }
     let Some(known) = first_asked(instances, selection) else {
         return Ok(Some(Vec::new(alloc)));
     };
-    let found = find_in_instance(alloc, &known, qos, masks, test, samples, chains, max)?;
-    if is_settled(selection, max, instances.len(), found.len()) {
-        Ok(Some(found))
-    } else {
-        Ok(None)
+    if may_settle(selection, max, instances.len()) {
+        let found = find_in_instance(alloc, &known, qos, masks, test, samples, chains, max)?;
+        if is_settled(selection, max, instances.len(), found.len()) {
+            return Ok(Some(found));
+        }
     }
+    if goes_by_instance(selection, instances.len(), samples.len()) {
+        return find_by_instance(alloc, instances, qos, samples, chains, masks, max, test);
+    }
+    Ok(None)
 }

@@ -9,6 +9,7 @@ mod access;
 mod access_kind;
 mod arriving;
 mod asking;
+mod by_instance;
 mod chains;
 mod collection;
 mod counts;

@@ -16,13 +16,13 @@ returns-in_default-clause-found g c = λ h holds.
 pub returns-then-is_settled-clause-found : goal.returns-then-is_settled-clause-found
 returns-then-is_settled-clause-found g c = λ h holds.
     let first = c.in-Some.ensures.first c.args.qos.now h holds.instances in
-    let known : c.len-2.result ≡ length (known_instances c.args.qos.now h) =
-    omega (arith, c.len-2.ensures.len c.args.qos.now h holds.instances) in
-    let count : c.len-3.result ≡ length c.in_ok-found.found.items = c.len-3.ensures ∙ c.in_ok-found.found.ok.0 in
+    let known : c.len-then-may_settle.result ≡ length (known_instances c.args.qos.now h) =
+    omega (arith, c.len-then-may_settle.ensures.len c.args.qos.now h holds.instances) in
+    let count : c.len-then-may_settle-2.result ≡ length c.in_ok-found.found.items = c.len-then-may_settle-2.ensures ∙ c.in_ok-found.found.ok.0 in
     let settled : Settles c.args.selection.now c.args.max (length (known_instances c.args.qos.now h))
     (length c.in_ok-found.found.items) =
     subst (λ (n : ℕ). Settles c.args.selection.now c.args.max n (length c.in_ok-found.found.items)) known
-    (subst (λ (n : ℕ). Settles c.args.selection.now c.args.max c.len-2.result n) count
+    (subst (λ (n : ℕ). Settles c.args.selection.now c.args.max c.len-then-may_settle.result n) count
     (c.is_settled.ensures c.if-is_settled.true)) in
     first-picked c.args.qos.now c.args.instances.now h c.args.selection.now c.args.masks
     (g.T.Test.meaning c.args.test.now) c.args.max c.args.samples.now c.in-Some.known c.in_ok-found.found.items holds

@@ -1,0 +1,62 @@
+//! The samples that an access picks of all instances, found instance by instance.
+//!
+//! DDS 1.4, 2.2.2.5 (read, take, read_next_sample, take_next_sample: max_samples).
+
+ghost use Rattle.std.specs.Prelude.{◌≡◌, ◌≤◌, List, length, All, IfOk, IfSome, true};
+ghost use Rattle.std.specs.List.Sorted.{IsNonDecreasingBy};
+ghost use Rattle.dds_base.specs.declared.happening.Happening.{Happening};
+ghost use Rattle.dds_cache.specs.Chains.{AreChainsOf};
+ghost use Rattle.dds_cache.specs.Finding.{Holds, IsPlaced, IsSmall, handle_in};
+ghost use Rattle.dds_cache.specs.First.{AreFirstMatching};
+
+use crate::access::{Candidate, cut_to, find_in_instance, is_full};
+use crate::chains::Chains;
+use crate::kept::Kept;
+use crate::test::Test;
+use dds_base::{Masks, ReaderQos};
+use dds_instances::Instances;
+use std::alloc::{AllocError, Global};
+
+/// The present samples that meet the masks and pass the test, by handle, and those of one instance in the order in which
+/// they came, `max` of them at most. It goes over the instances as far as that of the last one, along the chain of each.
+/// `None` where the instances do not stand by handle.
+pub fn find_by_instance<T: Test>(
+    alloc: Global,
+    instances: &Instances,
+    qos: &ReaderQos,
+    samples: &[Kept],
+    chains: &Chains,
+    masks: Masks,
+    max: Option<u32>,
+    test: &T,
+) -> Result<Option<Vec<Candidate>>, AllocError>
+    requires small { All IsSmall samples.now }
+    requires chains { AreChainsOf samples.now chains.now }
+    ensures placed { IfOk result
+        (λ some. IfSome some (λ found. All (IsPlaced (length samples.now)) found.items)) }
+    ensures found { IfOk result (λ some. IfSome some (λ found. (h : List Happening)
+        → Holds qos.now instances.now samples.now h
+        → AreFirstMatching qos.now h masks (T.meaning test.now) max samples.now found.items)) }
+    ensures sorted { IfOk result
+        (λ some. IfSome some (λ found. IsNonDecreasingBy handle_in found.items)) }
+{
+    let mut found = Vec::new(alloc);
+    let mut newest = 0;
+    for place in 0..instances.len() {
+        if is_full(max, found.len()) {
+            break;
+        }
+        let Some(known) = instances.at(place) else {
+            return Ok(None);
+        };
+        let handle = known.handle.number();
+        if handle < newest {
+            return Ok(None);
+        }
+        newest = handle;
+        let mut more = find_in_instance(alloc, &known, qos, masks, test, samples, chains, max)?;
+        found.append(&mut more)?;
+    }
+    cut_to(&mut found, max);
+    Ok(Some(found))
+}
