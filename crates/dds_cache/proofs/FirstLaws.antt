@@ -300,7 +300,7 @@ found-of q h masks test i k at (Some c) key found = (own-same i k.sample.key key
 -- ---- the samples of one instance after those of another
 
 -- they are of instance i
-own-key : (p : SamplePosition → Bool) (i : Key) (ps : List ℕ)
+pub own-key : (p : SamplePosition → Bool) (i : Key) (ps : List ℕ)
     → All (λ (s : SamplePosition). s.key ≡ i) (filter p (map (sample_at i) ps))
 own-key p i [] = All-nil (λ (s : SamplePosition). s.key ≡ i)
 own-key p i (n ∷ ps) = one (p (sample_at i n)) (own-key p i ps)
@@ -311,14 +311,14 @@ own-key p i (n ∷ ps) = one (p (sample_at i n)) (own-key p i ps)
     one true rest = All-cons (λ (s : SamplePosition). s.key ≡ i) (sample_at i n) (filter p (map (sample_at i) ps)) refl rest
     one false rest = rest
 
-filter-all : (p : SamplePosition → Bool) (ss : List SamplePosition) → All (λ (s : SamplePosition). p s ≡ true) ss
+pub filter-all : (p : SamplePosition → Bool) (ss : List SamplePosition) → All (λ (s : SamplePosition). p s ≡ true) ss
     → filter p ss ≡ ss
 filter-all p [] all = refl
 filter-all p (s ∷ ss) all =
     ap (λ (b : Bool). cond b (s ∷ filter p ss) (filter p ss)) (All-head (λ (x : SamplePosition). p x ≡ true) s ss all)
     ∙ ap (λ (xs : List SamplePosition). s ∷ xs) (filter-all p ss (All-tail (λ (x : SamplePosition). p x ≡ true) s ss all))
 
-filter-no : (p : SamplePosition → Bool) (ss : List SamplePosition) → All (λ (s : SamplePosition). p s ≡ false) ss
+pub filter-no : (p : SamplePosition → Bool) (ss : List SamplePosition) → All (λ (s : SamplePosition). p s ≡ false) ss
     → filter p ss ≡ []
 filter-no p [] all = refl
 filter-no p (s ∷ ss) all =
@@ -326,7 +326,7 @@ filter-no p (s ∷ ss) all =
     ∙ filter-no p ss (All-tail (λ (x : SamplePosition). p x ≡ false) s ss all)
 
 -- what is so of each sample of each instance is so of all of them
-flat-each : (P : SamplePosition → Type 0) (X : Key → List SamplePosition) (ks : List Key)
+pub flat-each : (P : SamplePosition → Type 0) (X : Key → List SamplePosition) (ks : List Key)
     → All (λ (i : Key). All P (X i)) ks → All P (flat_map X ks)
 flat-each P X [] all = All-nil P
 flat-each P X (k ∷ ks) all =
@@ -335,7 +335,7 @@ flat-each P X (k ∷ ks) all =
     (flat-each P X ks (All-tail (λ (i : Key). All P (X i)) k ks all)))
 
 -- where no instance has the handle, none of the samples is of it
-none-of : (q : ReaderQos) (h : List Happening) (X : Key → List SamplePosition) (n : ℕ) (ks : List Key)
+pub none-of : (q : ReaderQos) (h : List Happening) (X : Key → List SamplePosition) (n : ℕ) (ks : List Key)
     → ((i : Key) → All (λ (s : SamplePosition). s.key ≡ i) (X i))
     → All (λ (i : Key). (handle_of q h i == n) ≡ false) ks → of_handle q h n (flat_map X ks) ≡ []
 none-of q h X n ks own other =
@@ -369,7 +369,7 @@ one-of q h X i before after own earlier later =
     (own i)))))))
 
 -- the next handle is that of the first sample of an instance above
-next-of : (q : ReaderQos) (h : List Happening) (n : ℕ) (xs ys : List SamplePosition)
+pub next-of : (q : ReaderQos) (h : List Happening) (n : ℕ) (xs ys : List SamplePosition)
     → All (λ (s : SamplePosition). nat_lt n (handle_of q h s.key) ≡ false) xs
     → next_handle q h n (xs ++ ys) ≡ next_handle q h n ys
 next-of q h n [] ys below = refl
@@ -378,7 +378,7 @@ next-of q h n (s ∷ xs) ys below =
     (All-head (λ (x : SamplePosition). nat_lt n (handle_of q h x.key) ≡ false) s xs below)
     ∙ next-of q h n xs ys (All-tail (λ (x : SamplePosition). nat_lt n (handle_of q h x.key) ≡ false) s xs below)
 
-next-first : (q : ReaderQos) (h : List Happening) (n : ℕ) (i : Key) (xs ys : List SamplePosition)
+pub next-first : (q : ReaderQos) (h : List Happening) (n : ℕ) (i : Key) (xs ys : List SamplePosition)
     → All (λ (s : SamplePosition). s.key ≡ i) xs → nat_lt n (handle_of q h i) ≡ true → 0 < length xs
     → next_handle q h n (xs ++ ys) ≡ handle_of q h i
 next-first q h n i [] ys own above some = absurd (omega (arith, some))
@@ -401,7 +401,7 @@ below-each q h X n ks own below =
 
 -- ---- the instances after one have greater handles
 
-rising-after : (f : Key → ℕ) (a b : ℕ) (xs : List Key) (i : Key) (ys : List Key) → IsRising f a b (xs ++ i ∷ ys)
+pub rising-after : (f : Key → ℕ) (a b : ℕ) (xs : List Key) (i : Key) (ys : List Key) → IsRising f a b (xs ++ i ∷ ys)
     → All (λ (k : Key). (f k == f i) ≡ false) ys
 rising-after f a b [] i ys rising =
     All-weaker (λ (k : Key). f i + 1 ≤ f k) (λ (k : Key). (f k == f i) ≡ false)
@@ -415,13 +415,13 @@ nobody : (ks : List Key) → All (λ (i : Key). true ≡ false) ks → ks ≡ []
 nobody [] all = refl
 nobody (k ∷ ks) all = absurd (let clash : true ≡ false = All-head (λ (i : Key). true ≡ false) k ks all in cc)
 
-at_most-nil : (max : Option ℕ) (ss : List SamplePosition) → ss ≡ [] → at_most max ss ≡ []
+pub at_most-nil : (max : Option ℕ) (ss : List SamplePosition) → ss ≡ [] → at_most max ss ≡ []
 at_most-nil None ss none = none
 at_most-nil (Some zero) ss none = ap (λ (xs : List SamplePosition). take 0 xs) none
 at_most-nil (Some (suc n)) ss none = ap (λ (xs : List SamplePosition). take (suc n) xs) none
 
 -- the known instances are those before a place, the one there, and those after it
-split-at : (ks : List Key) (place : ℕ) (i : Key) → slice_get ks place ≡ Some i
+pub split-at : (ks : List Key) (place : ℕ) (i : Key) → slice_get ks place ≡ Some i
     → ks ≡ take place ks ++ i ∷ drop (place + 1) ks
 split-at ks place i there =
     sym (take-append-drop (place + 1) ks)

@@ -7,6 +7,7 @@ pub mod GroupLaws
 pub mod FindingLaws
 pub mod FirstLaws
 pub mod WalkLaws
+pub mod NextLaws
 pub mod AskedLaws
 pub mod PickLaws
 pub mod PlaceLaws

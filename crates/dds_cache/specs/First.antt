@@ -2,7 +2,7 @@
 -- has to be believed.
 --
 -- DDS 1.4, 2.2.2.5 (read, take, and their instance, next-instance and next-sample forms: max_samples).
-use Rattle.std.specs.Prelude.{◌≡◌, ℕ, ◌≤◌, ◌<◌, ◌^◌, ◌+◌, ◌++◌, ◌⊎◌, List, All, map, filter, take, Bool, true, false, ◌&&◌, ◌==◌, Option, None, Some, IfSome, MatchOption, slice_get}
+use Rattle.std.specs.Prelude.{◌≡◌, ℕ, ◌≤◌, ◌<◌, ◌^◌, ◌+◌, ◌++◌, ◌⊎◌, List, [], All, map, filter, take, Bool, true, false, ◌&&◌, ◌==◌, Option, None, Some, IfSome, MatchOption, slice_get}
 use Rattle.std.specs.List.{flat_map}
 use Rattle.dds_base.specs.declared.key.Key.{Key}
 use Rattle.dds_base.specs.declared.happening.SamplePosition.{SamplePosition}
@@ -107,6 +107,13 @@ AsksForAll (Instance handle max masks) = ⊥
 AsksForAll (NextInstance previous max masks) = ⊥
 AsksForAll NextSample = Unit {0}
 
+-- an access asks for the next instance
+abbrev pub AsksForNext : Selection → Type 0
+AsksForNext (Any max masks) = ⊥
+AsksForNext (Instance handle max masks) = ⊥
+AsksForNext (NextInstance previous max masks) = Unit {0}
+AsksForNext NextSample = ⊥
+
 -- those of one instance
 abbrev pub of_handle : ReaderQos → List Happening → ℕ → List SamplePosition → List SamplePosition
 of_handle q h n ss = filter (λ (s : SamplePosition). handle_of q h s.key == n) ss
@@ -140,3 +147,7 @@ pub record AreFirstUpTo (q : ReaderQos) (h : List Happening) (masks : Masks) (te
   pub samples_are : (rest : List SamplePosition) → at_most max (map sample_in cs ++ rest)
       ≡ at_most max (flat_map (asked_in q h masks test) (take place (known_instances q h)) ++ rest)
   pub each : All (IsCandidate q h ks) cs
+
+-- an access does not ask for instance i, or no sample of it matches
+abbrev pub IsBarren : ReaderQos → List Happening → Selection → Masks → (Key → List ℕ → Bool) → Key → Type 0
+IsBarren q h selection masks test i = IsPassedBy q h selection i ⊎ (asked_in q h masks test i ≡ [])

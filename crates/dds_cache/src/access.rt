@@ -277,7 +277,8 @@ pub fn cut_to(found: &mut Vec<Candidate>, max: Option<u32>)
 
 /// Whether so many are as many as are asked for.
 pub fn is_full(max: Option<u32>, count: usize) -> bool
-    ensures { result ≡ true → IsFull max count }
+    ensures full { result ≡ true → IsFull max count }
+    ensures few { result ≡ false → IsFull max count → ⊥ }
 {
     match max {
         None => false,

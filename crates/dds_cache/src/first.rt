@@ -10,7 +10,7 @@ ghost use Rattle.dds_base.specs.Instance.{known_instances};
 ghost use Rattle.dds_instances.specs.Table.{Stands};
 ghost use Rattle.dds_cache.specs.Finding.{Holds, IsPlaced, IsSmall, handle_in};
 ghost use Rattle.dds_cache.specs.Chains.{AreChainsOf};
-ghost use Rattle.dds_cache.specs.First.{AreOfForm, AsksForAll, IsCountable, IsFirstAsked, IsFirstPlace, IsPassedBy, Settles, TellsAsked};
+ghost use Rattle.dds_cache.specs.First.{AreOfForm, AsksForNext, IsCountable, IsFirstAsked, IsFirstPlace, IsPassedBy, Settles, TellsAsked};
 
 use crate::access::{Candidate, asks_for_handle, find_in_instance, is_full};
 use crate::by_instance::find_by_instance;
@@ -83,19 +83,44 @@ fn may_settle(selection: &Selection, max: Option<u32>, known: usize) -> bool {
     }
 }
 
-/// Whether it is best to go instance by instance: where an access asks for all instances, and no more of them are known
-/// than samples are kept.
-fn goes_by_instance(selection: &Selection, known: usize, kept: usize) -> bool
-    ensures { result ≡ true → AsksForAll selection.now }
+/// What an access of the next instance picks. It goes over the instances that it asks for as far as the first that has a
+/// match, along the chain of each.
+fn find_next<T: Test>(
+    alloc: Global,
+    instances: &Instances,
+    qos: &ReaderQos,
+    samples: &[Kept],
+    chains: &Chains,
+    selection: &Selection,
+    masks: Masks,
+    max: Option<u32>,
+    test: &T,
+) -> Result<Vec<Candidate>, AllocError>
+    requires small { All IsSmall samples.now }
+    requires chains { AreChainsOf samples.now chains.now }
+    ensures placed { IfOk result (λ found. All (IsPlaced (length samples.now)) found.items) }
+    ensures found { IfOk result (λ found. (h : List Happening)
+        → Holds qos.now instances.now samples.now h → AsksForNext selection.now
+        → AreOfForm qos.now h selection.now masks (T.meaning test.now) max samples.now
+        found.items) }
+    ensures sorted { IfOk result (λ found. IsNonDecreasingBy handle_in found.items) }
 {
-    match *selection {
-        Selection::Any { .. } | Selection::NextSample => known <= kept,
-        Selection::Instance { .. } | Selection::NextInstance { .. } => false,
+    if is_full(max, 0) {
+        return Ok(Vec::new(alloc));
     }
+    for place in first_place(instances, selection)..instances.len() {
+        if let Some(known) = asked_at(instances, selection, place) {
+            let found = find_in_instance(alloc, &known, qos, masks, test, samples, chains, max)?;
+            if !found.is_empty() {
+                return Ok(found);
+            }
+        }
+    }
+    Ok(Vec::new(alloc))
 }
 
 /// The samples that an access picks, where the first instance that it asks for has them, or none is asked for, or where
-/// it is best to go instance by instance; else `None`.
+/// no more instances are known than samples are kept: then it goes from one to the next. Else `None`.
 pub fn find_first<T: Test>(
     alloc: Global,
     instances: &Instances,
@@ -127,8 +152,19 @@ pub fn find_first<T: Test>(
             return Ok(Some(found));
         }
     }
-    if goes_by_instance(selection, instances.len(), samples.len()) {
-        return find_by_instance(alloc, instances, qos, samples, chains, masks, max, test);
+    if samples.len() < instances.len() {
+        return Ok(None);
     }
-    Ok(None)
+    match *selection {
+        Selection::Any { .. } | Selection::NextSample => find_by_instance(
+            alloc, instances, qos, samples, chains, masks, max, test,
+        ),
+        Selection::NextInstance { .. } => {
+            let found = find_next(
+                alloc, instances, qos, samples, chains, selection, masks, max, test,
+            )?;
+            Ok(Some(found))
+        }
+        Selection::Instance { .. } => Ok(None),
+    }
 }

@@ -99,7 +99,7 @@ returns-clause-found g c = λ h among all.
       | else-loop-at-test w ↦ inr w.loop-at-test.false
       | then-loop-at-test+else-not-is_full w ↦
           inl (subst (λ (n : ℕ). IsFull c.args.max n) (w.len.ensures ∙ c.loop-at.found.ok.0)
-          (w.is_full.ensures w.if-not-is_full.false))
+          (w.is_full.ensures.full w.if-not-is_full.false))
     ] in
     first-cut c.args.qos.now h c.args.masks
     (g.T.Test.meaning c.args.test.now) c.args.known.now.key c.args.max c.args.samples.now c.loop-at.at

@@ -72,7 +72,7 @@ returns-clause-found g c = λ h holds.
       | else-loop-place-test w ↦ inr (omega (arith, known, w.loop-place-test.false))
       | then-loop-place-test+then-is_full w ↦
           inl (subst (λ (n : ℕ). IsFull c.args.max n) (w.len.ensures ∙ c.loop-place.found.ok.0)
-          (w.is_full.ensures w.if-is_full.true))
+          (w.is_full.ensures.full w.if-is_full.true))
     ] in
     all-walked c.args.qos.now h c.args.masks (g.T.Test.meaning c.args.test.now) c.args.max c.args.samples.now
     c.loop-place.place c.loop-place.found.items c.cut_to.new.found.items done c.cut_to.ensures
