@@ -18,6 +18,7 @@ pub mod CountedLaws
 pub mod AnyLaws
 pub mod DataLaws
 pub mod RoomLaws
+pub mod DepthLaws
 pub mod DeathLaws
 pub mod SweepLaws
 pub mod HoldLaws

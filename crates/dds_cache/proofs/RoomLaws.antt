@@ -5,8 +5,8 @@ use Rattle.std.specs.List.{list_any, All, count_by}
 use Rattle.std.proofs.lemmas.Bool.{and_parts, cases_Bool, le-leb, leb-true, lt-ltb}
 use Rattle.std.proofs.lemmas.Bool.Decides.{nat_tests}
 use Rattle.std.proofs.lemmas.List.{append-nil, length-append}
-use Rattle.std.proofs.lemmas.List.Sums.{sum_by-append, sum_by-cons, count_by-le-length, length-filter}
-use Rattle.std.proofs.lemmas.List.Elements.{All-weaker}
+use Rattle.std.proofs.lemmas.List.Sums.{sum_by-append, sum_by-cons, length-filter}
+use Rattle.std.proofs.lemmas.List.Elements.{All-head, All-tail, All-weaker}
 use Rattle.dds_base.specs.declared.key.Key.{Key}
 use Rattle.dds_base.specs.declared.change.ChangeKind.{ChangeKind}
 use Rattle.dds_base.specs.declared.happening.Arrival.{Arrival}
@@ -29,7 +29,7 @@ use Rattle.dds_instances.specs.Known.{IsKnown, writes_in_life}
 use Rattle.dds_instances.specs.Track.{one_if}
 use Rattle.dds_instances.proofs.KnownLaws.{known}
 use Rattle.dds_cache.specs.declared.kept.Kept.{Kept}
-use Rattle.dds_cache.specs.Kept.{Adds, IsFresh, IsKept, IsKeptAt, IsOf, has_data, positions_in, sample_at}
+use Rattle.dds_cache.specs.Kept.{Adds, IsFresh, IsKept, IsKeptAt, IsOf, has_data, is_in, positions_in, sample_at, was_taken}
 use Rattle.dds_cache.specs.Room.{is_present_write, is_write_after}
 use Rattle.dds_cache.specs.Sweeping.{stays}
 use Rattle.dds_cache.proofs.EndLaws.{known-accepted, short}
@@ -334,20 +334,65 @@ leaves-write q a h w m written marked fresh =
         unmarked)))
         (cases_Bool (marks q i h e))
 
-within-less : (limit : Option ℕ) (n m : ℕ) → n ≤ m → is_within limit m ≡ true → is_within limit n ≡ true
+-- what is no more than what keeps to the limit does too
+pub within-less : (limit : Option ℕ) (n m : ℕ) → n ≤ m → is_within limit m ≡ true → is_within limit n ≡ true
 within-less None n m less within = refl
 within-less (Some most) n m less within = le-leb n most (omega (arith, less, leb-true m most within))
 
--- with fewer samples than may be present, there is room for one more
+-- a test that is passed wherever another one is counts no less
+pub fewer-one : (a b : Bool) → (a ≡ true → b ≡ true) → cond {A = ℕ} a 1 0 ≤ cond {A = ℕ} b 1 0
+fewer-one true b more =
+    let is : cond {A = ℕ} b 1 0 ≡ 1 = ap (λ (x : Bool). cond {A = ℕ} x 1 0) (more refl) in
+    omega (arith, is)
+fewer-one false b more = omega arith
+
+fewer-kept : (p r : Kept → Bool) (ks : List Kept) → All (λ (k : Kept). p k ≡ true → r k ≡ true) ks
+    → count_by p ks ≤ count_by r ks
+fewer-kept p r [] wider = omega arith
+fewer-kept p r (k ∷ ks) wider =
+    let left : count_by p (k ∷ ks) ≡ cond (p k) 1 0 + count_by p ks = sum_by-cons (λ x. cond (p x) 1 0) k ks in
+    let right : count_by r (k ∷ ks) ≡ cond (r k) 1 0 + count_by r ks = sum_by-cons (λ x. cond (r x) 1 0) k ks in
+    let one = fewer-one (p k) (r k) (All-head (λ (x : Kept). p x ≡ true → r x ≡ true) k ks wider) in
+    let rest = fewer-kept p r ks (All-tail (λ (x : Kept). p x ≡ true → r x ≡ true) k ks wider) in
+    omega (arith, left, right, one, rest)
+
+-- each kept sample was taken or was not
+pub taken-or-in : (ks : List Kept) → count_by was_taken ks + count_by is_in ks ≡ length ks
+taken-or-in [] = omega arith
+taken-or-in (k ∷ ks) =
+    let outs : count_by was_taken (k ∷ ks) ≡ cond (was_taken k) 1 0 + count_by was_taken ks =
+    sum_by-cons (λ x. cond (was_taken x) 1 0) k ks in
+    let ins : count_by is_in (k ∷ ks) ≡ cond (is_in k) 1 0 + count_by is_in ks =
+    sum_by-cons (λ x. cond (is_in x) 1 0) k ks in
+    let rest = taken-or-in ks in
+    let one : cond {A = ℕ} (was_taken k) 1 0 + cond {A = ℕ} (is_in k) 1 0 ≡ 1 = either k.is_out in
+    omega (arith, outs, ins, one, rest)
+  where
+    either : (b : Bool) → cond {A = ℕ} b 1 0 + cond {A = ℕ} (not b) 1 0 ≡ 1
+    either true = omega arith
+    either false = omega arith
+
+-- no take returned a write that is present after a change
+writes-in : (q : ReaderQos) (a : Arrival) (h : List Happening) (k : Kept) → IsKept q h k
+    → is_present_write q (Came a ∷ h) k ≡ true → is_in k ≡ true
+writes-in q a h k kept is =
+    let there = (and_parts (is_present q (Came a ∷ h) k.sample.key k.sample.position) _ is).0 in
+    ap (λ (b : Bool). not b) kept.out_is ∙ (and_parts (not (is_taken k.sample (Came a ∷ h))) _ there).0
+
+-- with fewer samples than may be present that no take returned, there is room for one more
 pub spare-fits : (q : ReaderQos) (a : Arrival) (h : List Happening) (ks : List Kept) → All (IsKept q h) ks
     → ((i : Key) → filter (is_present q h i) (up_to (length h)) ≡ positions_in q h i ks) → IsFresh h a.change.key
-    → is_accepted q h (Came a) ≡ true → is_within q.max_samples (length ks + 1) ≡ true
+    → is_accepted q h (Came a) ≡ true → is_within q.max_samples (count_by is_in ks + 1) ≡ true
     → is_within q.max_samples (present_writes q (Came a ∷ h)) ≡ true
 spare-fits q a h ks each present fresh accepted within =
     let count = writes-after q a h ks each present fresh accepted in
-    let few = count_by-le-length (is_present_write q (Came a ∷ h)) ks in
+    let few : count_by (is_present_write q (Came a ∷ h)) ks ≤ count_by is_in ks =
+    fewer-kept (is_present_write q (Came a ∷ h)) is_in ks
+    (All-weaker (IsKept q h) (λ (k : Kept). is_present_write q (Came a ∷ h) k ≡ true → is_in k ≡ true)
+    (λ k kept. writes-in q a h k kept) ks each) in
     let one = at-most-one (leaves_write q a h) in
-    within-less q.max_samples (present_writes q (Came a ∷ h)) (length ks + 1) (omega (arith, count, few, one)) within
+    within-less q.max_samples (present_writes q (Came a ∷ h)) (count_by is_in ks + 1) (omega (arith, count, few, one))
+    within
   where
     at-most-one : (b : Bool) → one_if b ≤ 1
     at-most-one true = omega arith
@@ -377,7 +422,7 @@ instances-spare q a h before counted within =
 pub spare-is-room : (q : ReaderQos) (a : Arrival) (h : List Happening) (ks : List Kept) (came known : ℕ)
     → All (IsKept q h) ks → ((i : Key) → filter (is_present q h i) (up_to (length h)) ≡ positions_in q h i ks)
     → IsFresh h a.change.key → came ≡ min (arrivals h) (2 ^ 31 - 1) → came < 2 ^ 31 - 2
-    → known ≡ length (known_instances q h) → is_within q.max_samples (length ks + 1) ≡ true
+    → known ≡ length (known_instances q h) → is_within q.max_samples (count_by is_in ks + 1) ≡ true
     → is_within q.max_instances (known + 1) ≡ true → true ≡ has_room q h (Came a)
 spare-is-room q a h ks came known each present fresh counted few known_is samples instances =
     sym (ap (λ (b : Bool). b && fits (is_accepted q h (Came a))) (lt-ltb (arrivals h + 1) (2 ^ 31 - 1)

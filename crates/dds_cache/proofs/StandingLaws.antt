@@ -30,7 +30,7 @@ use Rattle.dds_cache.specs.declared.access_kind.AccessKind.{AccessKind}
 use Rattle.dds_cache.specs.declared.access_kind.AccessKind.TheVariants.{Read as Reading, Take as Taking}
 use Rattle.dds_cache.specs.Sweeping.{AreIn, left_since, stays}
 use Rattle.dds_base.specs.Instance.{known_instances}
-use Rattle.dds_cache.specs.Standing.{Stored, StandsFor, entry_of}
+use Rattle.dds_cache.specs.Standing.{AreOfMatched, IsOfMatched, Stored, StandsFor, entry_of}
 use Rattle.dds_cache.proofs.PresenceLaws.{here-append, present-next, present-dropped, quiet-absent, other-absent}
 use Rattle.dds_cache.proofs.EndLaws.{still-quiet}
 use Rattle.dds_cache.proofs.KeptLaws.{kept-next, not-true, present-in, some_kept}
@@ -89,13 +89,13 @@ holds-next q e h before table old left new stands leaves adds holds = record {
 
 -- the samples that an entry leaves are added to those that are left
 pub stands-added : (q : ReaderQos) (e : Happening) (h : List Happening) (left : List Kept) (old new : Stored)
-    → old.qos ≡ q → new.qos ≡ q
+    → old.qos ≡ q → new.qos ≡ q → IsOfMatched q e
     → taken_by e ≡ [] → read_by e ≡ [] → new.arrivals ≡ min (arrivals (e ∷ h)) (2 ^ 31 - 1)
     → data_available_at q (e ∷ h) ≡ (if brings_sample q (e ∷ h) then Some (length h + 1) else data_available_at q h)
     → new.data_at ≡ (if nat_lt (length left) (length new.samples) then Some (length h + 1) else old.data_at)
     → Stands q new.instances (e ∷ h) → Leaves q e h old.samples left → Adds q e h left new.samples → StandsFor old h
     → StandsFor new (e ∷ h)
-stands-added q e h left old new old_qos new_qos taken read counted raised noted instances leaves adds stands =
+stands-added q e h left old new old_qos new_qos matched taken read counted raised noted instances leaves adds stands =
     let before : Holds q old.instances old.samples h =
     subst (λ (r : ReaderQos). Holds r old.instances old.samples h) old_qos (holds old h stands) in
     let next : Holds q new.instances new.samples (e ∷ h) =
@@ -122,6 +122,10 @@ stands-added q e h left old new old_qos new_qos taken read counted raised noted 
           (sample_at i j) h) taken ∙ stands.untaken i j (omega (arith, later));
       arrivals_are = counted;
       data_is = subst (λ (r : ReaderQos). new.data_at ≡ data_available_at r (e ∷ h)) (sym new_qos) is;
+      matched =
+          subst (λ (r : ReaderQos). AreOfMatched r (e ∷ h)) (sym new_qos)
+          (All-cons (IsOfMatched q) e h matched
+          (subst (λ (r : ReaderQos). AreOfMatched r h) old_qos stands.matched));
     }
 
 -- an entry that leaves none
@@ -137,16 +141,17 @@ adds-none q e h ks absent = record {
 
 -- an entry that says nothing of any instance leaves what is kept
 pub stands-quiet : (q : ReaderQos) (e : Happening) (h : List Happening) (old new : Stored) → old.qos ≡ q → new.qos ≡ q
-    → taken_by e ≡ [] → read_by e ≡ [] → ((i : Key) → accepted_kind q i h e ≡ None)
+    → IsOfMatched q e → taken_by e ≡ [] → read_by e ≡ [] → ((i : Key) → accepted_kind q i h e ≡ None)
     → ((i : Key) → registered_writers q i (e ∷ h) ≡ registered_writers q i h)
     → new.arrivals ≡ min (arrivals (e ∷ h)) (2 ^ 31 - 1)
     → data_available_at q (e ∷ h) ≡ (if brings_sample q (e ∷ h) then Some (length h + 1) else data_available_at q h)
     → new.data_at ≡ old.data_at → new.samples ≡ old.samples → Stands q new.instances (e ∷ h) → StandsFor old h
     → StandsFor new (e ∷ h)
-stands-quiet q e h old new old_qos new_qos taken read refused writers counted raised noted samples instances stands =
+stands-quiet q e h old new old_qos new_qos matched taken read refused writers counted raised noted samples instances
+    stands =
     let ks : List Kept = old.samples in
     let each : All (IsKept q h) ks = subst (λ (r : ReaderQos). All (IsKept r h) ks) old_qos stands.each in
-    stands-added q e h ks old new old_qos new_qos taken read counted raised
+    stands-added q e h ks old new old_qos new_qos matched taken read counted raised
     (noted
     ∙ (none-noted (length ks) (Some (length h + 1)) old.data_at
     ∙ ap (λ (xs : List Kept). if nat_lt (length ks) (length xs) then Some (length h + 1) else old.data_at)
@@ -228,6 +233,7 @@ stands-still h old new qos samples counted noted instances stands =
       untaken = stands.untaken;
       arrivals_are = counted ∙ stands.arrivals_are;
       data_is = noted ∙ (stands.data_is ∙ ap (λ (r : ReaderQos). data_available_at r h) (sym qos));
+      matched = subst (λ (r : ReaderQos). AreOfMatched r h) (sym qos) stands.matched;
     }
 
 -- ---- a read
@@ -400,6 +406,7 @@ stands-swept h old new keep qos instances samples counted noted kept stands =
       untaken = stands.untaken;
       arrivals_are = counted ∙ stands.arrivals_are;
       data_is = noted ∙ (stands.data_is ∙ ap (λ (r : ReaderQos). data_available_at r h) (sym qos));
+      matched = subst (λ (r : ReaderQos). AreOfMatched r h) (sym qos) stands.matched;
     }
 
 -- a cache that is swept stands for what it stood for
@@ -475,12 +482,17 @@ data-access : (kind : AccessKind) (q : ReaderQos) (ss : List SamplePosition) (h 
 data-access Reading q ss h = refl
 data-access Taking q ss h = refl
 
+matched-access : (kind : AccessKind) (q : ReaderQos) (ss : List SamplePosition) → IsOfMatched q (entry_of kind ss)
+matched-access Reading q ss = tt
+matched-access Taking q ss = tt
+
 -- a cache stands for one access more, once what it keeps holds after it
 pub stands-entered : (kind : AccessKind) (ss : List SamplePosition) (h : List Happening) (old new : Stored)
-    → new.arrivals ≡ old.arrivals → new.data_at ≡ None → All (λ (s : SamplePosition). s.position ≤ length h) ss
+    → new.qos ≡ old.qos → new.arrivals ≡ old.arrivals → new.data_at ≡ None
+    → All (λ (s : SamplePosition). s.position ≤ length h) ss
     → Holds new.qos new.instances new.samples (entry_of kind ss ∷ h) → StandsFor old h
     → StandsFor new (entry_of kind ss ∷ h)
-stands-entered kind ss h old new counted lowered past now stands = record {
+stands-entered kind ss h old new qos counted lowered past now stands = record {
   instances = now.instances;
   each = now.each;
   present = now.present;
@@ -494,4 +506,7 @@ stands-entered kind ss h old new counted lowered past now stands = record {
       counted
       ∙ (stands.arrivals_are ∙ ap (λ (n : ℕ). min n (2 ^ 31 - 1)) (sym (arrivals-access kind ss h)));
   data_is = lowered ∙ sym (data-access kind new.qos ss h);
+  matched =
+      All-cons (IsOfMatched new.qos) (entry_of kind ss) h (matched-access kind new.qos ss)
+      (subst (λ (r : ReaderQos). AreOfMatched r h) (sym qos) stands.matched);
 }

@@ -174,9 +174,10 @@ impl ReaderCache {
         self.room = self.room.saturating_sub(1);
     }
 
-    /// Takes up a change, in the room that there is.
+    /// Takes up a change of a matched writer, in the room that there is.
     fn take_up(&mut self, arrival: Arrival)
         requires room { 1 ≤ room_of self.old }
+        requires matched { IsMatched (qos_of self.old) arrival.writer }
         ensures stands { (h : List Happening) → StandsFor self.old h
             → StandsFor self.new (Came arrival ∷ h) }
         ensures qos { qos_of self.new ≡ qos_of self.old }
@@ -342,8 +343,9 @@ impl ReaderCache {
     /// Whether there is room for a change by the limits of the policies: fewer than 2^31 - 1 changes came with it, and
     /// if it is accepted, the present writes and the known instances are as many as they may be. It needs no memory.
     ///
-    /// It goes once over the samples where as many are kept as may be present, but for a history that keeps all, and
-    /// where as many instances are known as may be.
+    /// It goes once over the samples under KEEP_LAST where as many are kept as may be present, besides those that takes
+    /// returned, and the depth times the known instances is more than that; and where as many instances are known as
+    /// may be.
     ///
     /// DDS 1.4, 2.2.3 (RESOURCE_LIMITS).
     pub fn has_room(&self, arrival: &Arrival) -> bool

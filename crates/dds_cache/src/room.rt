@@ -2,23 +2,28 @@
 //!
 //! DDS 1.4, 2.2.3 (RESOURCE_LIMITS).
 
-ghost use Rattle.std.specs.Prelude.{◌≡◌, ◌+◌, ◌-◌, ◌^◌, ◌∷◌, min, List, length, All, true};
+ghost use Rattle.std.specs.Prelude.{◌≡◌, ◌≤◌, ◌+◌, ◌-◌, ◌*◌, ◌^◌, ◌∷◌, min, List, length, All, IfSome, true};
+ghost use Rattle.std.specs.List.{count_by};
 ghost use Rattle.dds_base.specs.declared.happening.Happening.{Happening};
 ghost use Rattle.dds_base.specs.declared.happening.Happening.TheVariants.{Came};
+ghost use Rattle.dds_base.specs.declared.qos.ReaderQos.{ReaderQos};
 ghost use Rattle.dds_base.specs.Happening.{arrivals as arrivals_of};
 ghost use Rattle.dds_base.specs.Instance.{known_instances};
+ghost use Rattle.dds_base.specs.Ownership.{IsMatched};
 ghost use Rattle.dds_base.specs.Presence.{has_room, is_within, present_writes};
+ghost use Rattle.dds_instances.specs.Table.{Stands};
 ghost use Rattle.dds_instances.specs.Track.{one_if};
 ghost use Rattle.dds_cache.specs.Arriving.{AwaitsAccepted, AwaitsChange};
 ghost use Rattle.dds_cache.specs.Finding.{Holds};
-ghost use Rattle.dds_cache.specs.Kept.{IsCounted, IsFresh, IsKept};
+ghost use Rattle.dds_cache.specs.Kept.{IsCounted, IsFresh, IsKept, is_in, was_taken};
 ghost use Rattle.dds_cache.specs.Room.{is_present_write, present_writes_after};
+ghost use Rattle.dds_cache.specs.Standing.{AreOfMatched};
 
 use crate::arriving::is_accepted_write;
 use crate::counts::Counts;
 use crate::ending::is_end;
 use crate::kept::{Kept, is_kept_after};
-use dds_base::{Arrival, HistoryQos, ReaderQos};
+use dds_base::{Arrival, Handle, HistoryQos, ReaderQos};
 use dds_instances::Instances;
 
 /// Fewer changes than this come at a reader.
@@ -49,6 +54,14 @@ fn keeps_to(limit: Option<u32>, count: usize, one_more: bool) -> bool
             }
         }
     }
+}
+
+/// How many of the kept samples no take returned, by how many of them takes did.
+fn count_in(samples: &[Kept], outs: usize) -> usize
+    requires outs { outs ≡ count_by was_taken samples.now }
+    ensures { result ≡ count_by is_in samples.now }
+{
+    samples.len().saturating_sub(outs)
 }
 
 /// Whether there may be so many instances after an accepted change.
@@ -148,6 +161,44 @@ fn writes_left(
     }
 }
 
+/// How many writes are present after a change, at most, where so many are kept of each instance and all changes are of
+/// matched writers; `None` where that is more than can be counted.
+fn most_writes(instances: &Instances, arrival: &Arrival, depth: u32) -> Option<usize>
+    ensures { IfSome result (λ most. (q : ReaderQos) (h : List Happening) → Stands q instances.now h
+        → length (known_instances q (Came arrival.now ∷ h)) * depth ≤ most) }
+{
+    let is_new = instances.known(arrival.change.key).is_none();
+    let known = instances.len().checked_add(usize::from(is_new))?;
+    known.checked_mul(depth as usize)
+}
+
+/// Whether a publication handle is that of a matched writer.
+fn is_matched(qos: &ReaderQos, writer: Handle) -> bool
+    ensures { result ≡ true → IsMatched qos.now writer }
+{
+    let writers = qos.writers.as_slice().len() as u64;
+    0 < writer.number() && writer.number() <= writers
+}
+
+/// Whether there is room for a change by how many instances are known alone: under KEEP_LAST no more writes of each are
+/// present than its depth where all changes are of matched writers, as no last marker is a write then.
+fn keeps_within(instances: &Instances, qos: &ReaderQos, arrival: &Arrival) -> bool
+    ensures { (h : List Happening) → Stands qos.now instances.now h → AreOfMatched qos.now h
+        → result ≡ true
+        → is_within qos.now.max_samples (present_writes qos.now (Came arrival.now ∷ h)) ≡ true }
+{
+    let HistoryQos::KeepLast(depth) = qos.history else {
+        return false;
+    };
+    if !is_matched(qos, arrival.writer) {
+        return false;
+    }
+    match most_writes(instances, arrival, depth) {
+        Some(most) => keeps_to(qos.max_samples, most, false),
+        None => false,
+    }
+}
+
 /// Whether there may be so many present writes after an accepted change.
 fn samples_fit(
     instances: &Instances,
@@ -162,7 +213,10 @@ fn samples_fit(
         → result ≡ is_within qos.now.max_samples (present_writes qos.now (Came arrival.now ∷ h)) }
 {
     // With fewer samples than may be present, whichever of them are, there is room for one more.
-    if keeps_to(qos.max_samples, samples.len(), true) {
+    if keeps_to(qos.max_samples, count_in(samples, counts.outs), true) {
+        return true;
+    }
+    if keeps_within(instances, qos, arrival) {
         return true;
     }
     let is_write = is_accepted_write(instances, qos, arrival);
@@ -183,7 +237,7 @@ fn has_spare(qos: &ReaderQos, samples: usize, instances: usize) -> bool
 }
 
 /// Whether there is room for a change at a reader of these policies, at which so many came. Present samples are counted
-/// for it where it is short: `docs/DECISIONS.md`, "A reader's cache".
+/// for it where neither the kept samples nor the known instances are few enough: `docs/DECISIONS.md`, "A reader's cache".
 pub fn is_room(
     instances: &Instances,
     qos: &ReaderQos,
@@ -195,13 +249,14 @@ pub fn is_room(
     requires counted { IsCounted samples.now counts.now }
     ensures { (h : List Happening) → Holds qos.now instances.now samples.now h
         → IsFresh h arrival.now.change.key
+        → AreOfMatched qos.now h
         → arrivals ≡ min (arrivals_of h) (2 ^ 31 - 1)
         → result ≡ has_room qos.now h (Came arrival.now) }
 {
     if MAX_ARRIVALS - 1 <= arrivals {
         return false;
     }
-    if has_spare(qos, samples.len(), instances.len()) {
+    if has_spare(qos, count_in(samples, counts.outs), instances.len()) {
         return true;
     }
     !instances.accepts(qos, arrival)

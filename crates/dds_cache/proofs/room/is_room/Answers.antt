@@ -1,9 +1,13 @@
-use Rattle.std.proofs.Common.{rules, arith}
+use Rattle.std.proofs.Common.{rules, ◌+◌, ℕ, sym, ap, ◌∙◌, arith}
+use Rattle.dds_base.specs.Presence.{is_within}
 use Rattle.dds_cache.proofs.RoomLaws.{spare-is-room}
 use Rattle.dds_cache.proofs.room.is_room.Goals as goal
 
 pub returns-then-has_spare : goal.returns-then-has_spare
-returns-then-has_spare c = λ h holds fresh counted.
+returns-then-has_spare c = λ h holds fresh matched counted.
     spare-is-room c.args.qos.now c.args.arrival.now h c.args.samples.now c.args.arrivals c.len.result holds.each
     holds.present fresh counted (omega (arith, c.if-arrivals.false))
-    (c.len.ensures.len c.args.qos.now h holds.instances) (search rules) (search rules)
+    (c.len.ensures.len c.args.qos.now h holds.instances)
+    (ap (λ (n : ℕ). is_within c.args.qos.now.max_samples (n + 1)) (sym c.count_in.ensures)
+    ∙ c.has_spare.ensures.samples c.if-has_spare.true)
+    (search rules)

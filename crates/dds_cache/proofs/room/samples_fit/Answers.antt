@@ -14,7 +14,12 @@ use Rattle.dds_cache.proofs.room.samples_fit.Goals.{then-is_write+then-is_kept_a
 pub returns-then-keeps_to : goal.returns-then-keeps_to
 returns-then-keeps_to c = λ h awaits.
     sym (spare-fits c.args.qos.now c.args.arrival.now h c.args.samples.now awaits.holds.each awaits.holds.present awaits.fresh
-    awaits.accepted (sym c.keeps_to.ensures ∙ c.if-keeps_to.true))
+    awaits.accepted (ap (λ (n : ℕ). is_within c.args.qos.now.max_samples (n + 1)) (sym c.count_in.ensures)
+    ∙ (sym c.keeps_to.ensures ∙ c.if-keeps_to.true)))
+
+pub returns-then-keeps_within : goal.returns-then-keeps_within
+returns-then-keeps_within c = λ h awaits.
+    sym (c.keeps_within.ensures h awaits.holds.instances awaits.matched c.if-keeps_within.true)
 
 pub returns : goal.returns
 returns c = λ h awaits.

@@ -42,5 +42,5 @@ returns-clause-stands c = λ h stands.
     ∙ (let more : length (e ∷ h) ≡ length h + 1 = omega arith in more) in
     let noted = c.data_after-self-inside.ensures.newest ∙ noted-by _ _ _ _ _ _ c.self.inside.data_at
     (c.len-before.ensures ∙ c.let_go.new.samples.ok.0) (c.len.ensures ∙ c.add_markers.new.samples.ok.0) at in
-    stands-added q e h c.let_go.new.samples.items (stored_of c.self.inside) _ refl refl refl refl
+    stands-added q e h c.let_go.new.samples.items (stored_of c.self.inside) _ refl refl tt refl refl
     old.arrivals_are refl noted died leaves adds old

@@ -15,7 +15,7 @@ returns-clause-ok c = λ h stands found.
     subst (λ (t : Stored). StandsFor t h) (sym c.self.view_is) stands in
     let is : IsFoundIn q h c.self.inside.samples.items c.args.access.now =
     subst (λ (t : Stored). IsFoundIn t.qos h t.samples c.args.access.now) (sym c.self.view_is) found in
-    stands-entered c.args.kind ss h (stored_of c.self.inside) _ refl refl (past-all q h ss is.returnable)
+    stands-entered c.args.kind ss h (stored_of c.self.inside) _ refl refl refl (past-all q h ss is.returnable)
     (c.enter_access.ensures.holds h (record { holds = holds (stored_of c.self.inside) h old; found = is })) old
 
 pub returns-clause-delivered : goal.returns-clause-delivered

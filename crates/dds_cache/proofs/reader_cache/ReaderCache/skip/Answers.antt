@@ -9,7 +9,7 @@ pub returns-clause-passed : goal.returns-clause-passed
 returns-clause-passed c = λ h w first last stands.
     let old : StandsFor (stored_of c.self.inside) h =
     subst (λ (t : Stored). StandsFor t h) (sym c.self.view_is) stands in
-    stands-quiet c.self.inside.qos (Passed w first last) h (stored_of c.self.inside) _ refl refl refl refl
+    stands-quiet c.self.inside.qos (Passed w first last) h (stored_of c.self.inside) _ refl refl tt refl refl
     (λ i. refl) (λ i. refl) old.arrivals_are refl refl refl
     (c.in_ok-skip.ensures.passed c.self.inside.qos h w first last old.instances) old
 
@@ -17,6 +17,6 @@ pub returns-clause-heard : goal.returns-clause-heard
 returns-clause-heard c = λ h w moment stands.
     let old : StandsFor (stored_of c.self.inside) h =
     subst (λ (t : Stored). StandsFor t h) (sym c.self.view_is) stands in
-    stands-quiet c.self.inside.qos (Heard w moment) h (stored_of c.self.inside) _ refl refl refl refl
+    stands-quiet c.self.inside.qos (Heard w moment) h (stored_of c.self.inside) _ refl refl tt refl refl
     (λ i. refl) (λ i. refl) old.arrivals_are refl refl refl
     (c.in_ok-skip.ensures.heard c.self.inside.qos h w moment old.instances) old

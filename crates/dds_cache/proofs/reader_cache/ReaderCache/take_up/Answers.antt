@@ -9,6 +9,7 @@ use Rattle.dds_base.specs.declared.code.Code.{Code}
 use Rattle.dds_instances.specs.Table.{Stands}
 use Rattle.dds_base.specs.Happening.{arrivals}
 use Rattle.dds_base.specs.Life.{ends_life}
+use Rattle.dds_base.specs.Ownership.{IsMatched}
 use Rattle.dds_cache.specs.declared.kept.Kept.{Kept}
 use Rattle.dds_cache.specs.Finding.{Holds}
 use Rattle.dds_cache.specs.Kept.{IsFresh}
@@ -40,9 +41,11 @@ returns-clause-stands c = λ h stands.
     let at : c.happened-newest.result ≡ length h + 1 =
     c.happened-newest.ensures.happened q (e ∷ h) came
     ∙ (let more : length (e ∷ h) ≡ length h + 1 = omega arith in more) in
+    let matched : IsMatched q c.args.arrival.writer =
+    subst (λ (t : Stored). IsMatched t.qos c.args.arrival.writer) (sym c.self.view_is) c.requires.matched in
     let noted = c.data_after-self-inside.ensures.newest ∙ noted-by _ _ _ _ _ _ c.self.inside.data_at
     (c.len-before.ensures ∙ c.let_go.new.samples.ok.0) (c.len.ensures ∙ c.add_left.new.samples.ok.0) at in
-    stands-added q e h c.let_go.new.samples.items (stored_of c.self.inside) _ refl refl refl refl
+    stands-added q e h c.let_go.new.samples.items (stored_of c.self.inside) _ refl refl matched refl refl
     (c.count_arrival-self-inside.ensures ∙ counts-more c.self.inside.arrivals (arrivals h) old.arrivals_are)
     refl noted came leaves
     (c.add_left.ensures.samples h
