@@ -260,6 +260,6 @@ pub fn is_room(
         return true;
     }
     !instances.accepts(qos, arrival)
-        || samples_fit(instances, qos, arrival, samples, counts)
-            && instances_fit(instances, qos, arrival, samples)
+        || instances_fit(instances, qos, arrival, samples)
+            && samples_fit(instances, qos, arrival, samples, counts)
 }
