@@ -19,7 +19,7 @@ use std::alloc::{AllocError, Global};
 
 /// The present samples that meet the masks and pass the test, by handle, and those of one instance in the order in which
 /// they came, `max` of them at most. It goes over the instances as far as that of the last one, along the chain of each.
-/// `None` where the instances do not stand by handle.
+/// `None` where it has gone over as many as there are samples and has not found all, or where they do not stand by handle.
 pub fn find_by_instance<T: Test>(
     alloc: Global,
     instances: &Instances,
@@ -45,6 +45,9 @@ pub fn find_by_instance<T: Test>(
     for place in 0..instances.len() {
         if is_full(max, found.len()) {
             break;
+        }
+        if samples.len() <= place {
+            return Ok(None);
         }
         let Some(known) = instances.at(place) else {
             return Ok(None);

@@ -84,7 +84,7 @@ fn may_settle(selection: &Selection, max: Option<u32>, known: usize) -> bool {
 }
 
 /// What an access of the next instance picks. It goes over the instances that it asks for as far as the first that has a
-/// match, along the chain of each.
+/// match, along the chain of each; `None` where it has gone over as many as there are samples and has found none.
 fn find_next<T: Test>(
     alloc: Global,
     instances: &Instances,
@@ -95,32 +95,38 @@ fn find_next<T: Test>(
     masks: Masks,
     max: Option<u32>,
     test: &T,
-) -> Result<Vec<Candidate>, AllocError>
+) -> Result<Option<Vec<Candidate>>, AllocError>
     requires small { All IsSmall samples.now }
     requires chains { AreChainsOf samples.now chains.now }
-    ensures placed { IfOk result (λ found. All (IsPlaced (length samples.now)) found.items) }
-    ensures found { IfOk result (λ found. (h : List Happening)
+    ensures placed { IfOk result
+        (λ some. IfSome some (λ found. All (IsPlaced (length samples.now)) found.items)) }
+    ensures found { IfOk result (λ some. IfSome some (λ found. (h : List Happening)
         → Holds qos.now instances.now samples.now h → AsksForNext selection.now
         → AreOfForm qos.now h selection.now masks (T.meaning test.now) max samples.now
-        found.items) }
-    ensures sorted { IfOk result (λ found. IsNonDecreasingBy handle_in found.items) }
+        found.items)) }
+    ensures sorted { IfOk result
+        (λ some. IfSome some (λ found. IsNonDecreasingBy handle_in found.items)) }
 {
     if is_full(max, 0) {
-        return Ok(Vec::new(alloc));
+        return Ok(Some(Vec::new(alloc)));
     }
-    for place in first_place(instances, selection)..instances.len() {
+    let first = first_place(instances, selection);
+    for place in first..instances.len() {
+        if samples.len() <= place - first {
+            return Ok(None);
+        }
         if let Some(known) = asked_at(instances, selection, place) {
             let found = find_in_instance(alloc, &known, qos, masks, test, samples, chains, max)?;
             if !found.is_empty() {
-                return Ok(found);
+                return Ok(Some(found));
             }
         }
     }
-    Ok(Vec::new(alloc))
+    Ok(Some(Vec::new(alloc)))
 }
 
-/// The samples that an access picks, where the first instance that it asks for has them, or none is asked for, or where
-/// no more instances are known than samples are kept: then it goes from one to the next. Else `None`.
+/// The samples that an access picks, as far as the first instance that it asks for tells, or a pass from one instance to the
+/// next, over no more of them than samples are kept; `None` where they don't.
 pub fn find_first<T: Test>(
     alloc: Global,
     instances: &Instances,
@@ -152,19 +158,13 @@ pub fn find_first<T: Test>(
             return Ok(Some(found));
         }
     }
-    if samples.len() < instances.len() {
-        return Ok(None);
-    }
     match *selection {
         Selection::Any { .. } | Selection::NextSample => find_by_instance(
             alloc, instances, qos, samples, chains, masks, max, test,
         ),
-        Selection::NextInstance { .. } => {
-            let found = find_next(
-                alloc, instances, qos, samples, chains, selection, masks, max, test,
-            )?;
-            Ok(Some(found))
-        }
+        Selection::NextInstance { .. } => find_next(
+            alloc, instances, qos, samples, chains, selection, masks, max, test,
+        ),
         Selection::Instance { .. } => Ok(None),
     }
 }

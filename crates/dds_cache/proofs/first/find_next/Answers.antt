@@ -20,8 +20,8 @@ returns-then-is_full-clause-found g c = λ h holds next.
 pub loop-place-init : goal.loop-place-init
 loop-place-init g c = record {
   barren = λ h holds. barren-first c.args.qos.now h c.args.selection.now c.args.masks (g.T.Test.meaning c.args.test.now)
-      (take c.first_place-place.result (known_instances c.args.qos.now h))
-      (c.first_place-place.ensures c.args.qos.now h holds.instances).before;
+      (take c.first_place-first.result (known_instances c.args.qos.now h))
+      (c.first_place-first.ensures c.args.qos.now h holds.instances).before;
 }
 
 pub returns-then-not-is_empty-clause-found : goal.returns-then-not-is_empty-clause-found
