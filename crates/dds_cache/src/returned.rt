@@ -14,6 +14,7 @@ use crate::access_kind::AccessKind;
 use crate::collection::{Access, take_out};
 use crate::counts::Counts;
 use crate::kept::Kept;
+use crate::sweeping::pass_over_taken;
 use std::alloc::Global;
 
 /// Marks the samples that a read returned, each at its place, and counts those that were not read before.
@@ -58,9 +59,7 @@ pub fn settle(
         AccessKind::Read => mark_read(samples, counts, &access.found),
         AccessKind::Take => {
             take_out(alloc, samples, counts, &access.found, &mut access.samples);
-            counts
-                .chains
-                .advance(samples, access.found[0].picked.instance_handle);
+            pass_over_taken(samples, counts, access.found[0].picked.instance_handle);
         }
     }
 }

@@ -11,7 +11,7 @@ ghost use Rattle.dds_cache.specs.Sweeping.{AreIn, left_since, stays};
 
 use crate::counts::Counts;
 use crate::kept::Kept;
-use dds_base::ReaderQos;
+use dds_base::{Handle, ReaderQos};
 use dds_instances::Instances;
 
 /// Fewer samples than this are not swept. `docs/DECISIONS.md`, "A reader's cache", says when others are.
@@ -63,6 +63,21 @@ pub fn let_go(
     }
 }
 
+/// Whether more than half of the samples are such as takes returned.
+fn are_mostly_out(samples: &[Kept], counts: &Counts) -> bool {
+    samples.len() / 2 < counts.outs
+}
+
+/// Has the samples of an instance begin behind those that takes returned, where these are not swept out at once.
+pub fn pass_over_taken(samples: &[Kept], counts: &mut Counts, handle: Handle)
+    requires counted { IsCounted samples.now counts.old }
+    ensures counted { IsCounted samples.now counts.new }
+{
+    if !are_mostly_out(samples, counts) {
+        counts.chains.advance(samples, handle);
+    }
+}
+
 /// Lets the samples go that takes returned, where they are more than half of all: so a take costs what it returns, and a
 /// place that it leaves is free before long.
 pub fn let_out_go(samples: &mut Vec<Kept>, counts: &mut Counts)
@@ -73,7 +88,7 @@ pub fn let_out_go(samples: &mut Vec<Kept>, counts: &mut Counts)
     ensures len { vec_len samples.new ≤ vec_len samples.old }
     ensures capacity { vec_capacity samples.new ≡ vec_capacity samples.old }
 {
-    if samples.len() / 2 < counts.outs {
+    if are_mostly_out(samples, counts) {
         samples.retain(|k| !k.is_out);
         counts.renew(samples);
     }
