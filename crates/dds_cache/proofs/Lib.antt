@@ -14,7 +14,7 @@ pub mod PlaceLaws
 pub mod CollectionLaws
 pub mod CountLaws
 pub mod ChainLaws
-pub mod CountedLaws
+pub mod SummaryLaws
 pub mod AnyLaws
 pub mod DataLaws
 pub mod RoomLaws

@@ -38,7 +38,7 @@ use Rattle.dds_cache.proofs.StandingLaws.{adds-nothing, adds-one, each-after, pr
 use Rattle.dds_cache.proofs.SweepLaws.{Leaves, apart-quiet, leaves-swept, present-stays, ripe-one}
 use Rattle.dds_cache.proofs.GroupLaws.{unequal}
 use Rattle.dds_cache.proofs.CountLaws.{present-count}
-use Rattle.dds_cache.proofs.CountedLaws.{count-agree}
+use Rattle.dds_cache.proofs.SummaryLaws.{count-agree}
 
 -- ---- what is kept, after a change
 

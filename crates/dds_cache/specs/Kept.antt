@@ -17,7 +17,7 @@ use Rattle.dds_base.specs.declared.sample.SampleState.{SampleState}
 use Rattle.dds_base.specs.declared.sample.SampleState.TheVariants.{Read as HasBeenRead, NotRead}
 use Rattle.dds_base.specs.Access.{asks_for_sample_state, handle_of, timestamp_of, publication_of, newest_value}
 use Rattle.dds_cache.specs.Chains.{AreChainsOf}
-use Rattle.dds_cache.specs.declared.counts.Counts.{Counts}
+use Rattle.dds_cache.specs.declared.summary.Summary.{Summary}
 use Rattle.dds_cache.specs.declared.kept.Kept.{Kept}
 use Rattle.dds_instances.specs.Known.{writes_in_life}
 use Rattle.dds_instances.specs.declared.known.KnownInstance.{KnownInstance}
@@ -140,13 +140,13 @@ was_read k = not k.is_out && k.is_read
 abbrev pub has_data : Kept → Bool
 has_data k = not k.is_out && k.valid_data
 
--- a take returned so many of the kept samples; of the others so many were read, and so many have data; and where those of
--- each instance are is told right
-pub record IsCounted (ks : List Kept) (counts : Counts) : Type 0 where
-  pub outs : counts.outs ≡ count_by was_taken ks
-  pub reads : counts.reads ≡ count_by was_read ks
-  pub writes : counts.writes ≡ count_by has_data ks
-  pub chains : AreChainsOf ks counts.chains
+-- what is known of the kept samples together is right: a take returned so many; of the others so many were read, and so
+-- many have data; and where those of each instance are
+pub record IsSummary (ks : List Kept) (summary : Summary) : Type 0 where
+  pub outs : summary.outs ≡ count_by was_taken ks
+  pub reads : summary.reads ≡ count_by was_read ks
+  pub writes : summary.writes ≡ count_by has_data ks
+  pub chains : AreChainsOf ks summary.chains
 
 -- the sample state of a kept sample
 abbrev pub sample_state_in : Kept → SampleState

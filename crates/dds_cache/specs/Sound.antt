@@ -6,7 +6,7 @@ use Rattle.std.specs.Prelude.{◌≤◌, ◌+◌, ◌*◌, All, vec_len, vec_cap
 use Rattle.dds_cache.specs.declared.reader_cache.ReaderCache.TheInside.{Inside}
 use Rattle.dds_cache.specs.Standing.{Stored}
 use Rattle.dds_cache.specs.Finding.{IsSmall}
-use Rattle.dds_cache.specs.Kept.{IsCounted}
+use Rattle.dds_cache.specs.Kept.{IsSummary}
 use Rattle.dds_instances.specs.Table.{alive_of, room_of}
 
 -- what a contract sees of a cache
@@ -21,10 +21,10 @@ stored_of a = record {
 }
 
 -- there is memory for so many more entries, each of which may leave a sample and make an instance alive; each instance
--- that is alive has a place for the sample that its end leaves; the counts of each kept sample can be added; and it
--- is known how many of the kept samples were read, and how many have data
+-- that is alive has a place for the sample that its end leaves; the counts of each kept sample can be added; and what
+-- is known of the kept samples together is right
 pub record IsSound (a : Inside) : Type 0 where
   pub instances : a.room ≤ room_of a.instances
   pub samples : vec_len a.samples + 2 * a.room + alive_of a.instances ≤ vec_capacity a.samples
   pub small : All IsSmall a.samples.items
-  pub counted : IsCounted a.samples.items a.counts
+  pub counted : IsSummary a.samples.items a.summary

@@ -9,11 +9,11 @@ ghost use Rattle.dds_base.specs.Happening.{is_read};
 ghost use Rattle.dds_base.specs.Life.{ends_with_write};
 ghost use Rattle.dds_instances.specs.Table.{Stands};
 ghost use Rattle.dds_cache.specs.Arriving.{TakesChange};
-ghost use Rattle.dds_cache.specs.Kept.{IsCounted, IsLeftBy, value_if, Adds};
+ghost use Rattle.dds_cache.specs.Kept.{IsSummary, IsLeftBy, value_if, Adds};
 ghost use Rattle.dds_cache.specs.Finding.{IsSmall};
 
-use crate::counts::{Counts, add};
 use crate::kept::Kept;
+use crate::summary::{Summary, add};
 use dds_base::{Arrival, ChangeKind, Octets, ReaderQos, SamplePosition};
 use dds_instances::Instances;
 use std::alloc::Global;
@@ -90,20 +90,20 @@ pub fn add_left(
     instances: &Instances,
     qos: &ReaderQos,
     samples: &mut Vec<Kept>,
-    counts: &mut Counts,
+    summary: &mut Summary,
     arrival: Arrival,
     is_write: bool,
 )
     requires room { vec_len samples.old < vec_capacity samples.old }
-    requires counted { IsCounted samples.old.items counts.old }
+    requires counted { IsSummary samples.old.items summary.old }
     ensures len { vec_len samples.new ≤ vec_len samples.old + 1 }
     ensures capacity { vec_capacity samples.old ≤ vec_capacity samples.new }
     ensures samples { (h : List Happening) → TakesChange qos.now instances.now arrival is_write h
         → Adds qos.now (Came arrival) h samples.old.items samples.new.items }
     ensures small { All IsSmall samples.old.items → All IsSmall samples.new.items }
-    ensures counted { IsCounted samples.new.items counts.new }
+    ensures counted { IsSummary samples.new.items summary.new }
 {
     if let Some(kept) = left_by(alloc, instances, qos, arrival, is_write) {
-        add(samples, counts, kept);
+        add(samples, summary, kept);
     }
 }

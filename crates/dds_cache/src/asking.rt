@@ -8,12 +8,12 @@ ghost use Rattle.dds_base.specs.declared.key.Key.{Key};
 ghost use Rattle.dds_base.specs.declared.qos.ReaderQos.{ReaderQos};
 ghost use Rattle.dds_base.specs.Instance.{known_instances};
 ghost use Rattle.dds_instances.specs.Table.{Stands};
-ghost use Rattle.dds_cache.specs.Kept.{IsCounted};
+ghost use Rattle.dds_cache.specs.Kept.{IsSummary};
 ghost use Rattle.dds_cache.specs.Finding.{asks_for_states, Holds, IsUnmet};
 
-use crate::counts::Counts;
 use crate::kept::Kept;
 use crate::masks::asks_for_states;
+use crate::summary::Summary;
 use dds_base::Masks;
 use dds_instances::Instances;
 
@@ -45,13 +45,18 @@ fn asks_for_any(instances: &Instances, masks: Masks) -> bool
 /// Whether no kept sample meets the masks, as far as they tell it alone: by how many of the samples were read, and
 /// where fewer instances are known than samples are kept, by the states of the instances. It doesn't go over the
 /// samples.
-pub fn is_none_asked(instances: &Instances, samples: &[Kept], counts: &Counts, masks: Masks) -> bool
-    requires counted { IsCounted samples.now counts.now }
+pub fn is_none_asked(
+    instances: &Instances,
+    samples: &[Kept],
+    summary: &Summary,
+    masks: Masks,
+) -> bool
+    requires counted { IsSummary samples.now summary.now }
     ensures { (q : ReaderQos) (h : List Happening) → Holds q instances.now samples.now h
         → result ≡ true
         → All (IsUnmet q h masks) samples.now }
 {
-    if counts.exclude(samples, masks.samples) {
+    if summary.exclude(samples, masks.samples) {
         return true;
     }
     instances.len() < samples.len() && !asks_for_any(instances, masks)

@@ -19,7 +19,8 @@ use std::alloc::{AllocError, Global};
 
 /// The present samples that meet the masks and pass the test, by handle, and those of one instance in the order in which
 /// they came, `max` of them at most. It goes over the instances as far as that of the last one, along the chain of each.
-/// `None` where it has gone over as many as there are samples and has not found all, or where they do not stand by handle.
+/// `None` where all are asked for, which a pass over the samples finds as fast; where it has gone over as many instances as
+/// there are samples, and has not found as many as are asked for; and where the instances do not stand by handle.
 pub fn find_by_instance<T: Test>(
     alloc: Global,
     instances: &Instances,
@@ -40,6 +41,9 @@ pub fn find_by_instance<T: Test>(
     ensures sorted { IfOk result
         (λ some. IfSome some (λ found. IsNonDecreasingBy handle_in found.items)) }
 {
+    if max.is_none() {
+        return Ok(None);
+    }
     let mut found = Vec::new(alloc);
     let mut newest = 0;
     for place in 0..instances.len() {

@@ -10,13 +10,13 @@ ghost use Rattle.dds_base.specs.Access.{own_generations, with_ranks};
 ghost use Rattle.dds_info.specs.Ranking.{AreTold, StandsBefore};
 ghost use Rattle.dds_cache.specs.declared.access_kind.AccessKind.TheVariants.{Read, Take};
 ghost use Rattle.dds_cache.specs.Finding.{AreApart, AreChanged, IsPlaced, handle_in};
-ghost use Rattle.dds_cache.specs.Kept.{IsCounted, out_if};
+ghost use Rattle.dds_cache.specs.Kept.{IsSummary, out_if};
 ghost use Rattle.dds_cache.specs.Picking.{IsGathered, collected, value_for};
 
 use crate::access::{Candidate, positions};
 use crate::access_kind::AccessKind;
-use crate::counts::Counts;
 use crate::kept::Kept;
+use crate::summary::Summary;
 use dds_base::{Code, Octets, Sample, SamplePosition};
 use dds_info::Ranks;
 use std::alloc::{AllocError, Global};
@@ -80,14 +80,14 @@ fn collect(
 pub fn take_out(
     alloc: Global,
     samples: &mut Vec<Kept>,
-    counts: &mut Counts,
+    summary: &mut Summary,
     found: &[Candidate],
     collection: &mut Vec<Sample>,
 )
     requires placed { All (IsPlaced (length samples.old.items)) found.now }
     requires whole { length collection.old.items ≡ length found.now }
-    requires counted { IsCounted samples.old.items counts.old }
-    ensures counted { IsCounted samples.new.items counts.new }
+    requires counted { IsSummary samples.old.items summary.old }
+    ensures counted { IsSummary samples.new.items summary.new }
     ensures items { AreChanged out_if found.now samples.old.items samples.new.items }
     ensures taken { AreApart found.now
         → collection.old.items ≡ collected Take samples.old.items found.now
@@ -97,7 +97,7 @@ pub fn take_out(
 {
     for (at, candidate) in found.iter().enumerate() {
         let kept = &mut samples[candidate.at];
-        counts.count_out(kept);
+        summary.count_out(kept);
         collection[at].value = kept.take_out(alloc);
     }
 }

@@ -9,12 +9,12 @@ ghost use Rattle.dds_base.specs.declared.key.Key.{Key};
 ghost use Rattle.dds_base.specs.declared.qos.ReaderQos.{ReaderQos};
 ghost use Rattle.dds_instances.specs.Table.{Stands, has_marked, marked_of};
 ghost use Rattle.dds_instances.specs.Track.{one_if};
-ghost use Rattle.dds_cache.specs.Kept.{Adds, IsCounted, IsFresh, IsLeftBy};
+ghost use Rattle.dds_cache.specs.Kept.{Adds, IsSummary, IsFresh, IsLeftBy};
 ghost use Rattle.dds_cache.specs.Dying.{AddsOf, TakesDeath};
 ghost use Rattle.dds_cache.specs.Finding.{IsSmall};
 
-use crate::counts::{Counts, add};
 use crate::kept::{Kept, is_position};
+use crate::summary::{Summary, add};
 use dds_base::{Handle, Moment, Octets, SamplePosition};
 use dds_instances::Instances;
 use std::alloc::Global;
@@ -63,14 +63,14 @@ fn add_marker(
     alloc: Global,
     instances: &Instances,
     samples: &mut Vec<Kept>,
-    counts: &mut Counts,
+    summary: &mut Summary,
     place: usize,
     writer: Handle,
     moment: Moment,
 )
     requires room { vec_len samples.old + one_if (has_marked instances.now place)
         ≤ vec_capacity samples.old }
-    requires counted { IsCounted samples.old.items counts.old }
+    requires counted { IsSummary samples.old.items summary.old }
     ensures len { vec_len samples.new
         ≤ vec_len samples.old + one_if (has_marked instances.now place) }
     ensures capacity { vec_capacity samples.old ≤ vec_capacity samples.new }
@@ -79,10 +79,10 @@ fn add_marker(
         → AddsOf q (Died writer moment ∷ h) (length h + 1)
         (i ∷ []) samples.old.items samples.new.items }
     ensures small { All IsSmall samples.old.items → All IsSmall samples.new.items }
-    ensures counted { IsCounted samples.new.items counts.new }
+    ensures counted { IsSummary samples.new.items summary.new }
 {
     if let Some(kept) = marker_of(alloc, instances, place, writer, moment) {
-        add(samples, counts, kept);
+        add(samples, summary, kept);
     }
 }
 
@@ -91,12 +91,12 @@ pub fn add_markers(
     alloc: Global,
     instances: &Instances,
     samples: &mut Vec<Kept>,
-    counts: &mut Counts,
+    summary: &mut Summary,
     writer: Handle,
     moment: Moment,
 )
     requires room { vec_len samples.old + marked_of instances.now ≤ vec_capacity samples.old }
-    requires counted { IsCounted samples.old.items counts.old }
+    requires counted { IsSummary samples.old.items summary.old }
     ensures len { vec_len samples.new ≤ vec_len samples.old + marked_of instances.now }
     ensures capacity { vec_capacity samples.old ≤ vec_capacity samples.new }
     ensures samples { (q : ReaderQos) (h : List Happening)
@@ -104,9 +104,9 @@ pub fn add_markers(
         → ((i : Key) → IsFresh h i)
         → Adds q (Died writer moment) h samples.old.items samples.new.items }
     ensures small { All IsSmall samples.old.items → All IsSmall samples.new.items }
-    ensures counted { IsCounted samples.new.items counts.new }
+    ensures counted { IsSummary samples.new.items summary.new }
 {
     for place in 0..instances.len() {
-        add_marker(alloc, instances, samples, counts, place, writer, moment);
+        add_marker(alloc, instances, samples, summary, place, writer, moment);
     }
 }

@@ -9,15 +9,15 @@ ghost use Rattle.dds_instances.specs.Table.{alive_of, happened_of, room_of};
 ghost use Rattle.dds_cache.specs.declared.kept.Kept.{Kept};
 ghost use Rattle.dds_cache.specs.Finding.{Holds, IsSmall};
 ghost use Rattle.dds_cache.specs.Picking.{HoldsFound, HoldsMarked, IsDelivered, IsGathered};
-ghost use Rattle.dds_cache.specs.Kept.{IsCounted};
+ghost use Rattle.dds_cache.specs.Kept.{IsSummary};
 ghost use Rattle.dds_cache.specs.Standing.{entry_of};
 
 use crate::access_kind::AccessKind;
 use crate::collection::Access;
-use crate::counts::Counts;
 use crate::ending::hold_present;
 use crate::kept::Kept;
 use crate::returned::settle;
+use crate::summary::Summary;
 use crate::sweeping::{let_go, let_out_go};
 use dds_base::{ReaderQos, SamplePosition};
 use dds_instances::Instances;
@@ -29,11 +29,11 @@ fn take_out(
     instances: &mut Instances,
     qos: &ReaderQos,
     samples: &mut Vec<Kept>,
-    counts: &mut Counts,
+    summary: &mut Summary,
     taken: &[SamplePosition],
 )
     requires entry { (1 ≤ room_of instances.old) ⊎ (happened_of instances.old + 1 < 2 ^ 64) }
-    requires counted { IsCounted samples.old.items counts.old }
+    requires counted { IsSummary samples.old.items summary.old }
     ensures holds { (h : List Happening) (ks : List Kept)
         → HoldsMarked qos.now instances.old taken.now ks samples.old.items h
         → Holds qos.now instances.new samples.new.items (Took taken.now ∷ h) }
@@ -42,15 +42,15 @@ fn take_out(
     ensures len { vec_len samples.new ≤ vec_len samples.old }
     ensures capacity { vec_capacity samples.new ≡ vec_capacity samples.old }
     ensures small { All IsSmall samples.old.items → All IsSmall samples.new.items }
-    ensures counted { IsCounted samples.new.items counts.new }
+    ensures counted { IsSummary samples.new.items summary.new }
 {
     let before = instances.len();
     if instances.is_any_left(taken) {
         hold_present(instances, qos, samples);
     }
     instances.took(taken).unwrap();
-    let_go(instances, qos, before, samples, counts);
-    let_out_go(samples, counts);
+    let_go(instances, qos, before, samples, summary);
+    let_out_go(samples, summary);
 }
 
 /// Enters that an access of this kind returned what it found, and makes it whole. There is room for it, or it can be
@@ -61,12 +61,12 @@ pub fn enter_access(
     instances: &mut Instances,
     qos: &ReaderQos,
     samples: &mut Vec<Kept>,
-    counts: &mut Counts,
+    summary: &mut Summary,
     access: &mut Access,
 )
     requires entry { (1 ≤ room_of instances.old) ⊎ (happened_of instances.old + 1 < 2 ^ 64) }
     requires gathered { IsGathered (length samples.old.items) access.old }
-    requires counted { IsCounted samples.old.items counts.old }
+    requires counted { IsSummary samples.old.items summary.old }
     ensures holds { (h : List Happening)
         → HoldsFound qos.now instances.old samples.old.items access.old h
         → Holds qos.now instances.new samples.new.items
@@ -78,11 +78,11 @@ pub fn enter_access(
     ensures len { vec_len samples.new ≤ vec_len samples.old }
     ensures capacity { vec_capacity samples.old ≤ vec_capacity samples.new }
     ensures small { All IsSmall samples.old.items → All IsSmall samples.new.items }
-    ensures counted { IsCounted samples.new.items counts.new }
+    ensures counted { IsSummary samples.new.items summary.new }
 {
-    settle(alloc, kind, samples, counts, access);
+    settle(alloc, kind, samples, summary, access);
     match kind {
         AccessKind::Read => instances.read(&access.positions).unwrap(),
-        AccessKind::Take => take_out(instances, qos, samples, counts, &access.positions),
+        AccessKind::Take => take_out(instances, qos, samples, summary, &access.positions),
     }
 }

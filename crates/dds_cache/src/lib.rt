@@ -12,7 +12,6 @@ mod asking;
 mod by_instance;
 mod chains;
 mod collection;
-mod counts;
 mod dying;
 mod ending;
 mod entering;
@@ -23,6 +22,7 @@ mod pick;
 mod reader_cache;
 mod returned;
 mod room;
+mod summary;
 mod sweeping;
 mod test;
 

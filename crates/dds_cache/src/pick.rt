@@ -12,16 +12,16 @@ ghost use Rattle.dds_instances.specs.Table.{Stands};
 ghost use Rattle.dds_cache.specs.Finding.{Finds, Holds, IsPlaced, IsSmall, handle_in};
 ghost use Rattle.dds_cache.specs.First.{AreOfForm};
 ghost use Rattle.dds_cache.specs.Chains.{AreChainsOf};
-ghost use Rattle.dds_cache.specs.Kept.{IsCounted};
+ghost use Rattle.dds_cache.specs.Kept.{IsSummary};
 ghost use Rattle.dds_cache.specs.Picking.{IsLimit, IsRequestWith, IsRequest, Picks, TellsAny, test_in};
 ghost use Rattle.dds_cache.specs.Picking.{has_handle, first_above, of_selection};
 
 use crate::access::{Candidate, cut_to, find_matching, is_any_match};
 use crate::asking::is_none_asked;
 use crate::chains::Chains;
-use crate::counts::Counts;
 use crate::first::find_first;
 use crate::kept::Kept;
+use crate::summary::Summary;
 use crate::test::{Everything, Test};
 use dds_base::{Code, Handle, Masks, ReaderQos, Selection};
 use dds_instances::Instances;
@@ -233,12 +233,12 @@ pub fn pick<T: Test>(
     instances: &Instances,
     qos: &ReaderQos,
     samples: &[Kept],
-    counts: &Counts,
+    summary: &Summary,
     selection: Selection,
     test: &T,
 ) -> Result<Vec<Candidate>, Code>
     requires small { All IsSmall samples.now }
-    requires counted { IsCounted samples.now counts.now }
+    requires counted { IsSummary samples.now summary.now }
     ensures placed { IfOk result (λ found. All (IsPlaced (length samples.now)) found.items) }
     ensures picks { IfOk result (λ found. (h : List Happening)
         → Holds qos.now instances.now samples.now h
@@ -248,7 +248,7 @@ pub fn pick<T: Test>(
         → Refuses (selection_refusal qos.now h selection) e) }
 {
     let request = request_by(instances, &selection)?;
-    if is_none_asked(instances, samples, counts, request.masks) {
+    if is_none_asked(instances, samples, summary, request.masks) {
         return Ok(Vec::new(alloc));
     }
     if let Some(found) = find_asked_first(
@@ -256,7 +256,7 @@ pub fn pick<T: Test>(
         instances,
         qos,
         samples,
-        &counts.chains,
+        &summary.chains,
         &selection,
         request,
         test,

@@ -24,13 +24,13 @@ use crate::access_kind::AccessKind;
 use crate::arriving::{add_left, is_accepted_write};
 use crate::asking::is_none_asked;
 use crate::collection::{Access, gather, twice};
-use crate::counts::Counts;
 use crate::dying::add_markers;
 use crate::ending::{hold_present, is_end};
 use crate::entering::enter_access;
 use crate::kept::Kept;
 use crate::pick::{pick, picks_any};
 use crate::room::{count_arrival, is_room};
+use crate::summary::Summary;
 use crate::sweeping::{let_go, next_sweep, sweep};
 use crate::test::Test;
 use dds_base::{
@@ -60,8 +60,8 @@ pub struct ReaderCache {
     arrivals: u32,
     /// How many samples there are when they are swept next.
     sweep_at: usize,
-    /// How many of them were taken, and how many of the others were read, and have data.
-    counts: Counts,
+    /// How many of them were taken, how many of the others were read, and have data, and where those of each instance are.
+    summary: Summary,
     /// For how many more entries there is memory.
     room: usize,
     /// The position of the newest entry that brought a sample, if there is one and no read or take has followed it.
@@ -96,7 +96,7 @@ impl ReaderCache {
             samples: Vec::new(alloc),
             arrivals: 0,
             sweep_at: next_sweep(0),
-            counts: Counts::new(alloc),
+            summary: Summary::new(alloc),
             room: 0,
             data_at: None,
         }
@@ -121,7 +121,7 @@ impl ReaderCache {
         let known = self.instances.len();
         let places = entries.checked_add(known).ok_or(Code::Memory)?;
         self.samples.reserve(places)?;
-        self.counts
+        self.summary
             .chains
             .reserve(places, known.saturating_add(additional))?;
         self.instances.reserve(additional)?;
@@ -158,14 +158,14 @@ impl ReaderCache {
             &self.qos,
             known,
             &mut self.samples,
-            &mut self.counts,
+            &mut self.summary,
         );
         let before = self.samples.len();
         add_markers(
             self.alloc,
             &self.instances,
             &mut self.samples,
-            &mut self.counts,
+            &mut self.summary,
             writer,
             moment,
         );
@@ -192,7 +192,7 @@ impl ReaderCache {
             &self.qos,
             known,
             &mut self.samples,
-            &mut self.counts,
+            &mut self.summary,
         );
         let before = self.samples.len();
         add_left(
@@ -200,7 +200,7 @@ impl ReaderCache {
             &self.instances,
             &self.qos,
             &mut self.samples,
-            &mut self.counts,
+            &mut self.summary,
             arrival,
             is_write,
         );
@@ -221,7 +221,7 @@ impl ReaderCache {
                 &self.instances,
                 &self.qos,
                 &mut self.samples,
-                &mut self.counts,
+                &mut self.summary,
             );
             self.sweep_at = next_sweep(self.samples.len());
         }
@@ -357,7 +357,7 @@ impl ReaderCache {
             &self.instances,
             &self.qos,
             &self.samples,
-            &self.counts,
+            &self.summary,
             self.arrivals,
             arrival,
         )
@@ -373,7 +373,7 @@ impl ReaderCache {
         ensures matched { (h : List Happening) → StandsFor self.now h
             → result ≡ has_match (qos_of self.now) h masks (T.meaning test.now) }
     {
-        if is_none_asked(&self.instances, &self.samples, &self.counts, masks) {
+        if is_none_asked(&self.instances, &self.samples, &self.summary, masks) {
             return false;
         }
         let any = Selection::Any { max: -1, masks };
@@ -400,7 +400,7 @@ impl ReaderCache {
             &self.instances,
             &self.qos,
             &self.samples,
-            &self.counts,
+            &self.summary,
             selection,
             test,
         )?;
@@ -464,7 +464,7 @@ impl ReaderCache {
             &mut self.instances,
             &self.qos,
             &mut self.samples,
-            &mut self.counts,
+            &mut self.summary,
             access,
         );
         self.room = self.room.saturating_sub(1);

@@ -15,14 +15,14 @@ ghost use Rattle.dds_instances.specs.Table.{Stands};
 ghost use Rattle.dds_instances.specs.Track.{one_if};
 ghost use Rattle.dds_cache.specs.Arriving.{AwaitsAccepted, AwaitsChange};
 ghost use Rattle.dds_cache.specs.Finding.{Holds};
-ghost use Rattle.dds_cache.specs.Kept.{IsCounted, IsFresh, IsKept, is_in, was_taken};
+ghost use Rattle.dds_cache.specs.Kept.{IsSummary, IsFresh, IsKept, is_in, was_taken};
 ghost use Rattle.dds_cache.specs.Room.{is_present_write, present_writes_after};
 ghost use Rattle.dds_cache.specs.Standing.{AreOfMatched};
 
 use crate::arriving::is_accepted_write;
-use crate::counts::Counts;
 use crate::ending::is_end;
 use crate::kept::{Kept, is_kept_after};
+use crate::summary::Summary;
 use dds_base::{Arrival, Handle, HistoryQos, ReaderQos};
 use dds_instances::Instances;
 
@@ -145,16 +145,16 @@ fn writes_left(
     is_write: bool,
     is_marked: bool,
     samples: &[Kept],
-    counts: &Counts,
+    summary: &Summary,
 ) -> usize
-    requires counted { IsCounted samples.now counts.now }
+    requires counted { IsSummary samples.now summary.now }
     ensures { (h : List Happening)
         → AwaitsChange qos.now instances.now arrival.now is_write is_marked h
         → All (IsKept qos.now h) samples.now
         → result ≡ present_writes_after qos.now arrival.now h samples.now }
 {
     match qos.history {
-        HistoryQos::KeepAll => counts.writes,
+        HistoryQos::KeepAll => summary.writes,
         HistoryQos::KeepLast(_) => {
             count_writes(instances, qos, arrival, is_write, is_marked, samples)
         }
@@ -205,15 +205,15 @@ fn samples_fit(
     qos: &ReaderQos,
     arrival: &Arrival,
     samples: &[Kept],
-    counts: &Counts,
+    summary: &Summary,
 ) -> bool
-    requires counted { IsCounted samples.now counts.now }
+    requires counted { IsSummary samples.now summary.now }
     ensures { (h : List Happening)
         → AwaitsAccepted qos.now instances.now samples.now arrival.now h
         → result ≡ is_within qos.now.max_samples (present_writes qos.now (Came arrival.now ∷ h)) }
 {
     // With fewer samples than may be present, whichever of them are, there is room for one more.
-    if keeps_to(qos.max_samples, count_in(samples, counts.outs), true) {
+    if keeps_to(qos.max_samples, count_in(samples, summary.outs), true) {
         return true;
     }
     if keeps_within(instances, qos, arrival) {
@@ -222,7 +222,7 @@ fn samples_fit(
     let is_write = is_accepted_write(instances, qos, arrival);
     let is_marked = instances.would_mark(qos, arrival);
     let count = writes_left(
-        instances, qos, arrival, is_write, is_marked, samples, counts,
+        instances, qos, arrival, is_write, is_marked, samples, summary,
     );
     let is_left = is_write && (is_kept_after(qos.history, 0, false) || is_marked);
     keeps_to(qos.max_samples, count, is_left)
@@ -242,11 +242,11 @@ pub fn is_room(
     instances: &Instances,
     qos: &ReaderQos,
     samples: &[Kept],
-    counts: &Counts,
+    summary: &Summary,
     arrivals: u32,
     arrival: &Arrival,
 ) -> bool
-    requires counted { IsCounted samples.now counts.now }
+    requires counted { IsSummary samples.now summary.now }
     ensures { (h : List Happening) → Holds qos.now instances.now samples.now h
         → IsFresh h arrival.now.change.key
         → AreOfMatched qos.now h
@@ -256,10 +256,10 @@ pub fn is_room(
     if MAX_ARRIVALS - 1 <= arrivals {
         return false;
     }
-    if has_spare(qos, count_in(samples, counts.outs), instances.len()) {
+    if has_spare(qos, count_in(samples, summary.outs), instances.len()) {
         return true;
     }
     !instances.accepts(qos, arrival)
         || instances_fit(instances, qos, arrival, samples)
-            && samples_fit(instances, qos, arrival, samples, counts)
+            && samples_fit(instances, qos, arrival, samples, summary)
 }

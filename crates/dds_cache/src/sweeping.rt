@@ -6,11 +6,11 @@ ghost use Rattle.std.specs.Prelude.{◌≡◌, ◌≤◌, ◌+◌, ◌-◌, ◌*
 ghost use Rattle.dds_base.specs.declared.happening.Happening.{Happening};
 ghost use Rattle.dds_instances.specs.Table.{Stands};
 ghost use Rattle.dds_cache.specs.Finding.{IsSmall};
-ghost use Rattle.dds_cache.specs.Kept.{IsCounted};
+ghost use Rattle.dds_cache.specs.Kept.{IsSummary};
 ghost use Rattle.dds_cache.specs.Sweeping.{AreIn, left_since, stays};
 
-use crate::counts::Counts;
 use crate::kept::Kept;
+use crate::summary::Summary;
 use dds_base::{Handle, ReaderQos};
 use dds_instances::Instances;
 
@@ -29,16 +29,16 @@ pub fn is_still_live(instances: &Instances, qos: &ReaderQos, kept: &Kept) -> boo
 }
 
 /// Lets the samples go that are no longer present, and counts the others.
-pub fn sweep(instances: &Instances, qos: &ReaderQos, samples: &mut Vec<Kept>, counts: &mut Counts)
+pub fn sweep(instances: &Instances, qos: &ReaderQos, samples: &mut Vec<Kept>, summary: &mut Summary)
     ensures items { (h : List Happening) → Stands qos.now instances.now h
         → samples.new.items ≡ filter (stays qos.now h) samples.old.items }
     ensures small { All IsSmall samples.old.items → All IsSmall samples.new.items }
-    ensures counted { IsCounted samples.new.items counts.new }
+    ensures counted { IsSummary samples.new.items summary.new }
     ensures len { vec_len samples.new ≤ vec_len samples.old }
     ensures capacity { vec_capacity samples.new ≡ vec_capacity samples.old }
 {
     samples.retain(|k| is_still_live(instances, qos, k));
-    counts.renew(samples);
+    summary.renew(samples);
 }
 
 /// Lets the samples go that are no longer present, where fewer instances are known than before: lives have ended then,
@@ -48,49 +48,49 @@ pub fn let_go(
     qos: &ReaderQos,
     before: usize,
     samples: &mut Vec<Kept>,
-    counts: &mut Counts,
+    summary: &mut Summary,
 )
     ensures items { (h : List Happening) → Stands qos.now instances.now h
         → samples.new.items ≡ left_since qos.now h before samples.old.items }
     ensures small { All IsSmall samples.old.items → All IsSmall samples.new.items }
-    ensures counted { IsCounted samples.old.items counts.old
-        → IsCounted samples.new.items counts.new }
+    ensures counted { IsSummary samples.old.items summary.old
+        → IsSummary samples.new.items summary.new }
     ensures len { vec_len samples.new ≤ vec_len samples.old }
     ensures capacity { vec_capacity samples.new ≡ vec_capacity samples.old }
 {
     if instances.len() < before {
-        sweep(instances, qos, samples, counts);
+        sweep(instances, qos, samples, summary);
     }
 }
 
 /// Whether more than half of the samples are such as takes returned.
-fn are_mostly_out(samples: &[Kept], counts: &Counts) -> bool {
-    samples.len() / 2 < counts.outs
+fn are_mostly_out(samples: &[Kept], summary: &Summary) -> bool {
+    samples.len() / 2 < summary.outs
 }
 
 /// Has the samples of an instance begin behind those that takes returned, where these are not swept out at once.
-pub fn pass_over_taken(samples: &[Kept], counts: &mut Counts, handle: Handle)
-    requires counted { IsCounted samples.now counts.old }
-    ensures counted { IsCounted samples.now counts.new }
+pub fn pass_over_taken(samples: &[Kept], summary: &mut Summary, handle: Handle)
+    requires counted { IsSummary samples.now summary.old }
+    ensures counted { IsSummary samples.now summary.new }
 {
-    if !are_mostly_out(samples, counts) {
-        counts.chains.advance(samples, handle);
+    if !are_mostly_out(samples, summary) {
+        summary.chains.advance(samples, handle);
     }
 }
 
 /// Lets the samples go that takes returned, where they are more than half of all: so a take costs what it returns, and a
 /// place that it leaves is free before long.
-pub fn let_out_go(samples: &mut Vec<Kept>, counts: &mut Counts)
-    requires counted { IsCounted samples.old.items counts.old }
+pub fn let_out_go(samples: &mut Vec<Kept>, summary: &mut Summary)
+    requires counted { IsSummary samples.old.items summary.old }
     ensures items { AreIn samples.old.items samples.new.items }
     ensures small { All IsSmall samples.old.items → All IsSmall samples.new.items }
-    ensures counted { IsCounted samples.new.items counts.new }
+    ensures counted { IsSummary samples.new.items summary.new }
     ensures len { vec_len samples.new ≤ vec_len samples.old }
     ensures capacity { vec_capacity samples.new ≡ vec_capacity samples.old }
 {
-    if are_mostly_out(samples, counts) {
+    if are_mostly_out(samples, summary) {
         samples.retain(|k| !k.is_out);
-        counts.renew(samples);
+        summary.renew(samples);
     }
 }
 

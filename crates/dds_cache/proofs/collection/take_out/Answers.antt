@@ -12,7 +12,7 @@ use Rattle.dds_cache.specs.Finding.{is_place}
 use Rattle.dds_cache.specs.Kept.{out_if, was_taken}
 use Rattle.dds_cache.specs.Picking.{collected}
 use Rattle.dds_cache.proofs.CollectionLaws.{length-collected, value-read, values-all, values-more}
-use Rattle.dds_cache.proofs.CountedLaws.{counted-out}
+use Rattle.dds_cache.proofs.SummaryLaws.{counted-out}
 use Rattle.dds_cache.proofs.PlaceLaws.{apart-so-far, changed-more}
 use Rattle.dds_cache.proofs.collection.take_out.Goals as goal
 
@@ -20,7 +20,7 @@ pub count_out-requires : goal.count_out-requires
 count_out-requires c = record {
   fits =
       (let few = count_by-le-length was_taken c.loop-at.samples.items in
-      let counted : c.loop-at.counts.outs ≡ count_by was_taken c.loop-at.samples.items =
+      let counted : c.loop-at.summary.outs ≡ count_by was_taken c.loop-at.samples.items =
       c.loop-at.invariant.counted.outs in
       omega (arith, few, counted, c.loop-at.samples.ok.0, c.loop-at.samples.small));
 }
@@ -41,7 +41,7 @@ loop-at-preserved c =
           c.loop-at-test.true c.index-found-at.is placed c.index_mut-kept.ensures.value c.take_out.ensures.left
           c.loop-at.invariant.done;
       counted =
-          counted-out c.loop-at.samples.items one.at x c.take_out.new.self c.loop-at.counts c.count_out.new.self
+          counted-out c.loop-at.samples.items one.at x c.take_out.new.self c.loop-at.summary c.count_out.new.self
           (omega (arith, placed, c.loop-at.invariant.done.same_len)) c.index_mut-kept.ensures.value
           c.take_out.ensures.left c.loop-at.invariant.counted c.count_out.ensures.outs c.count_out.ensures.reads
           c.count_out.ensures.writes c.count_out.ensures.chains;

@@ -7,7 +7,7 @@ use Rattle.dds_base.specs.declared.happening.Happening.TheVariants.{Died}
 use Rattle.dds_base.specs.declared.qos.ReaderQos.{ReaderQos}
 use Rattle.dds_base.specs.Instance.{known_instances}
 use Rattle.dds_instances.specs.Table.{Stands}
-use Rattle.dds_cache.specs.Kept.{IsCounted, IsFresh}
+use Rattle.dds_cache.specs.Kept.{IsSummary, IsFresh}
 use Rattle.std.specs.List.{All}
 use Rattle.dds_cache.specs.Finding.{IsSmall}
 use Rattle.dds_cache.specs.Dying.{AddsOf}
@@ -19,7 +19,7 @@ invariant-loop-place l = record {
   len : vec_len l.samples ≤ vec_len l.fn.samples + marked_among l.instances l.place;
   capacity : vec_capacity l.fn.samples ≤ vec_capacity l.samples;
   small : All IsSmall l.fn.samples.items → All IsSmall l.samples.items;
-  counted : IsCounted l.samples.items l.counts;
+  counted : IsSummary l.samples.items l.summary;
   added : (q : ReaderQos) (h : List Happening) → Stands q l.instances (Died l.writer l.moment ∷ h)
       → ((i : Key) → IsFresh h i)
       → AddsOf q (Died l.writer l.moment ∷ h) (length h + 1)

@@ -2,7 +2,7 @@ use Rattle.std.proofs.Common.{◌<◌, List, length, sym, refl, subst, arith}
 use Rattle.dds_cache.specs.declared.access.Candidate.{Candidate}
 use Rattle.dds_cache.specs.declared.kept.Kept.{Kept}
 use Rattle.dds_cache.specs.Kept.{read_if}
-use Rattle.dds_cache.proofs.CountedLaws.{counted-read}
+use Rattle.dds_cache.proofs.SummaryLaws.{counted-read}
 use Rattle.dds_cache.proofs.PlaceLaws.{changed-more}
 use Rattle.dds_cache.proofs.returned.mark_read.Goals as goal
 
@@ -20,7 +20,7 @@ loop-candidate-preserved c =
           c.mark_read.new.self (λ b z. refl) c.loop-candidate-test.true c.candidate-item.is placed
           c.index_mut-kept.ensures.value c.mark_read.ensures c.loop-candidate.invariant.done;
       counted =
-          counted-read c.loop-candidate.samples.items one.at x c.mark_read.new.self c.loop-candidate.counts
+          counted-read c.loop-candidate.samples.items one.at x c.mark_read.new.self c.loop-candidate.summary
           c.count_read.new.self (omega (arith, placed, c.loop-candidate.invariant.done.same_len))
           c.index_mut-kept.ensures.value c.mark_read.ensures c.loop-candidate.invariant.counted
           c.count_read.ensures.outs c.count_read.ensures.reads c.count_read.ensures.writes

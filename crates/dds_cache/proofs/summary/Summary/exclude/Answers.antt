@@ -1,9 +1,9 @@
 use Rattle.std.proofs.Common.{◌≡◌, ◌∙◌, arith, false}
 use Rattle.dds_base.specs.Access.{asks_for_sample_state}
 use Rattle.dds_base.specs.declared.sample.SampleState.TheVariants.{Read as HasBeenRead}
-use Rattle.dds_cache.proofs.CountedLaws.{unasked-read}
-use Rattle.dds_cache.proofs.counts.Counts.exclude.Goals as goal
-use Rattle.dds_cache.proofs.counts.Counts.exclude.Goals.{then-self-others, else-self-others}
+use Rattle.dds_cache.proofs.SummaryLaws.{unasked-read}
+use Rattle.dds_cache.proofs.summary.Summary.exclude.Goals as goal
+use Rattle.dds_cache.proofs.summary.Summary.exclude.Goals.{then-self-others, else-self-others}
 
 pub returns-then-not-asks_for_sample : goal.returns-then-not-asks_for_sample
 returns-then-not-asks_for_sample c = λ counted same. elim c.if-self-others.branch [

@@ -1,9 +1,10 @@
-//! How many of the kept samples a take returned, and how many of the others were read, and have data.
+//! What is known of the kept samples together: how many of them a take returned, how many of the others were read, and
+//! have data, and where those of each instance are.
 //!
 //! DDS 1.4, 2.2.2.5 (sample_state, valid_data).
 
 ghost use Rattle.std.specs.Prelude.{◌≡◌, ◌<◌, ◌≤◌, ◌+◌, ◌-◌, ◌^◌, ◌&&◌, ◌++◌, ◌∷◌, [], if◌then◌else◌, not, true, false, All, vec_len, vec_capacity};
-ghost use Rattle.dds_cache.specs.Kept.{IsCounted, IsUnasked, has_data, is_in, was_read};
+ghost use Rattle.dds_cache.specs.Kept.{IsSummary, IsUnasked, has_data, is_in, was_read};
 
 use crate::chains::Chains;
 use crate::kept::Kept;
@@ -14,7 +15,7 @@ use std::alloc::Global;
 /// How many of the kept samples a take returned, how many of the others were read, and have data, and where those of each
 /// instance are.
 #[derive(Drop)]
-pub struct Counts {
+pub struct Summary {
     /// How many of them a take returned.
     pub outs: usize,
     /// How many of the others a read returned.
@@ -25,12 +26,12 @@ pub struct Counts {
     pub chains: Chains,
 }
 
-impl Counts {
+impl Summary {
     /// Of no samples.
-    pub fn new(alloc: Global) -> Counts
-        ensures { IsCounted [] result }
+    pub fn new(alloc: Global) -> Summary
+        ensures { IsSummary [] result }
     {
-        Counts {
+        Summary {
             outs: 0,
             reads: 0,
             writes: 0,
@@ -38,9 +39,9 @@ impl Counts {
         }
     }
 
-    /// Counts these samples anew. It goes once over them.
+    /// Summary these samples anew. It goes once over them.
     pub fn renew(&mut self, samples: &[Kept])
-        ensures { IsCounted samples.now self.new }
+        ensures { IsSummary samples.now self.new }
     {
         self.outs = 0;
         self.reads = 0;
@@ -57,7 +58,7 @@ impl Counts {
     /// Whether the mask asks for none of the samples that were counted: for none that was read where all were, or for
     /// none that was not where none was.
     pub fn exclude(&self, samples: &[Kept], mask: SampleStateMask) -> bool
-        ensures { IsCounted samples.now self.now → result ≡ true → All (IsUnasked mask) samples.now }
+        ensures { IsSummary samples.now self.now → result ≡ true → All (IsUnasked mask) samples.now }
     {
         let others = samples.len().saturating_sub(self.outs);
         self.reads == others && !asks_for_sample(mask, SampleState::Read)
@@ -90,18 +91,18 @@ impl Counts {
 }
 
 /// Adds a sample that was not read, in the room that there is.
-pub fn add(samples: &mut Vec<Kept>, counts: &mut Counts, kept: Kept)
+pub fn add(samples: &mut Vec<Kept>, summary: &mut Summary, kept: Kept)
     requires room { vec_len samples.old < vec_capacity samples.old }
     requires unread { kept.is_read ≡ false }
     requires stays { kept.is_out ≡ false }
-    requires counted { IsCounted samples.old.items counts.old }
+    requires counted { IsSummary samples.old.items summary.old }
     ensures items { samples.new.items ≡ samples.old.items ++ kept ∷ [] }
-    ensures counted { IsCounted samples.new.items counts.new }
+    ensures counted { IsSummary samples.new.items summary.new }
     ensures len { vec_len samples.new ≡ vec_len samples.old + 1 }
     ensures capacity { vec_capacity samples.old ≤ vec_capacity samples.new }
 {
-    counts.writes += usize::from(kept.valid_data);
-    counts.chains.append(kept.handle, samples.len());
+    summary.writes += usize::from(kept.valid_data);
+    summary.chains.append(kept.handle, samples.len());
     if samples.push(kept).is_err() {
         // Room was reserved.
         unreachable!();

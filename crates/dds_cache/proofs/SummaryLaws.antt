@@ -1,4 +1,4 @@
--- How many of the kept samples were read, and how many have data.
+-- What is known of the kept samples together stays right as one is added, read and taken.
 use Rattle.std.proofs.Common.{◌≡◌, ℕ, ◌+◌, ◌≤◌, ◌<◌, List, [], ◌∷◌, ◌++◌, length, get_or, set, Bool, true, false, not, ◌&&◌, cond, sym, ap, subst, ◌∙◌, refl, ◌-◌, arith, ⊎_elim}
 use Rattle.std.specs.Prelude.{if◌then◌else◌}
 use Rattle.std.specs.List.{All, count_by}
@@ -10,10 +10,10 @@ use Rattle.dds_base.specs.declared.sample.SampleState.TheVariants.{Read as HasBe
 use Rattle.dds_base.specs.Access.{asks_for_sample_state}
 use Rattle.dds_cache.specs.Chains.{AreChainsOf}
 use Rattle.dds_cache.specs.declared.chains.Chains.{Chains}
-use Rattle.dds_cache.specs.declared.counts.Counts.{Counts}
+use Rattle.dds_cache.specs.declared.summary.Summary.{Summary}
 use Rattle.dds_cache.specs.declared.kept.Kept.{Kept}
 use Rattle.dds_cache.proofs.ChainLaws.{chains-set}
-use Rattle.dds_cache.specs.Kept.{IsCounted, IsUnasked, has_data, is_in, out_if, read_if, was_read, was_taken}
+use Rattle.dds_cache.specs.Kept.{IsSummary, IsUnasked, has_data, is_in, out_if, read_if, was_read, was_taken}
 
 -- a sample was read, or is gone, or neither
 at-most : (out read : Bool) → cond {A = ℕ} (not out && read) 1 0 + cond out 1 0 ≤ 1
@@ -69,19 +69,19 @@ none-counted p ks none k d within =
     (cases_Bool (p (get_or ks k d)))
 
 -- a mask that does not ask for the samples that were read asks for none, where all were
-pub unasked-read : (mask : SampleStateMask) (ks : List Kept) (counts : Counts) → IsCounted ks counts
-    → counts.reads ≡ length ks - counts.outs → asks_for_sample_state mask HasBeenRead ≡ false
+pub unasked-read : (mask : SampleStateMask) (ks : List Kept) (summary : Summary) → IsSummary ks summary
+    → summary.reads ≡ length ks - summary.outs → asks_for_sample_state mask HasBeenRead ≡ false
     → All (IsUnasked mask) ks
-unasked-read mask ks counts counted all unasked =
+unasked-read mask ks summary counted all unasked =
     All-weaker (λ (k : Kept). k.is_out ≡ false → k.is_read ≡ true) (IsUnasked mask)
     (λ k was stays. ap (λ (b : Bool). asks_for_sample_state mask (if b then HasBeenRead else NotRead)) (was stays)
     ∙ unasked) ks
     (all-counted ks (omega (arith, all, counted.reads, counted.outs, count_by-le-length was_taken ks)))
 
 -- and one that does not ask for those that were not asks for none, where none was
-pub unasked-unread : (mask : SampleStateMask) (ks : List Kept) (counts : Counts) → IsCounted ks counts
-    → counts.reads ≡ 0 → asks_for_sample_state mask NotRead ≡ false → All (IsUnasked mask) ks
-unasked-unread mask ks counts counted none unasked =
+pub unasked-unread : (mask : SampleStateMask) (ks : List Kept) (summary : Summary) → IsSummary ks summary
+    → summary.reads ≡ 0 → asks_for_sample_state mask NotRead ≡ false → All (IsUnasked mask) ks
+unasked-unread mask ks summary counted none unasked =
     All-weaker (λ (k : Kept). was_read k ≡ false) (IsUnasked mask)
     (λ k was stays. ap (λ (b : Bool). asks_for_sample_state mask (if b then HasBeenRead else NotRead))
     (sym (ap (λ (b : Bool). not b && k.is_read) stays) ∙ was) ∙ unasked) ks
@@ -98,10 +98,10 @@ count-agree p r (k ∷ ks) same =
     ∙ sym (sum_by-cons (λ x. cond (r x) 1 0) k ks)))
 
 -- the counts once a sample is added that was not read
-pub counted-more : (ks : List Kept) (k : Kept) (old new : Counts) → k.is_read ≡ false → k.is_out ≡ false
-    → IsCounted ks old → new.outs ≡ old.outs → new.reads ≡ old.reads
+pub counted-more : (ks : List Kept) (k : Kept) (old new : Summary) → k.is_read ≡ false → k.is_out ≡ false
+    → IsSummary ks old → new.outs ≡ old.outs → new.reads ≡ old.reads
     → new.writes ≡ old.writes + cond k.valid_data 1 0 → AreChainsOf (ks ++ k ∷ []) new.chains
-    → IsCounted (ks ++ k ∷ []) new
+    → IsSummary (ks ++ k ∷ []) new
 counted-more ks k old new unread stays counted outs reads writes chains =
     let one : cond {A = ℕ} (was_read k) 1 0 ≡ 0 =
     ap (λ (b : Bool). cond (not b && k.is_read) 1 0) stays ∙ ap (λ (b : Bool). cond b 1 0) unread in
@@ -129,10 +129,10 @@ one-changed p ks at k v within is =
     ∙ sum_by-set (λ x. cond (p x) 1 0) ks at v k within
 
 -- the counts once one of the samples is marked as read
-pub counted-read : (ks : List Kept) (at : ℕ) (k v : Kept) (old new : Counts) → at < length ks → k ≡ get_or ks at k
-    → v ≡ read_if true k → IsCounted ks old → new.outs ≡ old.outs
+pub counted-read : (ks : List Kept) (at : ℕ) (k v : Kept) (old new : Summary) → at < length ks → k ≡ get_or ks at k
+    → v ≡ read_if true k → IsSummary ks old → new.outs ≡ old.outs
     → new.reads ≡ old.reads + (if is_in k && not k.is_read then 1 else 0) → new.writes ≡ old.writes
-    → new.chains ≡ old.chains → IsCounted (set ks at v) new
+    → new.chains ≡ old.chains → IsSummary (set ks at v) new
 counted-read ks at k v old new within is marked counted outs reads writes chains = record {
   outs =
       (let change = one-changed was_taken ks at k v within is in
@@ -162,10 +162,10 @@ counted-read ks at k v old new within is marked counted outs reads writes chains
     table false false = omega arith
 
 -- the counts once a take has returned one of the samples
-pub counted-out : (ks : List Kept) (at : ℕ) (k v : Kept) (old new : Counts) → at < length ks → k ≡ get_or ks at k
-    → v ≡ out_if true k → IsCounted ks old → new.outs ≡ old.outs + (if is_in k then 1 else 0)
+pub counted-out : (ks : List Kept) (at : ℕ) (k v : Kept) (old new : Summary) → at < length ks → k ≡ get_or ks at k
+    → v ≡ out_if true k → IsSummary ks old → new.outs ≡ old.outs + (if is_in k then 1 else 0)
     → new.reads ≡ old.reads - (if was_read k then 1 else 0) → new.writes ≡ old.writes - (if has_data k then 1 else 0)
-    → new.chains ≡ old.chains → IsCounted (set ks at v) new
+    → new.chains ≡ old.chains → IsSummary (set ks at v) new
 counted-out ks at k v old new within is marked counted outs reads writes chains = record {
   outs =
       (let change = one-changed was_taken ks at k v within is in
