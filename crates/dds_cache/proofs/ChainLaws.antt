@@ -1,5 +1,5 @@
 -- The links and the spans of the kept samples, as one is added, and as some are marked.
-use Rattle.std.proofs.Common.{◌≡◌, ◌≢◌, ℕ, ◌+◌, ◌≤◌, ◌<◌, List, [], ◌∷◌, ◌++◌, length, get_or, set, Bool, true, false, cond, sym, ap, ◌∙◌, refl, subst, arith, ⊎_elim, ◌⊎◌, inl, inr, Option, Some, None, is_some}
+use Rattle.std.proofs.Common.{◌≡◌, ◌≢◌, ℕ, ◌+◌, ◌≤◌, ◌<◌, List, [], ◌∷◌, ◌++◌, length, get_or, set, Bool, true, false, cond, sym, ap, ◌∙◌, refl, subst, arith, ⊎_elim, ◌⊎◌, inl, inr, Option, Some, None, is_some, ◌||◌}
 use Rattle.std.specs.Prelude.{nat_eq, nat_lt}
 use Rattle.std.proofs.lemmas.Bool.{cases_Bool, eqb-true, eqb-false, ltb-true, ltb-false}
 use Rattle.std.proofs.lemmas.List.{get_or_append_left, get_or_default, get_or_push, get_or-set_other, get_or-set_same, length-append, length-set}
@@ -7,7 +7,7 @@ use Rattle.indexmap.specs.IndexMap.{Updates, get}
 use Rattle.dds_cache.specs.declared.chains.Chains.{Chains}
 use Rattle.dds_cache.specs.declared.chains.Span.{Span}
 use Rattle.dds_cache.specs.declared.kept.Kept.{Kept}
-use Rattle.dds_cache.specs.Chains.{AreChainsOf, AreOthers, IsFirst, IsLinked, IsSpan, Leads}
+use Rattle.dds_cache.specs.Chains.{AreChainsOf, AreOthers, IsFirst, IsFirstUnread, IsLinked, IsSpan, Leads}
 
 -- a place among those with one more is an earlier one, or the last
 earlier-or-last : (ks : List Kept) (k : Kept) (at : ℕ) → at < length (ks ++ k ∷ [])
@@ -113,6 +113,16 @@ module _ (ks : List Kept) (k : Kept) (old led new : Chains) (span : Span) (link 
                 (ap (λ (x : Kept). x.is_out) (sym (get_or_append_left ks (k ∷ []) d at there)) ∙ is_in) in
                 omega (arith, le, leads.stays found.0 found.1))
                 (λ new. omega (arith, new, leads.first)) (earlier-or-last ks k at within);
+            unread = λ at d within is_own is_in is_new. ⊎_elim
+                (λ there.
+                let own_old : (get_or ks at d).handle ≡ k.handle = sym (earlier at d there) ∙ (is_own ∙ sym key) in
+                let found = before at d there own_old in
+                let same_one : get_or (ks ++ k ∷ []) at d ≡ get_or ks at d = get_or_append_left ks (k ∷ []) d at there in
+                let le : found.0.unread ≤ at = (linked.spans k.handle found.0 found.1).unread at d there own_old
+                (ap (λ (x : Kept). x.is_out) (sym same_one) ∙ is_in)
+                (ap (λ (x : Kept). x.is_read) (sym same_one) ∙ is_new) in
+                omega (arith, le, leads.unread_stays found.0 found.1))
+                (λ new. omega (arith, new, leads.unread)) (earlier-or-last ks k at within);
             last = λ at d within is_own. omega (arith, within, len, leads.last);
           })
       one (inr other) =
@@ -127,6 +137,14 @@ module _ (ks : List Kept) (k : Kept) (old led new : Chains) (span : Span) (link 
             first = λ at d within is_own is_in. ⊎_elim
                 (λ there. was.first at d there (sym (earlier at d there) ∙ is_own)
                 (ap (λ (x : Kept). x.is_out) (sym (get_or_append_left ks (k ∷ []) d at there)) ∙ is_in))
+                (λ new. absurd (apart (sym (ap (λ (x : Kept). x.handle) (last at d new)) ∙ is_own)))
+                (earlier-or-last ks k at within);
+            unread = λ at d within is_own is_in is_new. ⊎_elim
+                (λ there.
+                let same_one : get_or (ks ++ k ∷ []) at d ≡ get_or ks at d = get_or_append_left ks (k ∷ []) d at there in
+                was.unread at d there (sym (earlier at d there) ∙ is_own)
+                (ap (λ (x : Kept). x.is_out) (sym same_one) ∙ is_in)
+                (ap (λ (x : Kept). x.is_read) (sym same_one) ∙ is_new))
                 (λ new. absurd (apart (sym (ap (λ (x : Kept). x.handle) (last at d new)) ∙ is_own)))
                 (earlier-or-last ks k at within);
             last = λ at d within is_own. ⊎_elim
@@ -170,8 +188,9 @@ module _ (ks : List Kept) (k : Kept) (old led new : Chains) (span : Span) (link 
 pub chains-same : (old new : List Kept) (chains : Chains) → length new ≡ length old
     → ((at : ℕ) (d : Kept) → at < length old → (get_or new at d).handle ≡ (get_or old at d).handle)
     → ((at : ℕ) (d : Kept) → at < length old → (get_or new at d).is_out ≡ false → (get_or old at d).is_out ≡ false)
+    → ((at : ℕ) (d : Kept) → at < length old → (get_or new at d).is_read ≡ false → (get_or old at d).is_read ≡ false)
     → AreChainsOf old chains → AreChainsOf new chains
-chains-same old new chains len handles outs are = λ whole.
+chains-same old new chains len handles outs reads are = λ whole.
     let linked : IsLinked old chains = are whole in
     let within : (at : ℕ) → at < length new → at < length old = λ at inside. omega (arith, len, inside) in
     record {
@@ -184,6 +203,9 @@ chains-same old new chains len handles outs are = λ whole.
             own = λ d. handles span.last d was.within ∙ was.own d;
             first = λ at d inside own stays. was.first at d (within at inside)
                 (sym (handles at d (within at inside)) ∙ own) (outs at d (within at inside) stays);
+            unread = λ at d inside own stays new_one. was.unread at d (within at inside)
+                (sym (handles at d (within at inside)) ∙ own) (outs at d (within at inside) stays)
+                (reads at d (within at inside) new_one);
             last = λ at d inside own. was.last at d (within at inside) (sym (handles at d (within at inside)) ∙ own);
           };
       each = λ at d inside. ap (λ (n : ℕ). is_some (get nat_eq chains.spans n)) (handles at d (within at inside))
@@ -192,13 +214,16 @@ chains-same old new chains len handles outs are = λ whole.
 
 -- so they do where one of them is changed that way
 pub chains-set : (ks : List Kept) (at : ℕ) (k v : Kept) (chains : Chains) → at < length ks → k ≡ get_or ks at k
-    → v.handle ≡ k.handle → (v.is_out ≡ false → k.is_out ≡ false) → AreChainsOf ks chains → AreChainsOf (set ks at v) chains
-chains-set ks at k v chains within is handle out =
+    → v.handle ≡ k.handle → (v.is_out ≡ false → k.is_out ≡ false) → (v.is_read ≡ false → k.is_read ≡ false)
+    → AreChainsOf ks chains → AreChainsOf (set ks at v) chains
+chains-set ks at k v chains within is handle out read =
     chains-same ks (set ks at v) chains (length-set ks at v)
     (λ j d inside. one (λ x. x.handle ≡ (get_or ks j d).handle) j d inside
     (λ here. handle ∙ (ap (λ (x : Kept). x.handle) (is ∙ old j d here))) refl)
     (λ j d inside. one (λ x. x.is_out ≡ false → (get_or ks j d).is_out ≡ false) j d inside
     (λ here stays. ap (λ (x : Kept). x.is_out) (sym (is ∙ old j d here)) ∙ out stays) (λ stays. stays))
+    (λ j d inside. one (λ x. x.is_read ≡ false → (get_or ks j d).is_read ≡ false) j d inside
+    (λ here stays. ap (λ (x : Kept). x.is_read) (sym (is ∙ old j d here)) ∙ read stays) (λ stays. stays))
   where
     old : (j : ℕ) (d : Kept) → at ≡ j → get_or ks at k ≡ get_or ks j d
     old j d here = get_or_default ks at k d within ∙ ap (λ (n : ℕ). get_or ks n d) here
@@ -226,11 +251,33 @@ first-after ks n at next k within out begins others = λ j d inside own stays.
     (λ reached. ltb-false j next reached) (cases_Bool (nat_lt j next)))
     (cases_Bool (nat_eq at j))
 
--- the samples of an instance may begin at another place
-pub linked-first : (ks : List Kept) (n first : ℕ) (before : Span) (old new : Chains) → IsLinked ks old
-    → new.links ≡ old.links → get nat_eq old.spans n ≡ Some before → IsFirst ks n first
-    → Updates nat_eq old.spans new.spans n (Some (record { first = first; last = before.last })) → IsLinked ks new
-linked-first ks n first before old new linked links was begins updates = record {
+-- behind one that was returned those begin that were not read
+pub unread-after : (ks : List Kept) (n at next : ℕ) (k : Kept) → at < length ks
+    → ((get_or ks at k).is_out || (get_or ks at k).is_read) ≡ true
+    → IsFirstUnread ks n at → AreOthers ks n at next → IsFirstUnread ks n next
+unread-after ks n at next k within returned begins others = λ j d inside own stays unread.
+    let from : at ≤ j = begins j d inside own stays unread in
+    ⊎_elim
+    (λ here. let same : get_or ks at k ≡ get_or ks j d = get_or_default ks at k d within
+    ∙ ap (λ (m : ℕ). get_or ks m d) (eqb-true at j here) in
+    absurd (neither (get_or ks at k).is_out (get_or ks at k).is_read returned
+    (ap (λ (x : Kept). x.is_out) same ∙ stays) (ap (λ (x : Kept). x.is_read) same ∙ unread)))
+    (λ behind. let apart : at ≢ j = eqb-false at j behind in
+    ⊎_elim
+    (λ below. absurd (others j d (omega (arith, from, apart)) (ltb-true j next below) inside own))
+    (λ reached. ltb-false j next reached) (cases_Bool (nat_lt j next)))
+    (cases_Bool (nat_eq at j))
+  where
+    neither : (a b : Bool) → (a || b) ≡ true → a ≡ false → b ≡ false → ⊥
+    neither true b some no_a no_b = let clash : true ≡ false = no_a in cc
+    neither false true some no_a no_b = let clash : true ≡ false = no_b in cc
+    neither false false some no_a no_b = let clash : false ≡ true = some in cc
+
+-- the samples of an instance may begin at other places
+pub linked-first : (ks : List Kept) (n first unread : ℕ) (before : Span) (old new : Chains) → IsLinked ks old
+    → new.links ≡ old.links → get nat_eq old.spans n ≡ Some before → IsFirst ks n first → IsFirstUnread ks n unread
+    → Updates nat_eq old.spans new.spans n (Some (record { first = first; unread = unread; last = before.last })) → IsLinked ks new
+linked-first ks n first unread before old new linked links was begins begins_unread updates = record {
   len = ap (λ v. length v.items) links ∙ linked.len;
   links = λ at d within. subst (λ (m : ℕ). AreOthers ks (get_or ks at d).handle at m)
       (sym (ap (λ v. get_or v.items at 0) links)) (linked.links at d within);
@@ -239,7 +286,7 @@ linked-first ks n first before old new linked links was begins updates = record 
 }
   where
     span : Span
-    span = record { first = first; last = before.last }
+    span = record { first = first; unread = unread; last = before.last }
 
     one : (m : ℕ) (s : Span) → get nat_eq new.spans m ≡ Some s → (nat_eq n m ≡ true) ⊎ (nat_eq n m ≡ false)
         → IsSpan ks m s
@@ -252,6 +299,7 @@ linked-first ks n first before old new linked links was begins updates = record 
           within = old_span.within;
           own = old_span.own;
           first = begins;
+          unread = begins_unread;
           last = old_span.last;
         }))
     one m s is (inr other) =

@@ -16,20 +16,21 @@ use Rattle.dds_base.specs.declared.mask.Masks.{Masks}
 use Rattle.dds_base.specs.declared.qos.ReaderQos.{ReaderQos}
 use Rattle.dds_base.specs.declared.selection.Selection.{Selection}
 use Rattle.dds_base.specs.declared.selection.Selection.TheVariants.{Any, Instance, NextInstance, NextSample}
-use Rattle.dds_base.specs.Access.{at_most, handle_of, lives_begun, matching_samples, next_handle}
+use Rattle.dds_base.specs.declared.sample.SampleState.TheVariants.{Read as HasBeenRead, NotRead}
+use Rattle.dds_base.specs.Access.{asks_for_sample_state, value_of, at_most, handle_of, lives_begun, matching_samples, next_handle}
 use Rattle.dds_base.specs.Happening.{same_key}
 use Rattle.dds_base.specs.Instance.{known_instances}
-use Rattle.dds_base.specs.Presence.{present_of}
+use Rattle.dds_base.specs.Presence.{is_present, present_of}
 use Rattle.dds_base.proofs.KeyLaws.{key-same, same_key-refl}
 use Rattle.dds_instances.specs.Table.{Table}
 use Rattle.dds_instances.specs.declared.known.KnownInstance.{KnownInstance}
 use Rattle.dds_instances.proofs.RiseLaws.{handles-rise, IsRising, rising-each, rising-within}
 use Rattle.dds_cache.specs.declared.access.Candidate.{Candidate}
 use Rattle.dds_cache.specs.declared.kept.Kept.{Kept}
-use Rattle.dds_cache.specs.Chains.{IsFirst}
+use Rattle.dds_cache.specs.Chains.{IsFirst, IsFirstUnread}
 use Rattle.dds_cache.specs.Kept.{IsKept, sample_at}
 use Rattle.dds_base.specs.Life.{is_at, is_kept_write, last_marker}
-use Rattle.dds_cache.specs.Finding.{Holds, IsCandidate, TellsFound, asks_for, handle_in, is_asked_for, is_wanted, sample_in, sample_of}
+use Rattle.dds_cache.specs.Finding.{Holds, IsCandidate, TellsFound, asks_for, asks_for_states, handle_in, is_asked_for, is_wanted, sample_in, sample_of}
 use Rattle.dds_cache.specs.First.{AreFirstOf, AreOfForm, IsAmongKnown, IsFirstAsked, IsFoundOf, IsFull, IsOf, IsPassedBy, Settles, TellsFoundOf, asked_in, of_form, of_handle, wanted_in}
 use Rattle.dds_cache.proofs.FindingLaws.{filter-flat_map, filter-more, found-candidate, wanted-of}
 use Rattle.dds_cache.proofs.GroupLaws.{unequal}
@@ -288,6 +289,42 @@ unwanted-first q h masks test known ks first j d among all begins below within =
         || is_at (last_marker q k.sample.key h) k.sample.position)) && is_asked_for q h masks test k.sample))
         (sym kept.out_is ∙ out)
         ∙ and_right (same_key known.key k.sample.key) false refl
+
+-- one before those that were not read is none of the wanted ones, where no read one is asked for
+pub unwanted-unread : (q : ReaderQos) (h : List Happening) (masks : Masks) (test : Key → List ℕ → Bool)
+    (known : KnownInstance) (ks : List Kept) (first j : ℕ) (d : Kept) → IsAmongKnown q h known → All (IsKept q h) ks
+    → asks_for_sample_state masks.samples HasBeenRead ≡ false → IsFirstUnread ks known.handle first
+    → j < first → j < length ks
+    → (same_key known.key (get_or ks j d).sample.key && is_wanted q h masks test (get_or ks j d)) ≡ false
+unwanted-unread q h masks test known ks first j d among all unasked begins below within =
+    ⊎_elim
+    (λ same. ⊎_elim
+    (λ out. gone (get_or ks j d) (all j d within) out)
+    (λ stays. ⊎_elim
+    (λ read. passed (get_or ks j d) (all j d within) read)
+    (λ unread. let le : first ≤ j =
+    begins j d within (eqb-true (get_or ks j d).handle known.handle same) stays unread in absurd (omega (arith, le, below)))
+    (cases_Bool (get_or ks j d).is_read))
+    (cases_Bool (get_or ks j d).is_out))
+    (λ apart. of-other-handle q h masks test known (get_or ks j d) among (all j d within) apart)
+    (cases_Bool ((get_or ks j d).handle == known.handle))
+  where
+    gone : (k : Kept) → IsKept q h k → k.is_out ≡ true → (same_key known.key k.sample.key && is_wanted q h masks test k) ≡ false
+    gone k kept out =
+        ap (λ (b : Bool). same_key known.key k.sample.key && ((not b && (is_kept_write q h k.sample.key k.sample.position
+        || is_at (last_marker q k.sample.key h) k.sample.position)) && is_asked_for q h masks test k.sample))
+        (sym kept.out_is ∙ out)
+        ∙ and_right (same_key known.key k.sample.key) false refl
+
+    passed : (k : Kept) → IsKept q h k → k.is_read ≡ true → (same_key known.key k.sample.key && is_wanted q h masks test k) ≡ false
+    passed k kept read =
+        ap (λ (b : Bool). same_key known.key k.sample.key && (is_present q h k.sample.key k.sample.position
+        && ((b && asks_for_states q h masks k.sample.key) && test k.sample.key (value_of q h k.sample))))
+        (ap (λ (b : Bool). asks_for_sample_state masks.samples (if b then HasBeenRead else NotRead))
+        (sym kept.read_is ∙ read) ∙ unasked)
+        ∙ (ap (λ (b : Bool). same_key known.key k.sample.key && b)
+        (and_right (is_present q h k.sample.key k.sample.position) false refl)
+        ∙ and_right (same_key known.key k.sample.key) false refl)
 
 -- one of its handle is found as any is
 pub found-of : (q : ReaderQos) (h : List Happening) (masks : Masks) (test : Key → List ℕ → Bool) (i : Key) (k : Kept)

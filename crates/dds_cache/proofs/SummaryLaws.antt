@@ -152,7 +152,9 @@ counted-read ks at k v old new within is marked counted outs reads writes chains
   chains =
       subst (λ (c : Chains). AreChainsOf (set ks at v) c) (sym chains)
       (chains-set ks at k v old.chains within is (ap (λ (x : Kept). x.handle) marked)
-      (λ stays. ap (λ (x : Kept). x.is_out) (sym marked) ∙ stays) counted.chains);
+      (λ stays. ap (λ (x : Kept). x.is_out) (sym marked) ∙ stays)
+      (λ unread. absurd (let clash : true ≡ false = sym (ap (λ (x : Kept). x.is_read) marked) ∙ unread in cc))
+      counted.chains);
 }
   where
     table : (out read : Bool) → cond {A = ℕ} (not out && true) 1 0
@@ -186,7 +188,7 @@ counted-out ks at k v old new within is marked counted outs reads writes chains 
       subst (λ (c : Chains). AreChainsOf (set ks at v) c) (sym chains)
       (chains-set ks at k v old.chains within is (ap (λ (x : Kept). x.handle) marked)
       (λ stays. absurd (let clash : true ≡ false = sym (ap (λ (x : Kept). x.is_out) marked) ∙ stays in cc))
-      counted.chains);
+      (λ unread. ap (λ (x : Kept). x.is_read) (sym marked) ∙ unread) counted.chains);
 }
   where
     table : (out : Bool) → cond {A = ℕ} true 1 0 ≡ cond out 1 0 + (if not out then 1 else 0)

@@ -17,15 +17,21 @@ abbrev pub IsFirst : List Kept → ℕ → ℕ → Type 0
 IsFirst ks n first = (at : ℕ) (d : Kept) → at < length ks → (get_or ks at d).handle ≡ n
     → (get_or ks at d).is_out ≡ false → first ≤ at
 
+-- a place has none before it of the kept samples of an instance, but for those that reads or takes returned
+abbrev pub IsFirstUnread : List Kept → ℕ → ℕ → Type 0
+IsFirstUnread ks n first = (at : ℕ) (d : Kept) → at < length ks → (get_or ks at d).handle ≡ n
+    → (get_or ks at d).is_out ≡ false → (get_or ks at d).is_read ≡ false → first ≤ at
+
 -- a place has none behind it of the kept samples of an instance
 abbrev pub IsLast : List Kept → ℕ → ℕ → Type 0
 IsLast ks n last = (at : ℕ) (d : Kept) → at < length ks → (get_or ks at d).handle ≡ n → at ≤ last
 
--- between these places are the kept samples of an instance, but for those that takes returned
+-- between these places are the kept samples of an instance, but for those that takes returned, or reads
 pub record IsSpan (ks : List Kept) (n : ℕ) (span : Span) : Type 0 where
   pub within : span.last < length ks
   pub own : (d : Kept) → (get_or ks span.last d).handle ≡ n
   pub first : IsFirst ks n span.first
+  pub unread : IsFirstUnread ks n span.unread
   pub last : IsLast ks n span.last
 
 -- each kept sample has a link, which passes over no other of its instance, and its instance has a span
@@ -53,3 +59,5 @@ pub record Leads (old : Chains) (n place : ℕ) (span : Span) (new : Chains) : T
   pub last : span.last ≡ place
   pub first : span.first ≤ place
   pub stays : (before : Span) → get nat_eq old.spans n ≡ Some before → span.first ≤ before.first
+  pub unread : span.unread ≤ place
+  pub unread_stays : (before : Span) → get nat_eq old.spans n ≡ Some before → span.unread ≤ before.unread

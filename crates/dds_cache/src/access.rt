@@ -309,7 +309,8 @@ pub fn find_in_instance<T: Test>(
         samples.now found.items) }
 {
     let mut found = Vec::new(alloc);
-    let mut at = chains.first(known.handle);
+    let is_unread = !asks_for_sample(masks.samples, SampleState::Read);
+    let mut at = chains.first(known.handle, is_unread);
     while at < samples.len() && !is_full(max, found.len()) {
         if let Some(candidate) = as_candidate_of(known, qos, masks, test, &samples[at], at) {
             found.push(candidate)?;

@@ -2,9 +2,9 @@
 //!
 //! DDS 1.4, 2.2.2.5 (read_instance, take_instance, read_next_instance, take_next_instance).
 
-ghost use Rattle.std.specs.Prelude.{◌≡◌, ◌<◌, ◌≤◌, ◌∷◌, ◌++◌, [], List, length};
+ghost use Rattle.std.specs.Prelude.{false, true, ◌≡◌, ◌<◌, ◌≤◌, ◌∷◌, ◌++◌, [], List, length};
 ghost use Rattle.dds_cache.specs.declared.kept.Kept.{Kept};
-ghost use Rattle.dds_cache.specs.Chains.{AreChainsOf, AreOthers, IsFirst, Leads};
+ghost use Rattle.dds_cache.specs.Chains.{AreChainsOf, AreOthers, IsFirst, IsFirstUnread, Leads};
 
 use crate::kept::Kept;
 use dds_base::Handle;
@@ -16,6 +16,8 @@ use std::alloc::{AllocError, Global};
 struct Span {
     /// None of them is before it, but for those that takes returned.
     first: usize,
+    /// None of them is before it, but for those that reads or takes returned.
+    unread: usize,
     /// The last of them.
     last: usize,
 }
@@ -77,15 +79,21 @@ impl Chains {
         match self.spans.get(&handle.number()) {
             None => Span {
                 first: place,
+                unread: place,
                 last: place,
             },
             Some(span) => {
-                let Span { first, last } = *span;
+                let Span {
+                    first,
+                    unread,
+                    last,
+                } = *span;
                 if let Some(link) = self.links.get_mut(last) {
                     *link = link_to(place);
                 }
                 Span {
                     first: first.min(place),
+                    unread: unread.min(place),
                     last: place,
                 }
             }
@@ -103,16 +111,19 @@ impl Chains {
         self.is_whole &= has_link & has_span;
     }
 
-    /// Where the samples of an instance begin: none that no take returned is before it.
-    pub fn first(&self, handle: Handle) -> usize
-        ensures { (ks : List Kept) → AreChainsOf ks self.now → IsFirst ks handle result }
+    /// Where the samples of an instance begin, or those alone that were not read: none is before it, but for those that takes
+    /// returned.
+    pub fn first(&self, handle: Handle, is_unread: bool) -> usize
+        ensures first { (ks : List Kept) → AreChainsOf ks self.now → is_unread ≡ false → IsFirst ks handle result }
+        ensures unread { (ks : List Kept) → AreChainsOf ks self.now → is_unread ≡ true
+            → IsFirstUnread ks handle result }
     {
         if !self.is_whole {
             return 0;
         }
         match self.spans.get(&handle.number()) {
-            Some(span) => span.first,
             None => usize::MAX,
+            Some(span) => { if is_unread { span.unread } else { span.first } }
         }
     }
 
@@ -136,23 +147,36 @@ impl Chains {
     fn first_left(&self, samples: &[Kept], handle: Handle) -> usize
         ensures { AreChainsOf samples.now self.now → IsFirst samples.now handle result }
     {
-        let mut place = self.first(handle);
+        let mut place = self.first(handle, false);
         while place < samples.len() && samples[place].is_out {
             place = self.next(samples, handle, place);
         }
         place
     }
 
-    /// Takes up that takes returned samples of an instance: the others begin at the first that they left.
+    /// The same of those that no read returned either.
+    fn first_unread(&self, samples: &[Kept], handle: Handle) -> usize
+        ensures { AreChainsOf samples.now self.now → IsFirstUnread samples.now handle result }
+    {
+        let mut place = self.first(handle, true);
+        while place < samples.len() && (samples[place].is_out || samples[place].is_read) {
+            place = self.next(samples, handle, place);
+        }
+        place
+    }
+
+    /// Takes up that reads or takes returned samples of an instance: the others begin at the first that they left.
     pub fn advance(&mut self, samples: &[Kept], handle: Handle)
         ensures { AreChainsOf samples.now self.old → AreChainsOf samples.now self.new }
     {
         let first = self.first_left(samples, handle);
+        let unread = self.first_unread(samples, handle);
         let Some(span) = self.spans.get(&handle.number()) else {
             return;
         };
         let span = Span {
             first,
+            unread,
             last: span.last,
         };
         let has_span = self.spans.insert(handle.number(), span).is_ok();

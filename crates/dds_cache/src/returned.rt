@@ -56,7 +56,11 @@ pub fn settle(
         return;
     }
     match kind {
-        AccessKind::Read => mark_read(samples, summary, &access.found),
+        AccessKind::Read => {
+            mark_read(samples, summary, &access.found);
+            let handle = access.found[0].picked.instance_handle;
+            summary.chains.advance(samples, handle);
+        }
         AccessKind::Take => {
             take_out(alloc, samples, summary, &access.found, &mut access.samples);
             pass_over_taken(samples, summary, access.found[0].picked.instance_handle);

@@ -39,7 +39,7 @@ impl Summary {
         }
     }
 
-    /// Summary these samples anew. It goes once over them.
+    /// Sums these samples up anew. It goes once over them.
     pub fn renew(&mut self, samples: &[Kept])
         ensures { IsSummary samples.now self.new }
     {

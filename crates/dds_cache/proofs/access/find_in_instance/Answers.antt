@@ -1,12 +1,13 @@
-use Rattle.std.proofs.Common.{ℕ, ◌≤◌, ◌⊎◌, ◌<◌, ◌+◌, List, [], None, get_or, refl, arith, inl, inr, take, length, sym, ap, ◌∙◌, subst}
+use Rattle.std.proofs.Common.{Bool, not, ⊎_elim, ℕ, ◌≤◌, ◌⊎◌, ◌<◌, ◌+◌, List, [], None, get_or, refl, arith, inl, inr, take, length, sym, ap, ◌∙◌, subst}
 use Rattle.std.specs.List.{All}
+use Rattle.std.proofs.lemmas.Bool.{cases_Bool}
 use Rattle.std.proofs.lemmas.List.Elements.{All-nil, All-push}
 use Rattle.dds_cache.specs.declared.kept.Kept.{Kept}
 use Rattle.dds_cache.specs.declared.access.Candidate.{Candidate}
 use Rattle.dds_cache.specs.Kept.{IsKept}
 use Rattle.dds_cache.specs.Finding.{IsCandidate, IsPlaced}
 use Rattle.dds_cache.specs.First.{AreFirstOf, IsFull, IsOf}
-use Rattle.dds_cache.proofs.FirstLaws.{cut-each, first-cut, first-none, first-past, first-some, unwanted-first, unwanted-other}
+use Rattle.dds_cache.proofs.FirstLaws.{cut-each, first-cut, first-none, first-past, first-some, unwanted-first, unwanted-other, unwanted-unread}
 use Rattle.dds_cache.proofs.access.find_in_instance.Goals as goal
 use Rattle.dds_cache.proofs.access.find_in_instance.Goals.{in-Some+in_ok-push, in_default, else-loop-at-test, then-loop-at-test+else-not-is_full}
 
@@ -22,8 +23,14 @@ loop-at-init g c = record {
       c.args.known.now.key None ks (take c.first-at.result ks) cs) (sym c.new-found.ensures.items)
       (first-past c.args.qos.now h c.args.masks (g.T.Test.meaning c.args.test.now) c.args.known.now.key ks 0
       c.first-at.result [] (omega arith)
-      (λ j d from below within. unwanted-first c.args.qos.now h c.args.masks (g.T.Test.meaning c.args.test.now)
-      c.args.known.now ks c.first-at.result j d among all (c.first-at.ensures ks c.requires.chains) below within)
+      (λ j d from below within. ⊎_elim
+      (λ asked. unwanted-first c.args.qos.now h c.args.masks (g.T.Test.meaning c.args.test.now)
+      c.args.known.now ks c.first-at.result j d among all
+      (c.first-at.ensures.first ks c.requires.chains (ap (λ (b : Bool). not b) asked)) below within)
+      (λ unasked. unwanted-unread c.args.qos.now h c.args.masks (g.T.Test.meaning c.args.test.now)
+      c.args.known.now ks c.first-at.result j d among all (sym c.asks_for_sample-is_unread.ensures ∙ unasked)
+      (c.first-at.ensures.unread ks c.requires.chains (ap (λ (b : Bool). not b) unasked)) below within)
+      (cases_Bool c.asks_for_sample-is_unread.result))
       (record { samples_are = refl; each = All-nil (IsCandidate c.args.qos.now h ks) }));
 }
 

@@ -1,8 +1,9 @@
+use Rattle.std.proofs.Common.{refl}
 use Rattle.dds_cache.proofs.ChainLaws.{first-after}
 use Rattle.dds_cache.proofs.chains.Chains.first_left.Goals as goal
 
 pub loop-place-init : goal.loop-place-init
-loop-place-init c = record { first = c.first-place.ensures c.args.samples.now }
+loop-place-init c = record { first = λ chains. c.first-place.ensures.first c.args.samples.now chains refl }
 
 pub loop-place-preserved : goal.loop-place-preserved
 loop-place-preserved c = record {
