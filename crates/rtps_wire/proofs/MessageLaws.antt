@@ -1,24 +1,39 @@
--- A message has one reading, and what is written is read.
-use Rattle.std.proofs.Common.{◌≡◌, ℕ, suc, ◌+◌, ◌-◌, ◌≤◌, eqb, ◌&&◌, List, [], ◌∷◌, ◌++◌, length, Some, None, refl, sym, ap, subst, ◌∙◌, arith}
+-- A message has one reading, and all octets have one.
+use Rattle.std.proofs.Common.{◌≡◌, ℕ, zero, suc, ◌+◌, ◌-◌, ◌≤◌, ◌<◌, eqb, ◌&&◌, List, [], ◌∷◌, ◌++◌, length, Option, Some, None, refl, sym, ap, subst, ◌∙◌, arith}
+use Rattle.std.specs.Option.{unwrap_or}
 use Rattle.std.proofs.lemmas.Bool.{eqb-true}
 use Rattle.std.proofs.lemmas.List.{length-append}
 use Rattle.dds_base.specs.declared.guid.GuidPrefix.{GuidPrefix}
 use Rattle.dds_base.proofs.FieldLaws.{AreOctets, cond_is, some_is}
 use Rattle.rtps_wire.specs.declared.message.Message.{Message}
 use Rattle.rtps_wire.specs.declared.submessage.Submessage.{Submessage}
+use Rattle.rtps_wire.specs.declared.submessage.Submessage.TheVariants as submessages
 use Rattle.rtps_wire.specs.FieldAt.{prefix_at}
+use Rattle.rtps_wire.specs.FrameAt.{frame_at}
+use Rattle.rtps_wire.specs.SubmessageAt.{known_at}
 use Rattle.rtps_wire.specs.Submessages.{Reads}
-use Rattle.rtps_wire.specs.Messages.{ReadsAll, header_text, ReadsMessage}
+use Rattle.rtps_wire.specs.Messages.{ReadsFirst, ReadsAll, header_text, HasHeader, ReadsMessage}
 use Rattle.rtps_wire.specs.HeaderAt.{header_at}
 use Rattle.rtps_wire.proofs.WireFields.{field_prefix}
 use Rattle.rtps_wire.proofs.TestLaws.{both_hold}
-use Rattle.rtps_wire.proofs.FrameLaws.{frame_length, frame_only, frame_apart}
-use Rattle.rtps_wire.proofs.SubmessageLaws.{reads_one}
+use Rattle.rtps_wire.proofs.FrameLaws.{Frames, frame_length, frame_found, frame_none, frame_only, frame_apart}
+use Rattle.rtps_wire.proofs.SubmessageLaws.{Reads-found, reads_one}
 
 pub left_le : (bytes : List ℕ) (ss : List Submessage) (left : List ℕ) → ReadsAll bytes ss left
     → length left ≤ length bytes
 left_le bytes [] left r = omega (arith, ap length r.1)
 left_le bytes (s ∷ ss) left r = omega (arith, left_le r.3 ss left r.6, frame_length bytes r.0 r.1 r.2 r.3 r.4)
+
+-- the submessage at the front, and those that follow it
+pub reads_on : (bytes : List ℕ) (s : Submessage) (rest : List ℕ) (ss : List Submessage) (left : List ℕ)
+    → ReadsFirst bytes s rest → ReadsAll rest ss left → ReadsAll bytes (s ∷ ss) left
+reads_on bytes s rest ss left f r = (f.id, f.flags, f.body, rest, f.frame, f.is_read, r)
+
+-- the submessages of some bytes, up to where reading ends
+pub record Reading (bytes : List ℕ) : Type 0 where
+  pub submessages : List Submessage
+  pub left : List ℕ
+  pub is_read : ReadsAll bytes submessages left
 
 pub all_one : (bytes : List ℕ) (ss ts : List Submessage) (l m : List ℕ) → ReadsAll bytes ss l → ReadsAll bytes ts m
     → (ss ≡ ts) × (l ≡ m)
@@ -35,18 +50,47 @@ all_one bytes (s ∷ ss) (t ∷ ts) l m p q =
     let rest = all_one p.3 ss ts l m p.6 turned.1 in
     (cc, rest.1)
 
-pub record HasHeader (bytes : List ℕ) (x : GuidPrefix × List ℕ) : Type 0 where
-  pub minor : ℕ
-  pub vendor : List ℕ
-  pub two : length vendor ≡ 2
-  pub prefix : length x.0.0 ≡ 12
-  pub text : bytes ≡ header_text minor vendor x.0 ++ x.1
+-- what a frame is read as
+pub first_found : (bytes : List ℕ) (id flags : ℕ) (body rest : List ℕ) → Frames bytes (id, flags, body, rest)
+    → ReadsFirst bytes (unwrap_or (known_at id flags body) (submessages.Other id)) rest
+first_found bytes id flags body rest f =
+    record {
+      id = id;
+      flags = flags;
+      body = body;
+      frame = f.frame;
+      is_read = Reads-found (known_at id flags body) id flags body f.body refl;
+    }
 
-pub header_found : (bytes : List ℕ) (x : GuidPrefix × List ℕ) → AreOctets bytes → header_at bytes ≡ Some x
-    → HasHeader bytes x
+-- any octets are read, up to where reading ends
+pub reading : (bytes : List ℕ) → AreOctets bytes → Reading bytes
+reading bytes octets = within (length bytes) bytes octets (omega arith)
+  where
+    read_from : (bytes : List ℕ) (o : Option (ℕ × ℕ × List ℕ × List ℕ)) → AreOctets bytes → frame_at bytes ≡ o
+        → ((rest : List ℕ) → AreOctets rest → length rest < length bytes → Reading rest) → Reading bytes
+    read_from bytes None octets none more =
+        record { submessages = []; left = bytes; is_read = (frame_none bytes octets none, refl) }
+    read_from bytes (Some (id, flags, body, rest)) octets found more =
+        let f = frame_found bytes (id, flags, body, rest) octets found in
+        let fewer = frame_length bytes id flags body rest f.frame in
+        let one : Submessage = unwrap_or (known_at id flags body) (submessages.Other id) in
+        let r : Reading rest = more rest f.octets (omega arith) in
+        record {
+          submessages = one ∷ r.submessages;
+          left = r.left;
+          is_read = reads_on bytes one rest r.submessages r.left (first_found bytes id flags body rest f) r.is_read;
+        }
+
+    within : (n : ℕ) (bytes : List ℕ) → AreOctets bytes → length bytes ≤ n → Reading bytes
+    within zero bytes octets few = read_from bytes (frame_at bytes) octets refl (λ rest all fewer. absurd (omega arith))
+    within (suc n) bytes octets few =
+        read_from bytes (frame_at bytes) octets refl (λ rest all fewer. within n rest all (omega arith))
+
+pub header_found : (bytes : List ℕ) (x : GuidPrefix × List ℕ) → AreOctets bytes → length bytes ≤ 65535
+    → header_at bytes ≡ Some x → HasHeader bytes x.0 x.1
 unfolding header_at
-header_found (r ∷ t ∷ p ∷ s ∷ major ∷ minor ∷ v ∷ w ∷ rest) x octets e =
-    cond_is {P = HasHeader (r ∷ t ∷ p ∷ s ∷ major ∷ minor ∷ v ∷ w ∷ rest) x}
+header_found (r ∷ t ∷ p ∷ s ∷ major ∷ minor ∷ v ∷ w ∷ rest) x octets short e =
+    cond_is {P = HasHeader (r ∷ t ∷ p ∷ s ∷ major ∷ minor ∷ v ∷ w ∷ rest) x.0 x.1}
     (eqb r 82 && eqb t 84 && eqb p 80 && eqb s 83 && eqb major 2) (prefix_at rest) None (Some x) e
     (λ all q.
     let a = both_hold (eqb r 82 && eqb t 84 && eqb p 80 && eqb s 83) (eqb major 2) all in
@@ -60,9 +104,16 @@ header_found (r ∷ t ∷ p ∷ s ∷ major ∷ minor ∷ v ∷ w ∷ rest) x oc
     let e4 : major ≡ 2 = eqb-true major 2 a.1 in
     let k = field_prefix.takes rest x.0 x.1 (λ i. octets (suc (suc (suc (suc (suc (suc (suc (suc i))))))))) q in
     let e5 : rest ≡ x.0.0 ++ x.1 = k.0.parts in
-    record { minor = minor; vendor = v ∷ w ∷ []; two = refl; prefix = k.1; text = rw (e0, e1, e2, e3, e4, e5) refl })
+    record {
+      minor = minor;
+      vendor = v ∷ w ∷ [];
+      two = refl;
+      prefix = k.1;
+      header = rw (e0, e1, e2, e3, e4, e5) refl;
+      short = short;
+    })
     (λ _ q. absurd cc)
-header_found _ x octets e = absurd cc
+header_found _ x octets short e = absurd cc
 
 pub header_only : (minor : ℕ) (vendor : List ℕ) (prefix : GuidPrefix) (rest : List ℕ) → length vendor ≡ 2
     → length prefix.0 ≡ 12
@@ -73,11 +124,30 @@ header_only minor [] prefix rest two len = absurd (omega arith)
 header_only minor (v ∷ []) prefix rest two len = absurd (omega arith)
 header_only minor (v ∷ w ∷ x ∷ xs) prefix rest two len = absurd (omega arith)
 
+-- what begins a message is read as its header
+pub header_again : (bytes : List ℕ) (source : GuidPrefix) (body : List ℕ) → HasHeader bytes source body
+    → header_at bytes ≡ Some (source, body)
+header_again bytes source body h =
+    ap header_at h.header ∙ header_only h.minor h.vendor source body h.two h.prefix
+
+-- a message begins with its header
+pub header_of : (bytes : List ℕ) (m : Message) (offset : ℕ) (r : ReadsMessage bytes m offset)
+    → HasHeader bytes m.prefix r.body
+header_of bytes m offset r =
+    record {
+      minor = r.minor;
+      vendor = r.vendor;
+      two = r.two;
+      prefix = r.prefix;
+      header = r.header;
+      short = r.short;
+    }
+
 pub message_one : (bytes : List ℕ) (m n : Message) (o p : ℕ) → ReadsMessage bytes m o → ReadsMessage bytes n p
     → (m ≡ n) × (o ≡ p)
 message_one bytes m n o p a b =
-    let first = ap header_at a.header ∙ header_only a.minor a.vendor m.prefix a.body a.two a.prefix in
-    let second = ap header_at b.header ∙ header_only b.minor b.vendor n.prefix b.body b.two b.prefix in
+    let first = header_again bytes m.prefix a.body (header_of bytes m o a) in
+    let second = header_again bytes n.prefix b.body (header_of bytes n p b) in
     let same = some_is (m.prefix, a.body) (n.prefix, b.body) (sym first ∙ second) in
     let turned : ReadsAll a.body n.submessages b.left =
     subst (λ (z : List ℕ). ReadsAll z n.submessages b.left)
@@ -95,13 +165,13 @@ header_length minor vendor prefix two len =
     omega (arith, length-append (82 ∷ 84 ∷ 80 ∷ 83 ∷ 2 ∷ minor ∷ vendor) prefix.0)
 
 -- a header, and submessages up to where reading ends, are a message
-pub message_read : (bytes body left : List ℕ) (prefix : GuidPrefix) (ss : List Submessage) → length bytes ≤ 65535
-    → HasHeader bytes (prefix, body) → ReadsAll body ss left
+pub message_read : (bytes body left : List ℕ) (prefix : GuidPrefix) (ss : List Submessage)
+    → HasHeader bytes prefix body → ReadsAll body ss left
     → ReadsMessage bytes (record { prefix = prefix; submessages = ss }) (length bytes - length left)
-message_read bytes body left prefix ss short h r =
+message_read bytes body left prefix ss h r =
     let le = left_le body ss left r in
     let len : length bytes ≡ length (header_text h.minor h.vendor prefix) + length body =
-    ap length h.text ∙ length-append (header_text h.minor h.vendor prefix) body in
+    ap length h.header ∙ length-append (header_text h.minor h.vendor prefix) body in
     record {
       minor = h.minor;
       vendor = h.vendor;
@@ -109,8 +179,8 @@ message_read bytes body left prefix ss short h r =
       left = left;
       two = h.two;
       prefix = h.prefix;
-      header = h.text;
+      header = h.header;
       submessages = r;
       stop = omega arith;
-      short = short;
+      short = h.short;
     }

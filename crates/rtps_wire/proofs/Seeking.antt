@@ -1,22 +1,15 @@
 -- A submessage that is looked for, while a message is gone over.
-use Rattle.std.proofs.Common.{◌≡◌, ℕ, zero, suc, ◌-◌, ◌≤◌, ◌↔◌, IsTrue, Bool, true, false, ◌||◌, List, [], ◌∷◌, ◌++◌, length, Some, None, Contains, refl, sym, ap, subst, ◌∙◌, ⊎_elim, append_assoc, arith}
-use Rattle.std.specs.Option.{unwrap_or}
+use Rattle.std.proofs.Common.{◌≡◌, ℕ, zero, suc, ◌-◌, ◌↔◌, IsTrue, Bool, true, false, ◌||◌, List, [], ◌∷◌, ◌++◌, length, Contains, refl, sym, subst, ⊎_elim, append_assoc, arith}
 use Rattle.std.proofs.lemmas.List.{append-nil}
 use Rattle.std.proofs.lemmas.List.Elements.{Contains-append_left, Contains-append_right, Contains-append_cases}
 use Rattle.dds_base.specs.declared.guid.GuidPrefix.{GuidPrefix}
-use Rattle.dds_base.proofs.FieldLaws.{AreOctets}
 use Rattle.rtps_wire.specs.declared.message.Message.{Message}
 use Rattle.rtps_wire.specs.declared.seek.Sought.{Sought}
 use Rattle.rtps_wire.specs.declared.submessage.Submessage.{Submessage}
-use Rattle.rtps_wire.specs.declared.submessage.Submessage.TheVariants as submessages
-use Rattle.rtps_wire.specs.FrameAt.{frame_at}
-use Rattle.rtps_wire.specs.HeaderAt.{header_at}
-use Rattle.rtps_wire.specs.Messages.{ReadsAll}
+use Rattle.rtps_wire.specs.Frames.{IsEnd}
+use Rattle.rtps_wire.specs.Messages.{ReadsFirst, ReadsAll, HasHeader}
 use Rattle.rtps_wire.specs.Sought.{IsSought, HasSought, Has}
-use Rattle.rtps_wire.specs.SubmessageAt.{known_at}
-use Rattle.rtps_wire.proofs.FrameLaws.{Frames, frame_none}
-use Rattle.rtps_wire.proofs.MessageLaws.{HasHeader, header_only, message_one, message_read}
-use Rattle.rtps_wire.proofs.SubmessageLaws.{Reads-found}
+use Rattle.rtps_wire.proofs.MessageLaws.{reads_on, message_one, message_read}
 
 -- what was gone over so far, and whether it has one
 
@@ -24,15 +17,13 @@ pub record Seeks (start left : List ℕ) (wanted : Sought) (has : Bool) : Type 0
   pub before : List Submessage
   pub on : (ss : List Submessage) (end : List ℕ) → ReadsAll left ss end → ReadsAll start (before ++ ss) end
   pub is : IsTrue has ↔ HasSought wanted before
-  pub octets : AreOctets left
 
-pub seeks_none : (start : List ℕ) (wanted : Sought) → AreOctets start → Seeks start start wanted false
-seeks_none start wanted octets =
+pub seeks_none : (start : List ℕ) (wanted : Sought) → Seeks start start wanted false
+seeks_none start wanted =
     record {
       before = [];
       on = λ ss end r. r;
       is = (λ t. absurd cc, λ h. absurd (let none = h.1 in omega (arith, none.1)));
-      octets = octets;
     }
 
 -- one of a list with one more at its end
@@ -61,43 +52,28 @@ has_more wanted before s false false was is = (
     only s x (zero, low, same) = same
     only s x (suc k, low, same) = absurd (omega (arith, low))
 
-pub seeks_more : (start left : List ℕ) (wanted : Sought) (has here : Bool) (id flags : ℕ) (body rest : List ℕ)
-    → Seeks start left wanted has → AreOctets body → Frames left (id, flags, body, rest)
-    → IsTrue here ↔ IsSought wanted (unwrap_or (known_at id flags body) (submessages.Other id))
+pub seeks_more : (start left : List ℕ) (wanted : Sought) (has here : Bool) (s : Submessage) (rest : List ℕ)
+    → Seeks start left wanted has → ReadsFirst left s rest → IsTrue here ↔ IsSought wanted s
     → Seeks start rest wanted (has || here)
-seeks_more start left wanted has here id flags body rest s octets f is =
-    let one : Submessage = unwrap_or (known_at id flags body) (submessages.Other id) in
+seeks_more start left wanted has here s rest sought first is =
     record {
-      before = s.before ++ one ∷ [];
-      on = λ ss end r. rw append_assoc
-          (s.on (one ∷ ss) end (
-            id,
-            flags,
-            body,
-            rest,
-            f.frame,
-            Reads-found
-                (known_at id flags body) id flags body octets refl,
-            r,
-          ));
-      is = has_more wanted s.before one has here s.is is;
-      octets = f.octets;
+      before = sought.before ++ s ∷ [];
+      on = λ ss end r. rw append_assoc (sought.on (s ∷ ss) end (reads_on left s rest ss end first r));
+      is = has_more wanted sought.before s has here sought.is is;
     }
 
 -- all of it was gone over
-pub sought_all : (start left : List ℕ) (wanted : Sought) (has : Bool) → Seeks start left wanted has
-    → frame_at left ≡ None
+pub sought_all : (start left : List ℕ) (wanted : Sought) (has : Bool) → Seeks start left wanted has → IsEnd left
     → (ss : List Submessage) × (end : List ℕ) × ReadsAll start ss end × (IsTrue has ↔ HasSought wanted ss)
-sought_all start left wanted has s none =
-    let all : ReadsAll start s.before left =
-    rw (← append-nil s.before) (s.on [] left (frame_none left s.octets none, refl)) in
+sought_all start left wanted has s end =
+    let all : ReadsAll start s.before left = rw (← append-nil s.before) (s.on [] left (end, refl)) in
     (s.before, left, all, s.is)
 
 pub in_message : (bytes body left : List ℕ) (prefix : GuidPrefix) (ss : List Submessage) (wanted : Sought) (has : Bool)
-    → length bytes ≤ 65535 → HasHeader bytes (prefix, body) → ReadsAll body ss left → IsTrue has ↔ HasSought wanted ss
+    → HasHeader bytes prefix body → ReadsAll body ss left → IsTrue has ↔ HasSought wanted ss
     → IsTrue has ↔ Has bytes wanted
-in_message bytes body left prefix ss wanted has short h all is =
-    let read = message_read bytes body left prefix ss short h all in (
+in_message bytes body left prefix ss wanted has h all is =
+    let read = message_read bytes body left prefix ss h all in (
       λ t. record {
         message = record { prefix = prefix; submessages = ss };
         offset = length bytes - length left;
@@ -108,11 +84,3 @@ in_message bytes body left prefix ss wanted has short h all is =
           (message_one bytes x.message (record { prefix = prefix; submessages = ss }) x.offset
           (length bytes - length left) x.is_read read).0 x.has),
     )
-
--- bytes that are no message have none
-pub no_header : (bytes : List ℕ) (wanted : Sought) → header_at bytes ≡ None → Has bytes wanted → ⊥
-no_header bytes wanted none x =
-    let r = x.is_read in
-    let header : header_at bytes ≡ Some (x.message.prefix, r.body) =
-    ap header_at r.header ∙ header_only r.minor r.vendor x.message.prefix r.body r.two r.prefix in
-    cc

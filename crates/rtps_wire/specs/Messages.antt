@@ -21,9 +21,26 @@ ReadsAll bytes (s ∷ ss) left =
     (id : ℕ) × (flags : ℕ) × (body : List ℕ) × (rest : List ℕ)
     × IsFrame bytes id flags body rest × Reads id flags body s × ReadsAll rest ss left
 
+-- The bytes begin with this submessage, and rest is what follows it.
+pub record ReadsFirst (bytes : List ℕ) (s : Submessage) (rest : List ℕ) : Type 0 where
+  pub id : ℕ
+  pub flags : ℕ
+  pub body : List ℕ
+  pub frame : IsFrame bytes id flags body rest
+  pub is_read : Reads id flags body s
+
 -- RTPS, version 2 with a minor one, vendor id, GUID prefix of the sender
 abbrev pub header_text : ℕ → List ℕ → GuidPrefix → List ℕ
 header_text minor vendor prefix = codes "RTPS" ++ major_version ∷ minor ∷ [] ++ vendor ++ prefix.0
+
+-- The bytes are at most `max_message`, and begin with the header of a message of this sender: the body follows it.
+pub record HasHeader (bytes : List ℕ) (source : GuidPrefix) (body : List ℕ) : Type 0 where
+  pub minor : ℕ
+  pub vendor : List ℕ
+  pub two : length vendor ≡ 2
+  pub prefix : length source.0 ≡ len_prefix
+  pub header : bytes ≡ header_text minor vendor source ++ body
+  pub short : length bytes ≤ max_message
 
 -- The bytes begin with a submessage.
 abbrev pub HasFrame : List ℕ → Type 0

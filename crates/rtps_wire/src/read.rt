@@ -2,10 +2,12 @@
 //!
 //! RTPS 2.5, 8.3.4 (the message receiver) and 9.4.
 
-ghost use Rattle.std.specs.Prelude.{◌≡◌, ◌+◌, ◌≤◌, ◌<◌, ℕ, length, IfOk, IfErr, IfSome, Some, []};
+ghost use Rattle.std.specs.Prelude.{◌≡◌, ◌+◌, ◌≤◌, ◌<◌, ℕ, List, length, IfOk, IfErr, IfSome, IfNone, Some, []};
+ghost use Rattle.dds_base.specs.declared.guid.GuidPrefix.{GuidPrefix as GuidPrefixOf};
+ghost use Rattle.rtps_wire.specs.Frames.{IsEnd};
 ghost use Rattle.rtps_wire.specs.SubmessageAt.{known_at};
 ghost use Rattle.rtps_wire.specs.Submessages.{Reads};
-ghost use Rattle.rtps_wire.specs.Messages.{ReadsAll, ReadsMessage, HasFrame, HasSubmessage};
+ghost use Rattle.rtps_wire.specs.Messages.{ReadsFirst, ReadsAll, ReadsMessage, HasFrame, HasHeader, HasSubmessage};
 ghost use Rattle.rtps_wire.specs.declared.message.Message.{Message};
 
 use crate::acknack::acknack_of;
@@ -19,7 +21,7 @@ use crate::info_ts::info_ts_of;
 use crate::message::{Message, Read};
 use crate::names::{ID_ACKNACK, ID_DATA, ID_GAP, ID_HEARTBEAT, ID_INFO_DST, ID_INFO_TS, ID_PAD};
 use crate::submessage::{Submessage, Submessages};
-use dds_base::Code;
+use dds_base::{Code, GuidPrefix};
 use std::alloc::Global;
 
 /// The submessage of a known kind, where it is valid.
@@ -58,6 +60,39 @@ fn submessage_of(id: u8, flags: u8, body: &[u8]) -> Submessage<'_>
     known_of(id, flags, body).unwrap_or(Submessage::Other(id))
 }
 
+/// The sender of a message, and the bytes of its submessages: `next_submessage` reads those. `None` where the bytes are
+/// no message: without the header of this protocol, or longer than `MAX_MESSAGE`.
+///
+/// RTPS 2.5, 8.3.4 and 9.4.4.
+pub fn begin_message(bytes: &[u8]) -> Option<(GuidPrefix, &[u8])>
+    // The sender is that of the header, and all that follows the header is there.
+    ensures found { IfSome result (λ x. HasHeader bytes.now x.0 x.1.now) }
+    // Bytes that begin a message are refused to none.
+    ensures none { IfNone result
+        ((source : GuidPrefixOf) (body : List ℕ) → HasHeader bytes.now source body → ⊥) }
+{
+    if MAX_MESSAGE < bytes.len() {
+        return None;
+    }
+    take_header(bytes)
+}
+
+/// The submessage at the front, and what follows it: one that is not known or not valid is `Submessage::Other` with its
+/// id. `None` where reading ends. No memory is needed, and the bytes lend the value of a datum.
+///
+/// RTPS 2.5, 8.3.4 and 9.4.5.
+pub fn next_submessage(bytes: &[u8]) -> Option<(Submessage<'_>, &[u8])>
+    // The bytes begin with the submessage, and all that follows it is there.
+    ensures found { IfSome result (λ x. ReadsFirst bytes.now x.0 x.1.now) }
+    // Fewer bytes follow it.
+    ensures fewer { IfSome result (λ x. length x.1.now < length bytes.now) }
+    // Reading ends nowhere else.
+    ensures end { IfNone result (IsEnd bytes.now) }
+{
+    let (frame, rest) = take_frame(bytes)?;
+    Some((submessage_of(frame.id, frame.flags, frame.body), rest))
+}
+
 /// Adds the submessages up to where reading ends. Returns what stands there.
 fn read_submessages<'a>(
     submessages: &mut Submessages<'a>,
@@ -70,8 +105,8 @@ fn read_submessages<'a>(
     ensures memory { IfErr result (λ e. (e ≡ Code.Memory) × HasFrame bytes.now) }
 {
     let mut left = bytes;
-    while let Some((frame, rest)) = take_frame(left) {
-        submessages.push(submessage_of(frame.id, frame.flags, frame.body))?;
+    while let Some((submessage, rest)) = next_submessage(left) {
+        submessages.push(submessage)?;
         left = rest;
     }
     Ok(left)
@@ -101,14 +136,11 @@ pub fn read_message(alloc: Global, bytes: &[u8]) -> Result<Option<Read<'_>>, Cod
     // Want of memory is answered only where there is a submessage to read.
     ensures memory { IfErr result (λ e. (e ≡ Code.Memory) × HasSubmessage bytes.now) }
 {
-    if MAX_MESSAGE < bytes.len() {
-        return Ok(None);
-    }
-    let Some((prefix, rest)) = take_header(bytes) else {
+    let Some((prefix, body)) = begin_message(bytes) else {
         return Ok(None);
     };
     let mut submessages = Submessages::new(alloc);
-    let left = read_submessages(&mut submessages, rest)?;
+    let left = read_submessages(&mut submessages, body)?;
     let stop = bytes.len() - left.len();
     Ok(Some(Read {
         message: Message {

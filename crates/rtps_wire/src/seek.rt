@@ -3,16 +3,11 @@
 //! RTPS 2.5, 8.3.4 and 8.3.8.
 
 ghost use Rattle.std.specs.Prelude.{◌↔◌, ℕ, IsTrue, List};
-ghost use Rattle.std.specs.Option.{unwrap_or};
-ghost use Rattle.rtps_wire.specs.declared.submessage.Submessage.TheVariants as submessages;
 ghost use Rattle.rtps_wire.specs.declared.submessage.Submessage.{Submessage as SubmessageOf};
 ghost use Rattle.rtps_wire.specs.Messages.{ReadsAll};
 ghost use Rattle.rtps_wire.specs.Sought.{IsSought, HasSought, Has};
-ghost use Rattle.rtps_wire.specs.SubmessageAt.{known_at};
 
-use crate::frame::take_frame;
-use crate::header::{MAX_MESSAGE, take_header};
-use crate::read::known_of;
+use crate::read::{begin_message, next_submessage};
 use crate::submessage::Submessage;
 use dds_base::EntityId;
 
@@ -39,24 +34,15 @@ fn is_sought(wanted: &Sought, submessage: &Submessage) -> bool
     }
 }
 
-/// Whether an id, flags and a body are such a submessage.
-fn is_frame_sought(wanted: &Sought, id: u8, flags: u8, body: &[u8]) -> bool
-    ensures { IsTrue result
-        ↔ IsSought wanted.now (unwrap_or (known_at id flags body.now) (submessages.Other id)) }
-{
-    let known = known_of(id, flags, body);
-    is_sought(wanted, &known.unwrap_or(Submessage::Other(id)))
-}
-
 /// Whether there is such a submessage in bytes that follow a header.
-fn is_in_body(wanted: &Sought, bytes: &[u8]) -> bool
-    ensures { (ss : List SubmessageOf) × (left : List ℕ) × ReadsAll bytes.now ss left
+fn is_in_body(wanted: &Sought, body: &[u8]) -> bool
+    ensures { (ss : List SubmessageOf) × (left : List ℕ) × ReadsAll body.now ss left
         × (IsTrue result ↔ HasSought wanted.now ss) }
 {
     let mut has = false;
-    let mut left = bytes;
-    while let Some((frame, rest)) = take_frame(left) {
-        has |= is_frame_sought(wanted, frame.id, frame.flags, frame.body);
+    let mut left = body;
+    while let Some((submessage, rest)) = next_submessage(left) {
+        has |= is_sought(wanted, &submessage);
         left = rest;
     }
     has
@@ -69,10 +55,7 @@ pub fn has_submessage(bytes: &[u8], wanted: &Sought) -> bool
     // It is so exactly if the message of these bytes has one.
     ensures has { IsTrue result ↔ Has bytes.now wanted.now }
 {
-    if MAX_MESSAGE < bytes.len() {
-        return false;
-    }
-    match take_header(bytes) {
+    match begin_message(bytes) {
         Some((_, body)) => is_in_body(wanted, body),
         None => false,
     }

@@ -2,8 +2,8 @@ use Rattle.std.proofs.Common.{length}
 use Rattle.rtps_wire.proofs.Seeking.{Seeks}
 use Rattle.rtps_wire.proofs.seek.is_in_body.Given as goal
 
-abbrev pub invariant-loop-frame : goal.invariant-loop-frame
-invariant-loop-frame l = Seeks l.bytes l.left l.wanted l.has
+abbrev pub invariant-loop-submessage : goal.invariant-loop-submessage
+invariant-loop-submessage l = Seeks l.body l.left l.wanted l.has
 
-abbrev pub decreases-loop-frame : goal.decreases-loop-frame
-decreases-loop-frame l = length l.left
+abbrev pub decreases-loop-submessage : goal.decreases-loop-submessage
+decreases-loop-submessage l = length l.left
