@@ -1,5 +1,5 @@
 -- Lists with one element changed, by what is read of them.
-use Rattle.std.proofs.Common.{◌≡◌, ℕ, zero, suc, ◌+◌, ◌<◌, ◌≤◌, List, [], ◌∷◌, ◌++◌, Some, None, map, set, take, drop, length, get_or, slice_get, refl, subst, ap, sym, ◌∙◌, arith}
+use Rattle.std.proofs.Common.{◌≡◌, ℕ, zero, suc, ◌<◌, ◌≤◌, List, [], ◌∷◌, ◌++◌, Some, None, map, set, take, drop, length, get_or, slice_get, refl, subst, ap, sym, ◌∙◌, arith}
 use Rattle.std.proofs.lemmas.Option.{same_Some}
 use Rattle.std.proofs.lemmas.List.{set-get_or}
 use Rattle.std.proofs.lemmas.Option.{get_or_from_slice_get}
@@ -76,14 +76,7 @@ past_end [] n none past = refl
 past_end (x ∷ xs) zero none past = absurd (omega (arith, past))
 past_end (x ∷ xs) (suc n) none past = past_end xs n none (omega (arith, past))
 
--- what is left begins with the element at hand
-pub drop_at : {X : Type 0} (xs : List X) (i : ℕ) (d : X) → i < length xs → drop i xs ≡ get_or xs i d ∷ drop (i + 1) xs
-drop_at [] i d lt = absurd (omega (arith, lt))
-drop_at (x ∷ xs) zero d lt = refl
-drop_at (x ∷ xs) (suc i) d lt =
-    let n : suc i + 1 ≡ suc (i + 1) = omega arith in drop_at xs i d (omega (arith, lt))
-    ∙ ap (λ (k : ℕ). get_or xs i d ∷ drop k (x ∷ xs)) (sym n)
-
+-- nothing is left behind the last element
 pub drop_all : {X : Type 0} (xs : List X) → drop (length xs) xs ≡ []
 drop_all [] = refl
 drop_all (x ∷ xs) = drop_all xs

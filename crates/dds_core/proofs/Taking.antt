@@ -1,22 +1,25 @@
--- The submessages of a message are taken up one after the other.
-use Rattle.std.proofs.Common.{◌≡◌, ℕ, zero, suc, ◌+◌, ◌-◌, ◌≤◌, Option, Some, None, List, [], ◌∷◌, ◌++◌, length, drop, slice_get, subst, ap, sym, ◌∙◌, refl, inl, inr, arith, append_assoc, append-nil, Contains}
+-- The submessages of a message are taken up one after the other, as they are read.
+use Rattle.std.proofs.Common.{◌≡◌, ℕ, zero, suc, ◌+◌, ◌-◌, ◌≤◌, Some, None, List, [], ◌∷◌, ◌++◌, length, slice_get, subst, ap, sym, ◌∙◌, refl, inl, inr, arith, append_assoc, append-nil, Contains}
 use Rattle.std.specs.Prelude.{◌^◌, Result, Ok, Err, OnOk}
-use Rattle.std.proofs.lemmas.Option.{same_Some, get_or_from_slice_get}
+use Rattle.std.proofs.lemmas.Option.{get_or_from_slice_get}
 use Rattle.rtps_sets.specs.NumberSet.{NumberSet}
 use Rattle.rtps_wire.specs.declared.acknack.AckNack.{AckNack as AckNackBody}
 use Rattle.rtps_wire.specs.declared.gap.Gap.{Gap as GapBody}
 use Rattle.dds_base.specs.declared.config.Config.{Config}
 use Rattle.dds_base.specs.declared.config.PeerConfig.{PeerConfig}
 use Rattle.dds_base.specs.declared.guid.GuidPrefix.{GuidPrefix}
+use Rattle.dds_base.proofs.FieldLaws.{AreOctets}
 use Rattle.dds_base.specs.Checked.{unknown_prefix}
 use Rattle.dds_base.specs.Kept.{numbers_from}
-use Rattle.rtps_wire.specs.declared.message.Read.{Read}
 use Rattle.rtps_wire.specs.declared.message.Message.{Message}
 use Rattle.rtps_wire.specs.declared.submessage.Submessage.{Submessage}
 use Rattle.rtps_wire.specs.declared.submessage.Submessage.TheVariants.{Pad, InfoDst, InfoTs, Data, Heartbeat, AckNack, Gap, Other}
-use Rattle.rtps_wire.specs.Messages.{ReadsMessage, ReadsAll, HasSubmessage}
+use Rattle.rtps_wire.specs.Frames.{IsEnd}
+use Rattle.rtps_wire.specs.Messages.{ReadsFirst, HasHeader, ReadsMessage}
 use Rattle.rtps_wire.specs.Sets.{set_of}
 use Rattle.rtps_wire.specs.Submessages.{Reads}
+use Rattle.rtps_wire.proofs.FrameLaws.{frame_found, frame_only}
+use Rattle.rtps_wire.proofs.MessageLaws.{Reading, reads_on, reading, header_of, message_read}
 use Rattle.dds_conditions.specs.Watched.{Watched}
 use Rattle.dds_notices.specs.Listeners.{Places}
 use Rattle.dds_protocol.specs.declared.event.Event.TheVariants as event
@@ -34,12 +37,12 @@ use Rattle.dds_machine.specs.Part.{Rtps, place_of, heard_of}
 use Rattle.dds_protocol.specs.Peer.{Peer, packets_of, state_of, Delivery}
 use Rattle.dds_protocol.specs.DueMessages.{Due, AreSent}
 use Rattle.dds_protocol.specs.Protocol.{State, InTurn, ReaderTakes, Takes, MayNeedMemory, FollowsMessage}
-use Rattle.dds_protocol.specs.Receipt.{prefix_of, IsNotTaken}
+use Rattle.dds_protocol.specs.Receipt.{prefix_of}
 use Rattle.dds_core.specs.declared.sending.Announced.{Announced}
 use Rattle.dds_core.specs.Beating.{AddsTo}
 use Rattle.dds_core.specs.Kept.{PeerKept}
-use Rattle.dds_core.specs.Readiness.{IsBounded, AreBounded}
-use Rattle.dds_core.specs.Receiving.{with_state, StandsAsWell, ReadersTook, TookSubmessage, NeedsMemory, TellsReaders, TakesOneMore, TookMessage, TakesMessage, ReceivesPacket}
+use Rattle.dds_core.specs.Readiness.{IsBounded}
+use Rattle.dds_core.specs.Receiving.{with_state, StandsAsWell, ReadersTook, TookSubmessage, NeedsMemory, TellsReaders, TakesOneMore, FollowsBody, TookBody, TakesBody, ReceivesPacket}
 use Rattle.dds_core.proofs.TakenSoFar.{TakenTo, TakesTo}
 use Rattle.dds_core.specs.Sending.{AreMessages}
 use Rattle.dds_core.specs.Standing.{StandsFor}
@@ -153,28 +156,29 @@ written_adds a b sent gone h more =
     (written_on a b sent.packets.items more.packets sent.unsent more.unsent h more.written))
 
 -- nothing is taken up at first
-pub takes_none : (old : PeerKept) (message : Message) (at : Receiver) (moves : List Move) (gone : Announced)
-    → at ≡ receiver_of message.prefix → moves ≡ [] → gone.packets.items ≡ [] → gone.unsent ≡ 0
-    → TakesTo old message 0 at moves old gone
-takes_none old message at moves gone begins none quiet zero_lost config peer s = record {
+pub takes_none : (old : PeerKept) (source : GuidPrefix) (body : List ℕ) (at : Receiver) (moves : List Move)
+    (gone : Announced) → at ≡ receiver_of source → moves ≡ [] → gone.packets.items ≡ [] → gone.unsent ≡ 0
+    → TakesTo old source body body 0 at moves old gone
+takes_none old source body at moves gone begins none quiet zero_lost config peer s = record {
   state = state_of peer;
   dues = [];
   stands = stands_again old config peer (with_state peer (state_of peer)) refl refl refl s;
   sent = (quiet, zero_lost);
   on = λ later refused last after h.
-      subst (λ (ms : List Move). FollowsMessage config old.prefix peer.number 0
-      (receiver_of message.prefix) message.submessages (state_of peer) (ms ++ later) refused last after) (sym none)
-      (subst (λ (r : Receiver). FollowsMessage config old.prefix peer.number 0 r message.submessages
+      subst (λ (ms : List Move). FollowsBody config old.prefix peer.number 0
+      (receiver_of source) body (state_of peer) (ms ++ later) refused last after) (sym none)
+      (subst (λ (r : Receiver). FollowsBody config old.prefix peer.number 0 r body
       (state_of peer) later refused last after) begins h);
 }
 
--- one more is taken up
-pub takes_more : (old now new : PeerKept) (message : Message) (index : ℕ) (at : Receiver) (submessage : Submessage)
-    (moves more : List Move) (sent gone : Announced) → TakesTo old message index at moves now sent
-    → drop index message.submessages ≡ submessage ∷ drop (index + 1) message.submessages → now.prefix ≡ old.prefix
+-- one more is read, and taken up
+pub takes_more : (old now new : PeerKept) (source : GuidPrefix) (body left : List ℕ) (index : ℕ) (at : Receiver)
+    (submessage : Submessage) (rest : List ℕ) (moves more : List Move) (sent gone : Announced)
+    → TakesTo old source body left index at moves now sent → ReadsFirst left submessage rest → now.prefix ≡ old.prefix
     → TakesOneMore now at submessage moves sent new more gone
-    → TakesTo old message (index + 1) (after_submessage old.prefix at submessage) more new gone
-takes_more old now new message index at submessage moves more sent gone taken here same takes config peer s =
+    → TakesTo old source body rest (index + 1) (after_submessage old.prefix at submessage) more new gone
+takes_more old now new source body left index at submessage rest moves more sent gone taken first same takes config peer
+    s =
     record {
       state = r.state;
       dues = t.dues ++ r.dues;
@@ -186,143 +190,141 @@ takes_more old now new message index at submessage moves more sent gone taken he
           let took : Takes config old.prefix peer.number at submessage t.state takes.made r.dues r.state =
           subst (λ (p : GuidPrefix). Takes config p peer.number at submessage t.state takes.made r.dues r.state)
           same r.takes in
-          let together : FollowsMessage config old.prefix peer.number index at
-          (submessage ∷ drop (index + 1) message.submessages) t.state (takes.made ++ later) refused
+          let together : FollowsBody config old.prefix peer.number index at left t.state (takes.made ++ later) refused
           (r.dues ++ last) after =
-          inr (takes.made, later, r.dues, last, r.state, refl, refl, took, h) in
-          let whole = t.on (takes.made ++ later) refused (r.dues ++ last) after
-          (subst (λ (ss : List Submessage). FollowsMessage config old.prefix peer.number index at ss t.state
-          (takes.made ++ later) refused (r.dues ++ last) after) (sym here) together) in
-          subst (λ (ms : List Move). FollowsMessage config old.prefix peer.number 0
-          (receiver_of message.prefix) message.submessages (state_of peer) ms refused
-          ((t.dues ++ r.dues) ++ last) after)
+          record {
+            submessages = submessage ∷ h.submessages;
+            left = h.left;
+            is_read = reads_on left submessage rest h.submessages h.left first h.is_read;
+            follows = inr (takes.made, later, r.dues, last, r.state, refl, refl, took, h.follows);
+          } in
+          subst (λ (ms : List Move). FollowsBody config old.prefix peer.number 0
+          (receiver_of source) body (state_of peer) ms refused ((t.dues ++ r.dues) ++ last) after)
           (sym (append_assoc moves takes.made later) ∙ ap (λ (ms : List Move). ms ++ later) (sym takes.after_is))
-          (subst (λ (ds : List Due). FollowsMessage config old.prefix peer.number 0
-          (receiver_of message.prefix) message.submessages (state_of peer)
-          (moves ++ (takes.made ++ later)) refused ds after)
-          (sym (append_assoc t.dues r.dues last)) whole);
+          (subst (λ (ds : List Due). FollowsBody config old.prefix peer.number 0
+          (receiver_of source) body (state_of peer) (moves ++ (takes.made ++ later)) refused ds after)
+          (sym (append_assoc t.dues r.dues last)) (t.on (takes.made ++ later) refused (r.dues ++ last) after together));
     }
   where
-    t : TakenTo old message index at moves now sent config peer
+    t : TakenTo old source body left index at moves now sent config peer
     t = taken config peer s
 
     r : TookSubmessage config now.prefix at submessage (with_state peer t.state) takes.made sent new gone
     r = takes.takes config (with_state peer t.state) t.stands
 
--- what was taken up is all: what follows does nothing
-ends_here : (old now : PeerKept) (message : Message) (index : ℕ) (at : Receiver) (report : Report) (gone : Announced)
-    (config : Config) (peer : Peer) (t : TakenTo old message index at report.moves now gone config peer)
-    → FollowsMessage config old.prefix peer.number index at (drop index message.submessages) t.state [] report.refused
-    [] t.state
-    → FollowsMessage config old.prefix peer.number 0 (receiver_of message.prefix) message.submessages
+-- what was taken up is all: what is left does nothing
+ends_here : (old now : PeerKept) (source : GuidPrefix) (body left : List ℕ) (index : ℕ) (at : Receiver)
+    (report : Report) (gone : Announced) (config : Config) (peer : Peer)
+    (t : TakenTo old source body left index at report.moves now gone config peer)
+    → FollowsBody config old.prefix peer.number index at left t.state [] report.refused [] t.state
+    → FollowsBody config old.prefix peer.number 0 (receiver_of source) body
     (state_of peer) report.moves report.refused t.dues t.state
-ends_here old now message index at report gone config peer t end =
-    subst (λ (ms : List Move). FollowsMessage config old.prefix peer.number 0
-    (receiver_of message.prefix) message.submessages (state_of peer) ms report.refused t.dues t.state)
+ends_here old now source body left index at report gone config peer t end =
+    subst (λ (ms : List Move). FollowsBody config old.prefix peer.number 0
+    (receiver_of source) body (state_of peer) ms report.refused t.dues t.state)
     (append-nil report.moves)
-    (subst (λ (ds : List Due). FollowsMessage config old.prefix peer.number 0
-    (receiver_of message.prefix) message.submessages (state_of peer) (report.moves ++ []) report.refused ds t.state)
+    (subst (λ (ds : List Due). FollowsBody config old.prefix peer.number 0
+    (receiver_of source) body (state_of peer) (report.moves ++ []) report.refused ds t.state)
     (append-nil t.dues)
     (t.on [] report.refused [] t.state end))
 
--- all are taken up, or one finds no memory
-pub takes_all : (old now : PeerKept) (message : Message) (at : Receiver) (report : Report) (gone : Announced)
-    → TakesTo old message (length message.submessages) at report.moves now gone
-    → drop (length message.submessages) message.submessages ≡ [] → report.refused ≡ None
-    → TakesMessage old message report now gone
-takes_all old now message at report gone taken none fine config peer s =
-    let count : ℕ = length message.submessages in
-    let t : TakenTo old message count at report.moves now gone config peer = taken config peer s in
-    let end : FollowsMessage config old.prefix peer.number count at (drop count message.submessages) t.state
-    [] report.refused [] t.state =
-    subst (λ (ss : List Submessage). FollowsMessage config old.prefix peer.number count at ss t.state [] report.refused
-    [] t.state) (sym none) (fine, (refl, refl, refl)) in
+-- octets follow a submessage
+pub rest_octets : (bytes : List ℕ) (s : Submessage) (rest : List ℕ) → ReadsFirst bytes s rest → AreOctets bytes
+    → AreOctets rest
+rest_octets bytes s rest first octets =
+    (frame_found bytes (first.id, first.flags, first.body, rest) octets
+    (frame_only bytes first.id first.flags first.body rest first.frame)).octets
+
+-- reading ends, and all are taken up
+pub takes_all : (old now : PeerKept) (source : GuidPrefix) (body left : List ℕ) (index : ℕ) (at : Receiver)
+    (report : Report) (gone : Announced) → TakesTo old source body left index at report.moves now gone → IsEnd left
+    → report.refused ≡ None → TakesBody old source body report now gone
+takes_all old now source body left index at report gone taken ends fine config peer s =
+    let t : TakenTo old source body left index at report.moves now gone config peer = taken config peer s in
+    let end : FollowsBody config old.prefix peer.number index at left t.state [] report.refused [] t.state =
+    record { submessages = []; left = left; is_read = (ends, refl); follows = (fine, (refl, refl, refl)) } in
     record {
       state = t.state;
       dues = t.dues;
-      follows = ends_here old now message count at report gone config peer t end;
+      follows = ends_here old now source body left index at report gone config peer t end;
       stands = t.stands;
       sent = t.sent;
     }
 
-pub takes_some : (old now new : PeerKept) (message : Message) (index : ℕ) (at : Receiver) (submessage : Submessage)
-    (report : Report) (sent gone : Announced) → TakesTo old message index at report.moves now sent
-    → now.prefix ≡ old.prefix → NeedsMemory now at submessage → StandsAsWell now new → gone ≡ sent
-    → drop index message.submessages ≡ submessage ∷ drop (index + 1) message.submessages → report.refused ≡ Some index
-    → TakesMessage old message report new gone
-takes_some old now new message index at submessage report sent gone taken own needs well same here refused config peer
-    s =
-    let t : TakenTo old message index at report.moves now sent config peer = taken config peer s in
+-- one finds no memory, and nothing that follows it is looked at
+pub takes_some : (old now new : PeerKept) (source : GuidPrefix) (body left : List ℕ) (index : ℕ) (at : Receiver)
+    (submessage : Submessage) (rest : List ℕ) (report : Report) (sent gone : Announced)
+    → TakesTo old source body left index at report.moves now sent → now.prefix ≡ old.prefix
+    → NeedsMemory now at submessage → StandsAsWell now new → gone ≡ sent → ReadsFirst left submessage rest
+    → AreOctets left → report.refused ≡ Some index → TakesBody old source body report new gone
+takes_some old now new source body left index at submessage rest report sent gone taken own needs well same first octets
+    refused config peer s =
+    let t : TakenTo old source body left index at report.moves now sent config peer = taken config peer s in
     let may : MayNeedMemory config old.prefix peer.number at submessage t.state =
     subst (λ (p : GuidPrefix). MayNeedMemory config p peer.number at submessage t.state) own
     (needs config (with_state peer t.state) t.stands) in
-    let end : FollowsMessage config old.prefix peer.number index at (drop index message.submessages) t.state
-    [] report.refused [] t.state =
-    subst (λ (ss : List Submessage). FollowsMessage config old.prefix peer.number index at ss t.state [] report.refused
-    [] t.state) (sym here) (inl (refused, (refl, refl, refl), may)) in
+    let later : Reading rest = reading rest (rest_octets left submessage rest first octets) in
+    let end : FollowsBody config old.prefix peer.number index at left t.state [] report.refused [] t.state =
+    record {
+      submessages = submessage ∷ later.submessages;
+      left = later.left;
+      is_read = reads_on left submessage rest later.submessages later.left first later.is_read;
+      follows = inl (refused, (refl, refl, refl), may);
+    } in
     record {
       state = t.state;
       dues = t.dues;
-      follows = ends_here old now message index at report sent config peer t end;
+      follows = ends_here old now source body left index at report sent config peer t end;
       stands = well config (with_state peer t.state) t.stands;
       sent = subst (λ (x : Announced). AreSent t.dues x.packets.items x.unsent) (sym same) t.sent;
     }
 
 -- ---- the whole of a packet
 
-pub receives_message : (old new : PeerKept) (bytes : List ℕ) (read : Read) (report : Report) (gone : Announced)
-    → ReadsMessage bytes read.message read.stop → TakesMessage old read.message report new gone
+pub receives_message : (old new : PeerKept) (bytes : List ℕ) (source : GuidPrefix) (body : List ℕ) (report : Report)
+    (gone : Announced) → HasHeader bytes source body → TakesBody old source body report new gone
     → ReceivesPacket old bytes report new gone
-receives_message old new bytes read report gone reads takes config peer s =
-    let r : TookMessage config peer old.prefix read.message report new gone = takes config peer s in
+receives_message old new bytes source body report gone header takes config peer s =
+    let r : TookBody config peer old.prefix source body report new gone = takes config peer s in
+    let f = r.follows in
     record {
       state = r.state;
       dues = r.dues;
       takes = inl (record {
-        message = read.message;
-        offset = read.stop;
-        is_read = reads;
+        message = record { prefix = source; submessages = f.submessages };
+        offset = length bytes - length f.left;
+        is_read = message_read bytes body f.left source f.submessages header f.is_read;
         follows =
-            subst (λ (p : GuidPrefix). FollowsMessage config p peer.number 0
-            (receiver_of read.message.prefix) read.message.submessages
-            (state_of peer) report.moves report.refused r.dues r.state) (sym (prefix_is old config peer s)) r.follows;
+            subst (λ (p : GuidPrefix). FollowsMessage config p peer.number 0 (receiver_of source) f.submessages
+            (state_of peer) report.moves report.refused r.dues r.state) (sym (prefix_is old config peer s)) f.follows;
       });
       stands = r.stands;
       sent = r.sent;
     }
 
 -- a report of no move
-abbrev pub no_move : Option ℕ → Report
-no_move refused = record { moves = []; refused = refused }
-
-unread : (old : PeerKept) (bytes : List ℕ) (refused : Option ℕ) (gone : Announced) → gone.packets.items ≡ []
-    → gone.unsent ≡ 0 → ((peer : Peer) → IsNotTaken bytes peer.part (no_move refused) peer.part)
-    → ReceivesPacket old bytes (no_move refused) old gone
-unread old bytes refused gone quiet zero_lost not config peer s = record {
-  state = state_of peer;
-  dues = [];
-  takes = inr (not peer, refl, refl);
-  stands = stands_again old config peer (with_state peer (state_of peer)) refl refl refl s;
-  sent = (quiet, zero_lost);
-}
+abbrev pub no_move : Report
+no_move = record { moves = []; refused = None }
 
 pub receives_nothing : (old : PeerKept) (bytes : List ℕ) (gone : Announced) → gone.packets.items ≡ [] → gone.unsent ≡ 0
-    → ((message : Message) (offset : ℕ) → ReadsMessage bytes message offset → ⊥)
-    → ReceivesPacket old bytes (no_move None) old gone
-receives_nothing old bytes gone quiet zero_lost none =
-    unread old bytes None gone quiet zero_lost (λ peer. record { moves = refl; after = refl; cause = inl (refl, none) })
-
-pub reads_nothing : (old : PeerKept) (bytes : List ℕ) (gone : Announced) → gone.packets.items ≡ [] → gone.unsent ≡ 0
-    → HasSubmessage bytes → ReceivesPacket old bytes (no_move (Some 0)) old gone
-reads_nothing old bytes gone quiet zero_lost has =
-    unread old bytes (Some 0) gone quiet zero_lost
-    (λ peer. record { moves = refl; after = refl; cause = inr (refl, has) })
+    → ((source : GuidPrefix) (body : List ℕ) → HasHeader bytes source body → ⊥)
+    → ReceivesPacket old bytes no_move old gone
+receives_nothing old bytes gone quiet zero_lost none config peer s =
+    let unread : (message : Message) (offset : ℕ) → ReadsMessage bytes message offset → ⊥ =
+    λ message offset r. none message.prefix r.body (header_of bytes message offset r) in
+    record {
+      state = state_of peer;
+      dues = [];
+      takes = inr (record { moves = refl; after = refl; cause = inl (refl, unread) }, refl, refl);
+      stands = stands_again old config peer (with_state peer (state_of peer)) refl refl refl s;
+      sent = (quiet, zero_lost);
+    }
 
 -- an answer that sends nothing
 abbrev pub silent : Reply → Output
 silent reply = record { reply = reply; packets = []; unsent = 0 }
 
--- ---- the numbers of a message are such that the wire has
+-- ---- the numbers of a submessage are such that the wire has
 
 bounded : (id flags : ℕ) (body : List ℕ) (s : Submessage) → Reads id flags body s → IsBounded s
 unfolding set_of
@@ -342,17 +344,8 @@ bounded id flags body (AckNack a) h =
     omega (arith, same, low)
 bounded id flags body (Other d) h = tt
 
-first_bounded : (x : Submessage) (xs : List Submessage) → IsBounded x → AreBounded xs → AreBounded (x ∷ xs)
-first_bounded x xs one rest zero s at = subst (λ y. IsBounded y) (same_Some x s at) one
-first_bounded x xs one rest (suc i) s at = rest i s at
-
-all_bounded : (bytes : List ℕ) (ss : List Submessage) (left : List ℕ) → ReadsAll bytes ss left → AreBounded ss
-all_bounded bytes [] left h = λ i s at. absurd cc
-all_bounded bytes (x ∷ xs) left h = first_bounded x xs (bounded h.0 h.1 h.2 x h.5) (all_bounded h.3 xs left h.6)
-
-pub message_bounded : (bytes : List ℕ) (message : Message) (offset : ℕ) → ReadsMessage bytes message offset
-    → AreBounded message.submessages
-message_bounded bytes message offset h = all_bounded h.body message.submessages h.left h.submessages
+pub first_bounded : (bytes : List ℕ) (s : Submessage) (rest : List ℕ) → ReadsFirst bytes s rest → IsBounded s
+first_bounded bytes s rest first = bounded first.id first.flags first.body s first.is_read
 
 -- ---- calls and ticks
 

@@ -111,10 +111,6 @@ IsBounded (Heartbeat h) = h.first_sn ≤ max_sn
 IsBounded (AckNack a) = 1 ≤ a.reader_sn_state.base
 IsBounded submessage = Unit {0}
 
--- so it is of each of these submessages
-abbrev pub AreBounded : List Submessage → Type 0
-AreBounded submessages = (i : ℕ) (s : Submessage) → slice_get submessages i ≡ Some s → IsBounded s
-
 -- what a reader is told is such: the number of a change, the base of a set or firstSN is at most 2^62
 abbrev pub IsToldBounded : Told → Type 0
 IsToldBounded (told.Change number change) = number ≤ max_sn

@@ -12,8 +12,8 @@ use Rattle.dds_base.specs.Kept.{numbers_from}
 use Rattle.rtps_reader.specs.declared.step.Step.{Step}
 use Rattle.rtps_reader.specs.Tracked.{Tracked}
 use Rattle.rtps_reader.specs.Reader.{Tracks}
-use Rattle.rtps_wire.specs.declared.message.Message.{Message}
 use Rattle.rtps_wire.specs.declared.submessage.Submessage.{Submessage}
+use Rattle.rtps_wire.specs.Messages.{ReadsAll}
 use Rattle.dds_machine.specs.declared.reply.Move.{Move}
 use Rattle.dds_machine.specs.declared.reply.Report.{Report}
 use Rattle.dds_protocol.specs.Claims.{Receiver, receiver_of}
@@ -134,22 +134,30 @@ pub record KeepsPeer (more : ℕ) (old : PeerKept) (moves : List Move) (sent : A
   -- it is refused for want of memory alone
   pub memory : IfErr answer (λ code. code ≡ Memory)
 
--- for each state that the old values stand for, the message's submessages are taken up with this report, and what is
--- then due is sent
-pub record TookMessage (config : Config) (peer : Peer) (own : GuidPrefix) (message : Message) (report : Report)
+-- these bytes are submessages, which are taken up from this index on
+pub record FollowsBody (config : Config) (own : GuidPrefix) (peer index : ℕ) (at : Receiver) (body : List ℕ)
+    (old : State) (moves : List Move) (refused : Option ℕ) (dues : List Due) (new : State) : Type 0 where
+  pub submessages : List Submessage
+  pub left : List ℕ
+  pub is_read : ReadsAll body submessages left
+  pub follows : FollowsMessage config own peer index at submessages old moves refused dues new
+
+-- for each state that the old values stand for, the submessages that follow the header of a message are taken up with
+-- this report, and what is then due is sent
+pub record TookBody (config : Config) (peer : Peer) (own source : GuidPrefix) (body : List ℕ) (report : Report)
     (new : PeerKept) (gone : Announced) : Type 0 where
   pub state : State
   pub dues : List Due
-  pub follows : FollowsMessage config own peer.number 0 (receiver_of message.prefix) message.submessages
-      (state_of peer) report.moves report.refused dues state
+  pub follows : FollowsBody config own peer.number 0 (receiver_of source) body (state_of peer)
+      report.moves report.refused dues state
   pub stands : StandsFor new config (with_state peer state)
   pub sent : AreSent dues gone.packets.items gone.unsent
 
 -- the same, said of each state that the old values stand for
-abbrev pub TakesMessage : PeerKept → Message → Report → PeerKept → Announced → Type 0
-TakesMessage old message report new gone =
+abbrev pub TakesBody : PeerKept → GuidPrefix → List ℕ → Report → PeerKept → Announced → Type 0
+TakesBody old source body report new gone =
     (config : Config) (peer : Peer) → StandsFor old config peer
-    → TookMessage config peer old.prefix message report new gone
+    → TookBody config peer old.prefix source body report new gone
 
 -- for each state that the old values stand for, this is what is done with a packet
 pub record ReceivedPacket (config : Config) (peer : Peer) (bytes : List ℕ) (report : Report) (new : PeerKept)

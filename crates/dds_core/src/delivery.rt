@@ -10,8 +10,8 @@ ghost use Rattle.dds_machine.specs.declared.reply.Reply.TheVariants.{Reported};
 ghost use Rattle.dds_protocol.specs.declared.event.Event.TheVariants as event;
 ghost use Rattle.dds_core.specs.Stepping.{SoundSteps};
 ghost use Rattle.dds_core.specs.Sending.{AreMessages, max_unsent};
-ghost use Rattle.dds_core.specs.Readiness.{receiver_at, IsBounded, AreBounded, AreReady, AreAlike, IsFirstNamed, IsNamedAt, IsReadyFor, IsRowOf, NamesNone, moves_of};
-ghost use Rattle.dds_core.specs.Receiving.{CanTakeAt, TakesAt, AllCanTake, TakesAll, TellsReaders, TakesOneMore, KeepsPeer, NeedsMemory, TakesMessage, StandsAsWell, ReceivesPacket};
+ghost use Rattle.dds_core.specs.Readiness.{receiver_at, IsBounded, AreReady, AreAlike, IsFirstNamed, IsNamedAt, IsReadyFor, IsRowOf, NamesNone, moves_of};
+ghost use Rattle.dds_core.specs.Receiving.{CanTakeAt, TakesAt, AllCanTake, TakesAll, TellsReaders, TakesOneMore, KeepsPeer, NeedsMemory, TakesBody, StandsAsWell, ReceivesPacket};
 ghost use Rattle.dds_core.specs.Twins.{Twins};
 
 use crate::acknack::send_acknack;
@@ -26,7 +26,7 @@ use dds_base::{Code, GuidPrefix, Octets, Sequence, Sn};
 use dds_machine::{Endpoint, Move, Reply, Report};
 use dds_protocol::Output;
 use rtps_reader::Step;
-use rtps_wire::{MAX_MESSAGE, Message, Submessage, read_message};
+use rtps_wire::{MAX_MESSAGE, Submessage, begin_message, next_submessage};
 use smallvec::SmallVec;
 
 /// The first of a peer's readers that a submessage is for, and there the row of the writer that it is from.
@@ -285,24 +285,33 @@ impl Peer {
         }
     }
 
-    /// Takes up the submessages of a message, up to one for which there is no memory.
-    fn take_message(&mut self, message: &Message, sent: &mut Announced, twin: &mut Twin) -> Report
-        requires few { length message.now.submessages ≤ MAX_MESSAGE }
-        requires bounded { AreBounded message.now.submessages }
+    /// Takes up the submessages of a message of this sender as they are read, up to one for which there is no memory.
+    fn take_submessages(
+        &mut self,
+        source: GuidPrefix,
+        body: &[u8],
+        sent: &mut Announced,
+        twin: &mut Twin,
+    ) -> Report
+        requires few { length body.now ≤ MAX_MESSAGE }
         requires none { sent.old.packets.items ≡ [] }
         requires zero { sent.old.unsent ≡ 0 }
-        ensures takes { TakesMessage self.old message.now result self.new sent.new }
+        ensures takes { TakesBody self.old source body.now result self.new sent.new }
         ensures messages { AreMessages sent.new.packets.items }
         ensures few { sent.new.unsent < max_unsent }
         ensures twin { Twins twin.old (Reported result) twin.new }
     {
         let mut moves = Moves::new(self.alloc, twin.is_asked());
-        let mut receiver = receiver_for(message.prefix);
-        for (index, submessage) in message.submessages.as_slice().iter().enumerate() {
-            match self.take_submessage(&mut moves, sent, &receiver, submessage) {
-                Ok(()) => receiver = receiver_after(&self.prefix, receiver, submessage),
-                Err(_) => return moves.into_report(Some(index as u32), twin),
+        let mut receiver = receiver_for(source);
+        let mut left = body;
+        let mut index = 0;
+        while let Some((submessage, rest)) = next_submessage(left) {
+            match self.take_submessage(&mut moves, sent, &receiver, &submessage) {
+                Ok(()) => receiver = receiver_after(&self.prefix, receiver, &submessage),
+                Err(_) => return moves.into_report(Some(index), twin),
             }
+            left = rest;
+            index += 1;
         }
         moves.into_report(None, twin)
     }
@@ -316,10 +325,9 @@ impl Peer {
         ensures few { sent.new.unsent < max_unsent }
         ensures twin { Twins twin.old (Reported result) twin.new }
     {
-        match read_message(self.alloc, packet.as_slice()) {
-            Ok(Some(read)) => self.take_message(&read.message, sent, twin),
-            Ok(None) => unmoved(self.alloc, None),
-            Err(_) => unmoved(self.alloc, Some(0)),
+        match begin_message(packet.as_slice()) {
+            Some((source, body)) => self.take_submessages(source, body, sent, twin),
+            None => unmoved(self.alloc, None),
         }
     }
 

@@ -1,0 +1,22 @@
+use Rattle.std.proofs.Common.{◌≡◌, ◌+◌, ◌≤◌, ◌*◌, ◌^◌, length}
+use Rattle.dds_base.proofs.FieldLaws.{AreOctets}
+use Rattle.dds_core.specs.Readiness.{receiver_at}
+use Rattle.dds_core.proofs.TakenSoFar.{TakesTo}
+use Rattle.dds_core.specs.Sending.{AreMessages}
+use Rattle.dds_core.specs.Twins.{wants_two}
+use Rattle.dds_core.proofs.peer.Peer.take_submessages.Given as goal
+
+abbrev pub invariant-loop-submessage : goal.invariant-loop-submessage
+invariant-loop-submessage l = record {
+  taken : TakesTo l.initial.self l.fn.source l.body l.left l.index (receiver_at l.receiver) l.moves.items l.self l.sent;
+  within : l.index + length l.left ≤ length l.body;
+  octets : AreOctets l.left;
+  few : l.sent.unsent ≤ 2 ^ 16 * l.index;
+  messages : AreMessages l.sent.packets.items;
+  same : l.self.prefix ≡ l.initial.self.prefix;
+  twice : l.moves.twice ≡ wants_two l.twin;
+  still : l.twin ≡ l.initial.twin;
+}
+
+abbrev pub decreases-loop-submessage : goal.decreases-loop-submessage
+decreases-loop-submessage l = length l.left
