@@ -25,6 +25,8 @@ use dds_base::{Code, GuidPrefix};
 use std::alloc::Global;
 
 /// The submessage of a known kind, where it is valid.
+// As a call of its own it stores the fields of that kind alone; within a caller LLVM gathers those of all kinds first.
+#[inline(never)]
 #[tactic(auto, unfolding(crate::specs::SubmessageAt::known_at))]
 pub fn known_of(id: u8, flags: u8, body: &[u8]) -> Option<Submessage<'_>>
     ensures { result ≡ known_at id flags body.now }
