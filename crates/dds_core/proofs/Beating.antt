@@ -117,21 +117,16 @@ adds_if_sent x m to p q n can (inr one) more is =
 first_frame : (body : List ℕ) (ss : List Submessage) (left : List ℕ) → 1 ≤ length ss → ReadsAll body ss left
     → HasFrame body
 first_frame body [] left some f = absurd (omega (arith, some))
-first_frame body (s ∷ ss) left some f = (f.0, f.1, f.2, f.3, f.4)
+first_frame body (s ∷ ss) left some f = (f.1.0, f.1.1, f.1.2, f.0, f.1.3)
 
 spelled_message : (m : Message) → IsWritable m → 1 ≤ length m.submessages → HasSubmessage (spelling_of m)
 spelled_message m can some =
     let r : ReadsMessage (spelling_of m) m (length (spelling_of m)) = message_again m can in
     record {
-      minor = r.minor;
-      vendor = r.vendor;
       source = m.prefix;
       body = r.body;
-      two = r.two;
-      prefix = r.prefix;
       header = r.header;
       first = first_frame r.body m.submessages r.left some r.submessages;
-      short = r.short;
     }
 
 last_of_two : {X : Type 0} (xs : List X) (x y : X) → Contains (xs ++ x ∷ []) y → Contains xs y ⊎ (x ≡ y)

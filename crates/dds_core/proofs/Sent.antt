@@ -196,15 +196,10 @@ is_message sender to number content packet is =
     let f = r.submessages in
     subst (λ (b : List ℕ). HasSubmessage b) (sym is.bytes)
     (record {
-      minor = r.minor;
-      vendor = r.vendor;
       source = m.prefix;
       body = r.body;
-      two = r.two;
-      prefix = r.prefix;
       header = r.header;
-      first = (f.0, f.1, f.2, f.3, f.4);
-      short = r.short;
+      first = (f.1.0, f.1.1, f.1.2, f.0, f.1.3);
     })
 
 -- ---- the packets to all destinations

@@ -19,7 +19,7 @@ use Rattle.rtps_wire.specs.Messages.{ReadsFirst, HasHeader, ReadsMessage}
 use Rattle.rtps_wire.specs.Sets.{set_of}
 use Rattle.rtps_wire.specs.Submessages.{Reads}
 use Rattle.rtps_wire.proofs.FrameLaws.{frame_found, frame_only}
-use Rattle.rtps_wire.proofs.MessageLaws.{Reading, reads_on, reading, header_of, message_read}
+use Rattle.rtps_wire.proofs.MessageLaws.{Reading, reads_on, reading, message_read}
 use Rattle.dds_conditions.specs.Watched.{Watched}
 use Rattle.dds_notices.specs.Listeners.{Places}
 use Rattle.dds_protocol.specs.declared.event.Event.TheVariants as event
@@ -232,8 +232,8 @@ ends_here old now source body left index at report gone config peer t end =
 pub rest_octets : (bytes : List ℕ) (s : Submessage) (rest : List ℕ) → ReadsFirst bytes s rest → AreOctets bytes
     → AreOctets rest
 rest_octets bytes s rest first octets =
-    (frame_found bytes (first.id, first.flags, first.body, rest) octets
-    (frame_only bytes first.id first.flags first.body rest first.frame)).octets
+    (frame_found bytes (first.0, first.1, first.2, rest) octets
+    (frame_only bytes first.0 first.1 first.2 rest first.3)).octets
 
 -- reading ends, and all are taken up
 pub takes_all : (old now : PeerKept) (source : GuidPrefix) (body left : List ℕ) (index : ℕ) (at : Receiver)
@@ -311,7 +311,7 @@ pub receives_nothing : (old : PeerKept) (bytes : List ℕ) (gone : Announced) �
     → ReceivesPacket old bytes no_move old gone
 receives_nothing old bytes gone quiet zero_lost none config peer s =
     let unread : (message : Message) (offset : ℕ) → ReadsMessage bytes message offset → ⊥ =
-    λ message offset r. none message.prefix r.body (header_of bytes message offset r) in
+    λ message offset r. none message.prefix r.body r.header in
     record {
       state = state_of peer;
       dues = [];
@@ -345,7 +345,7 @@ bounded id flags body (AckNack a) h =
 bounded id flags body (Other d) h = tt
 
 pub first_bounded : (bytes : List ℕ) (s : Submessage) (rest : List ℕ) → ReadsFirst bytes s rest → IsBounded s
-first_bounded bytes s rest first = bounded first.id first.flags first.body s first.is_read
+first_bounded bytes s rest first = bounded first.0 first.1 first.2 s first.4
 
 -- ---- calls and ticks
 

@@ -12,7 +12,7 @@ use Rattle.dds_base.specs.Checked.{check_refusal}
 use Rattle.dds_base.specs.Kept.{numbers_from}
 use Rattle.rtps_reader.specs.declared.step.AckNackDue.{AckNackDue}
 use Rattle.dds_base.specs.Matched.{is_reliable_reader}
-use Rattle.rtps_reader.specs.Tracked.{Tracked, with_gap, with_heartbeat}
+use Rattle.rtps_reader.specs.Tracked.{Tracked, with_gap}
 use Rattle.rtps_reader.specs.Answer.{AnswersHeartbeat, answered}
 use Rattle.rtps_wire.specs.declared.acknack.AckNack.{AckNack as AckNackBody}
 use Rattle.rtps_wire.specs.declared.heartbeat.Heartbeat.{Heartbeat as HeartbeatBody}

@@ -52,7 +52,7 @@ base_read id flags body (Other x) h = tt
 bases_read : (bytes : List ℕ) (ss : List Submessage) (left : List ℕ) → ReadsAll bytes ss left
     → AllByRecursion HasBase ss
 bases_read bytes [] left h = tt
-bases_read bytes (s ∷ ss) left h = (base_read h.0 h.1 h.2 s h.5, bases_read h.3 ss left h.6)
+bases_read bytes (s ∷ ss) left h = (base_read h.1.0 h.1.1 h.1.2 s h.1.4, bases_read h.0 ss left h.2)
 
 -- a message that comes to a peer
 abbrev arrival : (config : Config) (peer : ℕ) (before : List Delivery) (bytes : List ℕ)

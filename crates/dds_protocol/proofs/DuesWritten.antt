@@ -23,7 +23,7 @@ use Rattle.rtps_writer.specs.declared.answer.Answer.TheVariants.{Data as Answers
 use Rattle.rtps_writer.specs.Answers.{IsRight}
 use Rattle.dds_machine.specs.declared.endpoint.Endpoint.{Endpoint}
 use Rattle.dds_machine.specs.declared.reply.Move.{Move}
-use Rattle.dds_machine.specs.Part.{Writer, own_writer, own_reader, writer_changes, history_of}
+use Rattle.dds_machine.specs.Part.{Writer, own_writer, writer_changes, history_of}
 use Rattle.dds_protocol.specs.Claims.{IsReader, IsWriter, IsToReader, IsToWriter}
 use Rattle.dds_protocol.specs.DueMessages.{Due, answer_message, acknack_message, acknacks_due}
 use Rattle.dds_base.specs.Matched.{is_reliable_reader}

@@ -4,14 +4,12 @@ use Rattle.std.proofs.Common.{◌≡◌, ℕ, ◌+◌, zero, suc, List, [], ◌�
 use Rattle.std.specs.Prelude.{Option}
 use Rattle.std.proofs.lemmas.List.{length-map}
 use Rattle.rtps_wire.specs.declared.submessage.Submessage.{Submessage}
-use Rattle.dds_base.specs.declared.code.Code.TheVariants as code
 use Rattle.dds_base.specs.declared.config.Config.{Config}
 use Rattle.dds_base.specs.declared.config.PeerConfig.{PeerConfig}
 use Rattle.dds_base.specs.declared.config.ReaderConfig.{ReaderConfig}
 use Rattle.dds_base.specs.declared.guid.GuidPrefix.{GuidPrefix}
 use Rattle.dds_notices.specs.Listeners.{Places, nobody}
 use Rattle.dds_notices.proofs.ListenerLaws.{nobody_is_told, NobodyTakes}
-use Rattle.dds_machine.specs.declared.call.Call.{Call}
 use Rattle.dds_protocol.specs.declared.event.Event.{Event}
 use Rattle.dds_protocol.specs.declared.event.Event.TheVariants as event
 use Rattle.dds_protocol.specs.declared.event.Output.{Output}

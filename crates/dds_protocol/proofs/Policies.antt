@@ -1,5 +1,5 @@
 -- What a delivery does changes no reader's policies.
-use Rattle.std.proofs.Common.{◌≡◌, ℕ, true, List, [], ◌∷◌, refl, subst, ap, sym, ◌∙◌, ⊎_elim}
+use Rattle.std.proofs.Common.{◌≡◌, ℕ, true, List, [], ◌∷◌, ap, sym, ◌∙◌, ⊎_elim}
 use Rattle.dds_base.specs.declared.happening.Happening.{Happening}
 use Rattle.dds_base.specs.declared.happening.Happening.TheVariants.{Heard as WasHeard}
 use Rattle.dds_base.specs.declared.qos.ReaderQos.{ReaderQos}

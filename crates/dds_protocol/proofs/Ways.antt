@@ -8,16 +8,15 @@ use Rattle.dds_base.specs.declared.happening.Happening.{Happening}
 use Rattle.dds_base.specs.declared.happening.Happening.TheVariants.{Passed}
 use Rattle.dds_base.specs.declared.happening.PassedRun.{PassedRun}
 use Rattle.dds_base.specs.Matched.{is_reliable}
-use Rattle.dds_base.specs.Places.{WriterGrounds, Match, PlaceWith, coming, Comes, Passes, GoesTo}
+use Rattle.dds_base.specs.Places.{WriterGrounds, Match, PlaceWith, coming, Comes, GoesTo}
 use Rattle.dds_base.specs.Presence.{has_room}
 use Rattle.dds_base.proofs.PlaceLaws.{goes_forward}
 use Rattle.rtps_reader.specs.Tracked.{Tracked, with_data, with_gap}
 use Rattle.rtps_reader.specs.Advance.{known, Stays, Advances}
-use Rattle.rtps_reader.specs.Jump.{run_of, passed_from, jumped_to, comes, JumpsIf, Jumps}
+use Rattle.rtps_reader.specs.Jump.{run_of, jumped_to, comes, JumpsIf, Jumps}
 use Rattle.rtps_wire.specs.declared.gap.Gap.{Gap as GapBody}
 use Rattle.dds_machine.specs.declared.endpoint.Endpoint.{Endpoint}
 use Rattle.dds_machine.specs.declared.reply.Move.{Move}
-use Rattle.dds_machine.specs.Part.{own_reader}
 use Rattle.dds_protocol.specs.Protocol.{State, GoesBy, Goes, TakesChange, TakesGap}
 
 -- the place does not go back, and from it on the same is known

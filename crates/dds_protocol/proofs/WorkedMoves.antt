@@ -9,7 +9,6 @@ use Rattle.dds_base.specs.declared.happening.Happening.{Happening}
 use Rattle.dds_base.specs.declared.happening.Happening.TheVariants.{Came, Passed}
 use Rattle.dds_base.specs.declared.qos.HistoryQos.{HistoryQos}
 use Rattle.dds_base.specs.declared.qos.HistoryQos.TheVariants.{KeepAll, KeepLast}
-use Rattle.dds_base.specs.Kept.{is_dropped}
 use Rattle.dds_base.specs.Presence.{has_room}
 use Rattle.dds_base.specs.Written.{Written, Changed}
 use Rattle.dds_base.specs.declared.happening.PassedRun.{PassedRun}
@@ -19,7 +18,7 @@ use Rattle.dds_notices.specs.Listeners.{nobody}
 use Rattle.dds_machine.specs.declared.reply.Move.{Move}
 use Rattle.dds_machine.specs.declared.reply.Move.TheVariants.{Place}
 use Rattle.dds_machine.specs.declared.reply.Reply.TheVariants.{Reported}
-use Rattle.dds_machine.specs.Part.{Part, Writer, history_of, nothing_seen}
+use Rattle.dds_machine.specs.Part.{Part, Writer, nothing_seen}
 use Rattle.dds_machine.specs.Moves.{Grounds, as_to, AreMoves, match_of, Places, DeliveryStep}
 use Rattle.dds_machine.specs.Machine.{Machine, grounds_of}
 use Rattle.dds_machine.specs.Opening.{opening, reader_qos}

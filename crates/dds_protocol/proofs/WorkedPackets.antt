@@ -41,24 +41,28 @@ packet-read : (from to : GuidPrefix) (id flags : ℕ) (body : List ℕ) (submess
     → IsFrame (id ∷ flags ∷ 28 ∷ 0 ∷ body) id flags body [] → Reads id flags body submessage
     → ReadsMessage (packet from to id flags body) (message from to submessage) 68
 packet-read from to id flags body submessage source destination long frame reads = record {
-  minor = 5;
-  vendor = 0 ∷ 0 ∷ [];
   body = 0x0e ∷ 1 ∷ 12 ∷ 0 ∷ (to.0 ++ id ∷ flags ∷ 28 ∷ 0 ∷ body);
   left = [];
-  two = refl;
-  prefix = source;
-  header = refl;
+  header = record {
+    minor = 5;
+    vendor = 0 ∷ 0 ∷ [];
+    two = refl;
+    prefix = source;
+    header = refl;
+    short = let all = octets from.0 to.0 body id flags source destination long in omega (arith, all);
+  };
   submessages = (
-    0x0e,
-    1,
-    to.0,
     id ∷ flags ∷ 28 ∷ 0 ∷ body,
-    record { len = 12; small = omega arith; text = refl; extent = destination },
-    record { kind = refl; flags_are = tt; body_is = ([], sym (append-nil to.0)); valid = destination },
-    (id, flags, body, [], frame, reads, (inl (omega arith), refl)),
+    (
+      0x0e,
+      1,
+      to.0,
+      record { len = 12; small = omega arith; text = refl; extent = destination },
+      record { kind = refl; flags_are = tt; body_is = ([], sym (append-nil to.0)); valid = destination },
+    ),
+    ([], (id, flags, body, frame, reads), (inl (omega arith), refl)),
   );
   stop = octets from.0 to.0 body id flags source destination long;
-  short = let all = octets from.0 to.0 body id flags source destination long in omega (arith, all);
 }
 
 -- and it claims what the submessage says to a peer, where the receiver is so

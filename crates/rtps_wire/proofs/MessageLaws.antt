@@ -22,12 +22,12 @@ use Rattle.rtps_wire.proofs.SubmessageLaws.{Reads-found, reads_one}
 pub left_le : (bytes : List ℕ) (ss : List Submessage) (left : List ℕ) → ReadsAll bytes ss left
     → length left ≤ length bytes
 left_le bytes [] left r = omega (arith, ap length r.1)
-left_le bytes (s ∷ ss) left r = omega (arith, left_le r.3 ss left r.6, frame_length bytes r.0 r.1 r.2 r.3 r.4)
+left_le bytes (s ∷ ss) left r = omega (arith, left_le r.0 ss left r.2, frame_length bytes r.1.0 r.1.1 r.1.2 r.0 r.1.3)
 
 -- the submessage at the front, and those that follow it
 pub reads_on : (bytes : List ℕ) (s : Submessage) (rest : List ℕ) (ss : List Submessage) (left : List ℕ)
     → ReadsFirst bytes s rest → ReadsAll rest ss left → ReadsAll bytes (s ∷ ss) left
-reads_on bytes s rest ss left f r = (f.id, f.flags, f.body, rest, f.frame, f.is_read, r)
+reads_on bytes s rest ss left f r = (rest, f, r)
 
 -- the submessages of some bytes, up to where reading ends
 pub record Reading (bytes : List ℕ) : Type 0 where
@@ -38,29 +38,23 @@ pub record Reading (bytes : List ℕ) : Type 0 where
 pub all_one : (bytes : List ℕ) (ss ts : List Submessage) (l m : List ℕ) → ReadsAll bytes ss l → ReadsAll bytes ts m
     → (ss ≡ ts) × (l ≡ m)
 all_one bytes [] [] l m p q = (refl, p.1 ∙ sym q.1)
-all_one bytes [] (t ∷ ts) l m p q = absurd (frame_apart bytes q.0 q.1 q.2 q.3 q.4 p.0)
-all_one bytes (s ∷ ss) [] l m p q = absurd (frame_apart bytes p.0 p.1 p.2 p.3 p.4 q.0)
+all_one bytes [] (t ∷ ts) l m p q = absurd (frame_apart bytes q.1.0 q.1.1 q.1.2 q.0 q.1.3 p.0)
+all_one bytes (s ∷ ss) [] l m p q = absurd (frame_apart bytes p.1.0 p.1.1 p.1.2 p.0 p.1.3 q.0)
 all_one bytes (s ∷ ss) (t ∷ ts) l m p q =
     let same =
-    some_is (p.0, p.1, p.2, p.3) (q.0, q.1, q.2, q.3)
-    (sym (frame_only bytes p.0 p.1 p.2 p.3 p.4) ∙ frame_only bytes q.0 q.1 q.2 q.3 q.4) in
-    let turned : Reads p.0 p.1 p.2 t × ReadsAll p.3 ts m =
-    subst (λ (f : ℕ × ℕ × List ℕ × List ℕ). Reads f.0 f.1 f.2 t × ReadsAll f.3 ts m) (sym same) (q.5, q.6) in
-    let head = reads_one p.0 p.1 p.2 s t p.5 turned.0 in
-    let rest = all_one p.3 ss ts l m p.6 turned.1 in
+    some_is (p.1.0, p.1.1, p.1.2, p.0) (q.1.0, q.1.1, q.1.2, q.0)
+    (sym (frame_only bytes p.1.0 p.1.1 p.1.2 p.0 p.1.3) ∙ frame_only bytes q.1.0 q.1.1 q.1.2 q.0 q.1.3) in
+    let turned : Reads p.1.0 p.1.1 p.1.2 t × ReadsAll p.0 ts m =
+    subst (λ (f : ℕ × ℕ × List ℕ × List ℕ). Reads f.0 f.1 f.2 t × ReadsAll f.3 ts m) (sym same) (q.1.4, q.2) in
+    let head = reads_one p.1.0 p.1.1 p.1.2 s t p.1.4 turned.0 in
+    let rest = all_one p.0 ss ts l m p.2 turned.1 in
     (cc, rest.1)
 
 -- what a frame is read as
 pub first_found : (bytes : List ℕ) (id flags : ℕ) (body rest : List ℕ) → Frames bytes (id, flags, body, rest)
     → ReadsFirst bytes (unwrap_or (known_at id flags body) (submessages.Other id)) rest
 first_found bytes id flags body rest f =
-    record {
-      id = id;
-      flags = flags;
-      body = body;
-      frame = f.frame;
-      is_read = Reads-found (known_at id flags body) id flags body f.body refl;
-    }
+    (id, flags, body, f.frame, Reads-found (known_at id flags body) id flags body f.body refl)
 
 -- any octets are read, up to where reading ends
 pub reading : (bytes : List ℕ) → AreOctets bytes → Reading bytes
@@ -130,24 +124,11 @@ pub header_again : (bytes : List ℕ) (source : GuidPrefix) (body : List ℕ) �
 header_again bytes source body h =
     ap header_at h.header ∙ header_only h.minor h.vendor source body h.two h.prefix
 
--- a message begins with its header
-pub header_of : (bytes : List ℕ) (m : Message) (offset : ℕ) (r : ReadsMessage bytes m offset)
-    → HasHeader bytes m.prefix r.body
-header_of bytes m offset r =
-    record {
-      minor = r.minor;
-      vendor = r.vendor;
-      two = r.two;
-      prefix = r.prefix;
-      header = r.header;
-      short = r.short;
-    }
-
 pub message_one : (bytes : List ℕ) (m n : Message) (o p : ℕ) → ReadsMessage bytes m o → ReadsMessage bytes n p
     → (m ≡ n) × (o ≡ p)
 message_one bytes m n o p a b =
-    let first = header_again bytes m.prefix a.body (header_of bytes m o a) in
-    let second = header_again bytes n.prefix b.body (header_of bytes n p b) in
+    let first = header_again bytes m.prefix a.body a.header in
+    let second = header_again bytes n.prefix b.body b.header in
     let same = some_is (m.prefix, a.body) (n.prefix, b.body) (sym first ∙ second) in
     let turned : ReadsAll a.body n.submessages b.left =
     subst (λ (z : List ℕ). ReadsAll z n.submessages b.left)
@@ -173,14 +154,9 @@ message_read bytes body left prefix ss h r =
     let len : length bytes ≡ length (header_text h.minor h.vendor prefix) + length body =
     ap length h.header ∙ length-append (header_text h.minor h.vendor prefix) body in
     record {
-      minor = h.minor;
-      vendor = h.vendor;
       body = body;
       left = left;
-      two = h.two;
-      prefix = h.prefix;
-      header = h.header;
+      header = h;
       submessages = r;
       stop = omega arith;
-      short = h.short;
     }

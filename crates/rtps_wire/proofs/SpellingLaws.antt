@@ -371,12 +371,14 @@ spelled_all : (ss : List Submessage) → AllByRecursion IsSpellable ss
 spelled_all [] valid short = (inl (omega arith), refl)
 spelled_all (s ∷ ss) valid short =
     let len = length-append (spelling_of_submessage s) (flat_map spelling_of_submessage ss) in (
-      id_of s,
-      flags_of s,
-      body_of s,
       flat_map spelling_of_submessage ss,
-      spelled_frame s (flat_map spelling_of_submessage ss) valid.0 (omega (arith, short, body_le s)),
-      Reads-from_known (id_of s) (flags_of s) (body_of s) s (spelled_known s valid.0),
+      (
+        id_of s,
+        flags_of s,
+        body_of s,
+        spelled_frame s (flat_map spelling_of_submessage ss) valid.0 (omega (arith, short, body_le s)),
+        Reads-from_known (id_of s) (flags_of s) (body_of s) s (spelled_known s valid.0),
+      ),
       spelled_all ss valid.1 (omega (arith, short)),
     )
 
@@ -384,17 +386,19 @@ pub message_again : (m : Message) → IsWritable m → ReadsMessage (spelling_of
 message_again m w =
     let len = length-append (header_text 5 (0 ∷ 0 ∷ []) m.prefix) (flat_map spelling_of_submessage m.submessages) in
     record {
-      minor = 5;
-      vendor = 0 ∷ 0 ∷ [];
       body = flat_map spelling_of_submessage m.submessages;
       left = [];
-      two = refl;
-      prefix = w.prefix;
-      header = refl;
+      header = record {
+        minor = 5;
+        vendor = 0 ∷ 0 ∷ [];
+        two = refl;
+        prefix = w.prefix;
+        header = refl;
+        short = w.short;
+      };
       submessages = spelled_all m.submessages w.submessages
           (omega (arith, w.short));
       stop = omega arith;
-      short = w.short;
     }
 
 -- ---- what the writer asks

@@ -14,20 +14,15 @@ use Rattle.rtps_wire.specs.Frames.{IsFrame, IsEnd}
 use Rattle.rtps_wire.specs.Submessages.{Reads, IsSpellable, spelling_of_submessage}
 use Rattle.rtps_wire.specs.Names.{len_prefix, major_version, max_message, minor_version, vendor_unknown}
 
+-- The bytes begin with this submessage, and rest is what follows it.
+abbrev pub ReadsFirst : List ℕ → Submessage → List ℕ → Type 0
+ReadsFirst bytes s rest =
+    (id : ℕ) × (flags : ℕ) × (body : List ℕ) × IsFrame bytes id flags body rest × Reads id flags body s
+
 -- The bytes are these submessages, up to where reading ends, and left is what stands there.
 abbrev pub ReadsAll : List ℕ → List Submessage → List ℕ → Type 0
 ReadsAll bytes [] left = IsEnd bytes × (left ≡ bytes)
-ReadsAll bytes (s ∷ ss) left =
-    (id : ℕ) × (flags : ℕ) × (body : List ℕ) × (rest : List ℕ)
-    × IsFrame bytes id flags body rest × Reads id flags body s × ReadsAll rest ss left
-
--- The bytes begin with this submessage, and rest is what follows it.
-pub record ReadsFirst (bytes : List ℕ) (s : Submessage) (rest : List ℕ) : Type 0 where
-  pub id : ℕ
-  pub flags : ℕ
-  pub body : List ℕ
-  pub frame : IsFrame bytes id flags body rest
-  pub is_read : Reads id flags body s
+ReadsAll bytes (s ∷ ss) left = (rest : List ℕ) × ReadsFirst bytes s rest × ReadsAll rest ss left
 
 -- RTPS, version 2 with a minor one, vendor id, GUID prefix of the sender
 abbrev pub header_text : ℕ → List ℕ → GuidPrefix → List ℕ
@@ -48,28 +43,18 @@ HasFrame bytes = (id : ℕ) × (flags : ℕ) × (body : List ℕ) × (rest : Lis
 
 -- The bytes are at most `max_message`, and begin with the header of a message and a submessage.
 pub record HasSubmessage (bytes : List ℕ) : Type 0 where
-  pub minor : ℕ
-  pub vendor : List ℕ
   pub source : GuidPrefix
   pub body : List ℕ
-  pub two : length vendor ≡ 2
-  pub prefix : length source.0 ≡ len_prefix
-  pub header : bytes ≡ header_text minor vendor source ++ body
+  pub header : HasHeader bytes source body
   pub first : HasFrame body
-  pub short : length bytes ≤ max_message
 
 -- The bytes are a message of at most `max_message` octets, of which reading ends at this offset.
 pub record ReadsMessage (bytes : List ℕ) (m : Message) (offset : ℕ) : Type 0 where
-  pub minor : ℕ
-  pub vendor : List ℕ
   pub body : List ℕ
   pub left : List ℕ
-  pub two : length vendor ≡ 2
-  pub prefix : length m.prefix.0 ≡ len_prefix
-  pub header : bytes ≡ header_text minor vendor m.prefix ++ body
+  pub header : HasHeader bytes m.prefix body
   pub submessages : ReadsAll body m.submessages left
   pub stop : offset + length left ≡ length bytes
-  pub short : length bytes ≤ max_message
 
 -- the one written form: version 2.5, vendor id 0
 abbrev pub spelling_of : Message → List ℕ

@@ -8,14 +8,12 @@ returns-in_err-frame-clause-end c =
     (frame_none c.args.bytes.now (λ i. omega (arith, c.type_inv.bytes i)) (sym c.in_err-frame.ensures.value))
 
 pub returns-clause-found : goal.returns-clause-found
-returns-clause-found c =
-    record {
-      id = c.in_ok-frame.frame.id;
-      flags = c.in_ok-frame.frame.flags;
-      body = c.in_ok-frame.frame.body.now;
-      frame =
-          (frame_found c.args.bytes.now
-          (c.in_ok-frame.frame.id, c.in_ok-frame.frame.flags, c.in_ok-frame.frame.body.now, c.in_ok-frame.rest.now)
-          (λ i. omega (arith, c.type_inv.bytes i)) (sym c.in_ok-frame.ensures.value)).frame;
-      is_read = c.submessage_of.ensures;
-    }
+returns-clause-found c = (
+  c.in_ok-frame.frame.id,
+  c.in_ok-frame.frame.flags,
+  c.in_ok-frame.frame.body.now,
+  (frame_found c.args.bytes.now
+      (c.in_ok-frame.frame.id, c.in_ok-frame.frame.flags, c.in_ok-frame.frame.body.now, c.in_ok-frame.rest.now)
+      (λ i. omega (arith, c.type_inv.bytes i)) (sym c.in_ok-frame.ensures.value)).frame,
+  c.submessage_of.ensures,
+)

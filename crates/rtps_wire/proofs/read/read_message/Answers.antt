@@ -1,11 +1,11 @@
 use Rattle.std.proofs.Common.{rules, ◌-◌, length}
 use Rattle.rtps_wire.specs.Messages.{ReadsMessage, HasSubmessage}
-use Rattle.rtps_wire.proofs.MessageLaws.{header_of, message_one, message_read}
+use Rattle.rtps_wire.proofs.MessageLaws.{message_one, message_read}
 use Rattle.rtps_wire.proofs.read.read_message.Goals as goal
 
 pub returns-in_default-clause-only : goal.returns-in_default-clause-only
 returns-in_default-clause-only c = λ m stop r.
-    absurd (c.in_default.ensures.none m.prefix r.body (header_of c.args.bytes.now m stop r))
+    absurd (c.in_default.ensures.none m.prefix r.body r.header)
 
 pub returns-clause-found : goal.returns-clause-found
 returns-clause-found c =
@@ -26,18 +26,11 @@ returns-clause-only c = λ m stop r.
 
 pub returns-in_err-left-clause-memory : goal.returns-in_err-left-clause-memory
 returns-in_err-left-clause-memory c =
-    let h = c.in-Some.ensures.found in
-    let k = c.in_err-left.ensures.memory in
     let has : HasSubmessage c.args.bytes.now =
     record {
-      minor = h.minor;
-      vendor = h.vendor;
       source = c.in-Some.prefix;
       body = c.in-Some.body.now;
-      two = h.two;
-      prefix = h.prefix;
-      header = h.header;
-      first = k.1;
-      short = h.short;
+      header = c.in-Some.ensures.found;
+      first = c.in_err-left.ensures.memory.1;
     } in
     search rules

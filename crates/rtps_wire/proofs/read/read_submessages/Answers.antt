@@ -9,7 +9,7 @@ use Rattle.rtps_wire.proofs.read.read_submessages.Goals as goal
 begins : (left bytes : List ℕ) (s : Submessage) (rest : List ℕ) → ReadsFirst left s rest
     → (left ≡ bytes) ⊎ HasFrame bytes → HasFrame bytes
 begins left bytes s rest here (inl same) =
-    subst (λ (b : List ℕ). HasFrame b) same (here.id, here.flags, here.body, rest, here.frame)
+    subst (λ (b : List ℕ). HasFrame b) same (here.0, here.1, here.2, rest, here.3)
 begins left bytes s rest here (inr there) = there
 
 pub loop-submessage-init : goal.loop-submessage-init

@@ -1,4 +1,3 @@
-use Rattle.rtps_wire.proofs.MessageLaws.{header_of}
 use Rattle.rtps_wire.proofs.Seeking.{in_message}
 use Rattle.rtps_wire.proofs.seek.has_submessage.Goals as goal
 
@@ -8,7 +7,7 @@ returns-in-None c =
       has = (
         λ t. absurd cc,
         λ h. absurd (c.in-None.ensures.none h.message.prefix h.is_read.body
-            (header_of c.args.bytes.now h.message h.offset h.is_read)),
+            h.is_read.header),
       );
     }
 
