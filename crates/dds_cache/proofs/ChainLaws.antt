@@ -184,7 +184,7 @@ module _ (ks : List Kept) (k : Kept) (old led new : Chains) (span : Span) (link 
         (earlier-or-last ks k at within);
   }
 
--- the chains stay those of the samples where each keeps its handle, and those that takes returned stay so
+-- the chains stay those of the samples where each keeps its handle, and those that are gone stay so
 pub chains-same : (old new : List Kept) (chains : Chains) → length new ≡ length old
     → ((at : ℕ) (d : Kept) → at < length old → (get_or new at d).handle ≡ (get_or old at d).handle)
     → ((at : ℕ) (d : Kept) → at < length old → (get_or new at d).is_out ≡ false → (get_or old at d).is_out ≡ false)
@@ -236,7 +236,7 @@ chains-set ks at k v chains within is handle out read =
         subst P (sym (ap (λ (n : ℕ). get_or (set ks at v) n d) (sym is) ∙ get_or-set_same ks at v d within)) (changed is))
         (λ other. subst P (sym (get_or-set_other ks at j v d (λ here. eqb-false at j other (sym here)))) same) (cases_Bool (nat_eq at j))
 
--- behind one that a take returned the others begin
+-- behind one that is gone the others begin
 pub first-after : (ks : List Kept) (n at next : ℕ) (k : Kept) → at < length ks → (get_or ks at k).is_out ≡ true
     → IsFirst ks n at → AreOthers ks n at next → IsFirst ks n next
 first-after ks n at next k within out begins others = λ j d inside own stays.

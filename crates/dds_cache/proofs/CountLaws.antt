@@ -1,5 +1,5 @@
 -- The present samples are counted among those kept.
-use Rattle.std.proofs.Common.{◌≡◌, ℕ, ◌+◌, List, [], ◌∷◌, ◌++◌, length, map, filter, get_or, Bool, true, false, not, ◌&&◌, ◌||◌, sym, ap, ◌∙◌, refl, cond, arith, suc, ⊎_elim}
+use Rattle.std.proofs.Common.{◌≡◌, ℕ, ◌+◌, List, [], ◌∷◌, ◌++◌, length, map, filter, get_or, Bool, true, false, ◌&&◌, ◌||◌, sym, ap, ◌∙◌, refl, cond, arith, suc, ⊎_elim}
 use Rattle.std.specs.List.{list_any, All, flat_map, count_by, IsDistinct, AllByRecursion}
 use Rattle.std.specs.Prelude.{if◌then◌else◌, nat_lt}
 use Rattle.std.proofs.lemmas.Bool.{and_right, cases_Bool, lt-ltb}
@@ -20,7 +20,7 @@ use Rattle.dds_base.specs.Access.{asks_for_sample_state, handle_of, meets, sampl
 use Rattle.dds_base.specs.Happening.{same_key}
 use Rattle.dds_base.specs.Instance.{known_instances}
 use Rattle.dds_base.specs.Presence.{is_present, present_of, present_samples}
-use Rattle.dds_base.specs.Life.{is_at, is_kept_write, last_marker, up_to}
+use Rattle.dds_base.specs.Life.{up_to}
 use Rattle.dds_base.proofs.KeyLaws.{key-same, same_key-comm}
 use Rattle.dds_instances.proofs.RiseLaws.{known-distinct}
 use Rattle.dds_cache.specs.declared.kept.Kept.{Kept}
@@ -148,9 +148,7 @@ unmet-unasked q h masks ks kept unasked = λ n d within. one (get_or ks n d) (ke
     one : (k : Kept) → IsKept q h k → IsUnasked masks.samples k → IsUnmet q h masks k
     one k is unasked =
         ⊎_elim
-        (λ out. ap (λ (b : Bool). (not b && (is_kept_write q h k.sample.key k.sample.position
-        || is_at (last_marker q k.sample.key h) k.sample.position)) && meets q h masks k.sample)
-        (sym is.out_is ∙ out))
+        (λ out. ap (λ (b : Bool). b && meets q h masks k.sample) (is.out_is out))
         (λ stays. ap (λ (b : Bool). is_present q h k.sample.key k.sample.position && b)
         (ap (λ (b : Bool). asks_for_sample_state masks.samples (if b then HasBeenRead else NotRead)
         && asks_for_states q h masks k.sample.key) (sym is.read_is)

@@ -1,5 +1,5 @@
 -- What is found of the first instance that an access asks for is what the definitions pick.
-use Rattle.std.proofs.Common.{◌≡◌, ℕ, zero, suc, ◌+◌, ◌≤◌, ◌<◌, List, [], ◌∷◌, ◌++◌, length, get_or, take, drop, map, filter, Bool, true, false, ◌==◌, ◌&&◌, ◌||◌, sym, ap, ◌∙◌, refl, subst, cond, arith, ⊎_elim, ◌⊎◌, inl, inr, Option, Some, None, take-append-drop, ◌≢◌, ◌-◌, not}
+use Rattle.std.proofs.Common.{◌≡◌, ℕ, zero, suc, ◌+◌, ◌≤◌, ◌<◌, List, [], ◌∷◌, ◌++◌, length, get_or, take, drop, map, filter, Bool, true, false, ◌==◌, ◌&&◌, ◌||◌, sym, ap, ◌∙◌, refl, subst, cond, arith, ⊎_elim, ◌⊎◌, inl, inr, Option, Some, None, take-append-drop, ◌≢◌, ◌-◌}
 use Rattle.std.specs.Prelude.{min, nat_lt, slice_get, if◌then◌else◌}
 use Rattle.std.specs.List.{list_any, All, flat_map}
 use Rattle.std.specs.List.Sorted.{IsNonDecreasingBy}
@@ -29,7 +29,6 @@ use Rattle.dds_cache.specs.declared.access.Candidate.{Candidate}
 use Rattle.dds_cache.specs.declared.kept.Kept.{Kept}
 use Rattle.dds_cache.specs.Chains.{IsFirst, IsFirstUnread}
 use Rattle.dds_cache.specs.Kept.{IsKept, sample_at}
-use Rattle.dds_base.specs.Life.{is_at, is_kept_write, last_marker}
 use Rattle.dds_cache.specs.Finding.{Holds, IsCandidate, TellsFound, asks_for, asks_for_states, handle_in, is_asked_for, is_wanted, sample_in, sample_of}
 use Rattle.dds_cache.specs.First.{AreFirstOf, AreOfForm, IsAmongKnown, IsFirstAsked, IsFoundOf, IsFull, IsOf, IsPassedBy, Settles, TellsFoundOf, asked_in, of_form, of_handle, wanted_in}
 use Rattle.dds_cache.proofs.FindingLaws.{filter-flat_map, filter-more, found-candidate, wanted-of}
@@ -260,7 +259,7 @@ of-other-handle q h masks test known k among kept other =
     (λ apart. ap (λ (b : Bool). b && is_wanted q h masks test k) apart)
     (cases_Bool (same_key known.key k.sample.key))
 
--- one of another handle, or that a take returned, is none of the wanted ones of an instance
+-- one of another handle is none of the wanted ones of an instance
 pub unwanted-other : (q : ReaderQos) (h : List Happening) (masks : Masks) (test : Key → List ℕ → Bool)
     (known : KnownInstance) (k : Kept) → IsAmongKnown q h known → IsKept q h k → k.handle ≢ known.handle
     → (same_key known.key k.sample.key && is_wanted q h masks test k) ≡ false
@@ -269,6 +268,14 @@ unwanted-other q h masks test known k among kept other =
     (⊎_elim (λ same. absurd (other (eqb-true k.handle known.handle same))) (λ apart. apart)
     (cases_Bool (k.handle == known.handle)))
 
+-- one that is gone is none of the wanted ones
+unwanted-out : (q : ReaderQos) (h : List Happening) (masks : Masks) (test : Key → List ℕ → Bool) (i : Key) (k : Kept)
+    → IsKept q h k → k.is_out ≡ true → (same_key i k.sample.key && is_wanted q h masks test k) ≡ false
+unwanted-out q h masks test i k kept out =
+    ap (λ (b : Bool). same_key i k.sample.key && (b && is_asked_for q h masks test k.sample)) (kept.out_is out)
+    ∙ and_right (same_key i k.sample.key) false refl
+
+-- one of another handle, or before the first of its handle that is not gone, is none of the wanted ones of an instance
 pub unwanted-first : (q : ReaderQos) (h : List Happening) (masks : Masks) (test : Key → List ℕ → Bool)
     (known : KnownInstance) (ks : List Kept) (first j : ℕ) (d : Kept) → IsAmongKnown q h known → All (IsKept q h) ks
     → IsFirst ks known.handle first → j < first → j < length ks
@@ -276,19 +283,12 @@ pub unwanted-first : (q : ReaderQos) (h : List Happening) (masks : Masks) (test 
 unwanted-first q h masks test known ks first j d among all begins below within =
     ⊎_elim
     (λ same. ⊎_elim
-    (λ out. gone (get_or ks j d) (all j d within) out)
+    (λ out. unwanted-out q h masks test known.key (get_or ks j d) (all j d within) out)
     (λ stays. let le : first ≤ j = begins j d within (eqb-true (get_or ks j d).handle known.handle same) stays in
     absurd (omega (arith, le, below)))
     (cases_Bool (get_or ks j d).is_out))
     (λ apart. of-other-handle q h masks test known (get_or ks j d) among (all j d within) apart)
     (cases_Bool ((get_or ks j d).handle == known.handle))
-  where
-    gone : (k : Kept) → IsKept q h k → k.is_out ≡ true → (same_key known.key k.sample.key && is_wanted q h masks test k) ≡ false
-    gone k kept out =
-        ap (λ (b : Bool). same_key known.key k.sample.key && ((not b && (is_kept_write q h k.sample.key k.sample.position
-        || is_at (last_marker q k.sample.key h) k.sample.position)) && is_asked_for q h masks test k.sample))
-        (sym kept.out_is ∙ out)
-        ∙ and_right (same_key known.key k.sample.key) false refl
 
 -- one before those that were not read is none of the wanted ones, where no read one is asked for
 pub unwanted-unread : (q : ReaderQos) (h : List Happening) (masks : Masks) (test : Key → List ℕ → Bool)
@@ -299,7 +299,7 @@ pub unwanted-unread : (q : ReaderQos) (h : List Happening) (masks : Masks) (test
 unwanted-unread q h masks test known ks first j d among all unasked begins below within =
     ⊎_elim
     (λ same. ⊎_elim
-    (λ out. gone (get_or ks j d) (all j d within) out)
+    (λ out. unwanted-out q h masks test known.key (get_or ks j d) (all j d within) out)
     (λ stays. ⊎_elim
     (λ read. passed (get_or ks j d) (all j d within) read)
     (λ unread. let le : first ≤ j =
@@ -309,13 +309,6 @@ unwanted-unread q h masks test known ks first j d among all unasked begins below
     (λ apart. of-other-handle q h masks test known (get_or ks j d) among (all j d within) apart)
     (cases_Bool ((get_or ks j d).handle == known.handle))
   where
-    gone : (k : Kept) → IsKept q h k → k.is_out ≡ true → (same_key known.key k.sample.key && is_wanted q h masks test k) ≡ false
-    gone k kept out =
-        ap (λ (b : Bool). same_key known.key k.sample.key && ((not b && (is_kept_write q h k.sample.key k.sample.position
-        || is_at (last_marker q k.sample.key h) k.sample.position)) && is_asked_for q h masks test k.sample))
-        (sym kept.out_is ∙ out)
-        ∙ and_right (same_key known.key k.sample.key) false refl
-
     passed : (k : Kept) → IsKept q h k → k.is_read ≡ true → (same_key known.key k.sample.key && is_wanted q h masks test k) ≡ false
     passed k kept read =
         ap (λ (b : Bool). same_key known.key k.sample.key && (is_present q h k.sample.key k.sample.position

@@ -1,8 +1,8 @@
 -- What is kept of a sample stays true of it, and says whether it is present.
-use Rattle.std.proofs.Common.{◌≡◌, ℕ, ◌+◌, ◌-◌, List, [], ◌∷◌, length, Bool, true, false, not, ◌&&◌, ◌||◌, sym, ap, ◌∙◌, refl, subst, Option, Some, None, arith}
+use Rattle.std.proofs.Common.{◌≡◌, ℕ, ◌+◌, ◌-◌, List, [], ◌∷◌, length, Bool, true, false, not, ◌&&◌, ◌||◌, sym, ap, ◌∙◌, refl, subst, Option, Some, None, arith, ⊎_elim}
 use Rattle.std.specs.Prelude.{if◌then◌else◌, is_some, IfSome, MatchOption}
 use Rattle.std.specs.List.{list_any}
-use Rattle.std.proofs.lemmas.Bool.{and_parts}
+use Rattle.std.proofs.lemmas.Bool.{cases_Bool, or_cases, or_from, or_parts}
 use Rattle.dds_base.specs.declared.key.Key.{Key}
 use Rattle.dds_base.specs.declared.happening.Arrival.{Arrival}
 use Rattle.dds_base.specs.declared.happening.Happening.TheVariants.{Came}
@@ -22,9 +22,9 @@ use Rattle.dds_instances.specs.declared.known.KnownInstance.{KnownInstance}
 use Rattle.dds_instances.specs.Known.{IsKnown, writes_in_life}
 use Rattle.dds_instances.proofs.KnownLaws.{known}
 use Rattle.dds_cache.specs.declared.kept.Kept.{Kept}
-use Rattle.dds_cache.specs.Kept.{IsKept, IsOf, IsFresh, is_live, is_live_by, sample_at, value_if}
+use Rattle.dds_cache.specs.Kept.{IsKept, IsOf, IsFresh, is_live, is_live_by, out_if, sample_at, value_if}
 use Rattle.dds_cache.proofs.EndLaws.{known-lives}
-use Rattle.dds_cache.proofs.PresenceLaws.{unstated}
+use Rattle.dds_cache.proofs.PresenceLaws.{absent-after, unstated}
 
 -- some kept sample, of which nothing is said but which it is
 pub some_kept : SamplePosition → Kept
@@ -50,10 +50,6 @@ number-next : (ends : Bool) (more all own past number : ℕ) → ends ≡ false 
 number-next true more all own past number is before = absurd (let clash : true ≡ false = is in cc)
 number-next false more all own past number is before = omega (arith, before)
 
-or-false : (a b : Bool) → (a || b) ≡ false → b ≡ false
-or-false true b e = absurd cc
-or-false false b e = e
-
 -- of an instance that is still known
 pub kept-next : (q : ReaderQos) (e : Happening) (h : List Happening) (k : Kept) (r o : Bool) (v : List ℕ)
     → is_known q (e ∷ h) k.sample.key ≡ true → r ≡ (list_any (same_sample k.sample) (read_by e) || k.is_read)
@@ -73,7 +69,13 @@ kept-next q e h k r o v lives read_is out_is value_is kept =
           number-next (ends_life q i h e) (if is_write (accepted_kind q i h e) then 1 else 0) _ _ _ k.number
           (known-lives q e h i lives) kept.numbered
           ∙ ap (λ (g : List Happening). writes_in_life q i (e ∷ h) + accepted_writes q i g) (sym older);
-      out_is = out_is ∙ ap (λ (b : Bool). list_any (same_sample k.sample) (taken_by e) || b) kept.out_is;
+      out_is = λ out. ⊎_elim
+          (λ taken. absent (ap (λ (b : Bool). b || is_taken k.sample h) taken))
+          (λ gone. absent-after q e h i k.sample.position kept.in_past (kept.out_is gone))
+          (or_cases (list_any (same_sample k.sample) (taken_by e)) k.is_out (sym out_is ∙ out));
+      in_is = λ stays.
+          let others = or_parts (list_any (same_sample k.sample) (taken_by e)) k.is_out (sym out_is ∙ stays) in
+          or_from (list_any (same_sample k.sample) (taken_by e)) (is_taken k.sample h) others.0 (kept.in_is others.1);
       read_is = read_is ∙ ap (λ (b : Bool). list_any (same_sample k.sample) (read_by e) || b) kept.read_is;
       is_of =
           record {
@@ -85,9 +87,35 @@ kept-next q e h k r o v lives read_is out_is value_is kept =
             publication_is = past.publication_is;
             value_is =
                 λ stays. value_is stays
-                ∙ past.value_is (or-false (list_any (same_sample k.sample) (taken_by e)) k.is_out (sym out_is ∙ stays));
+                ∙ past.value_is
+                (or_parts (list_any (same_sample k.sample) (taken_by e)) k.is_out (sym out_is ∙ stays)).1;
           };
     }
+  where
+    absent : is_taken k.sample (e ∷ h) ≡ true → is_present q (e ∷ h) k.sample.key k.sample.position ≡ false
+    absent taken = ap (λ (b : Bool). not b && (is_kept_write q (e ∷ h) k.sample.key k.sample.position
+        || is_at (last_marker q k.sample.key (e ∷ h)) k.sample.position)) taken
+
+-- one that is not present may be marked as gone
+pub kept-let : (q : ReaderQos) (h : List Happening) (k : Kept) → IsKept q h k
+    → is_present q h k.sample.key k.sample.position ≡ false → IsKept q h (out_if true k)
+kept-let q h k kept absent = record {
+  in_past = kept.in_past;
+  is_known = kept.is_known;
+  handle_is = kept.handle_is;
+  read_is = kept.read_is;
+  out_is = λ _. absent;
+  in_is = λ stays. absurd (let clash : true ≡ false = stays in cc);
+  numbered = kept.numbered;
+  is_of = record {
+    valid_is = kept.is_of.valid_is;
+    disposed_is = kept.is_of.disposed_is;
+    no_writers_is = kept.is_of.no_writers_is;
+    timestamp_is = kept.is_of.timestamp_is;
+    publication_is = kept.is_of.publication_is;
+    value_is = λ stays. absurd (let clash : true ≡ false = stays in cc);
+  };
+}
 
 -- ---- whether a kept sample is present
 
@@ -100,21 +128,30 @@ live-by-present q h k kept =
     let j : ℕ = k.sample.position in
     let later : writes_in_life q i h - k.number ≡ accepted_writes q i h - accepted_writes q i (as_of j h) =
     omega (arith, kept.numbered) in
-    ap (λ (b : Bool). not k.is_out && ((b && keeps q.history (writes_in_life q i h - k.number))
+    ⊎_elim
+    (λ out. ap (λ (b : Bool). not b && ((k.valid_data && keeps q.history (writes_in_life q i h - k.number))
+    || is_at (last_marker q i h) j)) out
+    ∙ sym (kept.out_is out))
+    (λ stays. ap (λ (b : Bool). not k.is_out && ((b && keeps q.history (writes_in_life q i h - k.number))
     || is_at (last_marker q i h) j)) kept.is_of.valid_is
     ∙ (ap (λ (n : ℕ). not k.is_out && ((ends_with_write q i (as_of j h) && keeps q.history n)
     || is_at (last_marker q i h) j)) later
-    ∙ ap (λ (b : Bool). not b && (is_kept_write q h i j || is_at (last_marker q i h) j)) kept.out_is)
+    ∙ ap (λ (b : Bool). not b && (is_kept_write q h i j || is_at (last_marker q i h) j))
+    (stays ∙ sym (kept.in_is stays))))
+    (cases_Bool k.is_out)
 
 pub not-true : (b : Bool) → not b ≡ true → b ≡ false
 not-true true e = absurd (let clash : false ≡ true = e in cc)
 not-true false e = refl
 
--- no take returned a kept sample that is present
+-- a kept sample that is present is not gone
 pub present-in : (q : ReaderQos) (h : List Happening) (k : Kept) → IsKept q h k
     → is_present q h k.sample.key k.sample.position ≡ true → k.is_out ≡ false
 present-in q h k kept present =
-    kept.out_is ∙ not-true (is_taken k.sample h) (and_parts (not (is_taken k.sample h)) _ present).0
+    ⊎_elim
+    (λ out. absurd (let clash : true ≡ false = sym present ∙ kept.out_is out in cc))
+    (λ stays. stays)
+    (cases_Bool k.is_out)
 
 -- what is known of an instance says of a kept sample of it whether it is live
 pub live-known : (q : ReaderQos) (h : List Happening) (known : KnownInstance) (k : Kept) → IsKnown q h known
@@ -181,10 +218,10 @@ kept-newest q e h i known_is k taken read fresh sample stays is_known key newest
           ap (λ (x : Key). list_any (λ y. same_key y x) (known_instances q (e ∷ h))) (key_is ∙ sym key)
           ∙ known-stated q (e ∷ h) known_is.key known_is.state is_known.state_is;
       handle_is = newest.handle_is;
-      out_is =
-          stays
-          ∙ sym (ap (λ (ss : List SamplePosition). list_any (same_sample k.sample) ss || is_taken k.sample h) taken
-          ∙ (ap (λ (s : SamplePosition). is_taken s h) sample ∙ fresh.untaken));
+      out_is = λ out. absurd (let clash : true ≡ false = sym out ∙ stays in cc);
+      in_is = λ _.
+          ap (λ (ss : List SamplePosition). list_any (same_sample k.sample) ss || is_taken k.sample h) taken
+          ∙ (ap (λ (s : SamplePosition). is_taken s h) sample ∙ fresh.untaken);
       read_is =
           newest.read_is
           ∙ sym (ap (λ (ss : List SamplePosition). list_any (same_sample k.sample) ss || is_read k.sample h) read

@@ -3,6 +3,7 @@ pub mod RiseLaws
 pub mod EndLaws
 pub mod KeptLaws
 pub mod StandingLaws
+pub mod PushLaws
 pub mod GroupLaws
 pub mod FindingLaws
 pub mod FirstLaws

@@ -2,7 +2,7 @@
 use Rattle.std.proofs.Common.{◌≡◌, ℕ, ◌+◌, ◌-◌, ◌≤◌, ◌<◌, List, [], ◌∷◌, ◌++◌, length, map, filter, Bool, true, false, not, ◌&&◌, ◌||◌, sym, ap, ◌∙◌, refl, cond, Option, Some, None, arith, zero, suc, add-one, ⊎_elim}
 use Rattle.std.specs.Prelude.{if◌then◌else◌, nat_le}
 use Rattle.std.specs.List.{list_any, All}
-use Rattle.std.proofs.lemmas.Bool.{and_right, cases_Bool, lt-ltb, ltb-true, eqb-true, and_parts, or_cases}
+use Rattle.std.proofs.lemmas.Bool.{and_right, cases_Bool, lt-ltb, ltb-true, eqb-true, and_parts, or_cases, or_right}
 use Rattle.std.proofs.lemmas.List.{map-append}
 use Rattle.std.proofs.lemmas.List.Elements.{filter-append, All-head, All-tail, All-nil, All-push, All-weaker}
 use Rattle.dds_base.specs.declared.key.Key.{Key}
@@ -140,13 +140,9 @@ present-before q e h i j older is =
     ∙ ap (λ (b : Bool). b || is_at (last_marker q i h) j)
     (keeps-fewer q.history (later_writes q h i j) (accepted_writes q i (e ∷ h) - accepted_writes q i (as_of j h))
     (omega (arith, more)) later))
-    (λ at. or-right (is_kept_write q h i j) (is_at (last_marker q i h) j) (marker-before q e h i j older at))
+    (λ at. or_right (is_kept_write q h i j) (is_at (last_marker q i h) j) (marker-before q e h i j older at))
     (or_cases (is_kept_write q (e ∷ h) i j) (is_at (reached q i h e) j) parts.1)
   where
-    or-right : (a b : Bool) → b ≡ true → (a || b) ≡ true
-    or-right true b is = refl
-    or-right false b is = is
-
     marker-before : (q : ReaderQos) (e : Happening) (h : List Happening) (i : Key) (j : ℕ) → j ≤ length h
         → is_at (reached q i h e) j ≡ true → is_at (last_marker q i h) j ≡ true
     marker-before q e h i j older is =
@@ -157,6 +153,15 @@ present-before q e h i j older is =
         (λ unmarked. sym (ap (λ (b : Bool). is_at (if b then Some (length h + 1) else last_marker q i h) j) unmarked)
         ∙ is)
         (cases_Bool (marks q i h e))
+
+-- so what is not present of the past is not so after one more entry either
+pub absent-after : (q : ReaderQos) (e : Happening) (h : List Happening) (i : Key) (j : ℕ) → j ≤ length h
+    → is_present q h i j ≡ false → is_present q (e ∷ h) i j ≡ false
+absent-after q e h i j older gone =
+    ⊎_elim
+    (λ is. absurd (let clash : true ≡ false = sym (present-before q e h i j older is) ∙ gone in cc))
+    (λ none. none)
+    (cases_Bool (is_present q (e ∷ h) i j))
 
 -- an entry that is no write of i and marks nothing leaves no sample of it
 pub newest-absent : (q : ReaderQos) (e : Happening) (h : List Happening) (i : Key)

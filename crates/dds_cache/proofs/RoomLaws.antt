@@ -2,7 +2,7 @@
 use Rattle.std.proofs.Common.{◌≡◌, ℕ, ◌+◌, ◌-◌, ◌^◌, ◌≤◌, ◌<◌, min, List, [], ◌∷◌, ◌++◌, length, filter, Bool, true, false, not, ◌==◌, ◌&&◌, ◌||◌, sym, ap, ◌∙◌, refl, subst, cond, Option, Some, None, arith, ⊎_elim}
 use Rattle.std.specs.Prelude.{if◌then◌else◌}
 use Rattle.std.specs.List.{list_any, All, count_by}
-use Rattle.std.proofs.lemmas.Bool.{and_parts, cases_Bool, le-leb, leb-true, lt-ltb}
+use Rattle.std.proofs.lemmas.Bool.{and_from, and_parts, cases_Bool, le-leb, leb-true, lt-ltb}
 use Rattle.std.proofs.lemmas.Bool.Decides.{nat_tests}
 use Rattle.std.proofs.lemmas.List.{append-nil, length-append}
 use Rattle.std.proofs.lemmas.List.Sums.{sum_by-append, sum_by-cons, length-filter}
@@ -29,11 +29,11 @@ use Rattle.dds_instances.specs.Known.{IsKnown, writes_in_life}
 use Rattle.dds_instances.specs.Track.{one_if}
 use Rattle.dds_instances.proofs.KnownLaws.{known}
 use Rattle.dds_cache.specs.declared.kept.Kept.{Kept}
-use Rattle.dds_cache.specs.Kept.{Adds, IsFresh, IsKept, IsKeptAt, IsOf, has_data, is_in, positions_in, sample_at, was_taken}
+use Rattle.dds_cache.specs.Kept.{Adds, IsFresh, IsKept, IsKeptAt, IsOf, has_data, positions_in, sample_at}
 use Rattle.dds_cache.specs.Room.{is_present_write, is_write_after}
 use Rattle.dds_cache.specs.Sweeping.{stays}
 use Rattle.dds_cache.proofs.EndLaws.{known-accepted, short}
-use Rattle.dds_cache.proofs.PresenceLaws.{count-grew, ended-absent, filter-narrow, present-reached, reached, unmarked-other}
+use Rattle.dds_cache.proofs.PresenceLaws.{absent-after, count-grew, ended-absent, filter-narrow, present-reached, reached, unmarked-other}
 use Rattle.dds_cache.proofs.StandingLaws.{adds-nothing, adds-one, each-after, present-after}
 use Rattle.dds_cache.proofs.SweepLaws.{Leaves, apart-quiet, leaves-swept, present-stays, ripe-one}
 use Rattle.dds_cache.proofs.GroupLaws.{unequal}
@@ -89,7 +89,12 @@ write-next q a h known k is_known key kept =
     let at : (not m && is_at known.last_marker j) ≡ is_at m' j =
     ap (λ (x : Option ℕ). not m && is_at x j) marker ∙ sym (marker-older q e h i j kept.in_past) in
     let valid : k.valid_data ≡ ends_with_write q i (as_of j h) = kept.is_of.valid_is in
-    ap (λ (n : ℕ). not k.is_out && (k.valid_data && (keeps q.history n || (not m && is_at known.last_marker j)))) later
+    ⊎_elim
+    (λ out. ap (λ (b : Bool). not b && (k.valid_data && (keeps q.history
+    ((known.accepted_writes - k.number) + one_if w) || (not m && is_at known.last_marker j)))) out
+    ∙ sym (ap (λ (b : Bool). b && ends_with_write q i (as_of j (e ∷ h)))
+    (absent-after q e h i j kept.in_past (kept.out_is out))))
+    (λ stays. ap (λ (n : ℕ). not k.is_out && (k.valid_data && (keeps q.history n || (not m && is_at known.last_marker j)))) later
     ∙ (ap (λ (b : Bool). not k.is_out && (k.valid_data && (keeps q.history
     (accepted_writes q i (e ∷ h) - accepted_writes q i (as_of j h)) || b))) at
     ∙ (ap (λ (b : Bool). not k.is_out && (b && (keeps q.history
@@ -100,9 +105,10 @@ write-next q a h known k is_known key kept =
     && ((ends_with_write q i g && keeps q.history (accepted_writes q i (e ∷ h) - accepted_writes q i g)) || is_at m' j))
     && ends_with_write q i g) (sym past)
     ∙ (ap (λ (b : Bool). (not b && (is_kept_write q (e ∷ h) i j || is_at m' j))
-    && ends_with_write q i (as_of j (e ∷ h))) kept.out_is
+    && ends_with_write q i (as_of j (e ∷ h))) (stays ∙ sym (kept.in_is stays))
     ∙ sym (ap (λ (b : Bool). b && ends_with_write q i (as_of j (e ∷ h)))
-    (present-reached q e h i j (omega (arith, kept.in_past)))))))))
+    (present-reached q e h i j (omega (arith, kept.in_past))))))))))
+    (cases_Bool k.is_out)
 
 -- the same, by whether the change is of its instance
 pub write-after : (q : ReaderQos) (a : Arrival) (h : List Happening) (known : KnownInstance) (k : Kept) (w m : Bool)
@@ -136,7 +142,7 @@ keep-table false true m = refl
 keep-table false false true = refl
 keep-table false false false = refl
 
--- where the history keeps all, a kept sample is a present write after an entry if it has data, and no take returned it
+-- where the history keeps all, a kept sample is a present write after an entry if it has data, and is not gone
 write-kept : (q : ReaderQos) (e : Happening) (h : List Happening) (k : Kept) → q.history ≡ KeepAll → taken_by e ≡ []
     → IsKept q h k → is_present_write q (e ∷ h) k ≡ has_data k
 write-kept q e h k all untaken kept =
@@ -145,16 +151,20 @@ write-kept q e h k all untaken kept =
     let past : as_of j (e ∷ h) ≡ as_of j h = as_of-older e h j kept.in_past in
     let w : Bool = ends_with_write q i (as_of j (e ∷ h)) in
     let m : Option ℕ = reached q i h e in
-    let out : is_taken k.sample (e ∷ h) ≡ k.is_out =
+    let out : k.is_out ≡ false → is_taken k.sample (e ∷ h) ≡ k.is_out = λ stays.
     ap (λ (ss : List SamplePosition). list_any (same_sample k.sample) ss || is_taken k.sample h) untaken
-    ∙ sym kept.out_is in
-    ap (λ (b : Bool). b && w) (present-reached q e h i j (omega (arith, kept.in_past)))
+    ∙ (kept.in_is stays ∙ sym stays) in
+    ⊎_elim
+    (λ gone. ap (λ (b : Bool). b && w) (absent-after q e h i j kept.in_past (kept.out_is gone))
+    ∙ sym (ap (λ (b : Bool). not b && k.valid_data) gone))
+    (λ stays. ap (λ (b : Bool). b && w) (present-reached q e h i j (omega (arith, kept.in_past)))
     ∙ (ap (λ (history : HistoryQos). (not (is_taken k.sample (e ∷ h))
     && ((w && keeps history (later_writes q (e ∷ h) i j)) || is_at m j)) && w) all
     ∙ (keep-table (is_taken k.sample (e ∷ h)) w (is_at m j)
-    ∙ (ap (λ (b : Bool). not b && w) out
+    ∙ (ap (λ (b : Bool). not b && w) (out stays)
     ∙ (ap (λ (g : List Happening). not k.is_out && ends_with_write q i g) past
-    ∙ ap (λ (b : Bool). not k.is_out && b) (sym kept.is_of.valid_is)))))
+    ∙ ap (λ (b : Bool). not k.is_out && b) (sym kept.is_of.valid_is))))))
+    (cases_Bool k.is_out)
 
 -- so as many are present writes after a change as have data
 pub writes-all : (q : ReaderQos) (a : Arrival) (h : List Happening) (ks : List Kept) → q.history ≡ KeepAll
@@ -205,7 +215,8 @@ newest-kept q a h fresh known present =
         in_past = omega arith;
         is_known = known;
         handle_is = refl;
-        out_is = sym fresh.untaken;
+        out_is = λ out. absurd (let clash : false ≡ true = out in cc);
+        in_is = λ _. fresh.untaken;
         read_is = sym fresh.unread;
         numbered =
             (let sum : accepted_writes q a.change.key g + writes_in_life q a.change.key g
@@ -357,41 +368,34 @@ fewer-kept p r (k ∷ ks) wider =
     omega (arith, left, right, one, rest)
 
 -- each kept sample was taken or was not
-pub taken-or-in : (ks : List Kept) → count_by was_taken ks + count_by is_in ks ≡ length ks
-taken-or-in [] = omega arith
-taken-or-in (k ∷ ks) =
-    let outs : count_by was_taken (k ∷ ks) ≡ cond (was_taken k) 1 0 + count_by was_taken ks =
-    sum_by-cons (λ x. cond (was_taken x) 1 0) k ks in
-    let ins : count_by is_in (k ∷ ks) ≡ cond (is_in k) 1 0 + count_by is_in ks =
-    sum_by-cons (λ x. cond (is_in x) 1 0) k ks in
-    let rest = taken-or-in ks in
-    let one : cond {A = ℕ} (was_taken k) 1 0 + cond {A = ℕ} (is_in k) 1 0 ≡ 1 = either k.is_out in
-    omega (arith, outs, ins, one, rest)
-  where
-    either : (b : Bool) → cond {A = ℕ} b 1 0 + cond {A = ℕ} (not b) 1 0 ≡ 1
-    either true = omega arith
-    either false = omega arith
-
--- no take returned a write that is present after a change
+-- a write that is present after a change is not gone, and has data
 writes-in : (q : ReaderQos) (a : Arrival) (h : List Happening) (k : Kept) → IsKept q h k
-    → is_present_write q (Came a ∷ h) k ≡ true → is_in k ≡ true
+    → is_present_write q (Came a ∷ h) k ≡ true → has_data k ≡ true
 writes-in q a h k kept is =
-    let there = (and_parts (is_present q (Came a ∷ h) k.sample.key k.sample.position) _ is).0 in
-    ap (λ (b : Bool). not b) kept.out_is ∙ (and_parts (not (is_taken k.sample (Came a ∷ h))) _ there).0
+    let parts = and_parts (is_present q (Came a ∷ h) k.sample.key k.sample.position) _ is in
+    and_from (not k.is_out) k.valid_data
+    (⊎_elim
+    (λ out. absurd (let clash : true ≡ false = sym parts.0
+    ∙ absent-after q (Came a) h k.sample.key k.sample.position kept.in_past (kept.out_is out) in cc))
+    (λ stays. ap (λ (b : Bool). not b) stays)
+    (cases_Bool k.is_out))
+    (kept.is_of.valid_is
+    ∙ (ap (λ (g : List Happening). ends_with_write q k.sample.key g)
+    (sym (as_of-older (Came a) h k.sample.position kept.in_past)) ∙ parts.1))
 
--- with fewer samples than may be present that no take returned, there is room for one more
+-- with fewer samples than may be present that have data and are not gone, there is room for one more
 pub spare-fits : (q : ReaderQos) (a : Arrival) (h : List Happening) (ks : List Kept) → All (IsKept q h) ks
     → ((i : Key) → filter (is_present q h i) (up_to (length h)) ≡ positions_in q h i ks) → IsFresh h a.change.key
-    → is_accepted q h (Came a) ≡ true → is_within q.max_samples (count_by is_in ks + 1) ≡ true
+    → is_accepted q h (Came a) ≡ true → is_within q.max_samples (count_by has_data ks + 1) ≡ true
     → is_within q.max_samples (present_writes q (Came a ∷ h)) ≡ true
 spare-fits q a h ks each present fresh accepted within =
     let count = writes-after q a h ks each present fresh accepted in
-    let few : count_by (is_present_write q (Came a ∷ h)) ks ≤ count_by is_in ks =
-    fewer-kept (is_present_write q (Came a ∷ h)) is_in ks
-    (All-weaker (IsKept q h) (λ (k : Kept). is_present_write q (Came a ∷ h) k ≡ true → is_in k ≡ true)
+    let few : count_by (is_present_write q (Came a ∷ h)) ks ≤ count_by has_data ks =
+    fewer-kept (is_present_write q (Came a ∷ h)) has_data ks
+    (All-weaker (IsKept q h) (λ (k : Kept). is_present_write q (Came a ∷ h) k ≡ true → has_data k ≡ true)
     (λ k kept. writes-in q a h k kept) ks each) in
     let one = at-most-one (leaves_write q a h) in
-    within-less q.max_samples (present_writes q (Came a ∷ h)) (count_by is_in ks + 1) (omega (arith, count, few, one))
+    within-less q.max_samples (present_writes q (Came a ∷ h)) (count_by has_data ks + 1) (omega (arith, count, few, one))
     within
   where
     at-most-one : (b : Bool) → one_if b ≤ 1
@@ -422,7 +426,7 @@ instances-spare q a h before counted within =
 pub spare-is-room : (q : ReaderQos) (a : Arrival) (h : List Happening) (ks : List Kept) (came known : ℕ)
     → All (IsKept q h) ks → ((i : Key) → filter (is_present q h i) (up_to (length h)) ≡ positions_in q h i ks)
     → IsFresh h a.change.key → came ≡ min (arrivals h) (2 ^ 31 - 1) → came < 2 ^ 31 - 2
-    → known ≡ length (known_instances q h) → is_within q.max_samples (count_by is_in ks + 1) ≡ true
+    → known ≡ length (known_instances q h) → is_within q.max_samples (count_by has_data ks + 1) ≡ true
     → is_within q.max_instances (known + 1) ≡ true → true ≡ has_room q h (Came a)
 spare-is-room q a h ks came known each present fresh counted few known_is samples instances =
     sym (ap (λ (b : Bool). b && fits (is_accepted q h (Came a))) (lt-ltb (arrivals h + 1) (2 ^ 31 - 1)

@@ -357,7 +357,7 @@ holds-took q ss h before table known ks counted stands kept =
     (λ i. positions-marked q (e ∷ h) i (taken ss) ks (λ k. refl)))
     (adds-none q e h left (λ i. quiet-absent q e h i refl refl)) kept
 
--- those that takes returned can be let go
+-- those that are gone can be swept out
 pub holds-in : (q : ReaderQos) (table : Table) (h : List Happening) (ks left : List Kept) → AreIn ks left
     → Holds q table ks h → Holds q table left h
 holds-in q table h ks left are kept =

@@ -13,7 +13,7 @@ use Rattle.dds_cache.specs.declared.chains.Chains.{Chains}
 use Rattle.dds_cache.specs.declared.summary.Summary.{Summary}
 use Rattle.dds_cache.specs.declared.kept.Kept.{Kept}
 use Rattle.dds_cache.proofs.ChainLaws.{chains-set}
-use Rattle.dds_cache.specs.Kept.{IsSummary, IsUnasked, has_data, is_in, out_if, read_if, was_read, was_taken}
+use Rattle.dds_cache.specs.Kept.{IsSummary, IsUnasked, has_data, is_in, out_if, read_if, was_read, is_gone}
 
 -- a sample was read, or is gone, or neither
 at-most : (out read : Bool) → cond {A = ℕ} (not out && read) 1 0 + cond out 1 0 ≤ 1
@@ -22,26 +22,26 @@ at-most false true = omega arith
 at-most false false = omega arith
 
 -- no more were read, or are gone, than there are
-few-counted : (ks : List Kept) → count_by was_read ks + count_by was_taken ks ≤ length ks
+few-counted : (ks : List Kept) → count_by was_read ks + count_by is_gone ks ≤ length ks
 few-counted [] = grind arith
 few-counted (k ∷ ks) =
     let reads : count_by was_read (k ∷ ks) ≡ cond (was_read k) 1 0 + count_by was_read ks =
     sum_by-cons (λ x. cond (was_read x) 1 0) k ks in
-    let outs : count_by was_taken (k ∷ ks) ≡ cond (was_taken k) 1 0 + count_by was_taken ks =
-    sum_by-cons (λ x. cond (was_taken x) 1 0) k ks in
+    let outs : count_by is_gone (k ∷ ks) ≡ cond (is_gone k) 1 0 + count_by is_gone ks =
+    sum_by-cons (λ x. cond (is_gone x) 1 0) k ks in
     let few = few-counted ks in
     let one : cond {A = ℕ} (not k.is_out && k.is_read) 1 0 + cond k.is_out 1 0 ≤ 1 = at-most k.is_out k.is_read in
     omega (arith, reads, outs, few, one)
 
 -- where as many were read, or are gone, as there are, each of the others was read
-all-counted : (ks : List Kept) → length ks ≤ count_by was_read ks + count_by was_taken ks
+all-counted : (ks : List Kept) → length ks ≤ count_by was_read ks + count_by is_gone ks
     → All (λ (k : Kept). k.is_out ≡ false → k.is_read ≡ true) ks
 all-counted [] many = All-nil (λ (k : Kept). k.is_out ≡ false → k.is_read ≡ true)
 all-counted (k ∷ ks) many =
     let reads : count_by was_read (k ∷ ks) ≡ cond (was_read k) 1 0 + count_by was_read ks =
     sum_by-cons (λ x. cond (was_read x) 1 0) k ks in
-    let outs : count_by was_taken (k ∷ ks) ≡ cond (was_taken k) 1 0 + count_by was_taken ks =
-    sum_by-cons (λ x. cond (was_taken x) 1 0) k ks in
+    let outs : count_by is_gone (k ∷ ks) ≡ cond (is_gone k) 1 0 + count_by is_gone ks =
+    sum_by-cons (λ x. cond (is_gone x) 1 0) k ks in
     let few = few-counted ks in
     ⊎_elim
     (λ was. All-cons (λ (x : Kept). x.is_out ≡ false → x.is_read ≡ true) k ks (λ stays. was)
@@ -76,7 +76,7 @@ unasked-read mask ks summary counted all unasked =
     All-weaker (λ (k : Kept). k.is_out ≡ false → k.is_read ≡ true) (IsUnasked mask)
     (λ k was stays. ap (λ (b : Bool). asks_for_sample_state mask (if b then HasBeenRead else NotRead)) (was stays)
     ∙ unasked) ks
-    (all-counted ks (omega (arith, all, counted.reads, counted.outs, count_by-le-length was_taken ks)))
+    (all-counted ks (omega (arith, all, counted.reads, counted.outs, count_by-le-length is_gone ks)))
 
 -- and one that does not ask for those that were not asks for none, where none was
 pub unasked-unread : (mask : SampleStateMask) (ks : List Kept) (summary : Summary) → IsSummary ks summary
@@ -107,9 +107,9 @@ counted-more ks k old new unread stays counted outs reads writes chains =
     ap (λ (b : Bool). cond (not b && k.is_read) 1 0) stays ∙ ap (λ (b : Bool). cond b 1 0) unread in
     let own : cond {A = ℕ} (has_data k) 1 0 ≡ cond k.valid_data 1 0 =
     ap (λ (b : Bool). cond (not b && k.valid_data) 1 0) stays in
-    let none : cond {A = ℕ} (was_taken k) 1 0 ≡ 0 = ap (λ (b : Bool). cond b 1 0) stays in
-    let more_outs : count_by was_taken (ks ++ k ∷ []) ≡ count_by was_taken ks + cond (was_taken k) 1 0 =
-    sum_by_push (λ x. cond (was_taken x) 1 0) ks k in
+    let none : cond {A = ℕ} (is_gone k) 1 0 ≡ 0 = ap (λ (b : Bool). cond b 1 0) stays in
+    let more_outs : count_by is_gone (ks ++ k ∷ []) ≡ count_by is_gone ks + cond (is_gone k) 1 0 =
+    sum_by_push (λ x. cond (is_gone x) 1 0) ks k in
     let more : count_by was_read (ks ++ k ∷ []) ≡ count_by was_read ks + cond (was_read k) 1 0 =
     sum_by_push (λ x. cond (was_read x) 1 0) ks k in
     let more_data : count_by has_data (ks ++ k ∷ []) ≡ count_by has_data ks + cond (has_data k) 1 0 =
@@ -135,9 +135,9 @@ pub counted-read : (ks : List Kept) (at : ℕ) (k v : Kept) (old new : Summary) 
     → new.chains ≡ old.chains → IsSummary (set ks at v) new
 counted-read ks at k v old new within is marked counted outs reads writes chains = record {
   outs =
-      (let change = one-changed was_taken ks at k v within is in
-      let same : cond {A = ℕ} (was_taken v) 1 0 ≡ cond (was_taken k) 1 0 =
-      ap (λ (x : Kept). cond (was_taken x) 1 0) marked in
+      (let change = one-changed is_gone ks at k v within is in
+      let same : cond {A = ℕ} (is_gone v) 1 0 ≡ cond (is_gone k) 1 0 =
+      ap (λ (x : Kept). cond (is_gone x) 1 0) marked in
       omega (arith, outs, counted.outs, change, same));
   reads =
       (let change = one-changed was_read ks at k v within is in
@@ -170,9 +170,9 @@ pub counted-out : (ks : List Kept) (at : ℕ) (k v : Kept) (old new : Summary) �
     → new.chains ≡ old.chains → IsSummary (set ks at v) new
 counted-out ks at k v old new within is marked counted outs reads writes chains = record {
   outs =
-      (let change = one-changed was_taken ks at k v within is in
-      let now : cond {A = ℕ} (was_taken v) 1 0 ≡ cond (was_taken k) 1 0 + (if is_in k then 1 else 0) =
-      ap (λ (x : Kept). cond (was_taken x) 1 0) marked ∙ table k.is_out in
+      (let change = one-changed is_gone ks at k v within is in
+      let now : cond {A = ℕ} (is_gone v) 1 0 ≡ cond (is_gone k) 1 0 + (if is_in k then 1 else 0) =
+      ap (λ (x : Kept). cond (is_gone x) 1 0) marked ∙ table k.is_out in
       omega (arith, outs, counted.outs, change, now));
   reads =
       (let change = one-changed was_read ks at k v within is in

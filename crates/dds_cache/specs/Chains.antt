@@ -12,12 +12,12 @@ abbrev pub AreOthers : List Kept → ℕ → ℕ → ℕ → Type 0
 AreOthers ks n behind before = (at : ℕ) (d : Kept) → behind < at → at < before → at < length ks
     → (get_or ks at d).handle ≢ n
 
--- a place has none before it of the kept samples of an instance, but for those that takes returned
+-- a place has none before it of the kept samples of an instance, but for those that are gone
 abbrev pub IsFirst : List Kept → ℕ → ℕ → Type 0
 IsFirst ks n first = (at : ℕ) (d : Kept) → at < length ks → (get_or ks at d).handle ≡ n
     → (get_or ks at d).is_out ≡ false → first ≤ at
 
--- a place has none before it of the kept samples of an instance, but for those that reads or takes returned
+-- a place has none before it of the kept samples of an instance, but for those that are gone, or were read
 abbrev pub IsFirstUnread : List Kept → ℕ → ℕ → Type 0
 IsFirstUnread ks n first = (at : ℕ) (d : Kept) → at < length ks → (get_or ks at d).handle ≡ n
     → (get_or ks at d).is_out ≡ false → (get_or ks at d).is_read ≡ false → first ≤ at
@@ -26,7 +26,7 @@ IsFirstUnread ks n first = (at : ℕ) (d : Kept) → at < length ks → (get_or 
 abbrev pub IsLast : List Kept → ℕ → ℕ → Type 0
 IsLast ks n last = (at : ℕ) (d : Kept) → at < length ks → (get_or ks at d).handle ≡ n → at ≤ last
 
--- between these places are the kept samples of an instance, but for those that takes returned, or reads
+-- between these places are the kept samples of an instance, but for those that are gone, or were read
 pub record IsSpan (ks : List Kept) (n : ℕ) (span : Span) : Type 0 where
   pub within : span.last < length ks
   pub own : (d : Kept) → (get_or ks span.last d).handle ≡ n

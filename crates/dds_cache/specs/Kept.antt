@@ -2,7 +2,7 @@
 -- here has to be believed.
 --
 -- DDS 1.4, 2.2.2.5 (SampleInfo), 2.2.3 (HISTORY); RTPS 2.5, 8.2 (HistoryCache of a reader).
-use Rattle.std.specs.Prelude.{◌≡◌, ℕ, ◌+◌, ◌-◌, ◌≤◌, List, [], ◌∷◌, ◌++◌, All, if◌then◌else◌, length, Bool, true, false, ◌&&◌, ◌||◌, map, filter, not, IsTrue, Option, MatchOption}
+use Rattle.std.specs.Prelude.{◌≡◌, ℕ, ◌+◌, ◌-◌, ◌≤◌, List, [], ◌∷◌, ◌++◌, All, if◌then◌else◌, length, get_or, set, Bool, true, false, ◌&&◌, ◌||◌, map, filter, not, IsTrue, Option, MatchOption}
 use Rattle.std.specs.List.{list_any, count_by}
 use Rattle.dds_base.specs.declared.key.Key.{Key}
 use Rattle.dds_base.specs.declared.happening.SamplePosition.{SamplePosition}
@@ -26,7 +26,7 @@ use Rattle.dds_instances.specs.declared.known.KnownInstance.{KnownInstance}
 abbrev pub sample_at : Key → ℕ → SamplePosition
 sample_at i j = record { key = i; position = j }
 
--- what is kept of a sample by what had happened when its entry was the newest; its value, unless a take has given it away
+-- what is kept of a sample by what had happened when its entry was the newest; its value, unless it is gone
 pub record IsOf (q : ReaderQos) (past : List Happening) (k : Kept) : Type 0 where
   pub valid_is : k.valid_data ≡ ends_with_write q k.sample.key past
   pub disposed_is : k.disposed_generation_count ≡ disposed_generations q k.sample.key past
@@ -35,13 +35,15 @@ pub record IsOf (q : ReaderQos) (past : List Happening) (k : Kept) : Type 0 wher
   pub publication_is : k.publication_handle ≡ publication_of past
   pub value_is : k.is_out ≡ false → k.value ≡ newest_value q k.sample.key past
 
--- a sample of a known instance, with what is kept of it; as many writes were accepted since it as its number says
+-- a sample of a known instance, with what is kept of it: one that is gone is not present, and no take returned another
+-- one; as many writes were accepted since it as its number says
 pub record IsKept (q : ReaderQos) (h : List Happening) (k : Kept) : Type 0 where
   pub in_past : k.sample.position ≤ length h
   pub is_known : IsTrue (list_any (λ i. same_key i k.sample.key) (known_instances q h))
   pub handle_is : k.handle ≡ handle_of q h k.sample.key
   pub read_is : k.is_read ≡ is_read k.sample h
-  pub out_is : k.is_out ≡ is_taken k.sample h
+  pub out_is : k.is_out ≡ true → is_present q h k.sample.key k.sample.position ≡ false
+  pub in_is : k.is_out ≡ false → is_taken k.sample h ≡ false
   pub numbered : accepted_writes q k.sample.key h + k.number
       ≡ writes_in_life q k.sample.key h + accepted_writes q k.sample.key (as_of k.sample.position h)
   pub is_of : IsOf q (as_of k.sample.position h) k
@@ -62,8 +64,8 @@ position_of k = k.sample.position
 abbrev pub positions_in : ReaderQos → List Happening → Key → List Kept → List ℕ
 positions_in q h i ks = map position_of (filter (is_here q h i) ks)
 
--- by how many writes of its instance were accepted in its life, and its last marker, a kept sample that no take returned is
--- a write that the history keeps, or that marker
+-- by how many writes of its instance were accepted in its life, and its last marker, a kept sample is not gone, and is a
+-- write that the history keeps, or that marker
 abbrev pub is_live_by : ReaderQos → ℕ → Option ℕ → Kept → Bool
 is_live_by q accepted marker k =
     not k.is_out && ((k.valid_data && keeps q.history (accepted - k.number)) || is_at marker k.sample.position)
@@ -112,9 +114,16 @@ is_among ss k = list_any (same_sample k.sample) ss
 abbrev pub read_if : Bool → Kept → Kept
 read_if read k = record k { is_read = read || k.is_read }
 
--- a kept sample, marked as one that a take returned if so, and without its value then
+-- a kept sample, marked as one that is gone if so, and without its value then
 abbrev pub out_if : Bool → Kept → Kept
 out_if out k = record k { is_out = out || k.is_out; value = if out then [] else k.value }
+
+-- of the kept samples the one at a place is marked as gone, and this was its value
+pub record IsOutAt (place : ℕ) (old : List Kept) (value : List ℕ) (new : List Kept) : Type 0 where
+  pub before : Kept
+  pub before_is : before ≡ get_or old place before
+  pub new_is : new ≡ set old place (out_if true before)
+  pub value_is : value ≡ before.value
 
 -- a kept sample after a read that returned these
 abbrev pub marked : List SamplePosition → Kept → Kept
@@ -124,26 +133,26 @@ marked ss k = read_if (is_among ss k) k
 abbrev pub taken : List SamplePosition → Kept → Kept
 taken ss k = out_if (is_among ss k) k
 
--- no take returned a kept sample
+-- a kept sample is not gone
 abbrev pub is_in : Kept → Bool
 is_in k = not k.is_out
 
--- a take returned a kept sample
-abbrev pub was_taken : Kept → Bool
-was_taken k = k.is_out
+-- a kept sample is gone
+abbrev pub is_gone : Kept → Bool
+is_gone k = k.is_out
 
--- no take returned a kept sample, and a read did
+-- a kept sample is not gone, and a read returned it
 abbrev pub was_read : Kept → Bool
 was_read k = not k.is_out && k.is_read
 
--- no take returned a kept sample, and it has data
+-- a kept sample is not gone, and has data
 abbrev pub has_data : Kept → Bool
 has_data k = not k.is_out && k.valid_data
 
--- what is known of the kept samples together is right: a take returned so many; of the others so many were read, and so
--- many have data; and where those of each instance are
+-- what is known of the kept samples together is right: so many are gone; of the others so many were read, and so many have
+-- data; and where those of each instance are
 pub record IsSummary (ks : List Kept) (summary : Summary) : Type 0 where
-  pub outs : summary.outs ≡ count_by was_taken ks
+  pub outs : summary.outs ≡ count_by is_gone ks
   pub reads : summary.reads ≡ count_by was_read ks
   pub writes : summary.writes ≡ count_by has_data ks
   pub chains : AreChainsOf ks summary.chains
@@ -152,6 +161,6 @@ pub record IsSummary (ks : List Kept) (summary : Summary) : Type 0 where
 abbrev pub sample_state_in : Kept → SampleState
 sample_state_in k = if k.is_read then HasBeenRead else NotRead
 
--- a mask does not ask for the sample state of a kept sample, or a take returned it
+-- a mask does not ask for the sample state of a kept sample, or that is gone
 abbrev pub IsUnasked : SampleStateMask → Kept → Type 0
 IsUnasked mask k = k.is_out ≡ false → asks_for_sample_state mask (sample_state_in k) ≡ false

@@ -21,7 +21,7 @@ stays q h k =
 abbrev pub stays_of : ReaderQos → List Happening → Key → Kept → Bool
 stays_of q h i k = same_key k.sample.key i && stays q h k
 
--- of the kept samples all are left, or those that no take returned
+-- of the kept samples all are left, or those that are not gone
 abbrev pub AreIn : List Kept → List Kept → Type 0
 AreIn old new = (new ≡ old) ⊎ (new ≡ filter is_in old)
 

@@ -14,9 +14,9 @@ use std::alloc::{AllocError, Global};
 /// Between which places the kept samples of one instance are.
 #[derive(Clone, Copy)]
 struct Span {
-    /// None of them is before it, but for those that takes returned.
+    /// None of them is before it, but for those that are gone.
     first: usize,
-    /// None of them is before it, but for those that reads or takes returned.
+    /// None of them is before it, but for those that are gone, or were read.
     unread: usize,
     /// The last of them.
     last: usize,
@@ -62,12 +62,12 @@ impl Chains {
             .reserve(instances.saturating_sub(self.spans.len()))
     }
 
-    /// Forgets all.
+    /// Forgets all. It costs what there is to forget, however much there is room for.
     pub fn clear(&mut self)
         ensures { AreChainsOf [] self.new }
     {
         self.links.clear();
-        self.spans.clear();
+        self.spans.truncate(0);
         self.is_whole = true;
     }
 
@@ -111,8 +111,8 @@ impl Chains {
         self.is_whole &= has_link & has_span;
     }
 
-    /// Where the samples of an instance begin, or those alone that were not read: none is before it, but for those that takes
-    /// returned.
+    /// Where the samples of an instance begin, or those alone that were not read: none is before it, but for those that are
+    /// gone.
     pub fn first(&self, handle: Handle, is_unread: bool) -> usize
         ensures first { (ks : List Kept) → AreChainsOf ks self.now → is_unread ≡ false → IsFirst ks handle result }
         ensures unread { (ks : List Kept) → AreChainsOf ks self.now → is_unread ≡ true
@@ -143,7 +143,7 @@ impl Chains {
         }
     }
 
-    /// Where the first sample of an instance is that no take returned, or a place behind all.
+    /// Where the first sample of an instance is that is not gone, or a place behind all.
     fn first_left(&self, samples: &[Kept], handle: Handle) -> usize
         ensures { AreChainsOf samples.now self.now → IsFirst samples.now handle result }
     {
@@ -165,7 +165,7 @@ impl Chains {
         place
     }
 
-    /// Takes up that reads or takes returned samples of an instance: the others begin at the first that they left.
+    /// Takes up that samples of an instance were read, or are gone: the others begin at the first that is left.
     pub fn advance(&mut self, samples: &[Kept], handle: Handle)
         ensures { AreChainsOf samples.now self.old → AreChainsOf samples.now self.new }
     {

@@ -16,7 +16,7 @@ ghost use Rattle.dds_cache.specs.Picking.{IsGathered, collected, value_for};
 use crate::access::{Candidate, positions};
 use crate::access_kind::AccessKind;
 use crate::kept::Kept;
-use crate::summary::Summary;
+use crate::summary::{Summary, let_out};
 use dds_base::{Code, Octets, Sample, SamplePosition};
 use dds_info::Ranks;
 use std::alloc::{AllocError, Global};
@@ -96,9 +96,7 @@ pub fn take_out(
     ensures capacity { vec_capacity samples.new ≡ vec_capacity samples.old }
 {
     for (at, candidate) in found.iter().enumerate() {
-        let kept = &mut samples[candidate.at];
-        summary.count_out(kept);
-        collection[at].value = kept.take_out(alloc);
+        collection[at].value = let_out(alloc, samples, summary, candidate.at);
     }
 }
 

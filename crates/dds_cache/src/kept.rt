@@ -23,14 +23,15 @@ pub struct Kept {
     pub number: u64,
     /// Whether a read returned it.
     pub is_read: bool,
-    /// Whether a take returned it: then it is gone, and its place is free once samples are swept out.
+    /// Whether it is gone, as a take returned it, or as its history does not keep it any more: its place is free once samples
+    /// are swept out.
     pub is_out: bool,
     pub valid_data: bool,
     pub disposed_generation_count: u64,
     pub no_writers_generation_count: u64,
     pub source_timestamp: Moment,
     pub publication_handle: Handle,
-    /// Its value, none where a take returned it.
+    /// Its value, none where it is gone.
     pub value: Octets,
 }
 
@@ -61,7 +62,7 @@ pub fn is_position(at: Option<u64>, position: u64) -> bool
 }
 
 impl Kept {
-    /// Whether no take returned it, and it is a write that the history keeps, or the last marker of its instance.
+    /// Whether it is not gone, and is a write that the history keeps, or the last marker of its instance.
     pub fn is_live(&self, qos: &ReaderQos, known: &KnownInstance) -> bool
         ensures { result ≡ is_live qos.now known.now self.now }
     {
@@ -89,14 +90,14 @@ impl Kept {
                 || !is_marked && is_position(known.last_marker, self.sample.position))
     }
 
-    /// Whether no take returned it, and a read did.
+    /// Whether it is not gone, and a read returned it.
     pub fn was_read(&self) -> bool
         ensures { result ≡ was_read self.now }
     {
         !self.is_out && self.is_read
     }
 
-    /// Whether no take returned it, and it has data.
+    /// Whether it is not gone, and has data.
     pub fn has_data(&self) -> bool
         ensures { result ≡ has_data self.now }
     {
@@ -110,7 +111,7 @@ impl Kept {
         self.is_read = true;
     }
 
-    /// Takes up that a take returned it: gives its value away.
+    /// Takes up that it is gone: gives its value away.
     pub fn take_out(&mut self, alloc: Global) -> Octets
         ensures left { self.new ≡ out_if true self.old }
         ensures value { result ≡ self.old.value }

@@ -19,6 +19,7 @@ mod first;
 mod kept;
 mod masks;
 mod pick;
+mod pushing;
 mod reader_cache;
 mod returned;
 mod room;

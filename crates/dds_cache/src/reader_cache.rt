@@ -29,6 +29,7 @@ use crate::ending::{hold_present, is_end};
 use crate::entering::enter_access;
 use crate::kept::Kept;
 use crate::pick::{pick, picks_any};
+use crate::pushing::push_out;
 use crate::room::{count_arrival, is_room};
 use crate::summary::Summary;
 use crate::sweeping::{let_go, next_sweep, sweep};
@@ -210,6 +211,22 @@ impl ReaderCache {
         self.room -= 1;
     }
 
+    /// Lets the samples go that a change of an instance pushed out of its history.
+    fn push_out(&mut self, key: Key)
+        ensures same { (h : List Happening) → StandsFor self.old h → StandsFor self.new h }
+        ensures qos { qos_of self.new ≡ qos_of self.old }
+        ensures room { room_of self.new ≡ room_of self.old }
+    {
+        push_out(
+            self.alloc,
+            &self.instances,
+            &self.qos,
+            &mut self.samples,
+            &mut self.summary,
+            key,
+        );
+    }
+
     /// Lets the samples go that are no longer present, where there are twice as many as the sweep before left.
     fn sweep_if_due(&mut self)
         ensures same { (h : List Happening) → StandsFor self.old h → StandsFor self.new h }
@@ -261,7 +278,9 @@ impl ReaderCache {
         ensures entry { TakesEntry room_of self.old self.new result }
     {
         self.reserve(1)?;
+        let key = arrival.change.key;
         self.take_up(arrival);
+        self.push_out(key);
         self.sweep_if_due();
         Ok(())
     }
@@ -343,9 +362,8 @@ impl ReaderCache {
     /// Whether there is room for a change by the limits of the policies: fewer than 2^31 - 1 changes came with it, and
     /// if it is accepted, the present writes and the known instances are as many as they may be. It needs no memory.
     ///
-    /// It goes once over the samples under KEEP_LAST where as many are kept as may be present, besides those that takes
-    /// returned, and the depth times the known instances is more than that; and where as many instances are known as
-    /// may be.
+    /// It goes once over the samples under KEEP_LAST where as many writes are present as may be, and the depth times the
+    /// known instances is more than that; and where as many instances are known as may be.
     ///
     /// DDS 1.4, 2.2.3 (RESOURCE_LIMITS).
     pub fn has_room(&self, arrival: &Arrival) -> bool

@@ -3,7 +3,6 @@
 //! DDS 1.4, 2.2.3 (RESOURCE_LIMITS).
 
 ghost use Rattle.std.specs.Prelude.{◌≡◌, ◌≤◌, ◌+◌, ◌-◌, ◌*◌, ◌^◌, ◌∷◌, min, List, length, All, IfSome, true};
-ghost use Rattle.std.specs.List.{count_by};
 ghost use Rattle.dds_base.specs.declared.happening.Happening.{Happening};
 ghost use Rattle.dds_base.specs.declared.happening.Happening.TheVariants.{Came};
 ghost use Rattle.dds_base.specs.declared.qos.ReaderQos.{ReaderQos};
@@ -15,7 +14,7 @@ ghost use Rattle.dds_instances.specs.Table.{Stands};
 ghost use Rattle.dds_instances.specs.Track.{one_if};
 ghost use Rattle.dds_cache.specs.Arriving.{AwaitsAccepted, AwaitsChange};
 ghost use Rattle.dds_cache.specs.Finding.{Holds};
-ghost use Rattle.dds_cache.specs.Kept.{IsSummary, IsFresh, IsKept, is_in, was_taken};
+ghost use Rattle.dds_cache.specs.Kept.{IsSummary, IsFresh, IsKept};
 ghost use Rattle.dds_cache.specs.Room.{is_present_write, present_writes_after};
 ghost use Rattle.dds_cache.specs.Standing.{AreOfMatched};
 
@@ -54,14 +53,6 @@ fn keeps_to(limit: Option<u32>, count: usize, one_more: bool) -> bool
             }
         }
     }
-}
-
-/// How many of the kept samples no take returned, by how many of them takes did.
-fn count_in(samples: &[Kept], outs: usize) -> usize
-    requires outs { outs ≡ count_by was_taken samples.now }
-    ensures { result ≡ count_by is_in samples.now }
-{
-    samples.len().saturating_sub(outs)
 }
 
 /// Whether there may be so many instances after an accepted change.
@@ -212,8 +203,8 @@ fn samples_fit(
         → AwaitsAccepted qos.now instances.now samples.now arrival.now h
         → result ≡ is_within qos.now.max_samples (present_writes qos.now (Came arrival.now ∷ h)) }
 {
-    // With fewer samples than may be present, whichever of them are, there is room for one more.
-    if keeps_to(qos.max_samples, count_in(samples, summary.outs), true) {
+    // With fewer writes than may be present, whichever of them are, there is room for one more.
+    if keeps_to(qos.max_samples, summary.writes, true) {
         return true;
     }
     if keeps_within(instances, qos, arrival) {
@@ -256,7 +247,7 @@ pub fn is_room(
     if MAX_ARRIVALS - 1 <= arrivals {
         return false;
     }
-    if has_spare(qos, count_in(samples, summary.outs), instances.len()) {
+    if has_spare(qos, summary.writes, instances.len()) {
         return true;
     }
     !instances.accepts(qos, arrival)

@@ -1,22 +1,22 @@
-//! What is known of the kept samples together: how many of them a take returned, how many of the others were read, and
-//! have data, and where those of each instance are.
+//! What is known of the kept samples together: how many of them are gone, how many of the others were read, and have data,
+//! and where those of each instance are.
 //!
 //! DDS 1.4, 2.2.2.5 (sample_state, valid_data).
 
-ghost use Rattle.std.specs.Prelude.{◌≡◌, ◌<◌, ◌≤◌, ◌+◌, ◌-◌, ◌^◌, ◌&&◌, ◌++◌, ◌∷◌, [], if◌then◌else◌, not, true, false, All, vec_len, vec_capacity};
-ghost use Rattle.dds_cache.specs.Kept.{IsSummary, IsUnasked, has_data, is_in, was_read};
+ghost use Rattle.std.specs.Prelude.{◌≡◌, ◌<◌, ◌≤◌, ◌+◌, ◌-◌, ◌^◌, ◌&&◌, ◌++◌, ◌∷◌, [], if◌then◌else◌, not, true, false, All, length, vec_len, vec_capacity};
+ghost use Rattle.dds_cache.specs.Kept.{IsOutAt, IsSummary, IsUnasked, has_data, is_in, was_read};
 
 use crate::chains::Chains;
 use crate::kept::Kept;
 use crate::masks::asks_for_sample;
-use dds_base::{SampleState, SampleStateMask};
+use dds_base::{Octets, SampleState, SampleStateMask};
 use std::alloc::Global;
 
-/// How many of the kept samples a take returned, how many of the others were read, and have data, and where those of each
-/// instance are.
+/// How many of the kept samples are gone, how many of the others were read, and have data, and where those of each instance
+/// are.
 #[derive(Drop)]
 pub struct Summary {
-    /// How many of them a take returned.
+    /// How many of them are gone.
     pub outs: usize,
     /// How many of the others a read returned.
     pub reads: usize,
@@ -76,7 +76,7 @@ impl Summary {
         self.reads += usize::from(!kept.is_out && !kept.is_read);
     }
 
-    /// Takes up that a take returns this one of the samples.
+    /// Takes up that this one of the samples is gone.
     pub fn count_out(&mut self, kept: &Kept)
         requires fits { self.old.outs + 1 < 2 ^ 64 }
         ensures outs { self.new.outs ≡ self.old.outs + (if is_in kept.now then 1 else 0) }
@@ -88,6 +88,25 @@ impl Summary {
         self.reads = self.reads.saturating_sub(usize::from(kept.was_read()));
         self.writes = self.writes.saturating_sub(usize::from(kept.has_data()));
     }
+}
+
+/// Marks the sample at a place as gone, counts it so, and gives its value away.
+pub fn let_out(
+    alloc: Global,
+    samples: &mut Vec<Kept>,
+    summary: &mut Summary,
+    place: usize,
+) -> Octets
+    requires within { place < length samples.old.items }
+    requires counted { IsSummary samples.old.items summary.old }
+    ensures out { IsOutAt place samples.old.items result samples.new.items }
+    ensures counted { IsSummary samples.new.items summary.new }
+    ensures len { vec_len samples.new ≡ vec_len samples.old }
+    ensures capacity { vec_capacity samples.new ≡ vec_capacity samples.old }
+{
+    let kept = &mut samples[place];
+    summary.count_out(kept);
+    kept.take_out(alloc)
 }
 
 /// Adds a sample that was not read, in the room that there is.

@@ -63,12 +63,12 @@ pub fn let_go(
     }
 }
 
-/// Whether more than half of the samples are such as takes returned.
+/// Whether more than half of the samples are gone.
 fn are_mostly_out(samples: &[Kept], summary: &Summary) -> bool {
     samples.len() / 2 < summary.outs
 }
 
-/// Has the samples of an instance begin behind those that takes returned, where these are not swept out at once.
+/// Has the samples of an instance begin behind those that are gone, where these are not swept out at once.
 pub fn pass_over_taken(samples: &[Kept], summary: &mut Summary, handle: Handle)
     requires counted { IsSummary samples.now summary.old }
     ensures counted { IsSummary samples.now summary.new }
@@ -78,7 +78,7 @@ pub fn pass_over_taken(samples: &[Kept], summary: &mut Summary, handle: Handle)
     }
 }
 
-/// Lets the samples go that takes returned, where they are more than half of all: so a take costs what it returns, and a
+/// Sweeps the samples out that are gone, where they are more than half of all: so a take costs what it returns, and a
 /// place that it leaves is free before long.
 pub fn let_out_go(samples: &mut Vec<Kept>, summary: &mut Summary)
     requires counted { IsSummary samples.old.items summary.old }

@@ -8,6 +8,6 @@ returns-then-has_spare c = λ h holds fresh matched counted.
     spare-is-room c.args.qos.now c.args.arrival.now h c.args.samples.now c.args.arrivals c.len.result holds.each
     holds.present fresh counted (omega (arith, c.if-arrivals.false))
     (c.len.ensures.len c.args.qos.now h holds.instances)
-    (ap (λ (n : ℕ). is_within c.args.qos.now.max_samples (n + 1)) (sym c.count_in.ensures)
+    (ap (λ (n : ℕ). is_within c.args.qos.now.max_samples (n + 1)) (sym c.requires.counted.writes)
     ∙ c.has_spare.ensures.samples c.if-has_spare.true)
     (search rules)

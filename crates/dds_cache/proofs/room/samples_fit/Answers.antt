@@ -14,7 +14,7 @@ use Rattle.dds_cache.proofs.room.samples_fit.Goals.{then-is_write+then-is_kept_a
 pub returns-then-keeps_to : goal.returns-then-keeps_to
 returns-then-keeps_to c = λ h awaits.
     sym (spare-fits c.args.qos.now c.args.arrival.now h c.args.samples.now awaits.holds.each awaits.holds.present awaits.fresh
-    awaits.accepted (ap (λ (n : ℕ). is_within c.args.qos.now.max_samples (n + 1)) (sym c.count_in.ensures)
+    awaits.accepted (ap (λ (n : ℕ). is_within c.args.qos.now.max_samples (n + 1)) (sym c.requires.counted.writes)
     ∙ (sym c.keeps_to.ensures ∙ c.if-keeps_to.true)))
 
 pub returns-then-keeps_within : goal.returns-then-keeps_within

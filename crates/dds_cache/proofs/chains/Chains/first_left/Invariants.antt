@@ -1,4 +1,4 @@
--- those before the place are of other instances, or takes returned them
+-- those before the place are of other instances, or gone
 use Rattle.std.proofs.Common.{length, ◌-◌}
 use Rattle.dds_cache.specs.Chains.{AreChainsOf, IsFirst}
 use Rattle.dds_cache.proofs.chains.Chains.first_left.Given as goal
