@@ -1,13 +1,25 @@
 -- The links and the spans of the kept samples, as one is added, and as some are marked.
-use Rattle.std.proofs.Common.{◌≡◌, ◌≢◌, ℕ, ◌+◌, ◌≤◌, ◌<◌, List, [], ◌∷◌, ◌++◌, length, get_or, set, Bool, true, false, cond, sym, ap, ◌∙◌, refl, subst, arith, ⊎_elim, ◌⊎◌, inl, inr, Option, Some, None, is_some, ◌||◌}
-use Rattle.std.specs.Prelude.{nat_eq, nat_lt}
+use Rattle.std.proofs.Common.{◌≡◌, ◌≢◌, ℕ, ◌+◌, ◌≤◌, ◌<◌, List, [], ◌∷◌, ◌++◌, length, get_or, set, Bool, true, false, cond, sym, ap, ◌∙◌, refl, subst, arith, ⊎_elim, ◌⊎◌, inl, inr, Option, Some, None, is_some, Result, Ok, Err, ◌||◌}
+use Rattle.std.specs.Prelude.{OnOk, is_ok, nat_eq, nat_lt}
 use Rattle.std.proofs.lemmas.Bool.{cases_Bool, eqb-true, eqb-false, ltb-true, ltb-false}
 use Rattle.std.proofs.lemmas.List.{get_or_append_left, get_or_default, get_or_push, get_or-set_other, get_or-set_same, length-append, length-set}
 use Rattle.indexmap.specs.IndexMap.{Updates, get}
+use Rattle.dds_base.specs.declared.key.Key.{Key}
+use Rattle.dds_base.specs.Happening.{same_key}
+use Rattle.dds_base.proofs.KeyLaws.{key-Decides, key-same}
 use Rattle.dds_cache.specs.declared.chains.Chains.{Chains}
 use Rattle.dds_cache.specs.declared.chains.Span.{Span}
 use Rattle.dds_cache.specs.declared.kept.Kept.{Kept}
 use Rattle.dds_cache.specs.Chains.{AreChainsOf, AreOthers, IsFirst, IsFirstUnread, IsLinked, IsSpan, Leads}
+
+-- two keys that the test tells apart are two
+pub keys-apart : (i j : Key) → same_key i j ≡ false → i ≢ j
+keys-apart i j other same = let clash : true ≡ false = sym ((key-Decides i j).1 same) ∙ other in cc
+
+-- what holds where a call succeeds holds once it has
+pub where-ok : {A E : Type 0} (r : Result A E) (P : Type 0) → is_ok r ≡ true → OnOk r P → P
+where-ok (Ok x) P is holds = holds
+where-ok (Err e) P is holds = absurd (let clash : false ≡ true = is in cc)
 
 -- a place among those with one more is an earlier one, or the last
 earlier-or-last : (ks : List Kept) (k : Kept) (at : ℕ) → at < length (ks ++ k ∷ [])
@@ -23,11 +35,19 @@ earlier-or-last ks k at within =
         let apart : at ≢ length ks = eqb-false at (length ks) other in
         inl (omega (arith, within, apart))
 
+-- where an instance has no span, none of the samples is of it
+pub none-spanned : (ks : List Kept) (i : Key) (chains : Chains) → IsLinked ks chains → None ≡ get same_key chains.spans i
+    → (at : ℕ) (d : Kept) → at < length ks → (get_or ks at d).sample.key ≢ i
+none-spanned ks i chains linked none at d within own =
+    let clash : true ≡ false =
+    sym (linked.each at d within)
+    ∙ (ap (λ (j : Key). is_some (get same_key chains.spans j)) own ∙ sym (ap is_some none)) in cc
+
 module _ (ks : List Kept) (k : Kept) (old led new : Chains) (span : Span) (link : ℕ) (linked : IsLinked ks old)
-    (leads : Leads old k.handle (length ks) span led) (links : new.links.items ≡ led.links.items ++ link ∷ [])
-    (updates : Updates nat_eq led.spans new.spans k.handle (Some span)) where
-  earlier : (at : ℕ) (d : Kept) → at < length ks → (get_or (ks ++ k ∷ []) at d).handle ≡ (get_or ks at d).handle
-  earlier at d within = ap (λ (x : Kept). x.handle) (get_or_append_left ks (k ∷ []) d at within)
+    (leads : Leads old k.sample.key (length ks) span led) (links : new.links.items ≡ led.links.items ++ link ∷ [])
+    (updates : Updates same_key led.spans new.spans k.sample.key (Some span)) where
+  earlier : (at : ℕ) (d : Kept) → at < length ks → (get_or (ks ++ k ∷ []) at d).sample.key ≡ (get_or ks at d).sample.key
+  earlier at d within = ap (λ (x : Kept). x.sample.key) (get_or_append_left ks (k ∷ []) d at within)
 
   last : (at : ℕ) (d : Kept) → at ≡ length ks → get_or (ks ++ k ∷ []) at d ≡ k
   last at d is = get_or_push ks k d at (sym is)
@@ -38,22 +58,21 @@ module _ (ks : List Kept) (k : Kept) (old led new : Chains) (span : Span) (link 
       ∙ get_or_append_left led.links.items (link ∷ []) 0 at (omega (arith, within, leads.len, linked.len))
 
   -- none of the instance was kept, or it had a span
-  before : (at : ℕ) (d : Kept) → at < length ks → (get_or ks at d).handle ≡ k.handle
-      → (b : Span) × (get nat_eq old.spans k.handle ≡ Some b)
-  before at d within same = one (get nat_eq old.spans k.handle) refl
+  before : (at : ℕ) (d : Kept) → at < length ks → (get_or ks at d).sample.key ≡ k.sample.key
+      → (b : Span) × (get same_key old.spans k.sample.key ≡ Some b)
+  before at d within same = one (get same_key old.spans k.sample.key) refl
     where
-      one : (o : Option Span) → get nat_eq old.spans k.handle ≡ o → (b : Span) × (get nat_eq old.spans k.handle ≡ Some b)
+      one : (o : Option Span) → get same_key old.spans k.sample.key ≡ o → (b : Span) × (get same_key old.spans k.sample.key ≡ Some b)
       one (Some b) is = (b, is)
-      one None is = absurd (let clash : true ≡ false = sym (linked.each at d within)
-          ∙ (ap (λ (n : ℕ). is_some (get nat_eq old.spans n)) same ∙ ap is_some is) in cc)
+      one None is = absurd (none-spanned ks k.sample.key old linked (sym is) at d within same)
 
   passes-none : (at j : ℕ) (d e : Kept) → at < length ks → at < j → j < get_or new.links.items at 0
-      → j < length (ks ++ k ∷ []) → (get_or (ks ++ k ∷ []) j e).handle ≡ (get_or ks at d).handle → ⊥
-  passes-none at j d e within behind below inside same = one (earlier-or-last ks k j inside) (ended (get nat_eq old.spans k.handle) refl)
+      → j < length (ks ++ k ∷ []) → (get_or (ks ++ k ∷ []) j e).sample.key ≡ (get_or ks at d).sample.key → ⊥
+  passes-none at j d e within behind below inside same = one (earlier-or-last ks k j inside) (ended (get same_key old.spans k.sample.key) refl)
     where
-      ended : (o : Option Span) → get nat_eq old.spans k.handle ≡ o
-          → ((b : Span) × (get nat_eq old.spans k.handle ≡ Some b) × (at ≡ b.last))
-          ⊎ ((b : Span) → get nat_eq old.spans k.handle ≡ Some b → at ≢ b.last)
+      ended : (o : Option Span) → get same_key old.spans k.sample.key ≡ o
+          → ((b : Span) × (get same_key old.spans k.sample.key ≡ Some b) × (at ≡ b.last))
+          ⊎ ((b : Span) → get same_key old.spans k.sample.key ≡ Some b → at ≢ b.last)
       ended None is = inr (λ b some. absurd (let clash : true ≡ false = sym (ap is_some some) ∙ ap is_some is in cc))
       ended (Some b) is = ⊎_elim
           (λ at_last. inl (b, is, eqb-true at b.last at_last))
@@ -65,11 +84,11 @@ module _ (ks : List Kept) (k : Kept) (old led new : Chains) (span : Span) (link 
           injected same = cc
 
       one : (j < length ks) ⊎ (j ≡ length ks)
-          → ((b : Span) × (get nat_eq old.spans k.handle ≡ Some b) × (at ≡ b.last))
-          ⊎ ((b : Span) → get nat_eq old.spans k.handle ≡ Some b → at ≢ b.last) → ⊥
+          → ((b : Span) × (get same_key old.spans k.sample.key ≡ Some b) × (at ≡ b.last))
+          ⊎ ((b : Span) → get same_key old.spans k.sample.key ≡ Some b → at ≢ b.last) → ⊥
       one (inl there) (inl (b, is, at_last)) =
-          let s : IsSpan ks k.handle b = linked.spans k.handle b is in
-          let own : (get_or ks at d).handle ≡ k.handle = ap (λ (n : ℕ). (get_or ks n d).handle) at_last ∙ s.own d in
+          let s : IsSpan ks k.sample.key b = linked.spans k.sample.key b is in
+          let own : (get_or ks at d).sample.key ≡ k.sample.key = ap (λ (n : ℕ). (get_or ks n d).sample.key) at_last ∙ s.own d in
           let le : j ≤ b.last = s.last j e there (sym (earlier j e there) ∙ (same ∙ own)) in
           omega (arith, le, at_last, behind)
       one (inl there) (inr apart) =
@@ -81,44 +100,44 @@ module _ (ks : List Kept) (k : Kept) (old led new : Chains) (span : Span) (link 
           ap (λ (n : ℕ). get_or led.links.items n 0) at_last in
           omega (arith, led_to, at_is, link-is at within, below, new)
       one (inr new) (inr apart) =
-          let own : (get_or ks at d).handle ≡ k.handle = sym same ∙ ap (λ (x : Kept). x.handle) (last j e new) in
+          let own : (get_or ks at d).sample.key ≡ k.sample.key = sym same ∙ ap (λ (x : Kept). x.sample.key) (last j e new) in
           let found = before at d within own in
-          let s : IsSpan ks k.handle found.0 = linked.spans k.handle found.0 found.1 in
+          let s : IsSpan ks k.sample.key found.0 = linked.spans k.sample.key found.0 found.1 in
           let le : at ≤ found.0.last = s.last at d within own in
           let other : at ≢ found.0.last = apart found.0 found.1 in
           linked.links at d within found.0.last d (omega (arith, le, other))
           (omega (arith, below, link-is at within, leads.same at apart, s.within, new)) s.within
           (s.own d ∙ sym own)
 
-  span-is : (n : ℕ) (s : Span) → get nat_eq new.spans n ≡ Some s → IsSpan (ks ++ k ∷ []) n s
-  span-is n s is = one (cases_Bool (nat_eq k.handle n))
+  span-is : (i : Key) (s : Span) → get same_key new.spans i ≡ Some s → IsSpan (ks ++ k ∷ []) i s
+  span-is i s is = one (cases_Bool (same_key k.sample.key i))
     where
       len : length (ks ++ k ∷ []) ≡ length ks + 1
       len = length-append ks (k ∷ [])
 
-      one : (nat_eq k.handle n ≡ true) ⊎ (nat_eq k.handle n ≡ false) → IsSpan (ks ++ k ∷ []) n s
+      one : (same_key k.sample.key i ≡ true) ⊎ (same_key k.sample.key i ≡ false) → IsSpan (ks ++ k ∷ []) i s
       one (inl own) =
-          let key : k.handle ≡ n = eqb-true k.handle n own in
+          let key : k.sample.key ≡ i = key-same k.sample.key i own in
           let which : Some s ≡ Some span =
-          sym is ∙ (updates.0 n ∙ ap (λ (b : Bool). cond b (Some span) (get nat_eq led.spans n)) own) in
+          sym is ∙ (updates.0 i ∙ ap (λ (b : Bool). cond b (Some span) (get same_key led.spans i)) own) in
           let same : s ≡ span = cc in
-          subst (λ (x : Span). IsSpan (ks ++ k ∷ []) n x) (sym same) (record {
+          subst (λ (x : Span). IsSpan (ks ++ k ∷ []) i x) (sym same) (record {
             within = omega (arith, len, leads.last);
-            own = λ d. ap (λ (x : Kept). x.handle) (last span.last d leads.last) ∙ key;
+            own = λ d. ap (λ (x : Kept). x.sample.key) (last span.last d leads.last) ∙ key;
             first = λ at d within is_own is_in. ⊎_elim
                 (λ there.
-                let own_old : (get_or ks at d).handle ≡ k.handle = sym (earlier at d there) ∙ (is_own ∙ sym key) in
+                let own_old : (get_or ks at d).sample.key ≡ k.sample.key = sym (earlier at d there) ∙ (is_own ∙ sym key) in
                 let found = before at d there own_old in
-                let le : found.0.first ≤ at = (linked.spans k.handle found.0 found.1).first at d there own_old
+                let le : found.0.first ≤ at = (linked.spans k.sample.key found.0 found.1).first at d there own_old
                 (ap (λ (x : Kept). x.is_out) (sym (get_or_append_left ks (k ∷ []) d at there)) ∙ is_in) in
                 omega (arith, le, leads.stays found.0 found.1))
                 (λ new. omega (arith, new, leads.first)) (earlier-or-last ks k at within);
             unread = λ at d within is_own is_in is_new. ⊎_elim
                 (λ there.
-                let own_old : (get_or ks at d).handle ≡ k.handle = sym (earlier at d there) ∙ (is_own ∙ sym key) in
+                let own_old : (get_or ks at d).sample.key ≡ k.sample.key = sym (earlier at d there) ∙ (is_own ∙ sym key) in
                 let found = before at d there own_old in
                 let same_one : get_or (ks ++ k ∷ []) at d ≡ get_or ks at d = get_or_append_left ks (k ∷ []) d at there in
-                let le : found.0.unread ≤ at = (linked.spans k.handle found.0 found.1).unread at d there own_old
+                let le : found.0.unread ≤ at = (linked.spans k.sample.key found.0 found.1).unread at d there own_old
                 (ap (λ (x : Kept). x.is_out) (sym same_one) ∙ is_in)
                 (ap (λ (x : Kept). x.is_read) (sym same_one) ∙ is_new) in
                 omega (arith, le, leads.unread_stays found.0 found.1))
@@ -126,18 +145,18 @@ module _ (ks : List Kept) (k : Kept) (old led new : Chains) (span : Span) (link 
             last = λ at d within is_own. omega (arith, within, len, leads.last);
           })
       one (inr other) =
-          let apart : k.handle ≢ n = eqb-false k.handle n other in
-          let before_is : get nat_eq old.spans n ≡ Some s =
-          ap (λ m. get nat_eq m n) (sym leads.spans)
-          ∙ (sym (updates.0 n ∙ ap (λ (b : Bool). cond b (Some span) (get nat_eq led.spans n)) other) ∙ is) in
-          let was : IsSpan ks n s = linked.spans n s before_is in
+          let apart : k.sample.key ≢ i = keys-apart k.sample.key i other in
+          let before_is : get same_key old.spans i ≡ Some s =
+          ap (λ m. get same_key m i) (sym leads.spans)
+          ∙ (sym (updates.0 i ∙ ap (λ (b : Bool). cond b (Some span) (get same_key led.spans i)) other) ∙ is) in
+          let was : IsSpan ks i s = linked.spans i s before_is in
           record {
             within = omega (arith, len, was.within);
             own = λ d. earlier s.last d was.within ∙ was.own d;
             first = λ at d within is_own is_in. ⊎_elim
                 (λ there. was.first at d there (sym (earlier at d there) ∙ is_own)
                 (ap (λ (x : Kept). x.is_out) (sym (get_or_append_left ks (k ∷ []) d at there)) ∙ is_in))
-                (λ new. absurd (apart (sym (ap (λ (x : Kept). x.handle) (last at d new)) ∙ is_own)))
+                (λ new. absurd (apart (sym (ap (λ (x : Kept). x.sample.key) (last at d new)) ∙ is_own)))
                 (earlier-or-last ks k at within);
             unread = λ at d within is_own is_in is_new. ⊎_elim
                 (λ there.
@@ -145,26 +164,26 @@ module _ (ks : List Kept) (k : Kept) (old led new : Chains) (span : Span) (link 
                 was.unread at d there (sym (earlier at d there) ∙ is_own)
                 (ap (λ (x : Kept). x.is_out) (sym same_one) ∙ is_in)
                 (ap (λ (x : Kept). x.is_read) (sym same_one) ∙ is_new))
-                (λ new. absurd (apart (sym (ap (λ (x : Kept). x.handle) (last at d new)) ∙ is_own)))
+                (λ new. absurd (apart (sym (ap (λ (x : Kept). x.sample.key) (last at d new)) ∙ is_own)))
                 (earlier-or-last ks k at within);
             last = λ at d within is_own. ⊎_elim
                 (λ there. was.last at d there (sym (earlier at d there) ∙ is_own))
-                (λ new. absurd (apart (sym (ap (λ (x : Kept). x.handle) (last at d new)) ∙ is_own)))
+                (λ new. absurd (apart (sym (ap (λ (x : Kept). x.sample.key) (last at d new)) ∙ is_own)))
                 (earlier-or-last ks k at within);
           }
 
-  has-span : (n : ℕ) → (n ≡ k.handle) ⊎ (is_some (get nat_eq old.spans n) ≡ true)
-      → is_some (get nat_eq new.spans n) ≡ true
-  has-span n from = one (nat_eq k.handle n) refl from
+  has-span : (i : Key) → (i ≡ k.sample.key) ⊎ (is_some (get same_key old.spans i) ≡ true)
+      → is_some (get same_key new.spans i) ≡ true
+  has-span i from = one (same_key k.sample.key i) refl from
     where
-      one : (b : Bool) → nat_eq k.handle n ≡ b → (n ≡ k.handle) ⊎ (is_some (get nat_eq old.spans n) ≡ true)
-          → is_some (get nat_eq new.spans n) ≡ true
+      one : (b : Bool) → same_key k.sample.key i ≡ b → (i ≡ k.sample.key) ⊎ (is_some (get same_key old.spans i) ≡ true)
+          → is_some (get same_key new.spans i) ≡ true
       one true is from =
-          ap is_some (updates.0 n ∙ ap (λ (b : Bool). cond b (Some span) (get nat_eq led.spans n)) is)
-      one false is (inl same) = absurd (eqb-false k.handle n is (sym same))
+          ap is_some (updates.0 i ∙ ap (λ (b : Bool). cond b (Some span) (get same_key led.spans i)) is)
+      one false is (inl same) = absurd (keys-apart k.sample.key i is (sym same))
       one false is (inr had) =
-          ap is_some (updates.0 n ∙ ap (λ (b : Bool). cond b (Some span) (get nat_eq led.spans n)) is)
-          ∙ (ap (λ m. is_some (get nat_eq m n)) leads.spans ∙ had)
+          ap is_some (updates.0 i ∙ ap (λ (b : Bool). cond b (Some span) (get same_key led.spans i)) is)
+          ∙ (ap (λ m. is_some (get same_key m i)) leads.spans ∙ had)
 
   -- with one more sample the chains are those of all of them
   pub linked-more : IsLinked (ks ++ k ∷ []) new
@@ -178,48 +197,48 @@ module _ (ks : List Kept) (k : Kept) (old led new : Chains) (span : Span) (link 
         (earlier-or-last ks k at within);
     spans = span-is;
     each = λ at d within. ⊎_elim
-        (λ there. ap (λ (n : ℕ). is_some (get nat_eq new.spans n)) (earlier at d there)
-        ∙ has-span (get_or ks at d).handle (inr (linked.each at d there)))
-        (λ new. has-span (get_or (ks ++ k ∷ []) at d).handle (inl (ap (λ (x : Kept). x.handle) (last at d new))))
+        (λ there. ap (λ (i : Key). is_some (get same_key new.spans i)) (earlier at d there)
+        ∙ has-span (get_or ks at d).sample.key (inr (linked.each at d there)))
+        (λ new. has-span (get_or (ks ++ k ∷ []) at d).sample.key (inl (ap (λ (x : Kept). x.sample.key) (last at d new))))
         (earlier-or-last ks k at within);
   }
 
--- the chains stay those of the samples where each keeps its handle, and those that are gone stay so
+-- the chains stay those of the samples where each keeps its key, and those that are gone stay so
 pub chains-same : (old new : List Kept) (chains : Chains) → length new ≡ length old
-    → ((at : ℕ) (d : Kept) → at < length old → (get_or new at d).handle ≡ (get_or old at d).handle)
+    → ((at : ℕ) (d : Kept) → at < length old → (get_or new at d).sample.key ≡ (get_or old at d).sample.key)
     → ((at : ℕ) (d : Kept) → at < length old → (get_or new at d).is_out ≡ false → (get_or old at d).is_out ≡ false)
     → ((at : ℕ) (d : Kept) → at < length old → (get_or new at d).is_read ≡ false → (get_or old at d).is_read ≡ false)
     → AreChainsOf old chains → AreChainsOf new chains
-chains-same old new chains len handles outs reads are = λ whole.
+chains-same old new chains len keys outs reads are = λ whole.
     let linked : IsLinked old chains = are whole in
     let within : (at : ℕ) → at < length new → at < length old = λ at inside. omega (arith, len, inside) in
     record {
       len = linked.len ∙ sym len;
       links = λ at d inside j e behind below there same. linked.links at d (within at inside) j e behind below
-          (within j there) (sym (handles j e (within j there)) ∙ (same ∙ handles at d (within at inside)));
-      spans = λ n span is. let was : IsSpan old n span = linked.spans n span is in
+          (within j there) (sym (keys j e (within j there)) ∙ (same ∙ keys at d (within at inside)));
+      spans = λ i span is. let was : IsSpan old i span = linked.spans i span is in
           record {
             within = omega (arith, len, was.within);
-            own = λ d. handles span.last d was.within ∙ was.own d;
+            own = λ d. keys span.last d was.within ∙ was.own d;
             first = λ at d inside own stays. was.first at d (within at inside)
-                (sym (handles at d (within at inside)) ∙ own) (outs at d (within at inside) stays);
+                (sym (keys at d (within at inside)) ∙ own) (outs at d (within at inside) stays);
             unread = λ at d inside own stays new_one. was.unread at d (within at inside)
-                (sym (handles at d (within at inside)) ∙ own) (outs at d (within at inside) stays)
+                (sym (keys at d (within at inside)) ∙ own) (outs at d (within at inside) stays)
                 (reads at d (within at inside) new_one);
-            last = λ at d inside own. was.last at d (within at inside) (sym (handles at d (within at inside)) ∙ own);
+            last = λ at d inside own. was.last at d (within at inside) (sym (keys at d (within at inside)) ∙ own);
           };
-      each = λ at d inside. ap (λ (n : ℕ). is_some (get nat_eq chains.spans n)) (handles at d (within at inside))
+      each = λ at d inside. ap (λ (i : Key). is_some (get same_key chains.spans i)) (keys at d (within at inside))
           ∙ linked.each at d (within at inside);
     }
 
 -- so they do where one of them is changed that way
 pub chains-set : (ks : List Kept) (at : ℕ) (k v : Kept) (chains : Chains) → at < length ks → k ≡ get_or ks at k
-    → v.handle ≡ k.handle → (v.is_out ≡ false → k.is_out ≡ false) → (v.is_read ≡ false → k.is_read ≡ false)
+    → v.sample.key ≡ k.sample.key → (v.is_out ≡ false → k.is_out ≡ false) → (v.is_read ≡ false → k.is_read ≡ false)
     → AreChainsOf ks chains → AreChainsOf (set ks at v) chains
 chains-set ks at k v chains within is handle out read =
     chains-same ks (set ks at v) chains (length-set ks at v)
-    (λ j d inside. one (λ x. x.handle ≡ (get_or ks j d).handle) j d inside
-    (λ here. handle ∙ (ap (λ (x : Kept). x.handle) (is ∙ old j d here))) refl)
+    (λ j d inside. one (λ x. x.sample.key ≡ (get_or ks j d).sample.key) j d inside
+    (λ here. handle ∙ (ap (λ (x : Kept). x.sample.key) (is ∙ old j d here))) refl)
     (λ j d inside. one (λ x. x.is_out ≡ false → (get_or ks j d).is_out ≡ false) j d inside
     (λ here stays. ap (λ (x : Kept). x.is_out) (sym (is ∙ old j d here)) ∙ out stays) (λ stays. stays))
     (λ j d inside. one (λ x. x.is_read ≡ false → (get_or ks j d).is_read ≡ false) j d inside
@@ -237,9 +256,9 @@ chains-set ks at k v chains within is handle out read =
         (λ other. subst P (sym (get_or-set_other ks at j v d (λ here. eqb-false at j other (sym here)))) same) (cases_Bool (nat_eq at j))
 
 -- behind one that is gone the others begin
-pub first-after : (ks : List Kept) (n at next : ℕ) (k : Kept) → at < length ks → (get_or ks at k).is_out ≡ true
-    → IsFirst ks n at → AreOthers ks n at next → IsFirst ks n next
-first-after ks n at next k within out begins others = λ j d inside own stays.
+pub first-after : (ks : List Kept) (i : Key) (at next : ℕ) (k : Kept) → at < length ks → (get_or ks at k).is_out ≡ true
+    → IsFirst ks i at → AreOthers ks i at next → IsFirst ks i next
+first-after ks i at next k within out begins others = λ j d inside own stays.
     let from : at ≤ j = begins j d inside own stays in
     ⊎_elim
     (λ here. let same : at ≡ j = eqb-true at j here in
@@ -252,10 +271,10 @@ first-after ks n at next k within out begins others = λ j d inside own stays.
     (cases_Bool (nat_eq at j))
 
 -- behind one that was returned those begin that were not read
-pub unread-after : (ks : List Kept) (n at next : ℕ) (k : Kept) → at < length ks
+pub unread-after : (ks : List Kept) (i : Key) (at next : ℕ) (k : Kept) → at < length ks
     → ((get_or ks at k).is_out || (get_or ks at k).is_read) ≡ true
-    → IsFirstUnread ks n at → AreOthers ks n at next → IsFirstUnread ks n next
-unread-after ks n at next k within returned begins others = λ j d inside own stays unread.
+    → IsFirstUnread ks i at → AreOthers ks i at next → IsFirstUnread ks i next
+unread-after ks i at next k within returned begins others = λ j d inside own stays unread.
     let from : at ≤ j = begins j d inside own stays unread in
     ⊎_elim
     (λ here. let same : get_or ks at k ≡ get_or ks j d = get_or_default ks at k d within
@@ -274,41 +293,41 @@ unread-after ks n at next k within returned begins others = λ j d inside own st
     neither false false some no_a no_b = let clash : false ≡ true = some in cc
 
 -- the samples of an instance may begin at other places
-pub linked-first : (ks : List Kept) (n first unread : ℕ) (before : Span) (old new : Chains) → IsLinked ks old
-    → new.links ≡ old.links → get nat_eq old.spans n ≡ Some before → IsFirst ks n first → IsFirstUnread ks n unread
-    → Updates nat_eq old.spans new.spans n (Some (record { first = first; unread = unread; last = before.last })) → IsLinked ks new
-linked-first ks n first unread before old new linked links was begins begins_unread updates = record {
+pub linked-first : (ks : List Kept) (i : Key) (first unread : ℕ) (before : Span) (old new : Chains) → IsLinked ks old
+    → new.links ≡ old.links → get same_key old.spans i ≡ Some before → IsFirst ks i first → IsFirstUnread ks i unread
+    → Updates same_key old.spans new.spans i (Some (record { first = first; unread = unread; last = before.last })) → IsLinked ks new
+linked-first ks i first unread before old new linked links was begins begins_unread updates = record {
   len = ap (λ v. length v.items) links ∙ linked.len;
-  links = λ at d within. subst (λ (m : ℕ). AreOthers ks (get_or ks at d).handle at m)
+  links = λ at d within. subst (λ (m : ℕ). AreOthers ks (get_or ks at d).sample.key at m)
       (sym (ap (λ v. get_or v.items at 0) links)) (linked.links at d within);
-  spans = λ m s is. one m s is (cases_Bool (nat_eq n m));
-  each = λ at d within. still (get_or ks at d).handle (linked.each at d within) (cases_Bool (nat_eq n (get_or ks at d).handle));
+  spans = λ j s is. one j s is (cases_Bool (same_key i j));
+  each = λ at d within. still (get_or ks at d).sample.key (linked.each at d within) (cases_Bool (same_key i (get_or ks at d).sample.key));
 }
   where
     span : Span
     span = record { first = first; unread = unread; last = before.last }
 
-    one : (m : ℕ) (s : Span) → get nat_eq new.spans m ≡ Some s → (nat_eq n m ≡ true) ⊎ (nat_eq n m ≡ false)
-        → IsSpan ks m s
-    one m s is (inl own) =
+    one : (j : Key) (s : Span) → get same_key new.spans j ≡ Some s → (same_key i j ≡ true) ⊎ (same_key i j ≡ false)
+        → IsSpan ks j s
+    one j s is (inl own) =
         let which : Some s ≡ Some span = sym is
-        ∙ (updates.0 m ∙ ap (λ (b : Bool). cond b (Some span) (get nat_eq old.spans m)) own) in
+        ∙ (updates.0 j ∙ ap (λ (b : Bool). cond b (Some span) (get same_key old.spans j)) own) in
         let same : s ≡ span = cc in
-        let old_span : IsSpan ks n before = linked.spans n before was in
-        subst (λ (x : ℕ). IsSpan ks x s) (eqb-true n m own) (subst (λ (x : Span). IsSpan ks n x) (sym same) (record {
+        let old_span : IsSpan ks i before = linked.spans i before was in
+        subst (λ (x : Key). IsSpan ks x s) (key-same i j own) (subst (λ (x : Span). IsSpan ks i x) (sym same) (record {
           within = old_span.within;
           own = old_span.own;
           first = begins;
           unread = begins_unread;
           last = old_span.last;
         }))
-    one m s is (inr other) =
-        linked.spans m s
-        (sym (updates.0 m ∙ ap (λ (b : Bool). cond b (Some span) (get nat_eq old.spans m)) other) ∙ is)
+    one j s is (inr other) =
+        linked.spans j s
+        (sym (updates.0 j ∙ ap (λ (b : Bool). cond b (Some span) (get same_key old.spans j)) other) ∙ is)
 
-    still : (m : ℕ) → is_some (get nat_eq old.spans m) ≡ true → (nat_eq n m ≡ true) ⊎ (nat_eq n m ≡ false)
-        → is_some (get nat_eq new.spans m) ≡ true
-    still m had (inl own) =
-        ap is_some (updates.0 m ∙ ap (λ (b : Bool). cond b (Some span) (get nat_eq old.spans m)) own)
-    still m had (inr other) =
-        ap is_some (updates.0 m ∙ ap (λ (b : Bool). cond b (Some span) (get nat_eq old.spans m)) other) ∙ had
+    still : (j : Key) → is_some (get same_key old.spans j) ≡ true → (same_key i j ≡ true) ⊎ (same_key i j ≡ false)
+        → is_some (get same_key new.spans j) ≡ true
+    still j had (inl own) =
+        ap is_some (updates.0 j ∙ ap (λ (b : Bool). cond b (Some span) (get same_key old.spans j)) own)
+    still j had (inr other) =
+        ap is_some (updates.0 j ∙ ap (λ (b : Bool). cond b (Some span) (get same_key old.spans j)) other) ∙ had

@@ -19,7 +19,6 @@ use Rattle.dds_base.specs.Ownership.{registered_writers}
 use Rattle.dds_base.specs.Instance.{known_instances, instance_state_of, disposed_generations, no_writers_generations}
 use Rattle.dds_base.specs.Life.{last_accepted, state_after, is_nobody, is_at, accepted_writes, ends_with_write, keeps, last_marker}
 use Rattle.dds_base.specs.Presence.{is_present}
-use Rattle.dds_base.specs.Access.{handle_of}
 use Rattle.dds_base.specs.Happening.{is_taken}
 use Rattle.dds_base.proofs.KeyLaws.{key-same}
 use Rattle.dds_base.proofs.LifeLaws.{as_of-newest}
@@ -48,12 +47,10 @@ pub newest-died : (q : ReaderQos) (w moment : ℕ) (h : List Happening) (known_i
     → k.number ≡ known_is.accepted_writes → k.disposed_generation_count ≡ known_is.disposed_generations
     → k.no_writers_generation_count ≡ known_is.no_writers_generations → k.source_timestamp ≡ moment
     → k.publication_handle ≡ w → k.value ≡ [] → k.is_read ≡ false
-    → k.handle ≡ known_is.handle → IsNewest q (Died w moment ∷ h) k
-newest-died q w moment h known_is k is_known same valid number disposed no_writers timestamp publication value unread
-    handle =
+    → IsNewest q (Died w moment ∷ h) k
+newest-died q w moment h known_is k is_known same valid number disposed no_writers timestamp publication value unread =
     let g : List Happening = Died w moment ∷ h in
     record {
-      handle_is = handle ∙ (is_known.handle_is ∙ ap (λ (x : Key). handle_of q g x) same);
       number_is = number ∙ (is_known.writes_are ∙ ap (λ (x : Key). writes_in_life q x g) same);
       read_is = unread;
       is_of = record {

@@ -19,6 +19,7 @@ use Rattle.dds_base.specs.declared.sample.ViewState.{ViewState}
 use Rattle.dds_base.specs.declared.sample.InstanceState.{InstanceState}
 use Rattle.dds_base.specs.declared.sample.Picked.{Picked}
 use Rattle.dds_base.specs.declared.qos.ReaderQos.{ReaderQos}
+use Rattle.dds_base.specs.declared.selection.Selection.{Selection}
 use Rattle.dds_base.specs.Happening.{same_key, as_of}
 use Rattle.dds_base.specs.Instance.{known_instances, instance_state_of, view_state_of, disposed_generations, no_writers_generations, generations_of}
 use Rattle.dds_base.specs.Life.{ends_with_write}
@@ -33,7 +34,7 @@ use Rattle.dds_instances.proofs.RiseLaws.{handle-bounds, handles-rise}
 use Rattle.dds_cache.specs.declared.kept.Kept.{Kept}
 use Rattle.dds_cache.specs.declared.access.Candidate.{Candidate}
 use Rattle.dds_cache.specs.Kept.{IsKept, is_live, sample_at, position_of, positions_in, is_here}
-use Rattle.dds_cache.specs.Finding.{are_asked_for, is_asked_for, is_wanted, described_by, IsFound, IsCandidate, AreCandidates, Holds, sample_in, sample_of, handle_in, passes}
+use Rattle.dds_cache.specs.Finding.{are_asked_for, asks_for, is_asked_for, is_wanted, described_by, IsFound, IsCandidate, AreCandidates, Holds, sample_in, sample_of, handle_in, passes}
 use Rattle.dds_base.proofs.KeyLaws.{key-same, same_key-comm}
 use Rattle.dds_cache.proofs.KeptLaws.{live-present, present-in}
 use Rattle.dds_cache.proofs.RiseLaws.{by-key}
@@ -70,6 +71,12 @@ found-is q h masks test known_is k is_known key kept =
     ∙ sym (ap (λ (b : Bool). b && is_asked_for q h masks test k.sample) gone))
     (cases_Bool (is_present q h k.sample.key k.sample.position))
 
+-- an access asks for what is known of an instance where it asks for the instance
+pub asks-known : (q : ReaderQos) (h : List Happening) (selection : Selection) (known_is : KnownInstance) (i : Key)
+    → IsKnown q h known_is → known_is.key ≡ i → asks_for selection known_is.handle ≡ asks_for selection (handle_of q h i)
+asks-known q h selection known_is i is_known key =
+    ap (λ (n : ℕ). asks_for selection n) (is_known.handle_is ∙ ap (λ (x : Key). handle_of q h x) key)
+
 -- what is said of it before its ranks
 pub described-is : (q : ReaderQos) (h : List Happening) (known_is : KnownInstance) (k : Kept) → IsKnown q h known_is
     → known_is.key ≡ k.sample.key → IsKept q h k → described_by k known_is ≡ picked_of q h k.sample
@@ -92,7 +99,8 @@ described-is q h known_is k is_known key kept =
     let timestamp : k.source_timestamp ≡ timestamp_of past = kept.is_of.timestamp_is in
     let publication : k.publication_handle ≡ publication_of past = kept.is_of.publication_is in
     let valid : k.valid_data ≡ ends_with_write q s.key past = kept.is_of.valid_is in
-    let handle : k.handle ≡ handle_of q h s.key = kept.handle_is in
+    let handle : known_is.handle ≡ handle_of q h s.key =
+    is_known.handle_is ∙ ap (λ (i : Key). handle_of q h i) key in
     cc
 
 -- ---- one kept sample after another

@@ -1,13 +1,12 @@
 -- What is found of the first instance that an access asks for is what the definitions pick.
-use Rattle.std.proofs.Common.{◌≡◌, ℕ, zero, suc, ◌+◌, ◌≤◌, ◌<◌, List, [], ◌∷◌, ◌++◌, length, get_or, take, drop, map, filter, Bool, true, false, ◌==◌, ◌&&◌, ◌||◌, sym, ap, ◌∙◌, refl, subst, cond, arith, ⊎_elim, ◌⊎◌, inl, inr, Option, Some, None, take-append-drop, ◌≢◌, ◌-◌}
+use Rattle.std.proofs.Common.{◌≡◌, ℕ, zero, suc, ◌+◌, ◌≤◌, ◌<◌, List, [], ◌∷◌, ◌++◌, length, get_or, take, drop, map, filter, Bool, true, false, ◌==◌, ◌&&◌, sym, ap, ◌∙◌, refl, subst, cond, arith, ⊎_elim, ◌⊎◌, inl, inr, Option, Some, None, take-append-drop, ◌≢◌, ◌-◌}
 use Rattle.std.specs.Prelude.{min, nat_lt, slice_get, if◌then◌else◌}
-use Rattle.std.specs.List.{list_any, All, flat_map}
+use Rattle.std.specs.List.{All, flat_map}
 use Rattle.std.specs.List.Sorted.{IsNonDecreasingBy}
-use Rattle.std.proofs.lemmas.Bool.{and_right, cases_Bool, eqb-true, eqb-false, eq-eqb, ltb-true, ltb-false}
+use Rattle.std.proofs.lemmas.Bool.{and_right, cases_Bool, eqb-true, eq-eqb, ltb-true, ltb-false}
 use Rattle.std.proofs.lemmas.List.{append-nil, append_assoc, get_or_default, length-map, length-take, map-append, take_all, take_more, take-append-le, take-map}
 use Rattle.std.proofs.lemmas.List.Concat.{flat_map-append, flat_map-cons}
 use Rattle.std.proofs.lemmas.List.Elements.{All-append, All-cons, All-head, All-nil, All-push, All-tail, All-take, All-weaker, filter-append}
-use Rattle.std.proofs.lemmas.List.Folds.{list_any_at}
 use Rattle.std.proofs.lemmas.Option.{get_or_from_slice_get, slice_get_within}
 use Rattle.dds_base.specs.declared.key.Key.{Key}
 use Rattle.dds_base.specs.declared.happening.SamplePosition.{SamplePosition}
@@ -24,7 +23,7 @@ use Rattle.dds_base.specs.Presence.{is_present, present_of}
 use Rattle.dds_base.proofs.KeyLaws.{key-same, same_key-refl}
 use Rattle.dds_instances.specs.Table.{Table}
 use Rattle.dds_instances.specs.declared.known.KnownInstance.{KnownInstance}
-use Rattle.dds_instances.proofs.RiseLaws.{handles-rise, IsRising, rising-each, rising-within}
+use Rattle.dds_instances.proofs.RiseLaws.{handles-rise, IsRising, rising-each}
 use Rattle.dds_cache.specs.declared.access.Candidate.{Candidate}
 use Rattle.dds_cache.specs.declared.kept.Kept.{Kept}
 use Rattle.dds_cache.specs.Chains.{IsFirst, IsFirstUnread}
@@ -197,35 +196,7 @@ of-one-sorted n cs all = λ i j d le within.
     let second : handle_in (get_or cs j d) ≡ n = all j d within in
     omega (arith, first, second)
 
--- ---- the instance of a handle
-
--- two of some keys with rising numbers have one number only where they are one
-rising-one : (f : Key → ℕ) (a b : ℕ) (ks : List Key) (i j : Key) → IsRising f a b ks
-    → list_any (λ k. same_key k i) ks ≡ true → list_any (λ k. same_key k j) ks ≡ true → f i ≡ f j → i ≡ j
-rising-one f a b [] i j rising there other same = absurd (let clash : false ≡ true = there in cc)
-rising-one f a b (k ∷ ks) i j rising there other same =
-    let later : (x : Key) → same_key k x ≡ false → list_any (λ y. same_key y x) (k ∷ ks) ≡ true
-    → list_any (λ y. same_key y x) ks ≡ true =
-    λ x apart is. sym (ap (λ (b : Bool). b || list_any (λ y. same_key y x) ks) apart) ∙ is in
-    ⊎_elim
-    (λ first. ⊎_elim
-    (λ second. sym (key-same k i first) ∙ key-same k j second)
-    (λ second. let within = rising-within f (f k + 1) b ks j rising.2 (later j second other) in
-    let number : f k ≡ f i = ap f (key-same k i first) in absurd (omega (arith, within.0, number, same)))
-    (cases_Bool (same_key k j)))
-    (λ first. let one = rising-within f (f k + 1) b ks i rising.2 (later i first there) in
-    ⊎_elim
-    (λ second. let number : f k ≡ f j = ap f (key-same k j second) in
-    absurd (omega (arith, one.0, number, same)))
-    (λ second. rising-one f (f k + 1) b ks i j rising.2 (later i first there) (later j second other) same)
-    (cases_Bool (same_key k j)))
-    (cases_Bool (same_key k i))
-
-among-any : (ks : List Key) (place : ℕ) (i : Key) → slice_get ks place ≡ Some i
-    → list_any (λ k. same_key k i) ks ≡ true
-among-any ks place i there =
-    list_any_at (λ k. same_key k i) ks place i (slice_get_within ks place i there)
-    (ap (λ (x : Key). same_key x i) (get_or_from_slice_get ks place i i there) ∙ same_key-refl i)
+-- ---- the samples of an instance
 
 -- the first instance that is asked for is a known one
 pub among-first : (q : ReaderQos) (h : List Happening) (selection : Selection) (known : KnownInstance)
@@ -239,34 +210,13 @@ among-first q h selection known first = record {
 own-same : (i j : Key) → i ≡ j → same_key i j ≡ true
 own-same i j is = ap (λ (x : Key). same_key i x) (sym is) ∙ same_key-refl i
 
--- a kept sample of the handle of a known instance is of its key
-pub of-handle-key : (q : ReaderQos) (h : List Happening) (known : KnownInstance) (k : Kept)
-    → IsAmongKnown q h known → IsKept q h k → k.handle ≡ known.handle → known.key ≡ k.sample.key
-of-handle-key q h known k among kept same =
-    rising-one (handle_of q h) 1 (1 + lives_begun q h) (known_instances q h) known.key k.sample.key (handles-rise q h)
-    (among-any (known_instances q h) among.place known.key among.there) kept.is_known
-    (sym among.is_known.handle_is ∙ (sym same ∙ kept.handle_is))
-
--- one of another handle is of another
-pub of-other-handle : (q : ReaderQos) (h : List Happening) (masks : Masks) (test : Key → List ℕ → Bool)
-    (known : KnownInstance) (k : Kept) → IsAmongKnown q h known → IsKept q h k
-    → (k.handle == known.handle) ≡ false → (same_key known.key k.sample.key && is_wanted q h masks test k) ≡ false
-of-other-handle q h masks test known k among kept other =
-    ⊎_elim
-    (λ same. absurd (eqb-false k.handle known.handle other
-    (kept.handle_is
-    ∙ (ap (λ (x : Key). handle_of q h x) (sym (key-same known.key k.sample.key same)) ∙ sym among.is_known.handle_is))))
-    (λ apart. ap (λ (b : Bool). b && is_wanted q h masks test k) apart)
-    (cases_Bool (same_key known.key k.sample.key))
-
--- one of another handle is none of the wanted ones of an instance
-pub unwanted-other : (q : ReaderQos) (h : List Happening) (masks : Masks) (test : Key → List ℕ → Bool)
-    (known : KnownInstance) (k : Kept) → IsAmongKnown q h known → IsKept q h k → k.handle ≢ known.handle
-    → (same_key known.key k.sample.key && is_wanted q h masks test k) ≡ false
-unwanted-other q h masks test known k among kept other =
-    of-other-handle q h masks test known k among kept
-    (⊎_elim (λ same. absurd (other (eqb-true k.handle known.handle same))) (λ apart. apart)
-    (cases_Bool (k.handle == known.handle)))
+-- one of another instance is none of the wanted ones of an instance
+pub unwanted-other : (q : ReaderQos) (h : List Happening) (masks : Masks) (test : Key → List ℕ → Bool) (i : Key)
+    (k : Kept) → k.sample.key ≢ i → (same_key i k.sample.key && is_wanted q h masks test k) ≡ false
+unwanted-other q h masks test i k other =
+    ap (λ (b : Bool). b && is_wanted q h masks test k)
+    (⊎_elim (λ same. absurd (other (sym (key-same i k.sample.key same)))) (λ apart. apart)
+    (cases_Bool (same_key i k.sample.key)))
 
 -- one that is gone is none of the wanted ones
 unwanted-out : (q : ReaderQos) (h : List Happening) (masks : Masks) (test : Key → List ℕ → Bool) (i : Key) (k : Kept)
@@ -275,51 +225,51 @@ unwanted-out q h masks test i k kept out =
     ap (λ (b : Bool). same_key i k.sample.key && (b && is_asked_for q h masks test k.sample)) (kept.out_is out)
     ∙ and_right (same_key i k.sample.key) false refl
 
--- one of another handle, or before the first of its handle that is not gone, is none of the wanted ones of an instance
-pub unwanted-first : (q : ReaderQos) (h : List Happening) (masks : Masks) (test : Key → List ℕ → Bool)
-    (known : KnownInstance) (ks : List Kept) (first j : ℕ) (d : Kept) → IsAmongKnown q h known → All (IsKept q h) ks
-    → IsFirst ks known.handle first → j < first → j < length ks
-    → (same_key known.key (get_or ks j d).sample.key && is_wanted q h masks test (get_or ks j d)) ≡ false
-unwanted-first q h masks test known ks first j d among all begins below within =
+-- one of another instance, or before the first of its instance that is not gone, is none of the wanted ones of an instance
+pub unwanted-first : (q : ReaderQos) (h : List Happening) (masks : Masks) (test : Key → List ℕ → Bool) (i : Key)
+    (ks : List Kept) (first j : ℕ) (d : Kept) → All (IsKept q h) ks → IsFirst ks i first → j < first → j < length ks
+    → (same_key i (get_or ks j d).sample.key && is_wanted q h masks test (get_or ks j d)) ≡ false
+unwanted-first q h masks test i ks first j d all begins below within =
+    let k : Kept = get_or ks j d in
     ⊎_elim
     (λ same. ⊎_elim
-    (λ out. unwanted-out q h masks test known.key (get_or ks j d) (all j d within) out)
-    (λ stays. let le : first ≤ j = begins j d within (eqb-true (get_or ks j d).handle known.handle same) stays in
+    (λ out. unwanted-out q h masks test i k (all j d within) out)
+    (λ stays. let le : first ≤ j = begins j d within (sym (key-same i k.sample.key same)) stays in
     absurd (omega (arith, le, below)))
-    (cases_Bool (get_or ks j d).is_out))
-    (λ apart. of-other-handle q h masks test known (get_or ks j d) among (all j d within) apart)
-    (cases_Bool ((get_or ks j d).handle == known.handle))
+    (cases_Bool k.is_out))
+    (λ apart. ap (λ (b : Bool). b && is_wanted q h masks test k) apart)
+    (cases_Bool (same_key i k.sample.key))
 
 -- one before those that were not read is none of the wanted ones, where no read one is asked for
-pub unwanted-unread : (q : ReaderQos) (h : List Happening) (masks : Masks) (test : Key → List ℕ → Bool)
-    (known : KnownInstance) (ks : List Kept) (first j : ℕ) (d : Kept) → IsAmongKnown q h known → All (IsKept q h) ks
-    → asks_for_sample_state masks.samples HasBeenRead ≡ false → IsFirstUnread ks known.handle first
-    → j < first → j < length ks
-    → (same_key known.key (get_or ks j d).sample.key && is_wanted q h masks test (get_or ks j d)) ≡ false
-unwanted-unread q h masks test known ks first j d among all unasked begins below within =
+pub unwanted-unread : (q : ReaderQos) (h : List Happening) (masks : Masks) (test : Key → List ℕ → Bool) (i : Key)
+    (ks : List Kept) (first j : ℕ) (d : Kept) → All (IsKept q h) ks
+    → asks_for_sample_state masks.samples HasBeenRead ≡ false → IsFirstUnread ks i first → j < first → j < length ks
+    → (same_key i (get_or ks j d).sample.key && is_wanted q h masks test (get_or ks j d)) ≡ false
+unwanted-unread q h masks test i ks first j d all unasked begins below within =
+    let k : Kept = get_or ks j d in
     ⊎_elim
     (λ same. ⊎_elim
-    (λ out. unwanted-out q h masks test known.key (get_or ks j d) (all j d within) out)
+    (λ out. unwanted-out q h masks test i k (all j d within) out)
     (λ stays. ⊎_elim
-    (λ read. passed (get_or ks j d) (all j d within) read)
-    (λ unread. let le : first ≤ j =
-    begins j d within (eqb-true (get_or ks j d).handle known.handle same) stays unread in absurd (omega (arith, le, below)))
-    (cases_Bool (get_or ks j d).is_read))
-    (cases_Bool (get_or ks j d).is_out))
-    (λ apart. of-other-handle q h masks test known (get_or ks j d) among (all j d within) apart)
-    (cases_Bool ((get_or ks j d).handle == known.handle))
+    (λ read. passed k (all j d within) read)
+    (λ unread. let le : first ≤ j = begins j d within (sym (key-same i k.sample.key same)) stays unread in
+    absurd (omega (arith, le, below)))
+    (cases_Bool k.is_read))
+    (cases_Bool k.is_out))
+    (λ apart. ap (λ (b : Bool). b && is_wanted q h masks test k) apart)
+    (cases_Bool (same_key i k.sample.key))
   where
-    passed : (k : Kept) → IsKept q h k → k.is_read ≡ true → (same_key known.key k.sample.key && is_wanted q h masks test k) ≡ false
+    passed : (k : Kept) → IsKept q h k → k.is_read ≡ true → (same_key i k.sample.key && is_wanted q h masks test k) ≡ false
     passed k kept read =
-        ap (λ (b : Bool). same_key known.key k.sample.key && (is_present q h k.sample.key k.sample.position
+        ap (λ (b : Bool). same_key i k.sample.key && (is_present q h k.sample.key k.sample.position
         && ((b && asks_for_states q h masks k.sample.key) && test k.sample.key (value_of q h k.sample))))
         (ap (λ (b : Bool). asks_for_sample_state masks.samples (if b then HasBeenRead else NotRead))
         (sym kept.read_is ∙ read) ∙ unasked)
-        ∙ (ap (λ (b : Bool). same_key known.key k.sample.key && b)
+        ∙ (ap (λ (b : Bool). same_key i k.sample.key && b)
         (and_right (is_present q h k.sample.key k.sample.position) false refl)
-        ∙ and_right (same_key known.key k.sample.key) false refl)
+        ∙ and_right (same_key i k.sample.key) false refl)
 
--- one of its handle is found as any is
+-- one of its key is found as any is
 pub found-of : (q : ReaderQos) (h : List Happening) (masks : Masks) (test : Key → List ℕ → Bool) (i : Key) (k : Kept)
     (at : ℕ) (found : Option Candidate) → i ≡ k.sample.key → TellsFound q h masks test k at found
     → TellsFoundOf q h masks test i k at found

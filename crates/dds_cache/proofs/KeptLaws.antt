@@ -16,8 +16,8 @@ use Rattle.dds_base.specs.Ownership.{accepted_kind, registered_writers}
 use Rattle.dds_base.specs.Instance.{is_known, known_instances, instance_state_of, disposed_generations, no_writers_generations}
 use Rattle.dds_base.specs.Life.{state_after, is_nobody, is_write, last_accepted, is_kept_write, keeps, is_at, last_marker, accepted_writes, ends_life, ends_with_write}
 use Rattle.dds_base.specs.Presence.{is_present}
-use Rattle.dds_base.specs.Access.{handle_of, newest_value}
-use Rattle.dds_base.proofs.LifeLaws.{as_of-older, as_of-newest, handle-kept}
+use Rattle.dds_base.specs.Access.{newest_value}
+use Rattle.dds_base.proofs.LifeLaws.{as_of-older, as_of-newest}
 use Rattle.dds_instances.specs.declared.known.KnownInstance.{KnownInstance}
 use Rattle.dds_instances.specs.Known.{IsKnown, writes_in_life}
 use Rattle.dds_instances.proofs.KnownLaws.{known}
@@ -30,7 +30,6 @@ use Rattle.dds_cache.proofs.PresenceLaws.{absent-after, unstated}
 pub some_kept : SamplePosition → Kept
 some_kept s = record {
   sample = s;
-  handle = 0;
   number = 0;
   is_read = false;
   is_out = false;
@@ -64,7 +63,6 @@ kept-next q e h k r o v lives read_is out_is value_is kept =
     record {
       in_past = omega (arith, kept.in_past);
       is_known = known q (e ∷ h) i ∙ lives;
-      handle_is = kept.handle_is ∙ sym (handle-kept q i h e lives (sym (known q h i) ∙ kept.is_known));
       numbered =
           number-next (ends_life q i h e) (if is_write (accepted_kind q i h e) then 1 else 0) _ _ _ k.number
           (known-lives q e h i lives) kept.numbered
@@ -102,7 +100,6 @@ pub kept-let : (q : ReaderQos) (h : List Happening) (k : Kept) → IsKept q h k
 kept-let q h k kept absent = record {
   in_past = kept.in_past;
   is_known = kept.is_known;
-  handle_is = kept.handle_is;
   read_is = kept.read_is;
   out_is = λ _. absent;
   in_is = λ stays. absurd (let clash : true ≡ false = stays in cc);
@@ -171,7 +168,6 @@ live-present q h known k is_known key kept = live-known q h known k is_known key
 
 -- what is known of the newest entry's sample of an instance
 pub record IsNewest (q : ReaderQos) (g : List Happening) (k : Kept) : Type 0 where
-  pub handle_is : k.handle ≡ handle_of q g k.sample.key
   pub number_is : k.number ≡ writes_in_life q k.sample.key g
   pub read_is : k.is_read ≡ false
   pub is_of : IsOf q g k
@@ -217,7 +213,6 @@ kept-newest q e h i known_is k taken read fresh sample stays is_known key newest
       is_known =
           ap (λ (x : Key). list_any (λ y. same_key y x) (known_instances q (e ∷ h))) (key_is ∙ sym key)
           ∙ known-stated q (e ∷ h) known_is.key known_is.state is_known.state_is;
-      handle_is = newest.handle_is;
       out_is = λ out. absurd (let clash : true ≡ false = sym out ∙ stays in cc);
       in_is = λ _.
           ap (λ (ss : List SamplePosition). list_any (same_sample k.sample) ss || is_taken k.sample h) taken
@@ -251,13 +246,11 @@ pub newest-came : (q : ReaderQos) (a : Arrival) (h : List Happening) (known_is :
     → k.disposed_generation_count ≡ known_is.disposed_generations
     → k.no_writers_generation_count ≡ known_is.no_writers_generations → k.source_timestamp ≡ a.change.source_timestamp
     → k.publication_handle ≡ a.writer → k.value ≡ value_if k.valid_data a.change.value → k.is_read ≡ false
-    → k.handle ≡ known_is.handle → IsNewest q (Came a ∷ h) k
-newest-came q a h known_is k is_known key sample valid number disposed no_writers timestamp publication value unread
-    handle =
+    → IsNewest q (Came a ∷ h) k
+newest-came q a h known_is k is_known key sample valid number disposed no_writers timestamp publication value unread =
     let g : List Happening = Came a ∷ h in
     let same : known_is.key ≡ k.sample.key = key ∙ sym sample in
     record {
-      handle_is = handle ∙ (is_known.handle_is ∙ ap (λ (x : Key). handle_of q g x) same);
       number_is = number ∙ (is_known.writes_are ∙ ap (λ (x : Key). writes_in_life q x g) same);
       read_is = unread;
       is_of = record {

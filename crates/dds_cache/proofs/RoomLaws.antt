@@ -21,7 +21,7 @@ use Rattle.dds_base.specs.Ownership.{accepted_kind}
 use Rattle.dds_base.specs.Instance.{introduces, is_known, known_instances, disposed_generations, no_writers_generations}
 use Rattle.dds_base.specs.Life.{is_write, accepted_writes, ends_life, ends_with_write, is_at, is_kept_write, keeps, last_marker, later_writes, up_to}
 use Rattle.dds_base.specs.Presence.{has_room, is_accepted, is_present, is_within, marks, present_writes}
-use Rattle.dds_base.specs.Access.{handle_of, timestamp_of, publication_of, newest_value}
+use Rattle.dds_base.specs.Access.{timestamp_of, publication_of, newest_value}
 use Rattle.dds_base.proofs.KeyLaws.{key-same, same_key-comm, same_key-refl}
 use Rattle.dds_base.proofs.LifeLaws.{accepted-other, as_of-newest, as_of-older, marker-next}
 use Rattle.dds_instances.specs.declared.known.KnownInstance.{KnownInstance}
@@ -180,7 +180,6 @@ writes-all q a h ks all each =
 newest : ReaderQos → Happening → List Happening → Key → Kept
 newest q e h i = record {
   sample = sample_at i (length h + 1);
-  handle = handle_of q (e ∷ h) i;
   number = writes_in_life q i (e ∷ h);
   is_read = false;
   is_out = false;
@@ -214,7 +213,6 @@ newest-kept q a h fresh known present =
       kept = record {
         in_past = omega arith;
         is_known = known;
-        handle_is = refl;
         out_is = λ out. absurd (let clash : false ≡ true = out in cc);
         in_is = λ _. fresh.untaken;
         read_is = sym fresh.unread;

@@ -151,7 +151,7 @@ counted-read ks at k v old new within is marked counted outs reads writes chains
       omega (arith, writes, counted.writes, change, same));
   chains =
       subst (λ (c : Chains). AreChainsOf (set ks at v) c) (sym chains)
-      (chains-set ks at k v old.chains within is (ap (λ (x : Kept). x.handle) marked)
+      (chains-set ks at k v old.chains within is (ap (λ (x : Kept). x.sample.key) marked)
       (λ stays. ap (λ (x : Kept). x.is_out) (sym marked) ∙ stays)
       (λ unread. absurd (let clash : true ≡ false = sym (ap (λ (x : Kept). x.is_read) marked) ∙ unread in cc))
       counted.chains);
@@ -186,7 +186,7 @@ counted-out ks at k v old new within is marked counted outs reads writes chains 
       omega (arith, writes, counted.writes, change, none, same));
   chains =
       subst (λ (c : Chains). AreChainsOf (set ks at v) c) (sym chains)
-      (chains-set ks at k v old.chains within is (ap (λ (x : Kept). x.handle) marked)
+      (chains-set ks at k v old.chains within is (ap (λ (x : Kept). x.sample.key) marked)
       (λ stays. absurd (let clash : true ≡ false = sym (ap (λ (x : Kept). x.is_out) marked) ∙ stays in cc))
       (λ unread. ap (λ (x : Kept). x.is_read) (sym marked) ∙ unread) counted.chains);
 }

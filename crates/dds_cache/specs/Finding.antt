@@ -112,7 +112,7 @@ described_by k known = record {
   no_writers_generation_count = k.no_writers_generation_count;
   instance_generations = known.disposed_generations + known.no_writers_generations;
   source_timestamp = k.source_timestamp;
-  instance_handle = k.handle;
+  instance_handle = known.handle;
   publication_handle = k.publication_handle;
   valid_data = k.valid_data;
 }

@@ -15,7 +15,7 @@ use Rattle.dds_base.specs.Life.{accepted_writes, ends_with_write, keeps, is_at}
 use Rattle.dds_base.specs.declared.mask.SampleStateMask.{SampleStateMask}
 use Rattle.dds_base.specs.declared.sample.SampleState.{SampleState}
 use Rattle.dds_base.specs.declared.sample.SampleState.TheVariants.{Read as HasBeenRead, NotRead}
-use Rattle.dds_base.specs.Access.{asks_for_sample_state, handle_of, timestamp_of, publication_of, newest_value}
+use Rattle.dds_base.specs.Access.{asks_for_sample_state, timestamp_of, publication_of, newest_value}
 use Rattle.dds_cache.specs.Chains.{AreChainsOf}
 use Rattle.dds_cache.specs.declared.summary.Summary.{Summary}
 use Rattle.dds_cache.specs.declared.kept.Kept.{Kept}
@@ -40,7 +40,6 @@ pub record IsOf (q : ReaderQos) (past : List Happening) (k : Kept) : Type 0 wher
 pub record IsKept (q : ReaderQos) (h : List Happening) (k : Kept) : Type 0 where
   pub in_past : k.sample.position ≤ length h
   pub is_known : IsTrue (list_any (λ i. same_key i k.sample.key) (known_instances q h))
-  pub handle_is : k.handle ≡ handle_of q h k.sample.key
   pub read_is : k.is_read ≡ is_read k.sample h
   pub out_is : k.is_out ≡ true → is_present q h k.sample.key k.sample.position ≡ false
   pub in_is : k.is_out ≡ false → is_taken k.sample h ≡ false

@@ -16,7 +16,7 @@ ghost use Rattle.dds_instances.specs.Table.{Stands};
 ghost use Rattle.dds_cache.specs.Chains.{AreChainsOf};
 ghost use Rattle.dds_cache.specs.First.{AreFirstOf, IsAmongKnown, IsCountable, IsFull, IsOf, TellsFoundOf};
 ghost use Rattle.dds_cache.specs.Kept.{IsKept, is_live, sample_state_in};
-ghost use Rattle.dds_cache.specs.Finding.{are_asked_for, asks_for, is_sought, is_wanted, passes, described_by, IsSmall, IsPlaced, AreCandidates, Holds, Finds, TellsFound, sample_in, handle_in};
+ghost use Rattle.dds_cache.specs.Finding.{are_asked_for, asks_for, is_sought, passes, described_by, IsSmall, IsPlaced, AreCandidates, Holds, Finds, TellsFound, sample_in, handle_in};
 
 use crate::chains::Chains;
 use crate::kept::Kept;
@@ -72,7 +72,7 @@ fn picked(kept: &Kept, known: &KnownInstance) -> Picked
         no_writers_generation_count: kept.no_writers_generation_count,
         instance_generations: known.disposed_generations + known.no_writers_generations,
         source_timestamp: kept.source_timestamp,
-        instance_handle: kept.handle,
+        instance_handle: known.handle,
         publication_handle: kept.publication_handle,
         valid_data: kept.valid_data,
     }
@@ -100,24 +100,6 @@ fn is_found<T: Test>(
         && test.passes(&kept.sample.key, kept.value.as_slice())
 }
 
-/// Whether a kept sample is present, meets the masks and passes the test.
-fn is_match<T: Test>(
-    instances: &Instances,
-    qos: &ReaderQos,
-    masks: Masks,
-    test: &T,
-    kept: &Kept,
-) -> bool
-    ensures wanted { (h : List Happening) → Stands qos.now instances.now h
-        → IsKept qos.now h kept.now
-        → result ≡ is_wanted qos.now h masks (T.meaning test.now) kept.now }
-{
-    match instances.known(kept.sample.key) {
-        None => false,
-        Some(known) => is_found(kept, qos, masks, test, &known),
-    }
-}
-
 /// Whether a selection asks for the instance of a handle.
 pub fn asks_for_handle(selection: &Selection, handle: Handle) -> bool
     ensures { result ≡ asks_for selection.now handle }
@@ -143,7 +125,12 @@ fn is_sought_match<T: Test>(
         → result
         ≡ passes qos.now h (is_sought qos.now h selection.now masks (T.meaning test.now)) kept.now }
 {
-    asks_for_handle(selection, kept.handle) && is_match(instances, qos, masks, test, kept)
+    match instances.known(kept.sample.key) {
+        None => false,
+        Some(known) => {
+            asks_for_handle(selection, known.handle) && is_found(kept, qos, masks, test, &known)
+        }
+    }
 }
 
 /// Whether some sample is present, of an instance that the selection asks for, meets the masks and passes the test. It
@@ -181,7 +168,7 @@ fn candidate_of<T: Test>(
     requires small { IsSmall kept.now }
     requires counts { IsCountable known.now }
     ensures placed { IfSome result (λ c. (c.at ≡ at) × (own_generations c.picked < 2 ^ 64)) }
-    ensures handle { IfSome result (λ c. c.picked.instance_handle ≡ kept.now.handle) }
+    ensures handle { IfSome result (IsOf known.now.handle) }
     ensures wanted { (h : List Happening) → IsKnown qos.now h known.now
         → known.now.key ≡ kept.now.sample.key → IsKept qos.now h kept.now
         → TellsFound qos.now h masks (T.meaning test.now) kept.now at result }
@@ -235,7 +222,7 @@ fn as_candidate_of<T: Test>(
         → IsKept qos.now h kept.now
         → TellsFoundOf qos.now h masks (T.meaning test.now) known.now.key kept.now at result }
 {
-    if kept.handle == known.handle {
+    if kept.sample.key == known.key {
         candidate_of(known, qos, masks, test, kept, at)
     } else {
         None
@@ -310,12 +297,12 @@ pub fn find_in_instance<T: Test>(
 {
     let mut found = Vec::new(alloc);
     let is_unread = !asks_for_sample(masks.samples, SampleState::Read);
-    let mut at = chains.first(known.handle, is_unread);
+    let mut at = chains.first(known.key, is_unread);
     while at < samples.len() && !is_full(max, found.len()) {
         if let Some(candidate) = as_candidate_of(known, qos, masks, test, &samples[at], at) {
             found.push(candidate)?;
         }
-        at = chains.next(samples, known.handle, at);
+        at = chains.next(samples, known.key, at);
     }
     cut_to(&mut found, max);
     Ok(found)

@@ -64,7 +64,6 @@ pub fn left_by(
                     key,
                     position: instances.happened(),
                 },
-                handle: known.handle,
                 number: known.accepted_writes,
                 is_read: false,
                 is_out: false,

@@ -7,7 +7,7 @@ ghost use Rattle.dds_cache.specs.declared.kept.Kept.{Kept};
 ghost use Rattle.dds_cache.specs.Chains.{AreChainsOf, AreOthers, IsFirst, IsFirstUnread, Leads};
 
 use crate::kept::Kept;
-use dds_base::Handle;
+use dds_base::Key;
 use indexmap::IndexMap;
 use std::alloc::{AllocError, Global};
 
@@ -27,8 +27,8 @@ struct Span {
 pub struct Chains {
     /// By place, where the next sample of the instance is, or a place that is not behind it; `u32::MAX` where there is none.
     links: Vec<u32>,
-    /// By handle, between which places the samples of an instance are.
-    spans: IndexMap<u64, Span>,
+    /// By key, between which places the samples of an instance are.
+    spans: IndexMap<Key, Span>,
     /// Whether they are of all kept samples. They are not once memory was refused, until they are made anew: samples are
     /// then found by a pass over all.
     is_whole: bool,
@@ -73,10 +73,10 @@ impl Chains {
 
     /// Has the last sample of an instance, if there is one, lead to a place behind all, and tells between which places those
     /// of the instance are with one more there.
-    fn lead_to(&mut self, handle: Handle, place: usize) -> Span
-        ensures { Leads self.old handle place result self.new }
+    fn lead_to(&mut self, key: Key, place: usize) -> Span
+        ensures { Leads self.old key place result self.new }
     {
-        match self.spans.get(&handle.number()) {
+        match self.spans.get(&key) {
             None => Span {
                 first: place,
                 unread: place,
@@ -100,41 +100,41 @@ impl Chains {
         }
     }
 
-    /// Takes up that a sample of the instance of a handle is added as the last, at a place.
-    pub fn append(&mut self, handle: Handle, place: usize)
-        ensures { (ks : List Kept) (k : Kept) → place ≡ length ks → k.handle ≡ handle
+    /// Takes up that a sample of an instance is added as the last, at a place.
+    pub fn append(&mut self, key: Key, place: usize)
+        ensures { (ks : List Kept) (k : Kept) → place ≡ length ks → k.sample.key ≡ key
             → AreChainsOf ks self.old → AreChainsOf (ks ++ k ∷ []) self.new }
     {
-        let span = self.lead_to(handle, place);
+        let span = self.lead_to(key, place);
         let has_link = self.links.push(u32::MAX).is_ok();
-        let has_span = self.spans.insert(handle.number(), span).is_ok();
+        let has_span = self.spans.insert(key, span).is_ok();
         self.is_whole &= has_link & has_span;
     }
 
     /// Where the samples of an instance begin, or those alone that were not read: none is before it, but for those that are
     /// gone.
-    pub fn first(&self, handle: Handle, is_unread: bool) -> usize
-        ensures first { (ks : List Kept) → AreChainsOf ks self.now → is_unread ≡ false → IsFirst ks handle result }
+    pub fn first(&self, key: Key, is_unread: bool) -> usize
+        ensures first { (ks : List Kept) → AreChainsOf ks self.now → is_unread ≡ false → IsFirst ks key result }
         ensures unread { (ks : List Kept) → AreChainsOf ks self.now → is_unread ≡ true
-            → IsFirstUnread ks handle result }
+            → IsFirstUnread ks key result }
     {
         if !self.is_whole {
             return 0;
         }
-        match self.spans.get(&handle.number()) {
+        match self.spans.get(&key) {
             None => usize::MAX,
             Some(span) => { if is_unread { span.unread } else { span.first } }
         }
     }
 
     /// Where the next sample of an instance may be, after a place: none is between.
-    pub fn next(&self, samples: &[Kept], handle: Handle, place: usize) -> usize
+    pub fn next(&self, samples: &[Kept], key: Key, place: usize) -> usize
         requires within { place < length samples.now }
         ensures later { place < result }
-        ensures between { AreChainsOf samples.now self.now → AreOthers samples.now handle place result }
+        ensures between { AreChainsOf samples.now self.now → AreOthers samples.now key place result }
     {
         let following = place + 1;
-        if !self.is_whole || samples[place].handle != handle {
+        if !self.is_whole || samples[place].sample.key != key {
             return following;
         }
         match self.links.get(place) {
@@ -144,34 +144,34 @@ impl Chains {
     }
 
     /// Where the first sample of an instance is that is not gone, or a place behind all.
-    fn first_left(&self, samples: &[Kept], handle: Handle) -> usize
-        ensures { AreChainsOf samples.now self.now → IsFirst samples.now handle result }
+    fn first_left(&self, samples: &[Kept], key: Key) -> usize
+        ensures { AreChainsOf samples.now self.now → IsFirst samples.now key result }
     {
-        let mut place = self.first(handle, false);
+        let mut place = self.first(key, false);
         while place < samples.len() && samples[place].is_out {
-            place = self.next(samples, handle, place);
+            place = self.next(samples, key, place);
         }
         place
     }
 
     /// The same of those that no read returned either.
-    fn first_unread(&self, samples: &[Kept], handle: Handle) -> usize
-        ensures { AreChainsOf samples.now self.now → IsFirstUnread samples.now handle result }
+    fn first_unread(&self, samples: &[Kept], key: Key) -> usize
+        ensures { AreChainsOf samples.now self.now → IsFirstUnread samples.now key result }
     {
-        let mut place = self.first(handle, true);
+        let mut place = self.first(key, true);
         while place < samples.len() && (samples[place].is_out || samples[place].is_read) {
-            place = self.next(samples, handle, place);
+            place = self.next(samples, key, place);
         }
         place
     }
 
     /// Takes up that samples of an instance were read, or are gone: the others begin at the first that is left.
-    pub fn advance(&mut self, samples: &[Kept], handle: Handle)
+    pub fn advance(&mut self, samples: &[Kept], key: Key)
         ensures { AreChainsOf samples.now self.old → AreChainsOf samples.now self.new }
     {
-        let first = self.first_left(samples, handle);
-        let unread = self.first_unread(samples, handle);
-        let Some(span) = self.spans.get(&handle.number()) else {
+        let first = self.first_left(samples, key);
+        let unread = self.first_unread(samples, key);
+        let Some(span) = self.spans.get(&key) else {
             return;
         };
         let span = Span {
@@ -179,7 +179,7 @@ impl Chains {
             unread,
             last: span.last,
         };
-        let has_span = self.spans.insert(handle.number(), span).is_ok();
+        let has_span = self.spans.insert(key, span).is_ok();
         self.is_whole &= has_span;
     }
 }

@@ -45,7 +45,6 @@ fn marker_of(
             key: known.key,
             position,
         },
-        handle: known.handle,
         number: known.accepted_writes,
         is_read: false,
         is_out: false,

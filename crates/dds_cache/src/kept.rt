@@ -17,8 +17,6 @@ use std::mem;
 #[derive(Drop)]
 pub struct Kept {
     pub sample: SamplePosition,
-    /// The handle of its instance.
-    pub handle: Handle,
     /// How many writes of its instance were accepted in its life, up to it.
     pub number: u64,
     /// Whether a read returned it.

@@ -73,12 +73,12 @@ fn let_first_go(
 {
     let mut is_any = false;
     let mut staying = 0;
-    let mut place = summary.chains.first(known.handle, false);
+    let mut place = summary.chains.first(known.key, false);
     while place < samples.len() && staying < MOST_BEFORE {
         let is_past = let_past_go(alloc, qos, known, samples, summary, place);
         is_any |= is_past;
         staying += u32::from(!is_past);
-        place = summary.chains.next(samples, known.handle, place);
+        place = summary.chains.next(samples, known.key, place);
     }
     is_any
 }
@@ -109,6 +109,6 @@ pub fn push_out(
         return;
     };
     if let_first_go(alloc, qos, &known, samples, summary) {
-        summary.chains.advance(samples, known.handle);
+        summary.chains.advance(samples, known.key);
     }
 }

@@ -58,12 +58,11 @@ pub fn settle(
     match kind {
         AccessKind::Read => {
             mark_read(samples, summary, &access.found);
-            let handle = access.found[0].picked.instance_handle;
-            summary.chains.advance(samples, handle);
+            summary.chains.advance(samples, access.found[0].sample.key);
         }
         AccessKind::Take => {
             take_out(alloc, samples, summary, &access.found, &mut access.samples);
-            pass_over_taken(samples, summary, access.found[0].picked.instance_handle);
+            pass_over_taken(samples, summary, access.found[0].sample.key);
         }
     }
 }

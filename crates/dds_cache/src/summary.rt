@@ -51,7 +51,7 @@ impl Summary {
             self.outs += usize::from(kept.is_out);
             self.reads += usize::from(kept.was_read());
             self.writes += usize::from(kept.has_data());
-            self.chains.append(kept.handle, place);
+            self.chains.append(kept.sample.key, place);
         }
     }
 
@@ -121,7 +121,7 @@ pub fn add(samples: &mut Vec<Kept>, summary: &mut Summary, kept: Kept)
     ensures capacity { vec_capacity samples.old ≤ vec_capacity samples.new }
 {
     summary.writes += usize::from(kept.valid_data);
-    summary.chains.append(kept.handle, samples.len());
+    summary.chains.append(kept.sample.key, samples.len());
     if samples.push(kept).is_err() {
         // Room was reserved.
         unreachable!();

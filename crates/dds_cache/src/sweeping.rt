@@ -11,7 +11,7 @@ ghost use Rattle.dds_cache.specs.Sweeping.{AreIn, left_since, stays};
 
 use crate::kept::Kept;
 use crate::summary::Summary;
-use dds_base::{Handle, ReaderQos};
+use dds_base::{Key, ReaderQos};
 use dds_instances::Instances;
 
 /// Fewer samples than this are not swept. `docs/DECISIONS.md`, "A reader's cache", says when others are.
@@ -69,12 +69,12 @@ fn are_mostly_out(samples: &[Kept], summary: &Summary) -> bool {
 }
 
 /// Has the samples of an instance begin behind those that are gone, where these are not swept out at once.
-pub fn pass_over_taken(samples: &[Kept], summary: &mut Summary, handle: Handle)
+pub fn pass_over_taken(samples: &[Kept], summary: &mut Summary, key: Key)
     requires counted { IsSummary samples.now summary.old }
     ensures counted { IsSummary samples.now summary.new }
 {
     if !are_mostly_out(samples, summary) {
-        summary.chains.advance(samples, handle);
+        summary.chains.advance(samples, key);
     }
 }
 

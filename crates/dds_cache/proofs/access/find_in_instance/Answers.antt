@@ -25,10 +25,10 @@ loop-at-init g c = record {
       c.first-at.result [] (omega arith)
       (λ j d from below within. ⊎_elim
       (λ asked. unwanted-first c.args.qos.now h c.args.masks (g.T.Test.meaning c.args.test.now)
-      c.args.known.now ks c.first-at.result j d among all
+      c.args.known.now.key ks c.first-at.result j d all
       (c.first-at.ensures.first ks c.requires.chains (ap (λ (b : Bool). not b) asked)) below within)
       (λ unasked. unwanted-unread c.args.qos.now h c.args.masks (g.T.Test.meaning c.args.test.now)
-      c.args.known.now ks c.first-at.result j d among all (sym c.asks_for_sample-is_unread.ensures ∙ unasked)
+      c.args.known.now.key ks c.first-at.result j d all (sym c.asks_for_sample-is_unread.ensures ∙ unasked)
       (c.first-at.ensures.unread ks c.requires.chains (ap (λ (b : Bool). not b) unasked)) below within)
       (cases_Bool c.asks_for_sample-is_unread.result))
       (record { samples_are = refl; each = All-nil (IsCandidate c.args.qos.now h ks) }));
@@ -85,7 +85,7 @@ loop-at-preserved g c =
           (c.loop-at.at + 1) c.next-at.result c.match-as_candidate_of.found.items
           (omega (arith, c.next-at.ensures.later))
           (λ j d from below within. unwanted-other c.args.qos.now h c.args.masks (g.T.Test.meaning c.args.test.now)
-          c.args.known.now (get_or ks j d) among (all j d within)
+          c.args.known.now.key (get_or ks j d)
           (c.next-at.ensures.between c.requires.chains j d (omega (arith, from)) below within)) here;
     }
 

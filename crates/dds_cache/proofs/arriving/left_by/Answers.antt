@@ -14,7 +14,6 @@ use Rattle.dds_cache.proofs.arriving.left_by.Goals.{After-is_live}
 abbrev left_of : After-is_live → Kept
 left_of c = record {
   sample = record { key = c.args.arrival.change.key; position = c.happened.result };
-  handle = c.in-Some.known.handle;
   number = c.in-Some.known.accepted_writes;
   is_read = false;
   is_out = false;
@@ -47,7 +46,7 @@ left c h takes =
     let key_is = c.in-Some.ensures.key q g stands in
     let newest =
     newest-came q c.args.arrival h c.in-Some.known (left_of c) known key_is refl takes.valid refl refl refl refl refl
-    c.value_of.ensures refl refl in
+    c.value_of.ensures refl in
     record {
       sample = sample;
       known = known;

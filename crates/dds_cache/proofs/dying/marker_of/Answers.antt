@@ -16,7 +16,6 @@ returns-clause-left c = λ q h i takes.
     let g : List Happening = Died c.args.writer c.args.moment ∷ h in
     let k : Kept = record {
       sample = record { key = c.in_ok-known.known.key; position = c.happened-position.result };
-      handle = c.in_ok-known.known.handle;
       number = c.in_ok-known.known.accepted_writes;
       is_read = false;
       is_out = false;
@@ -39,7 +38,7 @@ returns-clause-left c = λ q h i takes.
     kept-newest q (Died c.args.writer c.args.moment) h i c.in_ok-known.known k refl refl takes.fresh sample refl known key
     (newest-died q c.args.writer c.args.moment h c.in_ok-known.known k known
     refl refl refl refl refl refl refl (c.from_vec.ensures.octets
-    ∙ c.new.ensures.items) refl refl) in
+    ∙ c.new.ensures.items) refl) in
     let live : is_live q c.in_ok-known.known k ≡ true = sym c.is_position.ensures ∙ c.if-not-is_position.false in
     record {
       sample_is = sample;

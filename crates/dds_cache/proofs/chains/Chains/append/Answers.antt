@@ -1,9 +1,11 @@
-use Rattle.std.proofs.Common.{◌≡◌, ◌∙◌, Bool, true, false, ◌&&◌, ℕ, [], ◌∷◌, ◌++◌, length, sym, ap, refl, subst, Result, Ok, Err, Some}
-use Rattle.std.specs.Prelude.{OnOk, is_ok, nat_eq, if◌then◌else◌}
+use Rattle.std.proofs.Common.{◌≡◌, ◌∙◌, Bool, true, false, ◌&&◌, ℕ, [], ◌∷◌, ◌++◌, length, sym, ap, refl, subst, Some}
+use Rattle.std.specs.Prelude.{if◌then◌else◌}
 use Rattle.indexmap.specs.IndexMap.{Updates}
+use Rattle.dds_base.specs.declared.key.Key.{Key}
+use Rattle.dds_base.specs.Happening.{same_key}
 use Rattle.dds_cache.specs.declared.chains.Chains.{Chains}
 use Rattle.dds_cache.specs.Chains.{IsLinked, Leads}
-use Rattle.dds_cache.proofs.ChainLaws.{linked-more}
+use Rattle.dds_cache.proofs.ChainLaws.{linked-more, where-ok}
 use Rattle.dds_cache.proofs.chains.Chains.append.Goals as goal
 
 each : (a b c : Bool) → (a && (b && c)) ≡ true → (a ≡ true) × (b ≡ true) × (c ≡ true)
@@ -12,17 +14,13 @@ each true true false is = absurd (let clash : false ≡ true = is in cc)
 each true false c is = absurd (let clash : false ≡ true = is in cc)
 each false b c is = absurd (let clash : false ≡ true = is in cc)
 
-where-ok : {A E : Type 0} (r : Result A E) (P : Type 0) → is_ok r ≡ true → OnOk r P → P
-where-ok (Ok x) P is holds = holds
-where-ok (Err e) P is holds = absurd (let clash : false ≡ true = is in cc)
-
 pub returns : goal.returns
-returns c = λ ks k place handle chains whole.
+returns c = λ ks k place key chains whole.
     let all = each c.lead_to-span.new.self.is_whole c.is_ok-has_link.result c.is_ok-has_span.result whole in
     let linked : IsLinked ks c.args.self.now = chains (sym c.lead_to-span.ensures.whole ∙ all.0) in
-    let leads : Leads c.args.self.now k.handle (length ks) c.lead_to-span.result c.lead_to-span.new.self =
-    subst (λ (n : ℕ). Leads c.args.self.now n (length ks) c.lead_to-span.result c.lead_to-span.new.self) (sym handle)
-    (subst (λ (n : ℕ). Leads c.args.self.now c.args.handle n c.lead_to-span.result c.lead_to-span.new.self) place
+    let leads : Leads c.args.self.now k.sample.key (length ks) c.lead_to-span.result c.lead_to-span.new.self =
+    subst (λ (i : Key). Leads c.args.self.now i (length ks) c.lead_to-span.result c.lead_to-span.new.self) (sym key)
+    (subst (λ (n : ℕ). Leads c.args.self.now c.args.key n c.lead_to-span.result c.lead_to-span.new.self) place
     c.lead_to-span.ensures) in
     let new : Chains = record {
       links = c.push.new.self;
@@ -34,6 +32,6 @@ returns c = λ ks k place handle chains whole.
     ∙ ap (λ (b : Bool). if b then c.lead_to-span.new.self.links.items ++ 4294967295 ∷ []
     else c.lead_to-span.new.self.links.items)
     (sym c.is_ok-has_link.ensures.value ∙ all.1))
-    (subst (λ (n : ℕ). Updates nat_eq c.lead_to-span.new.self.spans c.insert.new.self n (Some c.lead_to-span.result))
-    (c.number.ensures.number ∙ sym handle)
+    (subst (λ (i : Key). Updates same_key c.lead_to-span.new.self.spans c.insert.new.self i (Some c.lead_to-span.result))
+    (sym key)
     (where-ok c.insert.result _ (sym c.is_ok-has_span.ensures.value ∙ all.2) c.insert.ensures.updates))

@@ -7,7 +7,7 @@ loop-place-init c = record { first = λ chains. c.first-place.ensures.first c.ar
 
 pub loop-place-preserved : goal.loop-place-preserved
 loop-place-preserved c = record {
-  first = λ chains. first-after c.args.samples.now c.args.handle c.loop-place.place c.next-place.result
+  first = λ chains. first-after c.args.samples.now c.args.key c.loop-place.place c.next-place.result
       c.index-samples-place.result c.loop-place-test.true c.if-samples-place.true
       (c.loop-place.invariant.first chains) (c.next-place.ensures.between chains);
 }
