@@ -1,20 +1,28 @@
 -- The links and the spans of the kept samples, as one is added, and as some are marked.
 use Rattle.std.proofs.Common.{◌≡◌, ◌≢◌, ℕ, ◌+◌, ◌≤◌, ◌<◌, List, [], ◌∷◌, ◌++◌, length, get_or, set, Bool, true, false, cond, sym, ap, ◌∙◌, refl, subst, arith, ⊎_elim, ◌⊎◌, inl, inr, Option, Some, None, is_some, Result, Ok, Err, ◌||◌}
+use Rattle.std.specs.Cmp.{IsEquivalence}
 use Rattle.std.specs.Prelude.{OnOk, is_ok, nat_eq, nat_lt}
 use Rattle.std.proofs.lemmas.Bool.{cases_Bool, eqb-true, eqb-false, ltb-true, ltb-false}
 use Rattle.std.proofs.lemmas.List.{get_or_append_left, get_or_default, get_or_push, get_or-set_other, get_or-set_same, length-append, length-set}
 use Rattle.indexmap.specs.IndexMap.{Updates, get}
 use Rattle.dds_base.specs.declared.key.Key.{Key}
 use Rattle.dds_base.specs.Happening.{same_key}
-use Rattle.dds_base.proofs.KeyLaws.{key-Decides, key-same}
+use Rattle.dds_base.proofs.KeyLaws.{key-Decides, key-same, same_key-comm, same_key-refl}
 use Rattle.dds_cache.specs.declared.chains.Chains.{Chains}
 use Rattle.dds_cache.specs.declared.chains.Span.{Span}
 use Rattle.dds_cache.specs.declared.kept.Kept.{Kept}
-use Rattle.dds_cache.specs.Chains.{AreChainsOf, AreOthers, IsFirst, IsFirstUnread, IsLinked, IsSpan, Leads}
+use Rattle.dds_cache.specs.Chains.{AreChainsOf, AreOthers, IsFirst, IsFirstUnread, IsLinked, IsSpan, Leads, with_more}
 
 -- two keys that the test tells apart are two
 pub keys-apart : (i j : Key) → same_key i j ≡ false → i ≢ j
 keys-apart i j other same = let clash : true ≡ false = sym ((key-Decides i j).1 same) ∙ other in cc
+
+pub keys-equivalent : IsEquivalence same_key
+keys-equivalent = record {
+  refl = same_key-refl;
+  symm = same_key-comm;
+  congr = λ i j x same. ap (λ (y : Key). same_key y x) (key-same i j same);
+}
 
 -- what holds where a call succeeds holds once it has
 pub where-ok : {A E : Type 0} (r : Result A E) (P : Type 0) → is_ok r ≡ true → OnOk r P → P
@@ -43,9 +51,43 @@ none-spanned ks i chains linked none at d within own =
     sym (linked.each at d within)
     ∙ (ap (λ (j : Key). is_some (get same_key chains.spans j)) own ∙ sym (ap is_some none)) in cc
 
-module _ (ks : List Kept) (k : Kept) (old led new : Chains) (span : Span) (link : ℕ) (linked : IsLinked ks old)
-    (leads : Leads old k.sample.key (length ks) span led) (links : new.links.items ≡ led.links.items ++ link ∷ [])
-    (updates : Updates same_key led.spans new.spans k.sample.key (Some span)) where
+-- with one more sample those of an instance end at its place, and begin no later than there, or than they did
+more-last : (o : Option Span) (place : ℕ) → (with_more o place).last ≡ place
+more-last None place = refl
+more-last (Some b) place = refl
+
+more-first : (o : Option Span) (place : ℕ) → (with_more o place).first ≤ place
+more-first None place = omega arith
+more-first (Some b) place = omega arith
+
+more-unread : (o : Option Span) (place : ℕ) → (with_more o place).unread ≤ place
+more-unread None place = omega arith
+more-unread (Some b) place = omega arith
+
+first-stays : (o : Option Span) (b : Span) (place : ℕ) → o ≡ Some b → (with_more o place).first ≤ b.first
+first-stays None b place is = absurd (let clash : false ≡ true = ap is_some is in cc)
+first-stays (Some a) b place is = let same : a.first ≡ b.first = cc in omega (arith, same)
+
+unread-stays : (o : Option Span) (b : Span) (place : ℕ) → o ≡ Some b → (with_more o place).unread ≤ b.unread
+unread-stays None b place is = absurd (let clash : false ≡ true = ap is_some is in cc)
+unread-stays (Some a) b place is = let same : a.unread ≡ b.unread = cc in omega (arith, same)
+
+module _ (ks : List Kept) (k : Kept) (old led new : Chains) (link : ℕ) (linked : IsLinked ks old)
+    (leads : Leads old k.sample.key (length ks) led) (links : new.links.items ≡ led.links.items ++ link ∷ [])
+    (spans : new.spans ≡ led.spans) where
+  abbrev had : Option Span
+  had = get same_key old.spans k.sample.key
+
+  abbrev span : Span
+  span = with_more had (length ks)
+
+  ends : span.last ≡ length ks
+  ends = more-last had (length ks)
+
+  spanned : (i : Key) → get same_key new.spans i
+      ≡ cond (same_key k.sample.key i) (Some span) (get same_key old.spans i)
+  spanned i = ap (λ m. get same_key m i) spans ∙ leads.updates.0 i
+
   earlier : (at : ℕ) (d : Kept) → at < length ks → (get_or (ks ++ k ∷ []) at d).sample.key ≡ (get_or ks at d).sample.key
   earlier at d within = ap (λ (x : Kept). x.sample.key) (get_or_append_left ks (k ∷ []) d at within)
 
@@ -119,19 +161,19 @@ module _ (ks : List Kept) (k : Kept) (old led new : Chains) (span : Span) (link 
       one (inl own) =
           let key : k.sample.key ≡ i = key-same k.sample.key i own in
           let which : Some s ≡ Some span =
-          sym is ∙ (updates.0 i ∙ ap (λ (b : Bool). cond b (Some span) (get same_key led.spans i)) own) in
+          sym is ∙ (spanned i ∙ ap (λ (b : Bool). cond b (Some span) (get same_key old.spans i)) own) in
           let same : s ≡ span = cc in
           subst (λ (x : Span). IsSpan (ks ++ k ∷ []) i x) (sym same) (record {
-            within = omega (arith, len, leads.last);
-            own = λ d. ap (λ (x : Kept). x.sample.key) (last span.last d leads.last) ∙ key;
+            within = omega (arith, len, ends);
+            own = λ d. ap (λ (x : Kept). x.sample.key) (last span.last d ends) ∙ key;
             first = λ at d within is_own is_in. ⊎_elim
                 (λ there.
                 let own_old : (get_or ks at d).sample.key ≡ k.sample.key = sym (earlier at d there) ∙ (is_own ∙ sym key) in
                 let found = before at d there own_old in
                 let le : found.0.first ≤ at = (linked.spans k.sample.key found.0 found.1).first at d there own_old
                 (ap (λ (x : Kept). x.is_out) (sym (get_or_append_left ks (k ∷ []) d at there)) ∙ is_in) in
-                omega (arith, le, leads.stays found.0 found.1))
-                (λ new. omega (arith, new, leads.first)) (earlier-or-last ks k at within);
+                omega (arith, le, first-stays had found.0 (length ks) found.1))
+                (λ new. omega (arith, new, more-first had (length ks))) (earlier-or-last ks k at within);
             unread = λ at d within is_own is_in is_new. ⊎_elim
                 (λ there.
                 let own_old : (get_or ks at d).sample.key ≡ k.sample.key = sym (earlier at d there) ∙ (is_own ∙ sym key) in
@@ -140,15 +182,14 @@ module _ (ks : List Kept) (k : Kept) (old led new : Chains) (span : Span) (link 
                 let le : found.0.unread ≤ at = (linked.spans k.sample.key found.0 found.1).unread at d there own_old
                 (ap (λ (x : Kept). x.is_out) (sym same_one) ∙ is_in)
                 (ap (λ (x : Kept). x.is_read) (sym same_one) ∙ is_new) in
-                omega (arith, le, leads.unread_stays found.0 found.1))
-                (λ new. omega (arith, new, leads.unread)) (earlier-or-last ks k at within);
-            last = λ at d within is_own. omega (arith, within, len, leads.last);
+                omega (arith, le, unread-stays had found.0 (length ks) found.1))
+                (λ new. omega (arith, new, more-unread had (length ks))) (earlier-or-last ks k at within);
+            last = λ at d within is_own. omega (arith, within, len, ends);
           })
       one (inr other) =
           let apart : k.sample.key ≢ i = keys-apart k.sample.key i other in
           let before_is : get same_key old.spans i ≡ Some s =
-          ap (λ m. get same_key m i) (sym leads.spans)
-          ∙ (sym (updates.0 i ∙ ap (λ (b : Bool). cond b (Some span) (get same_key led.spans i)) other) ∙ is) in
+          sym (spanned i ∙ ap (λ (b : Bool). cond b (Some span) (get same_key old.spans i)) other) ∙ is in
           let was : IsSpan ks i s = linked.spans i s before_is in
           record {
             within = omega (arith, len, was.within);
@@ -179,11 +220,10 @@ module _ (ks : List Kept) (k : Kept) (old led new : Chains) (span : Span) (link 
       one : (b : Bool) → same_key k.sample.key i ≡ b → (i ≡ k.sample.key) ⊎ (is_some (get same_key old.spans i) ≡ true)
           → is_some (get same_key new.spans i) ≡ true
       one true is from =
-          ap is_some (updates.0 i ∙ ap (λ (b : Bool). cond b (Some span) (get same_key led.spans i)) is)
+          ap is_some (spanned i ∙ ap (λ (b : Bool). cond b (Some span) (get same_key old.spans i)) is)
       one false is (inl same) = absurd (keys-apart k.sample.key i is (sym same))
-      one false is (inr had) =
-          ap is_some (updates.0 i ∙ ap (λ (b : Bool). cond b (Some span) (get same_key led.spans i)) is)
-          ∙ (ap (λ m. is_some (get same_key m i)) leads.spans ∙ had)
+      one false is (inr some) =
+          ap is_some (spanned i ∙ ap (λ (b : Bool). cond b (Some span) (get same_key old.spans i)) is) ∙ some
 
   -- with one more sample the chains are those of all of them
   pub linked-more : IsLinked (ks ++ k ∷ []) new
@@ -235,10 +275,10 @@ chains-same old new chains len keys outs reads are = λ whole.
 pub chains-set : (ks : List Kept) (at : ℕ) (k v : Kept) (chains : Chains) → at < length ks → k ≡ get_or ks at k
     → v.sample.key ≡ k.sample.key → (v.is_out ≡ false → k.is_out ≡ false) → (v.is_read ≡ false → k.is_read ≡ false)
     → AreChainsOf ks chains → AreChainsOf (set ks at v) chains
-chains-set ks at k v chains within is handle out read =
+chains-set ks at k v chains within is key out read =
     chains-same ks (set ks at v) chains (length-set ks at v)
     (λ j d inside. one (λ x. x.sample.key ≡ (get_or ks j d).sample.key) j d inside
-    (λ here. handle ∙ (ap (λ (x : Kept). x.sample.key) (is ∙ old j d here))) refl)
+    (λ here. key ∙ (ap (λ (x : Kept). x.sample.key) (is ∙ old j d here))) refl)
     (λ j d inside. one (λ x. x.is_out ≡ false → (get_or ks j d).is_out ≡ false) j d inside
     (λ here stays. ap (λ (x : Kept). x.is_out) (sym (is ∙ old j d here)) ∙ out stays) (λ stays. stays))
     (λ j d inside. one (λ x. x.is_read ≡ false → (get_or ks j d).is_read ≡ false) j d inside

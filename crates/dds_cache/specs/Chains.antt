@@ -1,8 +1,8 @@
 -- Where the kept samples of each instance are found. Inner functions alone cite this: nothing here has to be believed.
 --
 -- What a reader keeps is in DDS 1.4, 2.2.2.5 (read_instance, take_instance); how it is found is this project's own.
-use Rattle.std.specs.Prelude.{◌≡◌, ◌≢◌, ℕ, ◌<◌, ◌≤◌, List, length, get_or, Some, is_some, true, false}
-use Rattle.indexmap.specs.IndexMap.{get}
+use Rattle.std.specs.Prelude.{◌≡◌, ◌≢◌, ℕ, ◌<◌, ◌≤◌, List, length, get_or, min, Option, None, Some, is_some, true, false}
+use Rattle.indexmap.specs.IndexMap.{Updates, get}
 use Rattle.dds_base.specs.declared.key.Key.{Key}
 use Rattle.dds_base.specs.Happening.{same_key}
 use Rattle.dds_cache.specs.declared.chains.Chains.{Chains}
@@ -49,17 +49,21 @@ pub record IsLinked (ks : List Kept) (chains : Chains) : Type 0 where
 abbrev pub AreChainsOf : List Kept → Chains → Type 0
 AreChainsOf ks chains = chains.is_whole ≡ true → IsLinked ks chains
 
--- the last kept sample of an instance, if there is one, has a link that leads no further than to a place, and no other link
--- has changed; with one more at that place the samples of the instance are between these places
-pub record Leads (old : Chains) (i : Key) (place : ℕ) (span : Span) (new : Chains) : Type 0 where
-  pub spans : new.spans ≡ old.spans
+-- between which places the samples of an instance are, if it has any, with one more at a place behind all
+abbrev pub with_more : Option Span → ℕ → Span
+with_more None place = record { first = place; unread = place; last = place }
+with_more (Some span) place = record {
+  first = min span.first place;
+  unread = min span.unread place;
+  last = place;
+}
+
+-- the last kept sample of an instance, if there is one, has a link that leads no further than to a place behind all, and no
+-- other link has changed; those of the instance end at that place, and those of no other begin or end elsewhere than before
+pub record Leads (old : Chains) (i : Key) (place : ℕ) (new : Chains) : Type 0 where
   pub whole : new.is_whole ≡ old.is_whole
   pub len : length new.links.items ≡ length old.links.items
   pub same : (at : ℕ) → ((before : Span) → get same_key old.spans i ≡ Some before → at ≢ before.last)
       → get_or new.links.items at 0 ≡ get_or old.links.items at 0
   pub led : (before : Span) → get same_key old.spans i ≡ Some before → get_or new.links.items before.last 0 ≤ place
-  pub last : span.last ≡ place
-  pub first : span.first ≤ place
-  pub stays : (before : Span) → get same_key old.spans i ≡ Some before → span.first ≤ before.first
-  pub unread : span.unread ≤ place
-  pub unread_stays : (before : Span) → get same_key old.spans i ≡ Some before → span.unread ≤ before.unread
+  pub updates : Updates same_key old.spans new.spans i (Some (with_more (get same_key old.spans i) place))

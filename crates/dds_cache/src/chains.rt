@@ -2,14 +2,17 @@
 //!
 //! DDS 1.4, 2.2.2.5 (read_instance, take_instance, read_next_instance, take_next_instance).
 
-ghost use Rattle.std.specs.Prelude.{false, true, ◌≡◌, ◌<◌, ◌≤◌, ◌∷◌, ◌++◌, [], List, length};
+ghost use Rattle.std.specs.Prelude.{false, true, ◌≡◌, ◌<◌, ◌≤◌, ◌∷◌, ◌++◌, [], List, length, None, Some};
 ghost use Rattle.dds_cache.specs.declared.kept.Kept.{Kept};
-ghost use Rattle.dds_cache.specs.Chains.{AreChainsOf, AreOthers, IsFirst, IsFirstUnread, Leads};
+ghost use Rattle.indexmap.specs.IndexMap.{get};
+ghost use Rattle.dds_base.specs.Happening.{same_key};
+ghost use Rattle.dds_cache.specs.Chains.{AreChainsOf, AreOthers, IsFirst, IsFirstUnread, Leads, with_more};
 
 use crate::kept::Kept;
 use dds_base::Key;
 use indexmap::IndexMap;
 use std::alloc::{AllocError, Global};
+use std::mem;
 
 /// Between which places the kept samples of one instance are.
 #[derive(Clone, Copy)]
@@ -32,6 +35,29 @@ pub struct Chains {
     /// Whether they are of all kept samples. They are not once memory was refused, until they are made anew: samples are
     /// then found by a pass over all.
     is_whole: bool,
+}
+
+impl Span {
+    /// Of one sample, at a place.
+    fn of_one(place: usize) -> Span
+        ensures { result ≡ with_more None place }
+    {
+        Span {
+            first: place,
+            unread: place,
+            last: place,
+        }
+    }
+
+    /// Takes up that one more is at a place, behind all. Returns where the last one before it is.
+    fn extend(&mut self, place: usize) -> usize
+        ensures last { result ≡ self.old.last }
+        ensures more { self.new ≡ with_more (Some self.old) place }
+    {
+        self.first = self.first.min(place);
+        self.unread = self.unread.min(place);
+        mem::replace(&mut self.last, place)
+    }
 }
 
 /// A link to a place, or to one before it where the place has no link.
@@ -71,33 +97,34 @@ impl Chains {
         self.is_whole = true;
     }
 
-    /// Has the last sample of an instance, if there is one, lead to a place behind all, and tells between which places those
-    /// of the instance are with one more there.
-    fn lead_to(&mut self, key: Key, place: usize) -> Span
-        ensures { Leads self.old key place result self.new }
+    /// Has the last sample of an instance lead to a place behind all, and those of the instance end there, if it has any.
+    /// Returns whether it has.
+    fn lead_to(&mut self, key: Key, place: usize) -> bool
+        ensures leads { result ≡ true → Leads self.old key place self.new }
+        ensures none { result ≡ false → get same_key self.old.spans key ≡ None }
+        ensures same { result ≡ false → self.new ≡ self.old }
     {
-        match self.spans.get(&key) {
-            None => Span {
-                first: place,
-                unread: place,
-                last: place,
-            },
+        match self.spans.get_mut(&key) {
+            None => false,
             Some(span) => {
-                let Span {
-                    first,
-                    unread,
-                    last,
-                } = *span;
+                let last = span.extend(place);
                 if let Some(link) = self.links.get_mut(last) {
                     *link = link_to(place);
                 }
-                Span {
-                    first: first.min(place),
-                    unread: unread.min(place),
-                    last: place,
-                }
+                true
             }
         }
+    }
+
+    /// Has the samples of an instance end at a place behind all, whether or not it has any. Returns whether there was memory
+    /// for that.
+    fn end_at(&mut self, key: Key, place: usize) -> bool
+        ensures { result ≡ true → Leads self.old key place self.new }
+    {
+        if self.lead_to(key, place) {
+            return true;
+        }
+        self.spans.insert(key, Span::of_one(place)).is_ok()
     }
 
     /// Takes up that a sample of an instance is added as the last, at a place.
@@ -105,9 +132,8 @@ impl Chains {
         ensures { (ks : List Kept) (k : Kept) → place ≡ length ks → k.sample.key ≡ key
             → AreChainsOf ks self.old → AreChainsOf (ks ++ k ∷ []) self.new }
     {
-        let span = self.lead_to(key, place);
+        let has_span = self.end_at(key, place);
         let has_link = self.links.push(u32::MAX).is_ok();
-        let has_span = self.spans.insert(key, span).is_ok();
         self.is_whole &= has_link & has_span;
     }
 
@@ -143,11 +169,12 @@ impl Chains {
         }
     }
 
-    /// Where the first sample of an instance is that is not gone, or a place behind all.
-    fn first_left(&self, samples: &[Kept], key: Key) -> usize
-        ensures { AreChainsOf samples.now self.now → IsFirst samples.now key result }
+    /// Where the first sample of an instance is that is not gone, from a place on, or a place behind all.
+    fn first_left(&self, samples: &[Kept], key: Key, from: usize) -> usize
+        ensures { AreChainsOf samples.now self.now → IsFirst samples.now key from
+            → IsFirst samples.now key result }
     {
-        let mut place = self.first(key, false);
+        let mut place = from;
         while place < samples.len() && samples[place].is_out {
             place = self.next(samples, key, place);
         }
@@ -155,10 +182,11 @@ impl Chains {
     }
 
     /// The same of those that no read returned either.
-    fn first_unread(&self, samples: &[Kept], key: Key) -> usize
-        ensures { AreChainsOf samples.now self.now → IsFirstUnread samples.now key result }
+    fn first_unread(&self, samples: &[Kept], key: Key, from: usize) -> usize
+        ensures { AreChainsOf samples.now self.now → IsFirstUnread samples.now key from
+            → IsFirstUnread samples.now key result }
     {
-        let mut place = self.first(key, true);
+        let mut place = from;
         while place < samples.len() && (samples[place].is_out || samples[place].is_read) {
             place = self.next(samples, key, place);
         }
@@ -169,17 +197,25 @@ impl Chains {
     pub fn advance(&mut self, samples: &[Kept], key: Key)
         ensures { AreChainsOf samples.now self.old → AreChainsOf samples.now self.new }
     {
-        let first = self.first_left(samples, key);
-        let unread = self.first_unread(samples, key);
-        let Some(span) = self.spans.get(&key) else {
+        if !self.is_whole {
+            return;
+        }
+        let Some((at, _, span)) = self.spans.get_full(&key) else {
             return;
         };
-        let span = Span {
+        let Span {
             first,
             unread,
-            last: span.last,
-        };
-        let has_span = self.spans.insert(key, span).is_ok();
-        self.is_whole &= has_span;
+            last,
+        } = *span;
+        let first = self.first_left(samples, key, first);
+        let unread = self.first_unread(samples, key, unread);
+        if let Some(span) = self.spans.get_index_mut(at) {
+            *span = Span {
+                first,
+                unread,
+                last,
+            };
+        }
     }
 }
