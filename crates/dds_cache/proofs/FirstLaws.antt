@@ -515,30 +515,7 @@ first-picked q table h selection masks test max ks known cs holds first found se
         ∙ ap (λ (ss : List SamplePosition). at_most max ss)
         (sym (of-it (subst (λ (n : ℕ). All (λ (x : Key). (handle_of q h x == n) ≡ false) before) (sym number) passed))
         ∙ ap (λ (n : ℕ). of_handle q h n (matching_samples q h masks test)) number)
-    by (NextInstance previous limit asked) passed its settled =
-        let next : next_handle q h previous (matching_samples q h masks test) ≡ handle_of q h i =
-        ap (λ (ss : List SamplePosition). next_handle q h previous ss)
-        (matching
-        ∙ (ap (λ (xs : List Key). flat_map X xs) are
-        ∙ (flat_map-append X before (i ∷ after)
-        ∙ ap (λ (ss : List SamplePosition). flat_map X before ++ ss) (flat_map-cons X i after))))
-        ∙ (next-of q h previous (flat_map X before) (X i ++ flat_map X after) (below-each q h X previous before own passed)
-        ∙ next-first q h previous i (X i) (flat_map X after) (own i) its
-        (some max (X i) (subst (λ (n : ℕ). 0 < n) (sym counted ∙ ap length mine) settled))) in
-        let earlier : All (λ (x : Key). (handle_of q h x == handle_of q h i) ≡ false) before =
-        All-weaker (λ (x : Key). nat_lt previous (handle_of q h x) ≡ false)
-        (λ (x : Key). (handle_of q h x == handle_of q h i) ≡ false)
-        (λ x below. let low : handle_of q h x ≤ previous = ltb-false previous (handle_of q h x) below in
-        let high : previous < handle_of q h i = ltb-true previous (handle_of q h i) its in
-        unequal (handle_of q h x) (handle_of q h i) (λ same. omega (arith, low, high, same))) before passed in
-        mine
-        ∙ ap (λ (ss : List SamplePosition). at_most max ss)
-        (sym (of-it earlier) ∙ ap (λ (n : ℕ). of_handle q h n (matching_samples q h masks test)) (sym next))
-      where
-        some : (max : Option ℕ) (ss : List SamplePosition) → 0 < length (at_most max ss) → 0 < length ss
-        some None ss more = more
-        some (Some n) ss more =
-            let few : length (take n ss) ≡ min n (length ss) = length-take n ss in omega (arith, few, more)
+    by (NextInstance previous limit asked) passed its settled = absurd settled
 
 -- where an access asks for no known instance, it picks nothing
 pub none-picked : (q : ReaderQos) (h : List Happening) (selection : Selection) (masks : Masks)

@@ -2,7 +2,7 @@
 -- has to be believed.
 --
 -- DDS 1.4, 2.2.2.5 (read, take, and their instance, next-instance and next-sample forms: max_samples).
-use Rattle.std.specs.Prelude.{◌≡◌, ℕ, ◌≤◌, ◌<◌, ◌^◌, ◌+◌, ◌++◌, ◌⊎◌, List, [], All, map, filter, take, Bool, true, false, ◌&&◌, ◌==◌, Option, None, Some, IfSome, MatchOption, slice_get}
+use Rattle.std.specs.Prelude.{◌≡◌, ℕ, ◌≤◌, ◌<◌, ◌^◌, ◌+◌, ◌++◌, ◌⊎◌, List, [], All, map, filter, take, Bool, true, false, ◌&&◌, ◌==◌, Option, None, Some, IfOk, IfSome, MatchOption, Result, Vec, slice_get}
 use Rattle.std.specs.List.{flat_map}
 use Rattle.dds_base.specs.declared.key.Key.{Key}
 use Rattle.dds_base.specs.declared.happening.SamplePosition.{SamplePosition}
@@ -19,7 +19,9 @@ use Rattle.dds_instances.specs.Known.{IsKnown}
 use Rattle.dds_instances.specs.declared.known.KnownInstance.{KnownInstance}
 use Rattle.dds_cache.specs.declared.access.Candidate.{Candidate}
 use Rattle.dds_cache.specs.declared.kept.Kept.{Kept}
-use Rattle.dds_cache.specs.Finding.{IsCandidate, IsFound, asks_for, is_asked_for, is_wanted, sample_in, sample_of}
+use Rattle.dds_cache.specs.Chains.{AreChainsOf}
+use Rattle.dds_cache.specs.declared.chains.Chains.{Chains}
+use Rattle.dds_cache.specs.Finding.{IsCandidate, IsFound, IsSmall, asks_for, is_asked_for, is_wanted, sample_in, sample_of}
 
 -- an access does not ask for instance i
 abbrev pub IsPassedBy : ReaderQos → List Happening → Selection → Key → Type 0
@@ -92,12 +94,12 @@ abbrev pub IsFull : Option ℕ → ℕ → Type 0
 IsFull None n = ⊥
 IsFull (Some max) n = max ≤ n
 
--- what was found of the first instance that an access asks for is all that it picks: by how many instances are known,
--- and how many samples were found of that one
+-- what was found of the first instance that an access asks for is all that it picks, but for one of the next instance: by
+-- how many instances are known, and how many samples were found of that one
 abbrev pub Settles : Selection → Option ℕ → ℕ → ℕ → Type 0
 Settles (Any max masks) limit known found = (known ≡ 1) ⊎ IsFull limit found
 Settles (Instance handle max masks) limit known found = Unit {0}
-Settles (NextInstance previous max masks) limit known found = 0 < found
+Settles (NextInstance previous max masks) limit known found = ⊥
 Settles NextSample limit known found = (known ≡ 1) ⊎ IsFull limit found
 
 -- an access asks for all instances
@@ -151,3 +153,12 @@ pub record AreFirstUpTo (q : ReaderQos) (h : List Happening) (masks : Masks) (te
 -- an access does not ask for instance i, or no sample of it matches
 abbrev pub IsBarren : ReaderQos → List Happening → Selection → Masks → (Key → List ℕ → Bool) → Key → Type 0
 IsBarren q h selection masks test i = IsPassedBy q h selection i ⊎ (asked_in q h masks test i ≡ [])
+
+-- the chains are those of the kept samples, whose counts can be added
+pub record AreChained (ks : List Kept) (cs : Chains) : Type 0 where
+  pub small : All IsSmall ks
+  pub chains : AreChainsOf ks cs
+
+-- what is so of the candidates, where those that are picked could be told
+abbrev pub IfFound : {A E : Type 0} → Result (Option (Vec Candidate A)) E → (List Candidate → Type 0) → Type 0
+IfFound result P = IfOk result (λ told. IfSome told (λ found. P found.items))

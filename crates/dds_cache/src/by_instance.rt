@@ -2,12 +2,11 @@
 //!
 //! DDS 1.4, 2.2.2.5 (read, take, read_next_sample, take_next_sample: max_samples).
 
-ghost use Rattle.std.specs.Prelude.{◌≡◌, ◌≤◌, List, length, All, IfOk, IfSome, true};
+ghost use Rattle.std.specs.Prelude.{◌≡◌, ◌≤◌, List, length, All, true};
 ghost use Rattle.std.specs.List.Sorted.{IsNonDecreasingBy};
 ghost use Rattle.dds_base.specs.declared.happening.Happening.{Happening};
-ghost use Rattle.dds_cache.specs.Chains.{AreChainsOf};
-ghost use Rattle.dds_cache.specs.Finding.{Holds, IsPlaced, IsSmall, handle_in};
-ghost use Rattle.dds_cache.specs.First.{AreFirstMatching};
+ghost use Rattle.dds_cache.specs.Finding.{Holds, IsPlaced, handle_in};
+ghost use Rattle.dds_cache.specs.First.{AreChained, AreFirstMatching, IfFound};
 
 use crate::access::{Candidate, cut_to, find_in_instance, is_full};
 use crate::chains::Chains;
@@ -31,15 +30,12 @@ pub fn find_by_instance<T: Test>(
     max: Option<u32>,
     test: &T,
 ) -> Result<Option<Vec<Candidate>>, AllocError>
-    requires small { All IsSmall samples.now }
-    requires chains { AreChainsOf samples.now chains.now }
-    ensures placed { IfOk result
-        (λ some. IfSome some (λ found. All (IsPlaced (length samples.now)) found.items)) }
-    ensures found { IfOk result (λ some. IfSome some (λ found. (h : List Happening)
+    requires { AreChained samples.now chains.now }
+    ensures placed { IfFound result (All (IsPlaced (length samples.now))) }
+    ensures found { IfFound result (λ found. (h : List Happening)
         → Holds qos.now instances.now samples.now h
-        → AreFirstMatching qos.now h masks (T.meaning test.now) max samples.now found.items)) }
-    ensures sorted { IfOk result
-        (λ some. IfSome some (λ found. IsNonDecreasingBy handle_in found.items)) }
+        → AreFirstMatching qos.now h masks (T.meaning test.now) max samples.now found) }
+    ensures sorted { IfFound result (IsNonDecreasingBy handle_in) }
 {
     if max.is_none() {
         return Ok(None);

@@ -2,15 +2,14 @@
 //!
 //! DDS 1.4, 2.2.2.5 (read, take, and their instance, next-instance and next-sample forms: max_samples).
 
-ghost use Rattle.std.specs.Prelude.{◌≡◌, List, length, All, IfOk, IfSome, true, MatchOption};
+ghost use Rattle.std.specs.Prelude.{◌≡◌, List, length, All, IfSome, true, MatchOption};
 ghost use Rattle.std.specs.List.Sorted.{IsNonDecreasingBy};
 ghost use Rattle.dds_base.specs.declared.happening.Happening.{Happening};
 ghost use Rattle.dds_base.specs.declared.qos.ReaderQos.{ReaderQos};
 ghost use Rattle.dds_base.specs.Instance.{known_instances};
 ghost use Rattle.dds_instances.specs.Table.{Stands};
-ghost use Rattle.dds_cache.specs.Finding.{Holds, IsPlaced, IsSmall, handle_in};
-ghost use Rattle.dds_cache.specs.Chains.{AreChainsOf};
-ghost use Rattle.dds_cache.specs.First.{AreOfForm, AsksForNext, IsCountable, IsFirstAsked, IsFirstPlace, IsPassedBy, Settles, TellsAsked};
+ghost use Rattle.dds_cache.specs.Finding.{Holds, IsPlaced, handle_in};
+ghost use Rattle.dds_cache.specs.First.{AreChained, AreOfForm, AsksForNext, IfFound, IsCountable, IsFirstAsked, IsFirstPlace, IsPassedBy, Settles, TellsAsked};
 
 use crate::access::{Candidate, asks_for_handle, find_in_instance, is_full};
 use crate::by_instance::find_by_instance;
@@ -63,15 +62,15 @@ fn first_asked(instances: &Instances, selection: &Selection) -> Option<KnownInst
     asked_at(instances, selection, first_place(instances, selection))
 }
 
-/// Whether what was found of the first instance that an access asks for is all that it picks: by how many instances are
-/// known, and how many samples were found of that one.
+/// Whether what was found of the first instance that an access asks for is all that it picks, but for one of the next
+/// instance: by how many instances are known, and how many samples were found of that one.
 fn is_settled(selection: &Selection, max: Option<u32>, known: usize, found: usize) -> bool
     ensures { result ≡ true → Settles selection.now max known found }
 {
     match *selection {
         Selection::Any { .. } | Selection::NextSample => known == 1 || is_full(max, found),
         Selection::Instance { .. } => true,
-        Selection::NextInstance { .. } => 0 < found,
+        Selection::NextInstance { .. } => false,
     }
 }
 
@@ -96,16 +95,12 @@ fn find_next<T: Test>(
     max: Option<u32>,
     test: &T,
 ) -> Result<Option<Vec<Candidate>>, AllocError>
-    requires small { All IsSmall samples.now }
-    requires chains { AreChainsOf samples.now chains.now }
-    ensures placed { IfOk result
-        (λ some. IfSome some (λ found. All (IsPlaced (length samples.now)) found.items)) }
-    ensures found { IfOk result (λ some. IfSome some (λ found. (h : List Happening)
+    requires { AreChained samples.now chains.now }
+    ensures placed { IfFound result (All (IsPlaced (length samples.now))) }
+    ensures found { IfFound result (λ found. (h : List Happening)
         → Holds qos.now instances.now samples.now h → AsksForNext selection.now
-        → AreOfForm qos.now h selection.now masks (T.meaning test.now) max samples.now
-        found.items)) }
-    ensures sorted { IfOk result
-        (λ some. IfSome some (λ found. IsNonDecreasingBy handle_in found.items)) }
+        → AreOfForm qos.now h selection.now masks (T.meaning test.now) max samples.now found) }
+    ensures sorted { IfFound result (IsNonDecreasingBy handle_in) }
 {
     if is_full(max, 0) {
         return Ok(Some(Vec::new(alloc)));
@@ -138,17 +133,18 @@ pub fn find_first<T: Test>(
     max: Option<u32>,
     test: &T,
 ) -> Result<Option<Vec<Candidate>>, AllocError>
-    requires small { All IsSmall samples.now }
-    requires chains { AreChainsOf samples.now chains.now }
-    ensures placed { IfOk result
-        (λ settled. IfSome settled (λ found. All (IsPlaced (length samples.now)) found.items)) }
-    ensures found { IfOk result (λ settled. IfSome settled (λ found. (h : List Happening)
+    requires { AreChained samples.now chains.now }
+    ensures placed { IfFound result (All (IsPlaced (length samples.now))) }
+    ensures found { IfFound result (λ found. (h : List Happening)
         → Holds qos.now instances.now samples.now h
-        → AreOfForm qos.now h selection.now masks (T.meaning test.now) max samples.now
-        found.items)) }
-    ensures sorted { IfOk result
-        (λ settled. IfSome settled (λ found. IsNonDecreasingBy handle_in found.items)) }
+        → AreOfForm qos.now h selection.now masks (T.meaning test.now) max samples.now found) }
+    ensures sorted { IfFound result (IsNonDecreasingBy handle_in) }
 {
+    if let Selection::NextInstance { .. } = *selection {
+        return find_next(
+            alloc, instances, qos, samples, chains, selection, masks, max, test,
+        );
+    }
     let Some(known) = first_asked(instances, selection) else {
         return Ok(Some(Vec::new(alloc)));
     };
@@ -162,9 +158,6 @@ pub fn find_first<T: Test>(
         Selection::Any { .. } | Selection::NextSample => find_by_instance(
             alloc, instances, qos, samples, chains, masks, max, test,
         ),
-        Selection::NextInstance { .. } => find_next(
-            alloc, instances, qos, samples, chains, selection, masks, max, test,
-        ),
-        Selection::Instance { .. } => Ok(None),
+        Selection::Instance { .. } | Selection::NextInstance { .. } => Ok(None),
     }
 }

@@ -2,7 +2,7 @@
 //!
 //! DDS 1.4, 2.2.2.5 (read, take, and their instance, next-instance and next-sample forms).
 
-ghost use Rattle.std.specs.Prelude.{◌≡◌, List, length, filter, All, IfOk, IfErr, IfSome, None};
+ghost use Rattle.std.specs.Prelude.{◌≡◌, List, length, filter, All, IfOk, IfErr, None};
 ghost use Rattle.std.specs.List.Sorted.{IsNonDecreasingBy};
 ghost use Rattle.dds_base.specs.declared.happening.Happening.{Happening};
 ghost use Rattle.dds_base.specs.declared.qos.ReaderQos.{ReaderQos};
@@ -10,8 +10,7 @@ ghost use Rattle.dds_base.specs.Refusal.{Refuses};
 ghost use Rattle.dds_base.specs.Selection.{picked_by, selection_refusal};
 ghost use Rattle.dds_instances.specs.Table.{Stands};
 ghost use Rattle.dds_cache.specs.Finding.{Finds, Holds, IsPlaced, IsSmall, handle_in};
-ghost use Rattle.dds_cache.specs.First.{AreOfForm};
-ghost use Rattle.dds_cache.specs.Chains.{AreChainsOf};
+ghost use Rattle.dds_cache.specs.First.{AreChained, AreOfForm, IfFound};
 ghost use Rattle.dds_cache.specs.Kept.{IsSummary};
 ghost use Rattle.dds_cache.specs.Picking.{IsLimit, IsRequestWith, IsRequest, Picks, TellsAny, test_in};
 ghost use Rattle.dds_cache.specs.Picking.{has_handle, first_above, of_selection};
@@ -155,16 +154,13 @@ fn find_asked_first<T: Test>(
     request: Request,
     test: &T,
 ) -> Result<Option<Vec<Candidate>>, AllocError>
-    requires small { All IsSmall samples.now }
-    requires chains { AreChainsOf samples.now chains.now }
-    ensures placed { IfOk result
-        (λ settled. IfSome settled (λ found. All (IsPlaced (length samples.now)) found.items)) }
-    ensures found { IfOk result (λ settled. IfSome settled (λ found. (h : List Happening)
+    requires { AreChained samples.now chains.now }
+    ensures placed { IfFound result (All (IsPlaced (length samples.now))) }
+    ensures found { IfFound result (λ found. (h : List Happening)
         → Holds qos.now instances.now samples.now h
         → AreOfForm qos.now h selection.now request.masks
-        (test_in selection.now (T.meaning test.now)) request.limit samples.now found.items)) }
-    ensures sorted { IfOk result
-        (λ settled. IfSome settled (λ found. IsNonDecreasingBy handle_in found.items)) }
+        (test_in selection.now (T.meaning test.now)) request.limit samples.now found) }
+    ensures sorted { IfFound result (IsNonDecreasingBy handle_in) }
 {
     let Request { limit, masks } = request;
     match *selection {

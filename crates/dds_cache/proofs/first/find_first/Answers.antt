@@ -5,13 +5,13 @@ use Rattle.dds_cache.specs.First.{AreOfForm, Settles}
 use Rattle.dds_cache.proofs.FirstLaws.{among-first, first-picked, none-picked}
 use Rattle.dds_cache.proofs.first.find_first.Goals as goal
 
-pub returns-in_default-clause-found : goal.returns-in_default-clause-found
-returns-in_default-clause-found g c = λ h holds.
+pub returns-in_default-first_asked-clause-found : goal.returns-in_default-first_asked-clause-found
+returns-in_default-first_asked-clause-found g c = λ h holds.
     subst (λ (cs : List Candidate). AreOfForm c.args.qos.now h c.args.selection.now c.args.masks
     (g.T.Test.meaning c.args.test.now) c.args.max c.args.samples.now cs) (sym c.new.ensures.items)
     (none-picked c.args.qos.now h c.args.selection.now c.args.masks
     (g.T.Test.meaning c.args.test.now) c.args.max c.args.samples.now
-    (c.in_default.ensures.first c.args.qos.now h holds.instances))
+    (c.in_default-first_asked.ensures.first c.args.qos.now h holds.instances))
 
 pub returns-then-is_settled-clause-found : goal.returns-then-is_settled-clause-found
 returns-then-is_settled-clause-found g c = λ h holds.
