@@ -29,7 +29,7 @@ use Rattle.dds_cache.specs.declared.kept.Kept.{Kept}
 use Rattle.dds_cache.specs.Chains.{IsFirst, IsFirstUnread}
 use Rattle.dds_cache.specs.Kept.{IsKept, sample_at}
 use Rattle.dds_cache.specs.Finding.{Holds, IsCandidate, TellsFound, asks_for, asks_for_states, handle_in, is_asked_for, is_wanted, sample_in, sample_of}
-use Rattle.dds_cache.specs.First.{AreFirstOf, AreOfForm, IsAmongKnown, IsFirstAsked, IsFoundOf, IsFull, IsOf, IsPassedBy, Settles, TellsFoundOf, asked_in, of_form, of_handle, wanted_in}
+use Rattle.dds_cache.specs.First.{AreFirstOf, AreOfForm, IsFirstAsked, IsFoundOf, IsFull, IsOf, IsPassedBy, Settles, TellsFoundOf, asked_in, of_form, of_handle, wanted_in}
 use Rattle.dds_cache.proofs.FindingLaws.{filter-flat_map, filter-more, found-candidate, wanted-of}
 use Rattle.dds_cache.proofs.GroupLaws.{unequal}
 
@@ -197,15 +197,6 @@ of-one-sorted n cs all = λ i j d le within.
     omega (arith, first, second)
 
 -- ---- the samples of an instance
-
--- the first instance that is asked for is a known one
-pub among-first : (q : ReaderQos) (h : List Happening) (selection : Selection) (known : KnownInstance)
-    → IsFirstAsked q h selection known → IsAmongKnown q h known
-among-first q h selection known first = record {
-  place = first.place;
-  there = first.there;
-  is_known = first.is_known;
-}
 
 own-same : (i j : Key) → i ≡ j → same_key i j ≡ true
 own-same i j is = ap (λ (x : Key). same_key i x) (sym is) ∙ same_key-refl i

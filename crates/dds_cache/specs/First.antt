@@ -55,12 +55,6 @@ pub record IsFirstPlace (q : ReaderQos) (h : List Happening) (selection : Select
 abbrev pub IsCountable : KnownInstance → Type 0
 IsCountable known = known.disposed_generations + known.no_writers_generations < 2 ^ 64
 
--- what is known of one of the known instances
-pub record IsAmongKnown (q : ReaderQos) (h : List Happening) (known : KnownInstance) : Type 0 where
-  pub place : ℕ
-  pub there : slice_get (known_instances q h) place ≡ Some known.key
-  pub is_known : IsKnown q h known
-
 -- the wanted ones of a list of kept samples that are of instance i
 abbrev pub wanted_in : ReaderQos → List Happening → Masks → (Key → List ℕ → Bool) → Key → List Kept
     → List SamplePosition

@@ -14,7 +14,7 @@ ghost use Rattle.dds_base.specs.Access.{at_most};
 ghost use Rattle.dds_instances.specs.Known.{IsKnown};
 ghost use Rattle.dds_instances.specs.Table.{Stands};
 ghost use Rattle.dds_cache.specs.Chains.{AreChainsOf};
-ghost use Rattle.dds_cache.specs.First.{AreFirstOf, IsAmongKnown, IsCountable, IsFull, IsOf, TellsFoundOf};
+ghost use Rattle.dds_cache.specs.First.{AreFirstOf, IsCountable, IsFull, IsOf, TellsFoundOf};
 ghost use Rattle.dds_cache.specs.Kept.{IsKept, is_live, sample_state_in};
 ghost use Rattle.dds_cache.specs.Finding.{are_asked_for, asks_for, is_sought, passes, described_by, IsSmall, IsPlaced, AreCandidates, Holds, Finds, TellsFound, sample_in, handle_in};
 
@@ -218,7 +218,7 @@ fn as_candidate_of<T: Test>(
     requires counts { IsCountable known.now }
     ensures placed { IfSome result (λ c. (c.at ≡ at) × (own_generations c.picked < 2 ^ 64)) }
     ensures handle { IfSome result (IsOf known.now.handle) }
-    ensures wanted { (h : List Happening) → IsAmongKnown qos.now h known.now
+    ensures wanted { (h : List Happening) → IsKnown qos.now h known.now
         → IsKept qos.now h kept.now
         → TellsFoundOf qos.now h masks (T.meaning test.now) known.now.key kept.now at result }
 {
@@ -290,7 +290,7 @@ pub fn find_in_instance<T: Test>(
     requires chains { AreChainsOf samples.now chains.now }
     ensures placed { IfOk result (λ found. All (IsPlaced (length samples.now)) found.items) }
     ensures handles { IfOk result (λ found. All (IsOf known.now.handle) found.items) }
-    ensures found { IfOk result (λ found. (h : List Happening) → IsAmongKnown qos.now h known.now
+    ensures found { IfOk result (λ found. (h : List Happening) → IsKnown qos.now h known.now
         → All (IsKept qos.now h) samples.now
         → AreFirstOf qos.now h masks (T.meaning test.now) known.now.key max samples.now
         samples.now found.items) }

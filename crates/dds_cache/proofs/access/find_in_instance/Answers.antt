@@ -17,7 +17,7 @@ loop-at-init g c = record {
       (All-nil (IsPlaced (length c.args.samples.now)));
   handles = subst (λ (cs : List Candidate). All (IsOf c.args.known.now.handle) cs) (sym c.new-found.ensures.items)
       (All-nil (IsOf c.args.known.now.handle));
-  found = λ h among all.
+  found = λ h is_known all.
       let ks : List Kept = c.args.samples.now in
       subst (λ (cs : List Candidate). AreFirstOf c.args.qos.now h c.args.masks (g.T.Test.meaning c.args.test.now)
       c.args.known.now.key None ks (take c.first-at.result ks) cs) (sym c.new-found.ensures.items)
@@ -61,11 +61,11 @@ loop-at-preserved g c =
             subst (λ (cs : List Candidate). All (IsOf c.args.known.now.handle) cs)
             (sym (ap (λ v. v.items) w.found-is)) c.loop-at.invariant.handles
       ];
-      found = λ h among all.
+      found = λ h is_known all.
           let kept : IsKept c.args.qos.now h k =
           subst (λ (x : Kept). IsKept c.args.qos.now h x) (sym c.index-samples-at.is)
           (all c.loop-at.at k c.loop-at-test.true) in
-          let so_far = c.loop-at.invariant.found h among all in
+          let so_far = c.loop-at.invariant.found h is_known all in
           let P : List Candidate → Type 0 =
           λ cs. AreFirstOf c.args.qos.now h c.args.masks
           (g.T.Test.meaning c.args.test.now) c.args.known.now.key None ks (take (c.loop-at.at + 1) ks) cs in
@@ -74,12 +74,12 @@ loop-at-preserved g c =
                 subst P (sym (ap (λ v. v.items) w.found-is ∙ w.in_ok-push.ensures.items))
                 (first-some c.args.qos.now h c.args.masks
                 (g.T.Test.meaning c.args.test.now) c.args.known.now.key ks c.loop-at.at k _ c.loop-at.found.items
-                c.loop-at-test.true c.index-samples-at.is kept (w.in-Some.ensures.wanted h among kept) so_far)
+                c.loop-at-test.true c.index-samples-at.is kept (w.in-Some.ensures.wanted h is_known kept) so_far)
             | in_default w ↦
                 subst P (sym (ap (λ v. v.items) w.found-is))
                 (first-none c.args.qos.now h c.args.masks
                 (g.T.Test.meaning c.args.test.now) c.args.known.now.key ks c.loop-at.at k c.loop-at.found.items
-                c.loop-at-test.true c.index-samples-at.is (w.in_default.ensures.wanted h among kept) so_far)
+                c.loop-at-test.true c.index-samples-at.is (w.in_default.ensures.wanted h is_known kept) so_far)
           ] in
           first-past c.args.qos.now h c.args.masks (g.T.Test.meaning c.args.test.now) c.args.known.now.key ks
           (c.loop-at.at + 1) c.next-at.result c.match-as_candidate_of.found.items
@@ -100,7 +100,7 @@ returns-clause-handles g c =
     c.cut_to.ensures c.loop-at.invariant.handles
 
 pub returns-clause-found : goal.returns-clause-found
-returns-clause-found g c = λ h among all.
+returns-clause-found g c = λ h is_known all.
     let done : IsFull c.args.max (length c.loop-at.found.items) ⊎ (length c.args.samples.now ≤ c.loop-at.at) =
     elim c.loop-at-test.branch [
       | else-loop-at-test w ↦ inr w.loop-at-test.false
@@ -110,4 +110,4 @@ returns-clause-found g c = λ h among all.
     ] in
     first-cut c.args.qos.now h c.args.masks
     (g.T.Test.meaning c.args.test.now) c.args.known.now.key c.args.max c.args.samples.now c.loop-at.at
-    c.loop-at.found.items c.cut_to.new.found.items done c.cut_to.ensures (c.loop-at.invariant.found h among all)
+    c.loop-at.found.items c.cut_to.new.found.items done c.cut_to.ensures (c.loop-at.invariant.found h is_known all)

@@ -2,16 +2,17 @@
 use Rattle.std.proofs.Common.{List, None, take, length, ◌-◌}
 use Rattle.std.specs.List.{All}
 use Rattle.dds_base.specs.declared.happening.Happening.{Happening}
+use Rattle.dds_instances.specs.Known.{IsKnown}
 use Rattle.dds_cache.specs.Kept.{IsKept}
 use Rattle.dds_cache.specs.Finding.{IsPlaced}
-use Rattle.dds_cache.specs.First.{AreFirstOf, IsAmongKnown, IsOf}
+use Rattle.dds_cache.specs.First.{AreFirstOf, IsOf}
 use Rattle.dds_cache.proofs.access.find_in_instance.Given as goal
 
 abbrev pub invariant-loop-at : goal.invariant-loop-at
 invariant-loop-at g l = record {
   placed : All (IsPlaced (length l.samples)) l.found.items;
   handles : All (IsOf l.known.handle) l.found.items;
-  found : (h : List Happening) → IsAmongKnown l.qos h l.known → All (IsKept l.qos h) l.samples
+  found : (h : List Happening) → IsKnown l.qos h l.known → All (IsKept l.qos h) l.samples
       → AreFirstOf l.qos h l.masks (g.T.Test.meaning l.test) l.known.key None l.samples (take l.at l.samples)
       l.found.items;
 }

@@ -5,7 +5,7 @@ use Rattle.std.proofs.lemmas.List.Elements.{All-append, All-nil}
 use Rattle.dds_base.specs.Instance.{known_instances}
 use Rattle.dds_cache.specs.declared.access.Candidate.{Candidate}
 use Rattle.dds_cache.specs.Finding.{IsPlaced, handle_in}
-use Rattle.dds_cache.specs.First.{AreFirstUpTo, IsAmongKnown, IsFull}
+use Rattle.dds_cache.specs.First.{AreFirstUpTo, IsFull}
 use Rattle.dds_cache.proofs.FirstLaws.{cut-each}
 use Rattle.dds_cache.proofs.WalkLaws.{all-walked, below-more, none-walked, one-walked, sorted-cut, sorted-more}
 use Rattle.dds_cache.proofs.by_instance.find_by_instance.Goals as goal
@@ -45,16 +45,12 @@ loop-place-preserved g c =
           (below-more c.loop-place.newest c.in-Some.known.handle cs more from c.loop-place.invariant.below
           c.in_ok-more.ensures.handles));
       found = λ h holds.
-          let among : IsAmongKnown c.args.qos.now h c.in-Some.known = record {
-            place = c.loop-place.place;
-            there = sym (c.in-Some.ensures.key c.args.qos.now h holds.instances);
-            is_known = c.in-Some.ensures.known c.args.qos.now h holds.instances;
-          } in
           subst (λ (xs : List Candidate). AreFirstUpTo c.args.qos.now h c.args.masks (g.T.Test.meaning c.args.test.now)
           c.args.max c.args.samples.now (c.loop-place.place + 1) xs) (sym c.in_ok-append.ensures.items)
           (one-walked c.args.qos.now h c.args.masks (g.T.Test.meaning c.args.test.now) c.args.max c.args.samples.now
-          c.args.instances.now c.loop-place.place c.in-Some.known.key cs more holds among.there
-          (c.in_ok-more.ensures.found h among holds.each) (c.loop-place.invariant.found h holds));
+          c.args.instances.now c.loop-place.place c.in-Some.known.key cs more holds
+          (sym (c.in-Some.ensures.key c.args.qos.now h holds.instances))
+          (c.in_ok-more.ensures.found h (c.in-Some.ensures.known c.args.qos.now h holds.instances) holds.each) (c.loop-place.invariant.found h holds));
     }
 
 pub returns-clause-placed : goal.returns-clause-placed

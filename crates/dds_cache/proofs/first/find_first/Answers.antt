@@ -2,7 +2,7 @@ use Rattle.std.proofs.Common.{◌≡◌, ℕ, List, length, sym, ◌∙◌, subs
 use Rattle.dds_base.specs.Instance.{known_instances}
 use Rattle.dds_cache.specs.declared.access.Candidate.{Candidate}
 use Rattle.dds_cache.specs.First.{AreOfForm, Settles}
-use Rattle.dds_cache.proofs.FirstLaws.{among-first, first-picked, none-picked}
+use Rattle.dds_cache.proofs.FirstLaws.{first-picked, none-picked}
 use Rattle.dds_cache.proofs.first.find_first.Goals as goal
 
 pub returns-in_default-first_asked-clause-found : goal.returns-in_default-first_asked-clause-found
@@ -26,5 +26,5 @@ returns-then-is_settled-clause-found g c = λ h holds.
     (c.is_settled.ensures c.if-is_settled.true)) in
     first-picked c.args.qos.now c.args.instances.now h c.args.selection.now c.args.masks
     (g.T.Test.meaning c.args.test.now) c.args.max c.args.samples.now c.in-Some.known c.in_ok-found.found.items holds
-    first (c.in_ok-found.ensures.found h (among-first c.args.qos.now h c.args.selection.now c.in-Some.known first)
+    first (c.in_ok-found.ensures.found h first.is_known
     holds.each) settled

@@ -5,7 +5,7 @@ use Rattle.std.proofs.lemmas.List.{take_all}
 use Rattle.dds_base.specs.declared.key.Key.{Key}
 use Rattle.dds_base.specs.Instance.{known_instances}
 use Rattle.dds_cache.specs.declared.access.Candidate.{Candidate}
-use Rattle.dds_cache.specs.First.{AreOfForm, IsAmongKnown, IsBarren}
+use Rattle.dds_cache.specs.First.{AreOfForm, IsBarren}
 use Rattle.dds_cache.proofs.NextLaws.{barren-first, barren-found, barren-more, barren-none, barren-there, next-form, no-next-form, none-asked}
 use Rattle.dds_cache.proofs.first.find_next.Goals as goal
 use Rattle.dds_cache.proofs.first.find_next.Goals.{in-Some+in_ok-found+else-not-is_empty, in_default}
@@ -27,17 +27,12 @@ loop-place-init g c = record {
 pub returns-then-not-is_empty-clause-found : goal.returns-then-not-is_empty-clause-found
 returns-then-not-is_empty-clause-found g c = λ h holds next.
     let asked = c.in-Some.ensures.asked c.args.qos.now h holds.instances in
-    let among : IsAmongKnown c.args.qos.now h c.in-Some.known = record {
-      place = c.loop-place.place;
-      there = asked.0;
-      is_known = asked.2;
-    } in
     let some : 0 < length c.in_ok-found.found.items =
     grind (arith, nat_tests, c.in_ok-found.found.ok.0, c.is_empty.ensures, c.if-not-is_empty.true) in
     next-form c.args.qos.now c.args.instances.now h c.args.selection.now c.args.masks
     (g.T.Test.meaning c.args.test.now) c.args.max c.args.samples.now c.loop-place.place c.in-Some.known
     c.in_ok-found.found.items next holds asked.0 asked.1 (c.loop-place.invariant.barren h holds)
-    (c.in_ok-found.ensures.found h among holds.each) some
+    (c.in_ok-found.ensures.found h asked.2 holds.each) some
 
 pub loop-place-preserved : goal.loop-place-preserved
 loop-place-preserved g c = record {
@@ -48,18 +43,13 @@ loop-place-preserved g c = record {
       (elim c.match-asked_at.branch [
         | in-Some+in_ok-found+else-not-is_empty w ↦
             let asked = w.in-Some.ensures.asked c.args.qos.now h holds.instances in
-            let among : IsAmongKnown c.args.qos.now h w.in-Some.known = record {
-              place = c.loop-place.place;
-              there = asked.0;
-              is_known = asked.2;
-            } in
             let none : length w.in_ok-found.found.items ≡ 0 =
             grind (arith, nat_tests, w.in_ok-found.found.ok.0, w.is_empty.ensures, w.if-not-is_empty.false) in
             barren-there P (known_instances c.args.qos.now h) c.loop-place.place w.in-Some.known.key asked.0
             (barren-found c.args.qos.now c.args.instances.now h c.args.selection.now c.args.masks
             (g.T.Test.meaning c.args.test.now) c.args.max c.args.samples.now w.in-Some.known.key
             w.in_ok-found.found.items holds (c.is_full.ensures.few c.if-is_full.false)
-            (w.in_ok-found.ensures.found h among holds.each) none)
+            (w.in_ok-found.ensures.found h asked.2 holds.each) none)
         | in_default w ↦
             barren-none c.args.qos.now h c.args.selection.now c.args.masks (g.T.Test.meaning c.args.test.now)
             c.loop-place.place (w.in_default.ensures.asked c.args.qos.now h holds.instances)
