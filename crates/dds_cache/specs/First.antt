@@ -2,7 +2,7 @@
 -- has to be believed.
 --
 -- DDS 1.4, 2.2.2.5 (read, take, and their instance, next-instance and next-sample forms: max_samples).
-use Rattle.std.specs.Prelude.{◌≡◌, ℕ, ◌≤◌, ◌<◌, ◌^◌, ◌+◌, ◌++◌, ◌⊎◌, List, [], All, map, filter, take, Bool, true, false, ◌&&◌, ◌==◌, Option, None, Some, IfOk, IfSome, MatchOption, Result, Vec, slice_get}
+use Rattle.std.specs.Prelude.{◌≡◌, ℕ, ◌≤◌, ◌<◌, ◌^◌, ◌+◌, ◌++◌, ◌⊎◌, List, [], All, length, map, filter, take, Bool, true, false, ◌&&◌, ◌==◌, Option, None, Some, IfOk, IfSome, MatchOption, Result, Vec, slice_get}
 use Rattle.std.specs.List.{flat_map}
 use Rattle.dds_base.specs.declared.key.Key.{Key}
 use Rattle.dds_base.specs.declared.happening.SamplePosition.{SamplePosition}
@@ -20,8 +20,8 @@ use Rattle.dds_instances.specs.declared.known.KnownInstance.{KnownInstance}
 use Rattle.dds_cache.specs.declared.access.Candidate.{Candidate}
 use Rattle.dds_cache.specs.declared.kept.Kept.{Kept}
 use Rattle.dds_cache.specs.Chains.{AreChainsOf}
-use Rattle.dds_cache.specs.declared.chains.Chains.{Chains}
-use Rattle.dds_cache.specs.Finding.{IsCandidate, IsFound, IsSmall, asks_for, is_asked_for, is_wanted, sample_in, sample_of}
+use Rattle.dds_cache.specs.declared.content.Content.{Content}
+use Rattle.dds_cache.specs.Finding.{Holds, IsCandidate, IsFound, IsPlaced, IsSmall, asks_for, is_asked_for, is_wanted, sample_in, sample_of}
 
 -- an access does not ask for instance i
 abbrev pub IsPassedBy : ReaderQos → List Happening → Selection → Key → Type 0
@@ -148,10 +148,18 @@ pub record AreFirstUpTo (q : ReaderQos) (h : List Happening) (masks : Masks) (te
 abbrev pub IsBarren : ReaderQos → List Happening → Selection → Masks → (Key → List ℕ → Bool) → Key → Type 0
 IsBarren q h selection masks test i = IsPassedBy q h selection i ⊎ (asked_in q h masks test i ≡ [])
 
--- the chains are those of the kept samples, whose counts can be added
-pub record AreChained (ks : List Kept) (cs : Chains) : Type 0 where
-  pub small : All IsSmall ks
-  pub chains : AreChainsOf ks cs
+-- the chains are those of the samples, whose counts can be added
+pub record AreChained (c : Content) : Type 0 where
+  pub small : All IsSmall c.samples.now
+  pub chains : AreChainsOf c.samples.now c.chains.now
+
+-- the instances and the samples are those of what happened
+abbrev pub HoldsAll : Content → List Happening → Type 0
+HoldsAll c h = Holds c.qos.now c.instances.now c.samples.now h
+
+-- the candidates stand among the samples
+abbrev pub AreWithin : Content → List Candidate → Type 0
+AreWithin c cs = All (IsPlaced (length c.samples.now)) cs
 
 -- what is so of the candidates, where those that are picked could be told
 abbrev pub IfFound : {A E : Type 0} → Result (Option (Vec Candidate A)) E → (List Candidate → Type 0) → Type 0

@@ -13,12 +13,11 @@ ghost use Rattle.std.specs.List.{list_any};
 ghost use Rattle.dds_base.specs.Access.{at_most};
 ghost use Rattle.dds_instances.specs.Known.{IsKnown};
 ghost use Rattle.dds_instances.specs.Table.{Stands};
-ghost use Rattle.dds_cache.specs.Chains.{AreChainsOf};
-ghost use Rattle.dds_cache.specs.First.{AreFirstOf, IsCountable, IsFull, IsOf, TellsFoundOf};
+ghost use Rattle.dds_cache.specs.First.{AreChained, AreFirstOf, AreWithin, IsCountable, IsFull, IsOf, TellsFoundOf};
 ghost use Rattle.dds_cache.specs.Kept.{IsKept, is_live, sample_state_in};
 ghost use Rattle.dds_cache.specs.Finding.{are_asked_for, asks_for, is_sought, passes, described_by, IsSmall, IsPlaced, AreCandidates, Holds, Finds, TellsFound, sample_in, handle_in};
 
-use crate::chains::Chains;
+use crate::content::Content;
 use crate::kept::Kept;
 use crate::masks::{asks_for_sample, asks_for_states};
 use crate::test::Test;
@@ -277,24 +276,27 @@ pub fn is_full(max: Option<u32>, count: usize) -> bool
 /// chain as far as the last that it needs.
 pub fn find_in_instance<T: Test>(
     alloc: Global,
+    content: &Content<'_>,
     known: &KnownInstance,
-    qos: &ReaderQos,
     masks: Masks,
-    test: &T,
-    samples: &[Kept],
-    chains: &Chains,
     max: Option<u32>,
+    test: &T,
 ) -> Result<Vec<Candidate>, AllocError>
-    requires small { All IsSmall samples.now }
     requires counts { IsCountable known.now }
-    requires chains { AreChainsOf samples.now chains.now }
-    ensures placed { IfOk result (λ found. All (IsPlaced (length samples.now)) found.items) }
+    requires chained { AreChained content.now }
+    ensures placed { IfOk result (λ found. AreWithin content.now found.items) }
     ensures handles { IfOk result (λ found. All (IsOf known.now.handle) found.items) }
-    ensures found { IfOk result (λ found. (h : List Happening) → IsKnown qos.now h known.now
-        → All (IsKept qos.now h) samples.now
-        → AreFirstOf qos.now h masks (T.meaning test.now) known.now.key max samples.now
-        samples.now found.items) }
+    ensures found { IfOk result (λ found. (h : List Happening) → IsKnown content.now.qos.now h known.now
+        → All (IsKept content.now.qos.now h) content.now.samples.now
+        → AreFirstOf content.now.qos.now h masks (T.meaning test.now) known.now.key max content.now.samples.now
+        content.now.samples.now found.items) }
 {
+    let Content {
+        qos,
+        samples,
+        chains,
+        ..
+    } = *content;
     let mut found = Vec::new(alloc);
     let is_unread = !asks_for_sample(masks.samples, SampleState::Read);
     let mut at = chains.first(known.key, is_unread);

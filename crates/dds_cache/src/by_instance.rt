@@ -2,18 +2,16 @@
 //!
 //! DDS 1.4, 2.2.2.5 (read, take, read_next_sample, take_next_sample: max_samples).
 
-ghost use Rattle.std.specs.Prelude.{◌≡◌, ◌≤◌, List, length, All, true};
+ghost use Rattle.std.specs.Prelude.{◌≡◌, ◌≤◌, List, true};
 ghost use Rattle.std.specs.List.Sorted.{IsNonDecreasingBy};
 ghost use Rattle.dds_base.specs.declared.happening.Happening.{Happening};
-ghost use Rattle.dds_cache.specs.Finding.{Holds, IsPlaced, handle_in};
-ghost use Rattle.dds_cache.specs.First.{AreChained, AreFirstMatching, IfFound};
+ghost use Rattle.dds_cache.specs.Finding.{handle_in};
+ghost use Rattle.dds_cache.specs.First.{AreChained, AreFirstMatching, AreWithin, HoldsAll, IfFound};
 
 use crate::access::{Candidate, cut_to, find_in_instance, is_full};
-use crate::chains::Chains;
-use crate::kept::Kept;
+use crate::content::Content;
 use crate::test::Test;
-use dds_base::{Masks, ReaderQos};
-use dds_instances::Instances;
+use dds_base::Masks;
 use std::alloc::{AllocError, Global};
 
 /// The present samples that meet the masks and pass the test, by handle, and those of one instance in the order in which
@@ -22,19 +20,15 @@ use std::alloc::{AllocError, Global};
 /// there are samples, and has not found as many as are asked for; and where the instances do not stand by handle.
 pub fn find_by_instance<T: Test>(
     alloc: Global,
-    instances: &Instances,
-    qos: &ReaderQos,
-    samples: &[Kept],
-    chains: &Chains,
+    content: &Content<'_>,
     masks: Masks,
     max: Option<u32>,
     test: &T,
 ) -> Result<Option<Vec<Candidate>>, AllocError>
-    requires { AreChained samples.now chains.now }
-    ensures placed { IfFound result (All (IsPlaced (length samples.now))) }
-    ensures found { IfFound result (λ found. (h : List Happening)
-        → Holds qos.now instances.now samples.now h
-        → AreFirstMatching qos.now h masks (T.meaning test.now) max samples.now found) }
+    requires { AreChained content.now }
+    ensures placed { IfFound result (AreWithin content.now) }
+    ensures found { IfFound result (λ found. (h : List Happening) → HoldsAll content.now h
+        → AreFirstMatching content.now.qos.now h masks (T.meaning test.now) max content.now.samples.now found) }
     ensures sorted { IfFound result (IsNonDecreasingBy handle_in) }
 {
     if max.is_none() {
@@ -42,14 +36,14 @@ pub fn find_by_instance<T: Test>(
     }
     let mut found = Vec::new(alloc);
     let mut newest = 0;
-    for place in 0..instances.len() {
+    for place in 0..content.instances.len() {
         if is_full(max, found.len()) {
             break;
         }
-        if samples.len() <= place {
+        if content.samples.len() <= place {
             return Ok(None);
         }
-        let Some(known) = instances.at(place) else {
+        let Some(known) = content.instances.at(place) else {
             return Ok(None);
         };
         let handle = known.handle.number();
@@ -57,7 +51,7 @@ pub fn find_by_instance<T: Test>(
             return Ok(None);
         }
         newest = handle;
-        let mut more = find_in_instance(alloc, &known, qos, masks, test, samples, chains, max)?;
+        let mut more = find_in_instance(alloc, content, &known, masks, max, test)?;
         found.append(&mut more)?;
     }
     cut_to(&mut found, max);

@@ -2,21 +2,20 @@
 //!
 //! DDS 1.4, 2.2.2.5 (read, take, and their instance, next-instance and next-sample forms: max_samples).
 
-ghost use Rattle.std.specs.Prelude.{◌≡◌, List, length, All, IfSome, true, MatchOption};
+ghost use Rattle.std.specs.Prelude.{◌≡◌, List, All, IfSome, true, MatchOption};
 ghost use Rattle.std.specs.List.Sorted.{IsNonDecreasingBy};
 ghost use Rattle.dds_base.specs.declared.happening.Happening.{Happening};
 ghost use Rattle.dds_base.specs.declared.qos.ReaderQos.{ReaderQos};
 ghost use Rattle.dds_base.specs.Instance.{known_instances};
 ghost use Rattle.dds_instances.specs.Table.{Stands};
-ghost use Rattle.dds_cache.specs.Finding.{Holds, IsPlaced, handle_in};
-ghost use Rattle.dds_cache.specs.First.{AreChained, AreOfForm, AsksForNext, IfFound, IsCountable, IsFirstAsked, IsFirstPlace, IsPassedBy, Settles, TellsAsked};
+ghost use Rattle.dds_cache.specs.Finding.{handle_in};
+ghost use Rattle.dds_cache.specs.First.{AreChained, AreOfForm, AreWithin, AsksForNext, HoldsAll, IfFound, IsCountable, IsFirstAsked, IsFirstPlace, IsPassedBy, Settles, TellsAsked};
 
 use crate::access::{Candidate, asks_for_handle, find_in_instance, is_full};
 use crate::by_instance::find_by_instance;
-use crate::chains::Chains;
-use crate::kept::Kept;
+use crate::content::Content;
 use crate::test::Test;
-use dds_base::{Handle, Masks, ReaderQos, Selection};
+use dds_base::{Handle, Masks, Selection};
 use dds_instances::{Instances, KnownInstance};
 use std::alloc::{AllocError, Global};
 
@@ -86,32 +85,28 @@ fn may_settle(selection: &Selection, max: Option<u32>, known: usize) -> bool {
 /// match, along the chain of each; `None` where it has gone over as many as there are samples and has found none.
 fn find_next<T: Test>(
     alloc: Global,
-    instances: &Instances,
-    qos: &ReaderQos,
-    samples: &[Kept],
-    chains: &Chains,
+    content: &Content<'_>,
     selection: &Selection,
     masks: Masks,
     max: Option<u32>,
     test: &T,
 ) -> Result<Option<Vec<Candidate>>, AllocError>
-    requires { AreChained samples.now chains.now }
-    ensures placed { IfFound result (All (IsPlaced (length samples.now))) }
-    ensures found { IfFound result (λ found. (h : List Happening)
-        → Holds qos.now instances.now samples.now h → AsksForNext selection.now
-        → AreOfForm qos.now h selection.now masks (T.meaning test.now) max samples.now found) }
+    requires { AreChained content.now }
+    ensures placed { IfFound result (AreWithin content.now) }
+    ensures found { IfFound result (λ found. (h : List Happening) → HoldsAll content.now h → AsksForNext selection.now
+        → AreOfForm content.now.qos.now h selection.now masks (T.meaning test.now) max content.now.samples.now found) }
     ensures sorted { IfFound result (IsNonDecreasingBy handle_in) }
 {
     if is_full(max, 0) {
         return Ok(Some(Vec::new(alloc)));
     }
-    let first = first_place(instances, selection);
-    for place in first..instances.len() {
-        if samples.len() <= place - first {
+    let first = first_place(content.instances, selection);
+    for place in first..content.instances.len() {
+        if content.samples.len() <= place - first {
             return Ok(None);
         }
-        if let Some(known) = asked_at(instances, selection, place) {
-            let found = find_in_instance(alloc, &known, qos, masks, test, samples, chains, max)?;
+        if let Some(known) = asked_at(content.instances, selection, place) {
+            let found = find_in_instance(alloc, content, &known, masks, max, test)?;
             if !found.is_empty() {
                 return Ok(Some(found));
             }
@@ -124,40 +119,34 @@ fn find_next<T: Test>(
 /// next, over no more of them than samples are kept; `None` where they don't.
 pub fn find_first<T: Test>(
     alloc: Global,
-    instances: &Instances,
-    qos: &ReaderQos,
-    samples: &[Kept],
-    chains: &Chains,
+    content: &Content<'_>,
     selection: &Selection,
     masks: Masks,
     max: Option<u32>,
     test: &T,
 ) -> Result<Option<Vec<Candidate>>, AllocError>
-    requires { AreChained samples.now chains.now }
-    ensures placed { IfFound result (All (IsPlaced (length samples.now))) }
-    ensures found { IfFound result (λ found. (h : List Happening)
-        → Holds qos.now instances.now samples.now h
-        → AreOfForm qos.now h selection.now masks (T.meaning test.now) max samples.now found) }
+    requires { AreChained content.now }
+    ensures placed { IfFound result (AreWithin content.now) }
+    ensures found { IfFound result (λ found. (h : List Happening) → HoldsAll content.now h
+        → AreOfForm content.now.qos.now h selection.now masks (T.meaning test.now) max content.now.samples.now found) }
     ensures sorted { IfFound result (IsNonDecreasingBy handle_in) }
 {
     if let Selection::NextInstance { .. } = *selection {
-        return find_next(
-            alloc, instances, qos, samples, chains, selection, masks, max, test,
-        );
+        return find_next(alloc, content, selection, masks, max, test);
     }
-    let Some(known) = first_asked(instances, selection) else {
+    let Some(known) = first_asked(content.instances, selection) else {
         return Ok(Some(Vec::new(alloc)));
     };
-    if may_settle(selection, max, instances.len()) {
-        let found = find_in_instance(alloc, &known, qos, masks, test, samples, chains, max)?;
-        if is_settled(selection, max, instances.len(), found.len()) {
+    if may_settle(selection, max, content.instances.len()) {
+        let found = find_in_instance(alloc, content, &known, masks, max, test)?;
+        if is_settled(selection, max, content.instances.len(), found.len()) {
             return Ok(Some(found));
         }
     }
     match *selection {
-        Selection::Any { .. } | Selection::NextSample => find_by_instance(
-            alloc, instances, qos, samples, chains, masks, max, test,
-        ),
+        Selection::Any { .. } | Selection::NextSample => {
+            find_by_instance(alloc, content, masks, max, test)
+        }
         Selection::Instance { .. } | Selection::NextInstance { .. } => Ok(None),
     }
 }

@@ -12,6 +12,7 @@ mod asking;
 mod by_instance;
 mod chains;
 mod collection;
+mod content;
 mod dying;
 mod ending;
 mod entering;

@@ -10,14 +10,14 @@ ghost use Rattle.dds_base.specs.Refusal.{Refuses};
 ghost use Rattle.dds_base.specs.Selection.{picked_by, selection_refusal};
 ghost use Rattle.dds_instances.specs.Table.{Stands};
 ghost use Rattle.dds_cache.specs.Finding.{Finds, Holds, IsPlaced, IsSmall, handle_in};
-ghost use Rattle.dds_cache.specs.First.{AreChained, AreOfForm, IfFound};
+ghost use Rattle.dds_cache.specs.First.{AreChained, AreOfForm, AreWithin, HoldsAll, IfFound};
 ghost use Rattle.dds_cache.specs.Kept.{IsSummary};
 ghost use Rattle.dds_cache.specs.Picking.{IsLimit, IsRequestWith, IsRequest, Picks, TellsAny, test_in};
 ghost use Rattle.dds_cache.specs.Picking.{has_handle, first_above, of_selection};
 
 use crate::access::{Candidate, cut_to, find_matching, is_any_match};
 use crate::asking::is_none_asked;
-use crate::chains::Chains;
+use crate::content::Content;
 use crate::first::find_first;
 use crate::kept::Kept;
 use crate::summary::Summary;
@@ -146,39 +146,23 @@ fn find_asked<T: Test>(
 /// test.
 fn find_asked_first<T: Test>(
     alloc: Global,
-    instances: &Instances,
-    qos: &ReaderQos,
-    samples: &[Kept],
-    chains: &Chains,
+    content: &Content<'_>,
     selection: &Selection,
     request: Request,
     test: &T,
 ) -> Result<Option<Vec<Candidate>>, AllocError>
-    requires { AreChained samples.now chains.now }
-    ensures placed { IfFound result (All (IsPlaced (length samples.now))) }
-    ensures found { IfFound result (λ found. (h : List Happening)
-        → Holds qos.now instances.now samples.now h
-        → AreOfForm qos.now h selection.now request.masks
-        (test_in selection.now (T.meaning test.now)) request.limit samples.now found) }
+    requires { AreChained content.now }
+    ensures placed { IfFound result (AreWithin content.now) }
+    ensures found { IfFound result (λ found. (h : List Happening) → HoldsAll content.now h
+        → AreOfForm content.now.qos.now h selection.now request.masks
+        (test_in selection.now (T.meaning test.now)) request.limit content.now.samples.now found) }
     ensures sorted { IfFound result (IsNonDecreasingBy handle_in) }
 {
     let Request { limit, masks } = request;
     match *selection {
-        Selection::NextSample => find_first(
-            alloc,
-            instances,
-            qos,
-            samples,
-            chains,
-            selection,
-            masks,
-            limit,
-            &Everything,
-        ),
+        Selection::NextSample => find_first(alloc, content, selection, masks, limit, &Everything),
         Selection::Any { .. } | Selection::Instance { .. } | Selection::NextInstance { .. } => {
-            find_first(
-                alloc, instances, qos, samples, chains, selection, masks, limit, test,
-            )
+            find_first(alloc, content, selection, masks, limit, test)
         }
     }
 }
@@ -247,16 +231,13 @@ pub fn pick<T: Test>(
     if is_none_asked(instances, samples, summary, request.masks) {
         return Ok(Vec::new(alloc));
     }
-    if let Some(found) = find_asked_first(
-        alloc,
+    let content = Content {
         instances,
         qos,
         samples,
-        &summary.chains,
-        &selection,
-        request,
-        test,
-    )? {
+        chains: &summary.chains,
+    };
+    if let Some(found) = find_asked_first(alloc, &content, &selection, request, test)? {
         return Ok(found);
     }
     let mut found = find_asked(

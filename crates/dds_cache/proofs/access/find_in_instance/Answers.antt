@@ -13,30 +13,30 @@ use Rattle.dds_cache.proofs.access.find_in_instance.Goals.{in-Some+in_ok-push, i
 
 pub loop-at-init : goal.loop-at-init
 loop-at-init g c = record {
-  placed = subst (λ (cs : List Candidate). All (IsPlaced (length c.args.samples.now)) cs) (sym c.new-found.ensures.items)
-      (All-nil (IsPlaced (length c.args.samples.now)));
+  placed = subst (λ (cs : List Candidate). All (IsPlaced (length c.args.content.now.samples.now)) cs) (sym c.new-found.ensures.items)
+      (All-nil (IsPlaced (length c.args.content.now.samples.now)));
   handles = subst (λ (cs : List Candidate). All (IsOf c.args.known.now.handle) cs) (sym c.new-found.ensures.items)
       (All-nil (IsOf c.args.known.now.handle));
   found = λ h is_known all.
-      let ks : List Kept = c.args.samples.now in
-      subst (λ (cs : List Candidate). AreFirstOf c.args.qos.now h c.args.masks (g.T.Test.meaning c.args.test.now)
+      let ks : List Kept = c.args.content.now.samples.now in
+      subst (λ (cs : List Candidate). AreFirstOf c.args.content.now.qos.now h c.args.masks (g.T.Test.meaning c.args.test.now)
       c.args.known.now.key None ks (take c.first-at.result ks) cs) (sym c.new-found.ensures.items)
-      (first-past c.args.qos.now h c.args.masks (g.T.Test.meaning c.args.test.now) c.args.known.now.key ks 0
+      (first-past c.args.content.now.qos.now h c.args.masks (g.T.Test.meaning c.args.test.now) c.args.known.now.key ks 0
       c.first-at.result [] (omega arith)
       (λ j d from below within. ⊎_elim
-      (λ asked. unwanted-first c.args.qos.now h c.args.masks (g.T.Test.meaning c.args.test.now)
+      (λ asked. unwanted-first c.args.content.now.qos.now h c.args.masks (g.T.Test.meaning c.args.test.now)
       c.args.known.now.key ks c.first-at.result j d all
-      (c.first-at.ensures.first ks c.requires.chains (ap (λ (b : Bool). not b) asked)) below within)
-      (λ unasked. unwanted-unread c.args.qos.now h c.args.masks (g.T.Test.meaning c.args.test.now)
+      (c.first-at.ensures.first ks c.requires.chained.chains (ap (λ (b : Bool). not b) asked)) below within)
+      (λ unasked. unwanted-unread c.args.content.now.qos.now h c.args.masks (g.T.Test.meaning c.args.test.now)
       c.args.known.now.key ks c.first-at.result j d all (sym c.asks_for_sample-is_unread.ensures ∙ unasked)
-      (c.first-at.ensures.unread ks c.requires.chains (ap (λ (b : Bool). not b) unasked)) below within)
+      (c.first-at.ensures.unread ks c.requires.chained.chains (ap (λ (b : Bool). not b) unasked)) below within)
       (cases_Bool c.asks_for_sample-is_unread.result))
-      (record { samples_are = refl; each = All-nil (IsCandidate c.args.qos.now h ks) }));
+      (record { samples_are = refl; each = All-nil (IsCandidate c.args.content.now.qos.now h ks) }));
 }
 
 pub loop-at-preserved : goal.loop-at-preserved
 loop-at-preserved g c =
-    let ks : List Kept = c.args.samples.now in
+    let ks : List Kept = c.args.content.now.samples.now in
     let k : Kept = c.index-samples-at.result in
     record {
       placed = elim c.match-as_candidate_of.branch [
@@ -62,36 +62,36 @@ loop-at-preserved g c =
             (sym (ap (λ v. v.items) w.found-is)) c.loop-at.invariant.handles
       ];
       found = λ h is_known all.
-          let kept : IsKept c.args.qos.now h k =
-          subst (λ (x : Kept). IsKept c.args.qos.now h x) (sym c.index-samples-at.is)
+          let kept : IsKept c.args.content.now.qos.now h k =
+          subst (λ (x : Kept). IsKept c.args.content.now.qos.now h x) (sym c.index-samples-at.is)
           (all c.loop-at.at k c.loop-at-test.true) in
           let so_far = c.loop-at.invariant.found h is_known all in
           let P : List Candidate → Type 0 =
-          λ cs. AreFirstOf c.args.qos.now h c.args.masks
+          λ cs. AreFirstOf c.args.content.now.qos.now h c.args.masks
           (g.T.Test.meaning c.args.test.now) c.args.known.now.key None ks (take (c.loop-at.at + 1) ks) cs in
           let here : P c.match-as_candidate_of.found.items = elim c.match-as_candidate_of.branch [
             | in-Some+in_ok-push w ↦
                 subst P (sym (ap (λ v. v.items) w.found-is ∙ w.in_ok-push.ensures.items))
-                (first-some c.args.qos.now h c.args.masks
+                (first-some c.args.content.now.qos.now h c.args.masks
                 (g.T.Test.meaning c.args.test.now) c.args.known.now.key ks c.loop-at.at k _ c.loop-at.found.items
                 c.loop-at-test.true c.index-samples-at.is kept (w.in-Some.ensures.wanted h is_known kept) so_far)
             | in_default w ↦
                 subst P (sym (ap (λ v. v.items) w.found-is))
-                (first-none c.args.qos.now h c.args.masks
+                (first-none c.args.content.now.qos.now h c.args.masks
                 (g.T.Test.meaning c.args.test.now) c.args.known.now.key ks c.loop-at.at k c.loop-at.found.items
                 c.loop-at-test.true c.index-samples-at.is (w.in_default.ensures.wanted h is_known kept) so_far)
           ] in
-          first-past c.args.qos.now h c.args.masks (g.T.Test.meaning c.args.test.now) c.args.known.now.key ks
+          first-past c.args.content.now.qos.now h c.args.masks (g.T.Test.meaning c.args.test.now) c.args.known.now.key ks
           (c.loop-at.at + 1) c.next-at.result c.match-as_candidate_of.found.items
           (omega (arith, c.next-at.ensures.later))
-          (λ j d from below within. unwanted-other c.args.qos.now h c.args.masks (g.T.Test.meaning c.args.test.now)
+          (λ j d from below within. unwanted-other c.args.content.now.qos.now h c.args.masks (g.T.Test.meaning c.args.test.now)
           c.args.known.now.key (get_or ks j d)
-          (c.next-at.ensures.between c.requires.chains j d (omega (arith, from)) below within)) here;
+          (c.next-at.ensures.between c.requires.chained.chains j d (omega (arith, from)) below within)) here;
     }
 
 pub returns-clause-placed : goal.returns-clause-placed
 returns-clause-placed g c =
-    cut-each (IsPlaced (length c.args.samples.now)) c.args.max c.loop-at.found.items c.cut_to.new.found.items
+    cut-each (IsPlaced (length c.args.content.now.samples.now)) c.args.max c.loop-at.found.items c.cut_to.new.found.items
     c.cut_to.ensures c.loop-at.invariant.placed
 
 pub returns-clause-handles : goal.returns-clause-handles
@@ -101,13 +101,13 @@ returns-clause-handles g c =
 
 pub returns-clause-found : goal.returns-clause-found
 returns-clause-found g c = λ h is_known all.
-    let done : IsFull c.args.max (length c.loop-at.found.items) ⊎ (length c.args.samples.now ≤ c.loop-at.at) =
+    let done : IsFull c.args.max (length c.loop-at.found.items) ⊎ (length c.args.content.now.samples.now ≤ c.loop-at.at) =
     elim c.loop-at-test.branch [
       | else-loop-at-test w ↦ inr w.loop-at-test.false
       | then-loop-at-test+else-not-is_full w ↦
           inl (subst (λ (n : ℕ). IsFull c.args.max n) (w.len.ensures ∙ c.loop-at.found.ok.0)
           (w.is_full.ensures.full w.if-not-is_full.false))
     ] in
-    first-cut c.args.qos.now h c.args.masks
-    (g.T.Test.meaning c.args.test.now) c.args.known.now.key c.args.max c.args.samples.now c.loop-at.at
+    first-cut c.args.content.now.qos.now h c.args.masks
+    (g.T.Test.meaning c.args.test.now) c.args.known.now.key c.args.max c.args.content.now.samples.now c.loop-at.at
     c.loop-at.found.items c.cut_to.new.found.items done c.cut_to.ensures (c.loop-at.invariant.found h is_known all)

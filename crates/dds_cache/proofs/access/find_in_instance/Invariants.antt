@@ -10,12 +10,12 @@ use Rattle.dds_cache.proofs.access.find_in_instance.Given as goal
 
 abbrev pub invariant-loop-at : goal.invariant-loop-at
 invariant-loop-at g l = record {
-  placed : All (IsPlaced (length l.samples)) l.found.items;
+  placed : All (IsPlaced (length l.content.samples.now)) l.found.items;
   handles : All (IsOf l.known.handle) l.found.items;
-  found : (h : List Happening) → IsKnown l.qos h l.known → All (IsKept l.qos h) l.samples
-      → AreFirstOf l.qos h l.masks (g.T.Test.meaning l.test) l.known.key None l.samples (take l.at l.samples)
+  found : (h : List Happening) → IsKnown l.content.qos.now h l.known → All (IsKept l.content.qos.now h) l.content.samples.now
+      → AreFirstOf l.content.qos.now h l.masks (g.T.Test.meaning l.test) l.known.key None l.content.samples.now (take l.at l.content.samples.now)
       l.found.items;
 }
 
 abbrev pub decreases-loop-at : goal.decreases-loop-at
-decreases-loop-at g l = length l.samples - l.at
+decreases-loop-at g l = length l.content.samples.now - l.at

@@ -13,15 +13,15 @@ use Rattle.dds_cache.proofs.by_instance.find_by_instance.Goals.{else-loop-place-
 
 pub loop-place-init : goal.loop-place-init
 loop-place-init g c = record {
-  placed = subst (λ (xs : List Candidate). All (IsPlaced (length c.args.samples.now)) xs) (sym c.new-found.ensures.items)
-      (All-nil (IsPlaced (length c.args.samples.now)));
+  placed = subst (λ (xs : List Candidate). All (IsPlaced (length c.args.content.now.samples.now)) xs) (sym c.new-found.ensures.items)
+      (All-nil (IsPlaced (length c.args.content.now.samples.now)));
   sorted = subst (λ (xs : List Candidate). IsNonDecreasingBy handle_in xs) (sym c.new-found.ensures.items)
       (λ i j d le within. absurd (omega (arith, within)));
   below = subst (λ (xs : List Candidate). All (λ (x : Candidate). handle_in x ≤ 0) xs) (sym c.new-found.ensures.items)
       (All-nil (λ (x : Candidate). handle_in x ≤ 0));
-  found = λ h holds. subst (λ (xs : List Candidate). AreFirstUpTo c.args.qos.now h c.args.masks
-      (g.T.Test.meaning c.args.test.now) c.args.max c.args.samples.now 0 xs) (sym c.new-found.ensures.items)
-      (none-walked c.args.qos.now h c.args.masks (g.T.Test.meaning c.args.test.now) c.args.max c.args.samples.now);
+  found = λ h holds. subst (λ (xs : List Candidate). AreFirstUpTo c.args.content.now.qos.now h c.args.masks
+      (g.T.Test.meaning c.args.test.now) c.args.max c.args.content.now.samples.now 0 xs) (sym c.new-found.ensures.items)
+      (none-walked c.args.content.now.qos.now h c.args.masks (g.T.Test.meaning c.args.test.now) c.args.max c.args.content.now.samples.now);
 }
 
 pub loop-place-preserved : goal.loop-place-preserved
@@ -31,9 +31,9 @@ loop-place-preserved g c =
     let handle : c.number-handle.result ≡ c.in-Some.known.handle = c.number-handle.ensures.number in
     let from : c.loop-place.newest ≤ c.in-Some.known.handle = omega (arith, handle, c.if-handle-newest.false) in
     record {
-      placed = subst (λ (xs : List Candidate). All (IsPlaced (length c.args.samples.now)) xs)
+      placed = subst (λ (xs : List Candidate). All (IsPlaced (length c.args.content.now.samples.now)) xs)
           (sym c.in_ok-append.ensures.items)
-          (All-append (IsPlaced (length c.args.samples.now)) cs more c.loop-place.invariant.placed
+          (All-append (IsPlaced (length c.args.content.now.samples.now)) cs more c.loop-place.invariant.placed
           c.in_ok-more.ensures.placed);
       sorted = subst (λ (xs : List Candidate). IsNonDecreasingBy handle_in xs) (sym c.in_ok-append.ensures.items)
           (sorted-more c.in-Some.known.handle cs more c.loop-place.invariant.sorted
@@ -45,32 +45,32 @@ loop-place-preserved g c =
           (below-more c.loop-place.newest c.in-Some.known.handle cs more from c.loop-place.invariant.below
           c.in_ok-more.ensures.handles));
       found = λ h holds.
-          subst (λ (xs : List Candidate). AreFirstUpTo c.args.qos.now h c.args.masks (g.T.Test.meaning c.args.test.now)
-          c.args.max c.args.samples.now (c.loop-place.place + 1) xs) (sym c.in_ok-append.ensures.items)
-          (one-walked c.args.qos.now h c.args.masks (g.T.Test.meaning c.args.test.now) c.args.max c.args.samples.now
-          c.args.instances.now c.loop-place.place c.in-Some.known.key cs more holds
-          (sym (c.in-Some.ensures.key c.args.qos.now h holds.instances))
-          (c.in_ok-more.ensures.found h (c.in-Some.ensures.known c.args.qos.now h holds.instances) holds.each) (c.loop-place.invariant.found h holds));
+          subst (λ (xs : List Candidate). AreFirstUpTo c.args.content.now.qos.now h c.args.masks (g.T.Test.meaning c.args.test.now)
+          c.args.max c.args.content.now.samples.now (c.loop-place.place + 1) xs) (sym c.in_ok-append.ensures.items)
+          (one-walked c.args.content.now.qos.now h c.args.masks (g.T.Test.meaning c.args.test.now) c.args.max c.args.content.now.samples.now
+          c.args.content.now.instances.now c.loop-place.place c.in-Some.known.key cs more holds
+          (sym (c.in-Some.ensures.key c.args.content.now.qos.now h holds.instances))
+          (c.in_ok-more.ensures.found h (c.in-Some.ensures.known c.args.content.now.qos.now h holds.instances) holds.each) (c.loop-place.invariant.found h holds));
     }
 
 pub returns-clause-placed : goal.returns-clause-placed
 returns-clause-placed g c =
-    cut-each (IsPlaced (length c.args.samples.now)) c.args.max c.loop-place.found.items c.cut_to.new.found.items
+    cut-each (IsPlaced (length c.args.content.now.samples.now)) c.args.max c.loop-place.found.items c.cut_to.new.found.items
     c.cut_to.ensures c.loop-place.invariant.placed
 
 pub returns-clause-found : goal.returns-clause-found
 returns-clause-found g c = λ h holds.
-    let known : c.len-place-end.result ≡ length (known_instances c.args.qos.now h) =
-    c.len-place-end.ensures.len c.args.qos.now h holds.instances in
+    let known : c.len-place-end.result ≡ length (known_instances c.args.content.now.qos.now h) =
+    c.len-place-end.ensures.len c.args.content.now.qos.now h holds.instances in
     let done : IsFull c.args.max (length c.loop-place.found.items)
-    ⊎ (length (known_instances c.args.qos.now h) ≤ c.loop-place.place) =
+    ⊎ (length (known_instances c.args.content.now.qos.now h) ≤ c.loop-place.place) =
     elim c.loop-place-test.branch [
       | else-loop-place-test w ↦ inr (omega (arith, known, w.loop-place-test.false))
       | then-loop-place-test+then-is_full w ↦
           inl (subst (λ (n : ℕ). IsFull c.args.max n) (w.len.ensures ∙ c.loop-place.found.ok.0)
           (w.is_full.ensures.full w.if-is_full.true))
     ] in
-    all-walked c.args.qos.now h c.args.masks (g.T.Test.meaning c.args.test.now) c.args.max c.args.samples.now
+    all-walked c.args.content.now.qos.now h c.args.masks (g.T.Test.meaning c.args.test.now) c.args.max c.args.content.now.samples.now
     c.loop-place.place c.loop-place.found.items c.cut_to.new.found.items done c.cut_to.ensures
     (c.loop-place.invariant.found h holds)
 

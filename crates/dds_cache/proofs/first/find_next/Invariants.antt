@@ -9,6 +9,6 @@ use Rattle.dds_cache.proofs.first.find_next.Given as goal
 
 abbrev pub invariant-loop-place : goal.invariant-loop-place
 invariant-loop-place g l = record {
-  barren : (h : List Happening) → Holds l.qos l.instances l.samples h
-      → All (IsBarren l.qos h l.selection l.masks (g.T.Test.meaning l.test)) (take l.place (known_instances l.qos h));
+  barren : (h : List Happening) → Holds l.content.qos.now l.content.instances.now l.content.samples.now h
+      → All (IsBarren l.content.qos.now h l.selection l.masks (g.T.Test.meaning l.test)) (take l.place (known_instances l.content.qos.now h));
 }
