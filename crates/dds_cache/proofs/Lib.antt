@@ -2,6 +2,8 @@ pub mod PresenceLaws
 pub mod RiseLaws
 pub mod EndLaws
 pub mod KeptLaws
+pub mod MarkerLaws
+pub mod ExactLaws
 pub mod StandingLaws
 pub mod PushLaws
 pub mod GroupLaws
@@ -19,7 +21,6 @@ pub mod SummaryLaws
 pub mod AnyLaws
 pub mod DataLaws
 pub mod RoomLaws
-pub mod DepthLaws
 pub mod DeathLaws
 pub mod SweepLaws
 pub mod HoldLaws

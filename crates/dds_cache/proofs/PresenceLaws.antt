@@ -41,7 +41,7 @@ count-grew count grows j (e ∷ h) =
     (cases_Bool (nat_le j (length h)))
 
 -- a history that keeps a write keeps it where fewer follow
-keeps-fewer : (history : HistoryQos) (m n : ℕ) → m ≤ n → keeps history n ≡ true → keeps history m ≡ true
+pub keeps-fewer : (history : HistoryQos) (m n : ℕ) → m ≤ n → keeps history n ≡ true → keeps history m ≡ true
 keeps-fewer KeepAll m n fewer is = refl
 keeps-fewer (KeepLast depth) m n fewer is =
     let within : n < depth = ltb-true n depth is in lt-ltb m depth (omega (arith, fewer, within))
@@ -115,6 +115,18 @@ not-or : (a b : Bool) → not (a || b) ≡ true → b ≡ false
 not-or true b e = absurd (let clash : false ≡ true = e in cc)
 not-or false true e = absurd (let clash : false ≡ true = e in cc)
 not-or false false e = refl
+
+-- the last marker that the entry reaches, at an older position
+pub marker-older : (q : ReaderQos) (e : Happening) (h : List Happening) (i : Key) (j : ℕ) → j ≤ length h
+    → is_at (reached q i h e) j ≡ (not (marks q i h e) && is_at (last_marker q i h) j)
+marker-older q e h i j older =
+    ⊎_elim
+    (λ marked. ap (λ (b : Bool). is_at (if b then Some (length h + 1) else last_marker q i h) j) marked
+    ∙ (unequal (length h + 1) j (λ same. omega (arith, same, older))
+    ∙ sym (ap (λ (b : Bool). not b && is_at (last_marker q i h) j) marked)))
+    (λ unmarked. ap (λ (b : Bool). is_at (if b then Some (length h + 1) else last_marker q i h) j) unmarked
+    ∙ sym (ap (λ (b : Bool). not b && is_at (last_marker q i h) j) unmarked))
+    (cases_Bool (marks q i h e))
 
 -- what is present of the past was so before: no entry brings a sample back
 pub present-before : (q : ReaderQos) (e : Happening) (h : List Happening) (i : Key) (j : ℕ) → j ≤ length h

@@ -1,10 +1,10 @@
 -- How many writes are present after a change.
-use Rattle.std.proofs.Common.{◌≡◌, ℕ, ◌+◌, ◌-◌, ◌^◌, ◌≤◌, ◌<◌, min, List, [], ◌∷◌, ◌++◌, length, filter, Bool, true, false, not, ◌==◌, ◌&&◌, ◌||◌, sym, ap, ◌∙◌, refl, subst, cond, Option, Some, None, arith, ⊎_elim}
+use Rattle.std.proofs.Common.{◌≡◌, ◌≢◌, ℕ, ◌+◌, ◌-◌, ◌^◌, ◌≤◌, ◌<◌, min, List, [], ◌∷◌, ◌++◌, length, filter, Bool, true, false, not, ◌==◌, ◌&&◌, ◌||◌, sym, ap, ◌∙◌, refl, subst, cond, Option, Some, None, arith, ⊎_elim, get_or, take, zero, suc}
 use Rattle.std.specs.Prelude.{if◌then◌else◌}
 use Rattle.std.specs.List.{list_any, All, count_by}
-use Rattle.std.proofs.lemmas.Bool.{and_from, and_parts, cases_Bool, le-leb, leb-true, lt-ltb}
+use Rattle.std.proofs.lemmas.Bool.{and_from, and_parts, and_right, cases_Bool, le-leb, leb-true, lt-ltb}
 use Rattle.std.proofs.lemmas.Bool.Decides.{nat_tests}
-use Rattle.std.proofs.lemmas.List.{append-nil, length-append}
+use Rattle.std.proofs.lemmas.List.{append-nil, get_or_default, length-append, take_all}
 use Rattle.std.proofs.lemmas.List.Sums.{sum_by-append, sum_by-cons, length-filter}
 use Rattle.std.proofs.lemmas.List.Elements.{All-head, All-tail, All-weaker}
 use Rattle.dds_base.specs.declared.key.Key.{Key}
@@ -14,11 +14,9 @@ use Rattle.dds_base.specs.declared.happening.SamplePosition.{SamplePosition}
 use Rattle.dds_base.specs.declared.happening.Happening.{Happening}
 use Rattle.dds_base.specs.declared.happening.Happening.TheVariants.{Came}
 use Rattle.dds_base.specs.declared.qos.ReaderQos.{ReaderQos}
-use Rattle.dds_base.specs.declared.qos.HistoryQos.{HistoryQos}
-use Rattle.dds_base.specs.declared.qos.HistoryQos.TheVariants.{KeepAll}
-use Rattle.dds_base.specs.Happening.{arrivals, same_key, same_sample, as_of, is_taken, read_by, taken_by}
+use Rattle.dds_base.specs.Happening.{arrivals, same_key, as_of, read_by, taken_by}
 use Rattle.dds_base.specs.Ownership.{accepted_kind}
-use Rattle.dds_base.specs.Instance.{introduces, is_known, known_instances, disposed_generations, no_writers_generations}
+use Rattle.dds_base.specs.Instance.{instance_state_of, introduces, is_known, known_instances, disposed_generations, no_writers_generations}
 use Rattle.dds_base.specs.Life.{is_write, accepted_writes, ends_life, ends_with_write, is_at, is_kept_write, keeps, last_marker, later_writes, up_to}
 use Rattle.dds_base.specs.Presence.{has_room, is_accepted, is_present, is_within, marks, present_writes}
 use Rattle.dds_base.specs.Access.{timestamp_of, publication_of, newest_value}
@@ -29,30 +27,22 @@ use Rattle.dds_instances.specs.Known.{IsKnown, writes_in_life}
 use Rattle.dds_instances.specs.Track.{one_if}
 use Rattle.dds_instances.proofs.KnownLaws.{known}
 use Rattle.dds_cache.specs.declared.kept.Kept.{Kept}
-use Rattle.dds_cache.specs.Kept.{Adds, IsFresh, IsKept, IsKeptAt, IsOf, has_data, positions_in, sample_at}
+use Rattle.dds_cache.specs.Kept.{AreOfMatched, Adds, IsFresh, IsUpToDate, IsKept, IsKeptAt, IsOf, has_data, position_of, positions_in, sample_at}
+use Rattle.dds_cache.specs.Pushing.{is_pushed}
 use Rattle.dds_cache.specs.Room.{is_present_write, is_write_after}
+use Rattle.dds_cache.proofs.ExactLaws.{after-behind, data-parts, other-stays}
+use Rattle.dds_cache.proofs.KeptLaws.{kept-stated}
+use Rattle.dds_cache.proofs.PushLaws.{AreNoneBefore}
+use Rattle.dds_instances.specs.Table.{Table}
+use Rattle.dds_cache.specs.Finding.{Holds}
 use Rattle.dds_cache.specs.Sweeping.{stays}
 use Rattle.dds_cache.proofs.EndLaws.{known-accepted, short}
-use Rattle.dds_cache.proofs.PresenceLaws.{absent-after, count-grew, ended-absent, filter-narrow, present-reached, reached, unmarked-other}
+use Rattle.dds_cache.proofs.PresenceLaws.{absent-after, count-grew, ended-absent, filter-narrow, marker-older, present-reached, reached, unmarked-other}
 use Rattle.dds_cache.proofs.StandingLaws.{adds-nothing, adds-one, each-after, present-after}
 use Rattle.dds_cache.proofs.SweepLaws.{Leaves, apart-quiet, leaves-swept, present-stays, ripe-one}
-use Rattle.dds_cache.proofs.GroupLaws.{unequal}
 use Rattle.dds_cache.proofs.CountLaws.{present-count}
-use Rattle.dds_cache.proofs.SummaryLaws.{count-agree}
 
 -- ---- what is kept, after a change
-
--- the last marker that the entry reaches, at an older position
-marker-older : (q : ReaderQos) (e : Happening) (h : List Happening) (i : Key) (j : ℕ) → j ≤ length h
-    → is_at (reached q i h e) j ≡ (not (marks q i h e) && is_at (last_marker q i h) j)
-marker-older q e h i j older =
-    ⊎_elim
-    (λ marked. ap (λ (b : Bool). is_at (if b then Some (length h + 1) else last_marker q i h) j) marked
-    ∙ (unequal (length h + 1) j (λ same. omega (arith, same, older))
-    ∙ sym (ap (λ (b : Bool). not b && is_at (last_marker q i h) j) marked)))
-    (λ unmarked. ap (λ (b : Bool). is_at (if b then Some (length h + 1) else last_marker q i h) j) unmarked
-    ∙ sym (ap (λ (b : Bool). not b && is_at (last_marker q i h) j) unmarked))
-    (cases_Bool (marks q i h e))
 
 write-table : (o v k m : Bool) → (not o && (v && (k || m))) ≡ ((not o && ((v && k) || m)) && v)
 write-table true v k m = refl
@@ -135,44 +125,6 @@ write-after q a h known k w m written marked is_known key kept =
   where
     flipped : (x y : Key) → same_key x y ≡ false → same_key y x ≡ false
     flipped x y other = same_key-comm y x ∙ other
-
-keep-table : (t v m : Bool) → ((not t && ((v && true) || m)) && v) ≡ (not t && v)
-keep-table true v m = refl
-keep-table false true m = refl
-keep-table false false true = refl
-keep-table false false false = refl
-
--- where the history keeps all, a kept sample is a present write after an entry if it has data, and is not gone
-write-kept : (q : ReaderQos) (e : Happening) (h : List Happening) (k : Kept) → q.history ≡ KeepAll → taken_by e ≡ []
-    → IsKept q h k → is_present_write q (e ∷ h) k ≡ has_data k
-write-kept q e h k all untaken kept =
-    let i : Key = k.sample.key in
-    let j : ℕ = k.sample.position in
-    let past : as_of j (e ∷ h) ≡ as_of j h = as_of-older e h j kept.in_past in
-    let w : Bool = ends_with_write q i (as_of j (e ∷ h)) in
-    let m : Option ℕ = reached q i h e in
-    let out : k.is_out ≡ false → is_taken k.sample (e ∷ h) ≡ k.is_out = λ stays.
-    ap (λ (ss : List SamplePosition). list_any (same_sample k.sample) ss || is_taken k.sample h) untaken
-    ∙ (kept.in_is stays ∙ sym stays) in
-    ⊎_elim
-    (λ gone. ap (λ (b : Bool). b && w) (absent-after q e h i j kept.in_past (kept.out_is gone))
-    ∙ sym (ap (λ (b : Bool). not b && k.valid_data) gone))
-    (λ stays. ap (λ (b : Bool). b && w) (present-reached q e h i j (omega (arith, kept.in_past)))
-    ∙ (ap (λ (history : HistoryQos). (not (is_taken k.sample (e ∷ h))
-    && ((w && keeps history (later_writes q (e ∷ h) i j)) || is_at m j)) && w) all
-    ∙ (keep-table (is_taken k.sample (e ∷ h)) w (is_at m j)
-    ∙ (ap (λ (b : Bool). not b && w) (out stays)
-    ∙ (ap (λ (g : List Happening). not k.is_out && ends_with_write q i g) past
-    ∙ ap (λ (b : Bool). not k.is_out && b) (sym kept.is_of.valid_is))))))
-    (cases_Bool k.is_out)
-
--- so as many are present writes after a change as have data
-pub writes-all : (q : ReaderQos) (a : Arrival) (h : List Happening) (ks : List Kept) → q.history ≡ KeepAll
-    → All (IsKept q h) ks → count_by has_data ks ≡ count_by (is_present_write q (Came a ∷ h)) ks
-writes-all q a h ks all each =
-    sym (count-agree (is_present_write q (Came a ∷ h)) has_data ks
-    (All-weaker (IsKept q h) (λ (k : Kept). is_present_write q (Came a ∷ h) k ≡ has_data k)
-    (λ k kept. write-kept q (Came a) h k all refl kept) ks each))
 
 -- ---- what the change leaves
 
@@ -343,29 +295,6 @@ leaves-write q a h w m written marked fresh =
         unmarked)))
         (cases_Bool (marks q i h e))
 
--- what is no more than what keeps to the limit does too
-pub within-less : (limit : Option ℕ) (n m : ℕ) → n ≤ m → is_within limit m ≡ true → is_within limit n ≡ true
-within-less None n m less within = refl
-within-less (Some most) n m less within = le-leb n most (omega (arith, less, leb-true m most within))
-
--- a test that is passed wherever another one is counts no less
-pub fewer-one : (a b : Bool) → (a ≡ true → b ≡ true) → cond {A = ℕ} a 1 0 ≤ cond {A = ℕ} b 1 0
-fewer-one true b more =
-    let is : cond {A = ℕ} b 1 0 ≡ 1 = ap (λ (x : Bool). cond {A = ℕ} x 1 0) (more refl) in
-    omega (arith, is)
-fewer-one false b more = omega arith
-
-fewer-kept : (p r : Kept → Bool) (ks : List Kept) → All (λ (k : Kept). p k ≡ true → r k ≡ true) ks
-    → count_by p ks ≤ count_by r ks
-fewer-kept p r [] wider = omega arith
-fewer-kept p r (k ∷ ks) wider =
-    let left : count_by p (k ∷ ks) ≡ cond (p k) 1 0 + count_by p ks = sum_by-cons (λ x. cond (p x) 1 0) k ks in
-    let right : count_by r (k ∷ ks) ≡ cond (r k) 1 0 + count_by r ks = sum_by-cons (λ x. cond (r x) 1 0) k ks in
-    let one = fewer-one (p k) (r k) (All-head (λ (x : Kept). p x ≡ true → r x ≡ true) k ks wider) in
-    let rest = fewer-kept p r ks (All-tail (λ (x : Kept). p x ≡ true → r x ≡ true) k ks wider) in
-    omega (arith, left, right, one, rest)
-
--- each kept sample was taken or was not
 -- a write that is present after a change is not gone, and has data
 writes-in : (q : ReaderQos) (a : Arrival) (h : List Happening) (k : Kept) → IsKept q h k
     → is_present_write q (Came a ∷ h) k ≡ true → has_data k ≡ true
@@ -381,17 +310,176 @@ writes-in q a h k kept is =
     ∙ (ap (λ (g : List Happening). ends_with_write q k.sample.key g)
     (sym (as_of-older (Came a) h k.sample.position kept.in_past)) ∙ parts.1))
 
+-- ---- those that the change pushes out
+
+-- they and the present writes are those that have data and are not gone
+pub pushed-or-present : (q : ReaderQos) (a : Arrival) (h : List Happening) (ks : List Kept) → All (IsKept q h) ks
+    → count_by (is_present_write q (Came a ∷ h)) ks + count_by (is_pushed q a h) ks ≡ count_by has_data ks
+pushed-or-present q a h [] each = grind arith
+pushed-or-present q a h (k ∷ ks) each =
+    let p : Kept → Bool = is_present_write q (Came a ∷ h) in
+    let present : count_by p (k ∷ ks) ≡ cond (p k) 1 0 + count_by p ks = sum_by-cons (λ x. cond (p x) 1 0) k ks in
+    let pushed : count_by (is_pushed q a h) (k ∷ ks) ≡ cond (is_pushed q a h k) 1 0 + count_by (is_pushed q a h) ks =
+    sum_by-cons (λ x. cond (is_pushed q a h x) 1 0) k ks in
+    let all : count_by has_data (k ∷ ks) ≡ cond (has_data k) 1 0 + count_by has_data ks =
+    sum_by-cons (λ x. cond (has_data x) 1 0) k ks in
+    let rest = pushed-or-present q a h ks (All-tail (IsKept q h) k ks each) in
+    let one : cond {A = ℕ} (p k) 1 0 + cond {A = ℕ} (has_data k && not (p k)) 1 0 ≡ cond {A = ℕ} (has_data k) 1 0 =
+    either (p k) (has_data k) (λ there. writes-in q a h k (All-head (IsKept q h) k ks each) there) in
+    omega (arith, present, pushed, all, rest, one)
+  where
+    either : (p d : Bool) → (p ≡ true → d ≡ true)
+        → cond {A = ℕ} p 1 0 + cond {A = ℕ} (d && not p) 1 0 ≡ cond {A = ℕ} d 1 0
+    either true true more = omega arith
+    either true false more = absurd (let clash : false ≡ true = more refl in cc)
+    either false true more = omega arith
+    either false false more = omega arith
+
+-- one of another instance, or that is gone or has no data, is none of them
+pub unpushed-other : (q : ReaderQos) (a : Arrival) (h : List Happening) (k : Kept) → AreOfMatched q h → IsKept q h k
+    → IsUpToDate q h k → same_key k.sample.key a.change.key ≡ false → is_pushed q a h k ≡ false
+unpushed-other q a h k matched kept up other =
+    ⊎_elim
+    (λ filled. ap (λ (b : Bool). has_data k && not b)
+    (and_from (is_present q (Came a ∷ h) k.sample.key k.sample.position)
+    (ends_with_write q k.sample.key (as_of k.sample.position (Came a ∷ h)))
+    (other-stays q a h k matched kept up (same_key-comm a.change.key k.sample.key ∙ other) filled)
+    (ap (λ (g : List Happening). ends_with_write q k.sample.key g) (as_of-older (Came a) h k.sample.position kept.in_past)
+    ∙ (data-parts q h k kept filled).1))
+    ∙ and_right (has_data k) false refl)
+    (λ none. ap (λ (b : Bool). b && not (is_present_write q (Came a ∷ h) k)) none)
+    (cases_Bool (has_data k))
+
+pub unpushed-empty : (q : ReaderQos) (a : Arrival) (h : List Happening) (k : Kept) → has_data k ≡ false
+    → is_pushed q a h k ≡ false
+unpushed-empty q a h k none = ap (λ (b : Bool). b && not (is_present_write q (Came a ∷ h) k)) none
+
+-- nor one behind a write of the instance that stays
+pub unpushed-behind : (q : ReaderQos) (a : Arrival) (h : List Happening) (j k : Kept) → AreOfMatched q h → IsKept q h j
+    → IsKept q h k → k.sample.key ≡ j.sample.key → position_of j ≤ position_of k
+    → is_present_write q (Came a ∷ h) j ≡ true → is_pushed q a h k ≡ false
+unpushed-behind q a h j k matched former kept same le there =
+    ⊎_elim
+    (λ filled. ap (λ (b : Bool). has_data k && not b) (after-behind q a h j k matched former kept same le there filled)
+    ∙ and_right (has_data k) false refl)
+    (λ none. unpushed-empty q a h k none)
+    (cases_Bool (has_data k))
+
+-- as many are counted up to a place where none is counted between
+pub count-further : (p : Kept → Bool) (ks : List Kept) (m n : ℕ) → m ≤ n
+    → ((j : ℕ) (d : Kept) → m ≤ j → j < n → j < length ks → p (get_or ks j d) ≡ false)
+    → count_by p (take n ks) ≡ count_by p (take m ks)
+count-further p [] zero n le none = taken-none n
+  where
+    taken-none : (n : ℕ) → count_by p (take n []) ≡ 0
+    taken-none zero = refl
+    taken-none (suc n) = refl
+count-further p [] (suc m) (suc n) le none = refl
+count-further p [] (suc m) zero le none = absurd (omega (arith, le))
+count-further p (k ∷ ks) zero zero le none = refl
+count-further p (k ∷ ks) zero (suc n) le none =
+    sum_by-cons (λ x. cond (p x) 1 0) k (take n ks)
+    ∙ (ap (λ (b : Bool). cond b 1 0 + count_by p (take n ks)) (none 0 k (omega arith) (omega arith) (omega arith))
+    ∙ (let rest : count_by p (take n ks) ≡ 0 = count-further p ks zero n (omega arith)
+    (λ j d from below within. none (suc j) d (omega arith) (omega (arith, below)) (omega (arith, within))) in
+    omega (arith, rest)))
+count-further p (k ∷ ks) (suc m) zero le none = absurd (omega (arith, le))
+count-further p (k ∷ ks) (suc m) (suc n) le none =
+    sum_by-cons (λ x. cond (p x) 1 0) k (take n ks)
+    ∙ (ap (λ (c : ℕ). cond (p k) 1 0 + c)
+    (count-further p ks m n (omega (arith, le))
+    (λ j d from below within. none (suc j) d (omega (arith, from)) (omega (arith, below)) (omega (arith, within))))
+    ∙ sym (sum_by-cons (λ x. cond (p x) 1 0) k (take m ks)))
+
+-- none of those before a place is one, where none of the instance has data there, but for those that are gone
+pub unpushed-before : (q : ReaderQos) (table : Table) (a : Arrival) (h : List Happening) (known : KnownInstance)
+    (ks : List Kept) (place : ℕ) → known.key ≡ a.change.key → Holds q table ks h → AreNoneBefore known ks place
+    → (j : ℕ) (d : Kept) → j < place → j < length ks → is_pushed q a h (get_or ks j d) ≡ false
+unpushed-before q table a h known ks place key holds none j d before within =
+    let k : Kept = get_or ks j d in
+    ⊎_elim
+    (λ own. unpushed-empty q a h k (none j d before within own))
+    (λ other. unpushed-other q a h k holds.matched (holds.each j d within) (holds.up_to_date j d within)
+    (ap (λ (i : Key). same_key k.sample.key i) (sym key) ∙ other))
+    (cases_Bool (same_key k.sample.key known.key))
+
+-- and none from a write of the instance on that stays
+pub unpushed-from : (q : ReaderQos) (table : Table) (a : Arrival) (h : List Happening) (known : KnownInstance)
+    (ks : List Kept) (place : ℕ) (x : Kept) → known.key ≡ a.change.key → Holds q table ks h → place < length ks
+    → x ≡ get_or ks place x → (same_key x.sample.key known.key && is_present_write q (Came a ∷ h) x) ≡ true
+    → (j : ℕ) (d : Kept) → place ≤ j → j < length ks → is_pushed q a h (get_or ks j d) ≡ false
+unpushed-from q table a h known ks place x key holds there x_is stays j d from within =
+    let k : Kept = get_or ks j d in
+    let parts = and_parts (same_key x.sample.key known.key) (is_present_write q (Came a ∷ h) x) stays in
+    let kept : IsKept q h x = subst (λ (y : Kept). IsKept q h y) (sym x_is) (holds.each place x there) in
+    ⊎_elim
+    (λ own. unpushed-behind q a h x k holds.matched kept (holds.each j d within)
+    (key-same k.sample.key known.key own ∙ sym (key-same x.sample.key known.key parts.0))
+    (subst (λ (y : Kept). position_of y ≤ position_of k) (sym (x_is ∙ get_or_default ks place x d there))
+    (holds.in_order place j d from within)) parts.1)
+    (λ other. unpushed-other q a h k holds.matched (holds.each j d within) (holds.up_to_date j d within)
+    (ap (λ (i : Key). same_key k.sample.key i) (sym key) ∙ other))
+    (cases_Bool (same_key k.sample.key known.key))
+
+-- and one of another instance is none
+pub unpushed-apart : (q : ReaderQos) (table : Table) (a : Arrival) (h : List Happening) (known : KnownInstance)
+    (ks : List Kept) → known.key ≡ a.change.key → Holds q table ks h → (j : ℕ) (d : Kept) → j < length ks
+    → (get_or ks j d).sample.key ≢ known.key → is_pushed q a h (get_or ks j d) ≡ false
+unpushed-apart q table a h known ks key holds j d within apart =
+    let k : Kept = get_or ks j d in
+    ⊎_elim
+    (λ own. absurd (apart (key-same k.sample.key a.change.key own ∙ sym key)))
+    (λ other. unpushed-other q a h k holds.matched (holds.each j d within) (holds.up_to_date j d within) other)
+    (cases_Bool (same_key k.sample.key a.change.key))
+
+-- one of the instance that has data, is not gone and does not stay is one
+pub pushed-own : (q : ReaderQos) (table : Table) (a : Arrival) (h : List Happening) (known : KnownInstance)
+    (ks : List Kept) (place : ℕ) (x : Kept) → known.key ≡ a.change.key → Holds q table ks h → place < length ks
+    → x ≡ get_or ks place x → (same_key x.sample.key known.key && is_present_write q (Came a ∷ h) x) ≡ false
+    → is_pushed q a h x ≡ (same_key x.sample.key known.key && has_data x)
+pushed-own q table a h known ks place x key holds there x_is goes =
+    let p : Bool = is_present_write q (Came a ∷ h) x in
+    ⊎_elim
+    (λ own. ap (λ (b : Bool). has_data x && not b)
+    (sym (ap (λ (b : Bool). b && p) own) ∙ goes)
+    ∙ (whole (has_data x) ∙ sym (ap (λ (b : Bool). b && has_data x) own)))
+    (λ other. unpushed-other q a h x holds.matched
+    (subst (λ (y : Kept). IsKept q h y) (sym x_is) (holds.each place x there))
+    (subst (λ (y : Kept). IsUpToDate q h y) (sym x_is) (holds.up_to_date place x there))
+    (ap (λ (i : Key). same_key x.sample.key i) (sym key) ∙ other)
+    ∙ sym (ap (λ (b : Bool). b && has_data x) other))
+    (cases_Bool (same_key x.sample.key known.key))
+  where
+    whole : (b : Bool) → (b && true) ≡ b
+    whole true = refl
+    whole false = refl
+
+-- of an instance that is not known none is one
+pub unpushed-unknown : (q : ReaderQos) (table : Table) (a : Arrival) (h : List Happening) (ks : List Kept)
+    → instance_state_of q a.change.key h ≡ None → Holds q table ks h → count_by (is_pushed q a h) ks ≡ 0
+unpushed-unknown q table a h ks unknown holds =
+    ap (λ (xs : List Kept). count_by (is_pushed q a h) xs) (sym (take_all (length ks) ks (omega arith)))
+    ∙ count-further (is_pushed q a h) ks 0 (length ks) (omega arith)
+    (λ j d from below within. let k : Kept = get_or ks j d in
+    ⊎_elim
+    (λ own. absurd (kept-stated q h k (holds.each j d within)
+    (ap (λ (i : Key). instance_state_of q i h) (key-same k.sample.key a.change.key own) ∙ unknown)))
+    (λ other. unpushed-other q a h k holds.matched (holds.each j d within) (holds.up_to_date j d within) other)
+    (cases_Bool (same_key k.sample.key a.change.key)))
+
+-- what is no more than what keeps to the limit does too
+pub within-less : (limit : Option ℕ) (n m : ℕ) → n ≤ m → is_within limit m ≡ true → is_within limit n ≡ true
+within-less None n m less within = refl
+within-less (Some most) n m less within = le-leb n most (omega (arith, less, leb-true m most within))
+
 -- with fewer samples than may be present that have data and are not gone, there is room for one more
-pub spare-fits : (q : ReaderQos) (a : Arrival) (h : List Happening) (ks : List Kept) → All (IsKept q h) ks
+spare-fits : (q : ReaderQos) (a : Arrival) (h : List Happening) (ks : List Kept) → All (IsKept q h) ks
     → ((i : Key) → filter (is_present q h i) (up_to (length h)) ≡ positions_in q h i ks) → IsFresh h a.change.key
     → is_accepted q h (Came a) ≡ true → is_within q.max_samples (count_by has_data ks + 1) ≡ true
     → is_within q.max_samples (present_writes q (Came a ∷ h)) ≡ true
 spare-fits q a h ks each present fresh accepted within =
     let count = writes-after q a h ks each present fresh accepted in
-    let few : count_by (is_present_write q (Came a ∷ h)) ks ≤ count_by has_data ks =
-    fewer-kept (is_present_write q (Came a ∷ h)) has_data ks
-    (All-weaker (IsKept q h) (λ (k : Kept). is_present_write q (Came a ∷ h) k ≡ true → has_data k ≡ true)
-    (λ k kept. writes-in q a h k kept) ks each) in
+    let few = pushed-or-present q a h ks each in
     let one = at-most-one (leaves_write q a h) in
     within-less q.max_samples (present_writes q (Came a ∷ h)) (count_by has_data ks + 1) (omega (arith, count, few, one))
     within

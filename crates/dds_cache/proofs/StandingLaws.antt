@@ -13,8 +13,8 @@ use Rattle.dds_base.specs.declared.happening.Happening.TheVariants.{Came, Read, 
 use Rattle.dds_base.specs.declared.qos.ReaderQos.{ReaderQos}
 use Rattle.dds_base.specs.Happening.{same_key, is_read, is_taken, read_by, taken_by, same_sample, arrivals}
 use Rattle.dds_base.specs.Presence.{is_present}
-use Rattle.dds_base.specs.Life.{up_to}
-use Rattle.dds_base.proofs.KeyLaws.{key-same}
+use Rattle.dds_base.specs.Life.{is_write, up_to}
+use Rattle.dds_base.proofs.KeyLaws.{key-same, same_key-comm}
 use Rattle.dds_base.specs.declared.selection.Selection.{Selection}
 use Rattle.dds_base.specs.StatusFlags.{brings_sample, data_available_at}
 use Rattle.dds_instances.specs.Table.{Table, Stands}
@@ -22,15 +22,15 @@ use Rattle.dds_instances.specs.Known.{IsReturnable}
 use Rattle.dds_instances.proofs.KnownLaws.{known}
 use Rattle.dds_cache.specs.declared.access.Candidate.{Candidate}
 use Rattle.dds_cache.specs.declared.collection.Access.{Access}
-use Rattle.dds_cache.specs.Finding.{AreApart, Holds, IsCandidate, sample_in}
+use Rattle.dds_cache.specs.Finding.{AreApart, Holds, HoldsBut, IsCandidate, IsOfOrUpToDate, sample_in}
 use Rattle.dds_cache.specs.Picking.{Picks, IsAccess, collected}
 use Rattle.dds_cache.specs.declared.kept.Kept.{Kept}
-use Rattle.dds_cache.specs.Kept.{IsKept, IsKeptAt, IsFresh, IsNewAt, Adds, sample_at, is_here, is_in, position_of, positions_in, is_among, marked, taken}
+use Rattle.dds_cache.specs.Kept.{AreOfMatched, IsKept, IsKeptAt, IsFresh, IsNewAt, IsOfMatched, IsUpToDate, Adds, has_data, sample_at, is_here, is_in, position_of, positions_in, is_among, marked, taken}
 use Rattle.dds_cache.specs.declared.access_kind.AccessKind.{AccessKind}
 use Rattle.dds_cache.specs.declared.access_kind.AccessKind.TheVariants.{Read as Reading, Take as Taking}
 use Rattle.dds_cache.specs.Sweeping.{AreIn, left_since, stays}
 use Rattle.dds_base.specs.Instance.{known_instances}
-use Rattle.dds_cache.specs.Standing.{AreOfMatched, IsOfMatched, Stored, StandsFor, entry_of}
+use Rattle.dds_cache.specs.Standing.{Stored, StandsFor, entry_of}
 use Rattle.dds_cache.proofs.PresenceLaws.{here-append, present-next, present-dropped, quiet-absent, other-absent}
 use Rattle.dds_cache.proofs.EndLaws.{still-quiet}
 use Rattle.dds_cache.proofs.KeptLaws.{kept-next, not-true, present-in, some_kept}
@@ -38,7 +38,11 @@ use Rattle.dds_cache.proofs.SweepLaws.{IsApart, IsRipe, Leaves, all-filtered, ap
 use Rattle.dds_cache.proofs.GroupLaws.{unequal}
 use Rattle.dds_cache.proofs.PlaceLaws.{apart-picked}
 use Rattle.dds_cache.proofs.DataLaws.{brings-added, none-noted}
-use Rattle.dds_base.specs.Ownership.{accepted_kind, registered_writers}
+use Rattle.dds_base.specs.declared.change.ChangeKind.{ChangeKind}
+use Rattle.dds_base.specs.Ownership.{IsMatched, accepted_kind, registered_writers}
+use Rattle.std.specs.List.Sorted.{IsNonDecreasingBy}
+use Rattle.std.proofs.lemmas.List.Kept.{IsNonDecreasingBy-filter}
+use Rattle.dds_cache.proofs.ExactLaws.{added-each, order-added, order-map, order-since, other-stays, since-each, write-stays}
 
 -- no access returned what has not happened yet
 pub fresh : (stored : Stored) (h : List Happening) (i : Key) → StandsFor stored h → IsFresh h i
@@ -52,7 +56,14 @@ fresh stored h i stands =
 -- what is kept holds for what it stands for
 pub holds : (stored : Stored) (h : List Happening) → StandsFor stored h
     → Holds stored.qos stored.instances stored.samples h
-holds stored h stands = record { instances = stands.instances; each = stands.each; present = stands.present }
+holds stored h stands = record {
+  instances = stands.instances;
+  each = stands.each;
+  present = stands.present;
+  matched = stands.matched;
+  in_order = stands.in_order;
+  up_to_date = stands.up_to_date;
+}
 
 -- one more change is counted
 pub counts-more : (n m : ℕ) → n ≡ min m (2 ^ 31 - 1) → min (n + 1) (2 ^ 31 - 1) ≡ min (m + 1) (2 ^ 31 - 1)
@@ -77,36 +88,77 @@ present-after q e h old left new leaves adds each present i =
     ∙ (sym (here-append q (e ∷ h) i left adds.added)
     ∙ ap (λ (ks : List Kept). positions_in q (e ∷ h) i ks) (sym adds.are))))
 
--- what is kept holds after one more entry, once the samples that it leaves are added to those that are left
+-- what is kept holds after one more entry, once the samples that it leaves are added to those that are left, which are in
+-- order and up to date
 pub holds-next : (q : ReaderQos) (e : Happening) (h : List Happening) (before table : Table) (old left new : List Kept)
-    → Stands q table (e ∷ h) → Leaves q e h old left → Adds q e h left new → Holds q before old h
-    → Holds q table new (e ∷ h)
-holds-next q e h before table old left new stands leaves adds holds = record {
+    → Stands q table (e ∷ h) → IsOfMatched q e → Leaves q e h old left → IsNonDecreasingBy position_of left
+    → All (IsUpToDate q (e ∷ h)) left → Adds q e h left new → Holds q before old h → Holds q table new (e ∷ h)
+holds-next q e h before table old left new stands matched leaves order up adds holds = record {
   instances = stands;
   each = each-after q e h old left new leaves adds;
   present = present-after q e h old left new leaves adds holds.each holds.present;
+  matched = All-cons (IsOfMatched q) e h matched holds.matched;
+  in_order = order-added q e h left new adds leaves.past order;
+  up_to_date = added-each (IsUpToDate q (e ∷ h)) q e h left new adds (λ k is. is) up;
 }
 
--- the samples that an entry leaves are added to those that are left
-pub stands-added : (q : ReaderQos) (e : Happening) (h : List Happening) (left : List Kept) (old new : Stored)
-    → old.qos ≡ q → new.qos ≡ q → IsOfMatched q e
-    → taken_by e ≡ [] → read_by e ≡ [] → new.arrivals ≡ min (arrivals (e ∷ h)) (2 ^ 31 - 1)
+-- so it does after a change, but for what that pushes out
+pub holds-came : (q : ReaderQos) (a : Arrival) (h : List Happening) (before table : Table) (known : ℕ)
+    (old left new : List Kept) → Stands q table (Came a ∷ h) → IsMatched q a.writer
+    → left ≡ left_since q (Came a ∷ h) known old → Leaves q (Came a) h old left → Adds q (Came a) h left new
+    → Holds q before old h → HoldsBut q table new (Came a ∷ h) a.change.key
+holds-came q a h before table known old left new stands matched is leaves adds holds =
+    let g : List Happening = Came a ∷ h in
+    record {
+      instances = stands;
+      each = each-after q (Came a) h old left new leaves adds;
+      present = present-after q (Came a) h old left new leaves adds holds.each holds.present;
+      matched = All-cons (IsOfMatched q) (Came a) h matched holds.matched;
+      in_order =
+          order-added q (Came a) h left new adds leaves.past
+          (subst (λ (ks : List Kept). IsNonDecreasingBy position_of ks) (sym is)
+          (order-since q g known old holds.in_order));
+      others =
+          added-each (IsOfOrUpToDate q g a.change.key) q (Came a) h left new adds (λ k up other. up)
+          (subst (λ (ks : List Kept). All (IsOfOrUpToDate q g a.change.key) ks) (sym is)
+          (since-each (IsOfOrUpToDate q g a.change.key) q g known old
+          (λ j d within other. other-stays q a h (get_or old j d) holds.matched (holds.each j d within)
+          (holds.up_to_date j d within)
+          (same_key-comm a.change.key (get_or old j d).sample.key ∙ other))));
+    }
+
+-- after an entry that is no write of any instance each sample that it did not return is up to date as before
+up-quiet : (q : ReaderQos) (e : Happening) (h : List Happening) (f : Kept → Kept) (ks : List Kept)
+    → ((i : Key) → is_write (accepted_kind q i h e) ≡ false) → ((k : Kept) → (f k).sample ≡ k.sample)
+    → ((k : Kept) → has_data (f k) ≡ true
+    → (has_data k ≡ true) × (list_any (same_sample k.sample) (taken_by e) ≡ false))
+    → AreOfMatched q h → All (IsKept q h) ks → All (IsUpToDate q h) ks → All (IsUpToDate q (e ∷ h)) (map f ks)
+up-quiet q e h f ks unwritten same filled matched each up =
+    All-map (IsUpToDate q (e ∷ h)) f ks (λ j d within now.
+    let k : Kept = get_or ks j d in
+    let parts = filled k now in
+    ap (λ (s : SamplePosition). is_present q (e ∷ h) s.key s.position) (same k)
+    ∙ write-stays q e h k matched (each j d within) parts.0 (up j d within) parts.1 (unwritten k.sample.key))
+
+-- a cache stands for one entry more, once what it keeps holds after it: the samples that the entry leaves were added to those
+-- that were left
+pub stands-added : (q : ReaderQos) (e : Happening) (h : List Happening) (left mid : List Kept) (old new : Stored)
+    → old.qos ≡ q → new.qos ≡ q → taken_by e ≡ [] → read_by e ≡ [] → new.arrivals ≡ min (arrivals (e ∷ h)) (2 ^ 31 - 1)
     → data_available_at q (e ∷ h) ≡ (if brings_sample q (e ∷ h) then Some (length h + 1) else data_available_at q h)
-    → new.data_at ≡ (if nat_lt (length left) (length new.samples) then Some (length h + 1) else old.data_at)
-    → Stands q new.instances (e ∷ h) → Leaves q e h old.samples left → Adds q e h left new.samples → StandsFor old h
-    → StandsFor new (e ∷ h)
-stands-added q e h left old new old_qos new_qos matched taken read counted raised noted instances leaves adds stands =
+    → new.data_at ≡ (if nat_lt (length left) (length mid) then Some (length h + 1) else old.data_at)
+    → Leaves q e h old.samples left → Adds q e h left mid → Holds q new.instances new.samples (e ∷ h)
+    → StandsFor old h → StandsFor new (e ∷ h)
+stands-added q e h left mid old new old_qos new_qos taken read counted raised noted leaves adds next stands =
     let before : Holds q old.instances old.samples h =
     subst (λ (r : ReaderQos). Holds r old.instances old.samples h) old_qos (holds old h stands) in
-    let next : Holds q new.instances new.samples (e ∷ h) =
-    holds-next q e h old.instances new.instances old.samples left new.samples instances leaves adds before in
-    let brings : brings_sample q (e ∷ h) ≡ nat_lt (length left) (length new.samples) =
-    brings-added q e h left new.samples leaves.past adds next.each next.present in
+    let brings : brings_sample q (e ∷ h) ≡ nat_lt (length left) (length mid) =
+    brings-added q e h left mid leaves.past adds (each-after q e h old.samples left mid leaves adds)
+    (present-after q e h old.samples left mid leaves adds before.each before.present) in
     let known : old.data_at ≡ data_available_at q h =
     subst (λ (r : ReaderQos). old.data_at ≡ data_available_at r h) old_qos stands.data_is in
     let is : new.data_at ≡ data_available_at q (e ∷ h) =
     noted
-    ∙ (ap (λ (n : Option ℕ). if nat_lt (length left) (length new.samples) then Some (length h + 1) else n) known
+    ∙ (ap (λ (n : Option ℕ). if nat_lt (length left) (length mid) then Some (length h + 1) else n) known
     ∙ (ap (λ (b : Bool). if b then Some (length h + 1) else data_available_at q h) (sym brings) ∙ sym raised)) in
     let now : Holds new.qos new.instances new.samples (e ∷ h) =
     subst (λ (r : ReaderQos). Holds r new.instances new.samples (e ∷ h)) (sym new_qos) next in
@@ -122,10 +174,9 @@ stands-added q e h left old new old_qos new_qos matched taken read counted raise
           (sample_at i j) h) taken ∙ stands.untaken i j (omega (arith, later));
       arrivals_are = counted;
       data_is = subst (λ (r : ReaderQos). new.data_at ≡ data_available_at r (e ∷ h)) (sym new_qos) is;
-      matched =
-          subst (λ (r : ReaderQos). AreOfMatched r (e ∷ h)) (sym new_qos)
-          (All-cons (IsOfMatched q) e h matched
-          (subst (λ (r : ReaderQos). AreOfMatched r h) old_qos stands.matched));
+      matched = now.matched;
+      in_order = now.in_order;
+      up_to_date = now.up_to_date;
     }
 
 -- an entry that leaves none
@@ -150,18 +201,21 @@ pub stands-quiet : (q : ReaderQos) (e : Happening) (h : List Happening) (old new
 stands-quiet q e h old new old_qos new_qos matched taken read refused writers counted raised noted samples instances
     stands =
     let ks : List Kept = old.samples in
-    let each : All (IsKept q h) ks = subst (λ (r : ReaderQos). All (IsKept r h) ks) old_qos stands.each in
-    stands-added q e h ks old new old_qos new_qos matched taken read counted raised
-    (noted
-    ∙ (none-noted (length ks) (Some (length h + 1)) old.data_at
-    ∙ ap (λ (xs : List Kept). if nat_lt (length ks) (length xs) then Some (length h + 1) else old.data_at)
-    (sym samples)))
-    instances
-    (leaves-all q e h ks (λ i. still-quiet q e h i (refused i) (writers i)
+    let before : Holds q old.instances ks h =
+    subst (λ (r : ReaderQos). Holds r old.instances ks h) old_qos (holds old h stands) in
+    let leaves : Leaves q e h ks ks =
+    leaves-all q e h ks (λ i. still-quiet q e h i (refused i) (writers i)
     (ap (λ (ss : List SamplePosition). list_any (λ (s : SamplePosition). same_key s.key i) ss) taken))
-    (λ n d within. apart-quiet e (get_or ks n d) taken read) each)
-    (subst (λ (xs : List Kept). Adds q e h ks xs) (sym samples)
-    (adds-none q e h ks (λ i. quiet-absent q e h i (refused i) (writers i)))) stands
+    (λ n d within. apart-quiet e (get_or ks n d) taken read) before.each in
+    let adds : Adds q e h ks ks = adds-none q e h ks (λ i. quiet-absent q e h i (refused i) (writers i)) in
+    stands-added q e h ks ks old new old_qos new_qos taken read counted raised
+    (noted ∙ none-noted (length ks) (Some (length h + 1)) old.data_at) leaves adds
+    (subst (λ (xs : List Kept). Holds q new.instances xs (e ∷ h)) (sym samples)
+    (holds-next q e h old.instances new.instances ks ks ks instances matched leaves before.in_order
+    (λ j d within filled. write-stays q e h (get_or ks j d) before.matched (before.each j d within) filled
+    (before.up_to_date j d within)
+    (ap (λ (ss : List SamplePosition). list_any (same_sample (get_or ks j d).sample) ss) taken)
+    (ap (λ (kind : Option ChangeKind). is_write kind) (refused (get_or ks j d).sample.key))) adds before)) stands
 
 map-one : (b : Bool) (k : Kept) (n : ℕ) → position_of k ≡ n → map position_of (cond b (k ∷ []) []) ≡ cond b (n ∷ []) []
 map-one true k n is = ap (λ (m : ℕ). m ∷ []) is
@@ -234,6 +288,10 @@ stands-still h old new qos samples counted noted instances stands =
       arrivals_are = counted ∙ stands.arrivals_are;
       data_is = noted ∙ (stands.data_is ∙ ap (λ (r : ReaderQos). data_available_at r h) (sym qos));
       matched = subst (λ (r : ReaderQos). AreOfMatched r h) (sym qos) stands.matched;
+      in_order = subst (λ (ks : List Kept). IsNonDecreasingBy position_of ks) (sym samples) stands.in_order;
+      up_to_date =
+          subst (λ (r : ReaderQos). All (IsUpToDate r h) new.samples) (sym qos)
+          (subst (λ (ks : List Kept). All (IsUpToDate old.qos h) ks) (sym samples) stands.up_to_date);
     }
 
 -- ---- a read
@@ -272,7 +330,7 @@ pub holds-read : (q : ReaderQos) (ss : List SamplePosition) (h : List Happening)
     → Stands q table (Read ss ∷ h) → Holds q before ks h → Holds q table (map (marked ss) ks) (Read ss ∷ h)
 holds-read q ss h before table ks stands kept =
     let e : Happening = Read ss in
-    holds-next q e h before table ks (map (marked ss) ks) (map (marked ss) ks) stands
+    holds-next q e h before table ks (map (marked ss) ks) (map (marked ss) ks) stands tt
     (record {
       each =
           All-map (IsKept q (e ∷ h)) (marked ss) ks
@@ -286,6 +344,9 @@ holds-read q ss h before table ks stands kept =
           (λ k is. is) ks (past-kept q h ks kept.each));
       same = λ i. positions-marked q (e ∷ h) i (marked ss) ks (λ k. refl);
     })
+    (order-map (marked ss) ks (λ k. refl) kept.in_order)
+    (up-quiet q e h (marked ss) ks (λ i. refl) (λ k. refl) (λ k filled. (filled, refl)) kept.matched kept.each
+    kept.up_to_date)
     (adds-none q e h (map (marked ss) ks) (λ i. quiet-absent q e h i refl refl))
     kept
 
@@ -350,12 +411,20 @@ pub holds-took : (q : ReaderQos) (ss : List SamplePosition) (h : List Happening)
 holds-took q ss h before table known ks counted stands kept =
     let e : Happening = Took ss in
     let left : List Kept = left_since q (e ∷ h) known (map (taken ss) ks) in
-    holds-next q e h before table ks left left stands
+    holds-next q e h before table ks left left stands tt
     (ripe-since q e h known ks (map (taken ss) ks) counted
     (All-map (IsRipe q e h) (taken ss) ks
     (All-weaker (IsKept q h) (λ (k : Kept). IsRipe q e h (taken ss k)) (λ k is. ripe-taken q ss h k is) ks kept.each))
     (λ i. positions-marked q (e ∷ h) i (taken ss) ks (λ k. refl)))
+    (order-since q (e ∷ h) known (map (taken ss) ks) (order-map (taken ss) ks (λ k. refl) kept.in_order))
+    (since-each (IsUpToDate q (e ∷ h)) q (e ∷ h) known (map (taken ss) ks)
+    (up-quiet q e h (taken ss) ks (λ i. refl) (λ k. refl) (λ k filled. left-in k (is_among ss k) filled) kept.matched kept.each
+    kept.up_to_date))
     (adds-none q e h left (λ i. quiet-absent q e h i refl refl)) kept
+  where
+    left-in : (k : Kept) (b : Bool) → (not (b || k.is_out) && k.valid_data) ≡ true → (has_data k ≡ true) × (b ≡ false)
+    left-in k true filled = absurd (let clash : false ≡ true = filled in cc)
+    left-in k false filled = (filled, refl)
 
 -- those that are gone can be swept out
 pub holds-in : (q : ReaderQos) (table : Table) (h : List Happening) (ks left : List Kept) → AreIn ks left
@@ -371,6 +440,9 @@ holds-in q table h ks left are kept =
           ∙ sym (present-dropped q h i is_in ks
           (All-weaker (IsKept q h) (λ (k : Kept). is_here q h i k ≡ true → is_in k ≡ true) (λ k is. here-in i k is) ks
           kept.each));
+      matched = kept.matched;
+      in_order = IsNonDecreasingBy-filter position_of is_in ks kept.in_order;
+      up_to_date = All-filter is_in (IsUpToDate q h) ks kept.up_to_date;
     }))
     are
   where
@@ -407,6 +479,13 @@ stands-swept h old new keep qos instances samples counted noted kept stands =
       arrivals_are = counted ∙ stands.arrivals_are;
       data_is = noted ∙ (stands.data_is ∙ ap (λ (r : ReaderQos). data_available_at r h) (sym qos));
       matched = subst (λ (r : ReaderQos). AreOfMatched r h) (sym qos) stands.matched;
+      in_order =
+          subst (λ (ks : List Kept). IsNonDecreasingBy position_of ks) (sym samples)
+          (IsNonDecreasingBy-filter position_of keep old.samples stands.in_order);
+      up_to_date =
+          subst (λ (r : ReaderQos). All (IsUpToDate r h) new.samples) (sym qos)
+          (subst (λ (ks : List Kept). All (IsUpToDate q h) ks) (sym samples)
+          (All-filter keep (IsUpToDate q h) old.samples stands.up_to_date));
     }
 
 -- a cache that is swept stands for what it stood for
@@ -482,10 +561,6 @@ data-access : (kind : AccessKind) (q : ReaderQos) (ss : List SamplePosition) (h 
 data-access Reading q ss h = refl
 data-access Taking q ss h = refl
 
-matched-access : (kind : AccessKind) (q : ReaderQos) (ss : List SamplePosition) → IsOfMatched q (entry_of kind ss)
-matched-access Reading q ss = tt
-matched-access Taking q ss = tt
-
 -- a cache stands for one access more, once what it keeps holds after it
 pub stands-entered : (kind : AccessKind) (ss : List SamplePosition) (h : List Happening) (old new : Stored)
     → new.qos ≡ old.qos → new.arrivals ≡ old.arrivals → new.data_at ≡ None
@@ -506,7 +581,7 @@ stands-entered kind ss h old new qos counted lowered past now stands = record {
       counted
       ∙ (stands.arrivals_are ∙ ap (λ (n : ℕ). min n (2 ^ 31 - 1)) (sym (arrivals-access kind ss h)));
   data_is = lowered ∙ sym (data-access kind new.qos ss h);
-  matched =
-      All-cons (IsOfMatched new.qos) (entry_of kind ss) h (matched-access kind new.qos ss)
-      (subst (λ (r : ReaderQos). AreOfMatched r h) (sym qos) stands.matched);
+  matched = now.matched;
+  in_order = now.in_order;
+  up_to_date = now.up_to_date;
 }

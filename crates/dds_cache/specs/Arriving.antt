@@ -12,7 +12,6 @@ use Rattle.dds_instances.specs.Table.{Table, Stands}
 use Rattle.dds_cache.specs.declared.kept.Kept.{Kept}
 use Rattle.dds_cache.specs.Finding.{Holds}
 use Rattle.dds_cache.specs.Kept.{IsFresh}
-use Rattle.dds_cache.specs.Standing.{AreOfMatched}
 
 -- the instances have taken up a change, the newest entry, and it is known whether it is an accepted write
 pub record TakesChange (q : ReaderQos) (table : Table) (arrival : Arrival) (is_write : Bool) (h : List Happening)
@@ -34,4 +33,3 @@ pub record AwaitsAccepted (q : ReaderQos) (table : Table) (ks : List Kept) (arri
   pub holds : Holds q table ks h
   pub fresh : IsFresh h arrival.change.key
   pub accepted : is_accepted q h (Came arrival) ≡ true
-  pub matched : AreOfMatched q h

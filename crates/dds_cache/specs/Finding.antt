@@ -4,6 +4,7 @@
 -- DDS 1.4, 2.2.2.5 (read, take: sample_states, view_states, instance_states).
 use Rattle.std.specs.Prelude.{◌≡◌, ℕ, ◌+◌, ◌<◌, ◌≤◌, ◌^◌, List, length, Bool, true, false, ◌&&◌, ◌==◌, nat_lt, map, filter, All, Option, IsTrue, MatchOption, slice_index_or}
 use Rattle.std.specs.List.{list_any, count_by}
+use Rattle.std.specs.List.Sorted.{IsNonDecreasingBy}
 use Rattle.dds_base.specs.declared.happening.SamplePosition.{SamplePosition}
 use Rattle.dds_base.specs.declared.happening.Happening.{Happening}
 use Rattle.dds_base.specs.declared.key.Key.{Key}
@@ -23,7 +24,7 @@ use Rattle.dds_base.specs.Life.{up_to}
 use Rattle.dds_base.specs.Access.{asks_for_sample_state, asks_for_view_state, asks_for_instance_state, meets, picked_of, own_generations, handle_of, value_of, matching_samples}
 use Rattle.dds_cache.specs.declared.kept.Kept.{Kept}
 use Rattle.dds_cache.specs.declared.access.Candidate.{Candidate}
-use Rattle.dds_cache.specs.Kept.{IsKept, is_among, positions_in, sample_state_in}
+use Rattle.dds_cache.specs.Kept.{AreOfMatched, IsKept, IsUpToDate, is_among, position_of, positions_in, sample_state_in}
 use Rattle.dds_instances.specs.Table.{Table, Stands}
 
 -- the masks ask for these states
@@ -65,11 +66,28 @@ asks_for NextSample n = true
 abbrev pub is_sought : ReaderQos → List Happening → Selection → Masks → (Key → List ℕ → Bool) → SamplePosition → Bool
 is_sought q h selection masks test s = asks_for selection (handle_of q h s.key) && is_asked_for q h masks test s
 
--- the instances and the samples are those of what happened
+-- the instances and the samples are those of what happened: the samples stand in the order in which they came, and each
+-- that has data and is not gone is present
 pub record Holds (q : ReaderQos) (table : Table) (ks : List Kept) (h : List Happening) : Type 0 where
   pub instances : Stands q table h
   pub each : All (IsKept q h) ks
   pub present : (i : Key) → filter (is_present q h i) (up_to (length h)) ≡ positions_in q h i ks
+  pub matched : AreOfMatched q h
+  pub in_order : IsNonDecreasingBy position_of ks
+  pub up_to_date : All (IsUpToDate q h) ks
+
+-- a kept sample is of instance i, or present if it has data and is not gone
+abbrev pub IsOfOrUpToDate : ReaderQos → List Happening → Key → Kept → Type 0
+IsOfOrUpToDate q h i k = same_key k.sample.key i ≡ false → IsUpToDate q h k
+
+-- the same, but for the samples of instance i: of those a change may have pushed some out
+pub record HoldsBut (q : ReaderQos) (table : Table) (ks : List Kept) (h : List Happening) (i : Key) : Type 0 where
+  pub instances : Stands q table h
+  pub each : All (IsKept q h) ks
+  pub present : (i : Key) → filter (is_present q h i) (up_to (length h)) ≡ positions_in q h i ks
+  pub matched : AreOfMatched q h
+  pub in_order : IsNonDecreasingBy position_of ks
+  pub others : All (IsOfOrUpToDate q h i) ks
 
 -- a candidate is the kept sample at an index, described
 pub record IsCandidate (q : ReaderQos) (h : List Happening) (ks : List Kept) (c : Candidate) : Type 0 where

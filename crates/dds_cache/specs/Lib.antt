@@ -5,6 +5,7 @@ pub mod Finding
 pub mod Picking
 pub mod First
 pub mod Room
+pub mod Pushing
 pub mod Settling
 pub mod Arriving
 pub mod Dying

@@ -8,23 +8,23 @@ use Rattle.dds_base.specs.declared.code.Code.{Code}
 use Rattle.dds_base.specs.declared.code.Code.TheVariants.{Memory, NoData}
 use Rattle.dds_base.specs.declared.happening.SamplePosition.{SamplePosition}
 use Rattle.dds_base.specs.declared.happening.Happening.{Happening}
-use Rattle.dds_base.specs.declared.happening.Happening.TheVariants.{Came, Read as HasRead, Took}
+use Rattle.dds_base.specs.declared.happening.Happening.TheVariants.{Read as HasRead, Took}
 use Rattle.dds_base.specs.declared.sample.Sample.{Sample}
 use Rattle.dds_base.specs.declared.qos.ReaderQos.{ReaderQos}
 use Rattle.dds_base.specs.declared.selection.Selection.{Selection}
 use Rattle.dds_base.specs.declared.key.Key.{Key}
 use Rattle.dds_base.specs.Happening.{is_read, is_taken, arrivals}
-use Rattle.dds_base.specs.Ownership.{IsMatched}
 use Rattle.dds_base.specs.Presence.{is_present}
 use Rattle.dds_base.specs.Life.{up_to}
 use Rattle.dds_base.specs.Access.{collection_of}
+use Rattle.std.specs.List.Sorted.{IsNonDecreasingBy}
 use Rattle.dds_base.specs.Refusal.{Refuses}
 use Rattle.dds_base.specs.Selection.{picked_by, selection_refusal}
 use Rattle.dds_base.specs.StatusFlags.{data_available_at}
 use Rattle.dds_cache.specs.declared.access_kind.AccessKind.{AccessKind}
 use Rattle.dds_cache.specs.declared.access_kind.AccessKind.TheVariants.{Read, Take}
 use Rattle.dds_cache.specs.declared.kept.Kept.{Kept}
-use Rattle.dds_cache.specs.Kept.{IsKept, positions_in, sample_at}
+use Rattle.dds_cache.specs.Kept.{AreOfMatched, IsKept, IsUpToDate, position_of, positions_in, sample_at}
 use Rattle.dds_instances.specs.Table.{Table, Stands, happened_of}
 
 -- what is kept: the instances, the samples in the order in which they came, how many changes came, for how many more
@@ -49,19 +49,10 @@ room_of stored = stored.room
 abbrev pub deaths_of : Stored → ℕ
 deaths_of stored = 2 ^ 64 - 1 - happened_of stored.instances
 
--- if a change came, it is of a matched writer
-abbrev pub IsOfMatched : ReaderQos → Happening → Type 0
-IsOfMatched q (Came a) = IsMatched q a.writer
-IsOfMatched q _ = Unit
-
--- each change that came is of a matched writer
-abbrev pub AreOfMatched : ReaderQos → List Happening → Type 0
-AreOfMatched q h = All (IsOfMatched q) h
-
 -- what is kept stands for what happened: so do its instances; each kept sample is what it was; the present samples of
 -- each instance are kept in their order; no access returned what had not happened; the changes are counted, up to a
--- bound; it is known since when there is data that no access was asked for; and each change that came is of a matched
--- writer
+-- bound; it is known since when there is data that no access was asked for; each change that came is of a matched writer;
+-- the samples stand in the order in which they came; and each that has data and is not gone is present
 pub record StandsFor (stored : Stored) (h : List Happening) : Type 0 where
   pub instances : Stands stored.qos stored.instances h
   pub each : All (IsKept stored.qos h) stored.samples
@@ -72,6 +63,8 @@ pub record StandsFor (stored : Stored) (h : List Happening) : Type 0 where
   pub arrivals_are : stored.arrivals ≡ min (arrivals h) (2 ^ 31 - 1)
   pub data_is : stored.data_at ≡ data_available_at stored.qos h
   pub matched : AreOfMatched stored.qos h
+  pub in_order : IsNonDecreasingBy position_of stored.samples
+  pub up_to_date : All (IsUpToDate stored.qos h) stored.samples
 
 -- how room is made for so many more, or refused, by how many of their kind find it
 pub record MakesRoom (spare : Stored → ℕ) (additional : ℕ) (old new : Stored) (answer : Result (Unit {0}) Code)

@@ -2,13 +2,15 @@
 //!
 //! DDS 1.4, 2.2.3 (HISTORY).
 
-ghost use Rattle.std.specs.Prelude.{◌≡◌, ◌<◌, List, All, true, false, length, vec_len, vec_capacity};
+ghost use Rattle.std.specs.Prelude.{◌≡◌, ◌<◌, ◌&&◌, List, All, true, false, length, vec_len, vec_capacity};
 ghost use Rattle.dds_base.specs.declared.happening.Happening.{Happening};
+ghost use Rattle.dds_base.specs.Happening.{same_key};
 ghost use Rattle.dds_base.specs.Presence.{is_present};
 ghost use Rattle.dds_instances.specs.Known.{IsKnown};
 ghost use Rattle.dds_instances.specs.Table.{Table};
-ghost use Rattle.dds_cache.specs.Finding.{Holds, IsSmall};
-ghost use Rattle.dds_cache.specs.Kept.{IsKept, IsSummary};
+ghost use Rattle.dds_cache.specs.Finding.{Holds, HoldsBut, IsSmall};
+ghost use Rattle.dds_cache.specs.Kept.{IsKept, IsSummary, has_data};
+ghost use Rattle.dds_cache.specs.Pushing.{IsLetAt};
 
 use crate::kept::Kept;
 use crate::summary::{Summary, let_out};
@@ -16,19 +18,26 @@ use dds_base::{HistoryQos, Key, ReaderQos};
 use dds_instances::{Instances, KnownInstance};
 use std::alloc::Global;
 
-/// Behind so many samples that stay, the others of an instance stay too: one may be its last marker, which may be older than
-/// the writes that its history keeps.
-const MOST_BEFORE: u32 = 2;
-
 /// Whether a kept sample is of an instance, and no longer present.
 fn is_past(qos: &ReaderQos, known: &KnownInstance, kept: &Kept) -> bool
-    ensures { (h : List Happening) → IsKnown qos.now h known.now → IsKept qos.now h kept.now
+    ensures past { (h : List Happening) → IsKnown qos.now h known.now → IsKept qos.now h kept.now
         → result ≡ true → is_present qos.now h kept.now.sample.key kept.now.sample.position ≡ false }
+    ensures there { (h : List Happening) → IsKnown qos.now h known.now → IsKept qos.now h kept.now
+        → result ≡ false → same_key kept.now.sample.key known.now.key ≡ true
+        → is_present qos.now h kept.now.sample.key kept.now.sample.position ≡ true }
 {
     kept.sample.key == known.key && !kept.is_live(qos, known)
 }
 
-/// Lets the sample at a place go, where it is of an instance and no longer present. Returns whether it did.
+/// Whether a kept sample is of an instance, is not gone, and has data.
+fn is_own_data(known: &KnownInstance, kept: &Kept) -> bool
+    ensures { result ≡ (same_key kept.now.sample.key known.now.key && has_data kept.now) }
+{
+    kept.sample.key == known.key && kept.has_data()
+}
+
+/// Lets the sample at a place go, where it is of an instance and no longer present. Returns whether it is one of the instance
+/// that has data and stays.
 fn let_past_go(
     alloc: Global,
     qos: &ReaderQos,
@@ -39,48 +48,43 @@ fn let_past_go(
 ) -> bool
     requires within { place < length samples.old.items }
     requires counted { IsSummary samples.old.items summary.old }
-    ensures holds { (table : Table) (h : List Happening) → IsKnown qos.now h known.now
-        → Holds qos.now table samples.old.items h
-        → Holds qos.now table samples.new.items h }
-    ensures small { All IsSmall samples.old.items → All IsSmall samples.new.items }
+    ensures goes { IsLetAt qos.now known.now place samples.old.items result samples.new.items }
     ensures counted { IsSummary samples.new.items summary.new }
     ensures len { vec_len samples.new ≡ vec_len samples.old }
     ensures capacity { vec_capacity samples.new ≡ vec_capacity samples.old }
 {
-    let is_past = is_past(qos, known, &samples[place]);
-    if is_past {
+    if is_past(qos, known, &samples[place]) {
         let_out(alloc, samples, summary, place);
+        return false;
     }
-    is_past
+    is_own_data(known, &samples[place])
 }
 
-/// Lets the samples of an instance go that are no longer present, from its first one on. Returns whether there were any.
+/// Lets the samples of an instance go that are no longer present, from its first one on, as far as the first that has data
+/// and stays: those behind it stay too.
 fn let_first_go(
     alloc: Global,
     qos: &ReaderQos,
     known: &KnownInstance,
     samples: &mut Vec<Kept>,
     summary: &mut Summary,
-) -> bool
+)
     requires counted { IsSummary samples.old.items summary.old }
     ensures holds { (table : Table) (h : List Happening) → IsKnown qos.now h known.now
-        → Holds qos.now table samples.old.items h
+        → HoldsBut qos.now table samples.old.items h known.now.key
         → Holds qos.now table samples.new.items h }
     ensures small { All IsSmall samples.old.items → All IsSmall samples.new.items }
     ensures counted { IsSummary samples.new.items summary.new }
     ensures len { vec_len samples.new ≡ vec_len samples.old }
     ensures capacity { vec_capacity samples.new ≡ vec_capacity samples.old }
 {
-    let mut is_any = false;
-    let mut staying = 0;
     let mut place = summary.chains.first(known.key, false);
-    while place < samples.len() && staying < MOST_BEFORE {
-        let is_past = let_past_go(alloc, qos, known, samples, summary, place);
-        is_any |= is_past;
-        staying += u32::from(!is_past);
+    while place < samples.len() {
+        if let_past_go(alloc, qos, known, samples, summary, place) {
+            return;
+        }
         place = summary.chains.next(samples, known.key, place);
     }
-    is_any
 }
 
 /// Lets the samples go that a change of an instance pushed out of its history, where that is of the last ones alone. The
@@ -95,7 +99,7 @@ pub fn push_out(
     key: Key,
 )
     requires counted { IsSummary samples.old.items summary.old }
-    ensures holds { (h : List Happening) → Holds qos.now instances.now samples.old.items h
+    ensures holds { (h : List Happening) → HoldsBut qos.now instances.now samples.old.items h key
         → Holds qos.now instances.now samples.new.items h }
     ensures small { All IsSmall samples.old.items → All IsSmall samples.new.items }
     ensures counted { IsSummary samples.new.items summary.new }
@@ -105,10 +109,14 @@ pub fn push_out(
     let HistoryQos::KeepLast(_) = qos.history else {
         return;
     };
-    let Some(known) = instances.known(key) else {
-        return;
-    };
-    if let_first_go(alloc, qos, &known, samples, summary) {
-        summary.chains.advance(samples, known.key);
+    match instances.known(key) {
+        None => {}
+        Some(known) => {
+            let before = summary.outs;
+            let_first_go(alloc, qos, &known, samples, summary);
+            if before < summary.outs {
+                summary.chains.advance(samples, known.key);
+            }
+        }
     }
 }

@@ -196,6 +196,7 @@ impl ReaderCache {
             &mut self.summary,
         );
         let before = self.samples.len();
+        let key = arrival.change.key;
         add_left(
             self.alloc,
             &self.instances,
@@ -205,18 +206,6 @@ impl ReaderCache {
             arrival,
             is_write,
         );
-        let newest = self.instances.happened();
-        self.data_at = data_after(self.data_at, before, self.samples.len(), newest);
-        self.arrivals = count_arrival(self.arrivals);
-        self.room -= 1;
-    }
-
-    /// Lets the samples go that a change of an instance pushed out of its history.
-    fn push_out(&mut self, key: Key)
-        ensures same { (h : List Happening) → StandsFor self.old h → StandsFor self.new h }
-        ensures qos { qos_of self.new ≡ qos_of self.old }
-        ensures room { room_of self.new ≡ room_of self.old }
-    {
         push_out(
             self.alloc,
             &self.instances,
@@ -225,6 +214,10 @@ impl ReaderCache {
             &mut self.summary,
             key,
         );
+        let newest = self.instances.happened();
+        self.data_at = data_after(self.data_at, before, self.samples.len(), newest);
+        self.arrivals = count_arrival(self.arrivals);
+        self.room -= 1;
     }
 
     /// Lets the samples go that are no longer present, where there are twice as many as the sweep before left.
@@ -278,9 +271,7 @@ impl ReaderCache {
         ensures entry { TakesEntry room_of self.old self.new result }
     {
         self.reserve(1)?;
-        let key = arrival.change.key;
         self.take_up(arrival);
-        self.push_out(key);
         self.sweep_if_due();
         Ok(())
     }
@@ -362,8 +353,8 @@ impl ReaderCache {
     /// Whether there is room for a change by the limits of the policies: fewer than 2^31 - 1 changes came with it, and
     /// if it is accepted, the present writes and the known instances are as many as they may be. It needs no memory.
     ///
-    /// It goes once over the samples under KEEP_LAST where as many writes are present as may be, and the depth times the
-    /// known instances is more than that; and where as many instances are known as may be.
+    /// It goes over the samples that the change would push out of its history, where as many writes are present as may be; and
+    /// once over all samples where as many instances are known as may be.
     ///
     /// DDS 1.4, 2.2.3 (RESOURCE_LIMITS).
     pub fn has_room(&self, arrival: &Arrival) -> bool

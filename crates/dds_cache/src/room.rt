@@ -2,28 +2,32 @@
 //!
 //! DDS 1.4, 2.2.3 (RESOURCE_LIMITS).
 
-ghost use Rattle.std.specs.Prelude.{◌≡◌, ◌≤◌, ◌+◌, ◌-◌, ◌*◌, ◌^◌, ◌∷◌, min, List, length, All, IfSome, true};
+ghost use Rattle.std.specs.Prelude.{◌≡◌, ◌≤◌, ◌+◌, ◌-◌, ◌^◌, ◌∷◌, ◌&&◌, min, List, length, true};
+ghost use Rattle.std.specs.List.{count_by};
+ghost use Rattle.dds_base.specs.declared.happening.Arrival.{Arrival};
+ghost use Rattle.dds_base.specs.Happening.{same_key};
 ghost use Rattle.dds_base.specs.declared.happening.Happening.{Happening};
 ghost use Rattle.dds_base.specs.declared.happening.Happening.TheVariants.{Came};
 ghost use Rattle.dds_base.specs.declared.qos.ReaderQos.{ReaderQos};
 ghost use Rattle.dds_base.specs.Happening.{arrivals as arrivals_of};
 ghost use Rattle.dds_base.specs.Instance.{known_instances};
-ghost use Rattle.dds_base.specs.Ownership.{IsMatched};
 ghost use Rattle.dds_base.specs.Presence.{has_room, is_within, present_writes};
-ghost use Rattle.dds_instances.specs.Table.{Stands};
+ghost use Rattle.dds_instances.specs.Table.{Stands, Table};
 ghost use Rattle.dds_instances.specs.Track.{one_if};
 ghost use Rattle.dds_cache.specs.Arriving.{AwaitsAccepted, AwaitsChange};
 ghost use Rattle.dds_cache.specs.Finding.{Holds};
 ghost use Rattle.dds_cache.specs.Kept.{IsSummary, IsFresh, IsKept};
+ghost use Rattle.dds_cache.specs.Chains.{AreChainsOf};
+ghost use Rattle.dds_cache.specs.Pushing.{AwaitsOwn, is_pushed};
 ghost use Rattle.dds_cache.specs.Room.{is_present_write, present_writes_after};
-ghost use Rattle.dds_cache.specs.Standing.{AreOfMatched};
 
 use crate::arriving::is_accepted_write;
+use crate::chains::Chains;
 use crate::ending::is_end;
 use crate::kept::{Kept, is_kept_after};
 use crate::summary::Summary;
-use dds_base::{Arrival, Handle, HistoryQos, ReaderQos};
-use dds_instances::Instances;
+use dds_base::{Arrival, ReaderQos};
+use dds_instances::{Instances, KnownInstance};
 
 /// Fewer changes than this come at a reader.
 const MAX_ARRIVALS: u32 = (1 << 31) - 1;
@@ -81,54 +85,52 @@ fn instances_fit(
     keeps_to(qos.max_instances, others, stays)
 }
 
-/// Whether a kept sample is a write that is present after a change.
-fn is_write_then(
-    instances: &Instances,
+/// Whether a kept sample is a write of an instance that is present after a change of it.
+fn stays_after(
     qos: &ReaderQos,
-    arrival: &Arrival,
+    known: &KnownInstance,
     is_write: bool,
     is_marked: bool,
     kept: &Kept,
 ) -> bool
-    ensures { (h : List Happening)
-        → AwaitsChange qos.now instances.now arrival.now is_write is_marked h
+    ensures { (a : Arrival) (h : List Happening) → AwaitsOwn qos.now known.now a is_write is_marked h
         → IsKept qos.now h kept.now
-        → result ≡ is_present_write qos.now (Came arrival.now ∷ h) kept.now }
+        → result
+        ≡ (same_key kept.now.sample.key known.now.key && is_present_write qos.now (Came a ∷ h) kept.now) }
 {
-    match instances.known(kept.sample.key) {
-        None => false,
-        Some(known) => {
-            let is_own = kept.sample.key == arrival.change.key;
-            kept.is_write_after(qos, &known, is_own && is_write, is_own && is_marked)
-        }
-    }
+    let is_own = kept.sample.key == known.key;
+    is_own & kept.is_write_after(qos, known, is_write, is_marked)
 }
 
-/// How many of the kept samples are writes that are present after a change.
-fn count_writes(
-    instances: &Instances,
+/// How many of the kept samples have data and are not gone, and are pushed out by a change of an instance: those of it, from
+/// its first one on, before the first that stays.
+fn count_pushed(
     qos: &ReaderQos,
-    arrival: &Arrival,
+    known: &KnownInstance,
     is_write: bool,
     is_marked: bool,
     samples: &[Kept],
+    chains: &Chains,
 ) -> usize
-    ensures { (h : List Happening)
-        → AwaitsChange qos.now instances.now arrival.now is_write is_marked h
-        → All (IsKept qos.now h) samples.now
-        → result ≡ present_writes_after qos.now arrival.now h samples.now }
+    requires chains { AreChainsOf samples.now chains.now }
+    ensures { (table : Table) (a : Arrival) (h : List Happening)
+        → AwaitsOwn qos.now known.now a is_write is_marked h
+        → Holds qos.now table samples.now h
+        → result ≡ count_by (is_pushed qos.now a h) samples.now }
 {
     let mut count = 0;
-    for at in 0..samples.len() {
-        if is_write_then(instances, qos, arrival, is_write, is_marked, &samples[at]) {
-            count += 1;
-        }
+    let mut place = chains.first(known.key, false);
+    while place < samples.len() && !stays_after(qos, known, is_write, is_marked, &samples[place]) {
+        let kept = &samples[place];
+        let is_own = kept.sample.key == known.key;
+        count += usize::from(is_own & kept.has_data());
+        place = chains.next(samples, known.key, place);
     }
     count
 }
 
-/// How many of the kept samples are writes that are present after a change: those that have data, where the history
-/// keeps all. Else it goes once over them.
+/// How many of the kept samples are writes that are present after a change: those that have data and are not gone, less
+/// those that it pushes out.
 fn writes_left(
     instances: &Instances,
     qos: &ReaderQos,
@@ -141,52 +143,15 @@ fn writes_left(
     requires counted { IsSummary samples.now summary.now }
     ensures { (h : List Happening)
         → AwaitsChange qos.now instances.now arrival.now is_write is_marked h
-        → All (IsKept qos.now h) samples.now
+        → Holds qos.now instances.now samples.now h
         → result ≡ present_writes_after qos.now arrival.now h samples.now }
 {
-    match qos.history {
-        HistoryQos::KeepAll => summary.writes,
-        HistoryQos::KeepLast(_) => {
-            count_writes(instances, qos, arrival, is_write, is_marked, samples)
+    match instances.known(arrival.change.key) {
+        None => summary.writes,
+        Some(known) => {
+            let pushed = count_pushed(qos, &known, is_write, is_marked, samples, &summary.chains);
+            summary.writes.saturating_sub(pushed)
         }
-    }
-}
-
-/// How many writes are present after a change, at most, where so many are kept of each instance and all changes are of
-/// matched writers; `None` where that is more than can be counted.
-fn most_writes(instances: &Instances, arrival: &Arrival, depth: u32) -> Option<usize>
-    ensures { IfSome result (λ most. (q : ReaderQos) (h : List Happening) → Stands q instances.now h
-        → length (known_instances q (Came arrival.now ∷ h)) * depth ≤ most) }
-{
-    let is_new = instances.known(arrival.change.key).is_none();
-    let known = instances.len().checked_add(usize::from(is_new))?;
-    known.checked_mul(depth as usize)
-}
-
-/// Whether a publication handle is that of a matched writer.
-fn is_matched(qos: &ReaderQos, writer: Handle) -> bool
-    ensures { result ≡ true → IsMatched qos.now writer }
-{
-    let writers = qos.writers.as_slice().len() as u64;
-    0 < writer.number() && writer.number() <= writers
-}
-
-/// Whether there is room for a change by how many instances are known alone: under KEEP_LAST no more writes of each are
-/// present than its depth where all changes are of matched writers, as no last marker is a write then.
-fn keeps_within(instances: &Instances, qos: &ReaderQos, arrival: &Arrival) -> bool
-    ensures { (h : List Happening) → Stands qos.now instances.now h → AreOfMatched qos.now h
-        → result ≡ true
-        → is_within qos.now.max_samples (present_writes qos.now (Came arrival.now ∷ h)) ≡ true }
-{
-    let HistoryQos::KeepLast(depth) = qos.history else {
-        return false;
-    };
-    if !is_matched(qos, arrival.writer) {
-        return false;
-    }
-    match most_writes(instances, arrival, depth) {
-        Some(most) => keeps_to(qos.max_samples, most, false),
-        None => false,
     }
 }
 
@@ -203,13 +168,6 @@ fn samples_fit(
         → AwaitsAccepted qos.now instances.now samples.now arrival.now h
         → result ≡ is_within qos.now.max_samples (present_writes qos.now (Came arrival.now ∷ h)) }
 {
-    // With fewer writes than may be present, whichever of them are, there is room for one more.
-    if keeps_to(qos.max_samples, summary.writes, true) {
-        return true;
-    }
-    if keeps_within(instances, qos, arrival) {
-        return true;
-    }
     let is_write = is_accepted_write(instances, qos, arrival);
     let is_marked = instances.would_mark(qos, arrival);
     let count = writes_left(
@@ -227,8 +185,7 @@ fn has_spare(qos: &ReaderQos, samples: usize, instances: usize) -> bool
     keeps_to(qos.max_samples, samples, true) && keeps_to(qos.max_instances, instances, true)
 }
 
-/// Whether there is room for a change at a reader of these policies, at which so many came. Present samples are counted
-/// for it where neither the kept samples nor the known instances are few enough: `docs/DECISIONS.md`, "A reader's cache".
+/// Whether there is room for a change at a reader of these policies, at which so many came.
 pub fn is_room(
     instances: &Instances,
     qos: &ReaderQos,
@@ -240,7 +197,6 @@ pub fn is_room(
     requires counted { IsSummary samples.now summary.now }
     ensures { (h : List Happening) → Holds qos.now instances.now samples.now h
         → IsFresh h arrival.now.change.key
-        → AreOfMatched qos.now h
         → arrivals ≡ min (arrivals_of h) (2 ^ 31 - 1)
         → result ≡ has_room qos.now h (Came arrival.now) }
 {

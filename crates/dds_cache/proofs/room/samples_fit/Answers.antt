@@ -7,19 +7,9 @@ use Rattle.dds_base.specs.Presence.{is_within, marks}
 use Rattle.dds_base.specs.Life.{ends_with_write, keeps}
 use Rattle.dds_instances.specs.Track.{one_if}
 use Rattle.dds_cache.specs.Room.{is_present_write}
-use Rattle.dds_cache.proofs.RoomLaws.{leaves_write, leaves-write, spare-fits, writes-after}
+use Rattle.dds_cache.proofs.RoomLaws.{leaves_write, leaves-write, writes-after}
 use Rattle.dds_cache.proofs.room.samples_fit.Goals as goal
 use Rattle.dds_cache.proofs.room.samples_fit.Goals.{then-is_write+then-is_kept_after, then-is_write+else-is_kept_after, else-is_write}
-
-pub returns-then-keeps_to : goal.returns-then-keeps_to
-returns-then-keeps_to c = λ h awaits.
-    sym (spare-fits c.args.qos.now c.args.arrival.now h c.args.samples.now awaits.holds.each awaits.holds.present awaits.fresh
-    awaits.accepted (ap (λ (n : ℕ). is_within c.args.qos.now.max_samples (n + 1)) (sym c.requires.counted.writes)
-    ∙ (sym c.keeps_to.ensures ∙ c.if-keeps_to.true)))
-
-pub returns-then-keeps_within : goal.returns-then-keeps_within
-returns-then-keeps_within c = λ h awaits.
-    sym (c.keeps_within.ensures h awaits.holds.instances awaits.matched c.if-keeps_within.true)
 
 pub returns : goal.returns
 returns c = λ h awaits.
@@ -31,7 +21,7 @@ returns c = λ h awaits.
     let marked : c.would_mark-is_marked.result ≡ marks q c.args.arrival.now.change.key h (Came c.args.arrival.now) =
     c.would_mark-is_marked.ensures.marks h holds.instances in
     let count : c.writes_left-count.result ≡ count_by (is_present_write q g) c.args.samples.now =
-    c.writes_left-count.ensures h (record { stands = holds.instances; written = written; marked = marked }) holds.each in
+    c.writes_left-count.ensures h (record { stands = holds.instances; written = written; marked = marked }) holds in
     let left : c.if-is_write.is_left
     ≡ (c.is_accepted_write-is_write.result && (keeps q.history 0 || c.would_mark-is_marked.result)) =
     elim c.if-is_write.branch [
@@ -53,7 +43,7 @@ returns c = λ h awaits.
     let leaves : c.if-is_write.is_left ≡ leaves_write q c.args.arrival.now h =
     left ∙ leaves-write q c.args.arrival.now h c.is_accepted_write-is_write.result c.would_mark-is_marked.result
     written marked awaits.fresh in
-    c.keeps_to-2.ensures
+    c.keeps_to.ensures
     ∙ ap (λ (n : ℕ). is_within q.max_samples n) (ap (λ (n : ℕ). n + one_if c.if-is_write.is_left) count
     ∙ (ap (λ (b : Bool). count_by (is_present_write q g) c.args.samples.now + one_if b) leaves
     ∙ sym (writes-after q c.args.arrival.now h c.args.samples.now holds.each holds.present awaits.fresh awaits.accepted)))

@@ -1,5 +1,5 @@
-use Rattle.std.proofs.Common.{List, ℕ, ◌≡◌, ◌+◌, ◌∷◌, length, sym, subst, refl, ◌∙◌, ap, arith}
-use Rattle.std.specs.List.{list_any}
+use Rattle.std.proofs.Common.{List, get_or, ℕ, ◌≡◌, ◌+◌, ◌∷◌, length, sym, subst, refl, ◌∙◌, ap, arith}
+use Rattle.std.specs.List.{list_any, All}
 use Rattle.std.specs.Prelude.{OnOk, Result}
 use Rattle.dds_base.specs.declared.happening.Happening.TheVariants.{Died}
 use Rattle.dds_base.specs.declared.code.Code.{Code}
@@ -7,12 +7,15 @@ use Rattle.dds_base.specs.declared.happening.Happening.{Happening}
 use Rattle.dds_base.specs.declared.qos.ReaderQos.{ReaderQos}
 use Rattle.dds_instances.specs.Table.{HoldsPresent, Stands, Table}
 use Rattle.dds_cache.specs.declared.kept.Kept.{Kept}
-use Rattle.dds_cache.specs.Sweeping.{stays_of}
+use Rattle.dds_cache.specs.Sweeping.{left_since, stays_of}
 use Rattle.dds_cache.specs.Standing.{Stored, StandsFor}
 use Rattle.dds_cache.specs.Sound.{stored_of}
 use Rattle.dds_cache.proofs.DataLaws.{noted-by}
 use Rattle.dds_cache.proofs.HoldLaws.{any-here, any-stays}
-use Rattle.dds_cache.proofs.StandingLaws.{stands-added, fresh}
+use Rattle.dds_cache.proofs.StandingLaws.{stands-added, fresh, holds, holds-next}
+use Rattle.dds_cache.proofs.ExactLaws.{order-since, since-each, write-stays}
+use Rattle.dds_cache.specs.Kept.{IsUpToDate, position_of}
+use Rattle.std.specs.List.Sorted.{IsNonDecreasingBy}
 use Rattle.dds_cache.proofs.SweepLaws.{Leaves, leaves-since}
 use Rattle.dds_cache.proofs.reader_cache.ReaderCache.bury.Goals as goal
 
@@ -42,5 +45,15 @@ returns-clause-stands c = λ h stands.
     ∙ (let more : length (e ∷ h) ≡ length h + 1 = omega arith in more) in
     let noted = c.data_after-self-inside.ensures.newest ∙ noted-by _ _ _ _ _ _ c.self.inside.data_at
     (c.len-before.ensures ∙ c.let_go.new.samples.ok.0) (c.len.ensures ∙ c.add_markers.new.samples.ok.0) at in
-    stands-added q e h c.let_go.new.samples.items (stored_of c.self.inside) _ refl refl tt refl refl
-    old.arrivals_are refl noted died leaves adds old
+    let left : c.let_go.new.samples.items ≡ left_since q (e ∷ h) c.len-known.result ks =
+    c.let_go.ensures.items (e ∷ h) died in
+    stands-added q e h c.let_go.new.samples.items c.add_markers.new.samples.items (stored_of c.self.inside) _ refl refl
+    refl refl old.arrivals_are refl noted leaves adds
+    (holds-next q e h c.self.inside.instances c.died.new.self ks c.let_go.new.samples.items
+    c.add_markers.new.samples.items died tt leaves
+    (subst (λ (xs : List Kept). IsNonDecreasingBy position_of xs) (sym left)
+    (order-since q (e ∷ h) c.len-known.result ks old.in_order))
+    (subst (λ (xs : List Kept). All (IsUpToDate q (e ∷ h)) xs) (sym left)
+    (since-each (IsUpToDate q (e ∷ h)) q (e ∷ h) c.len-known.result ks
+    (λ j d within filled. write-stays q e h (get_or ks j d) old.matched (old.each j d within) filled
+    (old.up_to_date j d within) refl refl))) adds (holds (stored_of c.self.inside) h old)) old

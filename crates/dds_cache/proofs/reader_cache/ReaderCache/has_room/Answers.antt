@@ -17,6 +17,6 @@ returns c = record {
       c.is_room.ensures h
       (subst (λ (ks : List Kept). Holds c.self.inside.qos c.self.inside.instances ks h) same
       (holds (stored_of c.self.inside) h s))
-      (fresh (stored_of c.self.inside) h c.args.arrival.now.change.key s) s.matched s.arrivals_are
+      (fresh (stored_of c.self.inside) h c.args.arrival.now.change.key s) s.arrivals_are
       ∙ ap (λ (t : Stored). has_room (qos_of t) h (Came c.args.arrival.now)) c.self.view_is;
 }

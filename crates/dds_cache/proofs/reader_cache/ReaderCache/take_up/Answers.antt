@@ -1,4 +1,4 @@
-use Rattle.std.proofs.Common.{List, ◌≡◌, ◌+◌, ◌∷◌, length, sym, subst, refl, ◌∙◌, arith}
+use Rattle.std.proofs.Common.{List, ◌≤◌, ◌≡◌, ◌+◌, ◌∷◌, length, sym, subst, refl, ◌∙◌, arith}
 use Rattle.dds_base.specs.declared.happening.Happening.{Happening}
 use Rattle.dds_base.specs.declared.happening.Happening.TheVariants.{Came}
 use Rattle.dds_base.specs.declared.qos.ReaderQos.{ReaderQos}
@@ -14,7 +14,7 @@ use Rattle.dds_cache.specs.declared.kept.Kept.{Kept}
 use Rattle.dds_cache.specs.Finding.{Holds}
 use Rattle.dds_cache.specs.Kept.{IsFresh}
 use Rattle.dds_cache.proofs.DataLaws.{noted-by}
-use Rattle.dds_cache.proofs.StandingLaws.{stands-added, fresh, counts-more, holds}
+use Rattle.dds_cache.proofs.StandingLaws.{stands-added, fresh, counts-more, holds, holds-came}
 use Rattle.dds_cache.proofs.SweepLaws.{Leaves, leaves-since}
 use Rattle.dds_cache.proofs.reader_cache.ReaderCache.take_up.Goals as goal
 
@@ -44,9 +44,36 @@ returns-clause-stands c = λ h stands.
     let matched : IsMatched q c.args.arrival.writer =
     subst (λ (t : Stored). IsMatched t.qos c.args.arrival.writer) (sym c.self.view_is) c.requires.matched in
     let noted = c.data_after-self-inside.ensures.newest ∙ noted-by _ _ _ _ _ _ c.self.inside.data_at
-    (c.len-before.ensures ∙ c.let_go.new.samples.ok.0) (c.len.ensures ∙ c.add_left.new.samples.ok.0) at in
-    stands-added q e h c.let_go.new.samples.items (stored_of c.self.inside) _ refl refl matched refl refl
-    (c.count_arrival-self-inside.ensures ∙ counts-more c.self.inside.arrivals (arrivals h) old.arrivals_are)
-    refl noted came leaves
-    (c.add_left.ensures.samples h
-    (record { stands = came; valid = c.is_accepted_write-is_write.ensures h old.instances; fresh = next })) old
+    (c.len-before.ensures ∙ c.let_go.new.samples.ok.0)
+    (c.len.ensures ∙ (c.push_out.ensures.len ∙ c.add_left.new.samples.ok.0)) at in
+    let adds = c.add_left.ensures.samples h
+    (record { stands = came; valid = c.is_accepted_write-is_write.ensures h old.instances; fresh = next }) in
+    stands-added q e h c.let_go.new.samples.items c.add_left.new.samples.items (stored_of c.self.inside) _ refl refl
+    refl refl (c.count_arrival-self-inside.ensures ∙ counts-more c.self.inside.arrivals (arrivals h) old.arrivals_are)
+    refl noted leaves adds
+    (c.push_out.ensures.holds (e ∷ h)
+    (holds-came q c.args.arrival h c.self.inside.instances c.come.new.self c.len-known.result ks
+    c.let_go.new.samples.items c.add_left.new.samples.items came matched (c.let_go.ensures.items (e ∷ h) came) leaves adds
+    (holds (stored_of c.self.inside) h old))) old
+
+pub invariant_of-self : goal.invariant_of-self
+invariant_of-self c = record {
+  instances = omega (arith, c.self.invariant.instances, c.come.ensures.entry.room);
+  samples =
+      (let room : 1 ≤ c.self.inside.room =
+      subst (λ (t : Stored). 1 ≤ t.room) (sym c.self.view_is) c.requires.room in
+      omega (
+        arith,
+        c.self.invariant.samples,
+        room,
+        c.come.ensures.alive,
+        c.let_go.ensures.len,
+        c.let_go.ensures.capacity,
+        c.add_left.ensures.len,
+        c.add_left.ensures.capacity,
+        c.push_out.ensures.len,
+        c.push_out.ensures.capacity,
+      ));
+  small = c.push_out.ensures.small (c.add_left.ensures.small (c.let_go.ensures.small c.self.invariant.small));
+  counted = c.push_out.ensures.counted;
+}
