@@ -304,7 +304,7 @@ impl Peer {
         let mut moves = Moves::new(self.alloc, twin.is_asked());
         let mut receiver = receiver_for(source);
         let mut left = body;
-        let mut index = 0;
+        let mut index: u32 = 0;
         while let Some((submessage, rest)) = next_submessage(left) {
             match self.take_submessage(&mut moves, sent, &receiver, &submessage) {
                 Ok(()) => receiver = receiver_after(&self.prefix, receiver, &submessage),

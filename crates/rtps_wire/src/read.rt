@@ -28,7 +28,7 @@ use std::alloc::Global;
 // As a call of its own it stores the fields of that kind alone; within a caller LLVM gathers those of all kinds first.
 #[inline(never)]
 #[tactic(auto, unfolding(crate::specs::SubmessageAt::known_at))]
-pub fn known_of(id: u8, flags: u8, body: &[u8]) -> Option<Submessage<'_>>
+fn known_of(id: u8, flags: u8, body: &[u8]) -> Option<Submessage<'_>>
     ensures { result ≡ known_at id flags body.now }
 {
     if id == ID_PAD {
