@@ -1,5 +1,5 @@
 -- What is kept of the instances follows an entry that is no change: a death or a take may end lives, no other does.
-use Rattle.std.proofs.Common.{◌≡◌, ℕ, ◌+◌, ◌<◌, List, [], ◌∷◌, ◌++◌, length, get_or, map, Bool, true, false, not, ◌&&◌, ◌||◌, ◌==◌, sym, ap, ◌∙◌, refl, subst, Option, Some, None, arith, ⊎_elim}
+use Rattle.std.proofs.Common.{◌≡◌, ℕ, ◌+◌, ◌<◌, List, [], ◌∷◌, ◌++◌, length, get_or, map, Bool, true, false, not, ◌&&◌, ◌||◌, ◌==◌, sym, ap, ◌∙◌, refl, subst, Option, None, arith, ⊎_elim}
 use Rattle.std.specs.Prelude.{if◌then◌else◌, is_some, nat_le}
 use Rattle.std.specs.List.{All, list_any}
 use Rattle.std.proofs.lemmas.Bool.{cases_Bool, lt-leb}
@@ -17,7 +17,7 @@ use Rattle.dds_base.specs.Access.{lives_begun}
 use Rattle.dds_base.specs.Happening.{same_key, same_sample, read_by, taken_by, is_taken}
 use Rattle.dds_base.specs.Ownership.{accepted_kind, is_registered, publication_handles, registered_writers}
 use Rattle.dds_base.specs.Presence.{marks}
-use Rattle.dds_base.specs.Life.{becomes_not_alive, has_there, is_nobody, last_accepted, last_marker, or_else, ends_life}
+use Rattle.dds_base.specs.Life.{becomes_not_alive, has_there, is_nobody, last_accepted, last_marker, ends_life}
 use Rattle.dds_base.specs.Instance.{known_instances, introduced_by, is_known, instance_state_of, is_since, latest_rebirth, accesses}
 use Rattle.dds_base.proofs.KeyLaws.{key-same, same_key-comm}
 use Rattle.dds_base.proofs.LifeLaws.{ends-marked, ends-registered, ends-took, ends-unmarked, quiet-goes-on}

@@ -24,6 +24,7 @@ use Rattle.dds_base.proofs.KeyLaws.{key-same}
 use Rattle.dds_owner.specs.Standing.{Kept, StandsFor}
 use Rattle.dds_owner.specs.declared.registration.Registration.{Registration}
 use Rattle.dds_owner.specs.Registration.{registration_of}
+use Rattle.dds_owner.proofs.KeptLaws.{stands-fresh}
 use Rattle.dds_instances.specs.Known.{writes_in_life}
 use Rattle.dds_instances.specs.Track.{Tracks, fresh, one_if}
 use Rattle.dds_instances.proofs.LivesLaws.{begins, disposed-on, disposed-over, last-on, marker-on, marker-over, no_writers-on, no_writers-over, writes-on, writes-over}
@@ -307,7 +308,7 @@ tracks-fresh q i h handle kept blank last unseen =
     record {
       key_is = refl;
       handle_is = λ known. absurd (let clash : false ≡ true = sym unknown_is ∙ known in cc);
-      owners_are = blank ∙ nobody-stands i h (publication_handles q) none.registered;
+      owners_are = stands-fresh kept q i h blank (nobody-stands i h (publication_handles q) none.registered);
       last_is = sym last;
       disposed_is = sym none.disposed;
       no_writers_is = sym none.no_writers;

@@ -201,7 +201,7 @@ pub record Changes (q : ReaderQos) (kept : KeptStrengths) (a : Arrival) (kind : 
   pub advances : TracksEntry kind n old new
   pub accepted : (h : List Happening) → StandsFor old.owners q a.change.key h → TellsStrengths kept q h
       → kind ≡ accepted_kind q a.change.key h (Came a)
-  pub came : (h : List Happening) → StandsFor old.owners q a.change.key h
+  pub came : (h : List Happening) → StandsFor old.owners q a.change.key h → TellsStrengths kept q h
       → StandsFor new.owners q a.change.key (Came a ∷ h)
 
 -- one that has followed the instance until then
@@ -213,7 +213,7 @@ tracks-changed q kept h a kind n t x len step tells lawful hands before known =
     let i : Key = a.change.key in
     let advances : TracksEntry kind (length h + 1) t x =
     subst (λ (m : ℕ). TracksEntry kind m t x) (sym len) step.advances in
-    tracks-next q i h (Came a) kind t x (step.accepted h before.owners_are tells) (step.came h before.owners_are)
+    tracks-next q i h (Came a) kind t x (step.accepted h before.owners_are tells) (step.came h before.owners_are tells)
     (λ j. refl) (lawful.past i (length h + 1) (omega arith)) hands before advances known
 
 -- a change of a known instance makes none known

@@ -22,7 +22,8 @@ use Rattle.dds_base.specs.Presence.{marks}
 use Rattle.dds_base.proofs.LifeLaws.{accepted-other, quiet-unmarked, registered-other}
 use Rattle.dds_instances.specs.declared.track.InstanceTrack.{InstanceTrack}
 use Rattle.dds_owner.specs.Standing.{StandsFor, has_writers}
-use Rattle.dds_owner.proofs.RegistrationLaws.{nobody-kept, other-stands}
+use Rattle.dds_owner.proofs.KeptLaws.{other-stands}
+use Rattle.dds_owner.proofs.RegistrationLaws.{nobody-kept}
 use Rattle.dds_instances.specs.Known.{writes_in_life}
 use Rattle.dds_instances.specs.Track.{Tracks, TracksEntry, held_as, is_beginning, one_if, seen_in, state_of_track}
 use Rattle.dds_instances.proofs.LivesLaws.{begins, disposed-on, handle-new, handle-on, last-on, marker-on, no_writers-on, on-known, rebirth-on, writes-on}
@@ -185,7 +186,7 @@ tracks-other q i h e t x none same x_is before known tracks =
     record {
       key_is = tracks.key_is;
       handle_is = λ there. tracks.handle_is before ∙ sym (handle-on q i h e known before);
-      owners_are = other-stands t.owners q i h (e ∷ h) same tracks.owners_are;
+      owners_are = other-stands t.owners q i e h same tracks.owners_are;
       last_is =
           tracks.last_is ∙ sym (last-on q i h e on
           ∙ ap (λ (k : Option ChangeKind). or_else k (last_accepted q i h)) none);

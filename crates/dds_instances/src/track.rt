@@ -230,9 +230,11 @@ impl InstanceTrack {
             → result ≡ accepted_kind qos.now arrival.now.change.key h (Came arrival.now) }
         ensures came { (h : List Happening)
             → StandsFor self.old.owners qos.now arrival.now.change.key h
+            → TellsStrengths strengths.now qos.now h
             → StandsFor self.new.owners qos.now arrival.now.change.key (Came arrival.now ∷ h) }
     {
         let before = self.state();
+        self.owners.keep_owner(qos, strengths);
         let accepted = self.owners.accepted(qos, strengths, arrival);
         note(&mut self.owners, arrival);
         self.count(before, accepted, position);

@@ -1,3 +1,4 @@
 pub mod RegistrationLaws
 pub mod StrengthLaws
 pub mod RankingLaws
+pub mod KeptLaws

@@ -10,29 +10,19 @@ use Rattle.std.proofs.lemmas.Bool.{cases_Bool, and_from, or_left, or_right, or_c
 use Rattle.std.proofs.lemmas.List.{append-nil}
 use Rattle.std.proofs.lemmas.List.Folds.{list_all-append, list_any-append}
 use Rattle.dds_base.specs.declared.key.Key.{Key}
-use Rattle.dds_base.specs.declared.happening.Arrival.{Arrival}
 use Rattle.dds_base.specs.declared.happening.Happening.{Happening}
-use Rattle.dds_base.specs.declared.happening.Happening.TheVariants.{Came}
 use Rattle.dds_base.specs.declared.qos.MatchedWriter.{MatchedWriter}
 use Rattle.dds_base.specs.declared.qos.ReaderQos.{ReaderQos}
-use Rattle.dds_base.specs.declared.qos.OwnershipQos.{OwnershipQos}
-use Rattle.dds_base.specs.declared.qos.OwnershipQos.TheVariants.{Shared, Exclusive}
-use Rattle.dds_base.specs.Happening.{is_write_or_dispose}
-use Rattle.dds_base.specs.Ownership.{IsMatched, accepted_kind, admits, is_above, is_registered, numbered_from, outranks, outranks_all, owner_of, Precedence, precedence, precedence_of, publication_handles, registered_writers, writer_cmp, writer_of}
-use Rattle.dds_base.proofs.KeyLaws.{same_key-refl}
+use Rattle.dds_base.specs.Ownership.{IsMatched, is_above, is_registered, numbered_from, outranks, outranks_all, owner_of, Precedence, precedence, precedence_of, publication_handles, registered_writers, writer_cmp, writer_of}
 use Rattle.dds_base.proofs.OwnerLaws.{all-at, eqb-refl, is_one_of, matched-writer, outranks-one_way, outranks-trans, owner-is, owner-one, writer_total}
 use Rattle.dds_owner.specs.declared.ranking.Leader.{Leader}
 use Rattle.dds_owner.specs.declared.registration.Registration.{Registration}
-use Rattle.dds_owner.specs.Ranking.{accepted_among, gives_way, leader_after, leader_among, order_by}
+use Rattle.dds_owner.specs.First.{gives_way}
+use Rattle.dds_owner.specs.Ranking.{leader_after, leader_among, order_by, sole}
 use Rattle.dds_owner.specs.Registration.{registration_of}
 use Rattle.dds_owner.specs.Standing.{KeptStrengths, TellsStrengths}
 use Rattle.dds_owner.proofs.RegistrationLaws.{other-than}
-use Rattle.dds_owner.proofs.StrengthLaws.{order-came, order-kept}
-
--- the leader, if it outranks each other one
-abbrev pub sole : Option Leader → Option ℕ
-sole None = None
-sole (Some l) = if l.is_sole then Some l.writer else None
+use Rattle.dds_owner.proofs.StrengthLaws.{order-kept}
 
 -- ---- who need not give way
 
@@ -41,7 +31,7 @@ all-one : (b good : Bool) (w : ℕ) (ws : List ℕ) (g : ℕ → Bool) (rest : B
 all-one true good w ws g rest is e = ap (λ (x : Bool). x && list_all g ws) is ∙ ap (λ (x : Bool). good && x) e
 all-one false good w ws g rest is e = e
 
-all-each : (q : ReaderQos) (i : Key) (g h : List Happening) (w : ℕ) (ws : List ℕ)
+pub all-each : (q : ReaderQos) (i : Key) (g h : List Happening) (w : ℕ) (ws : List ℕ)
     → outranks_all q g (filter (λ v. is_registered i v h) ws) w
     ≡ list_all (gives_way (precedence_of q g) w) (map (registration_of i h) ws)
 all-each q i g h w [] = refl
@@ -58,7 +48,7 @@ above-same o p same v w =
     ap (λ (x : Option Precedence). is_above x (o w)) (same v)
     ∙ ap (λ (x : Option Precedence). is_above (p v) x) (same w)
 
-gives-same : (o p : ℕ → Option Precedence) → ((w : ℕ) → o w ≡ p w) → (w : ℕ) (rs : List Registration)
+pub gives-same : (o p : ℕ → Option Precedence) → ((w : ℕ) → o w ≡ p w) → (w : ℕ) (rs : List Registration)
     → list_all (gives_way o w) rs ≡ list_all (gives_way p w) rs
 gives-same o p same w [] = refl
 gives-same o p same w (r ∷ rs) =
@@ -83,31 +73,6 @@ among-same o p same leader (r ∷ rs) =
     ap (λ (l : Leader). leader_among o (if r.is_registered then Some l else leader) rs)
     (after-same o p same leader r.writer)
     ∙ among-same o p same (if r.is_registered then Some (leader_after p leader r.writer) else leader) rs
-
--- ---- what is accepted
-
-admits-same : (o : OwnershipQos) (b c : Bool) → (o ≡ Exclusive → b ≡ c) → admits o b ≡ admits o c
-admits-same Shared b c same = refl
-admits-same Exclusive b c same = same refl
-
--- what is accepted among the registrations is what is accepted
-pub accepted-among : (q : ReaderQos) (h : List Happening) (a : Arrival) (kept : KeptStrengths) (rs : List Registration)
-    → (q.ownership ≡ Exclusive → TellsStrengths kept q h)
-    → rs ≡ map (registration_of a.change.key h) (publication_handles q)
-    → accepted_among (order_by q kept (Some a)) q rs a.writer a.change.kind
-    ≡ accepted_kind q a.change.key h (Came a)
-accepted-among q h a kept rs tells is =
-    ap (λ (b : Bool). if is_write_or_dispose a.change.kind && b then Some a.change.kind else None)
-    (admits-same q.ownership (list_all (gives_way (order_by q kept (Some a)) a.writer) rs)
-    (outranks_all q (Came a ∷ h) (registered_writers q a.change.key h) a.writer)
-    (λ exclusive. gives-same (order_by q kept (Some a)) (precedence_of q (Came a ∷ h))
-    (order-came q h a kept (tells exclusive)) a.writer rs
-    ∙ (ap (λ (xs : List Registration). list_all (gives_way (precedence_of q (Came a ∷ h)) a.writer) xs) is
-    ∙ sym (all-each q a.change.key (Came a ∷ h) h a.writer (publication_handles q)))))
-    ∙ ap (λ (b : Bool). if b && (is_write_or_dispose a.change.kind
-    && admits q.ownership (outranks_all q (Came a ∷ h) (registered_writers q a.change.key h) a.writer))
-    then Some a.change.kind else None)
-    (sym (same_key-refl a.change.key))
 
 -- ---- the order of writers
 
@@ -170,7 +135,7 @@ find-none p (v ∷ ws) each =
     ap (λ (b : Bool). cond b (Some v) (find p ws)) (each v (or_left (v == v) (is_one_of ws v) (eqb-refl v)))
     ∙ find-none p ws (λ u there. each u (or_right (v == u) (is_one_of ws u) there))
 
-find-only : (p : ℕ → Bool) (ws : List ℕ) (w : ℕ) → is_one_of ws w ≡ true → p w ≡ true
+pub find-only : (p : ℕ → Bool) (ws : List ℕ) (w : ℕ) → is_one_of ws w ≡ true → p w ≡ true
     → ((u : ℕ) → is_one_of ws u ≡ true → p u ≡ true → u ≡ w) → find p ws ≡ Some w
 find-only p [] w among holds only = absurd cc
 find-only p (v ∷ ws) w among holds only =

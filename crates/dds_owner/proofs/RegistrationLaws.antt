@@ -1,6 +1,6 @@
 -- What is kept answers for the writers that are registered for an instance.
-use Rattle.std.proofs.Common.{◌≡◌, ℕ, ◌+◌, ◌-◌, ◌<◌, List, [], ◌∷◌, ◌++◌, length, map, Bool, true, false, not, ◌==◌, ◌&&◌, ◌||◌, sym, ap, ◌∙◌, refl, cond, arith, append_assoc, suc, ◌≤◌, ⊎_elim}
-use Rattle.std.proofs.lemmas.Bool.{cases_Bool, eqb-true, eqb-false}
+use Rattle.std.proofs.Common.{◌≡◌, ℕ, ◌+◌, ◌-◌, ◌<◌, List, [], ◌∷◌, ◌++◌, length, map, Bool, true, false, not, ◌==◌, ◌&&◌, ◌||◌, sym, ap, ◌∙◌, refl, cond, arith, append_assoc, zero, suc, ◌≤◌, ⊎_elim, slice_get}
+use Rattle.std.proofs.lemmas.Bool.{cases_Bool, eqb-true}
 use Rattle.std.specs.Prelude.{if◌then◌else◌}
 use Rattle.std.specs.List.{filter, list_any}
 use Rattle.dds_base.specs.declared.key.Key.{Key}
@@ -16,7 +16,7 @@ use Rattle.dds_base.specs.Ownership.{IsMatched, numbered_from, publication_handl
 use Rattle.dds_base.specs.Life.{is_nobody}
 use Rattle.dds_base.proofs.KeyLaws.{same_key-refl}
 use Rattle.dds_owner.specs.declared.registration.Registration.{Registration}
-use Rattle.dds_owner.specs.Registration.{registration_of, is_there, has_writer, entered, unregistered, blank_registrations}
+use Rattle.dds_owner.specs.Registration.{registration_of, is_there, is_there_at, is_there_in, has_writer, entered, unregistered, blank_registrations}
 use Rattle.dds_owner.specs.Standing.{Kept, StandsFor, has_writers}
 
 -- ---- where nothing has come
@@ -47,11 +47,6 @@ same-registrations i h g [] same = refl
 same-registrations i h g (w ∷ ws) same =
     ap (λ (b : Bool). (record { writer = w; is_registered = b }) ∷ map (registration_of i g) ws) (same w)
     ∙ ap (λ (rs : List Registration). registration_of i h w ∷ rs) (same-registrations i h g ws same)
-
--- what is kept stands for what changes no registration
-pub other-stands : (kept : Kept) (q : ReaderQos) (i : Key) (h g : List Happening)
-    → ((w : ℕ) → is_registered i w g ≡ is_registered i w h) → StandsFor kept q i h → StandsFor kept q i g
-other-stands kept q i h g same given = given ∙ sym (same-registrations i h g (publication_handles q) same)
 
 -- what does not unregister is a write or a dispose
 writes-or-ends : (kind : ChangeKind) → is_unregister kind ≡ false → is_write_or_dispose kind ≡ true
@@ -161,7 +156,7 @@ not-not b false e = ap not (sym e)
 -- nobody is registered where nobody is kept as registered
 pub nobody-kept : (kept : Kept) (q : ReaderQos) (i : Key) (h : List Happening) → StandsFor kept q i h
     → is_nobody (registered_writers q i h) ≡ not (has_writers kept)
-nobody-kept kept q i h given = not-not _ _ (somebody-there q i h kept.registrations given)
+nobody-kept kept q i h given = not-not _ _ (somebody-there q i h kept.registrations given.registrations_are)
 
 any-map : (f : Registration → Registration) (rs : List Registration)
     → list_any (λ r. is_there (f r)) rs ≡ list_any is_there (map f rs)
@@ -179,7 +174,7 @@ somebody-left q h a rs is =
 
 -- ---- whether one writer is registered
 
-has-none : (i : Key) (h : List Happening) (w : ℕ) (ws : List ℕ) → is_registered i w h ≡ false
+pub has-none : (i : Key) (h : List Happening) (w : ℕ) (ws : List ℕ) → is_registered i w h ≡ false
     → has_writer w (map (registration_of i h) ws) ≡ false
 has-none i h w [] none = refl
 has-none i h w (v ∷ ws) none =
@@ -192,56 +187,70 @@ has-none i h w (v ∷ ws) none =
     one-none true is e = e refl
     one-none false is e = refl
 
-has-some : (i : Key) (h : List Happening) (w k : ℕ) (writers : List MatchedWriter) → k ≤ w
-    → w < k + length writers → is_registered i w h ≡ true
-    → has_writer w (map (registration_of i h) (numbered_from k writers)) ≡ true
-has-some i h w k [] low high is = absurd (omega (arith, low, high))
-has-some i h w k (x ∷ writers) low high is =
-    ⊎_elim
-    (λ same. ap (λ (b : Bool). b || has_writer w (map (registration_of i h) (numbered_from (k + 1) writers)))
-    (ap (λ (b : Bool). b && is_registered i k h) same
-    ∙ (ap (λ (v : ℕ). is_registered i v h) (eqb-true k w same) ∙ is)))
-    (λ other. let differ : k ≡ w → ⊥ = eqb-false k w other in
-    ap (λ (b : Bool). ((k == w) && is_registered i k h) || b)
-    (has-some i h w (k + 1) writers (omega (arith, differ, low)) (omega (arith, high)) is)
-    ∙ or-true ((k == w) && is_registered i k h))
-    (cases_Bool (k == w))
-  where
-    or-true : (b : Bool) → (b || true) ≡ true
-    or-true true = refl
-    or-true false = refl
+there-in : (i : Key) (h : List Happening) (k at : ℕ) (writers : List MatchedWriter) → at < length writers
+    → is_there_in (slice_get (map (registration_of i h) (numbered_from k writers)) at) ≡ is_registered i (k + at) h
+there-in i h k at [] within = absurd (omega arith)
+there-in i h k zero (x ∷ writers) within = ap (λ (w : ℕ). is_registered i w h) (let same : k ≡ k + 0 = omega arith in same)
+there-in i h k (suc at) (x ∷ writers) within =
+    there-in i h (k + 1) at writers (omega arith)
+    ∙ ap (λ (w : ℕ). is_registered i w h) (let same : k + 1 + at ≡ k + suc at = omega arith in same)
+
+there-out : (i : Key) (h : List Happening) (k at : ℕ) (writers : List MatchedWriter) → length writers ≤ at
+    → is_there_in (slice_get (map (registration_of i h) (numbered_from k writers)) at) ≡ false
+there-out i h k at [] out = refl
+there-out i h k zero (x ∷ writers) out = absurd (omega arith)
+there-out i h k (suc at) (x ∷ writers) out = there-out i h (k + 1) at writers (omega arith)
+
+none-in : (i : Key) (h : List Happening) (k at : ℕ) (writers : List MatchedWriter) → is_registered i (k + at) h ≡ false
+    → is_there_in (slice_get (map (registration_of i h) (numbered_from k writers)) at) ≡ false
+none-in i h k at [] gone = refl
+none-in i h k zero (x ∷ writers) gone =
+    ap (λ (w : ℕ). is_registered i w h) (let same : k ≡ k + 0 = omega arith in same) ∙ gone
+none-in i h k (suc at) (x ∷ writers) gone =
+    none-in i h (k + 1) at writers
+    (ap (λ (w : ℕ). is_registered i w h) (let same : k + 1 + at ≡ k + suc at = omega arith in same) ∙ gone)
 
 -- a matched writer has a registration, which says whether it is registered
 pub has-matched : (q : ReaderQos) (i : Key) (h : List Happening) (w : ℕ) (rs : List Registration)
     → IsMatched q w → rs ≡ map (registration_of i h) (publication_handles q)
-    → has_writer w rs ≡ is_registered i w h
-has-matched q i h w rs matched is =
-    ap (λ (xs : List Registration). has_writer w xs) is
-    ∙ ⊎_elim
-    (λ there. has-some i h w 1 q.writers (omega (arith, matched.0)) (omega (arith, matched.1)) there
-    ∙ sym there)
-    (λ gone. has-none i h w (publication_handles q) gone ∙ sym gone)
-    (cases_Bool (is_registered i w h))
+    → is_there_at rs w ≡ is_registered i w h
+has-matched q i h zero rs matched is = absurd (omega (arith, matched.0))
+has-matched q i h (suc at) rs matched is =
+    ap (λ (xs : List Registration). is_there_in (slice_get xs at)) is
+    ∙ (there-in i h 1 at q.writers (omega (arith, matched.1))
+    ∙ ap (λ (w : ℕ). is_registered i w h) (let same : 1 + at ≡ suc at = omega arith in same))
 
 pub other-than : (v w : ℕ) → (v ≡ w → ⊥) → (v == w) ≡ false
 other-than v w differ =
     ⊎_elim (λ same. absurd (differ (eqb-true v w same))) (λ other. other) (cases_Bool (v == w))
 
-has-stranger : (i : Key) (h : List Happening) (w k : ℕ) (writers : List MatchedWriter)
-    → ((k ≤ w) × (w < k + length writers) → ⊥)
-    → has_writer w (map (registration_of i h) (numbered_from k writers)) ≡ false
-has-stranger i h w k [] out = refl
-has-stranger i h w k (x ∷ writers) out =
-    let other : (k == w) ≡ false = other-than k w (λ same. out (omega (arith, same), omega (arith, same))) in
-    ap
-    (λ (b : Bool). (b && is_registered i k h)
-    || has_writer w (map (registration_of i h) (numbered_from (k + 1) writers)))
-    other
-    ∙ has-stranger i h w (k + 1) writers (λ both. out (omega (arith, both.0), omega (arith, both.1)))
+none-at : (q : ReaderQos) (i : Key) (h : List Happening) (w : ℕ) (rs : List Registration)
+    → rs ≡ map (registration_of i h) (publication_handles q) → is_registered i w h ≡ false → is_there_at rs w ≡ false
+none-at q i h zero rs is gone = refl
+none-at q i h (suc at) rs is gone =
+    ap (λ (xs : List Registration). is_there_in (slice_get xs at)) is
+    ∙ none-in i h 1 at q.writers
+    (ap (λ (w : ℕ). is_registered i w h) (let same : 1 + at ≡ suc at = omega arith in same) ∙ gone)
+
+-- a writer that has a registration which says so is registered
+pub there-registered : (q : ReaderQos) (i : Key) (h : List Happening) (w : ℕ) (rs : List Registration)
+    → rs ≡ map (registration_of i h) (publication_handles q) → is_there_at rs w ≡ true → is_registered i w h ≡ true
+there-registered q i h w rs is there =
+    ⊎_elim (λ yes_it. yes_it)
+    (λ not_it. absurd (let e : true ≡ false = sym there ∙ not_there not_it in cc))
+    (cases_Bool (is_registered i w h))
+  where
+    not_there : is_registered i w h ≡ false → is_there_at rs w ≡ false
+    not_there gone = none-at q i h w rs is gone
 
 -- of one that is not matched there is none
 pub has-unmatched : (q : ReaderQos) (i : Key) (h : List Happening) (w : ℕ) (rs : List Registration)
-    → (IsMatched q w → ⊥) → rs ≡ map (registration_of i h) (publication_handles q) → has_writer w rs ≡ false
-has-unmatched q i h w rs out is =
-    ap (λ (xs : List Registration). has_writer w xs) is
-    ∙ has-stranger i h w 1 q.writers (λ both. out (omega (arith, both.0), omega (arith, both.1)))
+    → (IsMatched q w → ⊥) → rs ≡ map (registration_of i h) (publication_handles q) → is_there_at rs w ≡ false
+has-unmatched q i h zero rs out is = refl
+has-unmatched q i h (suc at) rs out is =
+    ap (λ (xs : List Registration). is_there_in (slice_get xs at)) is
+    ∙ there-out i h 1 at q.writers
+    (outside at (length q.writers) (λ within. out (omega (arith, within), omega (arith, within))))
+  where
+    outside : (a n : ℕ) → (a < n → ⊥) → n ≤ a
+    outside a n not_within = omega arith

@@ -1,3 +1,5 @@
 pub mod Registration
+pub mod Restrengthening
+pub mod First
 pub mod Ranking
 pub mod Standing

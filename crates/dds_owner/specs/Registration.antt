@@ -2,7 +2,7 @@
 -- cite this: nothing here has to be believed.
 --
 -- DDS 1.4, 2.2.2.4 (register_instance, unregister_instance), 2.2.3 (LIVELINESS).
-use Rattle.std.specs.Prelude.{ℕ, zero, suc, ◌+◌, List, [], ◌∷◌, Bool, false, ◌&&◌, ◌==◌, if◌then◌else◌}
+use Rattle.std.specs.Prelude.{ℕ, zero, suc, ◌+◌, List, [], ◌∷◌, Bool, false, ◌&&◌, ◌==◌, Option, Some, None, if◌then◌else◌, slice_get}
 use Rattle.std.specs.List.{list_any}
 use Rattle.dds_base.specs.declared.key.Key.{Key}
 use Rattle.dds_base.specs.declared.happening.Happening.{Happening}
@@ -16,6 +16,16 @@ registration_of i h w = record { writer = w; is_registered = is_registered i w h
 -- the writer is registered
 abbrev pub is_there : Registration → Bool
 is_there r = r.is_registered
+
+-- the writer that stands there is registered
+abbrev pub is_there_in : Option Registration → Bool
+is_there_in None = false
+is_there_in (Some r) = r.is_registered
+
+-- so is the one that has its place there
+abbrev pub is_there_at : List Registration → ℕ → Bool
+is_there_at rs zero = false
+is_there_at rs (suc at) = is_there_in (slice_get rs at)
 
 -- writer w is registered
 abbrev pub has_writer : ℕ → List Registration → Bool

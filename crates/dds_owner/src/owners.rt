@@ -15,12 +15,12 @@ ghost use Rattle.dds_base.specs.Ownership.{IsMatched, accepted_kind, is_register
 ghost use Rattle.dds_base.specs.declared.qos.OwnershipQos.TheVariants.{Exclusive};
 ghost use Rattle.dds_owner.specs.Standing.{StandsFor, TellsStrengths, has_writers};
 
-use crate::ranking::{accepted_by, leader_of};
+use crate::ranking::{KeptOwner, accepted_by, current_owner, leader_of, owner_but, owner_to_keep};
 use crate::registration::{
     Registration, blank_items, enter, is_anybody_there, is_writer_there, would_anybody_be_there,
 };
 use crate::strengths::Strengths;
-use dds_base::{Arrival, ChangeKind, Code, Handle, ReaderQos};
+use dds_base::{Arrival, ChangeKind, Code, Handle, OwnershipQos, ReaderQos};
 use std::alloc::Global;
 use std::marker::Model;
 
@@ -34,6 +34,8 @@ use std::marker::Model;
 pub struct Owners {
     /// By publication handle.
     registrations: Vec<Registration>,
+    /// The owner, while it is known.
+    owner: Option<KeptOwner>,
 }
 
 impl Model for Owners {
@@ -41,7 +43,7 @@ impl Model for Owners {
 
     ghost Value = { Kept };
 
-    ghost view = { λ o. record { registrations = o.registrations.items } };
+    ghost view = { λ o. record { registrations = o.registrations.items; owner = o.owner } };
 }
 
 impl Owners {
@@ -59,7 +61,10 @@ impl Owners {
         ensures memory { IfErr result (λ code. code ≡ Memory) }
     {
         let registrations = blank_items(alloc, writers)?;
-        Ok(Owners { registrations })
+        Ok(Owners {
+            registrations,
+            owner: None,
+        })
     }
 
     /// A write or a dispose of the instance came, accepted or not: its writer is registered.
@@ -72,7 +77,10 @@ impl Owners {
             → a.writer ≡ writer → is_unregister a.change.kind ≡ false
             → StandsFor self.new q a.change.key (Came a ∷ h) }
     {
-        enter(&mut self.registrations, writer, true);
+        if !is_writer_there(&self.registrations, writer) {
+            self.owner = None;
+            enter(&mut self.registrations, writer, true);
+        }
     }
 
     /// An unregister of the instance came, with a dispose or without: its writer is not registered any more.
@@ -85,6 +93,7 @@ impl Owners {
             → a.writer ≡ writer → is_unregister a.change.kind ≡ true
             → StandsFor self.new q a.change.key (Came a ∷ h) }
     {
+        self.owner = owner_but(self.owner, writer);
         enter(&mut self.registrations, writer, false);
     }
 
@@ -99,7 +108,26 @@ impl Owners {
         // Nobody is registered by it.
         ensures fewer { has_writers self.new ≡ true → has_writers self.old ≡ true }
     {
+        self.owner = owner_but(self.owner, dead);
         enter(&mut self.registrations, dead, false);
+    }
+
+    /// Finds out who owns the instance, where that is asked and not known: until somebody is registered anew, the owner's
+    /// registration ends, or a strength changes, nobody else need be asked.
+    ///
+    /// DDS 1.4, 2.2.3 (OWNERSHIP, OWNERSHIP_STRENGTH).
+    pub fn keep_owner(&mut self, qos: &ReaderQos, strengths: &Strengths)
+        // It stands for what it stood for.
+        ensures same { (i : Key) (h : List Happening) → StandsFor self.old qos.now i h
+            → TellsStrengths strengths.now qos.now h → StandsFor self.new qos.now i h }
+        // As many are registered as before.
+        ensures writers { has_writers self.new ≡ has_writers self.old }
+    {
+        if qos.ownership == OwnershipQos::Exclusive
+            && current_owner(strengths, self.owner).is_none()
+        {
+            self.owner = owner_to_keep(qos, strengths, &self.registrations);
+        }
     }
 
     /// The owner under EXCLUSIVE ownership, none where nobody is registered.
@@ -115,6 +143,9 @@ impl Owners {
             → TellsStrengths strengths.now qos.now h
             → result ≡ owner_of qos.now h (registered_writers qos.now i h) }
     {
+        if let Some(owner) = current_owner(strengths, self.owner) {
+            return Some(owner);
+        }
         let leader = leader_of(qos, strengths, &self.registrations)?;
         if leader.is_sole {
             Some(leader.writer)
@@ -184,6 +215,6 @@ impl Owners {
             → (qos.now.ownership ≡ Exclusive → TellsStrengths strengths.now qos.now h)
             → result ≡ accepted_kind qos.now arrival.now.change.key h (Came arrival.now) }
     {
-        accepted_by(qos, strengths, &self.registrations, arrival)
+        accepted_by(qos, strengths, self.owner, &self.registrations, arrival)
     }
 }

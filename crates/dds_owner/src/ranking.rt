@@ -5,7 +5,8 @@
 ghost use Rattle.std.specs.Prelude.{◌≡◌, None, Some, option_copied, if◌then◌else◌};
 ghost use Rattle.std.specs.List.{list_all};
 ghost use Rattle.dds_base.specs.Ownership.{is_above, writer_of};
-ghost use Rattle.dds_owner.specs.Ranking.{accepted_among, gives_way, leader_after, leader_among, order_by, own_precedence, strength_by, with_strength, writer_by};
+ghost use Rattle.dds_owner.specs.First.{gives_way};
+ghost use Rattle.dds_owner.specs.Ranking.{accepted_among, first_among, leader_after, leader_among, order_by, own_precedence, owner_before, owner_but, owner_by, owner_to_keep, strength_by, with_strength, writer_by};
 
 use crate::registration::Registration;
 use crate::strengths::Strengths;
@@ -19,6 +20,14 @@ pub struct Leader {
     pub writer: Handle,
     /// Whether it outranks each of the others.
     pub is_sole: bool,
+}
+
+/// The owner of an instance, as it was once strengths had changed so often.
+#[derive(Clone, Copy)]
+pub struct KeptOwner {
+    /// It is registered, and outranks each other writer that is.
+    pub writer: Handle,
+    pub changes: u64,
 }
 
 /// The strength that was told last of a writer: by the change that comes, if one does, or before it.
@@ -128,26 +137,54 @@ fn is_first(
         .all(|other| is_no_rival(qos, strengths, coming, writer, other))
 }
 
-/// The kind of the change, if it is a write or a dispose of the owner, or of anybody where ownership is shared. Nobody
-/// is asked who owns: `docs/DECISIONS.md`, "A reader's cache".
+/// The owner that is kept, where no strength has changed since.
+pub fn current_owner(strengths: &Strengths, kept: Option<KeptOwner>) -> Option<Handle>
+    ensures { result ≡ owner_by strengths.now kept }
+{
+    let owner = kept?;
+    if strengths.changes()? == owner.changes {
+        Some(owner.writer)
+    } else {
+        None
+    }
+}
+
+/// Whether the writer of a change that comes is the owner among those that are registered and itself: it is the one that
+/// is kept, or outranks that, or else each other one is asked.
+fn is_owner(
+    qos: &ReaderQos,
+    strengths: &Strengths,
+    kept: Option<KeptOwner>,
+    registrations: &[Registration],
+    arrival: &Arrival,
+) -> bool
+    ensures { result ≡ first_among (order_by qos.now strengths.now (Some arrival.now))
+        (owner_before strengths.now kept arrival.now) registrations.now arrival.now.writer }
+{
+    let writer = arrival.writer;
+    if !strengths.are_changed_by(arrival) {
+        if let Some(owner) = current_owner(strengths, kept) {
+            return owner == writer || is_outranking(qos, strengths, Some(arrival), writer, owner);
+        }
+    }
+    is_first(qos, strengths, Some(arrival), writer, registrations)
+}
+
+/// The kind of the change, if it is a write or a dispose of the owner, or of anybody where ownership is shared.
 pub fn accepted_by(
     qos: &ReaderQos,
     strengths: &Strengths,
+    kept: Option<KeptOwner>,
     registrations: &[Registration],
     arrival: &Arrival,
 ) -> Option<ChangeKind>
     ensures { result ≡ accepted_among (order_by qos.now strengths.now (Some arrival.now)) qos.now
-        registrations.now arrival.now.writer arrival.now.change.kind }
+        (owner_before strengths.now kept arrival.now) registrations.now arrival.now.writer
+        arrival.now.change.kind }
 {
     let is_admitted = match qos.ownership {
         OwnershipQos::Shared => true,
-        OwnershipQos::Exclusive => is_first(
-            qos,
-            strengths,
-            Some(arrival),
-            arrival.writer,
-            registrations,
-        ),
+        OwnershipQos::Exclusive => is_owner(qos, strengths, kept, registrations, arrival),
     };
     let kind = arrival.change.kind;
     if kind.is_write_or_dispose() && is_admitted {
@@ -203,4 +240,42 @@ pub fn leader_of(
         }
     }
     leader
+}
+
+/// The owner that is kept, if it is another writer.
+pub fn owner_but(kept: Option<KeptOwner>, writer: Handle) -> Option<KeptOwner>
+    ensures { result ≡ owner_but writer kept }
+{
+    match kept {
+        Some(owner) => {
+            if owner.writer == writer {
+                None
+            } else {
+                Some(owner)
+            }
+        }
+        None => None,
+    }
+}
+
+/// The owner, to be kept: none where nobody is registered, or two share a GUID, or where it is not known how often
+/// strengths have changed.
+pub fn owner_to_keep(
+    qos: &ReaderQos,
+    strengths: &Strengths,
+    registrations: &[Registration],
+) -> Option<KeptOwner>
+    ensures { result ≡ owner_to_keep (order_by qos.now strengths.now None) strengths.now
+        registrations.now }
+{
+    let leader = leader_of(qos, strengths, registrations)?;
+    let changes = strengths.changes()?;
+    if leader.is_sole {
+        Some(KeptOwner {
+            writer: leader.writer,
+            changes,
+        })
+    } else {
+        None
+    }
 }

@@ -4,7 +4,7 @@
 
 ghost use Rattle.std.specs.Prelude.{◌≡◌, map, IfOk};
 ghost use Rattle.std.specs.List.{list_any};
-ghost use Rattle.dds_owner.specs.Registration.{blank_registrations, entered, has_writer, is_there};
+ghost use Rattle.dds_owner.specs.Registration.{blank_registrations, entered, is_there, is_there_at};
 
 use dds_base::Handle;
 use std::alloc::{AllocError, Global};
@@ -75,10 +75,15 @@ pub fn would_anybody_be_there(
     registrations.iter().any(|r| entered_registration(r, writer, is_registered).is_registered)
 }
 
+/// Whether a writer is registered, by its publication handle.
 pub fn is_writer_there(registrations: &[Registration], writer: Handle) -> bool
-    ensures { result ≡ has_writer writer registrations.now }
+    ensures { result ≡ is_there_at registrations.now writer }
 {
-    registrations
-        .iter()
-        .any(|r| r.writer == writer && r.is_registered)
+    match writer.number().checked_sub(1) {
+        Some(at) => match registrations.get(at as usize) {
+            Some(r) => r.is_registered,
+            None => false,
+        },
+        None => false,
+    }
 }

@@ -2,15 +2,16 @@
 //!
 //! DDS 1.4, 2.2.3 (OWNERSHIP_STRENGTH).
 
-ghost use Rattle.std.specs.Prelude.{◌≡◌, ◌+◌, ◌≤◌, ◌∷◌, ◌++◌, [], List, length, Some, None, IsOk, OnOk, OnErr, IfErr, replicate, vec_len, vec_capacity};
+ghost use Rattle.std.specs.Prelude.{◌≡◌, ◌⊎◌, ◌+◌, ◌≤◌, ◌<◌, ◌==◌, ◌&&◌, ◌∷◌, ◌++◌, [], ℕ, List, length, not, false, if◌then◌else◌, Some, None, IsOk, OnOk, OnErr, IfErr, MatchOption, replicate, vec_len, vec_capacity};
 ghost use Rattle.dds_base.specs.declared.code.Code.TheVariants.{Memory};
 ghost use Rattle.dds_base.specs.declared.happening.Arrival.{Arrival};
 ghost use Rattle.dds_base.specs.declared.happening.Happening.{Happening};
 ghost use Rattle.dds_base.specs.declared.happening.Happening.TheVariants.{Came};
 ghost use Rattle.dds_base.specs.declared.qos.ReaderQos.{ReaderQos};
+ghost use Rattle.dds_owner.specs.Restrengthening.{MAX_CHANGES, is_new_strength};
 ghost use Rattle.dds_owner.specs.Standing.{TellsStrengths, kept_strength, strengths_room};
 
-use dds_base::{Code, Handle};
+use dds_base::{Arrival, Code, Handle};
 use std::alloc::Global;
 use std::marker::Model;
 
@@ -25,6 +26,8 @@ use std::marker::Model;
 pub struct Strengths {
     /// By publication handle, empty until there is memory for it.
     told: Vec<Option<i32>>,
+    /// How often one changed, if that is below 2^64 - 1; else it is not known, and stays so.
+    changes: u64,
 }
 
 impl Model for Strengths {
@@ -32,7 +35,7 @@ impl Model for Strengths {
 
     ghost Value = { KeptStrengths };
 
-    ghost view = { λ s. record { told = s.told.items } };
+    ghost view = { λ s. record { told = s.told.items; changes = s.changes } };
 }
 
 /// So many writers more, of which no strength was told, in the room that there is.
@@ -56,6 +59,7 @@ impl Strengths {
     {
         Strengths {
             told: Vec::new(alloc),
+            changes: 0,
         }
     }
 
@@ -101,10 +105,67 @@ impl Strengths {
         // As many can be kept as before.
         ensures room { strengths_room self.new ≡ strengths_room self.old }
     {
-        if let Some(at) = writer.number().checked_sub(1) {
-            if let Some(told) = self.told.get_mut(at as usize) {
+        if self.is_told(writer, strength) {
+            return;
+        }
+        let is_kept = self.put(writer, strength);
+        self.changes = if is_kept {
+            self.changes.saturating_add(1)
+        } else {
+            u64::MAX
+        };
+    }
+
+    /// Puts the strength of a writer, where it has a place, and says whether it has.
+    fn put(&mut self, writer: Handle, strength: i32) -> bool
+        ensures told { (v : ℕ) → kept_strength self.new v
+            ≡ (if result && (v == writer) then Some strength else kept_strength self.old v) }
+        ensures outside { result ≡ false → strengths_room self.old < writer ⊎ writer ≡ 0 }
+        ensures room { strengths_room self.new ≡ strengths_room self.old }
+        ensures changes { self.new.changes ≡ self.old.changes }
+    {
+        let Some(at) = writer.number().checked_sub(1) else {
+            return false;
+        };
+        match self.told.get_mut(at as usize) {
+            Some(told) => {
                 *told = Some(strength);
+                true
             }
+            None => false,
+        }
+    }
+
+    /// Whether this is the strength that was told last of a writer.
+    fn is_told(&self, writer: Handle, strength: i32) -> bool
+        ensures { result ≡ not (is_new_strength (Some strength) (kept_strength self.now writer)) }
+    {
+        match self.told_of(writer) {
+            Some(told) => strength == told,
+            None => false,
+        }
+    }
+
+    /// Whether a change that comes gives its writer another strength.
+    pub(crate) fn are_changed_by(&self, arrival: &Arrival) -> bool
+        ensures { result ≡ is_new_strength arrival.now.change.strength
+            (kept_strength self.now arrival.now.writer) }
+    {
+        match arrival.change.strength {
+            Some(strength) => !self.is_told(arrival.writer, strength),
+            None => false,
+        }
+    }
+
+    /// How often a strength changed, if that is known.
+    pub(crate) fn changes(&self) -> Option<u64>
+        ensures { MatchOption result (MAX_CHANGES ≤ self.now.changes)
+            (λ n. n ≡ self.now.changes × n < MAX_CHANGES) }
+    {
+        if self.changes < u64::MAX {
+            Some(self.changes)
+        } else {
+            None
         }
     }
 

@@ -5,7 +5,7 @@ use Rattle.std.proofs.lemmas.List.Elements.{All-pop}
 use Rattle.dds_base.specs.declared.key.Key.{Key}
 use Rattle.dds_base.specs.Happening.{same_key}
 use Rattle.dds_owner.specs.Standing.{Kept}
-use Rattle.dds_instances.specs.Following.{IsForNextLife, key_of}
+use Rattle.dds_instances.specs.Following.{IsBlank, IsForNextLife, key_of}
 use Rattle.dds_instances.proofs.StandingLaws.{reaches-nothing}
 use Rattle.dds_instances.proofs.keeping.take_up.Goals as goal
 
@@ -23,3 +23,7 @@ returns-clause-follows c = λ h may lives.
     let B : Kept → Type 0 = IsForNextLife c.args.qos.now h c.args.handle in
     let parts = All-pop B c.args.blanks.now.items c.pop.new.self.items c.pop.result c.pop.ensures.items lives in
     c.introduce.ensures.follows h may (subst (λ (r : Option Kept). IfSome r B) c.unwrap-blank.ensures parts.1)
+
+pub returns-clause-blanks : goal.returns-clause-blanks
+returns-clause-blanks c = λ n blank.
+    (All-pop (IsBlank n) c.args.blanks.now.items c.pop.new.self.items c.pop.result c.pop.ensures.items blank).0

@@ -1,17 +1,46 @@
-use Rattle.std.proofs.Common.{◌≡◌, ℕ, ◌+◌, List, ◌∷◌, refl, subst, sym, ap, ◌∙◌, arith}
+use Rattle.std.proofs.Common.{◌≡◌, ℕ, ◌+◌, List, ◌∷◌, refl, subst, sym, ap, ◌∙◌, arith, rules, All}
 use Rattle.dds_base.specs.declared.happening.Happening.{Happening}
 use Rattle.dds_base.specs.declared.happening.Happening.TheVariants.{Came}
 use Rattle.dds_base.specs.Access.{lives_begun}
 use Rattle.dds_owner.specs.Standing.{KeptStrengths, TellsStrengths, strengths_room}
 use Rattle.dds_instances.specs.declared.instances.Instances.TheInside.{Inside}
 use Rattle.dds_instances.specs.declared.track.InstanceTrack.{InstanceTrack}
-use Rattle.dds_instances.specs.Following.{Follows, FollowsBefore}
+use Rattle.dds_instances.specs.Following.{AreBlank, Follows, FollowsBefore}
 use Rattle.dds_instances.specs.Table.{Table, Stands}
 use Rattle.dds_instances.specs.Sound.{table_of}
+use Rattle.dds_instances.specs.Track.{Fits}
 use Rattle.dds_instances.proofs.EndingLaws.{lawful-quiet}
 use Rattle.dds_instances.proofs.StandingLaws.{follows-on, follows-over}
 use Rattle.dds_instances.proofs.instances.Instances.change.Goals as goal
 use Rattle.dds_instances.proofs.instances.Instances.change.Goals.{then-is_end, else-is_end}
+
+pub invariant_of-self : goal.invariant_of-self
+invariant_of-self c =
+    let blank : AreBlank c.if-is_end.self-inside.writers c.if-is_end.self-inside.blanks.items =
+    elim c.if-is_end.branch [
+      | then-is_end w ↦ subst (λ (a : Inside). AreBlank a.writers a.blanks.items) (sym w.self-inside-is)
+          (c.take_up-is_beginning.ensures.blanks c.self.inside.writers c.self.invariant.blank)
+      | else-is_end w ↦ subst (λ (a : Inside). AreBlank a.writers a.blanks.items) (sym w.self-inside-is)
+          (c.take_up-is_beginning.ensures.blanks c.self.inside.writers c.self.invariant.blank)
+    ] in
+    record {
+      indexed = search rules;
+      fits = elim c.if-is_end.branch [
+        | then-is_end w ↦
+            subst (λ (a : Inside). All (Fits (c.self.inside.happened + 1 + 1)) a.tracks.items) (sym w.self-inside-is)
+            (w.forget.ensures.fits (c.self.inside.happened + 1 + 1) c.take_up-is_beginning.ensures.fits)
+        | else-is_end w ↦
+            subst (λ (a : Inside). All (Fits (c.self.inside.happened + 1 + 1)) a.tracks.items) (sym w.self-inside-is)
+            c.take_up-is_beginning.ensures.fits
+      ];
+      blank = blank;
+      places = search rules;
+      tracks_fit = search rules;
+      blanks_fit = search rules;
+      strengths_fit = search rules;
+      begun_fits = search rules;
+      counted = search rules;
+    }
 
 pub returns-clause-stands : goal.returns-clause-stands
 returns-clause-stands c = λ h stands end_is.

@@ -50,7 +50,7 @@ returns-clause-ok c = λ q h moment stands present.
     held-right q h ts (λ i. has_there q h i (last_marker q i h))
     (subst (λ (ks : List Key). IsDistinct same_key ks) c.bury_all.ensures.keys c.forget_left.ensures.distinct)
     s.follows noted in
-    stands-next q h e (table_of c.self.inside) _ refl refl refl refl (λ tells. tells) refl
+    stands-next q h e (table_of c.self.inside) _ refl refl refl refl (λ it. record { tells = it.tells; counts = it.counts }) refl
     (subst (λ (xs : List InstanceTrack). Follows q (e ∷ h) xs) (sym c.forget_left.ensures.kept)
     (follows-kept q h e lives_on c.bury_all.new.tracks.items (c.bury_all.ensures.reaches q h moment before)
     (c.bury_all.ensures.lives q h moment before held)))

@@ -55,7 +55,7 @@ returns-then-is_any_left-clause-took c = λ q h stands fits right.
     held-right q h ts (λ i. has_there q (e ∷ h) i (last_marker q i h))
     (subst (λ (ks : List Key). IsDistinct same_key ks) c.see_all.ensures.keys c.forget_left.ensures.distinct)
     s.follows noted in
-    stands-next q h e (table_of c.self.inside) _ refl refl refl refl (λ tells. tells) refl
+    stands-next q h e (table_of c.self.inside) _ refl refl refl refl (λ it. record { tells = it.tells; counts = it.counts }) refl
     (subst (λ (xs : List InstanceTrack). Follows q (e ∷ h) xs)
     (sym (c.forget_left.ensures.kept ∙ ap (λ (xs : List InstanceTrack). filter lives_on xs) c.see_all.ensures.sees))
     (follows-kept q h e lives_on (map (seen_in ss) ts) (reaches-took q h ss ts s.follows)
@@ -72,7 +72,7 @@ returns-else-is_any_left-clause-took c = λ q h stands fits right.
     sym (c.is_any_left-is_any_left.ensures q h
     (subst (λ (xs : List InstanceTrack). Follows q h xs) (sym c.deref.ensures.value) s.follows))
     ∙ c.if-is_any_left.false in
-    stands-next q h e (table_of c.self.inside) _ refl refl refl refl (λ tells. tells) refl
+    stands-next q h e (table_of c.self.inside) _ refl refl refl refl (λ it. record { tells = it.tells; counts = it.counts }) refl
     (subst (λ (xs : List InstanceTrack). Follows q (e ∷ h) xs) (sym c.see_all.ensures.sees)
     (follows-took q h ss ts none s.follows))
     (lawful-took q h ss fits s.lawful) s

@@ -1,11 +1,13 @@
-use Rattle.std.proofs.Common.{◌≡◌, Bool, List, Option, Some, None, sym, ap, ◌∙◌}
+use Rattle.std.proofs.Common.{◌≡◌, Bool, List, Option, Some, None, subst, sym, ap, ◌∙◌}
 use Rattle.std.specs.Prelude.{if◌then◌else◌}
 use Rattle.dds_base.specs.declared.happening.Happening.{Happening}
 use Rattle.dds_base.specs.declared.key.Key.{Key}
 use Rattle.dds_base.specs.Ownership.{owner_of, registered_writers}
 use Rattle.dds_owner.specs.declared.ranking.Leader.{Leader}
 use Rattle.dds_owner.specs.Standing.{Kept, StandsFor, TellsStrengths}
-use Rattle.dds_owner.proofs.RankingLaws.{owner-found, sole}
+use Rattle.dds_owner.specs.Ranking.{sole}
+use Rattle.dds_owner.proofs.KeptLaws.{owner-current}
+use Rattle.dds_owner.proofs.RankingLaws.{owner-found}
 use Rattle.dds_owner.proofs.owners.Owners.owner.Goals as goal
 use Rattle.dds_owner.proofs.owners.Owners.owner.Goals.{After-leader_of}
 
@@ -16,7 +18,7 @@ alone : (c : After-leader_of) → (i : Key) (h : List Happening) → StandsFor c
 alone c i h given tells =
     ap (λ (l : Option Leader). sole l) c.leader_of.ensures
     ∙ owner-found c.args.qos.now i h c.args.strengths.now c.deref.result.now tells
-    (c.deref.ensures.value ∙ (ap (λ (k : Kept). k.registrations) c.self.view_is ∙ given))
+    (c.deref.ensures.value ∙ (ap (λ (k : Kept). k.registrations) c.self.view_is ∙ given.registrations_are))
 
 pub returns-in_err-leader : goal.returns-in_err-leader
 returns-in_err-leader c = record {
@@ -40,4 +42,12 @@ returns-else-leader c = record {
       ap (λ (b : Bool). if b then Some c.in_ok-leader.leader.writer else None) (sym c.if-leader.false)
       ∙ (ap (λ (l : Option Leader). sole l) (sym c.in_ok-leader.was)
       ∙ alone (goal.at.returns-else-leader c).After-leader_of i h given tells);
+}
+
+pub returns-in-Some : goal.returns-in-Some
+returns-in-Some c = record {
+  owner = λ i h given tells.
+      let inside = subst (λ (k : Kept). StandsFor k c.args.qos.now i h) (sym c.self.view_is) given in
+      sym (owner-current c.args.qos.now i h c.args.strengths.now c.self.inside.owner c.self.inside.registrations.items
+      c.in-Some.owner tells inside.registrations_are inside.owner_is (sym c.current_owner.ensures ∙ c.in-Some.is));
 }

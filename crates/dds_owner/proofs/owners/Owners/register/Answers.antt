@@ -1,11 +1,22 @@
-use Rattle.std.proofs.Common.{ap, ◌∙◌, false}
-use Rattle.dds_owner.specs.Standing.{Kept}
-use Rattle.dds_owner.proofs.RegistrationLaws.{came-stands}
+use Rattle.std.proofs.Common.{List, subst, sym, ap, ◌∙◌}
+use Rattle.dds_owner.specs.declared.registration.Registration.{Registration}
+use Rattle.dds_owner.specs.Registration.{is_there_at}
+use Rattle.dds_owner.specs.Standing.{Kept, StandsFor}
+use Rattle.dds_owner.proofs.KeptLaws.{came-again, came-anew}
 use Rattle.dds_owner.proofs.owners.Owners.register.Goals as goal
 
-pub returns : goal.returns
-returns c = record {
+pub returns-then-not-is_writer_there : goal.returns-then-not-is_writer_there
+returns-then-not-is_writer_there c = record {
   came = λ q h a given writer kind.
-      came-stands q h a c.args.writer false c.self.inside.registrations.items c.enter.new.registrations.items
-      (ap (λ (k : Kept). k.registrations) c.self.view_is ∙ given) writer kind c.enter.ensures;
+      came-anew q h a c.args.writer _ c.enter.new.registrations.items
+      (subst (λ (k : Kept). StandsFor k q a.change.key h) (sym c.self.view_is) given) writer kind c.enter.ensures;
+}
+
+pub returns-else-not-is_writer_there : goal.returns-else-not-is_writer_there
+returns-else-not-is_writer_there c = record {
+  came = λ q h a given writer kind.
+      came-again q h a c.args.writer c.args.self.now given writer kind
+      (ap (λ (k : Kept). is_there_at k.registrations c.args.writer) (sym c.self.view_is)
+      ∙ (ap (λ (rs : List Registration). is_there_at rs c.args.writer) (sym c.deref.ensures.value)
+      ∙ (sym c.is_writer_there.ensures ∙ c.if-not-is_writer_there.false)));
 }

@@ -13,5 +13,5 @@ returns c = record {
       (λ (b : Bool). list_any (λ r. is_there (entered (not b) c.args.arrival.now.writer r)) c.deref.result.now)
       c.is_unregister-is_entered.ensures.kind
       ∙ somebody-left q h c.args.arrival.now c.deref.result.now
-      (c.deref.ensures.value ∙ (ap (λ (k : Kept). k.registrations) c.self.view_is ∙ given)));
+      (c.deref.ensures.value ∙ (ap (λ (k : Kept). k.registrations) c.self.view_is ∙ given.registrations_are)));
 }
