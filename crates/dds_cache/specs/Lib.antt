@@ -2,6 +2,7 @@ pub mod Kept
 pub mod Standing
 pub mod Sound
 pub mod Finding
+pub mod Positions
 pub mod Picking
 pub mod First
 pub mod Room

@@ -341,10 +341,3 @@ pub fn find_matching<T: Test>(
     sort_by_handle(&mut found)?;
     Ok(found)
 }
-
-/// The samples that were found.
-pub fn positions(alloc: Global, found: &[Candidate]) -> Result<Vec<SamplePosition>, AllocError>
-    ensures { IfOk result (λ positions. positions.items ≡ map sample_in found.now) }
-{
-    found.iter().map(|c| c.sample).collect(alloc)
-}

@@ -13,11 +13,12 @@ ghost use Rattle.dds_cache.specs.Finding.{AreApart, AreChanged, IsPlaced, handle
 ghost use Rattle.dds_cache.specs.Kept.{IsSummary, out_if};
 ghost use Rattle.dds_cache.specs.Picking.{IsGathered, collected, value_for};
 
-use crate::access::{Candidate, positions};
+use crate::access::Candidate;
 use crate::access_kind::AccessKind;
 use crate::kept::Kept;
+use crate::positions::Positions;
 use crate::summary::{Summary, let_out};
-use dds_base::{Code, Octets, Sample, SamplePosition};
+use dds_base::{Code, Octets, Sample};
 use dds_info::Ranks;
 use std::alloc::{AllocError, Global};
 
@@ -104,7 +105,7 @@ pub fn take_out(
 #[derive(Drop)]
 pub struct Access {
     /// Which samples.
-    pub positions: Vec<SamplePosition>,
+    pub positions: Positions,
     /// The same, as they were found among those that are kept.
     pub found: Vec<Candidate>,
     /// Their collection: that of a take has no values before it is entered.
@@ -119,7 +120,7 @@ impl Access {
         ensures samples { result.samples.items ≡ [] }
     {
         Access {
-            positions: Vec::new(alloc),
+            positions: Positions::none(alloc),
             found: Vec::new(alloc),
             samples: Vec::new(alloc),
         }
@@ -165,7 +166,7 @@ pub fn gather(
     ensures memory { IfErr result (λ e. e ≡ Memory) }
 {
     let collection = collect(alloc, kind, samples, &found)?;
-    let positions = positions(alloc, &found)?;
+    let positions = Positions::of(alloc, &found)?;
     Ok(Access {
         positions,
         found,

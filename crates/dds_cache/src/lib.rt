@@ -20,6 +20,7 @@ mod first;
 mod kept;
 mod masks;
 mod pick;
+mod positions;
 mod pushing;
 mod reader_cache;
 mod returned;

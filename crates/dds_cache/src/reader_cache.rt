@@ -620,7 +620,7 @@ fn answer_of(access: Access) -> Result<Sequence<Sample>, Code>
         samples,
         ..
     } = access;
-    if positions.is_empty() {
+    if positions.as_slice().is_empty() {
         Err(Code::NoData)
     } else {
         Ok(Sequence::from_vec(samples))

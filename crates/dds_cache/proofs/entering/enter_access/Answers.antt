@@ -1,4 +1,4 @@
-use Rattle.std.proofs.Common.{◌≡◌, ◌∷◌, List, map, sym, ap, ◌∙◌, subst, Global, Vec}
+use Rattle.std.proofs.Common.{◌≡◌, ◌∷◌, List, map, sym, ap, ◌∙◌, subst}
 use Rattle.std.specs.List.{All}
 use Rattle.std.specs.Prelude.{OnOk, Result}
 use Rattle.dds_base.specs.declared.code.Code.{Code}
@@ -8,6 +8,7 @@ use Rattle.dds_base.specs.declared.happening.Happening.TheVariants.{Read}
 use Rattle.dds_base.specs.declared.qos.ReaderQos.{ReaderQos}
 use Rattle.dds_instances.specs.Known.{IsReturnable}
 use Rattle.dds_instances.specs.Table.{Stands, Table}
+use Rattle.dds_cache.specs.Positions.{PositionList}
 use Rattle.dds_cache.specs.declared.access_kind.AccessKind.{AccessKind}
 use Rattle.dds_cache.specs.declared.kept.Kept.{Kept}
 use Rattle.dds_cache.specs.declared.access.Candidate.{Candidate}
@@ -29,9 +30,9 @@ returns-in-Read-clause-holds c = λ h holds_found.
     let each = holds_found.found.candidates in
     let q : ReaderQos = c.args.qos.now in
     let ks : List Kept = c.args.samples.now.items in
-    let ss : List SamplePosition = c.deref.result.now in
+    let ss : List SamplePosition = c.as_slice.result.now in
     let same : ss ≡ c.args.access.now.positions.items =
-    c.deref.ensures.value ∙ ap (λ (v : Vec SamplePosition Global). v.items) c.settle.ensures.positions in
+    c.as_slice.ensures ∙ ap (λ (ps : PositionList). ps.items) c.settle.ensures.positions in
     let fits : All (IsReturnable q h) ss =
     subst (λ (xs : List SamplePosition). All (IsReturnable q h) xs) (sym same) holds_found.found.returnable in
     let read : Stands q c.read.new.self (Read ss ∷ h) =
@@ -54,9 +55,9 @@ returns-in-Take-clause-holds c = λ h holds_found.
     let each = holds_found.found.candidates in
     let q : ReaderQos = c.args.qos.now in
     let ks : List Kept = c.args.samples.now.items in
-    let ss : List SamplePosition = c.deref-in-Take.result.now in
+    let ss : List SamplePosition = c.as_slice-in-Take.result.now in
     let same : ss ≡ c.args.access.now.positions.items =
-    c.deref-in-Take.ensures.value ∙ ap (λ (v : Vec SamplePosition Global). v.items) c.settle.ensures.positions in
+    c.as_slice-in-Take.ensures ∙ ap (λ (ps : PositionList). ps.items) c.settle.ensures.positions in
     let fits : All (IsReturnable q h) ss =
     subst (λ (xs : List SamplePosition). All (IsReturnable q h) xs) (sym same) holds_found.found.returnable in
     subst (λ (xs : List SamplePosition). Holds q c.take_out.new.instances c.take_out.new.samples.items

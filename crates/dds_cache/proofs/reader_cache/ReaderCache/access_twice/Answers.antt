@@ -1,4 +1,4 @@
-use Rattle.std.proofs.Common.{◌≡◌, ◌≢◌, ◌==◌, ◌∙◌, Err, Global, List, Ok, Result, Vec, Bool, true, false, [], length, map, ℕ, sym, ap, subst, arith, inl, refl}
+use Rattle.std.proofs.Common.{◌≡◌, ◌≢◌, ◌==◌, ◌∙◌, Err, List, Ok, Result, Bool, true, false, [], length, map, ℕ, sym, ap, subst, arith, inl, refl}
 use Rattle.std.specs.List.{All}
 use Rattle.std.specs.Prelude.{IfErr, if◌then◌else◌}
 use Rattle.std.proofs.lemmas.Grind.{common_steps}
@@ -8,6 +8,7 @@ use Rattle.dds_base.specs.declared.happening.SamplePosition.{SamplePosition}
 use Rattle.dds_base.specs.declared.qos.ReaderQos.{ReaderQos}
 use Rattle.dds_base.specs.declared.sample.Sample.{Sample}
 use Rattle.dds_base.specs.Access.{collection_of}
+use Rattle.dds_cache.specs.Positions.{PositionList}
 use Rattle.dds_cache.specs.declared.access.Candidate.{Candidate}
 use Rattle.dds_cache.specs.declared.access_kind.AccessKind.TheVariants.{Take}
 use Rattle.dds_cache.specs.declared.kept.Kept.{Kept}
@@ -58,7 +59,7 @@ returns-clause-answer g c = λ h stands.
     let first : c.in_ok-first.first.items ≡ collection_of q h (map sample_in cs) =
     c.in_ok-first.ensures.same ∙ collected-is q h c.deref.result.now cs kept found in
     let some : picked c.args.self.now h c.args.selection (g.T.Test.meaning c.args.test.now) ≢ [] = λ none.
-    let empty : count ≡ 0 = ap (λ (v : Vec SamplePosition Global). length v.items) c.enter.ensures.positions
+    let empty : count ≡ 0 = ap (λ (ps : PositionList). length ps.items) c.enter.ensures.positions
     ∙ ap length (is.positions_are ∙ none) in
     let yes : (count == 0) ≡ true = grind (arith, nat_tests, empty) in
     let clash : true ≡ false = sym yes ∙ told.0 in absurd cc in (
