@@ -122,8 +122,5 @@ pub fn add(samples: &mut Vec<Kept>, summary: &mut Summary, kept: Kept)
 {
     summary.writes += usize::from(kept.valid_data);
     summary.chains.append(kept.sample.key, samples.len());
-    if samples.push(kept).is_err() {
-        // Room was reserved.
-        unreachable!();
-    }
+    samples.push_reserved(kept);
 }

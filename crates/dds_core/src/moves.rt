@@ -101,10 +101,7 @@ fn copied(spare: &mut Vec<Runs>, made: &Move) -> Move
     ensures same { result ≡ made.now }
     ensures room { vec_len spare.new + 1 ≡ vec_len spare.old }
 {
-    let Some(runs) = spare.pop() else {
-        // There is some.
-        unreachable!();
-    };
+    let runs = spare.pop().unwrap();
     match made {
         Move::Place {
             writer,

@@ -317,18 +317,6 @@ fn told_by(
     }
 }
 
-/// What was done where there was memory for it.
-fn done(step: Result<Step, Code>) -> Step
-    requires { IsOk step }
-    ensures { step ≡ Ok result }
-{
-    match step {
-        Ok(step) => step,
-        // Memory was made for it.
-        Err(_) => unreachable!(),
-    }
-}
-
 impl ReaderEnd {
     /// What was done where nothing was.
     fn idle(&self, row: usize) -> Step
@@ -411,27 +399,28 @@ impl ReaderEnd {
         ensures same { SameReader self.old self.new }
     {
         let Ready { row, told } = ready;
+        // Memory was made for each of them.
         match told {
-            Told::Change { number, change } => done(
+            Told::Change { number, change } => {
                 self.reader
-                    .on_data(&mut self.store, row, number, change, moment),
-            ),
-            Told::Jump { number, change } => done(
+                    .on_data(&mut self.store, row, number, change, moment)
+                    .unwrap()
+            }
+            Told::Jump { number, change } => {
                 self.reader
-                    .on_best_effort_data(&mut self.store, row, number, change, moment),
-            ),
+                    .on_best_effort_data(&mut self.store, row, number, change, moment)
+                    .unwrap()
+            }
             Told::Nothing => self.idle(row),
             Told::Gap { start, list } => {
-                done(
-                    self.reader
-                        .on_gap(&mut self.store, row, start, &list, moment),
-                )
+                self.reader
+                    .on_gap(&mut self.store, row, start, &list, moment)
+                    .unwrap()
             }
             Told::Heartbeat(heartbeat) => {
-                done(
-                    self.reader
-                        .on_heartbeat(&mut self.store, row, &heartbeat, moment),
-                )
+                self.reader
+                    .on_heartbeat(&mut self.store, row, &heartbeat, moment)
+                    .unwrap()
             }
         }
     }

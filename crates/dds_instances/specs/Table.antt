@@ -80,8 +80,7 @@ is_held table i = list_any (λ (t : InstanceTrack). same_key t.key i && t.is_hel
 
 -- it is noted right of each known instance whether something of it is present
 abbrev pub HoldsPresent : ReaderQos → List Happening → Table → Type 0
-HoldsPresent q h table =
-    (i : Key) → is_known q h i ≡ true → is_held table i ≡ has_there q h i (last_marker q i h)
+HoldsPresent q h table = (i : Key) → is_known q h i ≡ true → is_held table i ≡ has_there q h i (last_marker q i h)
 
 -- it is noted right of each known instance whether something of it is present once a take has returned these samples
 abbrev pub HoldsLeft : ReaderQos → List Happening → List SamplePosition → Table → Type 0
@@ -90,5 +89,4 @@ HoldsLeft q h samples table =
 
 -- nobody is registered for the instance of some of these samples
 abbrev pub is_any_left : ReaderQos → List Happening → List SamplePosition → Bool
-is_any_left q h samples =
-    list_any (λ (s : SamplePosition). is_nobody (registered_writers q s.key h)) samples
+is_any_left q h samples = list_any (λ (s : SamplePosition). is_nobody (registered_writers q s.key h)) samples

@@ -258,10 +258,8 @@ fn index_anew(index: &mut IndexSet<Key>, tracks: &[InstanceTrack])
 {
     index.clear();
     for track in tracks {
-        if index.insert(track.key).is_err() {
-            // No more keys are there than there were.
-            unreachable!();
-        }
+        // No more keys are there than there were.
+        index.insert(track.key).unwrap();
     }
 }
 

@@ -32,8 +32,6 @@ pub fn put_last(index: &mut IndexSet<Key>, tracks: &mut Vec<InstanceTrack>, trac
     ensures len { vec_len tracks.new ≡ vec_len tracks.old + 1 }
     ensures capacity { vec_capacity tracks.old ≤ vec_capacity tracks.new }
 {
-    if index.insert(track.key).is_err() || tracks.push(track).is_err() {
-        // Room was reserved.
-        unreachable!();
-    }
+    index.insert(track.key).unwrap();
+    tracks.push_reserved(track);
 }

@@ -44,10 +44,7 @@ fn add_untold(told: &mut Vec<Option<i32>>, writers: usize)
     ensures { told.new.items ≡ told.old.items ++ replicate writers None }
 {
     for _ in 0..writers {
-        if told.push(None).is_err() {
-            // Room was reserved.
-            unreachable!();
-        }
+        told.push_reserved(None);
     }
 }
 

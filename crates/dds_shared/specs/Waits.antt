@@ -58,8 +58,7 @@ IsMissedLook seat wait_set es =
 
 -- an end of the wait, if there was one
 abbrev pub IsEndOfWait : ℕ → ℕ → List Entry → Type 0
-IsEndOfWait seat wait_set es =
-    (es ≡ []) ⊎ ((o : Output) × (es ≡ entry_of seat (Call (WaitEnd wait_set)) o ∷ []))
+IsEndOfWait seat wait_set es = (es ≡ []) ⊎ ((o : Output) × (es ≡ entry_of seat (Call (WaitEnd wait_set)) o ∷ []))
 
 -- a look that found no memory, and an end of the wait
 abbrev pub GivesUp : ℕ → ℕ → List Entry → Type 0

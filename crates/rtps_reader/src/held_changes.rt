@@ -89,10 +89,7 @@ impl HeldChanges {
             (if n % window_width == number % window_width then None else held_at self.old n) }
         ensures count { count_held self.new + 1 ≡ count_held self.old }
     {
-        let Some(change) = self.places[place_of(number)].take() else {
-            // One is held there.
-            unreachable!();
-        };
+        let change = self.places[place_of(number)].take().unwrap();
         self.count -= 1;
         change
     }

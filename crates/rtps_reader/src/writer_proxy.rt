@@ -74,9 +74,9 @@ fn mark_if(window: &mut Window, number: u64, named: bool)
         (if (named && can_mark window.old number) && (number == n) then Some mark.Irrelevant
         else mark_of window.old n) }
 {
-    if named && window.mark(Sn::new(number), Mark::Irrelevant).is_err() {
+    if named {
         // A mark is never refused.
-        unreachable!();
+        window.mark(Sn::new(number), Mark::Irrelevant).unwrap();
     }
 }
 
@@ -115,14 +115,8 @@ fn note_run<S: Sink>(sink: &mut S, source: &Source, from: u64, to: u64, runs: &m
     }
     let first = Sn::new(from);
     let last = Sn::new(to - 1);
-    if runs.push(PassedRun { first, last }).is_err() {
-        // Room was reserved.
-        unreachable!();
-    }
-    if sink.pass(source.publication, first, last).is_err() {
-        // Room was reserved.
-        unreachable!();
-    }
+    runs.push_reserved(PassedRun { first, last });
+    sink.pass(source.publication, first, last).unwrap();
 }
 
 /// The runs that were passed over. Where there are none, their memory is kept as room for those of the next step.
@@ -145,9 +139,8 @@ fn hear_if<S: Sink>(sink: &mut S, source: &Source, liveliness: bool)
     ensures qos { S.qos sink.new ≡ S.qos sink.old }
     ensures spare { S.spare sink.old ≤ S.spare sink.new + 1 }
 {
-    if liveliness && sink.hear(source.publication, source.moment).is_err() {
-        // Room was reserved.
-        unreachable!();
+    if liveliness {
+        sink.hear(source.publication, source.moment).unwrap();
     }
 }
 
@@ -302,10 +295,7 @@ impl WriterProxy {
             self.held.put(place, arrival.change);
             return false;
         }
-        if sink.come(arrival).is_err() {
-            // Room was reserved.
-            unreachable!();
-        }
+        sink.come(arrival).unwrap();
         self.window.pass(Sn::new(place.number() + 1));
         true
     }
@@ -344,11 +334,8 @@ impl WriterProxy {
         ensures held { count_held self.new.held ≤ count_held self.old.held + 1 }
         ensures runs { self.new.runs ≡ self.old.runs }
     {
-        let Ok(is_new) = self.window.mark(number, Mark::Held) else {
-            // A mark is never refused.
-            unreachable!();
-        };
-        if is_new {
+        // A mark is never refused.
+        if self.window.mark(number, Mark::Held).unwrap() {
             self.held.put(number, change);
         }
     }
@@ -508,10 +495,7 @@ impl WriterProxy {
         let place = self.window.place().number();
         let number = arrival.number.number();
         note_run(sink, source, place, number, &mut runs);
-        if sink.come(arrival).is_err() {
-            // Room was reserved.
-            unreachable!();
-        }
+        sink.come(arrival).unwrap();
         self.jump(Sn::new(number + 1));
         let passed = passed_of(self.alloc, runs, &mut self.runs);
         Step {

@@ -2,7 +2,8 @@
 //!
 //! RTPS 2.5, 8.3.4 (the message receiver) and 9.4.
 
-ghost use Rattle.std.specs.Prelude.{◌≡◌, ◌+◌, ◌≤◌, ◌<◌, ℕ, List, length, IfOk, IfErr, IfSome, IfNone, Some, []};
+ghost use Rattle.std.specs.Prelude.{◌≡◌, ◌+◌, ◌≤◌, ◌<◌, ℕ, List, length, IfOk, IfErr, IfSome, IfNone, Some, [], unwrap_or};
+ghost use Rattle.rtps_wire.specs.declared.submessage.Submessage.TheVariants.{Other};
 ghost use Rattle.dds_base.specs.declared.guid.GuidPrefix.{GuidPrefix as GuidPrefixOf};
 ghost use Rattle.rtps_wire.specs.Frames.{IsEnd};
 ghost use Rattle.rtps_wire.specs.SubmessageAt.{known_at};
@@ -24,42 +25,49 @@ use crate::submessage::{Submessage, Submessages};
 use dds_base::{Code, GuidPrefix};
 use std::alloc::Global;
 
-/// The submessage of a known kind, where it is valid.
+/// The submessage of an id, flags and a body: one of a known kind where it is valid, else `Submessage::Other`.
 // As a call of its own it stores the fields of that kind alone; within a caller LLVM gathers those of all kinds first.
 #[inline(never)]
 #[tactic(auto, unfolding(crate::specs::SubmessageAt::known_at))]
-fn known_of(id: u8, flags: u8, body: &[u8]) -> Option<Submessage<'_>>
-    ensures { result ≡ known_at id flags body.now }
+fn known_or_other(id: u8, flags: u8, body: &[u8]) -> Submessage<'_>
+    ensures { result ≡ unwrap_or (known_at id flags body.now) (Other id) }
 {
     if id == ID_PAD {
-        return Some(Submessage::Pad);
+        return Submessage::Pad;
     }
     if id == ID_INFO_DST {
-        return Some(Submessage::InfoDst(info_dst_of(body)?));
+        if let Some(prefix) = info_dst_of(body) {
+            return Submessage::InfoDst(prefix);
+        }
+    } else if id == ID_INFO_TS {
+        if let Some(stamp) = info_ts_of(flags, body) {
+            return Submessage::InfoTs(stamp);
+        }
+    } else if id == ID_DATA {
+        if let Some(data) = data_of(flags, body) {
+            return Submessage::Data(data);
+        }
+    } else if id == ID_HEARTBEAT {
+        if let Some(heartbeat) = heartbeat_of(flags, body) {
+            return Submessage::Heartbeat(heartbeat);
+        }
+    } else if id == ID_ACKNACK {
+        if let Some(acknack) = acknack_of(flags, body) {
+            return Submessage::AckNack(acknack);
+        }
+    } else if id == ID_GAP {
+        if let Some(gap) = gap_of(flags, body) {
+            return Submessage::Gap(gap);
+        }
     }
-    if id == ID_INFO_TS {
-        return Some(Submessage::InfoTs(info_ts_of(flags, body)?));
-    }
-    if id == ID_DATA {
-        return Some(Submessage::Data(data_of(flags, body)?));
-    }
-    if id == ID_HEARTBEAT {
-        return Some(Submessage::Heartbeat(heartbeat_of(flags, body)?));
-    }
-    if id == ID_ACKNACK {
-        return Some(Submessage::AckNack(acknack_of(flags, body)?));
-    }
-    if id == ID_GAP {
-        return Some(Submessage::Gap(gap_of(flags, body)?));
-    }
-    None
+    Submessage::Other(id)
 }
 
 /// The submessage of an id, flags and a body.
 fn submessage_of(id: u8, flags: u8, body: &[u8]) -> Submessage<'_>
     ensures { Reads id flags body.now result }
 {
-    known_of(id, flags, body).unwrap_or(Submessage::Other(id))
+    known_or_other(id, flags, body)
 }
 
 /// The sender of a message, and the bytes of its submessages: `next_submessage` reads those. `None` where the bytes are

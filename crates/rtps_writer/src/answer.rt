@@ -53,10 +53,7 @@ fn put_first(answers: &mut Vec<Answer>, answer: Answer)
     ensures len { vec_len answers.new ≡ vec_len answers.old + 1 }
     ensures capacity { vec_capacity answers.old ≤ vec_capacity answers.new }
 {
-    if answers.insert(0, answer).is_err() {
-        // There is room for one more.
-        unreachable!();
-    }
+    answers.insert(0, answer).unwrap();
 }
 
 /// Puts the answer for a number before those for greater ones. There is room for one more.

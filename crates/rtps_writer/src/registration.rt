@@ -59,8 +59,7 @@ pub fn note(keys: &mut IndexSet<Key>, key: Key, kind: ChangeKind)
 {
     if kind.is_unregister() {
         unregister(keys, key);
-    } else if register(keys, key).is_err() {
-        // Room was reserved.
-        unreachable!();
+    } else {
+        register(keys, key).unwrap();
     }
 }
