@@ -1,6 +1,6 @@
 -- What tells an assertion of a writer is what is due for it.
 use Rattle.std.proofs.Common.{◌≡◌, ℕ, ◌+◌, ◌-◌, ◌^◌, ◌<◌, Bool, true, false, List, [], ◌∷◌, ◌++◌, Option, Some, None, map, take, length, get_or, refl, ap, sym, ◌∙◌, subst, length-append}
-use Rattle.std.specs.Prelude.{ℤ, pos, nat_le, nat_lt, if◌then◌else◌}
+use Rattle.std.specs.Prelude.{ℤ, pos, nat_le, if◌then◌else◌}
 use Rattle.std.proofs.lemmas.List.{take_more, map-append}
 use Rattle.std.proofs.lemmas.Option.{same_Some}
 use Rattle.dds_base.specs.declared.code.Code.{Code}

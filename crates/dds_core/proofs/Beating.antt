@@ -4,11 +4,11 @@ use Rattle.std.specs.Prelude.{ℤ, pos, find, nat_le, nat_lt, if◌then◌else�
 use Rattle.std.specs.List.{list_any}
 use Rattle.std.specs.Option.{unwrap_or}
 use Rattle.std.proofs.lemmas.Bool.Decides.{nat_tests}
-use Rattle.std.proofs.lemmas.List.{take_more, take_all, length-map, length-take}
+use Rattle.std.proofs.lemmas.List.{take_more, take_all, length-take}
 use Rattle.std.proofs.lemmas.Option.{same_Some, slice_get-get_or}
 use Rattle.dds_base.specs.declared.guid.GuidPrefix.{GuidPrefix}
 use Rattle.dds_base.specs.Kept.{WriterHistory, first_kept, is_kept, numbers_from}
-use Rattle.dds_base.specs.Written.{Ticked, counts_of}
+use Rattle.dds_base.specs.Written.{counts_of}
 use Rattle.rtps_wire.specs.declared.message.Message.{Message}
 use Rattle.rtps_wire.specs.declared.submessage.Submessage.{Submessage}
 use Rattle.rtps_wire.specs.Messages.{IsWritable, HasFrame, HasSubmessage, ReadsAll, ReadsMessage, spelling_of}

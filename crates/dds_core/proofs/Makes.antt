@@ -1,5 +1,5 @@
 -- A change of one of the peer's writers is made and announced, or refused.
-use Rattle.std.proofs.Common.{◌≡◌, ℕ, zero, suc, ◌+◌, ◌-◌, ◌<◌, true, List, [], ◌∷◌, ◌++◌, Some, None, map, set, length, slice_get, refl, ap, sym, ◌∙◌, subst, arith, get_or, get_or-set_same}
+use Rattle.std.proofs.Common.{◌≡◌, ℕ, zero, suc, ◌+◌, ◌-◌, ◌<◌, true, List, [], ◌∷◌, ◌++◌, Some, None, set, length, slice_get, refl, ap, sym, ◌∙◌, subst, arith, get_or, get_or-set_same}
 use Rattle.std.specs.Prelude.{nat_lt, if◌then◌else◌, Option, ℤ}
 use Rattle.std.proofs.lemmas.Bool.Decides.{nat_tests}
 use Rattle.std.proofs.lemmas.Option.{slice_get-get_or}

@@ -9,7 +9,7 @@ use Rattle.dds_machine.specs.declared.call.Call.TheVariants as call
 use Rattle.dds_machine.specs.declared.endpoint.Endpoint.{Endpoint}
 use Rattle.dds_machine.specs.declared.reply.Reply.TheVariants.{Done, Refused}
 use Rattle.dds_machine.specs.Numbered.{has_element}
-use Rattle.dds_machine.specs.Part.{Part, Writer, own_writer}
+use Rattle.dds_machine.specs.Part.{Writer, own_writer}
 use Rattle.dds_machine.specs.Refusals.{strength_refusal}
 use Rattle.dds_protocol.specs.declared.event.Event.TheVariants as event
 use Rattle.dds_protocol.specs.Peer.{Peer}

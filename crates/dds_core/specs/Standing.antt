@@ -18,7 +18,6 @@ use Rattle.rtps_reader.specs.Reader.{Tracks}
 use Rattle.rtps_writer.specs.Standing.{Kept, reader_count, StandsFor as RtpsStandsFor}
 use Rattle.rtps_writer.specs.WriterState.{WriterState}
 use Rattle.dds_machine.specs.declared.endpoint.Endpoint.{Endpoint}
-use Rattle.dds_protocol.specs.declared.event.Event.TheVariants as event
 use Rattle.dds_protocol.specs.Dues.{AreTellable}
 use Rattle.dds_machine.specs.Opening.{matched_readers}
 use Rattle.dds_machine.specs.Part.{Writer, Reader, ReaderProxy, WriterProxy, has_readers, no_writer, no_reader, own_writer, place_of}
