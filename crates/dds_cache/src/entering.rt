@@ -83,6 +83,12 @@ pub fn enter_access(
     settle(alloc, kind, samples, summary, access);
     match kind {
         AccessKind::Read => instances.read(access.positions.as_slice()).unwrap(),
-        AccessKind::Take => take_out(instances, qos, samples, summary, access.positions.as_slice()),
+        AccessKind::Take => take_out(
+            instances,
+            qos,
+            samples,
+            summary,
+            access.positions.as_slice(),
+        ),
     }
 }

@@ -16,7 +16,7 @@ use std::slice;
 pub struct Positions {
     /// The only one, where there is one.
     only: Option<SamplePosition>,
-    /// The samples, where there is no other number of them.
+    /// The samples, where there is none, or more than one.
     list: Vec<SamplePosition>,
 }
 

@@ -112,15 +112,15 @@ impl Owners {
         enter(&mut self.registrations, dead, false);
     }
 
-    /// Finds out who owns the instance, where that is asked and not known: until somebody is registered anew, the owner's
-    /// registration ends, or a strength changes, nobody else need be asked.
+    /// Finds out who owns the instance, where ownership is EXCLUSIVE and the owner is not known: until a writer is registered
+    /// that was not, the owner's registration ends, or a strength changes, `accepted` and `owner` look at no other one.
     ///
     /// DDS 1.4, 2.2.3 (OWNERSHIP, OWNERSHIP_STRENGTH).
     pub fn keep_owner(&mut self, qos: &ReaderQos, strengths: &Strengths)
         // It stands for what it stood for.
         ensures same { (i : Key) (h : List Happening) → StandsFor self.old qos.now i h
             → TellsStrengths strengths.now qos.now h → StandsFor self.new qos.now i h }
-        // As many are registered as before.
+        // Somebody is registered exactly where somebody was.
         ensures writers { has_writers self.new ≡ has_writers self.old }
     {
         if qos.ownership == OwnershipQos::Exclusive

@@ -34,12 +34,12 @@ returns-then-unwrap-clause-sound c =
     record {
       kept = keeps_held c.args.self.now.window c.mark.new.self c.args.self.now.held c.put.new.self c.args.number
           c.args.change c.unwrap.result was.kept (sym (new_is c.args.self.now.window c.args.number c.mark.result c.unwrap.result c.unwrap.ensures
-      c.mark.ensures.answer) ∙ c.if-unwrap.true) c.if-unwrap.true
+          c.mark.ensures.answer) ∙ c.if-unwrap.true) c.if-unwrap.true
           c.mark.ensures.place (marks_are c.args.self.now.window c.mark.new.self c.args.number c.mark.result c.unwrap.result
           c.unwrap.ensures c.mark.ensures.marks) c.put.ensures.each;
       from = search rules;
       unmarked = λ n high. unmarked_held c.unwrap.result (c.args.number == n) _ _ (marks_are c.args.self.now.window c.mark.new.self c.args.number c.mark.result c.unwrap.result
-      c.unwrap.ensures c.mark.ensures.marks n)
+          c.unwrap.ensures c.mark.ensures.marks n)
           (ne_eqb c.args.number n (λ e. omega (arith, e, small, high))) (was.unmarked n high);
       place_is_small = search rules;
       first_is_small = was.first_is_small;
@@ -61,12 +61,12 @@ returns-then-unwrap-clause-holds c = record {
 pub returns-else-unwrap-clause-sound : goal.returns-else-unwrap-clause-sound
 returns-else-unwrap-clause-sound c =
     rw (c.mark.ensures.refused (sym (new_is c.args.self.now.window c.args.number c.mark.result c.unwrap.result c.unwrap.ensures
-      c.mark.ensures.answer) ∙ c.if-unwrap.false)).1 c.requires.sound
+    c.mark.ensures.answer) ∙ c.if-unwrap.false)).1 c.requires.sound
 
 pub returns-else-unwrap-clause-holds : goal.returns-else-unwrap-clause-holds
 returns-else-unwrap-clause-holds c =
     let can = sym (new_is c.args.self.now.window c.args.number c.mark.result c.unwrap.result c.unwrap.ensures
-      c.mark.ensures.answer) ∙ c.if-unwrap.false in
+    c.mark.ensures.answer) ∙ c.if-unwrap.false in
     rw (c.mark.ensures.refused can).1 (record {
       place = refl;
       slots = λ n. slot_not_held c.args.self.now.window c.args.self.now.held c.args.number n c.args.change
