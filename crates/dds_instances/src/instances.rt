@@ -18,12 +18,12 @@ use crate::keeping::{
     note_strength, see_all, take_up,
 };
 use crate::known::{KnownInstance, told, view_of};
+use crate::place::KeyIndex;
 use crate::track::{InstanceTrack, begins_dead, begins_left, count_if};
 use dds_base::{
     Arrival, Code, Handle, InstanceState, Key, OwnershipQos, ReaderQos, SamplePosition, ViewState,
 };
 use dds_owner::{Owners, Strengths};
-use indexmap::IndexSet;
 use std::alloc::Global;
 use std::marker::Model;
 
@@ -45,7 +45,7 @@ pub struct Instances {
     /// For how many more there is memory.
     room: usize,
     /// The keys of the known instances.
-    index: IndexSet<Key>,
+    index: KeyIndex,
     /// These, in the order of their handles.
     tracks: Vec<InstanceTrack>,
     /// Owners of the instances to come.
@@ -104,7 +104,7 @@ impl Instances {
             begun: 0,
             happened: 0,
             room: 0,
-            index: IndexSet::new(alloc),
+            index: KeyIndex::new(alloc),
             tracks: Vec::new(alloc),
             blanks: Vec::new(alloc),
         }
@@ -139,7 +139,7 @@ impl Instances {
         if u64::MAX - self.happened < additional as u64 {
             return Err(Code::Memory);
         }
-        self.index.reserve(additional)?;
+        self.index.set.reserve(additional)?;
         self.tracks.reserve(additional)?;
         add_blanks(&mut self.blanks, self.alloc, self.writers, additional)?;
         self.strengths.reserve(self.writers)?;

@@ -10,7 +10,7 @@ succeeded (Err e) x good given = absurd cc
 
 pub loop-track-preserved : goal.loop-track-preserved
 loop-track-preserved c = record {
-  keys = indexed-more c.args.tracks.now c.loop-track.track-index c.track-item.result c.loop-track.index.keys _
+  keys = indexed-more c.args.tracks.now c.loop-track.track-index c.track-item.result c.loop-track.index.set.keys _
       c.requires.distinct c.loop-track-test.true c.track-item.is c.loop-track.invariant.keys
       (succeeded c.insert.result c.unwrap.result c.unwrap.ensures c.insert.ensures.keys);
   room = omega (arith, c.loop-track.invariant.room, c.insert.ensures.spare);

@@ -6,6 +6,6 @@ use Rattle.dds_instances.proofs.keeping.index_anew.Given as goal
 
 abbrev pub invariant-loop-track : goal.invariant-loop-track
 invariant-loop-track l = record {
-  keys : l.index.keys ≡ map key_of (take l.track-index l.tracks);
-  room : index_set_len l.fn.index + spare l.fn.index ≤ spare l.index + l.track-index;
+  keys : l.index.set.keys ≡ map key_of (take l.track-index l.tracks);
+  room : index_set_len l.fn.index.set + spare l.fn.index.set ≤ spare l.index.set + l.track-index;
 }
