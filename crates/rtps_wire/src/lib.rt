@@ -40,6 +40,7 @@
 #![tactic(auto)]
 
 mod acknack;
+mod announcement;
 mod content;
 mod data;
 mod field;
@@ -61,6 +62,7 @@ mod submessage;
 mod write;
 
 pub use acknack::AckNack;
+pub use announcement::write_change;
 pub use data::{ChangeBody, Data, DataContent};
 pub use field::MAX_SN;
 pub use gap::Gap;

@@ -96,7 +96,7 @@ fn text_len(submessage: &Submessage) -> usize
 }
 
 /// How many zeros follow fields that take so many octets, up to a multiple of 4.
-fn zeros_after(len: usize) -> usize
+pub fn zeros_after(len: usize) -> usize
     ensures len { result ≡ length (padding len) }
     ensures few { result < LEN_ALIGNED }
     ensures zeros { replicate result 0 ≡ padding len }
@@ -105,7 +105,7 @@ fn zeros_after(len: usize) -> usize
 }
 
 /// Appends as many zeros.
-fn put_zeros(out: &mut Vec<u8>, count: usize) -> Result<(), Code>
+pub fn put_zeros(out: &mut Vec<u8>, count: usize) -> Result<(), Code>
     requires { count < LEN_ALIGNED }
     ensures ok { OnOk result (out.new.items ≡ out.old.items ++ replicate count 0) }
     ensures memory { IfErr result (λ e. e ≡ Code.Memory) }
@@ -205,7 +205,7 @@ pub fn is_writable(message: &Message) -> bool
 }
 
 /// Appends the header of a message.
-fn put_header(out: &mut Vec<u8>, prefix: &GuidPrefix) -> Result<(), Code>
+pub fn put_header(out: &mut Vec<u8>, prefix: &GuidPrefix) -> Result<(), Code>
     ensures ok { OnOk result
         (out.new.items ≡ out.old.items ++ header_text minor_version vendor_unknown prefix.now) }
     ensures memory { IfErr result (λ e. e ≡ Code.Memory) }

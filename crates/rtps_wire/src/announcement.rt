@@ -1,0 +1,103 @@
+//! The message that announces a change, to bytes, with no list of its submessages.
+//!
+//! RTPS 2.5, 8.3.7 (INFO_DST, INFO_TS, DATA) and 9.4.
+
+ghost use Rattle.std.specs.Prelude.{◌≡◌, ◌<◌, ◌≤◌, ◌+◌, [], ◌∷◌, ◌++◌, length, Some, OnOk, IfOk, IfErr};
+ghost use Rattle.rtps_wire.specs.declared.submessage.Submessage.TheVariants as submessage;
+ghost use Rattle.rtps_wire.specs.Data.{IsContent, content_flags};
+ghost use Rattle.rtps_wire.specs.Frames.{frame_text};
+ghost use Rattle.rtps_wire.specs.Messages.{IsWritable, spelling_of};
+ghost use Rattle.rtps_wire.specs.Names.{id_data};
+ghost use Rattle.rtps_wire.specs.Submessages.{spelling_of_submessage};
+
+use crate::data::{Data, DataContent, content_flags, content_len, put_data};
+use crate::field::put_u64;
+use crate::names::{
+    FLAG_ENDIANNESS, ID_DATA, ID_INFO_DST, ID_INFO_TS, LEN_DATA_HEAD, LEN_HEADER, LEN_MOMENT,
+    LEN_PREFIX, LEN_SUBMESSAGE_HEADER,
+};
+use crate::write::{put_header, put_zeros, zeros_after};
+use dds_base::{Code, GuidPrefix};
+use std::alloc::Global;
+
+/// What stands before the DATA: the header of the message, INFO_DST and INFO_TS.
+const LEN_FRONT: usize = LEN_HEADER
+    + LEN_SUBMESSAGE_HEADER
+    + LEN_PREFIX
+    + LEN_SUBMESSAGE_HEADER
+    + LEN_MOMENT;
+
+/// Appends an INFO_DST.
+fn put_info_dst(out: &mut Vec<u8>, to: &GuidPrefix) -> Result<(), Code>
+    ensures ok { OnOk result
+        (out.new.items ≡ out.old.items ++ spelling_of_submessage (submessage.InfoDst to.now)) }
+    ensures memory { IfErr result (λ e. e ≡ Code.Memory) }
+{
+    out.extend_from_slice(&[ID_INFO_DST, FLAG_ENDIANNESS, LEN_PREFIX as u8, 0])?;
+    out.extend_from_slice(&to.0)?;
+    Ok(())
+}
+
+/// Appends an INFO_TS of this moment.
+fn put_info_ts(out: &mut Vec<u8>, moment: u64) -> Result<(), Code>
+    ensures ok { OnOk result
+        (out.new.items ≡ out.old.items ++ spelling_of_submessage (submessage.InfoTs (Some moment))) }
+    ensures memory { IfErr result (λ e. e ≡ Code.Memory) }
+{
+    out.extend_from_slice(&[ID_INFO_TS, FLAG_ENDIANNESS, LEN_MOMENT as u8, 0])?;
+    put_u64(out, moment)
+}
+
+/// Appends the header of a DATA, whose body takes so many octets.
+fn put_data_header(out: &mut Vec<u8>, content: &DataContent, len: u16) -> Result<(), Code>
+    ensures ok { OnOk result (out.new.items
+        ≡ out.old.items ++ frame_text id_data (content_flags content.now) len []) }
+    ensures memory { IfErr result (λ e. e ≡ Code.Memory) }
+{
+    let [low, high] = len.to_le_bytes();
+    out.extend_from_slice(&[ID_DATA, content_flags(content), low, high])?;
+    Ok(())
+}
+
+/// The written form of the message that announces a change: to this peer an INFO_DST, the moment of the change as an
+/// INFO_TS, in units of 2^-32 seconds, and the DATA. It is the form that `write_message` gives of that message; no list
+/// is made of its submessages, and memory is asked for once.
+///
+/// # Errors
+///
+/// `Memory` where no memory was found for the bytes.
+///
+/// RTPS 2.5, 8.3.7 and 9.4.
+pub fn write_change(
+    alloc: Global,
+    prefix: &GuidPrefix,
+    to: &GuidPrefix,
+    moment: u64,
+    change: &Data,
+) -> Result<Vec<u8>, Code>
+    // It has a written form.
+    requires writable { IsWritable (record {
+      prefix = prefix.now;
+      submessages = submessage.InfoDst to.now ∷ submessage.InfoTs (Some moment)
+          ∷ submessage.Data change.now ∷ [];
+    }) }
+    // The bytes are that form.
+    ensures ok { IfOk result (λ bytes. bytes.items ≡ spelling_of (record {
+      prefix = prefix.now;
+      submessages = submessage.InfoDst to.now ∷ submessage.InfoTs (Some moment)
+          ∷ submessage.Data change.now ∷ [];
+    })) }
+    // The only refusal is for want of memory.
+    ensures memory { IfErr result (λ e. e ≡ Code.Memory) }
+{
+    let len = LEN_DATA_HEAD + content_len(&change.content);
+    let zeros = zeros_after(len);
+    let mut out = Vec::with_capacity(alloc, LEN_FRONT + LEN_SUBMESSAGE_HEADER + len + zeros)?;
+    put_header(&mut out, prefix)?;
+    put_info_dst(&mut out, to)?;
+    put_info_ts(&mut out, moment)?;
+    put_data_header(&mut out, &change.content, (len + zeros) as u16)?;
+    put_data(&mut out, change)?;
+    put_zeros(&mut out, zeros)?;
+    Ok(out)
+}
