@@ -2,19 +2,18 @@
 //!
 //! RTPS 2.5, 8.4.9 (the behaviour of a reliable StatefulWriter).
 
-ghost use Rattle.std.specs.Prelude.{◌≡◌, ◌+◌, ◌^◌, ◌<◌, ◌≤◌, [], ◌∷◌, length, set};
+ghost use Rattle.std.specs.Prelude.{◌≡◌, ◌+◌, ◌^◌, ◌<◌, ◌≤◌, [], ◌∷◌, length};
 ghost use Rattle.dds_base.specs.Bounds.{max_changes};
 ghost use Rattle.rtps_wire.specs.Data.{IsContent};
 ghost use Rattle.rtps_wire.specs.Messages.{IsWritable};
-ghost use Rattle.rtps_wire.specs.declared.submessage.Submessage.TheVariants.{InfoDst};
 ghost use Rattle.dds_core.specs.Beating.{AddsTo, due_to};
 ghost use Rattle.dds_core.specs.Sending.{AreMessages, max_unsent};
-ghost use Rattle.dds_core.specs.Announcing.{Announces, AreAnnouncements, AddsPacket, IsAddressable};
+ghost use Rattle.dds_core.specs.Announcing.{message_of, AreAnnouncements, AddsOctets, AddsPacket};
 
 use crate::matching::Destination;
 use dds_base::{EntityId, GuidPrefix, Moment, Octets, Sn};
 use dds_protocol::Packet;
-use rtps_wire::{Data, DataContent, Message, Submessage, Submessages, write_message};
+use rtps_wire::{Data, DataContent, Message, write_change, write_message};
 use std::alloc::Global;
 
 /// Who announces a change, and when it was made.
@@ -33,30 +32,12 @@ pub struct Announced {
     pub unsent: u64,
 }
 
-/// The message that announces a change, without a peer that it is for.
-fn message<'a>(alloc: Global, sender: &Sender, number: Sn, content: DataContent<'a>) -> Message<'a>
-    requires first { 1 ≤ number }
-    requires small { number ≤ max_changes }
-    requires valid { IsContent content }
-    ensures says { Announces sender.now number content.entry result }
-    ensures writable { IsAddressable result }
+/// Adds the packet of these bytes to a peer, if there is memory for it.
+fn push_bytes(packets: &mut Vec<Packet>, bytes: Vec<u8>, to: u8)
+    ensures { AddsOctets packets.old.items bytes.items to packets.new.items }
 {
-    // These show the prover how many octets the names have.
-    let (_prefix, _entity) = (sender.prefix.as_slice(), sender.entity.as_slice());
-    let data = Data {
-        reader_id: EntityId::UNKNOWN,
-        writer_id: sender.entity,
-        writer_sn: number,
-        content,
-    };
-    let mut submessages = Submessages::new(alloc);
-    submessages.push_in_place(Submessage::InfoDst(GuidPrefix::UNKNOWN));
-    submessages.push_in_place(Submessage::InfoTs(Some(sender.moment.units())));
-    submessages.push_in_place(Submessage::Data(data));
-    Message {
-        prefix: sender.prefix,
-        submessages,
-    }
+    let bytes = Octets::from_vec(bytes);
+    let _ = packets.push(Packet { to, bytes });
 }
 
 /// Adds the packet of a message to a peer, if there is memory for it.
@@ -65,8 +46,7 @@ pub fn push_packet(alloc: Global, packets: &mut Vec<Packet>, message: &Message, 
     ensures { AddsPacket packets.old.items message.now to packets.new.items }
 {
     if let Ok(bytes) = write_message(alloc, message) {
-        let bytes = Octets::from_vec(bytes);
-        let _ = packets.push(Packet { to, bytes });
+        push_bytes(packets, bytes, to);
     }
 }
 
@@ -86,27 +66,28 @@ pub fn send(alloc: Global, sent: &mut Announced, message: &Message, to: u8)
     }
 }
 
-/// Adds the packet of a message that announces a change, for the peer of this destination, if there is memory for it.
+/// Adds the packet that announces a change to the peer of this destination, if there is memory for it.
 fn announce_to(
     alloc: Global,
     packets: &mut Vec<Packet>,
-    message: &mut Message,
+    sender: &Sender,
+    change: &Data,
     destination: &Destination,
 )
-    requires writable { IsAddressable message.old }
-    requires some { 1 ≤ length message.old.submessages }
-    ensures is { message.new ≡ record {
-      prefix = message.old.prefix;
-      submessages = set message.old.submessages 0 (InfoDst destination.now.prefix);
-    } }
-    ensures writable { IsWritable message.new }
-    ensures adds { AddsPacket packets.old.items message.new destination.now.peer packets.new.items }
+    requires first { 1 ≤ change.now.writer_sn }
+    requires small { change.now.writer_sn ≤ max_changes }
+    requires valid { IsContent change.now.content }
+    ensures writable { IsWritable (message_of sender.now destination.now change.now) }
+    ensures adds { AddsPacket packets.old.items
+        (message_of sender.now destination.now change.now) destination.now.peer packets.new.items }
 {
-    // This shows the prover how many octets there are.
-    let _prefix = destination.prefix.as_slice();
-    let first = Submessage::InfoDst(destination.prefix);
-    message.submessages.replace_first(first);
-    push_packet(alloc, packets, message, destination.peer);
+    // These show the prover how many octets the names have.
+    let (_from, _to) = (sender.prefix.as_slice(), destination.prefix.as_slice());
+    let (_reader, _writer) = (change.reader_id.as_slice(), change.writer_id.as_slice());
+    let moment = sender.moment.units();
+    if let Ok(bytes) = write_change(alloc, &sender.prefix, &destination.prefix, moment, change) {
+        push_bytes(packets, bytes, destination.peer);
+    }
 }
 
 /// Announces a change of this number, of which a DATA says so much, to each of these peers.
@@ -126,9 +107,14 @@ pub fn announce(
         result.packets.items }
 {
     let mut packets = Vec::new(alloc);
-    let mut message = message(alloc, sender, number, content);
+    let change = Data {
+        reader_id: EntityId::UNKNOWN,
+        writer_id: sender.entity,
+        writer_sn: number,
+        content,
+    };
     for destination in destinations {
-        announce_to(alloc, &mut packets, &mut message, destination);
+        announce_to(alloc, &mut packets, sender, &change, destination);
     }
     let unsent = (destinations.len() - packets.len()) as u64;
     Announced { packets, unsent }

@@ -1,13 +1,10 @@
 use Rattle.std.proofs.Common.{◌≤◌, length, take}
-use Rattle.dds_core.specs.Announcing.{Announces, AreAnnouncements, IsAddressable}
+use Rattle.dds_core.specs.Announcing.{AreAnnouncements}
 use Rattle.dds_core.proofs.sending.announce.Given as goal
 
 abbrev pub invariant-loop-destination : goal.invariant-loop-destination
 invariant-loop-destination l = record {
-  says : Announces l.fn.sender l.fn.number l.fn.content l.message;
   sent : AreAnnouncements l.fn.sender l.fn.number l.fn.content
       (take l.destination-index l.fn.destinations) l.packets.items;
-  writable : IsAddressable l.message;
-  some : 1 ≤ length l.message.submessages;
   few : length l.packets.items ≤ l.destination-index;
 }
