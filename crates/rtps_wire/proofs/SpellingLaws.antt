@@ -426,10 +426,15 @@ front_le (x ∷ ss) (suc i) s lt e =
     let front = length-append (spelling_of_submessage x) (flat_map spelling_of_submessage (take i ss)) in
     omega (arith, front_le ss i s (omega arith) e)
 
-pub too_long : (m : Message) (i : ℕ) (s : Submessage) → i < length m.submessages → s ≡ get_or m.submessages i s
-    → 65535 < 20 + length (flat_map spelling_of_submessage (take i m.submessages)) + length (spelling_of_submessage s)
-    → IsWritable m → ⊥
-too_long m i s lt e past w =
+pub front_short : (m : Message) (i : ℕ) (s : Submessage) → i < length m.submessages → s ≡ get_or m.submessages i s
+    → IsWritable m
+    → 20 + length (flat_map spelling_of_submessage (take i m.submessages)) + length (spelling_of_submessage s) ≤ 65535
+front_short m i s lt e w =
     let all = length-append (header_text 5 (0 ∷ 0 ∷ []) m.prefix) (flat_map spelling_of_submessage m.submessages) in
     let header = header_length 5 (0 ∷ 0 ∷ []) m.prefix refl w.prefix in
     omega (arith, w.short, front_le m.submessages i s lt e)
+
+pub too_long : (m : Message) (i : ℕ) (s : Submessage) → i < length m.submessages → s ≡ get_or m.submessages i s
+    → 65535 < 20 + length (flat_map spelling_of_submessage (take i m.submessages)) + length (spelling_of_submessage s)
+    → IsWritable m → ⊥
+too_long m i s lt e past w = omega (arith, past, front_short m i s lt e w)

@@ -2,7 +2,7 @@
 //!
 //! RTPS 2.5, 8.3.2 and 9.4.
 
-ghost use Rattle.std.specs.Prelude.{◌≡◌, ◌<◌, ◌≤◌, ◌+◌, [], ◌++◌, length, replicate, OnOk, IfOk, IfErr, IsTrue, is_some, ◌↔◌};
+ghost use Rattle.std.specs.Prelude.{◌≡◌, ◌<◌, ◌≤◌, ◌+◌, [], ◌++◌, length, replicate, OnOk, IfOk, IfErr, IsTrue, ◌↔◌};
 ghost use Rattle.rtps_wire.specs.Submessages.{id_of, flags_of, text_of, padding, IsSpellable, spelling_of_submessage};
 ghost use Rattle.rtps_wire.specs.Messages.{IsWritable, header_text, spelling_of};
 ghost use Rattle.rtps_wire.specs.Frames.{frame_text};
@@ -177,31 +177,36 @@ fn spelling_len(submessage: &Submessage) -> usize
     LEN_SUBMESSAGE_HEADER + len + zeros_after(len)
 }
 
-/// How many octets the written form of a message takes, if it has one.
-fn written_len(message: &Message) -> Option<usize>
-    ensures writable { IsTrue (is_some result) ↔ IsWritable message.now }
+/// Whether a message can be written: it has no `Submessage::Other`, each field is in its range, each value has at most
+/// `dds_base::MAX_VALUE` octets, and all of it at most `MAX_MESSAGE`.
+pub fn is_writable(message: &Message) -> bool
+    ensures writable { IsTrue result ↔ IsWritable message.now }
 {
     // This shows the prover how many octets there are.
     let _prefix = message.prefix.as_slice();
     let mut len = LEN_HEADER;
     for submessage in message.submessages.as_slice() {
         if !is_spellable(submessage) {
-            return None;
+            return false;
         }
         len += spelling_len(submessage);
         if MAX_MESSAGE < len {
-            return None;
+            return false;
         }
     }
-    Some(len)
+    true
 }
 
-/// Whether a message can be written: it has no `Submessage::Other`, each field is in its range, each value has at most
-/// `dds_base::MAX_VALUE` octets, and all of it at most `MAX_MESSAGE`.
-pub fn is_writable(message: &Message) -> bool
-    ensures writable { IsTrue result ↔ IsWritable message.now }
+/// How many octets the written form of a message takes.
+fn written_len(message: &Message) -> usize
+    requires { IsWritable message.now }
+    ensures { result ≡ length (spelling_of message.now) }
 {
-    written_len(message).is_some()
+    let mut len = LEN_HEADER;
+    for submessage in message.submessages.as_slice() {
+        len += spelling_len(submessage);
+    }
+    len
 }
 
 /// Appends the header of a message.
@@ -241,8 +246,7 @@ pub fn write_message(alloc: Global, message: &Message) -> Result<Vec<u8>, Code>
     // The only refusal is for want of memory.
     ensures memory { IfErr result (λ e. e ≡ Code.Memory) }
 {
-    let len = written_len(message).unwrap_or(LEN_HEADER);
-    let mut out = Vec::with_capacity(alloc, len)?;
+    let mut out = Vec::with_capacity(alloc, written_len(message))?;
     put_header(&mut out, &message.prefix)?;
     for submessage in message.submessages.as_slice() {
         put_submessage(&mut out, submessage)?;
