@@ -3,18 +3,19 @@
 //! RTPS 2.5, 8.3.7 (INFO_DST, INFO_TS, DATA) and 9.4.
 
 ghost use Rattle.std.specs.Prelude.{◌≡◌, ◌<◌, ◌≤◌, ◌+◌, [], ◌∷◌, ◌++◌, length, Some, OnOk, IfOk, IfErr};
+ghost use Rattle.dds_base.specs.declared.endianness.Endianness.TheVariants.{Little};
 ghost use Rattle.rtps_wire.specs.declared.submessage.Submessage.TheVariants as submessage;
-ghost use Rattle.rtps_wire.specs.Data.{IsContent, content_flags};
+ghost use Rattle.rtps_wire.specs.Data.{IsContent, content_flags, data_head};
 ghost use Rattle.rtps_wire.specs.Frames.{frame_text};
 ghost use Rattle.rtps_wire.specs.Messages.{IsWritable, spelling_of};
-ghost use Rattle.rtps_wire.specs.Names.{id_data};
+ghost use Rattle.rtps_wire.specs.Names.{id_data, extra_flags, least_octets_to_inline_qos};
 ghost use Rattle.rtps_wire.specs.Submessages.{spelling_of_submessage};
 
-use crate::data::{Data, DataContent, content_flags, content_len, put_data};
-use crate::field::put_u64;
+use crate::data::{Data, DataContent, content_flags, content_len, put_content};
+use crate::field::halves_of;
 use crate::names::{
-    FLAG_ENDIANNESS, ID_DATA, ID_INFO_DST, ID_INFO_TS, LEN_DATA_HEAD, LEN_HEADER, LEN_MOMENT,
-    LEN_PREFIX, LEN_SUBMESSAGE_HEADER,
+    EXTRA_FLAGS, FLAG_ENDIANNESS, ID_DATA, ID_INFO_DST, ID_INFO_TS, LEAST_OCTETS_TO_INLINE_QOS,
+    LEN_DATA_HEAD, LEN_HEADER, LEN_MOMENT, LEN_PREFIX, LEN_SUBMESSAGE_HEADER,
 };
 use crate::write::{put_header, put_zeros, zeros_after};
 use dds_base::{Code, GuidPrefix};
@@ -38,24 +39,37 @@ fn put_info_dst(out: &mut Vec<u8>, to: &GuidPrefix) -> Result<(), Code>
     Ok(())
 }
 
-/// Appends an INFO_TS of this moment.
-fn put_info_ts(out: &mut Vec<u8>, moment: u64) -> Result<(), Code>
-    ensures ok { OnOk result
-        (out.new.items ≡ out.old.items ++ spelling_of_submessage (submessage.InfoTs (Some moment))) }
-    ensures memory { IfErr result (λ e. e ≡ Code.Memory) }
-{
-    out.extend_from_slice(&[ID_INFO_TS, FLAG_ENDIANNESS, LEN_MOMENT as u8, 0])?;
-    put_u64(out, moment)
-}
-
-/// Appends the header of a DATA, whose body takes so many octets.
-fn put_data_header(out: &mut Vec<u8>, content: &DataContent, len: u16) -> Result<(), Code>
-    ensures ok { OnOk result (out.new.items
-        ≡ out.old.items ++ frame_text id_data (content_flags content.now) len []) }
-    ensures memory { IfErr result (λ e. e ≡ Code.Memory) }
+/// The header of a DATA, whose body takes so many octets.
+fn data_header(content: &DataContent, len: u16) -> [u8; 4]
+    ensures { result ≡ frame_text id_data (content_flags content.now) len [] }
 {
     let [low, high] = len.to_le_bytes();
-    out.extend_from_slice(&[ID_DATA, content_flags(content), low, high])?;
+    [ID_DATA, content_flags(content), low, high]
+}
+
+/// Appends the INFO_TS of this moment, and a DATA up to its number, whose body takes so many octets.
+fn put_front(out: &mut Vec<u8>, moment: u64, change: &Data, len: u16) -> Result<(), Code>
+    ensures ok { OnOk result (out.new.items
+        ≡ out.old.items ++ (spelling_of_submessage (submessage.InfoTs (Some moment))
+        ++ (frame_text id_data (content_flags change.now.content) len []
+        ++ data_head Little extra_flags least_octets_to_inline_qos
+        change.now.reader_id change.now.writer_id change.now.writer_sn))) }
+    ensures memory { IfErr result (λ e. e ≡ Code.Memory) }
+{
+    let (seconds, fraction) = halves_of(moment);
+    let (high, low) = halves_of(change.writer_sn.number());
+    let words = [
+        [ID_INFO_TS, FLAG_ENDIANNESS, LEN_MOMENT as u8, 0],
+        seconds,
+        fraction,
+        data_header(&change.content, len),
+        [EXTRA_FLAGS as u8, 0, LEAST_OCTETS_TO_INLINE_QOS as u8, 0],
+        change.reader_id.0,
+        change.writer_id.0,
+        high,
+        low,
+    ];
+    out.extend_from_slice(words.as_flattened())?;
     Ok(())
 }
 
@@ -95,9 +109,8 @@ pub fn write_change(
     let mut out = Vec::with_capacity(alloc, LEN_FRONT + LEN_SUBMESSAGE_HEADER + len + zeros)?;
     put_header(&mut out, prefix)?;
     put_info_dst(&mut out, to)?;
-    put_info_ts(&mut out, moment)?;
-    put_data_header(&mut out, &change.content, (len + zeros) as u16)?;
-    put_data(&mut out, change)?;
+    put_front(&mut out, moment, change, (len + zeros) as u16)?;
+    put_content(&mut out, &change.content)?;
     put_zeros(&mut out, zeros)?;
     Ok(out)
 }

@@ -245,7 +245,8 @@ fn put_end(out: &mut Vec<u8>, status: u8, key: &Key, strength: Option<i32>) -> R
     put_key_form(out, key)
 }
 
-fn put_content(out: &mut Vec<u8>, content: &DataContent) -> Result<(), Code>
+/// Appends what follows the number: parameters, where there are some, and the payload.
+pub fn put_content(out: &mut Vec<u8>, content: &DataContent) -> Result<(), Code>
     requires { IsContent content.now }
     ensures ok { OnOk result (out.new.items ≡ out.old.items ++ text_of_content content.now) }
     ensures memory { IfErr result (λ e. e ≡ Code.Memory) }

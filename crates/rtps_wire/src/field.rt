@@ -2,13 +2,14 @@
 //!
 //! RTPS 2.5, 9.3 and 9.4.2.
 
-ghost use Rattle.std.specs.Prelude.{◌≡◌, ◌≤◌, ◌++◌, length, IfSome, OnOk, IfErr};
+ghost use Rattle.std.specs.Prelude.{◌≡◌, ◌≤◌, ◌/◌, ◌%◌, ◌++◌, length, IfSome, OnOk, IfErr};
 ghost use Rattle.std.specs.Option.{option_map};
-ghost use Rattle.std.specs.Int.{w16};
+ghost use Rattle.std.specs.Int.{w16, w32};
 ghost use Rattle.dds_base.specs.Fields.{number};
 ghost use Rattle.dds_base.specs.FieldPairs.{both};
 ghost use Rattle.dds_base.specs.declared.endianness.Endianness.TheVariants.{Little};
 ghost use Rattle.rtps_wire.specs.Fields.{has_flag, order_of, sn_text, count_text};
+ghost use Rattle.rtps_wire.specs.Names.{half_range};
 ghost use Rattle.rtps_wire.specs.FieldAt.{entity_id_at, prefix_at, sn_at, count_at};
 
 use crate::names::{FLAG_ENDIANNESS, HALF_RANGE, LEN_ENTITY_ID, LEN_PREFIX};
@@ -120,14 +121,23 @@ pub fn put_ids(out: &mut Vec<u8>, reader: &EntityId, writer: &EntityId) -> Resul
     Ok(())
 }
 
-/// A sequence number, or a moment: two halves, the high one first.
+/// The octets of a sequence number, or of a moment: two halves, the high one first.
+pub fn halves_of(whole: u64) -> ([u8; 4], [u8; 4])
+    ensures high { result.0 ≡ number Little w32 (whole / half_range) }
+    ensures low { result.1 ≡ number Little w32 (whole % half_range) }
+{
+    let high = (whole / HALF_RANGE) as u32;
+    let low = (whole % HALF_RANGE) as u32;
+    (high.to_le_bytes(), low.to_le_bytes())
+}
+
+/// A sequence number, or a moment.
 pub fn put_u64(out: &mut Vec<u8>, number: u64) -> Result<(), Code>
     ensures ok { OnOk result (out.new.items ≡ out.old.items ++ sn_text Little number) }
     ensures memory { IfErr result (λ e. e ≡ Code.Memory) }
 {
-    let high = (number / HALF_RANGE) as u32;
-    let low = (number % HALF_RANGE) as u32;
-    out.extend_from_slice([high.to_le_bytes(), low.to_le_bytes()].as_flattened())?;
+    let (high, low) = halves_of(number);
+    out.extend_from_slice([high, low].as_flattened())?;
     Ok(())
 }
 
