@@ -2,10 +2,10 @@
 //!
 //! RTPS 2.5, 8.3.7 (INFO_DST, INFO_TS, DATA) and 9.4.
 
-ghost use Rattle.std.specs.Prelude.{◌≡◌, ◌<◌, ◌≤◌, ◌+◌, [], ◌∷◌, ◌++◌, length, Some, OnOk, IfOk, IfErr};
+ghost use Rattle.std.specs.Prelude.{◌≡◌, [], ◌∷◌, ◌++◌, Some, OnOk, IfOk, IfErr};
 ghost use Rattle.dds_base.specs.declared.endianness.Endianness.TheVariants.{Little};
 ghost use Rattle.rtps_wire.specs.declared.submessage.Submessage.TheVariants as submessage;
-ghost use Rattle.rtps_wire.specs.Data.{IsContent, content_flags, data_head};
+ghost use Rattle.rtps_wire.specs.Data.{content_flags, data_head};
 ghost use Rattle.rtps_wire.specs.Frames.{frame_text};
 ghost use Rattle.rtps_wire.specs.Messages.{IsWritable, spelling_of};
 ghost use Rattle.rtps_wire.specs.Names.{id_data, extra_flags, least_octets_to_inline_qos};
@@ -22,7 +22,7 @@ use dds_base::{Code, GuidPrefix};
 use std::alloc::Global;
 
 /// What stands before the DATA: the header of the message, INFO_DST and INFO_TS.
-const LEN_FRONT: usize = LEN_HEADER
+const LEN_BEFORE_DATA: usize = LEN_HEADER
     + LEN_SUBMESSAGE_HEADER
     + LEN_PREFIX
     + LEN_SUBMESSAGE_HEADER
@@ -73,9 +73,9 @@ fn put_front(out: &mut Vec<u8>, moment: u64, change: &Data, len: u16) -> Result<
     Ok(())
 }
 
-/// The written form of the message that announces a change: to this peer an INFO_DST, the moment of the change as an
-/// INFO_TS, in units of 2^-32 seconds, and the DATA. It is the form that `write_message` gives of that message; no list
-/// is made of its submessages, and memory is asked for once.
+/// The one written form of the message that announces a change to a peer: an INFO_DST, the moment of the change as an
+/// INFO_TS, and its DATA. The moment is in units of 2^-32 second; no list is made of the submessages, and memory is
+/// asked for once.
 ///
 /// # Errors
 ///
@@ -106,7 +106,7 @@ pub fn write_change(
 {
     let len = LEN_DATA_HEAD + content_len(&change.content);
     let zeros = zeros_after(len);
-    let mut out = Vec::with_capacity(alloc, LEN_FRONT + LEN_SUBMESSAGE_HEADER + len + zeros)?;
+    let mut out = Vec::with_capacity(alloc, LEN_BEFORE_DATA + LEN_SUBMESSAGE_HEADER + len + zeros)?;
     put_header(&mut out, prefix)?;
     put_info_dst(&mut out, to)?;
     put_front(&mut out, moment, change, (len + zeros) as u16)?;
