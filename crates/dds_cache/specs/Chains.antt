@@ -1,7 +1,7 @@
 -- Where the kept samples of each instance are found. Inner functions alone cite this: nothing here has to be believed.
 --
 -- What a reader keeps is in DDS 1.4, 2.2.2.5 (read_instance, take_instance); how it is found is this project's own.
-use Rattle.std.specs.Prelude.{◌≡◌, ◌≢◌, ℕ, ◌<◌, ◌≤◌, List, length, get_or, min, Option, None, Some, is_some, true, false}
+use Rattle.std.specs.Prelude.{◌≡◌, ◌≢◌, ℕ, ◌<◌, ◌≤◌, List, length, get_or, min, Option, None, Some, is_some, slice_get, true, false}
 use Rattle.indexmap.specs.IndexMap.{Updates, get}
 use Rattle.dds_base.specs.declared.key.Key.{Key}
 use Rattle.dds_base.specs.Happening.{same_key}
@@ -44,6 +44,11 @@ pub record IsLinked (ks : List Kept) (chains : Chains) : Type 0 where
   pub spans : (i : Key) (span : Span) → get same_key chains.spans i ≡ Some span → IsSpan ks i span
   pub each : (at : ℕ) (d : Kept) → at < length ks
       → is_some (get same_key chains.spans (get_or ks at d).sample.key) ≡ true
+
+-- the span of an instance, and the index at which it stands
+abbrev pub IsFoundAt : Chains → Key → ℕ × Span → Type 0
+IsFoundAt chains i found =
+    (slice_get chains.spans.entries found.0 ≡ Some (i, found.1)) × (get same_key chains.spans i ≡ Some found.1)
 
 -- the chains are those of the kept samples, where they are whole
 abbrev pub AreChainsOf : List Kept → Chains → Type 0

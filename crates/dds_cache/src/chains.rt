@@ -2,11 +2,11 @@
 //!
 //! DDS 1.4, 2.2.2.5 (read_instance, take_instance, read_next_instance, take_next_instance).
 
-ghost use Rattle.std.specs.Prelude.{false, true, ◌≡◌, ◌<◌, ◌≤◌, ◌∷◌, ◌++◌, [], List, length, None, Some};
+ghost use Rattle.std.specs.Prelude.{false, true, ◌≡◌, ◌<◌, ◌≤◌, ◌∷◌, ◌++◌, [], List, length, MatchOption, None, Some};
 ghost use Rattle.dds_cache.specs.declared.kept.Kept.{Kept};
-ghost use Rattle.indexmap.specs.IndexMap.{get};
+ghost use Rattle.indexmap.specs.IndexMap.{Updates, get};
 ghost use Rattle.dds_base.specs.Happening.{same_key};
-ghost use Rattle.dds_cache.specs.Chains.{AreChainsOf, AreOthers, IsFirst, IsFirstUnread, Leads, with_more};
+ghost use Rattle.dds_cache.specs.Chains.{AreChainsOf, AreOthers, IsFirst, IsFirstUnread, IsFoundAt, Leads, with_more};
 
 use crate::kept::Kept;
 use dds_base::Key;
@@ -32,6 +32,8 @@ pub struct Chains {
     links: Vec<u32>,
     /// By key, between which places the samples of an instance are.
     spans: IndexMap<Key, Span>,
+    /// The index among them of the instance that a sample was added of last: its key is compared before a key is hashed.
+    latest: usize,
     /// Whether they are of all kept samples. They are not once memory was refused, until they are made anew: samples are
     /// then found by a pass over all.
     is_whole: bool,
@@ -75,6 +77,7 @@ impl Chains {
         Chains {
             links: Vec::new(alloc),
             spans: IndexMap::new(alloc),
+            latest: 0,
             is_whole: true,
         }
     }
@@ -97,6 +100,32 @@ impl Chains {
         self.is_whole = true;
     }
 
+    /// The index of the span of an instance, and the span, if it has one.
+    fn find(&self, key: Key) -> Option<(usize, Span)>
+        ensures { MatchOption result (get same_key self.now.spans key ≡ None)
+            (IsFoundAt self.now key) }
+    {
+        if let Some((latest, span)) = self.spans.get_index(self.latest) {
+            if *latest == key {
+                return Some((self.latest, *span));
+            }
+        }
+        let (at, _, span) = self.spans.get_full(&key)?;
+        Some((at, *span))
+    }
+
+    /// Has this span at an index, in place of the one that is there.
+    fn replace(&mut self, at: usize, span: Span)
+        ensures spans { (i : Key) (before : Span) → IsFoundAt self.old i (at, before)
+            → Updates same_key self.old.spans self.new.spans i (Some span) }
+        ensures links { self.new.links ≡ self.old.links }
+        ensures whole { self.new.is_whole ≡ self.old.is_whole }
+    {
+        if let Some(before) = self.spans.get_index_mut(at) {
+            *before = span;
+        }
+    }
+
     /// Has the last sample of an instance lead to a place behind all, and those of the instance end there, if it has any.
     /// Returns whether it has.
     fn lead_to(&mut self, key: Key, place: usize) -> bool
@@ -104,16 +133,16 @@ impl Chains {
         ensures none { result ≡ false → get same_key self.old.spans key ≡ None }
         ensures same { result ≡ false → self.new ≡ self.old }
     {
-        match self.spans.get_mut(&key) {
-            None => false,
-            Some(span) => {
-                let last = span.extend(place);
-                if let Some(link) = self.links.get_mut(last) {
-                    *link = link_to(place);
-                }
-                true
-            }
+        let Some((at, mut span)) = self.find(key) else {
+            return false;
+        };
+        let last = span.extend(place);
+        self.replace(at, span);
+        self.latest = at;
+        if let Some(link) = self.links.get_mut(last) {
+            *link = link_to(place);
         }
+        true
     }
 
     /// Has the samples of an instance end at a place behind all, whether or not it has any. Returns whether there was memory
@@ -124,6 +153,7 @@ impl Chains {
         if self.lead_to(key, place) {
             return true;
         }
+        self.latest = self.spans.len();
         self.spans.insert(key, Span::of_one(place)).is_ok()
     }
 
@@ -147,9 +177,9 @@ impl Chains {
         if !self.is_whole {
             return 0;
         }
-        match self.spans.get(&key) {
+        match self.find(key) {
             None => usize::MAX,
-            Some(span) => { if is_unread { span.unread } else { span.first } }
+            Some((_, span)) => { if is_unread { span.unread } else { span.first } }
         }
     }
 
@@ -200,22 +230,14 @@ impl Chains {
         if !self.is_whole {
             return;
         }
-        let Some((at, _, span)) = self.spans.get_full(&key) else {
+        let Some((at, span)) = self.find(key) else {
             return;
         };
-        let Span {
-            first,
-            unread,
-            last,
-        } = *span;
-        let first = self.first_left(samples, key, first);
-        let unread = self.first_unread(samples, key, unread);
-        if let Some(span) = self.spans.get_index_mut(at) {
-            *span = Span {
-                first,
-                unread,
-                last,
-            };
-        }
+        let advanced = Span {
+            first: self.first_left(samples, key, span.first),
+            unread: self.first_unread(samples, key, span.unread),
+            last: span.last,
+        };
+        self.replace(at, advanced);
     }
 }

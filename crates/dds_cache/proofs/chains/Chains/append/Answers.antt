@@ -22,6 +22,7 @@ returns c = λ ks k place key chains whole.
     let new : Chains = record {
       links = c.push.new.self;
       spans = led.spans;
+      latest = led.latest;
       is_whole = led.is_whole && (c.is_ok-has_link.result && c.end_at-has_span.result);
     } in
     linked-more ks k c.args.self.now led new 4294967295 (chains (sym leads.whole ∙ all.0)) leads
