@@ -2,7 +2,7 @@
 //!
 //! DDS 1.4, 2.2.2.5 (read, take, SampleInfo); RTPS 2.5, 8.2 (HistoryCache of a reader).
 
-ghost use Rattle.std.specs.Prelude.{◌≡◌, ◌≢◌, ◌==◌, ℕ, ◌+◌, ◌-◌, ◌≤◌, ◌<◌, ◌^◌, ◌∷◌, [], if◌then◌else◌, nat_le, nat_lt, List, Some, length, IsOk, OnOk, IfOk, IfErr};
+ghost use Rattle.std.specs.Prelude.{◌≡◌, ◌≢◌, ◌==◌, ℕ, ◌+◌, ◌-◌, ◌≤◌, ◌<◌, ◌^◌, ◌∷◌, [], if◌then◌else◌, nat_le, nat_lt, List, Some, true, false, Ok, length, IsOk, OnOk, IfOk, IfErr};
 ghost use Rattle.dds_base.specs.declared.happening.Happening.{Happening};
 ghost use Rattle.dds_base.specs.declared.happening.Happening.TheVariants.{Came, Passed, Heard, Died};
 ghost use Rattle.dds_base.specs.declared.code.Code.TheVariants.{Memory, NoData};
@@ -41,6 +41,10 @@ use dds_base::{
 use dds_instances::Instances;
 use std::alloc::Global;
 use std::marker::Model;
+
+/// Where room is made, it is made for so many entries beyond those that are asked for: so most calls find it, and the tables
+/// are asked for room only now and then.
+const SPARE: usize = 16;
 
 /// What a reader holds: its instances, and its samples in the order in which they came.
 ///
@@ -105,7 +109,8 @@ impl ReaderCache {
 
     /// Makes room for so many more entries: as many that follow find it. Each of them then has a place for the sample that
     /// it brings, and one for the sample that the end of its instance leaves, so a death wants no memory.
-    /// `docs/DECISIONS.md`, "A reader's cache", says what that costs.
+    /// `docs/DECISIONS.md`, "A reader's cache", says what that costs. Where an instance is known there is room for some
+    /// entries more, if there is memory for them.
     ///
     /// # Errors
     ///
@@ -115,12 +120,39 @@ impl ReaderCache {
         // there is enough it succeeds, and it is refused for want of memory alone, and then changes nothing.
         ensures makes { MakesRoom room_of additional self.old self.new result }
     {
-        if additional <= self.room {
+        if additional <= self.room || self.make_spare(additional) {
             return Ok(());
         }
+        self.make_room(additional)
+    }
+
+    /// Makes room for so many entries and some to spare, and says whether there was memory for that; else the cache is as it
+    /// was. Where no instance is known it makes none, as nothing may ever come.
+    fn make_spare(&mut self, additional: usize) -> bool
+        requires more { room_of self.old < additional }
+        ensures makes { result ≡ true → MakesRoom room_of additional self.old self.new (Ok tt) }
+        ensures same { result ≡ false → self.new ≡ self.old }
+    {
+        if self.instances.len() == 0 {
+            return false;
+        }
+        match self.make_room(additional.saturating_add(SPARE)) {
+            Ok(()) => true,
+            Err(_) => false,
+        }
+    }
+
+    /// Makes room for so many entries. There is as much then whether the next sweep is due soon or not, so that where no more is
+    /// kept no more memory is asked for.
+    fn make_room(&mut self, additional: usize) -> Result<(), Code>
+        requires more { room_of self.old < additional }
+        ensures makes { MakesRoom room_of additional self.old self.new result }
+    {
         let entries = additional.checked_mul(2).ok_or(Code::Memory)?;
         let known = self.instances.len();
         let places = entries.checked_add(known).ok_or(Code::Memory)?;
+        let unswept = self.sweep_at.saturating_sub(self.samples.len());
+        let places = places.saturating_add(unswept.min(SPARE));
         self.samples.reserve(places)?;
         self.summary
             .chains

@@ -2,7 +2,7 @@ use Rattle.std.proofs.Common.{rules, sym, subst, refl}
 use Rattle.dds_cache.specs.Standing.{Stored, StandsFor}
 use Rattle.dds_cache.specs.Sound.{stored_of}
 use Rattle.dds_cache.proofs.StandingLaws.{stands-still}
-use Rattle.dds_cache.proofs.reader_cache.ReaderCache.reserve.Goals as goal
+use Rattle.dds_cache.proofs.reader_cache.ReaderCache.make_room.Goals as goal
 
 pub returns : goal.returns
 returns c = record {
