@@ -33,6 +33,7 @@ pub mod Takes
 pub mod TakenSoFar
 pub mod Turns
 pub mod Ready
+pub mod LastReader
 pub mod ReaderEnds
 pub mod Telling
 pub mod Taking

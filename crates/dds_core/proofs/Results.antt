@@ -1,11 +1,16 @@
 -- What is said of an answer, or of other values, said in other words.
-use Rattle.std.proofs.Common.{◌≡◌, Result, Ok, Err, sym, subst}
+use Rattle.std.proofs.Common.{◌≡◌, Result, Ok, Err, refl, sym, subst}
 use Rattle.std.specs.Prelude.{IfErr, IfOk}
 
 pub ok_as : {X E : Type 0} {P Q : X → Type 0} (result : Result X E) → ((x : X) → P x → Q x) → IfOk result P
     → IfOk result Q
 ok_as (Ok x) as_well h = as_well x h
 ok_as (Err e) as_well h = h
+
+-- what is said of each value that would be answered is said of the one that is
+pub ok_if : {X E : Type 0} {Q : X → Type 0} (result : Result X E) → ((x : X) → result ≡ Ok x → Q x) → IfOk result Q
+ok_if (Ok x) each = each x refl
+ok_if (Err e) each = tt
 
 pub err_as : {X E : Type 0} {P Q : E → Type 0} (result : Result X E) → ((e : E) → P e → Q e) → IfErr result P
     → IfErr result Q

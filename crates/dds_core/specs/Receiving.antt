@@ -3,7 +3,7 @@
 -- nothing here has to be believed.
 --
 -- RTPS 2.5, 8.3.4 (the message receiver), 8.4.12 (the behaviour of a reliable StatefulReader).
-use Rattle.std.specs.Prelude.{◌≡◌, ◌+◌, ◌≤◌, ℕ, List, ◌++◌, set, length, slice_get, Option, Some, Result, OnErr, IfErr}
+use Rattle.std.specs.Prelude.{◌≡◌, ◌+◌, ◌≤◌, ℕ, zero, suc, List, [], ◌∷◌, ◌++◌, set, length, slice_get, Option, None, Some, Result, OnErr, IfErr}
 use Rattle.dds_base.specs.declared.code.Code.{Code}
 use Rattle.dds_base.specs.declared.code.Code.TheVariants.{Memory}
 use Rattle.dds_base.specs.declared.config.Config.{Config}
@@ -36,6 +36,11 @@ CanTakeAt readers index ready = (k : ReaderKept) × (slice_get readers index ≡
 -- each reader for which something is ready can be told that
 abbrev pub AllCanTake : List ReaderKept → List (Option Ready) → Type 0
 AllCanTake readers ready = (i : ℕ) (one : Ready) → slice_get ready i ≡ Some (Some one) → CanTakeAt readers i one
+
+-- nothing is ready for any reader before the one of this index, which is the last, and this is for that one
+abbrev pub only_last : ℕ → Option Ready → List (Option Ready)
+only_last zero one = one ∷ []
+only_last (suc index) one = None ∷ only_last index one
 
 -- the reader of this index was told what was ready, and the ACKNACK that is then due was sent
 pub record TookAt (old : PeerKept) (index : ℕ) (ready : Ready) (k : ReaderKept) (moves : List Move) (sent : Announced)

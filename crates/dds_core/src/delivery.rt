@@ -3,7 +3,7 @@
 //! RTPS 2.5, 8.3.4 (the message receiver), 8.4.12 (the behaviour of a reliable StatefulReader). What the peer's writers
 //! do with an ACKNACK is in `requests`.
 
-ghost use Rattle.std.specs.Prelude.{◌≡◌, ◌++◌, ◌+◌, ◌*◌, ◌^◌, ◌<◌, ◌≤◌, [], length, None, IfSome, IfNone, IfErr, OnOk, OnErr};
+ghost use Rattle.std.specs.Prelude.{◌≡◌, ◌++◌, ◌+◌, ◌*◌, ◌^◌, ◌<◌, ◌≤◌, [], length, None, IfSome, IfNone, IfOk, IfErr, OnOk, OnErr};
 ghost use Rattle.dds_base.specs.Bounds.{max_ends};
 ghost use Rattle.dds_base.specs.declared.code.Code.TheVariants.{Memory};
 ghost use Rattle.dds_machine.specs.declared.reply.Reply.TheVariants.{Reported};
@@ -11,7 +11,7 @@ ghost use Rattle.dds_protocol.specs.declared.event.Event.TheVariants as event;
 ghost use Rattle.dds_core.specs.Stepping.{SoundSteps};
 ghost use Rattle.dds_core.specs.Sending.{AreMessages, max_unsent};
 ghost use Rattle.dds_core.specs.Readiness.{receiver_at, IsBounded, AreReady, AreAlike, IsFirstNamed, IsNamedAt, IsReadyFor, IsRowOf, NamesNone, moves_of};
-ghost use Rattle.dds_core.specs.Receiving.{CanTakeAt, TakesAt, AllCanTake, TakesAll, TellsReaders, TakesOneMore, KeepsPeer, NeedsMemory, TakesBody, StandsAsWell, ReceivesPacket};
+ghost use Rattle.dds_core.specs.Receiving.{only_last, CanTakeAt, TakesAt, AllCanTake, TakesAll, TellsReaders, TakesOneMore, KeepsPeer, NeedsMemory, TakesBody, StandsAsWell, ReceivesPacket};
 ghost use Rattle.dds_core.specs.Twins.{Twins};
 
 use crate::acknack::send_acknack;
@@ -229,6 +229,107 @@ impl Peer {
         named_reader(&self.readers, &self.prefix, receiver, submessage)
     }
 
+    /// Makes ready what a submessage tells the peer's last reader, where that is the first one that is named.
+    fn make_last_ready(
+        &mut self,
+        first: FirstNamed,
+        receiver: &MessageReceiver,
+        submessage: &Submessage,
+    ) -> Result<Option<Ready>, Code>
+        requires first { IsFirstNamed self.old.prefix
+            (receiver_at receiver.now) submessage.now self.old.readers first }
+        requires last { first.index + 1 ≡ length self.old.readers }
+        ensures ready { IfOk result
+            (λ one. AreReady self.old.prefix
+            (receiver_at receiver.now) submessage.now self.new.readers (only_last first.index one)) }
+        ensures stands { StandsAsWell self.old self.new }
+        ensures count { length self.new.readers ≡ length self.old.readers }
+        ensures prefix { self.new.prefix ≡ self.old.prefix }
+        ensures memory { IfErr result (λ code. code ≡ Memory) }
+    {
+        self.readers[first.index].prepare(Some(first.row), receiver, submessage)
+    }
+
+    /// The peer's last reader, of this index, is told what is ready for it, if something is.
+    fn take_last(
+        &mut self,
+        moves: &mut Moves,
+        sent: &mut Announced,
+        index: usize,
+        ready: Option<Ready>,
+    )
+        requires can { AllCanTake self.old.readers (only_last index ready) }
+        requires last { index + 1 ≡ length self.old.readers }
+        requires room { 2 ≤ moves.old.room }
+        requires low { sent.old.unsent < 2 ^ 60 }
+        ensures takes { TakesAll self.old (only_last index ready) moves.old.items sent.old self.new
+            moves.new.items sent.new }
+        ensures prefix { self.new.prefix ≡ self.old.prefix }
+        ensures twice { moves.new.twice ≡ moves.old.twice }
+        ensures few { sent.new.unsent ≤ sent.old.unsent + 1 }
+        ensures messages { AreMessages sent.old.packets.items → AreMessages sent.new.packets.items }
+    {
+        if let Some(one) = ready {
+            self.take_at(moves, sent, index, one);
+        }
+    }
+
+    /// The peer's last reader is told what a submessage says, where that is the first one that is named. Adds what moved.
+    fn tell_last(
+        &mut self,
+        moves: &mut Moves,
+        sent: &mut Announced,
+        first: FirstNamed,
+        receiver: &MessageReceiver,
+        submessage: &Submessage,
+    ) -> Result<(), Code>
+        requires bounded { IsBounded submessage.now }
+        requires low { sent.old.unsent < 2 ^ 60 }
+        requires first { IsFirstNamed self.old.prefix
+            (receiver_at receiver.now) submessage.now self.old.readers first }
+        requires last { first.index + 1 ≡ length self.old.readers }
+        ensures takes { OnOk result
+            (TellsReaders self.old
+            (receiver_at receiver.now) submessage.now moves.old.items sent.old self.new
+            moves.new.items sent.new) }
+        ensures twice { moves.new.twice ≡ moves.old.twice }
+        ensures keeps { KeepsPeer 16 self.old moves.old.items sent.old self.new moves.new.items
+            sent.new result }
+    {
+        let ready = self.make_last_ready(first, receiver, submessage)?;
+        moves.reserve(2)?;
+        self.take_last(moves, sent, first.index, ready);
+        Ok(())
+    }
+
+    /// Each of several readers that a submessage may name is told what it says. Adds what moved.
+    fn tell_each(
+        &mut self,
+        moves: &mut Moves,
+        sent: &mut Announced,
+        first: FirstNamed,
+        receiver: &MessageReceiver,
+        submessage: &Submessage,
+    ) -> Result<(), Code>
+        requires bounded { IsBounded submessage.now }
+        requires low { sent.old.unsent < 2 ^ 60 }
+        requires first { IsFirstNamed self.old.prefix
+            (receiver_at receiver.now) submessage.now self.old.readers first }
+        ensures takes { OnOk result
+            (TellsReaders self.old
+            (receiver_at receiver.now) submessage.now moves.old.items sent.old self.new
+            moves.new.items sent.new) }
+        ensures twice { moves.new.twice ≡ moves.old.twice }
+        ensures keeps { KeepsPeer 16 self.old moves.old.items sent.old self.new moves.new.items
+            sent.new result }
+    {
+        let mut ready = SmallVec::new(self.alloc);
+        self.make_ready(&mut ready, first, receiver, submessage)?;
+        moves.reserve(2 * ready.len())?;
+        self.take_all(moves, sent, &mut ready);
+        Ok(())
+    }
+
     /// Each reader that a submessage names is told what it says. Adds what moved. One that names none needs no memory.
     fn tell_readers(
         &mut self,
@@ -252,11 +353,10 @@ impl Peer {
         let Some(first) = self.named(receiver, submessage) else {
             return Ok(());
         };
-        let mut ready = SmallVec::new(self.alloc);
-        self.make_ready(&mut ready, first, receiver, submessage)?;
-        moves.reserve(2 * ready.len())?;
-        self.take_all(moves, sent, &mut ready);
-        Ok(())
+        if first.index + 1 == self.readers.len() {
+            return self.tell_last(moves, sent, first, receiver, submessage);
+        }
+        self.tell_each(moves, sent, first, receiver, submessage)
     }
 
     /// Takes up a submessage: an ACKNACK is for the peer's writers, any other one for its readers. Adds what moved.

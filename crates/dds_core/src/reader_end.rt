@@ -390,6 +390,34 @@ impl ReaderEnd {
         }
     }
 
+    /// The reader is told what is ready for it, at this moment of its peer, for which memory was made.
+    fn take_told(&mut self, ready: Ready, moment: Moment) -> Result<Step, Code>
+        requires can { CanTake self.old ready }
+        ensures told { IfOk result (λ step. TakesTold self.old ready moment step self.new) }
+        ensures few { IfOk result (λ step. length step.passed ≤ 257) }
+        ensures sayable { IfOk result (λ step. IfSome step.acknack IsSayable) }
+        ensures same { SameReader self.old self.new }
+        ensures succeeds { IsOk result }
+    {
+        let Ready { row, told } = ready;
+        match told {
+            Told::Change { number, change } => self
+                .reader
+                .on_data(&mut self.store, row, number, change, moment),
+            Told::Jump { number, change } => {
+                self.reader
+                    .on_best_effort_data(&mut self.store, row, number, change, moment)
+            }
+            Told::Nothing => Ok(self.idle(row)),
+            Told::Gap { start, list } => self
+                .reader
+                .on_gap(&mut self.store, row, start, &list, moment),
+            Told::Heartbeat(heartbeat) => self
+                .reader
+                .on_heartbeat(&mut self.store, row, &heartbeat, moment),
+        }
+    }
+
     /// The reader is told what is ready for it, at this moment of its peer.
     pub fn take_up(&mut self, ready: Ready, moment: Moment) -> Step
         requires can { CanTake self.old ready }
@@ -398,31 +426,7 @@ impl ReaderEnd {
         ensures sayable { IfSome result.acknack IsSayable }
         ensures same { SameReader self.old self.new }
     {
-        let Ready { row, told } = ready;
-        // Memory was made for each of them.
-        match told {
-            Told::Change { number, change } => {
-                self.reader
-                    .on_data(&mut self.store, row, number, change, moment)
-                    .unwrap()
-            }
-            Told::Jump { number, change } => {
-                self.reader
-                    .on_best_effort_data(&mut self.store, row, number, change, moment)
-                    .unwrap()
-            }
-            Told::Nothing => self.idle(row),
-            Told::Gap { start, list } => {
-                self.reader
-                    .on_gap(&mut self.store, row, start, &list, moment)
-                    .unwrap()
-            }
-            Told::Heartbeat(heartbeat) => {
-                self.reader
-                    .on_heartbeat(&mut self.store, row, &heartbeat, moment)
-                    .unwrap()
-            }
-        }
+        self.take_told(ready, moment).unwrap()
     }
 
     /// Whether all that die at this moment can be counted: no more than 2^64 - 1 entries happened with them.

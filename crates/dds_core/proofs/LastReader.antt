@@ -1,0 +1,100 @@
+-- A submessage that the peer's last reader alone may be told, by the rules of the protocol.
+use Rattle.std.proofs.Common.{◌≡◌, ◌≤◌, ◌<◌, ◌+◌, ℕ, zero, suc, List, Option, Some, None, length, slice_get, set, length-set, refl, ap, sym, ◌∙◌, subst, arith, ⊎_elim}
+use Rattle.std.proofs.lemmas.Option.{same_Some, slice_get_within}
+use Rattle.std.proofs.lemmas.Bool.{cases_lt}
+use Rattle.dds_base.specs.declared.guid.GuidPrefix.{GuidPrefix}
+use Rattle.rtps_wire.specs.declared.submessage.Submessage.{Submessage}
+use Rattle.dds_machine.specs.declared.reply.Move.{Move}
+use Rattle.dds_protocol.specs.Claims.{Receiver}
+use Rattle.dds_core.specs.declared.delivery.FirstNamed.{FirstNamed}
+use Rattle.dds_core.specs.declared.reader_end.Ready.{Ready}
+use Rattle.dds_core.specs.declared.sending.Announced.{Announced}
+use Rattle.dds_core.specs.Kept.{ReaderKept, PeerKept}
+use Rattle.dds_core.specs.Readiness.{AreReady, IsAlike, IsFirstNamed, IsPrepared, IsReadyFor}
+use Rattle.dds_core.specs.Receiving.{TakesAll, TakesAt, only_last}
+use Rattle.dds_core.proofs.TakenSoFar.{TakesSome}
+use Rattle.dds_core.proofs.Ready.{named_here, ready_for, set-cases, takes_all}
+use Rattle.dds_core.proofs.Turns.{takes_none, takes_skip, takes_more}
+
+last_count : (index : ℕ) (one : Option Ready) → length (only_last index one) ≡ index + 1
+last_count zero one = refl
+last_count (suc index) one = let count = last_count index one in omega (arith, count)
+
+pub last_there : (index : ℕ) (one : Option Ready) → slice_get (only_last index one) index ≡ Some one
+last_there zero one = refl
+last_there (suc index) one = last_there index one
+
+last_before : (index i : ℕ) (one : Option Ready) → i < index → slice_get (only_last index one) i ≡ Some None
+last_before zero i one lt = absurd (omega (arith, lt))
+last_before (suc index) zero one lt = refl
+last_before (suc index) (suc i) one lt = last_before index i one (omega (arith, lt))
+
+-- nobody before the last one is told anything
+none_before : (old : PeerKept) (index i : ℕ) (one : Option Ready) (moves : List Move) (sent : Announced)
+    → i ≤ index → index < length old.readers
+    → TakesSome old (only_last index one) i moves sent old moves sent
+none_before old index zero one moves sent le within = takes_none old (only_last index one) moves sent
+none_before old index (suc i) one moves sent le within =
+    let before : i < index = omega (arith, le) in
+    subst (λ (n : ℕ). TakesSome old (only_last index one) n moves sent old moves sent) (omega arith)
+    (takes_skip old old (only_last index one) i moves moves sent sent
+    (none_before old index i one moves sent (omega (arith, le)) within) (omega (arith, before, within))
+    (last_before index i one before))
+
+-- so many were told
+ends : (old new : PeerKept) (index : ℕ) (one : Option Ready) (moves after : List Move) (sent gone : Announced)
+    → TakesSome old (only_last index one) (index + 1) moves sent new after gone
+    → TakesAll old (only_last index one) moves sent new after gone
+ends old new index one moves after sent gone takes =
+    let count = last_count index one in
+    takes_all old new (only_last index one) moves after sent gone (index + 1) (omega (arith, count))
+    (omega (arith, count)) takes
+
+-- the last one was told what was ready
+pub last_told : (old new : PeerKept) (index : ℕ) (one : Ready) (moves after : List Move) (sent gone : Announced)
+    → index + 1 ≡ length old.readers → TakesAt old index one moves sent new after gone
+    → TakesAll old (only_last index (Some one)) moves sent new after gone
+last_told old new index one moves after sent gone last took =
+    let within : index < length old.readers = omega (arith, last) in
+    ends old new index (Some one) moves after sent gone
+    (takes_more old old new (only_last index (Some one)) index one moves moves after sent sent gone
+    (none_before old index index (Some one) moves sent (omega arith) within) within (last_there index (Some one)) took)
+
+-- nothing was ready
+pub last_idle : (old : PeerKept) (index : ℕ) (moves : List Move) (sent : Announced)
+    → index + 1 ≡ length old.readers → TakesAll old (only_last index None) moves sent old moves sent
+last_idle old index moves sent last =
+    let within : index < length old.readers = omega (arith, last) in
+    ends old old index None moves moves sent sent
+    (takes_skip old old (only_last index None) index moves moves sent sent
+    (none_before old index index None moves sent (omega arith) within) within (last_there index None))
+
+-- what was made ready for the last one, and for nobody before it
+pub last_ready : (own : GuidPrefix) (at : Receiver) (s : Submessage) (readers now : List ReaderKept) (first : FirstNamed)
+    (k k' : ReaderKept) (one : Option Ready) → IsFirstNamed own at s readers first
+    → first.index + 1 ≡ length readers → slice_get readers first.index ≡ Some k → now ≡ set readers first.index k'
+    → IsAlike k k' → IsPrepared (Some first.row) at s k' one
+    → AreReady own at s now (only_last first.index one)
+last_ready own at s readers now first k k' one h last there is alike prepared = record {
+  count =
+      last_count first.index one
+      ∙ (last ∙ (sym (length-set readers first.index k') ∙ sym (ap (λ (rs : List ReaderKept). length rs) is)));
+  each = λ i x r at_x at_r.
+      ⊎_elim
+      (λ e.
+      let same : one ≡ r =
+      same_Some one r
+      (sym (last_there first.index one)
+      ∙ (ap (λ (n : ℕ). slice_get (only_last first.index one) n) (sym e.0) ∙ at_r)) in
+      subst (λ (o : Option Ready). IsReadyFor own at s x o) same
+      (subst (λ (y : ReaderKept). IsReadyFor own at s y one) e.1
+      (ready_for own at s k k' (Some first.row) one alike
+      (named_here own at s readers first first.index k h there refl) prepared)))
+      (λ o.
+      let within = slice_get_within readers i x o.1 in
+      let before : i < first.index =
+      ⊎_elim (λ lt. lt) (λ le. absurd (o.0 (omega (arith, le, within, last)))) (cases_lt i first.index) in
+      let none : None ≡ r = same_Some None r (sym (last_before first.index i one before) ∙ at_r) in
+      subst (λ (y : Option Ready). IsReadyFor own at s x y) none (h.before i x before o.1))
+      (set-cases readers first.index k' i x (subst (λ (rs : List ReaderKept). slice_get rs i ≡ Some x) is at_x));
+}

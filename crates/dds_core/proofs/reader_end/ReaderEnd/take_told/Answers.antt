@@ -1,0 +1,36 @@
+use Rattle.dds_core.specs.declared.reader_end.Told.TheVariants as told
+use Rattle.dds_core.proofs.Results.{ok_if}
+use Rattle.dds_core.proofs.Telling.{answer_told, heartbeat_told, nothing_told}
+use Rattle.dds_core.proofs.reader_end.ReaderEnd.take_told.Goals as goal
+
+pub returns-in-Change-clause-told : goal.returns-in-Change-clause-told
+returns-in-Change-clause-told c =
+    ok_if c.on_data.result
+    (λ step ok. answer_told c.self.view_is c.args.ready c.args.moment c.on_data.result step
+    (told.Change c.in-Change.number c.in-Change.change) c.in-Change.is ok c.on_data.ensures.moves
+    c.on_data.ensures.keeps.others)
+
+pub returns-in-Gap-clause-told : goal.returns-in-Gap-clause-told
+returns-in-Gap-clause-told c =
+    ok_if c.on_gap.result
+    (λ step ok. answer_told c.self.view_is c.args.ready c.args.moment c.on_gap.result step
+    (told.Gap c.in-Gap.start c.in-Gap.list) c.in-Gap.is ok c.on_gap.ensures.moves
+    c.on_gap.ensures.keeps.others)
+
+pub returns-in-Jump-clause-told : goal.returns-in-Jump-clause-told
+returns-in-Jump-clause-told c =
+    ok_if c.on_best_effort_data.result
+    (λ step ok. answer_told c.self.view_is c.args.ready c.args.moment c.on_best_effort_data.result step
+    (told.Jump c.in-Jump.number c.in-Jump.change) c.in-Jump.is ok
+    c.on_best_effort_data.ensures.jumps c.on_best_effort_data.ensures.keeps.others)
+
+pub returns-in-Heartbeat-clause-told : goal.returns-in-Heartbeat-clause-told
+returns-in-Heartbeat-clause-told c =
+    ok_if c.on_heartbeat.result
+    (λ step ok. heartbeat_told c.self.view_is c.args.ready c.args.moment c.on_heartbeat.result step
+    c.in-Heartbeat.heartbeat c.in-Heartbeat.is ok c.on_heartbeat.ensures.accepted
+    c.on_heartbeat.ensures.repeated c.on_heartbeat.ensures.keeps.others)
+
+pub returns-in-Nothing-clause-told : goal.returns-in-Nothing-clause-told
+returns-in-Nothing-clause-told c =
+    nothing_told c.args.self.now c.args.ready c.args.moment c.idle.result c.in-Nothing.is c.idle.ensures.idle
