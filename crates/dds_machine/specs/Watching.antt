@@ -42,10 +42,6 @@ is_data_flagged r = is_after r.seen.entries_at_data (data_available_at r.qos r.h
 abbrev pub is_turn_flagged : Reader → Bool
 is_turn_flagged r = is_after r.seen.entries_at_turn (turned_at r.happened)
 
--- the writer's liveliness was lost since LIVELINESS_LOST was looked at
-abbrev pub is_loss_flagged : Writer → Bool
-is_loss_flagged w = nat_lt 0 (liveliness_lost_status w.lease w.written).total_count_change
-
 -- the bit, where the test holds
 abbrev pub bit_if : Bool → ℕ → ℕ
 bit_if b bit = if b then bit else 0
@@ -57,9 +53,11 @@ reader_statuses r = record {
       + (bit_if (is_data_flagged r) data_available_bit + bit_if (is_turn_flagged r) liveliness_changed_bit);
 }
 
--- the flagged statuses of a writer, as a mask: LIVELINESS_LOST alone (2.3.3)
+-- the flagged statuses of a writer, as a mask (2.3.3): LIVELINESS_LOST alone, where its liveliness was lost since that was
+-- looked at
 abbrev pub writer_statuses : Writer → StatusMask
-writer_statuses w = record { 0 = bit_if (is_loss_flagged w) liveliness_lost_bit }
+writer_statuses w =
+    record { 0 = bit_if (nat_lt 0 (liveliness_lost_status w.lease w.written).total_count_change) liveliness_lost_bit }
 
 -- the flagged statuses of an entity; the participant has none of its own (Entity, get_status_changes)
 abbrev pub status_changes : Part → Entity → StatusMask
