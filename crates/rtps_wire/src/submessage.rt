@@ -2,7 +2,7 @@
 //!
 //! RTPS 2.5, 8.3.4 and 9.4.5.
 
-ghost use Rattle.std.specs.Prelude.{◌≡◌, ◌<◌, ◌≤◌, [], ◌∷◌, ◌++◌, length, set, IsOk, OnOk, OnErr};
+ghost use Rattle.std.specs.Prelude.{◌≡◌, ◌<◌, ◌≤◌, [], ◌∷◌, ◌++◌, length, IsOk, OnOk, OnErr};
 
 use crate::acknack::AckNack;
 use crate::data::Data;
@@ -101,13 +101,5 @@ impl<'a> Submessages<'a> {
         ensures items { self.new ≡ self.old ++ submessage.entry ∷ [] }
     {
         self.items.push_reserved(submessage);
-    }
-
-    /// Puts another submessage in the place of the first.
-    pub fn replace_first(&mut self, first: Submessage<'a>)
-        requires some { 1 ≤ length self.old }
-        ensures items { self.new ≡ set self.old 0 first.entry }
-    {
-        self.items[0] = first;
     }
 }
