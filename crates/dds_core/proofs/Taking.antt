@@ -326,7 +326,7 @@ silent reply = record { reply = reply; packets = []; unsent = 0 }
 
 -- ---- the numbers of a submessage are such that the wire has
 
-bounded : (id flags : ℕ) (body : List ℕ) (s : Submessage) → Reads id flags body s → IsBounded s
+pub bounded : (id flags : ℕ) (body : List ℕ) (s : Submessage) → Reads id flags body s → IsBounded s
 unfolding set_of
 bounded id flags body (Data d) h = h.valid.small
 bounded id flags body (Heartbeat b) h = h.valid.first_small
@@ -343,9 +343,6 @@ bounded id flags body (AckNack a) h =
     let same = ap (λ (x : NumberSet). x.base) h.body_is.set.set in let low = h.body_is.set.valid.first in
     omega (arith, same, low)
 bounded id flags body (Other d) h = tt
-
-pub first_bounded : (bytes : List ℕ) (s : Submessage) (rest : List ℕ) → ReadsFirst bytes s rest → IsBounded s
-first_bounded bytes s rest first = bounded first.0 first.1 first.2 s first.4
 
 -- ---- calls and ticks
 

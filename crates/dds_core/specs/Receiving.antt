@@ -14,9 +14,10 @@ use Rattle.rtps_reader.specs.Tracked.{Tracked}
 use Rattle.rtps_reader.specs.Reader.{Tracks}
 use Rattle.rtps_wire.specs.declared.submessage.Submessage.{Submessage}
 use Rattle.rtps_wire.specs.Messages.{ReadsAll}
+use Rattle.rtps_wire.specs.Submessages.{Reads}
 use Rattle.dds_machine.specs.declared.reply.Move.{Move}
 use Rattle.dds_machine.specs.declared.reply.Report.{Report}
-use Rattle.dds_protocol.specs.Claims.{Receiver, receiver_of}
+use Rattle.dds_protocol.specs.Claims.{Receiver, after_submessage, receiver_of}
 use Rattle.dds_protocol.specs.Peer.{Peer, state_of}
 use Rattle.dds_protocol.specs.DueMessages.{Due, AreSent, acknacks_due}
 use Rattle.dds_protocol.specs.Protocol.{State, InTurn, ReaderTakes, Takes, MayNeedMemory, FollowsMessage, TakesPacket}
@@ -115,11 +116,25 @@ pub record TakesOneMore (old : PeerKept) (at : Receiver) (submessage : Submessag
   pub takes : (config : Config) (peer : Peer) → StandsFor old config peer
       → TookSubmessage config old.prefix at submessage peer made sent new gone
 
+-- the submessage of this id, these flags and this body was taken up, after other moves, and leaves this receiver
+pub record TakesFrame (old : PeerKept) (at : Receiver) (id flags : ℕ) (body : List ℕ) (moves : List Move)
+    (sent : Announced) (new : PeerKept) (after : List Move) (gone : Announced) (left : Receiver) : Type 0 where
+  pub submessage : Submessage
+  pub is_read : Reads id flags body submessage
+  pub takes : TakesOneMore old at submessage moves sent new after gone
+  pub leaves : left ≡ after_submessage old.prefix at submessage
+
 -- for each state that the old values stand for, the submessage may need memory
 abbrev pub NeedsMemory : PeerKept → Receiver → Submessage → Type 0
 NeedsMemory old at submessage =
     (config : Config) (peer : Peer) → StandsFor old config peer
     → MayNeedMemory config old.prefix peer.number at submessage (state_of peer)
+
+-- so may the one of this id, these flags and this body
+pub record FrameNeedsMemory (old : PeerKept) (at : Receiver) (id flags : ℕ) (body : List ℕ) : Type 0 where
+  pub submessage : Submessage
+  pub is_read : Reads id flags body submessage
+  pub needs : NeedsMemory old at submessage
 
 -- the new values stand for what the old ones stood for
 abbrev pub StandsAsWell : PeerKept → PeerKept → Type 0

@@ -92,6 +92,8 @@ impl<F: Filter, L: Listener> Core<F, L> {
     ///
     /// DDS 1.4, 2.2.2.4 and 2.2.2.5 (DataWriter, DataReader), 2.2.4.3 (access through listeners); RTPS 2.5, 8.4
     /// (behaviour).
+    // Within a caller that makes the event, LLVM leaves what is for other events and other calls away.
+    #[inline(always)]
     pub fn step(&mut self, event: Event) -> Output
         // For each state that the peer stands for, the event is a step, by what its filters mean, whose end listeners
         // are told of, to one that it stands for afterwards; a delivered packet is taken up by the rules of the
@@ -103,7 +105,10 @@ impl<F: Filter, L: Listener> Core<F, L> {
         // What goes out is the written form of a message.
         ensures messages { AreMessages result.packets }
     {
-        self.step_with(event, &mut Twin::Unasked)
+        if self.listeners.has_listeners() {
+            return self.step_with(event, &mut Twin::Unasked);
+        }
+        self.filtered.step(event, &mut Twin::Unasked)
     }
 
     /// One event, as `step` has it, and two equal outputs. All memory for both is asked for before anything changes, but
@@ -133,6 +138,8 @@ impl<F: Filter, L: Listener> Core<F, L> {
     }
 
     /// One event, and where two replies are asked for, the reply once more.
+    // It has places for the marks of all ends, which a step without listeners needs not.
+    #[inline(never)]
     fn step_with(&mut self, event: Event, twin: &mut Twin) -> Output
         ensures step { Steps L.notices L.capacity L.becomes
             (tests_of F.meaning self.old.filtered.filters) self.old event result self.new }

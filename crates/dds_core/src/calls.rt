@@ -23,6 +23,7 @@ use dds_machine::{Call, Reply};
 use dds_protocol::Output;
 
 impl Peer {
+    #[inline(always)]
     pub(crate) fn call<T: Filters>(&mut self, filters: &T, call: Call, twin: &mut Twin) -> Output
         ensures step { StepsBy (T.meaning filters.now) self.old (event.Call call) result self.new }
         ensures sends { Sends self.old (event.Call call) result }

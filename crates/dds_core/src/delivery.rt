@@ -11,7 +11,7 @@ ghost use Rattle.dds_protocol.specs.declared.event.Event.TheVariants as event;
 ghost use Rattle.dds_core.specs.Stepping.{SoundSteps};
 ghost use Rattle.dds_core.specs.Sending.{AreMessages, max_unsent};
 ghost use Rattle.dds_core.specs.Readiness.{receiver_at, IsBounded, AreReady, AreAlike, IsFirstNamed, IsNamedAt, IsReadyFor, IsRowOf, NamesNone, moves_of};
-ghost use Rattle.dds_core.specs.Receiving.{only_last, CanTakeAt, TakesAt, AllCanTake, TakesAll, TellsReaders, TakesOneMore, KeepsPeer, NeedsMemory, TakesBody, StandsAsWell, ReceivesPacket};
+ghost use Rattle.dds_core.specs.Receiving.{only_last, CanTakeAt, TakesAt, AllCanTake, TakesAll, TellsReaders, TakesOneMore, TakesFrame, KeepsPeer, NeedsMemory, FrameNeedsMemory, TakesBody, StandsAsWell, ReceivesPacket};
 ghost use Rattle.dds_core.specs.Twins.{Twins};
 
 use crate::acknack::send_acknack;
@@ -19,14 +19,14 @@ use crate::moves::Moves;
 use crate::output::unmoved;
 use crate::peer::Peer;
 use crate::reader_end::{ReaderEnd, Ready};
-use crate::receiver::{MessageReceiver, receiver_after, receiver_for};
+use crate::receiver::{MessageReceiver, receiver_for};
 use crate::sending::Announced;
 use crate::twin::Twin;
 use dds_base::{Code, GuidPrefix, Octets, Sequence, Sn};
 use dds_machine::{Endpoint, Move, Reply, Report};
 use dds_protocol::Output;
 use rtps_reader::Step;
-use rtps_wire::{MAX_MESSAGE, Submessage, begin_message, next_submessage};
+use rtps_wire::{Frame, MAX_MESSAGE, Submessage, begin_message, next_frame};
 use smallvec::SmallVec;
 
 /// The first of a peer's readers that a submessage is for, and there the row of the writer that it is from.
@@ -385,6 +385,38 @@ impl Peer {
         }
     }
 
+    /// Takes up a submessage whose body is not read yet. One that speaks to the receiver alone is for none of the peer's
+    /// ends: what it says is not put into a `Submessage` first. Adds what moved.
+    fn take_frame(
+        &mut self,
+        moves: &mut Moves,
+        sent: &mut Announced,
+        receiver: &mut MessageReceiver,
+        frame: &Frame,
+    ) -> Result<(), Code>
+        requires low { sent.old.unsent < 2 ^ 59 }
+        ensures takes { OnOk result
+            (TakesFrame self.old
+            (receiver_at receiver.old) frame.now.id frame.now.flags frame.now.body.now moves.old.items
+            sent.old self.new moves.new.items sent.new (receiver_at receiver.new)) }
+        ensures twice { moves.new.twice ≡ moves.old.twice }
+        ensures keeps { KeepsPeer (2 ^ 16) self.old moves.old.items sent.old self.new
+            moves.new.items sent.new result }
+        ensures needs { OnErr result
+            (FrameNeedsMemory self.old
+            (receiver_at receiver.old) frame.now.id frame.now.flags frame.now.body.now) }
+    {
+        if let Some(prefix) = frame.info_dst() {
+            receiver.note_destination(prefix);
+            return Ok(());
+        }
+        if let Some(stamp) = frame.info_ts() {
+            receiver.note_timestamp(&self.prefix, stamp);
+            return Ok(());
+        }
+        self.take_submessage(moves, sent, receiver, &frame.submessage())
+    }
+
     /// Takes up the submessages of a message of this sender as they are read, up to one for which there is no memory.
     fn take_submessages(
         &mut self,
@@ -405,15 +437,14 @@ impl Peer {
         let mut receiver = receiver_for(source);
         let mut left = body;
         let mut index: u32 = 0;
-        while let Some((submessage, rest)) = next_submessage(left) {
-            match self.take_submessage(&mut moves, sent, &receiver, &submessage) {
-                Ok(()) => receiver = receiver_after(&self.prefix, receiver, &submessage),
-                Err(_) => return moves.into_report(Some(index), twin),
+        while let Some((frame, rest)) = next_frame(left) {
+            match self.take_frame(&mut moves, sent, &mut receiver, &frame) {
+                Ok(()) => left = rest,
+                Err(_) => return moves.take_report(Some(index), twin),
             }
-            left = rest;
             index += 1;
         }
-        moves.into_report(None, twin)
+        moves.take_report(None, twin)
     }
 
     /// What is done with the bytes of a packet.

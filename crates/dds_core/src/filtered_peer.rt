@@ -86,6 +86,7 @@ impl<F: Filter> FilteredPeer<F> {
     /// are counted in `unsent`. Where two replies are asked for, all memory for both is asked for before anything changes.
     ///
     /// DDS 1.4, 2.2.2.4 and 2.2.2.5 (DataWriter, DataReader); RTPS 2.5, 8.4 (behaviour).
+    #[inline(always)]
     pub fn step(&mut self, event: Event, twin: &mut Twin) -> Output
         // For each state that the peer stands for, the event is a step, by what its filters mean, to one that it stands
         // for afterwards; a delivered packet is taken up by the rules of the protocol, and what is due by them is sent.

@@ -2,16 +2,18 @@
 //!
 //! RTPS 2.5, 8.4 (behaviour). Outputs that are given twice are this project's own.
 
-ghost use Rattle.std.specs.Prelude.{◌≡◌, ◌++◌, ◌∷◌, [], ◌+◌, ◌≤◌, true, length, OnErr, OnOk, vec_capacity, vec_len};
+ghost use Rattle.std.specs.Prelude.{◌≡◌, ◌++◌, ◌∷◌, [], ◌+◌, ◌≤◌, false, true, if◌then◌else◌, length, OnErr, OnOk, vec_capacity, vec_len};
 ghost use Rattle.dds_machine.specs.declared.reply.Reply.TheVariants.{Reported};
 ghost use Rattle.dds_core.specs.Moved.{IsFew};
 ghost use Rattle.dds_core.specs.Twins.{Twins, wants_two};
+ghost use Rattle.dds_core.specs.declared.twin.Twin.TheVariants.{Kept};
 
 use crate::twin::Twin;
 use dds_base::{PassedRun, Sequence};
 use dds_machine::{Move, Reply, Report};
 use std::alloc::{AllocError, Global};
 use std::marker::Model;
+use std::mem;
 
 /// A step passes over so many runs at most.
 const MOST_RUNS: usize = 257;
@@ -47,6 +49,7 @@ impl Model for Copies {
 /// Moves in the order in which they were made, and once more where they are kept twice.
 #[derive(Drop)]
 pub struct Moves {
+    alloc: Global,
     moves: Vec<Move>,
     copies: Option<Copies>,
     room: usize,
@@ -183,6 +186,7 @@ impl Moves {
             None
         };
         Moves {
+            alloc,
             moves: Vec::new(alloc),
             copies,
             room: 0,
@@ -218,19 +222,35 @@ impl Moves {
         self.room -= 1;
     }
 
-    /// The report of the moves, and once more where two are asked for. It takes no memory.
-    pub fn into_report(self, refused: Option<u32>, twin: &mut Twin) -> Report
-        requires twice { wants_two twin.old ≡ true → self.twice ≡ true }
-        ensures report { result ≡ record { moves = self.items; refused = refused } }
-        ensures twin { Twins twin.old (Reported result) twin.new }
+    /// Hands on the report once more, where the moves are kept twice.
+    // Few ask for two, and the others need no place for what is handed on.
+    #[inline(never)]
+    fn hand_on(&mut self, refused: Option<u32>, twin: &mut Twin)
+        ensures items { self.new.items ≡ self.old.items }
+        ensures once { self.new.twice ≡ false }
+        ensures handed { twin.new ≡ (if self.old.twice
+            then Kept (Reported (record { moves = self.old.items; refused = refused }))
+            else twin.old) }
     {
-        let Moves { moves, copies, .. } = self;
-        if let Some(copies) = copies {
+        if let Some(copies) = self.copies.take() {
             *twin = Twin::Kept(Reply::Reported(Report {
                 moves: copies.into_moves(),
                 refused,
             }));
         }
+    }
+
+    /// The report of the moves, and once more where two are asked for. It takes no memory.
+    pub fn take_report(&mut self, refused: Option<u32>, twin: &mut Twin) -> Report
+        requires twice { wants_two twin.old ≡ true → self.old.twice ≡ true }
+        ensures report { result ≡ record { moves = self.old.items; refused = refused } }
+        ensures twin { Twins twin.old (Reported result) twin.new }
+    {
+        if self.copies.is_some() {
+            self.hand_on(refused, twin);
+        }
+        self.room = 0;
+        let moves = mem::replace(&mut self.moves, Vec::new(self.alloc));
         Report {
             moves: Sequence::from_vec(moves),
             refused,

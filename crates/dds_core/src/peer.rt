@@ -58,6 +58,7 @@ impl Peer {
     /// One event: a call, the peer's time that goes on, or the bytes of a packet that come. The filters tell which
     /// samples its query conditions match, by their numbers. Where two replies are asked for, all memory for both is asked
     /// for before anything changes.
+    #[inline(always)]
     pub fn step_by<T: Filters>(&mut self, filters: &T, event: Event, twin: &mut Twin) -> Output
         // For each state that the peer stands for, the event is a step by what the filters mean.
         ensures step { SoundStepsBy (T.meaning filters.now) self.old event result self.new }

@@ -5,9 +5,10 @@
 ghost use Rattle.std.specs.Prelude.{◌≡◌};
 ghost use Rattle.dds_protocol.specs.Claims.{receiver_of, is_for, stamp_of, after_submessage};
 ghost use Rattle.dds_core.specs.Readiness.{receiver_at};
+ghost use Rattle.dds_base.specs.declared.guid.GuidPrefix.{GuidPrefix as GuidPrefixOf};
+ghost use Rattle.rtps_wire.specs.declared.submessage.Submessage.TheVariants.{InfoDst, InfoTs};
 
 use dds_base::{GuidPrefix, MOMENT_END, Moment};
-use rtps_wire::Submessage;
 
 /// What a receiver knows of what follows in a message.
 ///
@@ -50,23 +51,22 @@ fn moment_of(stamp: Option<u64>) -> Moment
     }
 }
 
-/// The receiver after a submessage, at the peer of this prefix: a part for another peer sets no moment.
-pub fn receiver_after(
-    own: &GuidPrefix,
-    receiver: MessageReceiver,
-    submessage: &Submessage,
-) -> MessageReceiver
-    ensures { receiver_at result ≡ after_submessage own.now (receiver_at receiver) submessage.now }
-{
-    match submessage {
-        Submessage::InfoDst(prefix) => MessageReceiver {
-            destination: *prefix,
-            ..receiver
-        },
-        Submessage::InfoTs(stamp) if is_for(&receiver, own) => MessageReceiver {
-            timestamp: moment_of(*stamp),
-            ..receiver
-        },
-        _ => receiver,
+impl MessageReceiver {
+    /// An INFO_DST comes: what follows is for the peer of this prefix.
+    pub fn note_destination(&mut self, prefix: GuidPrefix)
+        ensures { (own : GuidPrefixOf) → receiver_at self.new
+            ≡ after_submessage own (receiver_at self.old) (InfoDst prefix) }
+    {
+        self.destination = prefix;
+    }
+
+    /// An INFO_TS comes to the peer of this prefix: a part for another peer sets no moment.
+    pub fn note_timestamp(&mut self, own: &GuidPrefix, stamp: Option<u64>)
+        ensures { receiver_at self.new
+            ≡ after_submessage own.now (receiver_at self.old) (InfoTs stamp) }
+    {
+        if is_for(self, own) {
+            self.timestamp = moment_of(stamp);
+        }
     }
 }

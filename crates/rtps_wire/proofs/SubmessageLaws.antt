@@ -1,6 +1,6 @@
 -- What is read of a body is the submessage that it shows, and what it shows is read.
 use Rattle.std.proofs.Common.{◌≡◌, ℕ, ◌+◌, ◌*◌, ◌/◌, ◌%◌, ◌^◌, ◌<◌, Bool, false, cond, eqb, ltb, ◌||◌, List, ◌++◌, Option, Some, None, refl, sym, ap, subst, ◌∙◌, arith, ◌⊎◌, inl, inr, ℤ}
-use Rattle.std.specs.Prelude.{unwrap_or}
+use Rattle.std.specs.Prelude.{unwrap_or, IfNone, IfSome}
 use Rattle.std.specs.Option.{option_map}
 use Rattle.std.specs.Int.{w32}
 use Rattle.std.proofs.lemmas.Bool.{eqb-true, ltb-false, le-ltb}
@@ -355,3 +355,39 @@ reads_one id flags body s t p q =
         | inr b ↦ a.0 ∙ sym b.0
       ]
     ]
+
+-- ---- the kinds that speak to a receiver alone
+
+-- a body that is read is that of an INFO_DST
+pub info_dst_if : (o : Option GuidPrefix) (body : List ℕ) → AreOctets body → o ≡ info_dst_at body
+    → IfSome o (λ prefix. (flags : ℕ) → Reads 14 flags body (submessages.InfoDst prefix))
+info_dst_if None body octets e = tt
+info_dst_if (Some prefix) body octets e = λ flags. info_dst_found flags body prefix octets (sym e)
+
+-- one that is not read is that of none
+pub no_info_dst : (o : Option GuidPrefix) (body : List ℕ) → o ≡ info_dst_at body
+    → IfNone o ((flags : ℕ) (prefix : GuidPrefix) → Reads 14 flags body (submessages.InfoDst prefix) → ⊥)
+unfolding known_at
+no_info_dst None body e = λ flags prefix k.
+    let found : option_map submessages.InfoDst (info_dst_at body) ≡ Some (submessages.InfoDst prefix) =
+    known_only 14 flags body (submessages.InfoDst prefix) k in
+    let none : option_map submessages.InfoDst (info_dst_at body) ≡ None = ap (option_map submessages.InfoDst) (sym e) in
+    cc
+no_info_dst (Some prefix) body e = tt
+
+-- a body that is read is that of an INFO_TS
+pub info_ts_if : (o : Option (Option ℕ)) (flags : ℕ) (body : List ℕ) → AreOctets body → o ≡ info_ts_at flags body
+    → IfSome o (λ moment. Reads 9 flags body (submessages.InfoTs moment))
+info_ts_if None flags body octets e = tt
+info_ts_if (Some moment) flags body octets e = info_ts_found flags body moment octets (sym e)
+
+-- one that is not read is that of none
+pub no_info_ts : (o : Option (Option ℕ)) (flags : ℕ) (body : List ℕ) → o ≡ info_ts_at flags body
+    → IfNone o ((moment : Option ℕ) → Reads 9 flags body (submessages.InfoTs moment) → ⊥)
+unfolding known_at
+no_info_ts None flags body e = λ moment k.
+    let found : option_map submessages.InfoTs (info_ts_at flags body) ≡ Some (submessages.InfoTs moment) =
+    known_only 9 flags body (submessages.InfoTs moment) k in
+    let none : option_map submessages.InfoTs (info_ts_at flags body) ≡ None = ap (option_map submessages.InfoTs) (sym e) in
+    cc
+no_info_ts (Some moment) flags body e = tt

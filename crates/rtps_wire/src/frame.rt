@@ -12,10 +12,15 @@ use crate::names::{ID_INFO_TS, ID_PAD};
 use dds_base::{take_octets, take_u16};
 
 /// A submessage whose body is not read yet.
+///
+/// RTPS 2.5, 9.4.5.1 (submessageId, flags, submessageLength).
 #[derive(Clone, Copy)]
 pub struct Frame<'a> {
+    /// What kind of submessage it is.
     pub id: u8,
+    /// The lowest bit tells the order of octets in its numbers, the others depend on the kind.
     pub flags: u8,
+    /// As many octets as its length says.
     pub body: &'a [u8],
 }
 

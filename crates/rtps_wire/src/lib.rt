@@ -1,7 +1,7 @@
 //! Messages between peers, and their bytes.
 //!
 //! `read_message` gives the one message that bytes are, `begin_message` and `next_submessage` the same one submessage
-//! after the other, without memory; `write_message` the one written form of a message, and `write_change` that of the one
+//! after the other, without memory, and `next_frame` before their bodies are read; `write_message` the one written form of a message, and `write_change` that of the one
 //! that announces a change; what is written is read as itself. `DataContent` is what a DATA says of a change. The grammar
 //! stands in `specs/`, one file for each submessage, and in words in `docs/WIRE.md`. Not here: what a peer does at a
 //! submessage.
@@ -66,12 +66,13 @@ pub use acknack::AckNack;
 pub use announcement::write_change;
 pub use data::{ChangeBody, Data, DataContent};
 pub use field::MAX_SN;
+pub use frame::Frame;
 pub use gap::Gap;
 pub use header::{MAX_MESSAGE, MAX_TOGETHER};
 pub use heartbeat::Heartbeat;
 pub use message::{Message, Read};
 pub use names::MAX_SUBMESSAGE;
-pub use read::{begin_message, next_submessage, read_message};
+pub use read::{begin_message, next_frame, next_submessage, read_message};
 pub use seek::{Sought, has_submessage};
 pub use submessage::{FEW_SUBMESSAGES, Submessage, Submessages};
 pub use write::{is_writable, write_message};

@@ -2,10 +2,10 @@
 //!
 //! RTPS 2.5, 8.3.4 (the message receiver) and 9.4.
 
-ghost use Rattle.std.specs.Prelude.{◌≡◌, ◌+◌, ◌≤◌, ◌<◌, ℕ, List, length, IfOk, IfErr, IfSome, IfNone, Some, [], unwrap_or};
-ghost use Rattle.rtps_wire.specs.declared.submessage.Submessage.TheVariants.{Other};
+ghost use Rattle.std.specs.Prelude.{◌≡◌, ◌+◌, ◌≤◌, ◌<◌, ℕ, List, length, IfOk, IfErr, IfSome, IfNone, Option, Some, [], unwrap_or};
+ghost use Rattle.rtps_wire.specs.declared.submessage.Submessage.TheVariants.{InfoDst, InfoTs, Other};
 ghost use Rattle.dds_base.specs.declared.guid.GuidPrefix.{GuidPrefix as GuidPrefixOf};
-ghost use Rattle.rtps_wire.specs.Frames.{IsEnd};
+ghost use Rattle.rtps_wire.specs.Frames.{IsEnd, IsFrame};
 ghost use Rattle.rtps_wire.specs.SubmessageAt.{known_at};
 ghost use Rattle.rtps_wire.specs.Submessages.{Reads};
 ghost use Rattle.rtps_wire.specs.Messages.{ReadsFirst, ReadsAll, ReadsMessage, HasFrame, HasHeader, HasSubmessage};
@@ -13,7 +13,7 @@ ghost use Rattle.rtps_wire.specs.declared.message.Message.{Message};
 
 use crate::acknack::acknack_of;
 use crate::data::data_of;
-use crate::frame::take_frame;
+use crate::frame::{Frame, take_frame};
 use crate::gap::gap_of;
 use crate::header::{MAX_MESSAGE, take_header};
 use crate::heartbeat::heartbeat_of;
@@ -70,6 +70,71 @@ fn submessage_of(id: u8, flags: u8, body: &[u8]) -> Submessage<'_>
     known_or_other(id, flags, body)
 }
 
+/// The prefix of the INFO_DST of an id and a body, which no flag changes. `None` of any other submessage.
+fn prefix_in(id: u8, body: &[u8]) -> Option<GuidPrefix>
+    ensures found { IfSome result
+        (λ prefix. (flags : ℕ) → Reads id flags body.now (InfoDst prefix)) }
+    ensures none { IfNone result ((flags : ℕ) (prefix : GuidPrefixOf)
+        → Reads id flags body.now (InfoDst prefix) → ⊥) }
+{
+    if id != ID_INFO_DST {
+        return None;
+    }
+    info_dst_of(body)
+}
+
+/// The moment of the INFO_TS of an id, flags and a body, or that it has none. `None` of any other submessage.
+fn stamp_in(id: u8, flags: u8, body: &[u8]) -> Option<Option<u64>>
+    ensures found { IfSome result (λ moment. Reads id flags body.now (InfoTs moment)) }
+    ensures none { IfNone result ((moment : Option ℕ)
+        → Reads id flags body.now (InfoTs moment) → ⊥) }
+{
+    if id != ID_INFO_TS {
+        return None;
+    }
+    info_ts_of(flags, body)
+}
+
+impl<'a> Frame<'a> {
+    /// The submessage: one that is not known or not valid is `Submessage::Other` with its id.
+    ///
+    /// RTPS 2.5, 9.4.5.
+    pub fn submessage(&self) -> Submessage<'a>
+        // It is the one that the id, the flags and the body are.
+        ensures read { Reads self.now.id self.now.flags self.now.body.now result }
+    {
+        submessage_of(self.id, self.flags, self.body)
+    }
+
+    /// The prefix of a valid INFO_DST. `None` of any other submessage.
+    ///
+    /// RTPS 2.5, 8.3.8 (InfoDestination).
+    pub fn info_dst(&self) -> Option<GuidPrefix>
+        // The submessage is that INFO_DST.
+        ensures found { IfSome result
+            (λ prefix. Reads self.now.id self.now.flags self.now.body.now (InfoDst prefix)) }
+        // Else it is none.
+        ensures none { IfNone result ((prefix : GuidPrefixOf)
+            → Reads self.now.id self.now.flags self.now.body.now (InfoDst prefix) → ⊥) }
+    {
+        prefix_in(self.id, self.body)
+    }
+
+    /// The moment of a valid INFO_TS, in units of 2^-32 second, or that it has none. `None` of any other submessage.
+    ///
+    /// RTPS 2.5, 8.3.8 (InfoTimestamp).
+    pub fn info_ts(&self) -> Option<Option<u64>>
+        // The submessage is that INFO_TS.
+        ensures found { IfSome result
+            (λ moment. Reads self.now.id self.now.flags self.now.body.now (InfoTs moment)) }
+        // Else it is none.
+        ensures none { IfNone result ((moment : Option ℕ)
+            → Reads self.now.id self.now.flags self.now.body.now (InfoTs moment) → ⊥) }
+    {
+        stamp_in(self.id, self.flags, self.body)
+    }
+}
+
 /// The sender of a message, and the bytes of its submessages: `next_submessage` reads those. `None` where the bytes are
 /// no message: without the header of this protocol, or longer than `MAX_MESSAGE`.
 ///
@@ -87,6 +152,23 @@ pub fn begin_message(bytes: &[u8]) -> Option<(GuidPrefix, &[u8])>
     take_header(bytes)
 }
 
+/// The submessage at the front, its body not read yet, and what follows it. `None` where reading ends. No memory is
+/// needed, and the bytes lend the body.
+///
+/// RTPS 2.5, 8.3.4 and 9.4.5.1.
+pub fn next_frame(bytes: &[u8]) -> Option<(Frame<'_>, &[u8])>
+    // The bytes begin with a submessage of this id, flags and body, and all that follows it is there.
+    ensures found { IfSome result
+        (λ x. IsFrame bytes.now x.0.id x.0.flags x.0.body.now x.1.now) }
+    // Fewer bytes follow it.
+    ensures fewer { IfSome result (λ x. length x.1.now < length bytes.now) }
+    // Reading ends nowhere else.
+    ensures end { IfNone result (IsEnd bytes.now) }
+{
+    let (frame, rest) = take_frame(bytes)?;
+    Some((frame, rest))
+}
+
 /// The submessage at the front, and what follows it: one that is not known or not valid is `Submessage::Other` with its
 /// id. `None` where reading ends. No memory is needed, and the bytes lend the value of a datum.
 ///
@@ -99,7 +181,7 @@ pub fn next_submessage(bytes: &[u8]) -> Option<(Submessage<'_>, &[u8])>
     // Reading ends nowhere else.
     ensures end { IfNone result (IsEnd bytes.now) }
 {
-    let (frame, rest) = take_frame(bytes)?;
+    let (frame, rest) = next_frame(bytes)?;
     Some((submessage_of(frame.id, frame.flags, frame.body), rest))
 }
 

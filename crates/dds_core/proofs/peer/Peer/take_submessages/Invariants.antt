@@ -6,8 +6,8 @@ use Rattle.dds_core.specs.Sending.{AreMessages}
 use Rattle.dds_core.specs.Twins.{wants_two}
 use Rattle.dds_core.proofs.peer.Peer.take_submessages.Given as goal
 
-abbrev pub invariant-loop-submessage : goal.invariant-loop-submessage
-invariant-loop-submessage l = record {
+abbrev pub invariant-loop-frame : goal.invariant-loop-frame
+invariant-loop-frame l = record {
   taken : TakesTo l.initial.self l.fn.source l.body l.left l.index (receiver_at l.receiver) l.moves.items l.self l.sent;
   within : l.index + length l.left ≤ length l.body;
   octets : AreOctets l.left;
@@ -18,5 +18,5 @@ invariant-loop-submessage l = record {
   still : l.twin ≡ l.initial.twin;
 }
 
-abbrev pub decreases-loop-submessage : goal.decreases-loop-submessage
-decreases-loop-submessage l = length l.left
+abbrev pub decreases-loop-frame : goal.decreases-loop-frame
+decreases-loop-frame l = length l.left

@@ -1,0 +1,78 @@
+-- A submessage whose body is not read yet is taken up as the one that it is.
+use Rattle.std.proofs.Common.{◌≡◌, ℕ, List, Option, Some, None, refl, ap}
+use Rattle.std.specs.Prelude.{Result, Ok, Err, OnErr, OnOk}
+use Rattle.dds_base.specs.declared.guid.GuidPrefix.{GuidPrefix}
+use Rattle.rtps_wire.specs.declared.acknack.AckNack.{AckNack as AckNackBody}
+use Rattle.rtps_wire.specs.declared.submessage.Submessage.{Submessage}
+use Rattle.rtps_wire.specs.declared.submessage.Submessage.TheVariants.{Pad, InfoDst, InfoTs, Data, Heartbeat, AckNack, Gap, Other}
+use Rattle.rtps_wire.specs.Submessages.{Reads}
+use Rattle.dds_machine.specs.declared.reply.Move.{Move}
+use Rattle.dds_protocol.specs.Claims.{Receiver, after_submessage}
+use Rattle.dds_core.specs.declared.sending.Announced.{Announced}
+use Rattle.dds_core.specs.Kept.{PeerKept}
+use Rattle.dds_core.specs.Readiness.{NamesNobody}
+use Rattle.dds_core.specs.Receiving.{FrameNeedsMemory, NeedsMemory, TakesFrame, TakesOneMore}
+use Rattle.dds_core.proofs.Taking.{readers_take}
+use Rattle.dds_core.proofs.Turns.{nobody_told}
+
+-- one that speaks to the receiver alone is taken up, and nothing is done
+nothing_taken : (old : PeerKept) (at : Receiver) (s : Submessage) (moves : List Move) (sent : Announced)
+    → ((a : AckNackBody) → s ≡ AckNack a → ⊥) → NamesNobody s → TakesOneMore old at s moves sent old moves sent
+nothing_taken old at s moves sent other nobody =
+    readers_take old old at s moves moves sent sent other
+    (nobody_told old at s moves sent (λ i k there reader_id writer_id by row named. nobody reader_id writer_id by))
+
+pub takes_info_dst : (old : PeerKept) (at : Receiver) (id flags : ℕ) (body : List ℕ) (prefix : GuidPrefix)
+    (moves : List Move) (sent : Announced) (left : Receiver) → Reads id flags body (InfoDst prefix)
+    → left ≡ after_submessage old.prefix at (InfoDst prefix)
+    → TakesFrame old at id flags body moves sent old moves sent left
+takes_info_dst old at id flags body prefix moves sent left read leaves = record {
+  submessage = InfoDst prefix;
+  is_read = read;
+  takes = nothing_taken old at (InfoDst prefix) moves sent (λ a is. absurd cc) (λ reader_id writer_id by. by);
+  leaves = leaves;
+}
+
+pub takes_info_ts : (old : PeerKept) (at : Receiver) (id flags : ℕ) (body : List ℕ) (stamp : Option ℕ)
+    (moves : List Move) (sent : Announced) (left : Receiver) → Reads id flags body (InfoTs stamp)
+    → left ≡ after_submessage old.prefix at (InfoTs stamp)
+    → TakesFrame old at id flags body moves sent old moves sent left
+takes_info_ts old at id flags body stamp moves sent left read leaves = record {
+  submessage = InfoTs stamp;
+  is_read = read;
+  takes = nothing_taken old at (InfoTs stamp) moves sent (λ a is. absurd cc) (λ reader_id writer_id by. by);
+  leaves = leaves;
+}
+
+-- any other one leaves the receiver as it was
+stays : (own : GuidPrefix) (at : Receiver) (id flags : ℕ) (body : List ℕ) (s : Submessage) → Reads id flags body s
+    → ((prefix : GuidPrefix) → Reads id flags body (InfoDst prefix) → ⊥)
+    → ((moment : Option ℕ) → Reads id flags body (InfoTs moment) → ⊥) → at ≡ after_submessage own at s
+stays own at id flags body (InfoDst prefix) read no_dst no_ts = absurd (no_dst prefix read)
+stays own at id flags body (InfoTs moment) read no_dst no_ts = absurd (no_ts moment read)
+stays own at id flags body Pad read no_dst no_ts = refl
+stays own at id flags body (Data d) read no_dst no_ts = refl
+stays own at id flags body (Heartbeat h) read no_dst no_ts = refl
+stays own at id flags body (AckNack a) read no_dst no_ts = refl
+stays own at id flags body (Gap g) read no_dst no_ts = refl
+stays own at id flags body (Other n) read no_dst no_ts = refl
+
+pub takes_other_if : {A B : Type 0} (answer : Result A B) (old new : PeerKept) (at : Receiver) (id flags : ℕ)
+    (body : List ℕ) (s : Submessage) (moves after : List Move) (sent gone : Announced) → Reads id flags body s
+    → ((prefix : GuidPrefix) → Reads id flags body (InfoDst prefix) → ⊥)
+    → ((moment : Option ℕ) → Reads id flags body (InfoTs moment) → ⊥)
+    → OnOk answer (TakesOneMore old at s moves sent new after gone)
+    → OnOk answer (TakesFrame old at id flags body moves sent new after gone at)
+takes_other_if (Ok x) old new at id flags body s moves after sent gone read no_dst no_ts takes = record {
+  submessage = s;
+  is_read = read;
+  takes = takes;
+  leaves = stays old.prefix at id flags body s read no_dst no_ts;
+}
+takes_other_if (Err e) old new at id flags body s moves after sent gone read no_dst no_ts takes = tt
+
+pub needs_if_other : {A B : Type 0} (answer : Result A B) (old : PeerKept) (at : Receiver) (id flags : ℕ)
+    (body : List ℕ) (s : Submessage) → Reads id flags body s → OnErr answer (NeedsMemory old at s)
+    → OnErr answer (FrameNeedsMemory old at id flags body)
+needs_if_other (Ok x) old at id flags body s read needs = tt
+needs_if_other (Err e) old at id flags body s read needs = record { submessage = s; is_read = read; needs = needs }
