@@ -20,6 +20,7 @@ ghost use Rattle.dds_protocol.specs.Peer.{Peer as PeerState};
 ghost use Rattle.dds_base.specs.declared.config.Config.{Config as ConfigOf};
 
 use crate::filtered_peer::FilteredPeer;
+use crate::marks::Marks;
 use crate::pairing::Pair;
 use crate::twin::{Twin, pair_of};
 use dds_base::{Code, Config, Entity, Moment, Sn};
@@ -36,6 +37,8 @@ use std::marker::Model;
 pub struct Core<F = Box<dyn Filter + Send>, L = Box<dyn Listener + Send>> {
     filtered: FilteredPeer<F>,
     listeners: Slots<L>,
+    // Of the step that is being made. They stand here, as a step without listeners needs no place for them.
+    marks: Marks,
 }
 
 impl<F, L> Model for Core<F, L> {
@@ -73,6 +76,7 @@ impl<F: Filter, L: Listener> Core<F, L> {
         Ok(Core {
             filtered,
             listeners,
+            marks: Marks::NOTHING,
         })
     }
 
@@ -105,10 +109,7 @@ impl<F: Filter, L: Listener> Core<F, L> {
         // What goes out is the written form of a message.
         ensures messages { AreMessages result.packets }
     {
-        if self.listeners.has_listeners() {
-            return self.step_with(event, &mut Twin::Unasked);
-        }
-        self.filtered.step(event, &mut Twin::Unasked)
+        self.step_with(event, &mut Twin::Unasked)
     }
 
     /// One event, as `step` has it, and two equal outputs. All memory for both is asked for before anything changes, but
@@ -138,8 +139,7 @@ impl<F: Filter, L: Listener> Core<F, L> {
     }
 
     /// One event, and where two replies are asked for, the reply once more.
-    // It has places for the marks of all ends, which a step without listeners needs not.
-    #[inline(never)]
+    #[inline(always)]
     fn step_with(&mut self, event: Event, twin: &mut Twin) -> Output
         ensures step { Steps L.notices L.capacity L.becomes
             (tests_of F.meaning self.old.filtered.filters) self.old event result self.new }
@@ -148,12 +148,14 @@ impl<F: Filter, L: Listener> Core<F, L> {
         ensures few { result.unsent < max_unsent }
         ensures twin { Twins twin.old result.reply twin.new }
     {
-        if !self.listeners.has_listeners() {
-            return self.filtered.step(event, twin);
+        let is_told = self.listeners.has_listeners();
+        if is_told {
+            self.filtered.mark(&mut self.marks);
         }
-        let marks = self.filtered.marks();
         let output = self.filtered.step(event, twin);
-        self.filtered.end(&mut self.listeners, &marks);
+        if is_told {
+            self.filtered.end(&mut self.listeners, &self.marks);
+        }
         output
     }
 

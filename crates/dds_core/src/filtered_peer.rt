@@ -171,10 +171,12 @@ impl<F: Filter> FilteredPeer<F> {
     }
 
     /// What its statuses say before an event.
-    pub(crate) fn marks(&self) -> Marks
-        ensures { MarksPeer self.now.peer result }
+    // Few steps have listeners, and the others need no place for what it makes.
+    #[inline(never)]
+    pub(crate) fn mark(&self, marks: &mut Marks)
+        ensures { MarksPeer self.now.peer marks.new }
     {
-        self.peer.marks()
+        *marks = self.peer.marks();
     }
 
     /// The end of an event, before which the peer had these marks: listeners are told what it raised.

@@ -29,6 +29,14 @@ pub struct Marks {
     pub readers: [ReaderMark; MAX_ENDS],
 }
 
+impl Marks {
+    /// Of a peer at which nothing has happened.
+    pub const NOTHING: Marks = Marks {
+        writers: [0; MAX_ENDS],
+        readers: [ReaderMark::NOTHING; MAX_ENDS],
+    };
+}
+
 /// How often the liveliness of each of these writers was lost.
 pub fn mark_writers(writers: &[WriterEnd]) -> [u64; MAX_ENDS]
     requires few { length writers.now ≤ max_ends }
