@@ -421,35 +421,29 @@ impl ReaderCache {
         is_any_match(&self.instances, &self.qos, &any, masks, test, &self.samples)
     }
 
-    /// What an access by a test finds, where there is memory for it.
-    fn find_in_memory<T: Test>(
+    /// What an access finds that is not refused and for which there is no memory: nothing, which takes none, or something
+    /// is picked.
+    fn find_nothing<T: Test>(
         &self,
         kind: AccessKind,
-        selection: Selection,
+        selection: &Selection,
         test: &T,
     ) -> Result<Access, Code>
+        requires good { (h : List Happening) → StandsFor self.now h
+            → selection_refusal (qos_of self.now) h selection.now ≡ None }
         ensures found { IfOk result (λ access. (h : List Happening) → StandsFor self.now h
-            → IsAccess kind (qos_of self.now) h selection (T.meaning test.now) self.now.samples
+            → IsAccess kind (qos_of self.now) h selection.now (T.meaning test.now) self.now.samples
             access) }
         ensures gathered { IfOk result (λ access. IsGathered (length self.now.samples) access) }
         ensures sorted { IfOk result (λ access. IsNonDecreasingBy handle_in access.found.items) }
-        ensures refused { IfErr result (λ e. (h : List Happening) → StandsFor self.now h
-            → Refuses (selection_refusal (qos_of self.now) h selection) e) }
+        ensures memory { IfErr result (λ e. e ≡ Memory) }
+        ensures some { IfErr result (λ e. (h : List Happening) → StandsFor self.now h
+            → picked self.now h selection.now (T.meaning test.now) ≢ []) }
     {
-        let found = pick(
-            self.alloc,
-            &self.instances,
-            &self.qos,
-            &self.samples,
-            &self.summary,
-            selection,
-            test,
-        )?;
-        if found.is_empty() {
-            return Ok(Access::nothing(self.alloc));
+        if picks_any(&self.instances, &self.qos, &self.samples, selection, test) {
+            return Err(Code::Memory);
         }
-        let access = gather(self.alloc, kind, &self.samples, found)?;
-        Ok(access)
+        Ok(Access::nothing(self.alloc))
     }
 
     /// What an access by a test finds. Where it is refused for want of memory, something is picked: to find nothing
@@ -470,17 +464,24 @@ impl ReaderCache {
         ensures some { IfErr result (λ e. (h : List Happening) → StandsFor self.now h
             → e ≡ Memory → picked self.now h selection (T.meaning test.now) ≢ []) }
     {
-        let code = match self.find_in_memory(kind, selection, test) {
-            Ok(access) => return Ok(access),
-            Err(code) => code,
+        let picked = pick(
+            self.alloc,
+            &self.instances,
+            &self.qos,
+            &self.samples,
+            &self.summary,
+            selection,
+            test,
+        );
+        let found = match picked {
+            Ok(found) => found,
+            Err(Code::Memory) => return self.find_nothing(kind, &selection, test),
+            Err(code) => return Err(code),
         };
-        if code != Code::Memory {
-            return Err(code);
+        if found.is_empty() {
+            return Ok(Access::nothing(self.alloc));
         }
-        if picks_any(&self.instances, &self.qos, &self.samples, &selection, test) {
-            return Err(Code::Memory);
-        }
-        Ok(Access::nothing(self.alloc))
+        gather(self.alloc, kind, &self.samples, found)
     }
 
     /// Takes up that an access of this kind returned what it found, which is whole then.
@@ -546,9 +547,14 @@ impl ReaderCache {
         // It takes the room of one entry at most.
         ensures room { room_of self.old ≤ room_of self.new + 1 }
     {
-        let mut access = self.find(kind, selection, test)?;
-        self.enter(kind, &mut access)?;
-        answer_of(access)
+        // Not by `?`, which would move what is found once more.
+        match self.find(kind, selection, test) {
+            Ok(mut access) => {
+                self.enter(kind, &mut access)?;
+                answer_of(access)
+            }
+            Err(code) => Err(code),
+        }
     }
 
     /// The same as `access`, and the samples once more: two equal collections. All memory is asked for before the cache
