@@ -156,6 +156,7 @@ pub fn is_any_match<T: Test>(
 }
 
 /// A kept sample of a known instance as a candidate, if it is present, meets the masks and passes the test.
+#[inline(always)]
 fn candidate_of<T: Test>(
     known: &KnownInstance,
     qos: &ReaderQos,

@@ -101,6 +101,7 @@ impl Chains {
     }
 
     /// The index of the span of an instance, and the span, if it has one.
+    #[inline(always)]
     fn find(&self, key: Key) -> Option<(usize, Span)>
         ensures { MatchOption result (get same_key self.now.spans key ≡ None)
             (IsFoundAt self.now key) }
@@ -169,6 +170,7 @@ impl Chains {
 
     /// Where the samples of an instance begin, or those alone that were not read: none is before it, but for those that are
     /// gone.
+    #[inline(always)]
     pub fn first(&self, key: Key, is_unread: bool) -> usize
         ensures first { (ks : List Kept) → AreChainsOf ks self.now → is_unread ≡ false → IsFirst ks key result }
         ensures unread { (ks : List Kept) → AreChainsOf ks self.now → is_unread ≡ true

@@ -54,6 +54,7 @@ fn as_sample(candidate: &Candidate, ranks: &mut Ranks, value: Octets) -> Sample
 
 /// The collection of candidates that stand by handle, as it is before an access of this kind is entered. It goes over
 /// them from the last one to the first, as their ranks are told.
+#[inline(always)]
 fn collect(
     alloc: Global,
     kind: AccessKind,
@@ -151,6 +152,7 @@ pub fn twice(
 }
 
 /// What an access of this kind returns that picked these, which stand by handle.
+#[inline(always)]
 pub fn gather(
     alloc: Global,
     kind: AccessKind,

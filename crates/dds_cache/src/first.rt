@@ -52,6 +52,7 @@ fn first_place(instances: &Instances, selection: &Selection) -> usize
 }
 
 /// What is known of the first of the known instances that an access asks for.
+#[inline(always)]
 fn first_asked(instances: &Instances, selection: &Selection) -> Option<KnownInstance>
     ensures counts { IfSome result IsCountable }
     ensures first { (q : ReaderQos) (h : List Happening) → Stands q instances.now h
@@ -117,6 +118,7 @@ fn find_next<T: Test>(
 
 /// The samples that an access picks, as far as the first instance that it asks for tells, or a pass from one instance to the
 /// next, over no more of them than samples are kept; `None` where they don't.
+#[inline(always)]
 pub fn find_first<T: Test>(
     alloc: Global,
     content: &Content<'_>,

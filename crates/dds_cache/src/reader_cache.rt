@@ -649,6 +649,7 @@ fn data_after(data_at: Option<u64>, before: usize, after: usize, position: u64) 
 }
 
 /// The samples of an access, or that there is none.
+#[inline(always)]
 fn answer_of(access: Access) -> Result<Sequence<Sample>, Code>
     ensures { result
         ≡ (if length access.positions.items == 0 then Err NoData else Ok access.samples.items) }

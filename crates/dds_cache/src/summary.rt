@@ -40,6 +40,7 @@ impl Summary {
     }
 
     /// Sums these samples up anew. It goes once over them.
+    #[inline(always)]
     pub fn renew(&mut self, samples: &[Kept])
         ensures { IsSummary samples.now self.new }
     {

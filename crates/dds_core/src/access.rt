@@ -19,6 +19,7 @@ use dds_machine::Reply;
 use dds_protocol::Output;
 
 impl Peer {
+    #[inline(always)]
     pub(crate) fn access(
         &mut self,
         kind: AccessKind,

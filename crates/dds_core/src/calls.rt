@@ -162,6 +162,7 @@ impl Peer {
         answered(self.alloc, Reply::LivelinessLost(status))
     }
 
+    #[inline(always)]
     fn write(&mut self, writer: u8, key: Key, value: Octets) -> Output
         ensures step { Steps self.old (event.Call (call.Write writer key value)) result self.new }
         ensures sends { Sends self.old (event.Call (call.Write writer key value)) result }

@@ -463,6 +463,7 @@ impl Peer {
     }
 
     /// The bytes of a packet come.
+    #[inline(always)]
     pub(crate) fn deliver(&mut self, packet: &Octets, twin: &mut Twin) -> Output
         ensures step { SoundSteps self.old (event.Deliver packet.now) result self.new }
         ensures messages { AreMessages result.packets }

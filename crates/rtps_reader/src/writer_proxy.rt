@@ -395,6 +395,7 @@ impl WriterProxy {
     }
 
     /// Moves the place as far as it can, and tells what was passed over.
+    #[inline(always)]
     fn moved<S: Sink>(&mut self, sink: &mut S, source: &Source) -> Step
         requires sound { IsSound self.old }
         requires matched { IsMatched (S.qos sink.old) source.now.publication }

@@ -1,10 +1,10 @@
 //! Messages between peers, and their bytes.
 //!
 //! `read_message` gives the one message that bytes are, `begin_message` and `next_submessage` the same one submessage
-//! after the other, without memory, and `next_frame` before their bodies are read; `write_message` the one written form of a message, and `write_change` that of the one
-//! that announces a change; what is written is read as itself. `DataContent` is what a DATA says of a change. The grammar
-//! stands in `specs/`, one file for each submessage, and in words in `docs/WIRE.md`. Not here: what a peer does at a
-//! submessage.
+//! after the other, without memory, and `next_frame` each before its body is read; `write_message` the one written form of
+//! a message, and `write_change` that of the one that announces a change; what is written is read as itself. `DataContent`
+//! is what a DATA says of a change. The grammar stands in `specs/`, one file for each submessage, and in words in
+//! `docs/WIRE.md`. Not here: what a peer does at a submessage.
 //!
 //! RTPS 2.5, 8.3 (messages) and 9.4 (their bytes).
 //!
