@@ -186,6 +186,7 @@ pub fn next_submessage(bytes: &[u8]) -> Option<(Submessage<'_>, &[u8])>
 }
 
 /// Adds the submessages up to where reading ends. Returns what stands there.
+#[inline(always)]
 fn read_submessages<'a>(
     submessages: &mut Submessages<'a>,
     bytes: &'a [u8],
@@ -215,6 +216,7 @@ fn read_submessages<'a>(
 /// `Memory` where no memory was found for the list of submessages; bytes that have none need no memory.
 ///
 /// RTPS 2.5, 8.3.4 and 9.4.
+#[inline(always)]
 pub fn read_message(alloc: Global, bytes: &[u8]) -> Result<Option<Read<'_>>, Code>
     // What is read is the message of these bytes, and reading ends there.
     ensures found { IfOk result

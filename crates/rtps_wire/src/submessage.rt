@@ -84,6 +84,7 @@ impl<'a> Submessages<'a> {
     /// # Errors
     ///
     /// Where a growth was refused; one of the first `FEW_SUBMESSAGES` needs none.
+    #[inline(always)]
     pub fn push(&mut self, submessage: Submessage<'a>) -> Result<(), AllocError>
         // It stands at the end.
         ensures ok { OnOk result (self.new ≡ self.old ++ submessage.entry ∷ []) }
