@@ -9,9 +9,10 @@ use Rattle.dds_base.specs.declared.key.Key.{Key}
 use Rattle.dds_base.specs.Happening.{same_key}
 use Rattle.dds_base.proofs.KeyLaws.{key-Decides, key-same, same_key-comm, same_key-refl}
 use Rattle.dds_cache.specs.declared.chains.Chains.{Chains}
+use Rattle.dds_cache.specs.declared.chains.Latest.{Latest}
 use Rattle.dds_cache.specs.declared.chains.Span.{Span}
 use Rattle.dds_cache.specs.declared.kept.Kept.{Kept}
-use Rattle.dds_cache.specs.Chains.{AreChainsOf, AreOthers, IsFirst, IsFirstUnread, IsLinked, IsSpan, Leads, with_more}
+use Rattle.dds_cache.specs.Chains.{AreChainsOf, AreOthers, HasSpan, IsFirst, IsFirstUnread, IsLinked, IsSpan, Leads, is_latest, span_by, span_of, with_more}
 
 -- two keys that the test tells apart are two
 pub keys-apart : (i j : Key) → same_key i j ≡ false → i ≢ j
@@ -29,6 +30,52 @@ pub where-ok : {A E : Type 0} (r : Result A E) (P : Type 0) → is_ok r ≡ true
 where-ok (Ok x) P is holds = holds
 where-ok (Err e) P is holds = absurd (let clash : false ≡ true = is in cc)
 
+-- an instance that is the latest now has the span that is said of it, and each other one what it had, if that was put back
+pub has-latest : (old new : Chains) (latest : Latest) → new.latest ≡ Some latest
+    → ((j : Key) → same_key latest.key j ≡ false → get same_key new.spans j ≡ span_of old j)
+    → HasSpan old latest.key latest.span new
+has-latest old new latest is others = λ j. here j ∙ one j (same_key latest.key j) refl
+  where
+    here : (j : Key)
+        → span_of new j ≡ cond (same_key latest.key j) (Some latest.span) (get same_key new.spans j)
+    here j = ap (λ (o : Option Latest). span_by o (get same_key new.spans j) j) is
+
+    one : (j : Key) (b : Bool) → same_key latest.key j ≡ b
+        → cond b (Some latest.span) (get same_key new.spans j) ≡ cond b (Some latest.span) (span_of old j)
+    one j true own = refl
+    one j false other = others j other
+
+-- one that is not the latest has the span that is kept of it
+pub kept-span : (chains : Chains) (i : Key) → is_latest chains.latest i ≡ false
+    → span_of chains i ≡ get same_key chains.spans i
+kept-span chains i apart = one chains.latest (get same_key chains.spans i) apart
+  where
+    one : (o : Option Latest) (kept : Option Span) → is_latest o i ≡ false → span_by o kept i ≡ kept
+    one None kept apart = refl
+    one (Some l) kept apart = ap (λ (b : Bool). cond b (Some l.span) kept) apart
+
+-- where that is another one now, it has it
+pub has-kept : (old new : Chains) (i : Key) (span : Span) → is_latest old.latest i ≡ false → new.latest ≡ old.latest
+    → Updates same_key old.spans new.spans i (Some span) → HasSpan old i span new
+has-kept old new i span apart latest updates = λ j.
+    ap (λ (o : Option Latest). span_by o (get same_key new.spans j) j) latest
+    ∙ (ap (λ (kept : Option Span). span_by old.latest kept j) (updates.0 j)
+    ∙ one old.latest j (get same_key old.spans j) apart)
+  where
+    both : (l : Latest) (j : Key) (kept : Option Span) (own at : Bool) → same_key l.key j ≡ own → same_key i j ≡ at
+        → same_key l.key i ≡ false
+        → cond own (Some l.span) (cond at (Some span) kept) ≡ cond at (Some span) (cond own (Some l.span) kept)
+    both l j kept false at is there apart = refl
+    both l j kept true false is there apart = refl
+    both l j kept true true is there apart =
+        let clash : true ≡ false =
+        sym is ∙ (ap (λ (k : Key). same_key l.key k) (sym (key-same i j there)) ∙ apart) in cc
+
+    one : (o : Option Latest) (j : Key) (kept : Option Span) → is_latest o i ≡ false
+        → span_by o (cond (same_key i j) (Some span) kept) j ≡ cond (same_key i j) (Some span) (span_by o kept j)
+    one None j kept apart = refl
+    one (Some l) j kept apart = both l j kept (same_key l.key j) (same_key i j) refl refl apart
+
 -- a place among those with one more is an earlier one, or the last
 earlier-or-last : (ks : List Kept) (k : Kept) (at : ℕ) → at < length (ks ++ k ∷ [])
     → (at < length ks) ⊎ (at ≡ length ks)
@@ -44,12 +91,12 @@ earlier-or-last ks k at within =
         inl (omega (arith, within, apart))
 
 -- where an instance has no span, none of the samples is of it
-pub none-spanned : (ks : List Kept) (i : Key) (chains : Chains) → IsLinked ks chains → None ≡ get same_key chains.spans i
+pub none-spanned : (ks : List Kept) (i : Key) (chains : Chains) → IsLinked ks chains → None ≡ span_of chains i
     → (at : ℕ) (d : Kept) → at < length ks → (get_or ks at d).sample.key ≢ i
 none-spanned ks i chains linked none at d within own =
     let clash : true ≡ false =
     sym (linked.each at d within)
-    ∙ (ap (λ (j : Key). is_some (get same_key chains.spans j)) own ∙ sym (ap is_some none)) in cc
+    ∙ (ap (λ (j : Key). is_some (span_of chains j)) own ∙ sym (ap is_some none)) in cc
 
 -- with one more sample those of an instance end at its place, and begin no later than there, or than they did
 more-last : (o : Option Span) (place : ℕ) → (with_more o place).last ≡ place
@@ -74,9 +121,9 @@ unread-stays (Some a) b place is = let same : a.unread ≡ b.unread = cc in omeg
 
 module _ (ks : List Kept) (k : Kept) (old led new : Chains) (link : ℕ) (linked : IsLinked ks old)
     (leads : Leads old k.sample.key (length ks) led) (links : new.links.items ≡ led.links.items ++ link ∷ [])
-    (spans : new.spans ≡ led.spans) where
+    (spans : (i : Key) → span_of new i ≡ span_of led i) where
   abbrev had : Option Span
-  had = get same_key old.spans k.sample.key
+  had = span_of old k.sample.key
 
   abbrev span : Span
   span = with_more had (length ks)
@@ -84,9 +131,9 @@ module _ (ks : List Kept) (k : Kept) (old led new : Chains) (link : ℕ) (linked
   ends : span.last ≡ length ks
   ends = more-last had (length ks)
 
-  spanned : (i : Key) → get same_key new.spans i
-      ≡ cond (same_key k.sample.key i) (Some span) (get same_key old.spans i)
-  spanned i = ap (λ m. get same_key m i) spans ∙ leads.updates.0 i
+  spanned : (i : Key) → span_of new i
+      ≡ cond (same_key k.sample.key i) (Some span) (span_of old i)
+  spanned i = spans i ∙ leads.spans i
 
   earlier : (at : ℕ) (d : Kept) → at < length ks → (get_or (ks ++ k ∷ []) at d).sample.key ≡ (get_or ks at d).sample.key
   earlier at d within = ap (λ (x : Kept). x.sample.key) (get_or_append_left ks (k ∷ []) d at within)
@@ -101,20 +148,20 @@ module _ (ks : List Kept) (k : Kept) (old led new : Chains) (link : ℕ) (linked
 
   -- none of the instance was kept, or it had a span
   before : (at : ℕ) (d : Kept) → at < length ks → (get_or ks at d).sample.key ≡ k.sample.key
-      → (b : Span) × (get same_key old.spans k.sample.key ≡ Some b)
-  before at d within same = one (get same_key old.spans k.sample.key) refl
+      → (b : Span) × (span_of old k.sample.key ≡ Some b)
+  before at d within same = one (span_of old k.sample.key) refl
     where
-      one : (o : Option Span) → get same_key old.spans k.sample.key ≡ o → (b : Span) × (get same_key old.spans k.sample.key ≡ Some b)
+      one : (o : Option Span) → span_of old k.sample.key ≡ o → (b : Span) × (span_of old k.sample.key ≡ Some b)
       one (Some b) is = (b, is)
       one None is = absurd (none-spanned ks k.sample.key old linked (sym is) at d within same)
 
   passes-none : (at j : ℕ) (d e : Kept) → at < length ks → at < j → j < get_or new.links.items at 0
       → j < length (ks ++ k ∷ []) → (get_or (ks ++ k ∷ []) j e).sample.key ≡ (get_or ks at d).sample.key → ⊥
-  passes-none at j d e within behind below inside same = one (earlier-or-last ks k j inside) (ended (get same_key old.spans k.sample.key) refl)
+  passes-none at j d e within behind below inside same = one (earlier-or-last ks k j inside) (ended (span_of old k.sample.key) refl)
     where
-      ended : (o : Option Span) → get same_key old.spans k.sample.key ≡ o
-          → ((b : Span) × (get same_key old.spans k.sample.key ≡ Some b) × (at ≡ b.last))
-          ⊎ ((b : Span) → get same_key old.spans k.sample.key ≡ Some b → at ≢ b.last)
+      ended : (o : Option Span) → span_of old k.sample.key ≡ o
+          → ((b : Span) × (span_of old k.sample.key ≡ Some b) × (at ≡ b.last))
+          ⊎ ((b : Span) → span_of old k.sample.key ≡ Some b → at ≢ b.last)
       ended None is = inr (λ b some. absurd (let clash : true ≡ false = sym (ap is_some some) ∙ ap is_some is in cc))
       ended (Some b) is = ⊎_elim
           (λ at_last. inl (b, is, eqb-true at b.last at_last))
@@ -126,8 +173,8 @@ module _ (ks : List Kept) (k : Kept) (old led new : Chains) (link : ℕ) (linked
           injected same = cc
 
       one : (j < length ks) ⊎ (j ≡ length ks)
-          → ((b : Span) × (get same_key old.spans k.sample.key ≡ Some b) × (at ≡ b.last))
-          ⊎ ((b : Span) → get same_key old.spans k.sample.key ≡ Some b → at ≢ b.last) → ⊥
+          → ((b : Span) × (span_of old k.sample.key ≡ Some b) × (at ≡ b.last))
+          ⊎ ((b : Span) → span_of old k.sample.key ≡ Some b → at ≢ b.last) → ⊥
       one (inl there) (inl (b, is, at_last)) =
           let s : IsSpan ks k.sample.key b = linked.spans k.sample.key b is in
           let own : (get_or ks at d).sample.key ≡ k.sample.key = ap (λ (n : ℕ). (get_or ks n d).sample.key) at_last ∙ s.own d in
@@ -151,7 +198,7 @@ module _ (ks : List Kept) (k : Kept) (old led new : Chains) (link : ℕ) (linked
           (omega (arith, below, link-is at within, leads.same at apart, s.within, new)) s.within
           (s.own d ∙ sym own)
 
-  span-is : (i : Key) (s : Span) → get same_key new.spans i ≡ Some s → IsSpan (ks ++ k ∷ []) i s
+  span-is : (i : Key) (s : Span) → span_of new i ≡ Some s → IsSpan (ks ++ k ∷ []) i s
   span-is i s is = one (cases_Bool (same_key k.sample.key i))
     where
       len : length (ks ++ k ∷ []) ≡ length ks + 1
@@ -161,7 +208,7 @@ module _ (ks : List Kept) (k : Kept) (old led new : Chains) (link : ℕ) (linked
       one (inl own) =
           let key : k.sample.key ≡ i = key-same k.sample.key i own in
           let which : Some s ≡ Some span =
-          sym is ∙ (spanned i ∙ ap (λ (b : Bool). cond b (Some span) (get same_key old.spans i)) own) in
+          sym is ∙ (spanned i ∙ ap (λ (b : Bool). cond b (Some span) (span_of old i)) own) in
           let same : s ≡ span = cc in
           subst (λ (x : Span). IsSpan (ks ++ k ∷ []) i x) (sym same) (record {
             within = omega (arith, len, ends);
@@ -188,8 +235,8 @@ module _ (ks : List Kept) (k : Kept) (old led new : Chains) (link : ℕ) (linked
           })
       one (inr other) =
           let apart : k.sample.key ≢ i = keys-apart k.sample.key i other in
-          let before_is : get same_key old.spans i ≡ Some s =
-          sym (spanned i ∙ ap (λ (b : Bool). cond b (Some span) (get same_key old.spans i)) other) ∙ is in
+          let before_is : span_of old i ≡ Some s =
+          sym (spanned i ∙ ap (λ (b : Bool). cond b (Some span) (span_of old i)) other) ∙ is in
           let was : IsSpan ks i s = linked.spans i s before_is in
           record {
             within = omega (arith, len, was.within);
@@ -213,17 +260,17 @@ module _ (ks : List Kept) (k : Kept) (old led new : Chains) (link : ℕ) (linked
                 (earlier-or-last ks k at within);
           }
 
-  has-span : (i : Key) → (i ≡ k.sample.key) ⊎ (is_some (get same_key old.spans i) ≡ true)
-      → is_some (get same_key new.spans i) ≡ true
+  has-span : (i : Key) → (i ≡ k.sample.key) ⊎ (is_some (span_of old i) ≡ true)
+      → is_some (span_of new i) ≡ true
   has-span i from = one (same_key k.sample.key i) refl from
     where
-      one : (b : Bool) → same_key k.sample.key i ≡ b → (i ≡ k.sample.key) ⊎ (is_some (get same_key old.spans i) ≡ true)
-          → is_some (get same_key new.spans i) ≡ true
+      one : (b : Bool) → same_key k.sample.key i ≡ b → (i ≡ k.sample.key) ⊎ (is_some (span_of old i) ≡ true)
+          → is_some (span_of new i) ≡ true
       one true is from =
-          ap is_some (spanned i ∙ ap (λ (b : Bool). cond b (Some span) (get same_key old.spans i)) is)
+          ap is_some (spanned i ∙ ap (λ (b : Bool). cond b (Some span) (span_of old i)) is)
       one false is (inl same) = absurd (keys-apart k.sample.key i is (sym same))
       one false is (inr some) =
-          ap is_some (spanned i ∙ ap (λ (b : Bool). cond b (Some span) (get same_key old.spans i)) is) ∙ some
+          ap is_some (spanned i ∙ ap (λ (b : Bool). cond b (Some span) (span_of old i)) is) ∙ some
 
   -- with one more sample the chains are those of all of them
   pub linked-more : IsLinked (ks ++ k ∷ []) new
@@ -237,7 +284,7 @@ module _ (ks : List Kept) (k : Kept) (old led new : Chains) (link : ℕ) (linked
         (earlier-or-last ks k at within);
     spans = span-is;
     each = λ at d within. ⊎_elim
-        (λ there. ap (λ (i : Key). is_some (get same_key new.spans i)) (earlier at d there)
+        (λ there. ap (λ (i : Key). is_some (span_of new i)) (earlier at d there)
         ∙ has-span (get_or ks at d).sample.key (inr (linked.each at d there)))
         (λ new. has-span (get_or (ks ++ k ∷ []) at d).sample.key (inl (ap (λ (x : Kept). x.sample.key) (last at d new))))
         (earlier-or-last ks k at within);
@@ -267,7 +314,7 @@ chains-same old new chains len keys outs reads are = λ whole.
                 (reads at d (within at inside) new_one);
             last = λ at d inside own. was.last at d (within at inside) (sym (keys at d (within at inside)) ∙ own);
           };
-      each = λ at d inside. ap (λ (i : Key). is_some (get same_key chains.spans i)) (keys at d (within at inside))
+      each = λ at d inside. ap (λ (i : Key). is_some (span_of chains i)) (keys at d (within at inside))
           ∙ linked.each at d (within at inside);
     }
 
@@ -334,9 +381,9 @@ unread-after ks i at next k within returned begins others = λ j d inside own st
 
 -- the samples of an instance may begin at other places
 pub linked-first : (ks : List Kept) (i : Key) (first unread : ℕ) (before : Span) (old new : Chains) → IsLinked ks old
-    → new.links ≡ old.links → get same_key old.spans i ≡ Some before → IsFirst ks i first → IsFirstUnread ks i unread
-    → Updates same_key old.spans new.spans i (Some (record { first = first; unread = unread; last = before.last })) → IsLinked ks new
-linked-first ks i first unread before old new linked links was begins begins_unread updates = record {
+    → new.links ≡ old.links → span_of old i ≡ Some before → IsFirst ks i first → IsFirstUnread ks i unread
+    → HasSpan old i (record { first = first; unread = unread; last = before.last }) new → IsLinked ks new
+linked-first ks i first unread before old new linked links was begins begins_unread has = record {
   len = ap (λ v. length v.items) links ∙ linked.len;
   links = λ at d within. subst (λ (m : ℕ). AreOthers ks (get_or ks at d).sample.key at m)
       (sym (ap (λ v. get_or v.items at 0) links)) (linked.links at d within);
@@ -347,11 +394,11 @@ linked-first ks i first unread before old new linked links was begins begins_unr
     span : Span
     span = record { first = first; unread = unread; last = before.last }
 
-    one : (j : Key) (s : Span) → get same_key new.spans j ≡ Some s → (same_key i j ≡ true) ⊎ (same_key i j ≡ false)
+    one : (j : Key) (s : Span) → span_of new j ≡ Some s → (same_key i j ≡ true) ⊎ (same_key i j ≡ false)
         → IsSpan ks j s
     one j s is (inl own) =
         let which : Some s ≡ Some span = sym is
-        ∙ (updates.0 j ∙ ap (λ (b : Bool). cond b (Some span) (get same_key old.spans j)) own) in
+        ∙ (has j ∙ ap (λ (b : Bool). cond b (Some span) (span_of old j)) own) in
         let same : s ≡ span = cc in
         let old_span : IsSpan ks i before = linked.spans i before was in
         subst (λ (x : Key). IsSpan ks x s) (key-same i j own) (subst (λ (x : Span). IsSpan ks i x) (sym same) (record {
@@ -363,11 +410,11 @@ linked-first ks i first unread before old new linked links was begins begins_unr
         }))
     one j s is (inr other) =
         linked.spans j s
-        (sym (updates.0 j ∙ ap (λ (b : Bool). cond b (Some span) (get same_key old.spans j)) other) ∙ is)
+        (sym (has j ∙ ap (λ (b : Bool). cond b (Some span) (span_of old j)) other) ∙ is)
 
-    still : (j : Key) → is_some (get same_key old.spans j) ≡ true → (same_key i j ≡ true) ⊎ (same_key i j ≡ false)
-        → is_some (get same_key new.spans j) ≡ true
+    still : (j : Key) → is_some (span_of old j) ≡ true → (same_key i j ≡ true) ⊎ (same_key i j ≡ false)
+        → is_some (span_of new j) ≡ true
     still j had (inl own) =
-        ap is_some (updates.0 j ∙ ap (λ (b : Bool). cond b (Some span) (get same_key old.spans j)) own)
+        ap is_some (has j ∙ ap (λ (b : Bool). cond b (Some span) (span_of old j)) own)
     still j had (inr other) =
-        ap is_some (updates.0 j ∙ ap (λ (b : Bool). cond b (Some span) (get same_key old.spans j)) other) ∙ had
+        ap is_some (has j ∙ ap (λ (b : Bool). cond b (Some span) (span_of old j)) other) ∙ had

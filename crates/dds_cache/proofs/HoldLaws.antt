@@ -1,5 +1,5 @@
 -- Of which instances something is present is seen among what is kept, and so whether an entry ends a life.
-use Rattle.std.proofs.Common.{◌≡◌, ℕ, ◌+◌, ◌-◌, ◌≤◌, List, [], ◌∷◌, length, filter, map, cond, Bool, true, false, not, ◌&&◌, ◌||◌, sym, ap, ◌∙◌, refl, Option, Some, arith, suc, add-one, ⊎_elim, get_or}
+use Rattle.std.proofs.Common.{◌≡◌, ℕ, ◌+◌, ◌-◌, ◌≤◌, List, [], ◌∷◌, length, filter, map, cond, Bool, true, false, not, ◌&&◌, ◌||◌, sym, ap, ◌∙◌, refl, Option, Some, arith, zero, suc, add-one, ⊎_elim, get_or, take, ◌<◌, ◌≢◌}
 use Rattle.std.specs.Prelude.{if◌then◌else◌}
 use Rattle.std.specs.List.{list_any, All}
 use Rattle.std.proofs.lemmas.Bool.{and_right, cases_Bool, ltb-false, le-ltb}
@@ -21,6 +21,7 @@ use Rattle.dds_base.proofs.LifeLaws.{as_of-older, as_of-newest, ends-unmarked, m
 use Rattle.dds_base.proofs.KeyLaws.{key-same}
 use Rattle.dds_instances.specs.Table.{Table}
 use Rattle.dds_cache.specs.declared.kept.Kept.{Kept}
+use Rattle.dds_cache.specs.Chains.{IsFirst}
 use Rattle.dds_cache.specs.Finding.{Holds}
 use Rattle.dds_cache.specs.Kept.{IsFresh, IsKept, is_among, is_here, out_if, position_of, positions_in, sample_at, taken}
 use Rattle.dds_cache.proofs.PresenceLaws.{present-reached, reached}
@@ -68,6 +69,57 @@ here-by q h i k b kept is =
     ∙ ap (λ (x : Bool). same_key k.sample.key i && x) (sym (stays-present q h k kept) ∙ sym is))
     (λ other. ap (λ (x : Bool). x && is_present q h i k.sample.position) other
     ∙ sym (ap (λ (x : Bool). x && b) other))
+    (cases_Bool (same_key k.sample.key i))
+
+both-none : (a b : Bool) → (a || b) ≡ false → (a ≡ false) × (b ≡ false)
+both-none false b none = (refl, none)
+both-none true b none = absurd (let clash : true ≡ false = none in cc)
+
+neither : (a b : Bool) → a ≡ false → b ≡ false → (a || b) ≡ false
+neither a b no_a no_b = ap (λ (x : Bool). x || b) no_a ∙ no_b
+
+-- where none of the first m is one, and none from there on below n is, none of the first n is
+pub none-further : (p : Kept → Bool) (ks : List Kept) (m n : ℕ) → m ≤ n
+    → ((j : ℕ) (d : Kept) → m ≤ j → j < n → j < length ks → p (get_or ks j d) ≡ false)
+    → list_any p (take m ks) ≡ false → list_any p (take n ks) ≡ false
+none-further p [] m zero le none before = refl
+none-further p [] m (suc n) le none before = refl
+none-further p (k ∷ ks) zero zero le none before = refl
+none-further p (k ∷ ks) (suc m) zero le none before = absurd (omega (arith, le))
+none-further p (k ∷ ks) zero (suc n) le none before =
+    neither (p k) (list_any p (take n ks)) (none 0 k (omega arith) (omega arith) (omega arith))
+    (none-further p ks zero n (omega arith)
+    (λ j d from below within. none (suc j) d (omega arith) (omega (arith, below)) (omega (arith, within))) refl)
+none-further p (k ∷ ks) (suc m) (suc n) le none before =
+    neither (p k) (list_any p (take n ks)) (both-none (p k) (list_any p (take m ks)) before).0
+    (none-further p ks m n (omega (arith, le))
+    (λ j d from below within. none (suc j) d (omega (arith, from)) (omega (arith, below)) (omega (arith, within)))
+    (both-none (p k) (list_any p (take m ks)) before).1)
+
+-- no sample of an instance is present that is before its first one
+pub none-before : (q : ReaderQos) (h : List Happening) (i : Key) (ks : List Kept) (first : ℕ) → All (IsKept q h) ks
+    → IsFirst ks i first → (j : ℕ) (d : Kept) → j < first → j < length ks → is_here q h i (get_or ks j d) ≡ false
+none-before q h i ks first each begins j d below within =
+    ⊎_elim
+    (λ own. let is : k.sample.key ≡ i = key-same k.sample.key i own in
+    ⊎_elim
+    (λ out. ap (λ (x : Key). same_key k.sample.key i && is_present q h x k.sample.position) (sym is)
+    ∙ (ap (λ (b : Bool). same_key k.sample.key i && b) ((each j d within).out_is out)
+    ∙ and_right (same_key k.sample.key i) false refl))
+    (λ stays. let le : first ≤ j = begins j d within is stays in absurd (omega (arith, le, below)))
+    (cases_Bool k.is_out))
+    (λ other. ap (λ (b : Bool). b && is_present q h i k.sample.position) other)
+    (cases_Bool (same_key k.sample.key i))
+  where
+    k : Kept
+    k = get_or ks j d
+
+-- nor is one of another instance
+pub none-apart : (q : ReaderQos) (h : List Happening) (i : Key) (k : Kept) → k.sample.key ≢ i → is_here q h i k ≡ false
+none-apart q h i k apart =
+    ⊎_elim
+    (λ own. absurd (apart (key-same k.sample.key i own)))
+    (λ other. ap (λ (b : Bool). b && is_present q h i k.sample.position) other)
     (cases_Bool (same_key k.sample.key i))
 
 -- one more sample is noted, if it is present

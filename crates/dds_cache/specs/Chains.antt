@@ -1,11 +1,12 @@
 -- Where the kept samples of each instance are found. Inner functions alone cite this: nothing here has to be believed.
 --
 -- What a reader keeps is in DDS 1.4, 2.2.2.5 (read_instance, take_instance); how it is found is this project's own.
-use Rattle.std.specs.Prelude.{◌≡◌, ◌≢◌, ℕ, ◌<◌, ◌≤◌, List, length, get_or, min, Option, None, Some, is_some, slice_get, true, false}
-use Rattle.indexmap.specs.IndexMap.{Updates, get}
+use Rattle.std.specs.Prelude.{◌≡◌, ◌≢◌, ℕ, ◌<◌, ◌≤◌, List, length, get_or, min, Option, None, Some, is_some, slice_get, Bool, true, false, if◌then◌else◌}
+use Rattle.indexmap.specs.IndexMap.{get}
 use Rattle.dds_base.specs.declared.key.Key.{Key}
 use Rattle.dds_base.specs.Happening.{same_key}
 use Rattle.dds_cache.specs.declared.chains.Chains.{Chains}
+use Rattle.dds_cache.specs.declared.chains.Latest.{Latest}
 use Rattle.dds_cache.specs.declared.chains.Span.{Span}
 use Rattle.dds_cache.specs.declared.kept.Kept.{Kept}
 
@@ -36,19 +37,37 @@ pub record IsSpan (ks : List Kept) (i : Key) (span : Span) : Type 0 where
   pub unread : IsFirstUnread ks i span.unread
   pub last : IsLast ks i span.last
 
+-- an instance is the latest one
+abbrev pub is_latest : Option Latest → Key → Bool
+is_latest None i = false
+is_latest (Some latest) i = same_key latest.key i
+
+-- the span of an instance, if it has one, by the latest, and by what is kept of the others
+abbrev pub span_by : Option Latest → Option Span → Key → Option Span
+span_by None kept i = kept
+span_by (Some latest) kept i = if same_key latest.key i then Some latest.span else kept
+
+-- between which places the kept samples of an instance are, if it has any
+abbrev pub span_of : Chains → Key → Option Span
+span_of chains i = span_by chains.latest (get same_key chains.spans i) i
+
+-- one instance has this span now, and each other one what it had
+abbrev pub HasSpan : Chains → Key → Span → Chains → Type 0
+HasSpan old i span new = (j : Key) → span_of new j ≡ (if same_key i j then Some span else span_of old j)
+
 -- each kept sample has a link, which passes over no other of its instance, and its instance has a span
 pub record IsLinked (ks : List Kept) (chains : Chains) : Type 0 where
   pub len : length chains.links.items ≡ length ks
   pub links : (at : ℕ) (d : Kept) → at < length ks
       → AreOthers ks (get_or ks at d).sample.key at (get_or chains.links.items at 0)
-  pub spans : (i : Key) (span : Span) → get same_key chains.spans i ≡ Some span → IsSpan ks i span
-  pub each : (at : ℕ) (d : Kept) → at < length ks
-      → is_some (get same_key chains.spans (get_or ks at d).sample.key) ≡ true
+  pub spans : (i : Key) (span : Span) → span_of chains i ≡ Some span → IsSpan ks i span
+  pub each : (at : ℕ) (d : Kept) → at < length ks → is_some (span_of chains (get_or ks at d).sample.key) ≡ true
 
--- the span of an instance, and the index at which it stands
+-- the span of an instance, and the index at which the spans of all have it, unless it is the latest
 abbrev pub IsFoundAt : Chains → Key → ℕ × Span → Type 0
 IsFoundAt chains i found =
-    (slice_get chains.spans.entries found.0 ≡ Some (i, found.1)) × (get same_key chains.spans i ≡ Some found.1)
+    (span_of chains i ≡ Some found.1)
+    × (is_latest chains.latest i ≡ false → slice_get chains.spans.entries found.0 ≡ Some (i, found.1))
 
 -- the chains are those of the kept samples, where they are whole
 abbrev pub AreChainsOf : List Kept → Chains → Type 0
@@ -68,7 +87,7 @@ with_more (Some span) place = record {
 pub record Leads (old : Chains) (i : Key) (place : ℕ) (new : Chains) : Type 0 where
   pub whole : new.is_whole ≡ old.is_whole
   pub len : length new.links.items ≡ length old.links.items
-  pub same : (at : ℕ) → ((before : Span) → get same_key old.spans i ≡ Some before → at ≢ before.last)
+  pub same : (at : ℕ) → ((before : Span) → span_of old i ≡ Some before → at ≢ before.last)
       → get_or new.links.items at 0 ≡ get_or old.links.items at 0
-  pub led : (before : Span) → get same_key old.spans i ≡ Some before → get_or new.links.items before.last 0 ≤ place
-  pub updates : Updates same_key old.spans new.spans i (Some (with_more (get same_key old.spans i) place))
+  pub led : (before : Span) → span_of old i ≡ Some before → get_or new.links.items before.last 0 ≤ place
+  pub spans : HasSpan old i (with_more (span_of old i) place) new

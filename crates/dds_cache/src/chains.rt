@@ -2,11 +2,11 @@
 //!
 //! DDS 1.4, 2.2.2.5 (read_instance, take_instance, read_next_instance, take_next_instance).
 
-ghost use Rattle.std.specs.Prelude.{false, true, ◌≡◌, ◌<◌, ◌≤◌, ◌∷◌, ◌++◌, [], List, length, MatchOption, None, Some};
+ghost use Rattle.std.specs.Prelude.{false, true, ◌≡◌, ◌<◌, ◌≤◌, ◌∷◌, ◌++◌, [], List, length, MatchOption, None, Some, slice_get};
 ghost use Rattle.dds_cache.specs.declared.kept.Kept.{Kept};
-ghost use Rattle.indexmap.specs.IndexMap.{Updates, get};
+ghost use Rattle.indexmap.specs.IndexMap.{Updates};
 ghost use Rattle.dds_base.specs.Happening.{same_key};
-ghost use Rattle.dds_cache.specs.Chains.{AreChainsOf, AreOthers, IsFirst, IsFirstUnread, IsFoundAt, Leads, with_more};
+ghost use Rattle.dds_cache.specs.Chains.{AreChainsOf, AreOthers, HasSpan, IsFirst, IsFirstUnread, IsFoundAt, Leads, is_latest, span_of, with_more};
 
 use crate::kept::Kept;
 use dds_base::Key;
@@ -25,15 +25,25 @@ struct Span {
     last: usize,
 }
 
+/// Between which places the kept samples of the latest instance are.
+#[derive(Clone, Copy)]
+struct Latest {
+    key: Key,
+    span: Span,
+    /// At which index the spans of all have it, if they do.
+    at: usize,
+}
+
 /// Where the kept samples of each instance are: each has a link to the next one of its instance.
 #[derive(Drop)]
 pub struct Chains {
     /// By place, where the next sample of the instance is, or a place that is not behind it; `u32::MAX` where there is none.
     links: Vec<u32>,
-    /// By key, between which places the samples of an instance are.
+    /// By key, between which places the samples of an instance are. What it says of the latest one is older, or nothing.
     spans: IndexMap<Key, Span>,
-    /// The index among them of the instance that a sample was added of last: its key is compared before a key is hashed.
-    latest: usize,
+    /// The instance that a sample was added of last, if one was. Its key is compared before a key is hashed; where no other
+    /// instance has a sample, none ever is.
+    latest: Option<Latest>,
     /// Whether they are of all kept samples. They are not once memory was refused, until they are made anew: samples are
     /// then found by a pass over all.
     is_whole: bool,
@@ -77,18 +87,19 @@ impl Chains {
         Chains {
             links: Vec::new(alloc),
             spans: IndexMap::new(alloc),
-            latest: 0,
+            latest: None,
             is_whole: true,
         }
     }
 
-    /// Makes room for so many more samples, and for those of so many instances in all.
+    /// Makes room for so many more samples, and for those of so many instances in all. Of instances without a sample nothing is
+    /// kept, so there are never more of them than samples.
     pub fn reserve(&mut self, samples: usize, instances: usize) -> Result<(), AllocError>
         ensures { (ks : List Kept) → AreChainsOf ks self.old → AreChainsOf ks self.new }
     {
         self.links.reserve(samples)?;
-        self.spans
-            .reserve(instances.saturating_sub(self.spans.len()))
+        let spans = instances.min(self.links.len().saturating_add(samples));
+        self.spans.reserve(spans.saturating_sub(self.spans.len()))
     }
 
     /// Forgets all. It costs what there is to forget, however much there is room for.
@@ -97,29 +108,44 @@ impl Chains {
     {
         self.links.clear();
         self.spans.truncate(0);
+        self.latest = None;
         self.is_whole = true;
     }
 
-    /// The index of the span of an instance, and the span, if it has one.
+    /// Between which places the samples of an instance are, if it has any, and at which index the spans of all have that,
+    /// unless it is the latest.
     #[inline(always)]
     fn find(&self, key: Key) -> Option<(usize, Span)>
-        ensures { MatchOption result (get same_key self.now.spans key ≡ None)
-            (IsFoundAt self.now key) }
+        ensures { MatchOption result (span_of self.now key ≡ None) (IsFoundAt self.now key) }
     {
-        if let Some((latest, span)) = self.spans.get_index(self.latest) {
-            if *latest == key {
-                return Some((self.latest, *span));
+        if let Some(latest) = self.latest {
+            if latest.key == key {
+                return Some((latest.at, latest.span));
             }
+        }
+        if self.spans.is_empty() {
+            return None;
         }
         let (at, _, span) = self.spans.get_full(&key)?;
         Some((at, *span))
     }
 
-    /// Has this span at an index, in place of the one that is there.
-    fn replace(&mut self, at: usize, span: Span)
-        ensures spans { (i : Key) (before : Span) → IsFoundAt self.old i (at, before)
+    /// Whether a sample was added last of this instance.
+    fn is_latest(&self, key: Key) -> bool
+        ensures { result ≡ is_latest self.now.latest key }
+    {
+        match self.latest {
+            Some(latest) => latest.key == key,
+            None => false,
+        }
+    }
+
+    /// Has this span at an index of the spans of all, in place of the one that is there.
+    fn replace_at(&mut self, at: usize, span: Span)
+        ensures spans { (i : Key) (before : Span) → slice_get self.old.spans.entries at ≡ Some (i, before)
             → Updates same_key self.old.spans self.new.spans i (Some span) }
         ensures links { self.new.links ≡ self.old.links }
+        ensures latest { self.new.latest ≡ self.old.latest }
         ensures whole { self.new.is_whole ≡ self.old.is_whole }
     {
         if let Some(before) = self.spans.get_index_mut(at) {
@@ -127,35 +153,73 @@ impl Chains {
         }
     }
 
-    /// Has the last sample of an instance lead to a place behind all, and those of the instance end there, if it has any.
-    /// Returns whether it has.
-    fn lead_to(&mut self, key: Key, place: usize) -> bool
-        ensures leads { result ≡ true → Leads self.old key place self.new }
-        ensures none { result ≡ false → get same_key self.old.spans key ≡ None }
-        ensures same { result ≡ false → self.new ≡ self.old }
+    /// Has this span for an instance, in place of the one that was found of it.
+    fn replace(&mut self, key: Key, at: usize, span: Span)
+        ensures spans { (before : Span) → IsFoundAt self.old key (at, before) → HasSpan self.old key span self.new }
+        ensures links { self.new.links ≡ self.old.links }
+        ensures whole { self.new.is_whole ≡ self.old.is_whole }
     {
-        let Some((at, mut span)) = self.find(key) else {
-            return false;
-        };
-        let last = span.extend(place);
-        self.replace(at, span);
-        self.latest = at;
-        if let Some(link) = self.links.get_mut(last) {
-            *link = link_to(place);
+        if self.is_latest(key) {
+            self.latest = Some(Latest { key, span, at });
+        } else {
+            self.replace_at(at, span);
         }
-        true
     }
 
-    /// Has the samples of an instance end at a place behind all, whether or not it has any. Returns whether there was memory
-    /// for that.
+    /// Whether the spans of all have an instance at an index.
+    fn is_at(&self, key: Key, at: usize) -> bool
+        ensures { result ≡ true → (before : Span) × (slice_get self.now.spans.entries at ≡ Some (key, before)) }
+    {
+        match self.spans.get_index(at) {
+            Some((other, _)) => *other == key,
+            None => false,
+        }
+    }
+
+    /// Has the spans of all say of an instance what is said of it here. Returns whether there was memory for that.
+    fn put_back(&mut self, latest: Latest) -> bool
+        ensures spans { result ≡ true → Updates same_key self.old.spans self.new.spans latest.key (Some latest.span) }
+        ensures links { self.new.links ≡ self.old.links }
+        ensures latest { self.new.latest ≡ self.old.latest }
+        ensures whole { self.new.is_whole ≡ self.old.is_whole }
+    {
+        if self.is_at(latest.key, latest.at) {
+            self.replace_at(latest.at, latest.span);
+            return true;
+        }
+        self.spans.insert(latest.key, latest.span).is_ok()
+    }
+
+    /// Has this instance be the latest. What was said of the one before is put among the spans of all; returns whether there
+    /// was memory for that.
+    fn turn_to(&mut self, latest: Latest) -> bool
+        ensures spans { result ≡ true → HasSpan self.old latest.key latest.span self.new }
+        ensures links { self.new.links ≡ self.old.links }
+        ensures whole { self.new.is_whole ≡ self.old.is_whole }
+    {
+        match mem::replace(&mut self.latest, Some(latest)) {
+            None => true,
+            Some(before) => before.key == latest.key || self.put_back(before),
+        }
+    }
+
+    /// Has the last sample of an instance lead to a place behind all, and those of the instance end there, whether or not it
+    /// has any. Returns whether there was memory for that.
     fn end_at(&mut self, key: Key, place: usize) -> bool
         ensures { result ≡ true → Leads self.old key place self.new }
     {
-        if self.lead_to(key, place) {
-            return true;
+        let Some((at, mut span)) = self.find(key) else {
+            return self.turn_to(Latest {
+                key,
+                span: Span::of_one(place),
+                at: usize::MAX,
+            });
+        };
+        let last = span.extend(place);
+        if let Some(link) = self.links.get_mut(last) {
+            *link = link_to(place);
         }
-        self.latest = self.spans.len();
-        self.spans.insert(key, Span::of_one(place)).is_ok()
+        self.turn_to(Latest { key, span, at })
     }
 
     /// Takes up that a sample of an instance is added as the last, at a place.
@@ -240,6 +304,6 @@ impl Chains {
             unread: self.first_unread(samples, key, span.unread),
             last: span.last,
         };
-        self.replace(at, advanced);
+        self.replace(key, at, advanced);
     }
 }

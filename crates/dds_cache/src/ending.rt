@@ -12,32 +12,52 @@ ghost use Rattle.dds_base.specs.Instance.{is_known};
 ghost use Rattle.dds_base.specs.Life.{ends_life};
 ghost use Rattle.dds_instances.specs.Table.{Stands, alive_of, happened_of, is_held, room_of};
 ghost use Rattle.dds_cache.specs.Finding.{Holds};
-ghost use Rattle.dds_cache.specs.Kept.{IsFresh, IsKept, is_any_here};
+ghost use Rattle.dds_cache.specs.Chains.{AreChainsOf};
+ghost use Rattle.dds_cache.specs.Kept.{IsFresh, IsKept, IsSummary, is_any_here};
 ghost use Rattle.dds_cache.specs.Sweeping.{stays_of};
 
 use crate::arriving::is_accepted_write;
+use crate::chains::Chains;
 use crate::kept::{Kept, is_kept_after};
+use crate::summary::Summary;
 use crate::sweeping::is_still_live;
 use dds_base::{Arrival, Key, ReaderQos};
 use dds_instances::Instances;
 
-/// Whether some sample of an instance is present.
-fn is_any_present(instances: &Instances, qos: &ReaderQos, samples: &[Kept], key: Key) -> bool
+/// Whether some sample of an instance is present. It goes along the chain of the instance.
+fn is_any_present(
+    instances: &Instances,
+    qos: &ReaderQos,
+    samples: &[Kept],
+    chains: &Chains,
+    key: Key,
+) -> bool
+    requires chains { AreChainsOf samples.now chains.now }
     ensures { (h : List Happening) → Stands qos.now instances.now h
         → All (IsKept qos.now h) samples.now
         → result ≡ is_any_here qos.now h key samples.now }
 {
-    for kept in samples {
+    let mut place = chains.first(key, false);
+    while place < samples.len() {
+        let kept = &samples[place];
         if kept.sample.key == key && is_still_live(instances, qos, kept) {
             return true;
         }
+        place = chains.next(samples, key, place);
     }
     false
 }
 
 /// Whether a change, if it came, would end the life of its instance: it leaves nobody registered and no sample, and
-/// none is present. The samples are looked through only where nobody would be registered.
-pub fn is_end(instances: &Instances, qos: &ReaderQos, samples: &[Kept], arrival: &Arrival) -> bool
+/// none is present. The samples of the instance are looked through only where nobody would be registered.
+pub fn is_end(
+    instances: &Instances,
+    qos: &ReaderQos,
+    samples: &[Kept],
+    summary: &Summary,
+    arrival: &Arrival,
+) -> bool
+    requires counted { IsSummary samples.now summary.now }
     ensures { (h : List Happening) → Holds qos.now instances.now samples.now h
         → IsFresh h arrival.now.change.key
         → result ≡ ends_life qos.now arrival.now.change.key h (Came arrival.now) }
@@ -48,7 +68,7 @@ pub fn is_end(instances: &Instances, qos: &ReaderQos, samples: &[Kept], arrival:
     if is_kept_after(qos.history, 0, false) && is_accepted_write(instances, qos, arrival) {
         return false;
     }
-    !is_any_present(instances, qos, samples, arrival.change.key)
+    !is_any_present(instances, qos, samples, &summary.chains, arrival.change.key)
 }
 
 /// Notes of which instances a sweep would leave some sample, and of no other.

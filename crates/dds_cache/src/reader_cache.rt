@@ -51,8 +51,9 @@ const SPARE: usize = 16;
 /// A change takes about the same time however many samples and instances there are; now and then the samples that are
 /// no longer present are swept out. A read or a take goes over the samples as far as the last that it returns, where one
 /// instance has all that it asks for; else once over them, and sorts those that it returns by handle; and over none where
-/// the masks ask for none by what is known of all. An entry that may end the life of an instance goes over the samples
-/// too, and once more where it does, to let those go that it leaves behind.
+/// the masks ask for none by what is known of all. A change that may end the life of its instance goes along the samples of
+/// that one; a death, and a take of samples of an instance for which nobody is registered, go over all samples; and so does
+/// what ends a life, to let those go that it leaves behind.
 #[derive(Drop)]
 pub struct ReaderCache {
     alloc: Global,
@@ -217,7 +218,13 @@ impl ReaderCache {
         ensures room { room_of self.new + 1 ≡ room_of self.old }
     {
         let is_write = is_accepted_write(&self.instances, &self.qos, &arrival);
-        let is_end = is_end(&self.instances, &self.qos, &self.samples, &arrival);
+        let is_end = is_end(
+            &self.instances,
+            &self.qos,
+            &self.samples,
+            &self.summary,
+            &arrival,
+        );
         let known = self.instances.len();
         self.instances.come(&self.qos, &arrival, is_end).unwrap();
         let_go(
@@ -386,7 +393,7 @@ impl ReaderCache {
     /// if it is accepted, the present writes and the known instances are as many as they may be. It needs no memory.
     ///
     /// It goes over the samples that the change would push out of its history, where as many writes are present as may be; and
-    /// once over all samples where as many instances are known as may be.
+    /// along those of its instance where as many instances are known as may be, and it would leave nobody registered.
     ///
     /// DDS 1.4, 2.2.3 (RESOURCE_LIMITS).
     pub fn has_room(&self, arrival: &Arrival) -> bool

@@ -65,7 +65,9 @@ fn instances_fit(
     qos: &ReaderQos,
     arrival: &Arrival,
     samples: &[Kept],
+    summary: &Summary,
 ) -> bool
+    requires counted { IsSummary samples.now summary.now }
     ensures { (h : List Happening)
         → AwaitsAccepted qos.now instances.now samples.now arrival.now h
         → result
@@ -81,7 +83,7 @@ fn instances_fit(
     } else {
         instances.len().saturating_sub(1)
     };
-    let stays = !is_end(instances, qos, samples, arrival);
+    let stays = !is_end(instances, qos, samples, summary, arrival);
     keeps_to(qos.max_instances, others, stays)
 }
 
@@ -207,6 +209,6 @@ pub fn is_room(
         return true;
     }
     !instances.accepts(qos, arrival)
-        || instances_fit(instances, qos, arrival, samples)
+        || instances_fit(instances, qos, arrival, samples, summary)
             && samples_fit(instances, qos, arrival, samples, summary)
 }

@@ -29,4 +29,4 @@ returns c = λ ks k place key chains whole.
     (c.push.ensures.items
     ∙ ap (λ (b : Bool). if b then led.links.items ++ 4294967295 ∷ [] else led.links.items)
     (sym c.is_ok-has_link.ensures.value ∙ all.1))
-    refl
+    (λ i. refl)

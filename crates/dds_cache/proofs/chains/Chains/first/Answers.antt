@@ -12,8 +12,8 @@ returns-in-None-clause-unread c = λ ks chains is. λ at d within own stays unre
 
 pub returns-then-is_unread-clause-unread : goal.returns-then-is_unread-clause-unread
 returns-then-is_unread-clause-unread c = λ ks chains is.
-    ((chains c.if-not-self.false).spans c.args.key c.in-Some.span c.in-Some.ensures.1).unread
+    ((chains c.if-not-self.false).spans c.args.key c.in-Some.span c.in-Some.ensures.0).unread
 
 pub returns-else-is_unread-clause-first : goal.returns-else-is_unread-clause-first
 returns-else-is_unread-clause-first c = λ ks chains is.
-    ((chains c.if-not-self.false).spans c.args.key c.in-Some.span c.in-Some.ensures.1).first
+    ((chains c.if-not-self.false).spans c.args.key c.in-Some.span c.in-Some.ensures.0).first

@@ -1,16 +1,9 @@
-use Rattle.std.proofs.Common.{◌≡◌, true, false, subst}
-use Rattle.std.specs.Prelude.{IsSome}
-use Rattle.std.proofs.lemmas.Option.{slice_get_within}
-use Rattle.indexmap.proofs.CallerLemmas.{updates-with_value_at}
-use Rattle.dds_cache.proofs.ChainLaws.{keys-equivalent}
+use Rattle.std.proofs.Common.{◌∙◌, sym}
+use Rattle.dds_cache.proofs.ChainLaws.{has-kept}
 use Rattle.dds_cache.proofs.chains.Chains.replace.Goals as goal
 
-pub returns-in-Some-clause-spans : goal.returns-in-Some-clause-spans
-returns-in-Some-clause-spans c = λ i before found.
-    updates-with_value_at c.args.self.now.spans c.args.at c.args.span keys-equivalent c.get_index_mut.ensures.unique i before
-    found.0
-
-pub returns-in_default-clause-spans : goal.returns-in_default-clause-spans
-returns-in_default-clause-spans c = λ i before found.
-    absurd (let clash : false ≡ true =
-    subst IsSome c.in_default.is (c.get_index_mut.ensures.found.1 (slice_get_within _ _ _ found.0)) in cc)
+pub returns-else-is_latest-clause-spans : goal.returns-else-is_latest-clause-spans
+returns-else-is_latest-clause-spans c = λ before found.
+    let other = sym c.is_latest.ensures ∙ c.if-is_latest.false in
+    has-kept c.args.self.now c.replace_at.new.self c.args.key c.args.span other c.replace_at.ensures.latest
+    (c.replace_at.ensures.spans c.args.key before (found.1 other))
