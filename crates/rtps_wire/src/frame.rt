@@ -20,7 +20,7 @@ pub struct Frame<'a> {
     pub id: u8,
     /// The lowest bit tells the order of octets in its numbers, the others depend on the kind.
     pub flags: u8,
-    /// As many octets as its length says.
+    /// As many octets as its length says; where that is 0, and it is neither a PAD nor an INFO_TS, all to the message's end.
     pub body: &'a [u8],
 }
 
