@@ -1,5 +1,5 @@
 -- A submessage whose body is not read yet is taken up as the one that it is.
-use Rattle.std.proofs.Common.{◌≡◌, ℕ, List, Option, Some, None, refl, ap}
+use Rattle.std.proofs.Common.{◌≡◌, ℕ, List, Option, refl}
 use Rattle.std.specs.Prelude.{Result, Ok, Err, OnErr, OnOk}
 use Rattle.dds_base.specs.declared.guid.GuidPrefix.{GuidPrefix}
 use Rattle.rtps_wire.specs.declared.acknack.AckNack.{AckNack as AckNackBody}
@@ -16,31 +16,16 @@ use Rattle.dds_core.proofs.Taking.{readers_take}
 use Rattle.dds_core.proofs.Turns.{nobody_told}
 
 -- one that speaks to the receiver alone is taken up, and nothing is done
-nothing_taken : (old : PeerKept) (at : Receiver) (s : Submessage) (moves : List Move) (sent : Announced)
-    → ((a : AckNackBody) → s ≡ AckNack a → ⊥) → NamesNobody s → TakesOneMore old at s moves sent old moves sent
-nothing_taken old at s moves sent other nobody =
-    readers_take old old at s moves moves sent sent other
-    (nobody_told old at s moves sent (λ i k there reader_id writer_id by row named. nobody reader_id writer_id by))
-
-pub takes_info_dst : (old : PeerKept) (at : Receiver) (id flags : ℕ) (body : List ℕ) (prefix : GuidPrefix)
-    (moves : List Move) (sent : Announced) (left : Receiver) → Reads id flags body (InfoDst prefix)
-    → left ≡ after_submessage old.prefix at (InfoDst prefix)
+pub takes_for_receiver : (old : PeerKept) (at : Receiver) (id flags : ℕ) (body : List ℕ) (s : Submessage)
+    (moves : List Move) (sent : Announced) (left : Receiver) → ((a : AckNackBody) → s ≡ AckNack a → ⊥) → NamesNobody s
+    → Reads id flags body s → left ≡ after_submessage old.prefix at s
     → TakesFrame old at id flags body moves sent old moves sent left
-takes_info_dst old at id flags body prefix moves sent left read leaves = record {
-  submessage = InfoDst prefix;
+takes_for_receiver old at id flags body s moves sent left other nobody read leaves = record {
+  submessage = s;
   is_read = read;
-  takes = nothing_taken old at (InfoDst prefix) moves sent (λ a is. absurd cc) (λ reader_id writer_id by. by);
-  leaves = leaves;
-}
-
-pub takes_info_ts : (old : PeerKept) (at : Receiver) (id flags : ℕ) (body : List ℕ) (stamp : Option ℕ)
-    (moves : List Move) (sent : Announced) (left : Receiver) → Reads id flags body (InfoTs stamp)
-    → left ≡ after_submessage old.prefix at (InfoTs stamp)
-    → TakesFrame old at id flags body moves sent old moves sent left
-takes_info_ts old at id flags body stamp moves sent left read leaves = record {
-  submessage = InfoTs stamp;
-  is_read = read;
-  takes = nothing_taken old at (InfoTs stamp) moves sent (λ a is. absurd cc) (λ reader_id writer_id by. by);
+  takes =
+      readers_take old old at s moves moves sent sent other
+      (nobody_told old at s moves sent (λ i k there reader_id writer_id by row named. nobody reader_id writer_id by));
   leaves = leaves;
 }
 

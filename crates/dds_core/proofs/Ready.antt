@@ -23,7 +23,7 @@ use Rattle.dds_core.specs.declared.reader_end.Told.{Told}
 use Rattle.dds_core.specs.declared.reader_end.Told.TheVariants as told
 use Rattle.dds_core.specs.Kept.{ReaderKept, PeerKept}
 use Rattle.dds_core.specs.Identity.{ReaderIdentity, Identity, reader_identity, reliable_in, writer_identity, IsPeerOf}
-use Rattle.dds_core.specs.Readiness.{IsNamedAt, IsFirstName, IsRowOf, IsFirstNamed, IsPrepared, IsReadyFor, IsReadyWith, AreReady, IsAlike, AreAlike, CanTake, TakesTold, SameReader, moves_of, IsBounded, IsToldBounded, IsToldBy, writer_guid}
+use Rattle.dds_core.specs.Readiness.{IsNamedAt, IsFirstName, IsRowOf, IsFirstNamed, IsPrepared, IsReadyFor, IsReadyWith, AreReady, IsAlike, AreAlike, CanTake, TakesTold, SameReader, moves_of, IsBounded, IsToldBounded, IsToldBy, NamedBy, writer_guid}
 use Rattle.dds_core.specs.Receiving.{AllCanTake, TookAt, TakesAll, ReadersTake, StandsAsWell}
 use Rattle.dds_core.proofs.TakenSoFar.{TakesSome}
 use Rattle.dds_core.specs.Standing.{IsFirstRow, ReaderStands}
@@ -109,6 +109,15 @@ pub named_here : (own : GuidPrefix) (at : Receiver) (s : Submessage) (readers : 
 named_here own at s readers first i k h at_k is =
     subst (λ (x : ReaderKept). IsNamedAt own at s x first.row)
     (same_Some h.reader k (sym h.there ∙ (ap (λ (n : ℕ). slice_get readers n) (sym is) ∙ at_k))) h.named
+
+-- its row, where the submessage names these
+pub row_named : (own : GuidPrefix) (at : Receiver) (s : Submessage) (readers : List ReaderKept) (first : FirstNamed)
+    (i : ℕ) (k : ReaderKept) (row : Option ℕ) → IsFirstNamed own at s readers first → slice_get readers i ≡ Some k
+    → ((t : Submessage) → NamedBy t first.ids.reader first.ids.writer → (i < first.index → IsReadyFor own at t k None)
+    → (i ≡ first.index → IsNamedAt own at t k first.row) → IsRowOf own at t k row)
+    → IsRowOf own at s k row
+row_named own at s readers first i k row h at_k named =
+    named s h.by (λ lt. h.before i k lt at_k) (named_here own at s readers first i k h at_k)
 
 -- more memory, and it is named as well
 named_alike : (own : GuidPrefix) (at : Receiver) (s : Submessage) (old new : ReaderKept) (row : ℕ) → IsAlike old new

@@ -17,8 +17,6 @@ pub err_as : {X E : Type 0} {P Q : E → Type 0} (result : Result X E) → ((e :
 err_as (Ok x) as_well h = h
 err_as (Err e) as_well h = as_well e h
 
--- what is said of three values is said of three others that they are
-pub of_three : {X Y Z : Type 0} {a b : X} {c d : Y} {e f : Z} (P : X → Y → Z → Type 0) → b ≡ a → d ≡ c → f ≡ e
-    → P a c e → P b d f
-of_three {a = a} {c = c} {d = d} {f = f} P first second third h =
-    subst (λ x. P x d f) (sym first) (subst (λ y. P a y f) (sym second) (subst (λ z. P a c z) (sym third) h))
+-- what is said of two values is said of two others that they are
+pub of_two : {X Y : Type 0} {a b : X} {c d : Y} (P : X → Y → Type 0) → b ≡ a → d ≡ c → P a c → P b d
+of_two {a = a} {d = d} P first second h = subst (λ x. P x d) (sym first) (subst (λ y. P a y) (sym second) h)

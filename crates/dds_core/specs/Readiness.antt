@@ -163,6 +163,7 @@ IsRowOf own at submessage kept (Some row) = IsNamedAt own at submessage kept row
 -- the first reader that the submessage names, and the row of its writer there
 pub record IsFirstNamed (own : GuidPrefix) (at : Receiver) (submessage : Submessage) (readers : List ReaderKept)
     (first : FirstNamed) : Type 0 where
+  pub by : NamedBy submessage first.ids.reader first.ids.writer
   pub reader : ReaderKept
   pub there : slice_get readers first.index ≡ Some reader
   pub named : IsNamedAt own at submessage reader first.row

@@ -3,7 +3,7 @@
 -- nothing here has to be believed.
 --
 -- RTPS 2.5, 8.3.4 (the message receiver), 8.4.12 (the behaviour of a reliable StatefulReader).
-use Rattle.std.specs.Prelude.{◌≡◌, ◌+◌, ◌≤◌, ℕ, zero, suc, List, [], ◌∷◌, ◌++◌, set, length, slice_get, Option, None, Some, Result, OnErr, IfErr}
+use Rattle.std.specs.Prelude.{◌≡◌, ◌+◌, ◌≤◌, ℕ, Bool, zero, suc, List, [], ◌∷◌, ◌++◌, set, length, slice_get, Option, None, Some, Result, OnErr, IfErr}
 use Rattle.dds_base.specs.declared.code.Code.{Code}
 use Rattle.dds_base.specs.declared.code.Code.TheVariants.{Memory}
 use Rattle.dds_base.specs.declared.config.Config.{Config}
@@ -21,6 +21,7 @@ use Rattle.dds_protocol.specs.Claims.{Receiver, after_submessage, receiver_of}
 use Rattle.dds_protocol.specs.Peer.{Peer, state_of}
 use Rattle.dds_protocol.specs.DueMessages.{Due, AreSent, acknacks_due}
 use Rattle.dds_protocol.specs.Protocol.{State, InTurn, ReaderTakes, Takes, MayNeedMemory, FollowsMessage, TakesPacket}
+use Rattle.dds_core.specs.declared.effects.Effects.{Effects}
 use Rattle.dds_core.specs.declared.matching.WriterName.{WriterName}
 use Rattle.dds_core.specs.declared.reader_end.Ready.{Ready}
 use Rattle.dds_core.specs.declared.sending.Announced.{Announced}
@@ -29,6 +30,13 @@ use Rattle.dds_core.specs.Sending.{AreMessages}
 use Rattle.dds_core.specs.Kept.{ReaderKept, PeerKept}
 use Rattle.dds_core.specs.Standing.{StandsFor}
 use Rattle.dds_core.specs.Readiness.{AreReady, CanTake, SameReader, TakesTold, moves_of}
+
+-- nothing was done yet, and what is moved is to be kept twice, or once
+pub record NothingDone (twice : Bool) (effects : Effects) : Type 0 where
+  pub moves : effects.moves.items ≡ []
+  pub kept_twice : effects.moves.twice ≡ twice
+  pub packets : effects.sent.packets.items ≡ []
+  pub unsent : effects.sent.unsent ≡ 0
 
 -- the reader of this index can be told what is ready
 abbrev pub CanTakeAt : List ReaderKept → ℕ → Ready → Type 0

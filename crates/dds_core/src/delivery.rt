@@ -8,17 +8,19 @@ ghost use Rattle.dds_base.specs.Bounds.{max_ends};
 ghost use Rattle.dds_base.specs.declared.code.Code.TheVariants.{Memory};
 ghost use Rattle.dds_machine.specs.declared.reply.Reply.TheVariants.{Reported};
 ghost use Rattle.dds_protocol.specs.declared.event.Event.TheVariants as event;
+ghost use Rattle.rtps_wire.specs.declared.submessage.Submessage.{Submessage as SubmessageOf};
 ghost use Rattle.dds_core.specs.Stepping.{SoundSteps};
 ghost use Rattle.dds_core.specs.Sending.{AreMessages, max_unsent};
-ghost use Rattle.dds_core.specs.Readiness.{receiver_at, IsBounded, AreReady, AreAlike, IsFirstNamed, IsNamedAt, IsReadyFor, IsRowOf, NamesNone, moves_of};
-ghost use Rattle.dds_core.specs.Receiving.{only_last, CanTakeAt, TakesAt, AllCanTake, TakesAll, TellsReaders, TakesOneMore, TakesFrame, KeepsPeer, NeedsMemory, FrameNeedsMemory, TakesBody, StandsAsWell, ReceivesPacket};
-ghost use Rattle.dds_core.specs.Twins.{Twins};
+ghost use Rattle.dds_core.specs.Readiness.{receiver_at, IsBounded, AreReady, AreAlike, IsFirstNamed, IsNamedAt, IsReadyFor, IsRowOf, NamedBy, NamesNone, moves_of};
+ghost use Rattle.dds_core.specs.Receiving.{only_last, CanTakeAt, TakesAt, AllCanTake, TakesAll, TellsReaders, TakesOneMore, TakesFrame, KeepsPeer, NeedsMemory, FrameNeedsMemory, NothingDone, TakesBody, StandsAsWell, ReceivesPacket};
+ghost use Rattle.dds_core.specs.Twins.{Twins, wants_two};
 
 use crate::acknack::send_acknack;
+use crate::effects::Effects;
 use crate::moves::Moves;
 use crate::output::unmoved;
 use crate::peer::Peer;
-use crate::reader_end::{ReaderEnd, Ready};
+use crate::reader_end::{Ids, ReaderEnd, Ready, ids_of};
 use crate::receiver::{MessageReceiver, receiver_for};
 use crate::sending::Announced;
 use crate::twin::Twin;
@@ -32,6 +34,8 @@ use smallvec::SmallVec;
 /// The first of a peer's readers that a submessage is for, and there the row of the writer that it is from.
 #[derive(Clone, Copy)]
 pub struct FirstNamed {
+    /// Whom the submessage names.
+    pub ids: Ids,
     pub index: usize,
     pub row: usize,
 }
@@ -48,9 +52,12 @@ fn named_reader(
     ensures none { IfNone result
         (NamesNone own.now (receiver_at receiver.now) submessage.now readers.now) }
 {
+    let Some(ids) = ids_of(submessage) else {
+        return None;
+    };
     for (index, reader) in readers.iter().enumerate() {
-        if let Some(row) = reader.named_row(own, receiver, submessage) {
-            return Some(FirstNamed { index, row });
+        if let Some(row) = reader.named_row(own, receiver, &ids) {
+            return Some(FirstNamed { ids, index, row });
         }
     }
     None
@@ -64,13 +71,11 @@ fn row_at(
     reader: &ReaderEnd,
     own: &GuidPrefix,
     receiver: &MessageReceiver,
-    submessage: &Submessage,
 ) -> Option<usize>
-    requires before { index < first.index
-        → IsReadyFor own.now (receiver_at receiver.now) submessage.now reader.now None }
-    requires there { index ≡ first.index
-        → IsNamedAt own.now (receiver_at receiver.now) submessage.now reader.now first.row }
-    ensures { IsRowOf own.now (receiver_at receiver.now) submessage.now reader.now result }
+    ensures { (submessage : SubmessageOf) → NamedBy submessage first.ids.reader first.ids.writer
+        → (index < first.index → IsReadyFor own.now (receiver_at receiver.now) submessage reader.now None)
+        → (index ≡ first.index → IsNamedAt own.now (receiver_at receiver.now) submessage reader.now first.row)
+        → IsRowOf own.now (receiver_at receiver.now) submessage reader.now result }
 {
     if index < first.index {
         return None;
@@ -78,7 +83,7 @@ fn row_at(
     if index == first.index {
         return Some(first.row);
     }
-    reader.named_row(own, receiver, submessage)
+    reader.named_row(own, receiver, &first.ids)
 }
 
 /// How many readers a peer has for which no memory is needed for the list of what is ready. The place of each is zeroed at
@@ -103,7 +108,7 @@ fn prepare(
     ensures memory { IfErr result (λ code. code ≡ Memory) }
 {
     for index in 0..readers.len() {
-        let row = row_at(first, index, &readers[index], own, receiver, submessage);
+        let row = row_at(first, index, &readers[index], own, receiver);
         let one = readers[index].prepare(row, receiver, submessage)?;
         ready.push(one)?;
     }
@@ -140,48 +145,56 @@ fn push_moves(moves: &mut Moves, writer: Endpoint, reader: u8, from: Sn, step: S
 impl Peer {
     /// The reader of this index is told what is ready for it, and sends the ACKNACK that is then due. Adds the moves,
     /// for which there is room.
-    fn take_at(&mut self, moves: &mut Moves, sent: &mut Announced, index: usize, ready: Ready)
+    fn take_at(&mut self, effects: &mut Effects, index: usize, ready: Ready)
         requires can { CanTakeAt self.old.readers index ready }
-        requires room { 2 ≤ moves.old.room }
-        requires low { sent.old.unsent < max_unsent }
-        ensures takes { TakesAt self.old index ready moves.old.items sent.old self.new
-            moves.new.items sent.new }
-        ensures twice { moves.new.twice ≡ moves.old.twice }
-        ensures room { moves.old.room ≤ moves.new.room + 2 }
-        ensures few { sent.new.unsent ≤ sent.old.unsent + 1 }
-        ensures messages { AreMessages sent.old.packets.items → AreMessages sent.new.packets.items }
+        requires room { 2 ≤ effects.old.moves.room }
+        requires low { effects.old.sent.unsent < max_unsent }
+        ensures takes { TakesAt self.old index ready effects.old.moves.items effects.old.sent self.new
+            effects.new.moves.items effects.new.sent }
+        ensures twice { effects.new.moves.twice ≡ effects.old.moves.twice }
+        ensures room { effects.old.moves.room ≤ effects.new.moves.room + 2 }
+        ensures few { effects.new.sent.unsent ≤ effects.old.sent.unsent + 1 }
+        ensures messages { AreMessages effects.old.sent.packets.items → AreMessages effects.new.sent.packets.items }
     {
         let (alloc, prefix, moment) = (self.alloc, self.prefix, self.moment);
         let end = &mut self.readers[index];
         let writer = end.writer(ready.row);
         let from = end.place(ready.row);
         let step = end.take_up(ready, moment);
-        send_acknack(alloc, prefix, end.entity(), &writer, step.acknack, sent);
-        push_moves(moves, writer.writer, (index + 1) as u8, from, step);
+        send_acknack(
+            alloc,
+            prefix,
+            end.entity(),
+            &writer,
+            step.acknack,
+            &mut effects.sent,
+        );
+        push_moves(
+            &mut effects.moves,
+            writer.writer,
+            (index + 1) as u8,
+            from,
+            step,
+        );
     }
 
     /// Each reader is told what is ready for it, one after the other. Adds the moves, for which there is room.
-    fn take_all(
-        &mut self,
-        moves: &mut Moves,
-        sent: &mut Announced,
-        ready: &mut SmallVec<Option<Ready>, FEW_READERS>,
-    )
+    fn take_all(&mut self, effects: &mut Effects, ready: &mut SmallVec<Option<Ready>, FEW_READERS>)
         requires can { AllCanTake self.old.readers ready.old.items }
         requires count { length ready.old.items ≡ length self.old.readers }
-        requires room { 2 * length ready.old.items ≤ moves.old.room }
+        requires room { 2 * length ready.old.items ≤ effects.old.moves.room }
         requires few { length ready.old.items ≤ max_ends }
-        requires low { sent.old.unsent < 2 ^ 60 }
-        ensures takes { TakesAll self.old ready.old.items moves.old.items sent.old self.new
-            moves.new.items sent.new }
+        requires low { effects.old.sent.unsent < 2 ^ 60 }
+        ensures takes { TakesAll self.old ready.old.items effects.old.moves.items effects.old.sent self.new
+            effects.new.moves.items effects.new.sent }
         ensures prefix { self.new.prefix ≡ self.old.prefix }
-        ensures twice { moves.new.twice ≡ moves.old.twice }
-        ensures few { sent.new.unsent ≤ sent.old.unsent + length ready.old.items }
-        ensures messages { AreMessages sent.old.packets.items → AreMessages sent.new.packets.items }
+        ensures twice { effects.new.moves.twice ≡ effects.old.moves.twice }
+        ensures few { effects.new.sent.unsent ≤ effects.old.sent.unsent + length ready.old.items }
+        ensures messages { AreMessages effects.old.sent.packets.items → AreMessages effects.new.sent.packets.items }
     {
         for index in 0..ready.len() {
             if let Some(one) = ready[index].take() {
-                self.take_at(moves, sent, index, one);
+                self.take_at(effects, index, one);
             }
         }
     }
@@ -251,102 +264,93 @@ impl Peer {
     }
 
     /// The peer's last reader, of this index, is told what is ready for it, if something is.
-    fn take_last(
-        &mut self,
-        moves: &mut Moves,
-        sent: &mut Announced,
-        index: usize,
-        ready: Option<Ready>,
-    )
+    fn take_last(&mut self, effects: &mut Effects, index: usize, ready: Option<Ready>)
         requires can { AllCanTake self.old.readers (only_last index ready) }
         requires last { index + 1 ≡ length self.old.readers }
-        requires room { 2 ≤ moves.old.room }
-        requires low { sent.old.unsent < 2 ^ 60 }
-        ensures takes { TakesAll self.old (only_last index ready) moves.old.items sent.old self.new
-            moves.new.items sent.new }
+        requires room { 2 ≤ effects.old.moves.room }
+        requires low { effects.old.sent.unsent < 2 ^ 60 }
+        ensures takes { TakesAll self.old (only_last index ready) effects.old.moves.items effects.old.sent self.new
+            effects.new.moves.items effects.new.sent }
         ensures prefix { self.new.prefix ≡ self.old.prefix }
-        ensures twice { moves.new.twice ≡ moves.old.twice }
-        ensures few { sent.new.unsent ≤ sent.old.unsent + 1 }
-        ensures messages { AreMessages sent.old.packets.items → AreMessages sent.new.packets.items }
+        ensures twice { effects.new.moves.twice ≡ effects.old.moves.twice }
+        ensures few { effects.new.sent.unsent ≤ effects.old.sent.unsent + 1 }
+        ensures messages { AreMessages effects.old.sent.packets.items → AreMessages effects.new.sent.packets.items }
     {
         if let Some(one) = ready {
-            self.take_at(moves, sent, index, one);
+            self.take_at(effects, index, one);
         }
     }
 
     /// The peer's last reader is told what a submessage says, where that is the first one that is named. Adds what moved.
     fn tell_last(
         &mut self,
-        moves: &mut Moves,
-        sent: &mut Announced,
+        effects: &mut Effects,
         first: FirstNamed,
         receiver: &MessageReceiver,
         submessage: &Submessage,
     ) -> Result<(), Code>
         requires bounded { IsBounded submessage.now }
-        requires low { sent.old.unsent < 2 ^ 60 }
+        requires low { effects.old.sent.unsent < 2 ^ 60 }
         requires first { IsFirstNamed self.old.prefix
             (receiver_at receiver.now) submessage.now self.old.readers first }
         requires last { first.index + 1 ≡ length self.old.readers }
         ensures takes { OnOk result
             (TellsReaders self.old
-            (receiver_at receiver.now) submessage.now moves.old.items sent.old self.new
-            moves.new.items sent.new) }
-        ensures twice { moves.new.twice ≡ moves.old.twice }
-        ensures keeps { KeepsPeer 16 self.old moves.old.items sent.old self.new moves.new.items
-            sent.new result }
+            (receiver_at receiver.now) submessage.now effects.old.moves.items effects.old.sent self.new
+            effects.new.moves.items effects.new.sent) }
+        ensures twice { effects.new.moves.twice ≡ effects.old.moves.twice }
+        ensures keeps { KeepsPeer 16 self.old effects.old.moves.items effects.old.sent self.new effects.new.moves.items
+            effects.new.sent result }
     {
         let ready = self.make_last_ready(first, receiver, submessage)?;
-        moves.reserve(2)?;
-        self.take_last(moves, sent, first.index, ready);
+        effects.moves.reserve(2)?;
+        self.take_last(effects, first.index, ready);
         Ok(())
     }
 
     /// Each of several readers that a submessage may name is told what it says. Adds what moved.
     fn tell_each(
         &mut self,
-        moves: &mut Moves,
-        sent: &mut Announced,
+        effects: &mut Effects,
         first: FirstNamed,
         receiver: &MessageReceiver,
         submessage: &Submessage,
     ) -> Result<(), Code>
         requires bounded { IsBounded submessage.now }
-        requires low { sent.old.unsent < 2 ^ 60 }
+        requires low { effects.old.sent.unsent < 2 ^ 60 }
         requires first { IsFirstNamed self.old.prefix
             (receiver_at receiver.now) submessage.now self.old.readers first }
         ensures takes { OnOk result
             (TellsReaders self.old
-            (receiver_at receiver.now) submessage.now moves.old.items sent.old self.new
-            moves.new.items sent.new) }
-        ensures twice { moves.new.twice ≡ moves.old.twice }
-        ensures keeps { KeepsPeer 16 self.old moves.old.items sent.old self.new moves.new.items
-            sent.new result }
+            (receiver_at receiver.now) submessage.now effects.old.moves.items effects.old.sent self.new
+            effects.new.moves.items effects.new.sent) }
+        ensures twice { effects.new.moves.twice ≡ effects.old.moves.twice }
+        ensures keeps { KeepsPeer 16 self.old effects.old.moves.items effects.old.sent self.new effects.new.moves.items
+            effects.new.sent result }
     {
         let mut ready = SmallVec::new(self.alloc);
         self.make_ready(&mut ready, first, receiver, submessage)?;
-        moves.reserve(2 * ready.len())?;
-        self.take_all(moves, sent, &mut ready);
+        effects.moves.reserve(2 * ready.len())?;
+        self.take_all(effects, &mut ready);
         Ok(())
     }
 
     /// Each reader that a submessage names is told what it says. Adds what moved. One that names none needs no memory.
     fn tell_readers(
         &mut self,
-        moves: &mut Moves,
-        sent: &mut Announced,
+        effects: &mut Effects,
         receiver: &MessageReceiver,
         submessage: &Submessage,
     ) -> Result<(), Code>
         requires bounded { IsBounded submessage.now }
-        requires low { sent.old.unsent < 2 ^ 60 }
+        requires low { effects.old.sent.unsent < 2 ^ 60 }
         ensures takes { OnOk result
             (TellsReaders self.old
-            (receiver_at receiver.now) submessage.now moves.old.items sent.old self.new
-            moves.new.items sent.new) }
-        ensures twice { moves.new.twice ≡ moves.old.twice }
-        ensures keeps { KeepsPeer 16 self.old moves.old.items sent.old self.new moves.new.items
-            sent.new result }
+            (receiver_at receiver.now) submessage.now effects.old.moves.items effects.old.sent self.new
+            effects.new.moves.items effects.new.sent) }
+        ensures twice { effects.new.moves.twice ≡ effects.old.moves.twice }
+        ensures keeps { KeepsPeer 16 self.old effects.old.moves.items effects.old.sent self.new effects.new.moves.items
+            effects.new.sent result }
         ensures needs { OnErr result
             (NeedsMemory self.old (receiver_at receiver.now) submessage.now) }
     {
@@ -354,34 +358,33 @@ impl Peer {
             return Ok(());
         };
         if first.index + 1 == self.readers.len() {
-            return self.tell_last(moves, sent, first, receiver, submessage);
+            return self.tell_last(effects, first, receiver, submessage);
         }
-        self.tell_each(moves, sent, first, receiver, submessage)
+        self.tell_each(effects, first, receiver, submessage)
     }
 
     /// Takes up a submessage: an ACKNACK is for the peer's writers, any other one for its readers. Adds what moved.
     fn take_submessage(
         &mut self,
-        moves: &mut Moves,
-        sent: &mut Announced,
+        effects: &mut Effects,
         receiver: &MessageReceiver,
         submessage: &Submessage,
     ) -> Result<(), Code>
         requires bounded { IsBounded submessage.now }
-        requires low { sent.old.unsent < 2 ^ 59 }
+        requires low { effects.old.sent.unsent < 2 ^ 59 }
         ensures takes { OnOk result
             (TakesOneMore self.old
-            (receiver_at receiver.now) submessage.now moves.old.items sent.old self.new
-            moves.new.items sent.new) }
-        ensures twice { moves.new.twice ≡ moves.old.twice }
-        ensures keeps { KeepsPeer (2 ^ 16) self.old moves.old.items sent.old self.new
-            moves.new.items sent.new result }
+            (receiver_at receiver.now) submessage.now effects.old.moves.items effects.old.sent self.new
+            effects.new.moves.items effects.new.sent) }
+        ensures twice { effects.new.moves.twice ≡ effects.old.moves.twice }
+        ensures keeps { KeepsPeer (2 ^ 16) self.old effects.old.moves.items effects.old.sent self.new
+            effects.new.moves.items effects.new.sent result }
         ensures needs { OnErr result
             (NeedsMemory self.old (receiver_at receiver.now) submessage.now) }
     {
         match submessage {
-            Submessage::AckNack(body) => self.take_acknack(moves, sent, receiver, body),
-            _ => self.tell_readers(moves, sent, receiver, submessage),
+            Submessage::AckNack(body) => self.take_acknack(effects, receiver, body),
+            _ => self.tell_readers(effects, receiver, submessage),
         }
     }
 
@@ -389,19 +392,18 @@ impl Peer {
     /// ends: what it says is not put into a `Submessage` first. Adds what moved.
     fn take_frame(
         &mut self,
-        moves: &mut Moves,
-        sent: &mut Announced,
+        effects: &mut Effects,
         receiver: &mut MessageReceiver,
         frame: &Frame,
     ) -> Result<(), Code>
-        requires low { sent.old.unsent < 2 ^ 59 }
+        requires low { effects.old.sent.unsent < 2 ^ 59 }
         ensures takes { OnOk result
             (TakesFrame self.old
-            (receiver_at receiver.old) frame.now.id frame.now.flags frame.now.body.now moves.old.items
-            sent.old self.new moves.new.items sent.new (receiver_at receiver.new)) }
-        ensures twice { moves.new.twice ≡ moves.old.twice }
-        ensures keeps { KeepsPeer (2 ^ 16) self.old moves.old.items sent.old self.new
-            moves.new.items sent.new result }
+            (receiver_at receiver.old) frame.now.id frame.now.flags frame.now.body.now effects.old.moves.items
+            effects.old.sent self.new effects.new.moves.items effects.new.sent (receiver_at receiver.new)) }
+        ensures twice { effects.new.moves.twice ≡ effects.old.moves.twice }
+        ensures keeps { KeepsPeer (2 ^ 16) self.old effects.old.moves.items effects.old.sent self.new
+            effects.new.moves.items effects.new.sent result }
         ensures needs { OnErr result
             (FrameNeedsMemory self.old
             (receiver_at receiver.old) frame.now.id frame.now.flags frame.now.body.now) }
@@ -414,7 +416,7 @@ impl Peer {
             receiver.note_timestamp(&self.prefix, stamp);
             return Ok(());
         }
-        self.take_submessage(moves, sent, receiver, &frame.submessage())
+        self.take_submessage(effects, receiver, &frame.submessage())
     }
 
     /// Takes up the submessages of a message of this sender as they are read, up to one for which there is no memory.
@@ -422,42 +424,39 @@ impl Peer {
         &mut self,
         source: GuidPrefix,
         body: &[u8],
-        sent: &mut Announced,
+        effects: &mut Effects,
         twin: &mut Twin,
     ) -> Report
         requires few { length body.now ≤ MAX_MESSAGE }
-        requires none { sent.old.packets.items ≡ [] }
-        requires zero { sent.old.unsent ≡ 0 }
-        ensures takes { TakesBody self.old source body.now result self.new sent.new }
-        ensures messages { AreMessages sent.new.packets.items }
-        ensures few { sent.new.unsent < max_unsent }
+        requires none { NothingDone (wants_two twin.old) effects.old }
+        ensures takes { TakesBody self.old source body.now result self.new effects.new.sent }
+        ensures messages { AreMessages effects.new.sent.packets.items }
+        ensures few { effects.new.sent.unsent < max_unsent }
         ensures twin { Twins twin.old (Reported result) twin.new }
     {
-        let mut moves = Moves::new(self.alloc, twin.is_asked());
         let mut receiver = receiver_for(source);
         let mut left = body;
         let mut index: u32 = 0;
         while let Some((frame, rest)) = next_frame(left) {
-            match self.take_frame(&mut moves, sent, &mut receiver, &frame) {
+            match self.take_frame(effects, &mut receiver, &frame) {
                 Ok(()) => left = rest,
-                Err(_) => return moves.take_report(Some(index), twin),
+                Err(_) => return effects.moves.take_report(Some(index), twin),
             }
             index += 1;
         }
-        moves.take_report(None, twin)
+        effects.moves.take_report(None, twin)
     }
 
     /// What is done with the bytes of a packet.
-    fn receive(&mut self, packet: &Octets, sent: &mut Announced, twin: &mut Twin) -> Report
-        requires none { sent.old.packets.items ≡ [] }
-        requires zero { sent.old.unsent ≡ 0 }
-        ensures receives { ReceivesPacket self.old packet.now result self.new sent.new }
-        ensures messages { AreMessages sent.new.packets.items }
-        ensures few { sent.new.unsent < max_unsent }
+    fn receive(&mut self, packet: &Octets, effects: &mut Effects, twin: &mut Twin) -> Report
+        requires none { NothingDone (wants_two twin.old) effects.old }
+        ensures receives { ReceivesPacket self.old packet.now result self.new effects.new.sent }
+        ensures messages { AreMessages effects.new.sent.packets.items }
+        ensures few { effects.new.sent.unsent < max_unsent }
         ensures twin { Twins twin.old (Reported result) twin.new }
     {
         match begin_message(packet.as_slice()) {
-            Some((source, body)) => self.take_submessages(source, body, sent, twin),
+            Some((source, body)) => self.take_submessages(source, body, effects, twin),
             None => unmoved(self.alloc, None),
         }
     }
@@ -470,11 +469,9 @@ impl Peer {
         ensures few { result.unsent < max_unsent }
         ensures twin { Twins twin.old result.reply twin.new }
     {
-        let mut sent = Announced {
-            packets: Vec::new(self.alloc),
-            unsent: 0,
-        };
-        let report = self.receive(packet, &mut sent, twin);
+        let mut effects = Effects::new(self.alloc, twin.is_asked());
+        let report = self.receive(packet, &mut effects, twin);
+        let Effects { sent, .. } = effects;
         let Announced { packets, unsent } = sent;
         Output {
             reply: Reply::Reported(report),

@@ -43,6 +43,7 @@ mod application;
 mod by_filter;
 mod calls;
 mod delivery;
+mod effects;
 mod expiring;
 mod filtered_peer;
 mod heartbeat;

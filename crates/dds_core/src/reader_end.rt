@@ -9,6 +9,7 @@ ghost use Rattle.dds_base.specs.Liveliness.{liveliness_changed_status};
 ghost use Rattle.dds_base.specs.Statuses.{sample_lost_status};
 ghost use Rattle.dds_base.specs.declared.code.Code.TheVariants.{Memory};
 ghost use Rattle.dds_base.specs.declared.happening.Happening.{Happening};
+ghost use Rattle.rtps_wire.specs.declared.submessage.Submessage.{Submessage as SubmessageOf};
 ghost use Rattle.rtps_wire.specs.declared.submessage.Submessage.TheVariants as submessage;
 ghost use Rattle.rtps_reader.specs.Answer.{IsIdle, IsSayable};
 ghost use Rattle.rtps_reader.specs.Reader.{Tracks};
@@ -267,13 +268,13 @@ fn told_by_heartbeat(is_reliable: bool, receiver: &MessageReceiver, body: &Heart
 
 /// Whom a submessage of a writer names: its readerId and its writerId.
 #[derive(Clone, Copy)]
-struct Ids {
+pub struct Ids {
     reader: EntityId,
     writer: EntityId,
 }
 
 /// Whom a submessage names, if it is one of a writer.
-fn ids_of(submessage: &Submessage) -> Option<Ids>
+pub fn ids_of(submessage: &Submessage) -> Option<Ids>
     ensures { MatchOption result (NamesNobody submessage.now)
         (λ ids. NamedBy submessage.now ids.reader ids.writer) }
 {
@@ -343,19 +344,17 @@ impl ReaderEnd {
         self.reader.reserve_for(row, &mut self.store)
     }
 
-    /// The row of the writer that a submessage is from, if it is for this reader of the peer of this prefix, and the
-    /// writer is matched.
+    /// The row of the writer that a submessage is from which names these, if it is for this reader of the peer of this prefix,
+    /// and the writer is matched.
     pub fn named_row(
         &self,
         own: &GuidPrefix,
         receiver: &MessageReceiver,
-        submessage: &Submessage,
+        ids: &Ids,
     ) -> Option<usize>
-        ensures { IsRowOf own.now (receiver_at receiver.now) submessage.now self.now result }
+        ensures { (submessage : SubmessageOf) → NamedBy submessage ids.now.reader ids.now.writer
+            → IsRowOf own.now (receiver_at receiver.now) submessage self.now result }
     {
-        let Some(ids) = ids_of(submessage) else {
-            return None;
-        };
         let Some(row) = self.row_of(own, receiver, &ids.reader, &ids.writer) else {
             return None;
         };

@@ -12,10 +12,9 @@ ghost use Rattle.dds_core.specs.Receiving.{TakesOneMore, KeepsPeer, NeedsMemory}
 ghost use Rattle.dds_core.specs.Sending.{AreMessages};
 
 use crate::answering::Room;
-use crate::moves::Moves;
+use crate::effects::Effects;
 use crate::peer::Peer;
 use crate::receiver::MessageReceiver;
-use crate::sending::Announced;
 use crate::writer_end::WriterEnd;
 use dds_base::{Code, GuidPrefix};
 use dds_machine::Move;
@@ -57,8 +56,7 @@ impl Peer {
     /// Adds what moved, for which there is room.
     fn answer_row(
         &mut self,
-        moves: &mut Moves,
-        sent: &mut Announced,
+        effects: &mut Effects,
         index: usize,
         row: usize,
         body: &AckNack,
@@ -68,20 +66,20 @@ impl Peer {
             × (row < length k.readers) }
         requires base { 1 ≤ body.now.reader_sn_state.base }
         requires room { HasRoom body.now.reader_sn_state room }
-        requires moves { 1 ≤ moves.old.room }
-        requires low { sent.old.unsent < 2 ^ 60 }
-        ensures takes { TakesRow self.old index row body.now moves.old.items sent.old self.new
-            moves.new.items sent.new }
-        ensures twice { moves.new.twice ≡ moves.old.twice }
-        ensures room { moves.old.room ≤ moves.new.room + 1 }
-        ensures few { sent.new.unsent ≤ sent.old.unsent + window_width }
-        ensures messages { AreMessages sent.old.packets.items → AreMessages sent.new.packets.items }
+        requires moves { 1 ≤ effects.old.moves.room }
+        requires low { effects.old.sent.unsent < 2 ^ 60 }
+        ensures takes { TakesRow self.old index row body.now effects.old.moves.items effects.old.sent self.new
+            effects.new.moves.items effects.new.sent }
+        ensures twice { effects.new.moves.twice ≡ effects.old.moves.twice }
+        ensures room { effects.old.moves.room ≤ effects.new.moves.room + 1 }
+        ensures few { effects.new.sent.unsent ≤ effects.old.sent.unsent + window_width }
+        ensures messages { AreMessages effects.old.sent.packets.items → AreMessages effects.new.sent.packets.items }
     {
         let (alloc, prefix) = (self.alloc, self.prefix);
         let writer = &mut self.writers[index];
         let reader = writer.reader(row);
-        if let Some(to) = writer.take_acknack(alloc, prefix, row, body, room, sent) {
-            moves.push_reserved(Move::Acknowledged {
+        if let Some(to) = writer.take_acknack(alloc, prefix, row, body, room, &mut effects.sent) {
+            effects.moves.push_reserved(Move::Acknowledged {
                 writer: (index + 1) as u8,
                 reader,
                 to,
@@ -93,8 +91,7 @@ impl Peer {
     /// for which there is room.
     fn answer_rows(
         &mut self,
-        moves: &mut Moves,
-        sent: &mut Announced,
+        effects: &mut Effects,
         index: usize,
         body: &AckNack,
         rooms: Vec<Option<Room>>,
@@ -104,18 +101,18 @@ impl Peer {
         requires base { 1 ≤ body.now.reader_sn_state.base }
         requires few { length rooms.items ≤ max_readers }
         requires rooms { HaveRoom body.now.reader_sn_state rooms.items }
-        requires moves { length rooms.items ≤ moves.old.room }
-        requires low { sent.old.unsent < 2 ^ 59 }
-        ensures takes { TakesAllRows self.old index body.now rooms.items moves.old.items sent.old
-            self.new moves.new.items sent.new }
-        ensures twice { moves.new.twice ≡ moves.old.twice }
-        ensures few { sent.new.unsent ≤ sent.old.unsent + 2 ^ 16 }
-        ensures messages { AreMessages sent.old.packets.items → AreMessages sent.new.packets.items }
+        requires moves { length rooms.items ≤ effects.old.moves.room }
+        requires low { effects.old.sent.unsent < 2 ^ 59 }
+        ensures takes { TakesAllRows self.old index body.now rooms.items effects.old.moves.items effects.old.sent
+            self.new effects.new.moves.items effects.new.sent }
+        ensures twice { effects.new.moves.twice ≡ effects.old.moves.twice }
+        ensures few { effects.new.sent.unsent ≤ effects.old.sent.unsent + 2 ^ 16 }
+        ensures messages { AreMessages effects.old.sent.packets.items → AreMessages effects.new.sent.packets.items }
     {
         let mut rooms = rooms;
         for row in 0..rooms.len() {
             if let Some(room) = rooms[row].take() {
-                self.answer_row(moves, sent, index, row, body, room);
+                self.answer_row(effects, index, row, body, room);
             }
         }
     }
@@ -124,20 +121,19 @@ impl Peer {
     /// that is applied by nobody needs no memory.
     pub(crate) fn take_acknack(
         &mut self,
-        moves: &mut Moves,
-        sent: &mut Announced,
+        effects: &mut Effects,
         receiver: &MessageReceiver,
         body: &AckNack,
     ) -> Result<(), Code>
         requires base { 1 ≤ body.now.reader_sn_state.base }
-        requires low { sent.old.unsent < 2 ^ 59 }
+        requires low { effects.old.sent.unsent < 2 ^ 59 }
         ensures takes { OnOk result
             (TakesOneMore self.old (receiver_at receiver.now)
-            (submessage.AckNack body.now) moves.old.items sent.old self.new moves.new.items
-            sent.new) }
-        ensures twice { moves.new.twice ≡ moves.old.twice }
-        ensures keeps { KeepsPeer (2 ^ 16) self.old moves.old.items sent.old self.new
-            moves.new.items sent.new result }
+            (submessage.AckNack body.now) effects.old.moves.items effects.old.sent self.new effects.new.moves.items
+            effects.new.sent) }
+        ensures twice { effects.new.moves.twice ≡ effects.old.moves.twice }
+        ensures keeps { KeepsPeer (2 ^ 16) self.old effects.old.moves.items effects.old.sent self.new
+            effects.new.moves.items effects.new.sent result }
         ensures needs { OnErr result
             (NeedsMemory self.old (receiver_at receiver.now) (submessage.AckNack body.now)) }
     {
@@ -145,8 +141,8 @@ impl Peer {
             return Ok(());
         };
         let rooms = self.writers[index].rooms(self.alloc, &self.prefix, receiver, body)?;
-        moves.reserve(rooms.len())?;
-        self.answer_rows(moves, sent, index, body, rooms);
+        effects.moves.reserve(rooms.len())?;
+        self.answer_rows(effects, index, body, rooms);
         Ok(())
     }
 }

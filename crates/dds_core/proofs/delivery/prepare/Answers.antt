@@ -1,7 +1,7 @@
 use Rattle.std.proofs.Common.{refl, arith, rules}
 use Rattle.std.proofs.lemmas.Grind.{common_steps}
 use Rattle.dds_core.specs.Readiness.{receiver_at}
-use Rattle.dds_core.proofs.Ready.{none_there, all_alike_self, alike_more, ready_for, ready_more, rest_more, row_is, row_within, still_ready, named_here}
+use Rattle.dds_core.proofs.Ready.{none_there, all_alike_self, alike_more, ready_for, ready_more, rest_more, row_is, row_named, row_within, still_ready}
 use Rattle.dds_core.proofs.delivery.prepare.Goals as goal
 
 pub loop-index-init : goal.loop-index-init
@@ -14,25 +14,16 @@ loop-index-init c =
           absurd (none_there c.args.ready.now.items i r c.requires.none at_r);
     }
 
-pub row_at-row-requires-clause-before : goal.row_at-row-requires-clause-before
-row_at-row-requires-clause-before c = λ lt.
-    c.requires.first.before c.loop-index.index _ lt
-    (still_ready c.args.readers.now c.loop-index.readers c.loop-index.index _ c.index-readers-index.result
-    c.loop-index.invariant.left (search rules) refl)
-
-pub row_at-row-requires-clause-there : goal.row_at-row-requires-clause-there
-row_at-row-requires-clause-there c = λ is.
-    named_here c.args.own.now (receiver_at c.args.receiver.now) c.args.submessage.now c.args.readers.now c.args.first
-    c.loop-index.index _ c.requires.first
-    (still_ready c.args.readers.now c.loop-index.readers c.loop-index.index _ c.index-readers-index.result
-    c.loop-index.invariant.left (search rules) refl) is
-
 pub prepare-requires : goal.prepare-requires
 prepare-requires c =
     row_within c.args.own.now (receiver_at c.args.receiver.now) c.args.submessage.now _ c.row_at-row.result
     (row_is c.args.own.now (receiver_at c.args.receiver.now) c.args.submessage.now c.loop-index.readers
     c.loop-index.index c.index-readers-index.result c.index-readers-index-in-loop-index.result c.row_at-row.result
-    (search rules) c.row_at-row.ensures)
+    (search rules)
+    (row_named c.args.own.now (receiver_at c.args.receiver.now) c.args.submessage.now c.args.readers.now c.args.first
+    c.loop-index.index _ c.row_at-row.result c.requires.first
+    (still_ready c.args.readers.now c.loop-index.readers c.loop-index.index _ c.index-readers-index.result
+    c.loop-index.invariant.left (search rules) refl) c.row_at-row.ensures))
 
 pub returns-in_err-one-clause-alike : goal.returns-in_err-one-clause-alike
 returns-in_err-one-clause-alike c =
@@ -62,5 +53,9 @@ loop-index-preserved c =
           c.row_at-row.result c.in_ok-one.one c.prepare.ensures.alike
           (row_is c.args.own.now (receiver_at c.args.receiver.now) c.args.submessage.now c.loop-index.readers
           c.loop-index.index c.index-readers-index.result c.index-readers-index-in-loop-index.result
-          c.row_at-row.result (search rules) c.row_at-row.ensures) c.in_ok-one.ensures.ready);
+          c.row_at-row.result (search rules)
+          (row_named c.args.own.now (receiver_at c.args.receiver.now) c.args.submessage.now c.args.readers.now
+          c.args.first c.loop-index.index _ c.row_at-row.result c.requires.first
+          (still_ready c.args.readers.now c.loop-index.readers c.loop-index.index _ c.index-readers-index.result
+          c.loop-index.invariant.left (search rules) refl) c.row_at-row.ensures)) c.in_ok-one.ensures.ready);
     }

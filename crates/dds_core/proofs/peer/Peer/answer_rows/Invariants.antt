@@ -8,12 +8,12 @@ use Rattle.dds_core.proofs.peer.Peer.answer_rows.Given as goal
 abbrev pub invariant-loop-row : goal.invariant-loop-row
 invariant-loop-row l = record {
   takes : (k : WriterKept) → slice_get l.initial.self.writers l.fn.index ≡ Some k
-      → TakesRows l.initial.self l.fn.index l.fn.body k l.fn.rooms.items l.row l.initial.moves.items l.initial.sent
-      l.self l.moves.items l.sent;
+      → TakesRows l.initial.self l.fn.index l.fn.body k l.fn.rooms.items l.row l.initial.effects.moves.items l.initial.effects.sent
+      l.self l.effects.moves.items l.effects.sent;
   rest : drop l.row l.rooms.items ≡ drop l.row l.fn.rooms.items;
   count : length l.rooms.items ≡ length l.fn.rooms.items;
-  few : l.sent.unsent ≤ l.initial.sent.unsent + 256 * l.row;
-  messages : AreMessages l.initial.sent.packets.items → AreMessages l.sent.packets.items;
-  room : length l.fn.rooms.items ≤ l.moves.room + l.row;
-  twice : l.moves.twice ≡ l.initial.moves.twice;
+  few : l.effects.sent.unsent ≤ l.initial.effects.sent.unsent + 256 * l.row;
+  messages : AreMessages l.initial.effects.sent.packets.items → AreMessages l.effects.sent.packets.items;
+  room : length l.fn.rooms.items ≤ l.effects.moves.room + l.row;
+  twice : l.effects.moves.twice ≡ l.initial.effects.moves.twice;
 }

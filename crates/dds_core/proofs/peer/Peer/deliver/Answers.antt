@@ -8,7 +8,7 @@ use Rattle.dds_core.proofs.peer.Peer.deliver.Goals as goal
 
 pub returns-clause-step : goal.returns-clause-step
 returns-clause-step c =
-    let sent = c.receive-report.new.sent in
+    let sent = c.receive-report.new.effects.sent in
     subst (λ (ps : List Packet). SoundSteps c.args.self.now (event.Deliver c.args.packet.now)
     (record { reply = Reported c.receive-report.result; packets = ps; unsent = sent.unsent })
     c.receive-report.new.self) (sym c.from_vec.ensures.elements)

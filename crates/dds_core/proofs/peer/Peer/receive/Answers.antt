@@ -9,15 +9,15 @@ use Rattle.dds_core.proofs.peer.Peer.receive.Goals as goal
 pub returns-in-Some-clause-receives : goal.returns-in-Some-clause-receives
 returns-in-Some-clause-receives c =
     receives_message c.args.self.now c.take_submessages.new.self c.args.packet.now c.in-Some.source c.in-Some.body.now
-    c.take_submessages.result c.take_submessages.new.sent
+    c.take_submessages.result c.take_submessages.new.effects.sent
     (subst (λ (b : List ℕ). HasHeader b c.in-Some.source c.in-Some.body.now) c.as_slice.ensures.octets
     c.in-Some.ensures.found) c.take_submessages.ensures.takes
 
 pub returns-in-None-clause-receives : goal.returns-in-None-clause-receives
 returns-in-None-clause-receives c =
-    subst (λ (r : Report). ReceivesPacket c.args.self.now c.args.packet.now r c.args.self.now c.args.sent.now)
+    subst (λ (r : Report). ReceivesPacket c.args.self.now c.args.packet.now r c.args.self.now c.args.effects.now.sent)
     (sym c.unmoved.ensures)
-    (receives_nothing c.args.self.now c.args.packet.now c.args.sent.now c.requires.none c.requires.zero
+    (receives_nothing c.args.self.now c.args.packet.now c.args.effects.now.sent c.requires.none.packets c.requires.none.unsent
     (λ source body header. c.in-None.ensures.none source body
     (subst (λ (b : List ℕ). HasHeader b source body) (sym c.as_slice.ensures.octets) header)))
 

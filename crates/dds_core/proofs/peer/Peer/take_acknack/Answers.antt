@@ -16,7 +16,7 @@ use Rattle.dds_core.proofs.peer.Peer.take_acknack.Goals as goal
 pub returns-in_default-clause-takes : goal.returns-in_default-clause-takes
 returns-in_default-clause-takes c =
     nobody_takes c.args.self.now c.args.body.now
-    (receiver_at c.args.receiver.now) c.args.moves.now.items c.args.sent.now c.in_default.ensures.none
+    (receiver_at c.args.receiver.now) c.args.effects.now.moves.items c.args.effects.now.sent c.in_default.ensures.none
 
 pub index-requires : goal.index-requires
 index-requires c =
@@ -60,11 +60,11 @@ returns-clause-takes c =
     (subst (λ (k : WriterKept). AreRooms c.self.inside.prefix k.entity at c.args.body.now k.readers
     c.in_ok-rooms.rooms.items) is c.in_ok-rooms.ensures.rooms) in
     subst (λ (ms : List Move). TakesOneMore c.args.self.now at
-    (AckNack c.args.body.now) ms c.args.sent.now c.answer_rows.new.self c.answer_rows.new.moves.items
-    c.answer_rows.new.sent) c.in_ok-reserve.ensures.items
+    (AckNack c.args.body.now) ms c.args.effects.now.sent c.answer_rows.new.self c.answer_rows.new.effects.moves.items
+    c.answer_rows.new.effects.sent) c.in_ok-reserve.ensures.items
     (writer_takes c.args.self.now c.answer_rows.new.self c.in-Some.index c.args.body.now found.writer
-    c.in_ok-rooms.rooms.items at c.reserve.new.self.items c.answer_rows.new.moves.items c.args.sent.now
-    c.answer_rows.new.sent found.at_writer (sym found.asked.from.writer) are
+    c.in_ok-rooms.rooms.items at c.reserve.new.self.items c.answer_rows.new.effects.moves.items c.args.effects.now.sent
+    c.answer_rows.new.effects.sent found.at_writer (sym found.asked.from.writer) are
     (c.answer_rows.ensures.takes found.writer found.at_writer))
 
 pub returns-clause-keeps : goal.returns-clause-keeps

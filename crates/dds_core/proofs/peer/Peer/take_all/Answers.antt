@@ -3,13 +3,12 @@ use Rattle.std.specs.Prelude.{Option}
 use Rattle.smallvec.proofs.SmallVecLemmas.{items-with_items}
 use Rattle.dds_core.specs.declared.reader_end.Ready.{Ready}
 use Rattle.dds_core.specs.Kept.{PeerKept}
-use Rattle.dds_core.specs.Moved.{MovesKept}
-use Rattle.dds_core.specs.declared.sending.Announced.{Announced}
+use Rattle.dds_core.specs.declared.effects.Effects.{Effects}
 use Rattle.dds_core.proofs.TakenSoFar.{TakesSome}
 use Rattle.dds_core.specs.Sending.{AreMessages}
 use Rattle.dds_core.proofs.Turns.{takes_none, takes_skip, takes_more}
 use Rattle.dds_core.proofs.Ready.{takes_all, still_ready, rest_more}
-use Rattle.dds_core.proofs.Results.{of_three}
+use Rattle.dds_core.proofs.Results.{of_two}
 use Rattle.dds_core.proofs.Lists.{left_at}
 use Rattle.dds_core.proofs.peer.Peer.take_all.Goals.{in-Some, in_default}
 use Rattle.dds_core.proofs.peer.Peer.take_all.Goals as goal
@@ -17,7 +16,7 @@ use Rattle.dds_core.proofs.peer.Peer.take_all.Goals as goal
 pub loop-index-init : goal.loop-index-init
 loop-index-init c =
     record {
-      takes = takes_none c.args.self.now c.args.ready.now.items c.args.moves.now.items c.args.sent.now;
+      takes = takes_none c.args.self.now c.args.ready.now.items c.args.effects.now.moves.items c.args.effects.now.sent;
       rest = refl;
       count = refl;
       few = omega arith;
@@ -79,47 +78,47 @@ loop-index-preserved c =
           there ∙ ap (λ (x : Option Ready). Some x) (sym w.in-Some.ensures.value) in
           let more = w.take_at.ensures.few in
           let left = w.take_at.ensures.room in
-          let long = ap (λ (m : MovesKept). m.room) w.moves-is in
+          let long = ap (λ (e : Effects). e.moves.room) w.effects-is in
           record {
             takes =
-                of_three (λ (k : PeerKept) (m : MovesKept) (x : Announced). TakesSome c.args.self.now
-                c.args.ready.now.items (i + 1) c.args.moves.now.items c.args.sent.now k m.items x) w.self-is w.moves-is w.sent-is
+                of_two (λ (k : PeerKept) (e : Effects). TakesSome c.args.self.now
+                c.args.ready.now.items (i + 1) c.args.effects.now.moves.items c.args.effects.now.sent k e.moves.items e.sent) w.self-is w.effects-is
                 (takes_more c.args.self.now c.loop-index.self w.take_at.new.self c.args.ready.now.items i w.in-Some.one
-                c.args.moves.now.items c.loop-index.moves.items w.take_at.new.moves.items c.args.sent.now
-                c.loop-index.sent w.take_at.new.sent
+                c.args.effects.now.moves.items c.loop-index.effects.moves.items w.take_at.new.effects.moves.items c.args.effects.now.sent
+                c.loop-index.effects.sent w.take_at.new.effects.sent
                 c.loop-index.invariant.takes known is w.take_at.ensures.takes);
             few =
-                subst (λ (x : Announced). x.unsent ≤ c.args.sent.now.unsent + (i + 1)) (sym w.sent-is)
+                subst (λ (e : Effects). e.sent.unsent ≤ c.args.effects.now.sent.unsent + (i + 1)) (sym w.effects-is)
                 (omega (arith, few, more));
             messages =
-                λ h. subst (λ (x : Announced). AreMessages x.packets.items) (sym w.sent-is)
+                λ h. subst (λ (e : Effects). AreMessages e.sent.packets.items) (sym w.effects-is)
                 (w.take_at.ensures.messages (c.loop-index.invariant.messages h));
             rest = rest;
             count = count;
             room = omega (arith, room, left, long);
-            twice = ap (λ (m : MovesKept). m.twice) w.moves-is
+            twice = ap (λ (e : Effects). e.moves.twice) w.effects-is
                 ∙ (w.take_at.ensures.twice ∙ c.loop-index.invariant.twice);
           }
       | in_default w ↦
           let none : slice_get c.args.ready.now.items i ≡ Some None =
           there ∙ ap (λ (x : Option Ready). Some x) (sym c.take.ensures.value ∙ w.in_default.is) in
-          let long = ap (λ (m : MovesKept). m.room) w.moves-is in
+          let long = ap (λ (e : Effects). e.moves.room) w.effects-is in
           record {
             takes =
-                of_three (λ (k : PeerKept) (m : MovesKept) (x : Announced). TakesSome c.args.self.now
-                c.args.ready.now.items (i + 1) c.args.moves.now.items c.args.sent.now k m.items x) w.self-is w.moves-is w.sent-is
-                (takes_skip c.args.self.now c.loop-index.self c.args.ready.now.items i c.args.moves.now.items
-                c.loop-index.moves.items c.args.sent.now c.loop-index.sent c.loop-index.invariant.takes known none);
+                of_two (λ (k : PeerKept) (e : Effects). TakesSome c.args.self.now
+                c.args.ready.now.items (i + 1) c.args.effects.now.moves.items c.args.effects.now.sent k e.moves.items e.sent) w.self-is w.effects-is
+                (takes_skip c.args.self.now c.loop-index.self c.args.ready.now.items i c.args.effects.now.moves.items
+                c.loop-index.effects.moves.items c.args.effects.now.sent c.loop-index.effects.sent c.loop-index.invariant.takes known none);
             few =
-                subst (λ (x : Announced). x.unsent ≤ c.args.sent.now.unsent + (i + 1)) (sym w.sent-is)
+                subst (λ (e : Effects). e.sent.unsent ≤ c.args.effects.now.sent.unsent + (i + 1)) (sym w.effects-is)
                 (omega (arith, few));
             messages =
-                λ h. subst (λ (x : Announced). AreMessages x.packets.items) (sym w.sent-is)
+                λ h. subst (λ (e : Effects). AreMessages e.sent.packets.items) (sym w.effects-is)
                 (c.loop-index.invariant.messages h);
             rest = rest;
             count = count;
             room = omega (arith, room, long);
-            twice = ap (λ (m : MovesKept). m.twice) w.moves-is ∙ c.loop-index.invariant.twice;
+            twice = ap (λ (e : Effects). e.moves.twice) w.effects-is ∙ c.loop-index.invariant.twice;
           }
     ]
   where
@@ -128,5 +127,5 @@ loop-index-preserved c =
 
 pub returns-clause-takes : goal.returns-clause-takes
 returns-clause-takes c =
-    takes_all c.args.self.now c.loop-index.self c.args.ready.now.items c.args.moves.now.items c.loop-index.moves.items
-    c.args.sent.now c.loop-index.sent c.loop-index.index (search rules) (search rules) c.loop-index.invariant.takes
+    takes_all c.args.self.now c.loop-index.self c.args.ready.now.items c.args.effects.now.moves.items c.loop-index.effects.moves.items
+    c.args.effects.now.sent c.loop-index.effects.sent c.loop-index.index (search rules) (search rules) c.loop-index.invariant.takes

@@ -12,7 +12,7 @@ returns-clause-takes c = λ k at.
     let is_k : c.index_mut-end.result.now ≡ k =
     c.index_mut-end.ensures.value ∙ get_or_from_slice_get c.self.inside.readers.items c.args.index k _ there in
     took_by c.args.self.now c.args.index c.args.ready k c.index_mut-end.result.now c.take_up-step.new.self
-    c.args.moves.now.items c.args.sent.now _ c.push_moves.new.moves.items c.send_acknack.new.sent
+    c.args.effects.now.moves.items c.args.effects.now.sent _ c.push_moves.new.moves.items c.send_acknack.new.sent
     c.writer-writer.result c.place-from.result c.take_up-step.result
     is_k at c.writer-writer.ensures c.place-from.ensures
     (ap (λ (q : PeerKept). q.moment) c.self.view_is) c.take_up-step.ensures.told c.take_up-step.ensures.same

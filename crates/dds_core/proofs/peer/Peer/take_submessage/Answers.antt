@@ -7,8 +7,8 @@ pub returns-in_default : goal.returns-in_default
 returns-in_default c = record {
   takes =
       readers_take_if c.tell_readers.result c.args.self.now c.tell_readers.new.self
-      (receiver_at c.args.receiver.now) c.args.submessage.now c.args.moves.now.items c.tell_readers.new.moves.items
-      c.args.sent.now c.tell_readers.new.sent (λ a is. c.in_default.not-AckNack a is)
+      (receiver_at c.args.receiver.now) c.args.submessage.now c.args.effects.now.moves.items c.tell_readers.new.effects.moves.items
+      c.args.effects.now.sent c.tell_readers.new.effects.sent (λ a is. c.in_default.not-AckNack a is)
       c.tell_readers.ensures.takes;
   twice = c.tell_readers.ensures.twice;
   keeps =

@@ -4,7 +4,6 @@ use Rattle.rtps_wire.specs.Messages.{ReadsFirst}
 use Rattle.dds_machine.specs.declared.reply.Move.{Move}
 use Rattle.dds_machine.specs.declared.reply.Report.{Report}
 use Rattle.dds_protocol.specs.Claims.{Receiver, after_submessage}
-use Rattle.dds_core.specs.Moved.{MovesKept}
 use Rattle.std.specs.Prelude.{List}
 use Rattle.dds_core.specs.declared.twin.Twin.{Twin}
 use Rattle.dds_core.specs.Twins.{wants_two}
@@ -17,15 +16,14 @@ pub loop-frame-init : goal.loop-frame-init
 loop-frame-init c = record {
   taken =
       takes_none c.args.self.now c.args.source c.args.body.now
-      (receiver_at c.receiver_for-receiver.result) c.new-moves.result.items c.args.sent.now
-      c.receiver_for-receiver.ensures (ap (λ (m : MovesKept). m.items) c.new-moves.ensures) c.requires.none
-      c.requires.zero;
+      (receiver_at c.receiver_for-receiver.result) c.args.effects.now.moves.items c.args.effects.now.sent
+      c.receiver_for-receiver.ensures c.requires.none.moves c.requires.none.packets c.requires.none.unsent;
   within = omega arith;
   octets = λ k. omega (arith, c.type_inv.body k);
-  few = let none = c.requires.zero in omega (arith, none);
-  messages = no_messages c.args.sent.now.packets.items c.requires.none;
+  few = let none = c.requires.none.unsent in omega (arith, none);
+  messages = no_messages c.args.effects.now.sent.packets.items c.requires.none.packets;
   same = refl;
-  twice = ap (λ (m : MovesKept). m.twice) c.new-moves.ensures ∙ c.is_asked.ensures;
+  twice = c.requires.none.kept_twice;
   still = refl;
 }
 
@@ -33,19 +31,19 @@ pub returns-in-Err-clause-takes : goal.returns-in-Err-clause-takes
 returns-in-Err-clause-takes c =
     let i = c.loop-frame.index in
     let report : Report = c.take_report.result in
-    let same_moves : report.moves ≡ c.loop-frame.moves.items =
+    let same_moves : report.moves ≡ c.loop-frame.effects.moves.items =
     ap (λ (r : Report). r.moves) c.take_report.ensures.report ∙ c.in-Err.ensures.keeps.err.1 in
     let taken : TakesTo c.args.self.now c.args.source c.args.body.now c.loop-frame.left.now i
-    (receiver_at c.loop-frame.receiver) report.moves c.loop-frame.self c.loop-frame.sent =
+    (receiver_at c.loop-frame.receiver) report.moves c.loop-frame.self c.loop-frame.effects.sent =
     subst (λ (ms : List Move). TakesTo c.args.self.now c.args.source c.args.body.now c.loop-frame.left.now i
-    (receiver_at c.loop-frame.receiver) ms c.loop-frame.self c.loop-frame.sent)
+    (receiver_at c.loop-frame.receiver) ms c.loop-frame.self c.loop-frame.effects.sent)
     (sym same_moves) c.loop-frame.invariant.taken in
     let may = c.in-Err.ensures.needs in
     let first : ReadsFirst c.loop-frame.left.now may.submessage c.in-Some.rest.now =
     (c.in-Some.frame.id, c.in-Some.frame.flags, c.in-Some.frame.body.now, c.in-Some.ensures.found, may.is_read) in
     takes_some c.args.self.now c.loop-frame.self c.take_frame.new.self c.args.source c.args.body.now
     c.loop-frame.left.now i (receiver_at c.loop-frame.receiver) may.submessage c.in-Some.rest.now report
-    c.loop-frame.sent c.take_frame.new.sent taken c.loop-frame.invariant.same
+    c.loop-frame.effects.sent c.take_frame.new.effects.sent taken c.loop-frame.invariant.same
     may.needs c.in-Err.ensures.keeps.err.0 c.in-Err.ensures.keeps.err.2 first
     c.loop-frame.invariant.octets (ap (λ (r : Report). r.refused) c.take_report.ensures.report)
 
@@ -63,16 +61,16 @@ loop-frame-preserved c =
     let taken =
     takes_more c.args.self.now c.loop-frame.self c.take_frame.new.self c.args.source c.args.body.now
     c.loop-frame.left.now c.loop-frame.index (receiver_at c.loop-frame.receiver) took.submessage
-    c.in-Some.rest.now c.loop-frame.moves.items c.take_frame.new.moves.items c.loop-frame.sent
-    c.take_frame.new.sent c.loop-frame.invariant.taken first c.loop-frame.invariant.same took.takes in
+    c.in-Some.rest.now c.loop-frame.effects.moves.items c.take_frame.new.effects.moves.items c.loop-frame.effects.sent
+    c.take_frame.new.effects.sent c.loop-frame.invariant.taken first c.loop-frame.invariant.same took.takes in
     let few = c.loop-frame.invariant.few in
     let more = c.take_frame.ensures.keeps.few in
     let within = c.loop-frame.invariant.within in
     record {
       taken =
           subst (λ (r : Receiver). TakesTo c.args.self.now c.args.source c.args.body.now c.in-Some.rest.now
-          (c.loop-frame.index + 1) r c.take_frame.new.moves.items c.take_frame.new.self
-          c.take_frame.new.sent) (sym at) taken;
+          (c.loop-frame.index + 1) r c.take_frame.new.effects.moves.items c.take_frame.new.self
+          c.take_frame.new.effects.sent) (sym at) taken;
       within = omega (arith, within, c.in-Some.ensures.fewer);
       octets =
           rest_octets c.loop-frame.left.now took.submessage c.in-Some.rest.now first
@@ -88,12 +86,12 @@ pub returns-clause-takes : goal.returns-clause-takes
 returns-clause-takes c =
     let report : Report = c.take_report-2.result in
     let taken : TakesTo c.args.self.now c.args.source c.args.body.now c.loop-frame.left.now c.loop-frame.index
-    (receiver_at c.loop-frame.receiver) report.moves c.loop-frame.self c.loop-frame.sent =
+    (receiver_at c.loop-frame.receiver) report.moves c.loop-frame.self c.loop-frame.effects.sent =
     subst (λ (ms : List Move). TakesTo c.args.self.now c.args.source c.args.body.now c.loop-frame.left.now
-    c.loop-frame.index (receiver_at c.loop-frame.receiver) ms c.loop-frame.self c.loop-frame.sent)
+    c.loop-frame.index (receiver_at c.loop-frame.receiver) ms c.loop-frame.self c.loop-frame.effects.sent)
     (sym (ap (λ (r : Report). r.moves) c.take_report-2.ensures.report)) c.loop-frame.invariant.taken in
     takes_all c.args.self.now c.loop-frame.self c.args.source c.args.body.now c.loop-frame.left.now
-    c.loop-frame.index (receiver_at c.loop-frame.receiver) report c.loop-frame.sent taken
+    c.loop-frame.index (receiver_at c.loop-frame.receiver) report c.loop-frame.effects.sent taken
     c.in_default.ensures.end (ap (λ (r : Report). r.refused) c.take_report-2.ensures.report)
 
 pub returns-in-Err-clause-twin : goal.returns-in-Err-clause-twin

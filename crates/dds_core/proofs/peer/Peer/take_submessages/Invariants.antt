@@ -8,13 +8,13 @@ use Rattle.dds_core.proofs.peer.Peer.take_submessages.Given as goal
 
 abbrev pub invariant-loop-frame : goal.invariant-loop-frame
 invariant-loop-frame l = record {
-  taken : TakesTo l.initial.self l.fn.source l.body l.left l.index (receiver_at l.receiver) l.moves.items l.self l.sent;
+  taken : TakesTo l.initial.self l.fn.source l.body l.left l.index (receiver_at l.receiver) l.effects.moves.items l.self l.effects.sent;
   within : l.index + length l.left ≤ length l.body;
   octets : AreOctets l.left;
-  few : l.sent.unsent ≤ 2 ^ 16 * l.index;
-  messages : AreMessages l.sent.packets.items;
+  few : l.effects.sent.unsent ≤ 2 ^ 16 * l.index;
+  messages : AreMessages l.effects.sent.packets.items;
   same : l.self.prefix ≡ l.initial.self.prefix;
-  twice : l.moves.twice ≡ wants_two l.twin;
+  twice : l.effects.moves.twice ≡ wants_two l.twin;
   still : l.twin ≡ l.initial.twin;
 }
 

@@ -15,10 +15,10 @@ take_last-requires-clause-can c =
 pub returns-clause-takes : goal.returns-clause-takes
 returns-clause-takes c =
     subst (λ (ms : List Move). TellsReaders c.args.self.now
-    (receiver_at c.args.receiver.now) c.args.submessage.now ms c.args.sent.now c.take_last.new.self
-    c.take_last.new.moves.items c.take_last.new.sent) c.in_ok-reserve.ensures.items
+    (receiver_at c.args.receiver.now) c.args.submessage.now ms c.args.effects.now.sent c.take_last.new.self
+    c.take_last.new.effects.moves.items c.take_last.new.effects.sent) c.in_ok-reserve.ensures.items
     (tells_readers c.args.self.now c.make_last_ready.new.self c.take_last.new.self
     (receiver_at c.args.receiver.now) c.args.submessage.now (only_last c.args.first.index c.in_ok-ready.ready)
-    c.reserve.new.self.items c.take_last.new.moves.items c.args.sent.now c.take_last.new.sent
+    c.reserve.new.self.items c.take_last.new.effects.moves.items c.args.effects.now.sent c.take_last.new.effects.sent
     c.in_ok-ready.ensures.stands c.in_ok-ready.ensures.prefix c.in_ok-ready.ensures.ready c.take_last.ensures.takes
     c.in_ok-ready.ensures.count)
