@@ -35,8 +35,8 @@ use crate::summary::Summary;
 use crate::sweeping::{let_go, next_sweep, sweep};
 use crate::test::Test;
 use dds_base::{
-    Arrival, Code, Handle, Key, Masks, Moment, ReaderQos, Sample, SamplePosition, Selection,
-    Sequence, Sn,
+    Arrival, Code, Handle, Key, Masks, Moment, OwnershipQos, ReaderQos, Sample, SamplePosition,
+    Selection, Sequence, Sn,
 };
 use dds_instances::Instances;
 use std::alloc::Global;
@@ -208,6 +208,16 @@ impl ReaderCache {
         self.room = self.room.saturating_sub(1);
     }
 
+    /// Where a change is asked for its instance before it is taken up, which EXCLUSIVE ownership does, the key is looked up
+    /// once for both.
+    fn expect(&mut self, key: Key)
+        ensures same { self.new ≡ self.old }
+    {
+        if let OwnershipQos::Exclusive = self.qos.ownership {
+            self.instances.expect(key);
+        }
+    }
+
     /// Takes up a change of a matched writer, in the room that there is.
     fn take_up(&mut self, arrival: Arrival)
         requires room { 1 ≤ room_of self.old }
@@ -310,6 +320,7 @@ impl ReaderCache {
         ensures entry { TakesEntry room_of self.old self.new result }
     {
         self.reserve(1)?;
+        self.expect(arrival.change.key);
         self.take_up(arrival);
         self.sweep_if_due();
         Ok(())

@@ -18,7 +18,7 @@ use crate::keeping::{
     note_strength, see_all, take_up,
 };
 use crate::known::{KnownInstance, told, view_of};
-use crate::place::KeyIndex;
+use crate::place::{KeyIndex, find};
 use crate::track::{InstanceTrack, begins_dead, begins_left, count_if};
 use dds_base::{
     Arrival, Code, Handle, InstanceState, Key, OwnershipQos, ReaderQos, SamplePosition, ViewState,
@@ -199,6 +199,17 @@ impl Instances {
         self.reserve(1)?;
         self.change(qos, arrival, is_end);
         Ok(())
+    }
+
+    /// Says that what follows asks for an instance several times over: its key, where that is known, is then found without
+    /// being hashed each time. It changes nothing that is told.
+    pub fn expect(&mut self, key: Key)
+        // It stays as it was.
+        ensures same { self.new ≡ self.old }
+    {
+        if let Some(place) = find(&self.index, key) {
+            self.index.expect(place);
+        }
     }
 
     /// Notes that nothing is held of any instance.
