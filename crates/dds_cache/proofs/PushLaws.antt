@@ -61,6 +61,11 @@ pub placed-at : (P : Kept → Type 0) (ks : List Kept) (place : ℕ) (x d : Kept
     → P (get_or ks place d) → P x
 placed-at P ks place x d within is holds = subst P (sym (is ∙ get_or_default ks place x d within)) holds
 
+-- what holds of each holds of the one at a place
+pub all-at : (P : Kept → Type 0) (ks : List Kept) (place : ℕ) (x : Kept) → place < length ks → x ≡ get_or ks place x
+    → All P ks → P x
+all-at P ks place x within is each = placed-at P ks place x x within is (each place x within)
+
 -- what is kept holds on where a sample is marked as gone that is not present
 holds-out : (q : ReaderQos) (table : Table) (h : List Happening) (i : Key) (ks new : List Kept) (place : ℕ)
     (value : List ℕ) → place < length ks → IsOutAt place ks value new

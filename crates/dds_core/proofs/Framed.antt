@@ -6,9 +6,8 @@ use Rattle.rtps_wire.specs.declared.acknack.AckNack.{AckNack as AckNackBody}
 use Rattle.rtps_wire.specs.declared.submessage.Submessage.{Submessage}
 use Rattle.rtps_wire.specs.declared.submessage.Submessage.TheVariants.{Pad, InfoDst, InfoTs, Data, Heartbeat, AckNack, Gap, Other}
 use Rattle.rtps_wire.specs.Submessages.{Reads}
-use Rattle.dds_machine.specs.declared.reply.Move.{Move}
 use Rattle.dds_protocol.specs.Claims.{Receiver, after_submessage}
-use Rattle.dds_core.specs.declared.sending.Announced.{Announced}
+use Rattle.dds_core.specs.declared.effects.Effects.{Effects}
 use Rattle.dds_core.specs.Kept.{PeerKept}
 use Rattle.dds_core.specs.Readiness.{NamesNobody}
 use Rattle.dds_core.specs.Receiving.{FrameNeedsMemory, NeedsMemory, TakesFrame, TakesOneMore}
@@ -17,15 +16,15 @@ use Rattle.dds_core.proofs.Turns.{nobody_told}
 
 -- one that speaks to the receiver alone is taken up, and nothing is done
 pub takes_for_receiver : (old : PeerKept) (at : Receiver) (id flags : ℕ) (body : List ℕ) (s : Submessage)
-    (moves : List Move) (sent : Announced) (left : Receiver) → ((a : AckNackBody) → s ≡ AckNack a → ⊥) → NamesNobody s
+    (effects : Effects) (left : Receiver) → ((a : AckNackBody) → s ≡ AckNack a → ⊥) → NamesNobody s
     → Reads id flags body s → left ≡ after_submessage old.prefix at s
-    → TakesFrame old at id flags body moves sent old moves sent left
-takes_for_receiver old at id flags body s moves sent left other nobody read leaves = record {
+    → TakesFrame old at id flags body effects old effects left
+takes_for_receiver old at id flags body s effects left other nobody read leaves = record {
   submessage = s;
   is_read = read;
   takes =
-      readers_take old old at s moves moves sent sent other
-      (nobody_told old at s moves sent (λ i k there reader_id writer_id by row named. nobody reader_id writer_id by));
+      readers_take old old at s effects effects other
+      (nobody_told old at s effects (λ i k there reader_id writer_id by row named. nobody reader_id writer_id by));
   leaves = leaves;
 }
 
@@ -43,18 +42,18 @@ stays own at id flags body (Gap g) read no_dst no_ts = refl
 stays own at id flags body (Other n) read no_dst no_ts = refl
 
 pub takes_other_if : {A B : Type 0} (answer : Result A B) (old new : PeerKept) (at : Receiver) (id flags : ℕ)
-    (body : List ℕ) (s : Submessage) (moves after : List Move) (sent gone : Announced) → Reads id flags body s
+    (body : List ℕ) (s : Submessage) (effects after : Effects) → Reads id flags body s
     → ((prefix : GuidPrefix) → Reads id flags body (InfoDst prefix) → ⊥)
     → ((moment : Option ℕ) → Reads id flags body (InfoTs moment) → ⊥)
-    → OnOk answer (TakesOneMore old at s moves sent new after gone)
-    → OnOk answer (TakesFrame old at id flags body moves sent new after gone at)
-takes_other_if (Ok x) old new at id flags body s moves after sent gone read no_dst no_ts takes = record {
+    → OnOk answer (TakesOneMore old at s effects new after)
+    → OnOk answer (TakesFrame old at id flags body effects new after at)
+takes_other_if (Ok x) old new at id flags body s effects after read no_dst no_ts takes = record {
   submessage = s;
   is_read = read;
   takes = takes;
   leaves = stays old.prefix at id flags body s read no_dst no_ts;
 }
-takes_other_if (Err e) old new at id flags body s moves after sent gone read no_dst no_ts takes = tt
+takes_other_if (Err e) old new at id flags body s effects after read no_dst no_ts takes = tt
 
 pub needs_if_other : {A B : Type 0} (answer : Result A B) (old : PeerKept) (at : Receiver) (id flags : ℕ)
     (body : List ℕ) (s : Submessage) → Reads id flags body s → OnErr answer (NeedsMemory old at s)

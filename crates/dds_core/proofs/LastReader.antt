@@ -4,11 +4,10 @@ use Rattle.std.proofs.lemmas.Option.{same_Some, slice_get_within}
 use Rattle.std.proofs.lemmas.Bool.{cases_lt}
 use Rattle.dds_base.specs.declared.guid.GuidPrefix.{GuidPrefix}
 use Rattle.rtps_wire.specs.declared.submessage.Submessage.{Submessage}
-use Rattle.dds_machine.specs.declared.reply.Move.{Move}
 use Rattle.dds_protocol.specs.Claims.{Receiver}
 use Rattle.dds_core.specs.declared.delivery.FirstNamed.{FirstNamed}
+use Rattle.dds_core.specs.declared.effects.Effects.{Effects}
 use Rattle.dds_core.specs.declared.reader_end.Ready.{Ready}
-use Rattle.dds_core.specs.declared.sending.Announced.{Announced}
 use Rattle.dds_core.specs.Kept.{ReaderKept, PeerKept}
 use Rattle.dds_core.specs.Readiness.{AreReady, IsAlike, IsFirstNamed, IsPrepared, IsReadyFor}
 use Rattle.dds_core.specs.Receiving.{TakesAll, TakesAt, only_last}
@@ -30,44 +29,42 @@ last_before (suc index) zero one lt = refl
 last_before (suc index) (suc i) one lt = last_before index i one (omega (arith, lt))
 
 -- nobody before the last one is told anything
-none_before : (old : PeerKept) (index i : ℕ) (one : Option Ready) (moves : List Move) (sent : Announced)
-    → i ≤ index → index < length old.readers
-    → TakesSome old (only_last index one) i moves sent old moves sent
-none_before old index zero one moves sent le within = takes_none old (only_last index one) moves sent
-none_before old index (suc i) one moves sent le within =
+none_before : (old : PeerKept) (index i : ℕ) (one : Option Ready) (effects : Effects) → i ≤ index
+    → index < length old.readers → TakesSome old (only_last index one) i effects old effects
+none_before old index zero one effects le within = takes_none old (only_last index one) effects
+none_before old index (suc i) one effects le within =
     let before : i < index = omega (arith, le) in
-    subst (λ (n : ℕ). TakesSome old (only_last index one) n moves sent old moves sent) (omega arith)
-    (takes_skip old old (only_last index one) i moves moves sent sent
-    (none_before old index i one moves sent (omega (arith, le)) within) (omega (arith, before, within))
+    subst (λ (n : ℕ). TakesSome old (only_last index one) n effects old effects) (omega arith)
+    (takes_skip old old (only_last index one) i effects effects
+    (none_before old index i one effects (omega (arith, le)) within) (omega (arith, before, within))
     (last_before index i one before))
 
 -- so many were told
-ends : (old new : PeerKept) (index : ℕ) (one : Option Ready) (moves after : List Move) (sent gone : Announced)
-    → TakesSome old (only_last index one) (index + 1) moves sent new after gone
-    → TakesAll old (only_last index one) moves sent new after gone
-ends old new index one moves after sent gone takes =
+ends : (old new : PeerKept) (index : ℕ) (one : Option Ready) (effects after : Effects)
+    → TakesSome old (only_last index one) (index + 1) effects new after
+    → TakesAll old (only_last index one) effects new after
+ends old new index one effects after takes =
     let count = last_count index one in
-    takes_all old new (only_last index one) moves after sent gone (index + 1) (omega (arith, count))
-    (omega (arith, count)) takes
+    takes_all old new (only_last index one) effects after (index + 1) (omega (arith, count)) (omega (arith, count)) takes
 
 -- the last one was told what was ready
-pub last_told : (old new : PeerKept) (index : ℕ) (one : Ready) (moves after : List Move) (sent gone : Announced)
-    → index + 1 ≡ length old.readers → TakesAt old index one moves sent new after gone
-    → TakesAll old (only_last index (Some one)) moves sent new after gone
-last_told old new index one moves after sent gone last took =
+pub last_told : (old new : PeerKept) (index : ℕ) (one : Ready) (effects after : Effects)
+    → index + 1 ≡ length old.readers → TakesAt old index one effects new after
+    → TakesAll old (only_last index (Some one)) effects new after
+last_told old new index one effects after last took =
     let within : index < length old.readers = omega (arith, last) in
-    ends old new index (Some one) moves after sent gone
-    (takes_more old old new (only_last index (Some one)) index one moves moves after sent sent gone
-    (none_before old index index (Some one) moves sent (omega arith) within) within (last_there index (Some one)) took)
+    ends old new index (Some one) effects after
+    (takes_more old old new (only_last index (Some one)) index one effects effects after
+    (none_before old index index (Some one) effects (omega arith) within) within (last_there index (Some one)) took)
 
 -- nothing was ready
-pub last_idle : (old : PeerKept) (index : ℕ) (moves : List Move) (sent : Announced)
-    → index + 1 ≡ length old.readers → TakesAll old (only_last index None) moves sent old moves sent
-last_idle old index moves sent last =
+pub last_idle : (old : PeerKept) (index : ℕ) (effects : Effects) → index + 1 ≡ length old.readers
+    → TakesAll old (only_last index None) effects old effects
+last_idle old index effects last =
     let within : index < length old.readers = omega (arith, last) in
-    ends old old index None moves moves sent sent
-    (takes_skip old old (only_last index None) index moves moves sent sent
-    (none_before old index index None moves sent (omega arith) within) within (last_there index None))
+    ends old old index None effects effects
+    (takes_skip old old (only_last index None) index effects effects
+    (none_before old index index None effects (omega arith) within) within (last_there index None))
 
 -- what was made ready for the last one, and for nobody before it
 pub last_ready : (own : GuidPrefix) (at : Receiver) (s : Submessage) (readers now : List ReaderKept) (first : FirstNamed)

@@ -37,6 +37,7 @@ pub mod LastReader
 pub mod ReaderEnds
 pub mod Telling
 pub mod Taking
+pub mod EffectsLaws
 pub mod Framed
 pub mod Tellable
 pub mod Delivering

@@ -33,6 +33,7 @@ use Rattle.dds_core.proofs.Identities.{same_identity}
 use Rattle.dds_core.proofs.Lists.{get-within, left_at, left_more, drop_set}
 use Rattle.dds_core.proofs.Rows.{writers_of}
 use Rattle.dds_base.specs.declared.guid.EntityId.{EntityId}
+use Rattle.dds_core.specs.declared.effects.Effects.{Effects}
 use Rattle.dds_core.specs.declared.sending.Announced.{Announced}
 use Rattle.dds_core.specs.Beating.{AddsTo}
 use Rattle.dds_protocol.specs.DueMessages.{acknacks_due}
@@ -342,14 +343,14 @@ took_by old index ready k now k' moves sent new after gone writer from step is a
     }
 
 -- all were told what was ready for them
-pub takes_all : (old now : PeerKept) (ready : List (Option Ready)) (moves after : List Move) (sent gone : Announced)
-    (index : ℕ) → length ready ≤ index → index ≤ length ready → TakesSome old ready index moves sent now after gone
-    → TakesAll old ready moves sent now after gone
-takes_all old now ready moves after sent gone index low high h = record {
+pub takes_all : (old now : PeerKept) (ready : List (Option Ready)) (effects after : Effects) (index : ℕ)
+    → length ready ≤ index → index ≤ length ready → TakesSome old ready index effects now after
+    → TakesAll old ready effects now after
+takes_all old now ready effects after index low high h = record {
   made = h.made;
   after_is = h.after_is;
   takes = λ at s are.
       let count = are.count in
-      subst (λ (n : ℕ). ReadersTake old at s n h.made sent now gone) (omega (arith, count, low, high))
+      subst (λ (n : ℕ). ReadersTake old at s n h.made effects.sent now after.sent) (omega (arith, count, low, high))
       (h.takes at s are);
 }

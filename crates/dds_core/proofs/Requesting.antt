@@ -19,10 +19,12 @@ use Rattle.dds_protocol.specs.Protocol.{State, InTurn, WriterTakes}
 use Rattle.dds_protocol.proofs.OwnGuids.{one_writer}
 use Rattle.dds_core.specs.declared.answering.Room.{Room}
 use Rattle.dds_core.specs.declared.matching.ReaderName.{ReaderName}
+use Rattle.dds_core.specs.declared.effects.Effects.{Effects}
 use Rattle.dds_core.specs.declared.sending.Announced.{Announced}
-use Rattle.dds_core.specs.Answering.{AsksNone, IsRoom, AreRooms, TakesAckNack, HaveRoom, RowTook, RowsTook, TakesRow, TakesRows, acknowledged_moves}
+use Rattle.dds_core.specs.Answering.{AsksNone, IsRoom, AreRooms, TakesAckNack, HaveRoom, RowTook, RowsTook, TakesAllRows, TakesRow, TakesRows, acknowledged_moves}
 use Rattle.dds_core.specs.Kept.{WriterKept, PeerKept}
 use Rattle.dds_core.specs.Identity.{WriterIdentity, writer_identity}
+use Rattle.dds_core.specs.Moved.{MovesKept}
 use Rattle.dds_core.specs.Receiving.{with_state, TakesOneMore}
 use Rattle.dds_core.specs.Standing.{StandsFor}
 use Rattle.dds_core.proofs.Beating.{adds_none, adds_on}
@@ -103,18 +105,17 @@ turn_named step (n ∷ ns) (p ∷ ps) old new made dues same h =
 -- ---- one reader after the other
 
 pub rows_none : (old : PeerKept) (index : ℕ) (a : AckNackBody) (k : WriterKept) (rooms : List (Option Room))
-    (moves : List Move) (sent : Announced) → slice_get old.writers index ≡ Some k
-    → TakesRows old index a k rooms 0 moves sent old moves sent
-rows_none old index a k rooms moves sent at_k = record {
+    (effects : Effects) → slice_get old.writers index ≡ Some k → TakesRows old index a k rooms 0 effects old effects
+rows_none old index a k rooms effects at_k = record {
   made = [];
-  after_is = sym (append-nil moves);
+  after_is = sym (append-nil effects.moves.items);
   takes =
       λ at are config peer stands. record {
         state = state_of peer;
         dues = [];
         turn = (refl, refl, refl);
         stands = stands;
-        adds = adds_none sent.packets.items sent.unsent;
+        adds = adds_none effects.sent.packets.items effects.sent.unsent;
       };
   there = k;
   at = at_k;
@@ -147,13 +148,16 @@ AnswersRow old index a k name room made sent new gone =
 
 -- one row more was answered
 row_more : (old now new : PeerKept) (index : ℕ) (a : AckNackBody) (k : WriterKept) (rooms : List (Option Room)) (i : ℕ)
-    (room : Option Room) (moves mid one : List Move) (sent went gone : Announced)
-    → (h : TakesRows old index a k rooms i moves sent now mid went) (r : IsAtRow k h.there i)
-    → slice_get rooms i ≡ Some room → AnswersRow now index a h.there r.name room one went new gone
+    (room : Option Room) (one : List Move) (effects mid after : Effects)
+    → (h : TakesRows old index a k rooms i effects now mid) (r : IsAtRow k h.there i)
+    → slice_get rooms i ≡ Some room → AnswersRow now index a h.there r.name room one mid.sent new after.sent
     → (at : Receiver) → AreRooms old.prefix k.entity at a k.readers rooms → (config : Config) (peer : Peer)
     → StandsFor old config peer
-    → RowsTook config old.prefix at a index (take (i + 1) k.readers) peer (h.made ++ one) sent new gone
-row_more old now new index a k rooms i room moves mid one sent went gone h r there answers at are config peer stands =
+    → RowsTook config old.prefix at a index (take (i + 1) k.readers) peer (h.made ++ one) effects.sent new after.sent
+row_more old now new index a k rooms i room one effects mid after h r there answers at are config peer stands =
+    let sent = effects.sent in
+    let went = mid.sent in
+    let gone = after.sent in
     let before : RowsTook config old.prefix at a index (take i k.readers) peer h.made sent now went =
     h.takes at are config peer stands in
     let entity : h.there.entity ≡ k.entity = ap (λ (x : WriterIdentity). x.entity) h.same in
@@ -185,18 +189,17 @@ row_more old now new index a k rooms i room moves mid one sent went gone h r the
 
 -- nobody has room at this row
 pub rows_skip : (old now : PeerKept) (index : ℕ) (a : AckNackBody) (k : WriterKept) (rooms : List (Option Room)) (i : ℕ)
-    (moves after : List Move) (sent gone : Announced) → TakesRows old index a k rooms i moves sent now after gone
-    → i < length k.readers
-    → slice_get rooms i ≡ Some None → TakesRows old index a k rooms (i + 1) moves sent now after gone
-rows_skip old now index a k rooms i moves after sent gone h lt none =
+    (effects after : Effects) → TakesRows old index a k rooms i effects now after → i < length k.readers
+    → slice_get rooms i ≡ Some None → TakesRows old index a k rooms (i + 1) effects now after
+rows_skip old now index a k rooms i effects after h lt none =
     let r = at_row k h.there i h.same lt in
     record {
       made = h.made ++ [];
-      after_is = h.after_is ∙ ap (λ (ms : List Move). moves ++ ms) (sym (append-nil h.made));
+      after_is = h.after_is ∙ ap (λ (ms : List Move). effects.moves.items ++ ms) (sym (append-nil h.made));
       takes =
-          row_more old now now index a k rooms i None moves after [] sent gone gone h r none
+          row_more old now now index a k rooms i None [] effects after after h r none
           (λ config peer stands at not.
-          row_idle (row_at now index i k h.there h.at r config peer stands) at a gone not);
+          row_idle (row_at now index i k h.there h.at r config peer stands) at a after.sent not);
       there = h.there;
       at = h.at;
       same = h.same;
@@ -206,22 +209,24 @@ rows_skip old now index a k rooms i moves after sent gone h lt none =
 
 -- this reader was answered
 pub rows_more : (old now new : PeerKept) (index : ℕ) (a : AckNackBody) (k : WriterKept) (rooms : List (Option Room))
-    (i : ℕ) (room : Room) (moves mid after : List Move) (sent went gone : Announced)
-    → TakesRows old index a k rooms i moves sent now mid went → i < length k.readers
-    → slice_get rooms i ≡ Some (Some room) → TakesRow now index i a mid went new after gone
-    → TakesRows old index a k rooms (i + 1) moves sent new after gone
-rows_more old now new index a k rooms i room moves mid after sent went gone h lt is took =
+    (i : ℕ) (room : Room) (effects mid after : Effects) → TakesRows old index a k rooms i effects now mid
+    → i < length k.readers → slice_get rooms i ≡ Some (Some room) → TakesRow now index i a mid new after
+    → TakesRows old index a k rooms (i + 1) effects new after
+rows_more old now new index a k rooms i room effects mid after h lt is took =
     let r = at_row k h.there i h.same lt in
-    let t : RowTook now index i a h.there r.name mid went new after gone = took h.there r.name h.at r.at in
+    let t : RowTook now index i a h.there r.name mid.moves.items mid.sent new after.moves.items after.sent =
+    took h.there r.name h.at r.at in
     let made : List Move = acknowledged_moves (index + 1) r.name.reader t.acknowledged in
     record {
       made = h.made ++ made;
-      after_is = t.after_is ∙ (ap (λ (ms : List Move). ms ++ made) h.after_is ∙ append_assoc moves h.made made);
+      after_is =
+          t.after_is
+          ∙ (ap (λ (ms : List Move). ms ++ made) h.after_is ∙ append_assoc effects.moves.items h.made made);
       takes =
-          row_more old now new index a k rooms i (Some room) moves mid made sent went gone h r is
+          row_more old now new index a k rooms i (Some room) made effects mid after h r is
           (λ config peer stands at from.
-          row_answered (row_at now index i k h.there h.at r config peer stands) at a from.0 mid went new after
-          gone t);
+          row_answered (row_at now index i k h.there h.at r config peer stands) at a from.0 mid.moves.items mid.sent new
+          after.moves.items after.sent t);
       there = t.writer;
       at = ap (λ (x : PeerKept). slice_get x.writers index) t.new_is ∙ set_get now.writers index h.there t.writer h.at;
       same = t.same ∙ h.same;
@@ -246,17 +251,19 @@ idle_writer config peer own at a writer rows s not =
     turn_idle (λ (p : ReaderProxy). WriterTakes config own peer.number at a writer p.reader) rows s
     (λ k p there. inr ((λ to. absurd (not p.reader to)), (refl, refl, refl)))
 
--- the writer of this index took it up, and no other one has to
+-- the writer of this index took it up, once room was made for the moves, and no other one has to
 pub writer_takes : (old new : PeerKept) (index : ℕ) (a : AckNackBody) (k : WriterKept) (rooms : List (Option Room))
-    (at : Receiver) (moves after : List Move) (sent gone : Announced) → slice_get old.writers index ≡ Some k
-    → k.entity ≡ a.writer_id
+    (at : Receiver) (effects : Effects) (moves : MovesKept) (after : Effects) → moves.items ≡ effects.moves.items
+    → slice_get old.writers index ≡ Some k → k.entity ≡ a.writer_id
     → AreRooms old.prefix k.entity at a k.readers rooms
-    → TakesRows old index a k rooms (length k.readers) moves sent new after gone
-    → TakesOneMore old at (AckNack a) moves sent new after gone
-writer_takes old new index a k rooms at moves after sent gone at_k entity are h = record {
+    → TakesAllRows old index a rooms (record effects { moves = moves }) new after
+    → TakesOneMore old at (AckNack a) effects new after
+writer_takes old new index a k rooms at effects moves after same at_k entity are all = record {
   made = h.made;
-  after_is = h.after_is;
+  after_is = h.after_is ∙ ap (λ (ms : List Move). ms ++ h.made) same;
   takes = λ config peer stands.
+      let sent = effects.sent in
+      let gone = after.sent in
       let r : RowsTook config old.prefix at a index (take (length k.readers) k.readers) peer h.made sent new gone =
       h.takes at are config peer stands in
       let named : InTurn (λ (n : ReaderName). WriterTakes config old.prefix peer.number at a (suc index) n.reader)
@@ -304,16 +311,18 @@ writer_takes old new index a k rooms at moves after sent gone at_k entity are h 
       };
 }
   where
+    h : TakesRows old index a k rooms (length k.readers) (record effects { moves = moves }) new after
+    h = all k at_k
+
     one_on : (j : ℕ) → 1 + j ≡ suc j
     one_on j = omega arith
 
 -- no writer has a reader that it is from, and for which it is applied
-pub nobody_takes : (old : PeerKept) (a : AckNackBody) (at : Receiver) (moves : List Move) (sent : Announced)
-    → AsksNone old.prefix at a old.writers
-    → TakesOneMore old at (AckNack a) moves sent old moves sent
-nobody_takes old a at moves sent none = record {
+pub nobody_takes : (old : PeerKept) (a : AckNackBody) (at : Receiver) (effects : Effects)
+    → AsksNone old.prefix at a old.writers → TakesOneMore old at (AckNack a) effects old effects
+nobody_takes old a at effects none = record {
   made = [];
-  after_is = sym (append-nil moves);
+  after_is = sym (append-nil effects.moves.items);
   takes = λ config peer stands. record {
     state = state_of peer;
     dues = [];
@@ -349,7 +358,7 @@ nobody_takes old a at moves sent none = record {
         subst (λ (n : ℕ). InTurn (λ (p : ReaderProxy). WriterTakes config old.prefix peer.number at a n p.reader)
         (own_writer peer.part n).readers (state_of peer) [] [] (state_of peer)) (sym (next f.1)) rows);
     stands = stands;
-    adds = adds_none sent.packets.items sent.unsent;
+    adds = adds_none effects.sent.packets.items effects.sent.unsent;
   };
 }
   where

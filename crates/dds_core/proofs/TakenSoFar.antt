@@ -8,6 +8,7 @@ use Rattle.dds_protocol.specs.Claims.{Receiver, receiver_of}
 use Rattle.dds_protocol.specs.Peer.{Peer, state_of}
 use Rattle.dds_protocol.specs.DueMessages.{Due, AreSent}
 use Rattle.dds_protocol.specs.Protocol.{State}
+use Rattle.dds_core.specs.declared.effects.Effects.{Effects}
 use Rattle.dds_core.specs.declared.reader_end.Ready.{Ready}
 use Rattle.dds_core.specs.declared.sending.Announced.{Announced}
 use Rattle.dds_core.specs.Kept.{PeerKept}
@@ -16,12 +17,12 @@ use Rattle.dds_core.specs.Readiness.{AreReady}
 use Rattle.dds_core.specs.Receiving.{ReadersTake, FollowsBody, with_state}
 
 -- each reader before this index was told what was ready for it; the others are as they were
-pub record TakesSome (old : PeerKept) (ready : List (Option Ready)) (index : ℕ) (moves : List Move) (sent : Announced)
-    (now : PeerKept) (after : List Move) (gone : Announced) : Type 0 where
+pub record TakesSome (old : PeerKept) (ready : List (Option Ready)) (index : ℕ) (effects : Effects) (now : PeerKept)
+    (after : Effects) : Type 0 where
   pub made : List Move
-  pub after_is : after ≡ moves ++ made
+  pub after_is : after.moves.items ≡ effects.moves.items ++ made
   pub takes : (at : Receiver) (submessage : Submessage) → AreReady old.prefix at submessage old.readers ready
-      → ReadersTake old at submessage index made sent now gone
+      → ReadersTake old at submessage index made effects.sent now after.sent
   pub left : drop index now.readers ≡ drop index old.readers
   pub prefix : now.prefix ≡ old.prefix
 

@@ -38,6 +38,7 @@ use Rattle.dds_protocol.specs.Peer.{Peer, packets_of, state_of, Delivery}
 use Rattle.dds_protocol.specs.DueMessages.{Due, AreSent}
 use Rattle.dds_protocol.specs.Protocol.{State, InTurn, ReaderTakes, Takes, MayNeedMemory, FollowsMessage}
 use Rattle.dds_protocol.specs.Receipt.{prefix_of}
+use Rattle.dds_core.specs.declared.effects.Effects.{Effects}
 use Rattle.dds_core.specs.declared.sending.Announced.{Announced}
 use Rattle.dds_core.specs.Beating.{AddsTo}
 use Rattle.dds_core.specs.Kept.{PeerKept}
@@ -111,14 +112,14 @@ takes_by_readers config own peer at (InfoTs t) other old made dues new h = h
 takes_by_readers config own peer at (Other n) other old made dues new h = h
 takes_by_readers config own peer at Pad other old made dues new h = h
 
-pub readers_take : (old new : PeerKept) (at : Receiver) (s : Submessage) (moves after : List Move)
-    (sent gone : Announced) → ((a : AckNackBody) → s ≡ AckNack a → ⊥) → TellsReaders old at s moves sent new after gone
-    → TakesOneMore old at s moves sent new after gone
-readers_take old new at s moves after sent gone other h = record {
+pub readers_take : (old new : PeerKept) (at : Receiver) (s : Submessage) (effects after : Effects)
+    → ((a : AckNackBody) → s ≡ AckNack a → ⊥) → TellsReaders old at s effects new after
+    → TakesOneMore old at s effects new after
+readers_take old new at s effects after other h = record {
   made = h.made;
   after_is = h.after_is;
   takes = λ config peer stands.
-      let r : ReadersTook config old.prefix at s (length old.readers) peer h.made sent new gone =
+      let r : ReadersTook config old.prefix at s (length old.readers) peer h.made effects.sent new after.sent =
       h.takes config peer stands in
       record {
         state = r.state;
@@ -132,12 +133,10 @@ readers_take old new at s moves after sent gone other h = record {
 }
 
 pub readers_take_if : {A B : Type 0} (result : Result A B) (old new : PeerKept) (at : Receiver) (s : Submessage)
-    (moves after : List Move) (sent gone : Announced) → ((a : AckNackBody) → s ≡ AckNack a → ⊥)
-    → OnOk result (TellsReaders old at s moves sent new after gone)
-    → OnOk result (TakesOneMore old at s moves sent new after gone)
-readers_take_if (Ok x) old new at s moves after sent gone other h =
-    readers_take old new at s moves after sent gone other h
-readers_take_if (Err e) old new at s moves after sent gone other h = tt
+    (effects after : Effects) → ((a : AckNackBody) → s ≡ AckNack a → ⊥)
+    → OnOk result (TellsReaders old at s effects new after) → OnOk result (TakesOneMore old at s effects new after)
+readers_take_if (Ok x) old new at s effects after other h = readers_take old new at s effects after other h
+readers_take_if (Err e) old new at s effects after other h = tt
 
 -- no packets are messages
 pub no_messages : (packets : List Packet) → packets ≡ [] → AreMessages packets
@@ -173,25 +172,24 @@ takes_none old source body at moves gone begins none quiet zero_lost config peer
 
 -- one more is read, and taken up
 pub takes_more : (old now new : PeerKept) (source : GuidPrefix) (body left : List ℕ) (index : ℕ) (at : Receiver)
-    (submessage : Submessage) (rest : List ℕ) (moves more : List Move) (sent gone : Announced)
-    → TakesTo old source body left index at moves now sent → ReadsFirst left submessage rest → now.prefix ≡ old.prefix
-    → TakesOneMore now at submessage moves sent new more gone
-    → TakesTo old source body rest (index + 1) (after_submessage old.prefix at submessage) more new gone
-takes_more old now new source body left index at submessage rest moves more sent gone taken first same takes config peer
-    s =
+    (submessage : Submessage) (rest : List ℕ) (effects after : Effects)
+    → TakesTo old source body left index at effects.moves.items now effects.sent → ReadsFirst left submessage rest
+    → now.prefix ≡ old.prefix → TakesOneMore now at submessage effects new after
+    → TakesTo old source body rest (index + 1) (after_submessage old.prefix at submessage) after.moves.items new after.sent
+takes_more old now new source body left index at submessage rest effects after taken first same takes config peer s =
     record {
       state = r.state;
       dues = t.dues ++ r.dues;
       stands =
           stands_again new config (with_state (with_state peer t.state) r.state)
           (with_state peer r.state) refl refl refl r.stands;
-      sent = written_adds t.dues r.dues sent gone t.sent r.adds;
-      on = λ later refused last after h.
+      sent = written_adds t.dues r.dues effects.sent after.sent t.sent r.adds;
+      on = λ later refused last end h.
           let took : Takes config old.prefix peer.number at submessage t.state takes.made r.dues r.state =
           subst (λ (p : GuidPrefix). Takes config p peer.number at submessage t.state takes.made r.dues r.state)
           same r.takes in
           let together : FollowsBody config old.prefix peer.number index at left t.state (takes.made ++ later) refused
-          (r.dues ++ last) after =
+          (r.dues ++ last) end =
           record {
             submessages = submessage ∷ h.submessages;
             left = h.left;
@@ -199,17 +197,20 @@ takes_more old now new source body left index at submessage rest moves more sent
             follows = inr (takes.made, later, r.dues, last, r.state, refl, refl, took, h.follows);
           } in
           subst (λ (ms : List Move). FollowsBody config old.prefix peer.number 0
-          (receiver_of source) body (state_of peer) ms refused ((t.dues ++ r.dues) ++ last) after)
+          (receiver_of source) body (state_of peer) ms refused ((t.dues ++ r.dues) ++ last) end)
           (sym (append_assoc moves takes.made later) ∙ ap (λ (ms : List Move). ms ++ later) (sym takes.after_is))
           (subst (λ (ds : List Due). FollowsBody config old.prefix peer.number 0
-          (receiver_of source) body (state_of peer) (moves ++ (takes.made ++ later)) refused ds after)
-          (sym (append_assoc t.dues r.dues last)) (t.on (takes.made ++ later) refused (r.dues ++ last) after together));
+          (receiver_of source) body (state_of peer) (moves ++ (takes.made ++ later)) refused ds end)
+          (sym (append_assoc t.dues r.dues last)) (t.on (takes.made ++ later) refused (r.dues ++ last) end together));
     }
   where
-    t : TakenTo old source body left index at moves now sent config peer
+    moves : List Move
+    moves = effects.moves.items
+
+    t : TakenTo old source body left index at moves now effects.sent config peer
     t = taken config peer s
 
-    r : TookSubmessage config now.prefix at submessage (with_state peer t.state) takes.made sent new gone
+    r : TookSubmessage config now.prefix at submessage (with_state peer t.state) takes.made effects.sent new after.sent
     r = takes.takes config (with_state peer t.state) t.stands
 
 -- what was taken up is all: what is left does nothing

@@ -31,6 +31,7 @@ use Rattle.dds_protocol.specs.DueMessages.{Due, acknacks_due}
 use Rattle.dds_protocol.specs.Protocol.{State, InTurn, MayNeedMemory, TakesChange, TakesGap, heard_as, TakesHeartbeat, TakesOrNot, ReaderTakes}
 use Rattle.dds_core.specs.declared.delivery.FirstNamed.{FirstNamed}
 use Rattle.dds_core.specs.declared.matching.WriterName.{WriterName}
+use Rattle.dds_core.specs.declared.effects.Effects.{Effects}
 use Rattle.dds_core.specs.declared.sending.Announced.{Announced}
 use Rattle.dds_core.specs.declared.reader_end.Ready.{Ready}
 use Rattle.dds_core.specs.declared.reader_end.Told.{Told}
@@ -39,7 +40,8 @@ use Rattle.dds_core.specs.Identity.{reliable_in}
 use Rattle.dds_core.specs.Kept.{ReaderKept, PeerKept}
 use Rattle.dds_core.proofs.Names.{own_reader_is}
 use Rattle.dds_core.specs.Readiness.{IsReadyWith, IsReadyFor, AreReady, IsFirstNamed, NamesNone, NamedBy, IsToldBy, SameReader, TellsSo, moves_of, writer_guid}
-use Rattle.dds_core.specs.Receiving.{TookAt, with_state, NeedsMemory, ReadersTook, TakesAll, TellsReaders, StandsAsWell}
+use Rattle.dds_core.specs.Moved.{MovesKept}
+use Rattle.dds_core.specs.Receiving.{TakesAt, TookAt, with_state, NeedsMemory, ReadersTook, TakesAll, TellsReaders, StandsAsWell}
 use Rattle.dds_core.proofs.TakenSoFar.{TakesSome}
 use Rattle.dds_core.specs.Beating.{AddsTo}
 use Rattle.dds_core.specs.Standing.{IsFirstRow, StandsFor}
@@ -437,11 +439,11 @@ needs_if None now at s h = tt
 needs_if (Some first) now at s h = named_needs now at s first h
 
 -- a submessage that names none of the readers is taken up, and nothing is done
-pub nobody_told : (old : PeerKept) (at : Receiver) (s : Submessage) (moves : List Move) (sent : Announced)
-    → NamesNone old.prefix at s old.readers → TellsReaders old at s moves sent old moves sent
-nobody_told old at s moves sent none = record {
+pub nobody_told : (old : PeerKept) (at : Receiver) (s : Submessage) (effects : Effects)
+    → NamesNone old.prefix at s old.readers → TellsReaders old at s effects old effects
+nobody_told old at s effects none = record {
   made = [];
-  after_is = sym (append-nil moves);
+  after_is = sym (append-nil effects.moves.items);
   takes = λ config peer stands. record {
     state = state_of peer;
     dues = [];
@@ -454,7 +456,7 @@ nobody_told old at s moves sent none = record {
         subst (λ (n : ℕ). ReaderTakes config old.prefix peer.number at s n (state_of peer) [] [] (state_of peer))
         (next f.1) (idles config peer old at s j found.0 stands found.1 (none j found.0 found.1)));
     stands = stands;
-    adds = adds_none sent.packets.items sent.unsent;
+    adds = adds_none effects.sent.packets.items effects.sent.unsent;
   };
 }
   where
@@ -462,18 +464,18 @@ nobody_told old at s moves sent none = record {
     next is = omega (arith, is)
 
 -- none has taken it up yet
-pub takes_none : (old : PeerKept) (ready : List (Option Ready)) (moves : List Move) (sent : Announced)
-    → TakesSome old ready 0 moves sent old moves sent
-takes_none old ready moves sent = record {
+pub takes_none : (old : PeerKept) (ready : List (Option Ready)) (effects : Effects)
+    → TakesSome old ready 0 effects old effects
+takes_none old ready effects = record {
   made = [];
-  after_is = sym (append-nil moves);
+  after_is = sym (append-nil effects.moves.items);
   takes =
       λ at s are config peer stands. record {
         state = state_of peer;
         dues = [];
         turn = (refl, refl, refl);
         stands = stands;
-        adds = adds_none sent.packets.items sent.unsent;
+        adds = adds_none effects.sent.packets.items effects.sent.unsent;
       };
   left = refl;
   prefix = refl;
@@ -507,15 +509,16 @@ next_index : (n : ℕ) → suc n ≡ n + 1
 next_index n = omega arith
 
 -- nothing was ready for this reader
-pub takes_skip : (old now : PeerKept) (ready : List (Option Ready)) (i : ℕ) (moves after : List Move)
-    (sent gone : Announced) → TakesSome old ready i moves sent now after gone → i < length old.readers
-    → slice_get ready i ≡ Some None
-    → TakesSome old ready (i + 1) moves sent now after gone
-takes_skip old now ready i moves after sent gone h within none =
-    subst (λ n. TakesSome old ready n moves sent now after gone) (next_index i) (record {
+pub takes_skip : (old now : PeerKept) (ready : List (Option Ready)) (i : ℕ) (effects after : Effects)
+    → TakesSome old ready i effects now after → i < length old.readers → slice_get ready i ≡ Some None
+    → TakesSome old ready (i + 1) effects now after
+takes_skip old now ready i effects after h within none =
+    subst (λ n. TakesSome old ready n effects now after) (next_index i) (record {
       made = h.made;
       after_is = h.after_is;
       takes = λ at s are config peer stands.
+          let sent = effects.sent in
+          let gone = after.sent in
           let t : ReadersTook config old.prefix at s i peer h.made sent now gone =
           h.takes at s are config peer stands in
           let k = element old.readers i within in
@@ -534,27 +537,28 @@ takes_skip old now ready i moves after sent gone h within none =
 
 -- this reader took up what was ready for it
 pub takes_more : (old now new : PeerKept) (ready : List (Option Ready)) (i : ℕ) (one : Ready)
-    (moves mid after : List Move) (sent went gone : Announced) → TakesSome old ready i moves sent now mid went
-    → i < length old.readers
-    → slice_get ready i ≡ Some (Some one)
-    → ((k : ReaderKept) → slice_get now.readers i ≡ Some k → TookAt now i one k mid went new after gone)
-    → TakesSome old ready (i + 1) moves sent new after gone
-takes_more old now new ready i one moves mid after sent went gone h within is took_at =
+    (effects mid after : Effects) → TakesSome old ready i effects now mid → i < length old.readers
+    → slice_get ready i ≡ Some (Some one) → TakesAt now i one mid new after
+    → TakesSome old ready (i + 1) effects new after
+takes_more old now new ready i one effects mid after h within is took_at =
     let k = element old.readers i within in
     let at_now : slice_get now.readers i ≡ Some k.0 = left_at now.readers old.readers i k.0 h.left k.1 in
-    let t : TookAt now i one k.0 mid went new after gone = took_at k.0 at_now in
+    let t : TookAt now i one k.0 mid.moves.items mid.sent new after.moves.items after.sent = took_at k.0 at_now in
     let made = moves_of t.name.writer (i + 1) t.from t.step in
-    subst (λ n. TakesSome old ready n moves sent new after gone) (next_index i) (record {
+    subst (λ n. TakesSome old ready n effects new after) (next_index i) (record {
       made = h.made ++ made;
-      after_is = t.after_is ∙ (ap (λ ms. ms ++ made) h.after_is ∙ append_assoc moves h.made made);
+      after_is = t.after_is ∙ (ap (λ ms. ms ++ made) h.after_is ∙ append_assoc effects.moves.items h.made made);
       takes = λ at s are config peer stands.
+          let sent = effects.sent in
+          let went = mid.sent in
+          let gone = after.sent in
           let before : ReadersTook config old.prefix at s i peer h.made sent now went =
           h.takes at s are config peer stands in
           let with_it : IsReadyWith now.prefix at s k.0 one =
           subst (λ p. IsReadyWith p at s k.0 one) (sym h.prefix) (are.each i k.0 (Some one) k.1 is) in
           let r =
-          took config (with_state peer before.state) now new at s i k.0 one mid went after gone before.stands at_now
-          with_it t in
+          took config (with_state peer before.state) now new at s i k.0 one mid.moves.items went after.moves.items gone
+          before.stands at_now with_it t in
           let dues = answer_due now.prefix k.0 t.name t.step in
           more_took config old.prefix at s i peer h.made made dues sent went gone now new before r.state
           (subst (λ p. ReaderTakes config p peer.number at s (suc i) before.state made dues r.state) h.prefix r.takes)
@@ -565,16 +569,18 @@ takes_more old now new ready i one moves mid after sent went gone h within is to
       prefix = ap (λ (c : PeerKept). c.prefix) t.new_is ∙ h.prefix;
     })
 
--- the readers were told what a submessage says, once it was made ready
+-- the readers were told what a submessage says, once it was made ready, and room was made for the moves
 pub tells_readers : (old now new : PeerKept) (at : Receiver) (s : Submessage) (ready : List (Option Ready))
-    (moves after : List Move) (sent gone : Announced) → StandsAsWell old now → now.prefix ≡ old.prefix
-    → AreReady old.prefix at s now.readers ready
-    → TakesAll now ready moves sent new after gone → length now.readers ≡ length old.readers
-    → TellsReaders old at s moves sent new after gone
-tells_readers old now new at s ready moves after sent gone well prefix are all count = record {
+    (effects : Effects) (moves : MovesKept) (after : Effects) → moves.items ≡ effects.moves.items
+    → StandsAsWell old now → now.prefix ≡ old.prefix → AreReady old.prefix at s now.readers ready
+    → TakesAll now ready (record effects { moves = moves }) new after → length now.readers ≡ length old.readers
+    → TellsReaders old at s effects new after
+tells_readers old now new at s ready effects moves after same well prefix are all count = record {
   made = all.made;
-  after_is = all.after_is;
+  after_is = all.after_is ∙ ap (λ (ms : List Move). ms ++ all.made) same;
   takes = λ config peer stands.
+      let sent = effects.sent in
+      let gone = after.sent in
       let r : ReadersTook config now.prefix at s (length now.readers) peer all.made sent new gone =
       all.takes at s (subst (λ p. AreReady p at s now.readers ready) (sym prefix) are) config peer
       (well config peer stands) in

@@ -30,6 +30,7 @@ use Rattle.dds_protocol.specs.DueMessages.{Due, answer_message}
 use Rattle.dds_protocol.specs.Protocol.{State, InTurn, WriterTakes, AreGrouped}
 use Rattle.dds_core.specs.declared.answering.Answering.{Answering}
 use Rattle.dds_core.specs.declared.answering.Room.{Room}
+use Rattle.dds_core.specs.declared.effects.Effects.{Effects}
 use Rattle.dds_core.specs.declared.matching.ReaderName.{ReaderName}
 use Rattle.dds_core.specs.declared.sending.Announced.{Announced}
 use Rattle.dds_core.specs.Beating.{AddsTo, due_to}
@@ -179,10 +180,10 @@ pub record RowTook (old : PeerKept) (index row : ℕ) (a : AckNackBody) (k : Wri
   pub after_is : after ≡ moves ++ acknowledged_moves (index + 1) name.reader acknowledged
 
 -- the writer of this index took the ACKNACK of its reader of this row, if there are both
-abbrev pub TakesRow : PeerKept → ℕ → ℕ → AckNackBody → List Move → Announced → PeerKept → List Move → Announced → Type 0
-TakesRow old index row a moves sent new after gone =
+abbrev pub TakesRow : PeerKept → ℕ → ℕ → AckNackBody → Effects → PeerKept → Effects → Type 0
+TakesRow old index row a effects new after =
     (k : WriterKept) (name : ReaderName) → slice_get old.writers index ≡ Some k → slice_get k.readers row ≡ Some name
-    → RowTook old index row a k name moves sent new after gone
+    → RowTook old index row a k name effects.moves.items effects.sent new after.moves.items after.sent
 
 -- for each state that the old values stand for, the writer of this index took the ACKNACK as to each of these readers
 pub record RowsTook (config : Config) (own : GuidPrefix) (at : Receiver) (a : AckNackBody) (index : ℕ)
@@ -197,13 +198,12 @@ pub record RowsTook (config : Config) (own : GuidPrefix) (at : Receiver) (a : Ac
 
 -- so many of the readers of the writer of this index, which keeps this, were answered
 pub record TakesRows (old : PeerKept) (index : ℕ) (a : AckNackBody) (k : WriterKept) (rooms : List (Option Room))
-    (count : ℕ) (moves : List Move) (sent : Announced) (now : PeerKept) (after : List Move)
-    (gone : Announced) : Type 0 where
+    (count : ℕ) (effects : Effects) (now : PeerKept) (after : Effects) : Type 0 where
   pub made : List Move
-  pub after_is : after ≡ moves ++ made
+  pub after_is : after.moves.items ≡ effects.moves.items ++ made
   pub takes : (at : Receiver) → AreRooms old.prefix k.entity at a k.readers rooms → (config : Config) (peer : Peer)
       → StandsFor old config peer
-      → RowsTook config old.prefix at a index (take count k.readers) peer made sent now gone
+      → RowsTook config old.prefix at a index (take count k.readers) peer made effects.sent now after.sent
   pub there : WriterKept
   pub at : slice_get now.writers index ≡ Some there
   pub same : writer_identity there ≡ writer_identity k
@@ -211,8 +211,7 @@ pub record TakesRows (old : PeerKept) (index : ℕ) (a : AckNackBody) (k : Write
   pub others : length now.writers ≡ length old.writers
 
 -- the writer of this index took the ACKNACK as to each of its readers, if there is such a writer
-abbrev pub TakesAllRows : PeerKept → ℕ → AckNackBody → List (Option Room) → List Move → Announced → PeerKept → List Move
-    → Announced → Type 0
-TakesAllRows old index a rooms moves sent new after gone =
+abbrev pub TakesAllRows : PeerKept → ℕ → AckNackBody → List (Option Room) → Effects → PeerKept → Effects → Type 0
+TakesAllRows old index a rooms effects new after =
     (k : WriterKept) → slice_get old.writers index ≡ Some k
-    → TakesRows old index a k rooms (length k.readers) moves sent new after gone
+    → TakesRows old index a k rooms (length k.readers) effects new after

@@ -68,9 +68,10 @@ pub record TookAt (old : PeerKept) (index : ℕ) (ready : Ready) (k : ReaderKept
       sent gone
 
 -- the reader of this index, if there is one, was told what was ready, and the ACKNACK that is then due was sent
-abbrev pub TakesAt : PeerKept → ℕ → Ready → List Move → Announced → PeerKept → List Move → Announced → Type 0
-TakesAt old index ready moves sent new after gone =
-    (k : ReaderKept) → slice_get old.readers index ≡ Some k → TookAt old index ready k moves sent new after gone
+abbrev pub TakesAt : PeerKept → ℕ → Ready → Effects → PeerKept → Effects → Type 0
+TakesAt old index ready effects new after =
+    (k : ReaderKept) → slice_get old.readers index ≡ Some k
+    → TookAt old index ready k effects.moves.items effects.sent new after.moves.items after.sent
 
 -- what this state of a peer is with another part, and other knowledge
 abbrev pub with_state : Peer → State → Peer
@@ -93,19 +94,19 @@ ReadersTake old at submessage count made sent new gone =
     → ReadersTook config old.prefix at submessage count peer made sent new gone
 
 -- each reader is told what was ready for it
-pub record TakesAll (old : PeerKept) (ready : List (Option Ready)) (moves : List Move) (sent : Announced)
-    (new : PeerKept) (after : List Move) (gone : Announced) : Type 0 where
+pub record TakesAll (old : PeerKept) (ready : List (Option Ready)) (effects : Effects) (new : PeerKept)
+    (after : Effects) : Type 0 where
   pub made : List Move
-  pub after_is : after ≡ moves ++ made
+  pub after_is : after.moves.items ≡ effects.moves.items ++ made
   pub takes : (at : Receiver) (submessage : Submessage) → AreReady old.prefix at submessage old.readers ready
-      → ReadersTake old at submessage (length old.readers) made sent new gone
+      → ReadersTake old at submessage (length old.readers) made effects.sent new after.sent
 
 -- the readers are told what a submessage says, after other moves
-pub record TellsReaders (old : PeerKept) (at : Receiver) (submessage : Submessage) (moves : List Move)
-    (sent : Announced) (new : PeerKept) (after : List Move) (gone : Announced) : Type 0 where
+pub record TellsReaders (old : PeerKept) (at : Receiver) (submessage : Submessage) (effects : Effects) (new : PeerKept)
+    (after : Effects) : Type 0 where
   pub made : List Move
-  pub after_is : after ≡ moves ++ made
-  pub takes : ReadersTake old at submessage (length old.readers) made sent new gone
+  pub after_is : after.moves.items ≡ effects.moves.items ++ made
+  pub takes : ReadersTake old at submessage (length old.readers) made effects.sent new after.sent
 
 -- for each state that the old values stand for, a submessage was taken up, and what was then due was sent
 pub record TookSubmessage (config : Config) (own : GuidPrefix) (at : Receiver) (submessage : Submessage) (peer : Peer)
@@ -117,19 +118,19 @@ pub record TookSubmessage (config : Config) (own : GuidPrefix) (at : Receiver) (
   pub adds : AddsTo dues sent gone
 
 -- the same, after other moves
-pub record TakesOneMore (old : PeerKept) (at : Receiver) (submessage : Submessage) (moves : List Move)
-    (sent : Announced) (new : PeerKept) (after : List Move) (gone : Announced) : Type 0 where
+pub record TakesOneMore (old : PeerKept) (at : Receiver) (submessage : Submessage) (effects : Effects) (new : PeerKept)
+    (after : Effects) : Type 0 where
   pub made : List Move
-  pub after_is : after ≡ moves ++ made
+  pub after_is : after.moves.items ≡ effects.moves.items ++ made
   pub takes : (config : Config) (peer : Peer) → StandsFor old config peer
-      → TookSubmessage config old.prefix at submessage peer made sent new gone
+      → TookSubmessage config old.prefix at submessage peer made effects.sent new after.sent
 
 -- the submessage of this id, these flags and this body was taken up, after other moves, and leaves this receiver
-pub record TakesFrame (old : PeerKept) (at : Receiver) (id flags : ℕ) (body : List ℕ) (moves : List Move)
-    (sent : Announced) (new : PeerKept) (after : List Move) (gone : Announced) (left : Receiver) : Type 0 where
+pub record TakesFrame (old : PeerKept) (at : Receiver) (id flags : ℕ) (body : List ℕ) (effects : Effects)
+    (new : PeerKept) (after : Effects) (left : Receiver) : Type 0 where
   pub submessage : Submessage
   pub is_read : Reads id flags body submessage
-  pub takes : TakesOneMore old at submessage moves sent new after gone
+  pub takes : TakesOneMore old at submessage effects new after
   pub leaves : left ≡ after_submessage old.prefix at submessage
 
 -- for each state that the old values stand for, the submessage may need memory
@@ -148,17 +149,23 @@ pub record FrameNeedsMemory (old : PeerKept) (at : Receiver) (id flags : ℕ) (b
 abbrev pub StandsAsWell : PeerKept → PeerKept → Type 0
 StandsAsWell old new = (config : Config) (peer : Peer) → StandsFor old config peer → StandsFor new config peer
 
+-- more was done: what is moved is kept twice, or once, as before; so many more packets found no memory, at most; and
+-- what is sent are messages, if what was sent before was. What was moved and sent, others say.
+pub record GoOn (more : ℕ) (effects after : Effects) : Type 0 where
+  pub twice : after.moves.twice ≡ effects.moves.twice
+  pub few : after.sent.unsent ≤ effects.sent.unsent + more
+  pub messages : AreMessages effects.sent.packets.items → AreMessages after.sent.packets.items
+
 -- what is so of any submessage that is taken up, and how it may be refused: at most so many more packets find no memory
-pub record KeepsPeer (more : ℕ) (old : PeerKept) (moves : List Move) (sent : Announced) (new : PeerKept)
-    (after : List Move) (gone : Announced) (answer : Result (Unit {0}) Code) : Type 0 where
+pub record KeepsPeer (more : ℕ) (old : PeerKept) (effects : Effects) (new : PeerKept) (after : Effects)
+    (answer : Result (Unit {0}) Code) : Type 0 where
   -- the prefix stays
   pub prefix : new.prefix ≡ old.prefix
-  -- so many more packets found no memory, or fewer
-  pub few : gone.unsent ≤ sent.unsent + more
-  -- what is sent are messages
-  pub messages : AreMessages sent.packets.items → AreMessages gone.packets.items
+  -- so is how the moves are kept, and how many packets found no memory is bounded
+  pub on : GoOn more effects after
   -- a refusal leaves all that the peer stands for, moves nothing and sends nothing
-  pub err : OnErr answer (StandsAsWell old new × (after ≡ moves) × (gone ≡ sent))
+  pub err : OnErr answer
+      (StandsAsWell old new × (after.moves.items ≡ effects.moves.items) × (after.sent ≡ effects.sent))
   -- it is refused for want of memory alone
   pub memory : IfErr answer (λ code. code ≡ Memory)
 

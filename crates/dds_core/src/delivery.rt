@@ -12,7 +12,7 @@ ghost use Rattle.rtps_wire.specs.declared.submessage.Submessage.{Submessage as S
 ghost use Rattle.dds_core.specs.Stepping.{SoundSteps};
 ghost use Rattle.dds_core.specs.Sending.{AreMessages, max_unsent};
 ghost use Rattle.dds_core.specs.Readiness.{receiver_at, IsBounded, AreReady, AreAlike, IsFirstNamed, IsNamedAt, IsReadyFor, IsRowOf, NamedBy, NamesNone, moves_of};
-ghost use Rattle.dds_core.specs.Receiving.{only_last, CanTakeAt, TakesAt, AllCanTake, TakesAll, TellsReaders, TakesOneMore, TakesFrame, KeepsPeer, NeedsMemory, FrameNeedsMemory, NothingDone, TakesBody, StandsAsWell, ReceivesPacket};
+ghost use Rattle.dds_core.specs.Receiving.{only_last, CanTakeAt, TakesAt, AllCanTake, TakesAll, TellsReaders, TakesOneMore, TakesFrame, KeepsPeer, NeedsMemory, FrameNeedsMemory, GoOn, NothingDone, TakesBody, StandsAsWell, ReceivesPacket};
 ghost use Rattle.dds_core.specs.Twins.{Twins, wants_two};
 
 use crate::acknack::send_acknack;
@@ -73,8 +73,10 @@ fn row_at(
     receiver: &MessageReceiver,
 ) -> Option<usize>
     ensures { (submessage : SubmessageOf) → NamedBy submessage first.ids.reader first.ids.writer
-        → (index < first.index → IsReadyFor own.now (receiver_at receiver.now) submessage reader.now None)
-        → (index ≡ first.index → IsNamedAt own.now (receiver_at receiver.now) submessage reader.now first.row)
+        → (index < first.index
+        → IsReadyFor own.now (receiver_at receiver.now) submessage reader.now None)
+        → (index ≡ first.index
+        → IsNamedAt own.now (receiver_at receiver.now) submessage reader.now first.row)
         → IsRowOf own.now (receiver_at receiver.now) submessage reader.now result }
 {
     if index < first.index {
@@ -149,12 +151,9 @@ impl Peer {
         requires can { CanTakeAt self.old.readers index ready }
         requires room { 2 ≤ effects.old.moves.room }
         requires low { effects.old.sent.unsent < max_unsent }
-        ensures takes { TakesAt self.old index ready effects.old.moves.items effects.old.sent self.new
-            effects.new.moves.items effects.new.sent }
-        ensures twice { effects.new.moves.twice ≡ effects.old.moves.twice }
+        ensures takes { TakesAt self.old index ready effects.old self.new effects.new }
         ensures room { effects.old.moves.room ≤ effects.new.moves.room + 2 }
-        ensures few { effects.new.sent.unsent ≤ effects.old.sent.unsent + 1 }
-        ensures messages { AreMessages effects.old.sent.packets.items → AreMessages effects.new.sent.packets.items }
+        ensures on { GoOn 1 effects.old effects.new }
     {
         let (alloc, prefix, moment) = (self.alloc, self.prefix, self.moment);
         let end = &mut self.readers[index];
@@ -185,12 +184,9 @@ impl Peer {
         requires room { 2 * length ready.old.items ≤ effects.old.moves.room }
         requires few { length ready.old.items ≤ max_ends }
         requires low { effects.old.sent.unsent < 2 ^ 60 }
-        ensures takes { TakesAll self.old ready.old.items effects.old.moves.items effects.old.sent self.new
-            effects.new.moves.items effects.new.sent }
+        ensures takes { TakesAll self.old ready.old.items effects.old self.new effects.new }
         ensures prefix { self.new.prefix ≡ self.old.prefix }
-        ensures twice { effects.new.moves.twice ≡ effects.old.moves.twice }
-        ensures few { effects.new.sent.unsent ≤ effects.old.sent.unsent + length ready.old.items }
-        ensures messages { AreMessages effects.old.sent.packets.items → AreMessages effects.new.sent.packets.items }
+        ensures on { GoOn (length ready.old.items) effects.old effects.new }
     {
         for index in 0..ready.len() {
             if let Some(one) = ready[index].take() {
@@ -269,12 +265,9 @@ impl Peer {
         requires last { index + 1 ≡ length self.old.readers }
         requires room { 2 ≤ effects.old.moves.room }
         requires low { effects.old.sent.unsent < 2 ^ 60 }
-        ensures takes { TakesAll self.old (only_last index ready) effects.old.moves.items effects.old.sent self.new
-            effects.new.moves.items effects.new.sent }
+        ensures takes { TakesAll self.old (only_last index ready) effects.old self.new effects.new }
         ensures prefix { self.new.prefix ≡ self.old.prefix }
-        ensures twice { effects.new.moves.twice ≡ effects.old.moves.twice }
-        ensures few { effects.new.sent.unsent ≤ effects.old.sent.unsent + 1 }
-        ensures messages { AreMessages effects.old.sent.packets.items → AreMessages effects.new.sent.packets.items }
+        ensures on { GoOn 1 effects.old effects.new }
     {
         if let Some(one) = ready {
             self.take_at(effects, index, one);
@@ -295,12 +288,9 @@ impl Peer {
             (receiver_at receiver.now) submessage.now self.old.readers first }
         requires last { first.index + 1 ≡ length self.old.readers }
         ensures takes { OnOk result
-            (TellsReaders self.old
-            (receiver_at receiver.now) submessage.now effects.old.moves.items effects.old.sent self.new
-            effects.new.moves.items effects.new.sent) }
-        ensures twice { effects.new.moves.twice ≡ effects.old.moves.twice }
-        ensures keeps { KeepsPeer 16 self.old effects.old.moves.items effects.old.sent self.new effects.new.moves.items
-            effects.new.sent result }
+            (TellsReaders self.old (receiver_at receiver.now) submessage.now effects.old
+            self.new effects.new) }
+        ensures keeps { KeepsPeer 16 self.old effects.old self.new effects.new result }
     {
         let ready = self.make_last_ready(first, receiver, submessage)?;
         effects.moves.reserve(2)?;
@@ -321,12 +311,9 @@ impl Peer {
         requires first { IsFirstNamed self.old.prefix
             (receiver_at receiver.now) submessage.now self.old.readers first }
         ensures takes { OnOk result
-            (TellsReaders self.old
-            (receiver_at receiver.now) submessage.now effects.old.moves.items effects.old.sent self.new
-            effects.new.moves.items effects.new.sent) }
-        ensures twice { effects.new.moves.twice ≡ effects.old.moves.twice }
-        ensures keeps { KeepsPeer 16 self.old effects.old.moves.items effects.old.sent self.new effects.new.moves.items
-            effects.new.sent result }
+            (TellsReaders self.old (receiver_at receiver.now) submessage.now effects.old
+            self.new effects.new) }
+        ensures keeps { KeepsPeer 16 self.old effects.old self.new effects.new result }
     {
         let mut ready = SmallVec::new(self.alloc);
         self.make_ready(&mut ready, first, receiver, submessage)?;
@@ -345,12 +332,9 @@ impl Peer {
         requires bounded { IsBounded submessage.now }
         requires low { effects.old.sent.unsent < 2 ^ 60 }
         ensures takes { OnOk result
-            (TellsReaders self.old
-            (receiver_at receiver.now) submessage.now effects.old.moves.items effects.old.sent self.new
-            effects.new.moves.items effects.new.sent) }
-        ensures twice { effects.new.moves.twice ≡ effects.old.moves.twice }
-        ensures keeps { KeepsPeer 16 self.old effects.old.moves.items effects.old.sent self.new effects.new.moves.items
-            effects.new.sent result }
+            (TellsReaders self.old (receiver_at receiver.now) submessage.now effects.old
+            self.new effects.new) }
+        ensures keeps { KeepsPeer 16 self.old effects.old self.new effects.new result }
         ensures needs { OnErr result
             (NeedsMemory self.old (receiver_at receiver.now) submessage.now) }
     {
@@ -373,12 +357,9 @@ impl Peer {
         requires bounded { IsBounded submessage.now }
         requires low { effects.old.sent.unsent < 2 ^ 59 }
         ensures takes { OnOk result
-            (TakesOneMore self.old
-            (receiver_at receiver.now) submessage.now effects.old.moves.items effects.old.sent self.new
-            effects.new.moves.items effects.new.sent) }
-        ensures twice { effects.new.moves.twice ≡ effects.old.moves.twice }
-        ensures keeps { KeepsPeer (2 ^ 16) self.old effects.old.moves.items effects.old.sent self.new
-            effects.new.moves.items effects.new.sent result }
+            (TakesOneMore self.old (receiver_at receiver.now) submessage.now effects.old
+            self.new effects.new) }
+        ensures keeps { KeepsPeer (2 ^ 16) self.old effects.old self.new effects.new result }
         ensures needs { OnErr result
             (NeedsMemory self.old (receiver_at receiver.now) submessage.now) }
     {
@@ -398,12 +379,10 @@ impl Peer {
     ) -> Result<(), Code>
         requires low { effects.old.sent.unsent < 2 ^ 59 }
         ensures takes { OnOk result
-            (TakesFrame self.old
-            (receiver_at receiver.old) frame.now.id frame.now.flags frame.now.body.now effects.old.moves.items
-            effects.old.sent self.new effects.new.moves.items effects.new.sent (receiver_at receiver.new)) }
-        ensures twice { effects.new.moves.twice ≡ effects.old.moves.twice }
-        ensures keeps { KeepsPeer (2 ^ 16) self.old effects.old.moves.items effects.old.sent self.new
-            effects.new.moves.items effects.new.sent result }
+            (TakesFrame self.old (receiver_at receiver.old)
+            frame.now.id frame.now.flags frame.now.body.now effects.old
+            self.new effects.new (receiver_at receiver.new)) }
+        ensures keeps { KeepsPeer (2 ^ 16) self.old effects.old self.new effects.new result }
         ensures needs { OnErr result
             (FrameNeedsMemory self.old
             (receiver_at receiver.old) frame.now.id frame.now.flags frame.now.body.now) }

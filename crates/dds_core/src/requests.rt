@@ -8,8 +8,7 @@ ghost use Rattle.rtps_wire.specs.declared.submessage.Submessage.TheVariants as s
 ghost use Rattle.dds_core.specs.Answering.{HasRoom, HaveRoom, AsksNone, IsAskedWriter, TakesRow, TakesAllRows};
 ghost use Rattle.dds_core.specs.Kept.{WriterKept};
 ghost use Rattle.dds_core.specs.Readiness.{receiver_at};
-ghost use Rattle.dds_core.specs.Receiving.{TakesOneMore, KeepsPeer, NeedsMemory};
-ghost use Rattle.dds_core.specs.Sending.{AreMessages};
+ghost use Rattle.dds_core.specs.Receiving.{GoOn, TakesOneMore, KeepsPeer, NeedsMemory};
 
 use crate::answering::Room;
 use crate::effects::Effects;
@@ -68,12 +67,9 @@ impl Peer {
         requires room { HasRoom body.now.reader_sn_state room }
         requires moves { 1 ≤ effects.old.moves.room }
         requires low { effects.old.sent.unsent < 2 ^ 60 }
-        ensures takes { TakesRow self.old index row body.now effects.old.moves.items effects.old.sent self.new
-            effects.new.moves.items effects.new.sent }
-        ensures twice { effects.new.moves.twice ≡ effects.old.moves.twice }
+        ensures takes { TakesRow self.old index row body.now effects.old self.new effects.new }
         ensures room { effects.old.moves.room ≤ effects.new.moves.room + 1 }
-        ensures few { effects.new.sent.unsent ≤ effects.old.sent.unsent + window_width }
-        ensures messages { AreMessages effects.old.sent.packets.items → AreMessages effects.new.sent.packets.items }
+        ensures on { GoOn window_width effects.old effects.new }
     {
         let (alloc, prefix) = (self.alloc, self.prefix);
         let writer = &mut self.writers[index];
@@ -103,11 +99,9 @@ impl Peer {
         requires rooms { HaveRoom body.now.reader_sn_state rooms.items }
         requires moves { length rooms.items ≤ effects.old.moves.room }
         requires low { effects.old.sent.unsent < 2 ^ 59 }
-        ensures takes { TakesAllRows self.old index body.now rooms.items effects.old.moves.items effects.old.sent
-            self.new effects.new.moves.items effects.new.sent }
-        ensures twice { effects.new.moves.twice ≡ effects.old.moves.twice }
-        ensures few { effects.new.sent.unsent ≤ effects.old.sent.unsent + 2 ^ 16 }
-        ensures messages { AreMessages effects.old.sent.packets.items → AreMessages effects.new.sent.packets.items }
+        ensures takes { TakesAllRows self.old index body.now rooms.items effects.old self.new
+            effects.new }
+        ensures on { GoOn (2 ^ 16) effects.old effects.new }
     {
         let mut rooms = rooms;
         for row in 0..rooms.len() {
@@ -128,12 +122,9 @@ impl Peer {
         requires base { 1 ≤ body.now.reader_sn_state.base }
         requires low { effects.old.sent.unsent < 2 ^ 59 }
         ensures takes { OnOk result
-            (TakesOneMore self.old (receiver_at receiver.now)
-            (submessage.AckNack body.now) effects.old.moves.items effects.old.sent self.new effects.new.moves.items
-            effects.new.sent) }
-        ensures twice { effects.new.moves.twice ≡ effects.old.moves.twice }
-        ensures keeps { KeepsPeer (2 ^ 16) self.old effects.old.moves.items effects.old.sent self.new
-            effects.new.moves.items effects.new.sent result }
+            (TakesOneMore self.old (receiver_at receiver.now) (submessage.AckNack body.now)
+            effects.old self.new effects.new) }
+        ensures keeps { KeepsPeer (2 ^ 16) self.old effects.old self.new effects.new result }
         ensures needs { OnErr result
             (NeedsMemory self.old (receiver_at receiver.now) (submessage.AckNack body.now)) }
     {

@@ -7,7 +7,7 @@ use Rattle.dds_cache.specs.declared.kept.Kept.{Kept}
 use Rattle.dds_cache.specs.Kept.{IsKept, is_here}
 use Rattle.dds_cache.specs.Sweeping.{stays}
 use Rattle.dds_cache.proofs.HoldLaws.{here-by, none-apart, none-before, none-further}
-use Rattle.dds_cache.proofs.PushLaws.{placed-at}
+use Rattle.dds_cache.proofs.PushLaws.{all-at}
 use Rattle.dds_cache.proofs.ending.is_any_present.Goals as goal
 use Rattle.dds_cache.proofs.ending.is_any_present.Goals.{else-eq-via-then-eq+else-is_still_live, else-eq-via-else-eq}
 
@@ -26,8 +26,7 @@ returns-then-is_still_live c = λ h stands each.
     let ks : List Kept = c.args.samples.now in
     let k : Kept = c.index-samples-place.result in
     let kept : IsKept q h k =
-    placed-at (IsKept q h) ks c.loop-place.place k k c.loop-place-test.true c.index-samples-place.is
-    (each c.loop-place.place k c.loop-place-test.true) in
+    all-at (IsKept q h) ks c.loop-place.place k c.loop-place-test.true c.index-samples-place.is each in
     let here : is_here q h c.args.key (get_or ks c.loop-place.place k) ≡ true =
     ap (λ (x : Kept). is_here q h c.args.key x) (sym c.index-samples-place.is)
     ∙ (here-by q h c.args.key k c.is_still_live.result kept (c.is_still_live.ensures h stands)
@@ -41,8 +40,7 @@ loop-place-preserved c = record {
       let ks : List Kept = c.args.samples.now in
       let k : Kept = c.index-samples-place.result in
       let kept : IsKept q h k =
-      placed-at (IsKept q h) ks c.loop-place.place k k c.loop-place-test.true c.index-samples-place.is
-      (each c.loop-place.place k c.loop-place-test.true) in
+      all-at (IsKept q h) ks c.loop-place.place k c.loop-place-test.true c.index-samples-place.is each in
       let other : is_here q h c.args.key k ≡ false = elim c.else-eq.branch [
         | else-eq-via-then-eq+else-is_still_live w ↦
             here-by q h c.args.key k w.is_still_live.result kept (w.is_still_live.ensures h stands)

@@ -9,7 +9,7 @@ use Rattle.dds_instances.specs.declared.known.KnownInstance.{KnownInstance}
 use Rattle.dds_cache.specs.declared.kept.Kept.{Kept}
 use Rattle.dds_cache.specs.Kept.{IsKept, has_data}
 use Rattle.dds_cache.specs.Pushing.{is_pushed}
-use Rattle.dds_cache.proofs.PushLaws.{none-first, placed-at}
+use Rattle.dds_cache.proofs.PushLaws.{all-at, none-first}
 use Rattle.dds_cache.proofs.RoomLaws.{count-further, pushed-own, unpushed-apart, unpushed-before, unpushed-from}
 use Rattle.dds_cache.proofs.room.count_pushed.Goals as goal
 
@@ -49,8 +49,7 @@ loop-place-preserved c =
           let is : p k ≡ own = pushed-own q table a h known ks c.loop-place.place k awaits.key holds c.loop-place-test.true
           c.index-samples-place.is
           (sym (c.stays_after.ensures a h awaits
-          (placed-at (IsKept q h) ks c.loop-place.place k k c.loop-place-test.true c.index-samples-place.is
-          (holds.each c.loop-place.place k c.loop-place-test.true)))
+          (all-at (IsKept q h) ks c.loop-place.place k c.loop-place-test.true c.index-samples-place.is holds.each))
           ∙ c.if-not-stays_after.true) in
           let more : count_by p (take (c.loop-place.place + 1) ks)
           ≡ count_by p (take c.loop-place.place ks) + cond own 1 0 =
@@ -85,7 +84,6 @@ returns-else-not-stays_after c = λ table a h awaits holds.
     (λ j d from below within. unpushed-from q table a h c.args.known.now ks c.loop-place.place k awaits.key holds
     c.loop-place-test.true c.index-samples-place.is
     (sym (c.stays_after.ensures a h awaits
-    (placed-at (IsKept q h) ks c.loop-place.place k k c.loop-place-test.true c.index-samples-place.is
-    (holds.each c.loop-place.place k c.loop-place-test.true)))
+    (all-at (IsKept q h) ks c.loop-place.place k c.loop-place-test.true c.index-samples-place.is holds.each))
     ∙ c.if-not-stays_after.false) j d from within))
     ∙ ap (λ (xs : List Kept). count_by (is_pushed q a h) xs) (take_all (length ks) ks (omega arith)))

@@ -1,12 +1,13 @@
-use Rattle.std.proofs.Common.{◌≡◌, ◌+◌, ◌*◌, ◌<◌, ◌≤◌, ℕ, Some, None, length, slice_get, refl, sym, ◌∙◌, ap, subst, arith, rules, length-set}
+use Rattle.std.proofs.Common.{◌≡◌, ◌+◌, ◌*◌, ◌<◌, ℕ, Some, None, length, slice_get, refl, sym, ◌∙◌, ap, subst, arith, rules, length-set}
 use Rattle.std.specs.Prelude.{Option}
 use Rattle.std.proofs.lemmas.Option.{same_Some}
 use Rattle.dds_core.specs.declared.answering.Room.{Room}
 use Rattle.dds_core.specs.declared.effects.Effects.{Effects}
 use Rattle.dds_core.specs.Answering.{TakesRows}
-use Rattle.dds_core.specs.Kept.{PeerKept, WriterKept}
+use Rattle.dds_core.specs.Kept.{WriterKept}
 use Rattle.dds_core.specs.Identity.{WriterIdentity}
-use Rattle.dds_core.specs.Sending.{AreMessages}
+use Rattle.dds_core.specs.Receiving.{GoOn}
+use Rattle.dds_core.proofs.EffectsLaws.{at_most, go_on, nothing_more}
 use Rattle.dds_core.proofs.Ready.{still_ready, rest_more}
 use Rattle.dds_core.proofs.Requesting.{rows_none, rows_skip, rows_more}
 use Rattle.dds_core.proofs.Results.{of_two}
@@ -16,14 +17,11 @@ use Rattle.dds_core.proofs.peer.Peer.answer_rows.Goals as goal
 pub loop-row-init : goal.loop-row-init
 loop-row-init c = record {
   takes =
-      λ k at. rows_none c.args.self.now c.args.index c.args.body.now k c.args.rooms.items c.args.effects.now.moves.items
-      c.args.effects.now.sent at;
+      λ k at. rows_none c.args.self.now c.args.index c.args.body.now k c.args.rooms.items c.args.effects.now at;
   rest = refl;
   count = refl;
-  few = omega arith;
-  messages = λ h. h;
+  on = nothing_more 0 c.args.effects.now;
   room = omega (arith, c.requires.moves);
-  twice = refl;
 }
 
 pub answer_row-requires-clause-within : goal.answer_row-requires-clause-within
@@ -50,8 +48,6 @@ loop-row-preserved c =
     let i = c.loop-row.row in
     let old = c.args.self.now in
     let rooms = c.args.rooms.items in
-    let moves = c.args.effects.now.moves.items in
-    let sent = c.args.effects.now.sent in
     let within : i < length c.loop-row.rooms.items = search rules in
     let there : slice_get rooms i ≡ Some c.index_mut.result.now =
     still_ready rooms c.loop-row.rooms.items i c.index_mut.result.now c.index_mut.result.now
@@ -61,7 +57,6 @@ loop-row-preserved c =
     length-set c.loop-row.rooms.items i c.take.new.self ∙ c.loop-row.invariant.count in
     let size = c.loop-row.invariant.count in
     let room = c.loop-row.invariant.room in
-    let few = c.loop-row.invariant.few in
     let k = c.requires.within.0 in
     let many = c.requires.within.2 in
     let known : i < length k.readers = omega (arith, within, size, many) in
@@ -70,28 +65,22 @@ loop-row-preserved c =
           let is : slice_get rooms i ≡ Some (Some w.in-Some.room) =
           there ∙ ap (λ (x : Option Room). Some x) (sym w.in-Some.ensures.value) in
           let left = w.answer_row.ensures.room in
-          let more = w.answer_row.ensures.few in
           let long = ap (λ (e : Effects). e.moves.room) w.effects-is in
           record {
             takes = λ x at.
                 let same : k ≡ x = same_Some k x (sym c.requires.within.1 ∙ at) in
-                of_two (λ (q : PeerKept) (e : Effects). TakesRows old c.args.index c.args.body.now
-                x rooms (i + 1) moves sent q e.moves.items e.sent) w.self-is w.effects-is
+                of_two (TakesRows old c.args.index c.args.body.now x rooms (i + 1) c.args.effects.now) w.self-is w.effects-is
                 (rows_more old c.loop-row.self w.answer_row.new.self c.args.index c.args.body.now x rooms i
-                w.in-Some.room moves c.loop-row.effects.moves.items w.answer_row.new.effects.moves.items sent c.loop-row.effects.sent
-                w.answer_row.new.effects.sent (c.loop-row.invariant.takes x at)
+                w.in-Some.room c.args.effects.now c.loop-row.effects w.answer_row.new.effects
+                (c.loop-row.invariant.takes x at)
                 (subst (λ (y : WriterKept). i < length y.readers) same known) is w.answer_row.ensures.takes);
             rest = rest;
             count = count;
-            few =
-                subst (λ (e : Effects). e.sent.unsent ≤ sent.unsent + 256 * (i + 1)) (sym w.effects-is)
-                (omega (arith, few, more));
-            messages =
-                λ h. subst (λ (e : Effects). AreMessages e.sent.packets.items) (sym w.effects-is)
-                (w.answer_row.ensures.messages (c.loop-row.invariant.messages h));
+            on =
+                subst (GoOn (256 * (i + 1)) c.args.effects.now) (sym w.effects-is)
+                (go_on (256 * i) 256 (256 * (i + 1)) c.args.effects.now c.loop-row.effects w.answer_row.new.effects
+                (omega arith) c.loop-row.invariant.on w.answer_row.ensures.on);
             room = omega (arith, room, left, long);
-            twice = ap (λ (e : Effects). e.moves.twice) w.effects-is
-                ∙ (w.answer_row.ensures.twice ∙ c.loop-row.invariant.twice);
           }
       | in_default w ↦
           let none : slice_get rooms i ≡ Some None =
@@ -100,20 +89,17 @@ loop-row-preserved c =
           record {
             takes = λ x at.
                 let same : k ≡ x = same_Some k x (sym c.requires.within.1 ∙ at) in
-                of_two (λ (q : PeerKept) (e : Effects). TakesRows old c.args.index c.args.body.now
-                x rooms (i + 1) moves sent q e.moves.items e.sent) w.self-is w.effects-is
-                (rows_skip old c.loop-row.self c.args.index c.args.body.now x rooms i moves c.loop-row.effects.moves.items sent
-                c.loop-row.effects.sent (c.loop-row.invariant.takes x at)
+                of_two (TakesRows old c.args.index c.args.body.now x rooms (i + 1) c.args.effects.now) w.self-is w.effects-is
+                (rows_skip old c.loop-row.self c.args.index c.args.body.now x rooms i c.args.effects.now
+                c.loop-row.effects (c.loop-row.invariant.takes x at)
                 (subst (λ (y : WriterKept). i < length y.readers) same known) none);
             rest = rest;
             count = count;
-            few =
-                subst (λ (e : Effects). e.sent.unsent ≤ sent.unsent + 256 * (i + 1)) (sym w.effects-is) (omega (arith, few));
-            messages =
-                λ h. subst (λ (e : Effects). AreMessages e.sent.packets.items) (sym w.effects-is)
-                (c.loop-row.invariant.messages h);
+            on =
+                subst (GoOn (256 * (i + 1)) c.args.effects.now) (sym w.effects-is)
+                (at_most (256 * i) (256 * (i + 1)) c.args.effects.now c.loop-row.effects (omega arith)
+                c.loop-row.invariant.on);
             room = omega (arith, room, long);
-            twice = ap (λ (e : Effects). e.moves.twice) w.effects-is ∙ c.loop-row.invariant.twice;
           }
     ]
 
@@ -124,6 +110,6 @@ returns-clause-takes c = λ k at.
     c.requires.within.2 ∙ ap (λ (x : WriterKept). length x.readers) same in
     let count = c.loop-row.invariant.count in
     let end : c.loop-row.row ≡ length c.args.rooms.items = search rules in
-    subst (λ (n : ℕ). TakesRows c.args.self.now c.args.index c.args.body.now k c.args.rooms.items n
-    c.args.effects.now.moves.items c.args.effects.now.sent c.loop-row.self c.loop-row.effects.moves.items c.loop-row.effects.sent) (end ∙ many)
+    subst (λ (n : ℕ). TakesRows c.args.self.now c.args.index c.args.body.now k c.args.rooms.items n c.args.effects.now
+    c.loop-row.self c.loop-row.effects) (end ∙ many)
     (c.loop-row.invariant.takes k at)

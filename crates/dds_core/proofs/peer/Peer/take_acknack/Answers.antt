@@ -1,12 +1,9 @@
-use Rattle.std.proofs.Common.{◌≡◌, ℕ, List, Some, length, get_or, slice_get, sym, ap, subst, ◌∙◌, arith}
+use Rattle.std.proofs.Common.{◌≡◌, ℕ, Some, length, get_or, slice_get, sym, ap, subst, ◌∙◌, arith}
 use Rattle.std.proofs.lemmas.Option.{get_or_from_slice_get}
 use Rattle.dds_base.specs.declared.guid.GuidPrefix.{GuidPrefix}
-use Rattle.rtps_wire.specs.declared.submessage.Submessage.TheVariants.{AckNack}
-use Rattle.dds_machine.specs.declared.reply.Move.{Move}
 use Rattle.dds_core.specs.Answering.{AreRooms}
 use Rattle.dds_core.specs.Kept.{PeerKept, WriterKept}
 use Rattle.dds_core.specs.Readiness.{receiver_at}
-use Rattle.dds_core.specs.Receiving.{TakesOneMore}
 use Rattle.dds_core.proofs.Lists.{get-within}
 use Rattle.dds_core.proofs.Requesting.{have_room, nobody_takes, writer_takes}
 use Rattle.dds_core.proofs.RowsAnswered.{asked_needs}
@@ -16,7 +13,7 @@ use Rattle.dds_core.proofs.peer.Peer.take_acknack.Goals as goal
 pub returns-in_default-clause-takes : goal.returns-in_default-clause-takes
 returns-in_default-clause-takes c =
     nobody_takes c.args.self.now c.args.body.now
-    (receiver_at c.args.receiver.now) c.args.effects.now.moves.items c.args.effects.now.sent c.in_default.ensures.none
+    (receiver_at c.args.receiver.now) c.args.effects.now c.in_default.ensures.none
 
 pub index-requires : goal.index-requires
 index-requires c =
@@ -59,21 +56,20 @@ returns-clause-takes c =
     c.in_ok-rooms.rooms.items) (ap (λ (k : PeerKept). k.prefix) c.self.view_is)
     (subst (λ (k : WriterKept). AreRooms c.self.inside.prefix k.entity at c.args.body.now k.readers
     c.in_ok-rooms.rooms.items) is c.in_ok-rooms.ensures.rooms) in
-    subst (λ (ms : List Move). TakesOneMore c.args.self.now at
-    (AckNack c.args.body.now) ms c.args.effects.now.sent c.answer_rows.new.self c.answer_rows.new.effects.moves.items
-    c.answer_rows.new.effects.sent) c.in_ok-reserve.ensures.items
-    (writer_takes c.args.self.now c.answer_rows.new.self c.in-Some.index c.args.body.now found.writer
-    c.in_ok-rooms.rooms.items at c.reserve.new.self.items c.answer_rows.new.effects.moves.items c.args.effects.now.sent
-    c.answer_rows.new.effects.sent found.at_writer (sym found.asked.from.writer) are
-    (c.answer_rows.ensures.takes found.writer found.at_writer))
+    writer_takes c.args.self.now c.answer_rows.new.self c.in-Some.index c.args.body.now found.writer
+    c.in_ok-rooms.rooms.items at c.args.effects.now c.reserve.new.self c.answer_rows.new.effects
+    c.in_ok-reserve.ensures.items found.at_writer (sym found.asked.from.writer) are c.answer_rows.ensures.takes
 
 pub returns-clause-keeps : goal.returns-clause-keeps
 returns-clause-keeps c =
     let found = c.in-Some.ensures.asked in
     record {
       prefix = (c.answer_rows.ensures.takes found.writer found.at_writer).prefix;
-      few = c.answer_rows.ensures.few;
-      messages = c.answer_rows.ensures.messages;
+      on = record {
+        twice = c.answer_rows.ensures.on.twice ∙ c.in_ok-reserve.ensures.twice;
+        few = c.answer_rows.ensures.on.few;
+        messages = c.answer_rows.ensures.on.messages;
+      };
       err = tt;
       memory = tt;
     }

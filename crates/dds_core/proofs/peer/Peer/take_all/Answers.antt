@@ -1,11 +1,11 @@
-use Rattle.std.proofs.Common.{◌≡◌, ◌+◌, ◌<◌, ◌≤◌, ℕ, List, Some, None, drop, length, set, slice_get, get_or, refl, sym, ◌∙◌, ap, subst, arith, rules, length-set}
+use Rattle.std.proofs.Common.{◌≡◌, ◌+◌, ◌<◌, ℕ, List, Some, None, drop, length, set, slice_get, get_or, refl, sym, ◌∙◌, ap, subst, arith, rules, length-set}
 use Rattle.std.specs.Prelude.{Option}
 use Rattle.smallvec.proofs.SmallVecLemmas.{items-with_items}
 use Rattle.dds_core.specs.declared.reader_end.Ready.{Ready}
-use Rattle.dds_core.specs.Kept.{PeerKept}
 use Rattle.dds_core.specs.declared.effects.Effects.{Effects}
 use Rattle.dds_core.proofs.TakenSoFar.{TakesSome}
-use Rattle.dds_core.specs.Sending.{AreMessages}
+use Rattle.dds_core.specs.Receiving.{GoOn}
+use Rattle.dds_core.proofs.EffectsLaws.{at_most, go_on, nothing_more}
 use Rattle.dds_core.proofs.Turns.{takes_none, takes_skip, takes_more}
 use Rattle.dds_core.proofs.Ready.{takes_all, still_ready, rest_more}
 use Rattle.dds_core.proofs.Results.{of_two}
@@ -16,13 +16,11 @@ use Rattle.dds_core.proofs.peer.Peer.take_all.Goals as goal
 pub loop-index-init : goal.loop-index-init
 loop-index-init c =
     record {
-      takes = takes_none c.args.self.now c.args.ready.now.items c.args.effects.now.moves.items c.args.effects.now.sent;
+      takes = takes_none c.args.self.now c.args.ready.now.items c.args.effects.now;
       rest = refl;
       count = refl;
-      few = omega arith;
-      messages = λ h. h;
+      on = nothing_more 0 c.args.effects.now;
       room = omega (arith, c.requires.room);
-      twice = refl;
     }
 
 pub take_at-requires-clause-can : goal.take_at-requires-clause-can
@@ -68,7 +66,6 @@ loop-index-preserved c =
     ap (λ (rs : List (Option Ready)). length rs) same
     ∙ (length-set c.loop-index.ready.items i c.take.new.self ∙ c.loop-index.invariant.count) in
     let room = c.loop-index.invariant.room in
-    let few = c.loop-index.invariant.few in
     let known : i < length c.args.self.now.readers =
     fewer c.args.self.now.readers c.args.ready.now.items i c.requires.count
     (subst (λ n. i < n) c.loop-index.invariant.count within) in
@@ -76,28 +73,21 @@ loop-index-preserved c =
       | in-Some w ↦
           let is : slice_get c.args.ready.now.items i ≡ Some (Some w.in-Some.one) =
           there ∙ ap (λ (x : Option Ready). Some x) (sym w.in-Some.ensures.value) in
-          let more = w.take_at.ensures.few in
           let left = w.take_at.ensures.room in
           let long = ap (λ (e : Effects). e.moves.room) w.effects-is in
           record {
             takes =
-                of_two (λ (k : PeerKept) (e : Effects). TakesSome c.args.self.now
-                c.args.ready.now.items (i + 1) c.args.effects.now.moves.items c.args.effects.now.sent k e.moves.items e.sent) w.self-is w.effects-is
+                of_two (TakesSome c.args.self.now c.args.ready.now.items (i + 1) c.args.effects.now) w.self-is w.effects-is
                 (takes_more c.args.self.now c.loop-index.self w.take_at.new.self c.args.ready.now.items i w.in-Some.one
-                c.args.effects.now.moves.items c.loop-index.effects.moves.items w.take_at.new.effects.moves.items c.args.effects.now.sent
-                c.loop-index.effects.sent w.take_at.new.effects.sent
-                c.loop-index.invariant.takes known is w.take_at.ensures.takes);
-            few =
-                subst (λ (e : Effects). e.sent.unsent ≤ c.args.effects.now.sent.unsent + (i + 1)) (sym w.effects-is)
-                (omega (arith, few, more));
-            messages =
-                λ h. subst (λ (e : Effects). AreMessages e.sent.packets.items) (sym w.effects-is)
-                (w.take_at.ensures.messages (c.loop-index.invariant.messages h));
+                c.args.effects.now c.loop-index.effects w.take_at.new.effects c.loop-index.invariant.takes known is
+                w.take_at.ensures.takes);
+            on =
+                subst (GoOn (i + 1) c.args.effects.now) (sym w.effects-is)
+                (go_on i 1 (i + 1) c.args.effects.now c.loop-index.effects w.take_at.new.effects (omega arith)
+                c.loop-index.invariant.on w.take_at.ensures.on);
             rest = rest;
             count = count;
             room = omega (arith, room, left, long);
-            twice = ap (λ (e : Effects). e.moves.twice) w.effects-is
-                ∙ (w.take_at.ensures.twice ∙ c.loop-index.invariant.twice);
           }
       | in_default w ↦
           let none : slice_get c.args.ready.now.items i ≡ Some None =
@@ -105,20 +95,15 @@ loop-index-preserved c =
           let long = ap (λ (e : Effects). e.moves.room) w.effects-is in
           record {
             takes =
-                of_two (λ (k : PeerKept) (e : Effects). TakesSome c.args.self.now
-                c.args.ready.now.items (i + 1) c.args.effects.now.moves.items c.args.effects.now.sent k e.moves.items e.sent) w.self-is w.effects-is
-                (takes_skip c.args.self.now c.loop-index.self c.args.ready.now.items i c.args.effects.now.moves.items
-                c.loop-index.effects.moves.items c.args.effects.now.sent c.loop-index.effects.sent c.loop-index.invariant.takes known none);
-            few =
-                subst (λ (e : Effects). e.sent.unsent ≤ c.args.effects.now.sent.unsent + (i + 1)) (sym w.effects-is)
-                (omega (arith, few));
-            messages =
-                λ h. subst (λ (e : Effects). AreMessages e.sent.packets.items) (sym w.effects-is)
-                (c.loop-index.invariant.messages h);
+                of_two (TakesSome c.args.self.now c.args.ready.now.items (i + 1) c.args.effects.now) w.self-is w.effects-is
+                (takes_skip c.args.self.now c.loop-index.self c.args.ready.now.items i c.args.effects.now
+                c.loop-index.effects c.loop-index.invariant.takes known none);
+            on =
+                subst (GoOn (i + 1) c.args.effects.now) (sym w.effects-is)
+                (at_most i (i + 1) c.args.effects.now c.loop-index.effects (omega arith) c.loop-index.invariant.on);
             rest = rest;
             count = count;
             room = omega (arith, room, long);
-            twice = ap (λ (e : Effects). e.moves.twice) w.effects-is ∙ c.loop-index.invariant.twice;
           }
     ]
   where
@@ -127,5 +112,5 @@ loop-index-preserved c =
 
 pub returns-clause-takes : goal.returns-clause-takes
 returns-clause-takes c =
-    takes_all c.args.self.now c.loop-index.self c.args.ready.now.items c.args.effects.now.moves.items c.loop-index.effects.moves.items
-    c.args.effects.now.sent c.loop-index.effects.sent c.loop-index.index (search rules) (search rules) c.loop-index.invariant.takes
+    takes_all c.args.self.now c.loop-index.self c.args.ready.now.items c.args.effects.now c.loop-index.effects
+    c.loop-index.index (search rules) (search rules) c.loop-index.invariant.takes

@@ -11,7 +11,7 @@ use Rattle.dds_core.proofs.peer.Peer.take_frame.Goals as goal
 pub returns-in-Some-clause-takes : goal.returns-in-Some-clause-takes
 returns-in-Some-clause-takes c =
     takes_for_receiver c.args.self.now (receiver_at c.args.receiver.now) c.args.frame.now.id c.args.frame.now.flags
-    c.args.frame.now.body.now (InfoDst c.in-Some.prefix) c.args.effects.now.moves.items c.args.effects.now.sent
+    c.args.frame.now.body.now (InfoDst c.in-Some.prefix) c.args.effects.now
     (receiver_at c.note_destination.new.self) (λ a is. absurd cc) (λ reader_id writer_id by. by)
     c.in-Some.ensures.found (c.note_destination.ensures c.args.self.now.prefix)
 
@@ -19,7 +19,7 @@ pub returns-in-Some-info_ts-clause-takes : goal.returns-in-Some-info_ts-clause-t
 returns-in-Some-info_ts-clause-takes c =
     let own = ap (λ (k : PeerKept). k.prefix) c.self.view_is in
     takes_for_receiver c.args.self.now (receiver_at c.args.receiver.now) c.args.frame.now.id c.args.frame.now.flags
-    c.args.frame.now.body.now (InfoTs c.in-Some-info_ts.stamp) c.args.effects.now.moves.items c.args.effects.now.sent
+    c.args.frame.now.body.now (InfoTs c.in-Some-info_ts.stamp) c.args.effects.now
     (receiver_at c.note_timestamp.new.self) (λ a is. absurd cc) (λ reader_id writer_id by. by)
     c.in-Some-info_ts.ensures.found
     (c.note_timestamp.ensures
@@ -34,9 +34,8 @@ pub returns-clause-takes : goal.returns-clause-takes
 returns-clause-takes c =
     takes_other_if c.take_submessage.result c.args.self.now c.take_submessage.new.self
     (receiver_at c.args.receiver.now) c.args.frame.now.id c.args.frame.now.flags c.args.frame.now.body.now
-    c.submessage.result c.args.effects.now.moves.items c.take_submessage.new.effects.moves.items c.args.effects.now.sent
-    c.take_submessage.new.effects.sent c.submessage.ensures.read c.in_default.ensures.none c.in_default-info_ts.ensures.none
-    c.take_submessage.ensures.takes
+    c.submessage.result c.args.effects.now c.take_submessage.new.effects c.submessage.ensures.read
+    c.in_default.ensures.none c.in_default-info_ts.ensures.none c.take_submessage.ensures.takes
 
 pub returns-clause-needs : goal.returns-clause-needs
 returns-clause-needs c =

@@ -13,10 +13,10 @@ take_at-requires-clause-can c =
 
 pub returns-in-Some-clause-takes : goal.returns-in-Some-clause-takes
 returns-in-Some-clause-takes c =
-    subst (λ (o : Option Ready). TakesAll c.args.self.now (only_last c.args.index o) c.args.effects.now.moves.items
-    c.args.effects.now.sent c.take_at.new.self c.take_at.new.effects.moves.items c.take_at.new.effects.sent) (sym c.in-Some.is)
-    (last_told c.args.self.now c.take_at.new.self c.args.index c.in-Some.one c.args.effects.now.moves.items
-    c.take_at.new.effects.moves.items c.args.effects.now.sent c.take_at.new.effects.sent c.requires.last c.take_at.ensures.takes)
+    subst (λ (o : Option Ready). TakesAll c.args.self.now (only_last c.args.index o) c.args.effects.now
+    c.take_at.new.self c.take_at.new.effects) (sym c.in-Some.is)
+    (last_told c.args.self.now c.take_at.new.self c.args.index c.in-Some.one c.args.effects.now c.take_at.new.effects
+    c.requires.last c.take_at.ensures.takes)
 
 pub returns-in-Some-clause-prefix : goal.returns-in-Some-clause-prefix
 returns-in-Some-clause-prefix c =
@@ -26,6 +26,6 @@ returns-in-Some-clause-prefix c =
 
 pub returns-in_default-clause-takes : goal.returns-in_default-clause-takes
 returns-in_default-clause-takes c =
-    subst (λ (o : Option Ready). TakesAll c.args.self.now (only_last c.args.index o) c.args.effects.now.moves.items
-    c.args.effects.now.sent c.args.self.now c.args.effects.now.moves.items c.args.effects.now.sent) (sym c.in_default.is)
-    (last_idle c.args.self.now c.args.index c.args.effects.now.moves.items c.args.effects.now.sent c.requires.last)
+    subst (λ (o : Option Ready). TakesAll c.args.self.now (only_last c.args.index o) c.args.effects.now c.args.self.now
+    c.args.effects.now) (sym c.in_default.is)
+    (last_idle c.args.self.now c.args.index c.args.effects.now c.requires.last)

@@ -61,10 +61,10 @@ loop-frame-preserved c =
     let taken =
     takes_more c.args.self.now c.loop-frame.self c.take_frame.new.self c.args.source c.args.body.now
     c.loop-frame.left.now c.loop-frame.index (receiver_at c.loop-frame.receiver) took.submessage
-    c.in-Some.rest.now c.loop-frame.effects.moves.items c.take_frame.new.effects.moves.items c.loop-frame.effects.sent
-    c.take_frame.new.effects.sent c.loop-frame.invariant.taken first c.loop-frame.invariant.same took.takes in
+    c.in-Some.rest.now c.loop-frame.effects c.take_frame.new.effects c.loop-frame.invariant.taken first
+    c.loop-frame.invariant.same took.takes in
     let few = c.loop-frame.invariant.few in
-    let more = c.take_frame.ensures.keeps.few in
+    let more = c.take_frame.ensures.keeps.on.few in
     let within = c.loop-frame.invariant.within in
     record {
       taken =
@@ -76,9 +76,9 @@ loop-frame-preserved c =
           rest_octets c.loop-frame.left.now took.submessage c.in-Some.rest.now first
           c.loop-frame.invariant.octets;
       few = omega (arith, few, more);
-      messages = c.take_frame.ensures.keeps.messages c.loop-frame.invariant.messages;
+      messages = c.take_frame.ensures.keeps.on.messages c.loop-frame.invariant.messages;
       same = prefix;
-      twice = c.take_frame.ensures.twice ∙ c.loop-frame.invariant.twice;
+      twice = c.take_frame.ensures.keeps.on.twice ∙ c.loop-frame.invariant.twice;
       still = c.loop-frame.invariant.still;
     }
 

@@ -1,7 +1,4 @@
-use Rattle.std.proofs.Common.{List, subst}
-use Rattle.dds_machine.specs.declared.reply.Move.{Move}
 use Rattle.dds_core.specs.Readiness.{receiver_at}
-use Rattle.dds_core.specs.Receiving.{TellsReaders}
 use Rattle.dds_core.proofs.Ready.{all_can}
 use Rattle.dds_core.proofs.Turns.{tells_readers}
 use Rattle.dds_core.proofs.peer.Peer.tell_each.Goals as goal
@@ -16,11 +13,8 @@ take_all-requires-clause-count c = c.in_ok-make_ready.ensures.ready.count
 
 pub returns-clause-takes : goal.returns-clause-takes
 returns-clause-takes c =
-    subst (λ (ms : List Move). TellsReaders c.args.self.now
-    (receiver_at c.args.receiver.now) c.args.submessage.now ms c.args.effects.now.sent c.take_all.new.self
-    c.take_all.new.effects.moves.items c.take_all.new.effects.sent) c.in_ok-reserve.ensures.items
-    (tells_readers c.args.self.now c.make_ready.new.self c.take_all.new.self
-    (receiver_at c.args.receiver.now) c.args.submessage.now c.make_ready.new.ready.items c.reserve.new.self.items
-    c.take_all.new.effects.moves.items c.args.effects.now.sent c.take_all.new.effects.sent
-    c.in_ok-make_ready.ensures.stands c.in_ok-make_ready.ensures.prefix c.in_ok-make_ready.ensures.ready c.take_all.ensures.takes
-    c.in_ok-make_ready.ensures.count)
+    tells_readers c.args.self.now c.make_ready.new.self c.take_all.new.self
+    (receiver_at c.args.receiver.now) c.args.submessage.now c.make_ready.new.ready.items c.args.effects.now
+    c.reserve.new.self c.take_all.new.effects c.in_ok-reserve.ensures.items c.in_ok-make_ready.ensures.stands
+    c.in_ok-make_ready.ensures.prefix c.in_ok-make_ready.ensures.ready c.take_all.ensures.takes
+    c.in_ok-make_ready.ensures.count

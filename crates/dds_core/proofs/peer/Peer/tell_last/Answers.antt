@@ -1,7 +1,5 @@
-use Rattle.std.proofs.Common.{List, subst}
-use Rattle.dds_machine.specs.declared.reply.Move.{Move}
 use Rattle.dds_core.specs.Readiness.{receiver_at}
-use Rattle.dds_core.specs.Receiving.{TellsReaders, only_last}
+use Rattle.dds_core.specs.Receiving.{only_last}
 use Rattle.dds_core.proofs.Ready.{all_can}
 use Rattle.dds_core.proofs.Turns.{tells_readers}
 use Rattle.dds_core.proofs.peer.Peer.tell_last.Goals as goal
@@ -14,11 +12,8 @@ take_last-requires-clause-can c =
 
 pub returns-clause-takes : goal.returns-clause-takes
 returns-clause-takes c =
-    subst (λ (ms : List Move). TellsReaders c.args.self.now
-    (receiver_at c.args.receiver.now) c.args.submessage.now ms c.args.effects.now.sent c.take_last.new.self
-    c.take_last.new.effects.moves.items c.take_last.new.effects.sent) c.in_ok-reserve.ensures.items
-    (tells_readers c.args.self.now c.make_last_ready.new.self c.take_last.new.self
+    tells_readers c.args.self.now c.make_last_ready.new.self c.take_last.new.self
     (receiver_at c.args.receiver.now) c.args.submessage.now (only_last c.args.first.index c.in_ok-ready.ready)
-    c.reserve.new.self.items c.take_last.new.effects.moves.items c.args.effects.now.sent c.take_last.new.effects.sent
+    c.args.effects.now c.reserve.new.self c.take_last.new.effects c.in_ok-reserve.ensures.items
     c.in_ok-ready.ensures.stands c.in_ok-ready.ensures.prefix c.in_ok-ready.ensures.ready c.take_last.ensures.takes
-    c.in_ok-ready.ensures.count)
+    c.in_ok-ready.ensures.count

@@ -15,5 +15,5 @@ overflow_add-first c =
 
 pub returns-in_default-clause-takes : goal.returns-in_default-clause-takes
 returns-in_default-clause-takes c =
-    nobody_told c.args.self.now (receiver_at c.args.receiver.now) c.args.submessage.now c.args.effects.now.moves.items
-    c.args.effects.now.sent c.in_default.ensures.none
+    nobody_told c.args.self.now (receiver_at c.args.receiver.now) c.args.submessage.now c.args.effects.now
+    c.in_default.ensures.none
