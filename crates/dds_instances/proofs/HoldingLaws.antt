@@ -1,6 +1,6 @@
 -- What is noted of which instances something is held.
 use Rattle.std.proofs.Common.{◌≡◌, ◌≢◌, ℕ, ◌+◌, ◌<◌, List, [], ◌∷◌, ◌++◌, length, get_or, set, map, take, Bool, true, false, ◌&&◌, ◌||◌, sym, ap, ◌∙◌, refl, subst, cond, arith, zero, suc, Global, Vec}
-use Rattle.std.specs.Prelude.{count_by, if◌then◌else◌, vec_len, vec_capacity}
+use Rattle.std.specs.Prelude.{count_by, vec_len, vec_capacity}
 use Rattle.std.specs.List.{All, AllByRecursion, IsDistinct, filter, list_any}
 use Rattle.std.proofs.lemmas.List.{map-append, take_more}
 use Rattle.std.proofs.lemmas.List.Elements.{All-map}
@@ -255,15 +255,20 @@ absent-before (t ∷ ts) (suc k) d distinct within =
     ∙ apart-at t.key ts k d (IsDistinct-head same_key t.key (map key_of ts) distinct) inside)
     ∙ absent-before ts k d (IsDistinct-tail same_key t.key (map key_of ts) distinct) inside
 
--- the keys of one track more, in an index that has those before it
-pub indexed-more : (ts : List InstanceTrack) (k : ℕ) (t : InstanceTrack) (old new : List Key)
+-- the key of one track more is none of those before it
+pub absent-more : (ts : List InstanceTrack) (k : ℕ) (t : InstanceTrack) (old : List Key)
     → IsDistinct same_key (map key_of ts) → k < length ts → t ≡ get_or ts k t → old ≡ map key_of (take k ts)
-    → new ≡ (if list_any (same_key t.key) old then old else old ++ t.key ∷ []) → new ≡ map key_of (take (k + 1) ts)
-indexed-more ts k t old new distinct within is before put =
-    put ∙ (ap (λ (ks : List Key). if list_any (same_key t.key) ks then ks else ks ++ t.key ∷ []) before
-    ∙ (ap (λ (b : Bool). if b then map key_of (take k ts) else map key_of (take k ts) ++ t.key ∷ [])
-    (ap (λ (u : InstanceTrack). list_any (same_key u.key) (map key_of (take k ts))) is
+    → list_any (same_key t.key) old ≡ false
+absent-more ts k t old distinct within is before =
+    ap (λ (ks : List Key). list_any (same_key t.key) ks) before
+    ∙ (ap (λ (u : InstanceTrack). list_any (same_key u.key) (map key_of (take k ts))) is
     ∙ absent-before ts k t distinct within)
+
+-- the keys of one track more, in an index that has those before it
+pub indexed-more : (ts : List InstanceTrack) (k : ℕ) (t : InstanceTrack) (old new : List Key) → k < length ts
+    → t ≡ get_or ts k t → old ≡ map key_of (take k ts) → new ≡ old ++ t.key ∷ [] → new ≡ map key_of (take (k + 1) ts)
+indexed-more ts k t old new within is before put =
+    put ∙ (ap (λ (ks : List Key). ks ++ t.key ∷ []) before
     ∙ (ap (λ (u : InstanceTrack). map key_of (take k ts) ++ u.key ∷ []) is
     ∙ (sym (map-append key_of (take k ts) (get_or ts k t ∷ []))
-    ∙ ap (λ (us : List InstanceTrack). map key_of us) (sym (take_more ts k t within))))))
+    ∙ ap (λ (us : List InstanceTrack). map key_of us) (sym (take_more ts k t within)))))

@@ -1,9 +1,10 @@
--- Where a key stands among distinct ones.
-use Rattle.std.proofs.Common.{◌≡◌, ℕ, ◌<◌, List, length, get_or, false, sym, ap, ◌∙◌, Some, arith, ⊎_elim}
+-- Where a key stands among distinct ones, and that one that is forgotten is gone.
+use Rattle.std.proofs.Common.{◌≡◌, ℕ, ◌<◌, List, length, get_or, false, not, sym, ap, ◌∙◌, Some, arith, ⊎_elim}
 use Rattle.std.proofs.lemmas.Bool.{cases_lt}
-use Rattle.std.specs.List.{position, slice_get, IsDistinct}
+use Rattle.std.specs.List.{filter, list_any, position, slice_get, IsDistinct}
 use Rattle.std.proofs.lemmas.List.Quantifiers.{position-Some}
 use Rattle.std.proofs.lemmas.Map.Keys.{apart_from_distinct}
+use Rattle.std.proofs.lemmas.Map.Views.{any-filter_same}
 use Rattle.std.proofs.lemmas.Option.{get_or_from_slice_get, slice_get_within}
 use Rattle.dds_base.specs.declared.key.Key.{Key}
 use Rattle.dds_base.specs.Happening.{same_key}
@@ -41,3 +42,10 @@ pub place-got : (ks : List Key) (i : Key) (at : ℕ) → IsDistinct same_key ks 
     → IsPlaceOf ks i at
 place-got ks i at distinct found =
     place-there ks i at distinct (slice_get_within ks at i found) (λ d. sym (get_or_from_slice_get ks at i d found))
+
+-- a key that is forgotten is none of those that are left
+pub none-left : (ks : List Key) (i : Key)
+    → list_any (same_key i) (filter (λ (k : Key). not (same_key k i)) ks) ≡ false
+none-left ks i =
+    any-filter_same (same_key i) (λ (k : Key). not (same_key k i)) false
+    (λ k same. ap not (same_key-comm k i ∙ same)) ks

@@ -3,7 +3,6 @@
 -- What is kept of instances is in DDS 1.4, 2.2.2.5 (SampleInfo); the index, memory and its room are this project's
 -- own.
 use Rattle.std.specs.Prelude.{◌≡◌, ◌+◌, ◌<◌, ◌≤◌, ◌^◌, map, count_by, All, vec_len, vec_capacity}
-use Rattle.indexmap.specs.IndexSet.{spare}
 use Rattle.dds_owner.specs.Standing.{strengths_room}
 use Rattle.dds_instances.specs.declared.instances.Instances.TheInside.{Inside}
 use Rattle.dds_instances.specs.Track.{Fits, is_alive_track}
@@ -24,10 +23,10 @@ table_of a = record {
 
 -- the index has the keys of the instances, the counts fit, and so many more entries find memory, each with its strength
 pub record IsSound (a : Inside) : Type 0 where
-  pub indexed : a.index.set.keys ≡ map key_of a.tracks.items
+  pub indexed : a.index.keys ≡ map key_of a.tracks.items
   pub fits : All (Fits (a.happened + 1)) a.tracks.items
   pub blank : AreBlank a.writers a.blanks.items
-  pub places : a.room ≤ spare a.index.set
+  pub places : a.room ≤ a.index.room
   pub tracks_fit : vec_len a.tracks + a.room ≤ vec_capacity a.tracks
   pub blanks_fit : a.room ≤ vec_len a.blanks
   pub strengths_fit : 1 ≤ a.room → a.writers ≤ strengths_room a.strengths

@@ -18,7 +18,7 @@ use crate::keeping::{
     note_strength, see_all, take_up,
 };
 use crate::known::{KnownInstance, told, view_of};
-use crate::place::{KeyIndex, find};
+use crate::place::KeyIndex;
 use crate::track::{InstanceTrack, begins_dead, begins_left, count_if};
 use dds_base::{
     Arrival, Code, Handle, InstanceState, Key, OwnershipQos, ReaderQos, SamplePosition, ViewState,
@@ -139,7 +139,7 @@ impl Instances {
         if u64::MAX - self.happened < additional as u64 {
             return Err(Code::Memory);
         }
-        self.index.set.reserve(additional)?;
+        self.index.reserve(additional)?;
         self.tracks.reserve(additional)?;
         add_blanks(&mut self.blanks, self.alloc, self.writers, additional)?;
         self.strengths.reserve(self.writers)?;
@@ -201,15 +201,13 @@ impl Instances {
         Ok(())
     }
 
-    /// Says that what follows asks for an instance several times over: its key, where that is known, is then found without
-    /// being hashed each time. It changes nothing that is told.
+    /// Says that what follows asks for an instance several times over, known or not: its key is hashed here, and then
+    /// compared alone, until another is expected. It changes nothing that is told.
     pub fn expect(&mut self, key: Key)
         // It stays as it was.
         ensures same { self.new ≡ self.old }
     {
-        if let Some(place) = find(&self.index, key) {
-            self.index.expect(place);
-        }
+        let _ = self.index.expect(key);
     }
 
     /// Notes that nothing is held of any instance.

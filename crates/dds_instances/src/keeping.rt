@@ -5,7 +5,6 @@
 
 ghost use Rattle.std.specs.Prelude.{Bool, ◌≡◌, ◌+◌, ◌<◌, ◌≤◌, ◌∷◌, [], List, ℕ, true, false, None, is_some, IsTrue, MatchOption, IfSome, IfErr, OnOk, map, count_by, length, All, vec_len, vec_capacity, filter};
 ghost use Rattle.std.specs.List.{list_any, IsDistinct};
-ghost use Rattle.indexmap.specs.IndexSet.{index_set_len, spare};
 ghost use Rattle.dds_base.specs.declared.happening.Happening.{Happening};
 ghost use Rattle.dds_base.specs.declared.happening.Happening.TheVariants.{Came, Died};
 ghost use Rattle.dds_base.specs.declared.qos.ReaderQos.{ReaderQos};
@@ -63,16 +62,16 @@ pub fn introduce(
     position: u64,
     handle: u64,
 )
-    requires place { 0 < spare index.old.set }
+    requires place { 0 < index.old.room }
     requires room { vec_len tracks.old < vec_capacity tracks.old }
-    requires indexed { index.old.set.keys ≡ map key_of tracks.old.items }
-    requires absent { list_any (same_key arrival.now.change.key) index.old.set.keys ≡ false }
+    requires indexed { index.old.keys ≡ map key_of tracks.old.items }
+    requires absent { list_any (same_key arrival.now.change.key) index.old.keys ≡ false }
     requires kind { is_write_or_dispose arrival.now.change.kind ≡ true }
     requires later { 0 < position }
     requires fits { All (Fits position) tracks.old.items }
     ensures fits { All (Fits (position + 1)) tracks.new.items }
-    ensures indexed { index.new.set.keys ≡ map key_of tracks.new.items }
-    ensures spare { spare index.old.set ≤ spare index.new.set + 1 }
+    ensures indexed { index.new.keys ≡ map key_of tracks.new.items }
+    ensures room { index.old.room ≤ index.new.room + 1 }
     ensures len { vec_len tracks.new ≡ vec_len tracks.old + 1 }
     ensures capacity { vec_capacity tracks.old ≤ vec_capacity tracks.new }
     ensures alive { count_by is_alive_track tracks.new.items
@@ -111,7 +110,7 @@ pub fn bury_all(tracks: &mut Vec<InstanceTrack>, writer: Handle, position: u64)
 
 /// An instance takes up that a sample of it was returned, if it is kept.
 fn see_sample(index: &KeyIndex, tracks: &mut Vec<InstanceTrack>, sample: SamplePosition)
-    requires indexed { index.now.set.keys ≡ map key_of tracks.old.items }
+    requires indexed { index.now.keys ≡ map key_of tracks.old.items }
     ensures fits { (n : ℕ) → All (Fits n) tracks.old.items → All (Fits n) tracks.new.items }
     ensures keys { map key_of tracks.new.items ≡ map key_of tracks.old.items }
     ensures len { vec_len tracks.new ≡ vec_len tracks.old }
@@ -127,7 +126,7 @@ fn see_sample(index: &KeyIndex, tracks: &mut Vec<InstanceTrack>, sample: SampleP
 
 /// All instances take up which samples a read returned.
 pub fn see_all(index: &KeyIndex, tracks: &mut Vec<InstanceTrack>, samples: &[SamplePosition])
-    requires indexed { index.now.set.keys ≡ map key_of tracks.old.items }
+    requires indexed { index.now.keys ≡ map key_of tracks.old.items }
     ensures fits { (n : ℕ) → All (Fits n) tracks.old.items → All (Fits n) tracks.new.items }
     ensures keys { map key_of tracks.new.items ≡ map key_of tracks.old.items }
     ensures len { vec_len tracks.new ≡ vec_len tracks.old }
@@ -153,15 +152,15 @@ pub fn take_up(
     position: u64,
     handle: u64,
 ) -> bool
-    requires place { 0 < spare index.old.set }
+    requires place { 0 < index.old.room }
     requires room { vec_len tracks.old < vec_capacity tracks.old }
     requires spare_blank { 0 < vec_len blanks.old }
-    requires indexed { index.old.set.keys ≡ map key_of tracks.old.items }
+    requires indexed { index.old.keys ≡ map key_of tracks.old.items }
     requires later { 0 < position }
     requires fits { All (Fits position) tracks.old.items }
     ensures fits { All (Fits (position + 1)) tracks.new.items }
-    ensures indexed { index.new.set.keys ≡ map key_of tracks.new.items }
-    ensures spare { spare index.old.set ≤ spare index.new.set + 1 }
+    ensures indexed { index.new.keys ≡ map key_of tracks.new.items }
+    ensures room { index.old.room ≤ index.new.room + 1 }
     ensures len { vec_len tracks.new ≤ vec_len tracks.old + 1 }
     ensures capacity { vec_capacity tracks.old ≤ vec_capacity tracks.new }
     ensures alive { count_by is_alive_track tracks.new.items
@@ -173,8 +172,7 @@ pub fn take_up(
         → All (IsForNextLife qos.now h handle) blanks.old.items
         → TakeUp qos.now h arrival.now tracks.new.items result }
 {
-    if let Some(at) = find(index, arrival.change.key) {
-        index.expect(at);
+    if let Some(at) = index.expect(arrival.change.key) {
         change_known(tracks, at, qos, strengths, arrival, position);
         return false;
     }
@@ -205,7 +203,7 @@ pub fn hold_none(tracks: &mut Vec<InstanceTrack>)
 
 /// Notes that something is held of the instance of a key, if it is kept.
 pub fn hold(index: &KeyIndex, tracks: &mut Vec<InstanceTrack>, key: Key)
-    requires indexed { index.now.set.keys ≡ map key_of tracks.old.items }
+    requires indexed { index.now.keys ≡ map key_of tracks.old.items }
     ensures held { tracks.new.items ≡ map (held_too key) tracks.old.items }
     ensures keys { map key_of tracks.new.items ≡ map key_of tracks.old.items }
     ensures fits { (n : ℕ) → All (Fits n) tracks.old.items → All (Fits n) tracks.new.items }
@@ -221,7 +219,7 @@ pub fn hold(index: &KeyIndex, tracks: &mut Vec<InstanceTrack>, key: Key)
 
 /// Whether nobody is registered for the instance of a key: nobody is for one that is not kept.
 fn is_left(index: &KeyIndex, tracks: &[InstanceTrack], key: Key) -> bool
-    requires indexed { index.now.set.keys ≡ map key_of tracks.now }
+    requires indexed { index.now.keys ≡ map key_of tracks.now }
     ensures { (q : ReaderQos) (h : List Happening) → Follows q h tracks.now
         → result ≡ is_nobody (registered_writers q key h) }
 {
@@ -233,7 +231,7 @@ fn is_left(index: &KeyIndex, tracks: &[InstanceTrack], key: Key) -> bool
 
 /// Whether nobody is registered for the instance of some of these samples.
 pub fn is_any_left(index: &KeyIndex, tracks: &[InstanceTrack], samples: &[SamplePosition]) -> bool
-    requires indexed { index.now.set.keys ≡ map key_of tracks.now }
+    requires indexed { index.now.keys ≡ map key_of tracks.now }
     ensures { (q : ReaderQos) (h : List Happening) → Follows q h tracks.now
         → result ≡ is_any_left q h samples.now }
 {
@@ -248,47 +246,47 @@ pub fn is_any_left(index: &KeyIndex, tracks: &[InstanceTrack], samples: &[Sample
 /// Makes an index anew of these instances, in the room that it has.
 fn index_anew(index: &mut KeyIndex, tracks: &[InstanceTrack])
     requires distinct { IsDistinct same_key (map key_of tracks.now) }
-    requires room { length tracks.now ≤ index_set_len index.old.set }
-    ensures indexed { index.new.set.keys ≡ map key_of tracks.now }
-    ensures spare { spare index.old.set ≤ spare index.new.set }
+    requires room { length tracks.now ≤ length index.old.keys }
+    ensures indexed { index.new.keys ≡ map key_of tracks.now }
+    ensures room { index.old.room ≤ index.new.room }
 {
-    index.set.clear();
+    index.clear();
     for track in tracks {
         // No more keys are there than there were.
-        index.set.insert(track.key).unwrap();
+        index.push(track.key);
     }
 }
 
 /// Forgets the instances for which nobody is registered and of which nothing is held.
 pub fn forget_left(index: &mut KeyIndex, tracks: &mut Vec<InstanceTrack>)
-    requires indexed { index.old.set.keys ≡ map key_of tracks.old.items }
+    requires indexed { index.old.keys ≡ map key_of tracks.old.items }
     ensures kept { tracks.new.items ≡ filter lives_on tracks.old.items }
     ensures fits { (n : ℕ) → All (Fits n) tracks.old.items → All (Fits n) tracks.new.items }
     ensures fewer { (p : InstanceTrack → Bool) → count_by p tracks.new.items ≤ count_by p tracks.old.items }
-    ensures indexed { index.new.set.keys ≡ map key_of tracks.new.items }
-    ensures spare { spare index.old.set ≤ spare index.new.set }
+    ensures indexed { index.new.keys ≡ map key_of tracks.new.items }
+    ensures room { index.old.room ≤ index.new.room }
     ensures len { vec_len tracks.new ≤ vec_len tracks.old }
     ensures capacity { vec_capacity tracks.new ≡ vec_capacity tracks.old }
     ensures distinct { IsDistinct same_key (map key_of tracks.old.items) }
 {
-    let _ = index.set.len(); // its contract says that no two keys are one
+    let _ = index.len(); // its contract says that no two keys are one
     tracks.retain(|track| track.is_held || track.owners.has_writers());
     index_anew(index, tracks);
 }
 
 /// Forgets the instance of a key, if it is kept.
 pub fn forget(index: &mut KeyIndex, tracks: &mut Vec<InstanceTrack>, key: Key)
-    requires indexed { index.old.set.keys ≡ map key_of tracks.old.items }
+    requires indexed { index.old.keys ≡ map key_of tracks.old.items }
     ensures kept { tracks.new.items ≡ filter (is_other key) tracks.old.items }
     ensures fits { (n : ℕ) → All (Fits n) tracks.old.items → All (Fits n) tracks.new.items }
     ensures fewer { (p : InstanceTrack → Bool) → count_by p tracks.new.items ≤ count_by p tracks.old.items }
-    ensures indexed { index.new.set.keys ≡ map key_of tracks.new.items }
-    ensures spare { spare index.old.set ≤ spare index.new.set }
+    ensures indexed { index.new.keys ≡ map key_of tracks.new.items }
+    ensures room { index.old.room ≤ index.new.room }
     ensures len { vec_len tracks.new ≤ vec_len tracks.old }
     ensures capacity { vec_capacity tracks.new ≡ vec_capacity tracks.old }
 {
     tracks.retain(|track| track.key != key);
-    index.set.retain(|other| *other != key);
+    index.forget(key);
 }
 
 /// A change came: what it says of its writer's strength is kept, where there is memory for that of each writer.
@@ -329,7 +327,7 @@ pub fn look_up<'a>(
     tracks: &'a [InstanceTrack],
     key: Key,
 ) -> Option<&'a InstanceTrack>
-    requires indexed { index.now.set.keys ≡ map key_of tracks.now }
+    requires indexed { index.now.keys ≡ map key_of tracks.now }
     ensures kept { (q : ReaderQos) (h : List Happening) → Follows q h tracks.now
         → MatchOption result (last_accepted q key h ≡ None)
         (λ t. Tracks q key h t.now × IsTrue (is_some (last_accepted q key h))) }

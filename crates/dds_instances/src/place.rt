@@ -2,79 +2,158 @@
 //!
 //! DDS 1.4, 2.2.2.5 (lookup_instance).
 
-ghost use Rattle.std.specs.Prelude.{◌≡◌, ◌+◌, ◌<◌, ◌≤◌, ◌++◌, ◌∷◌, [], false, true, Some, slice_get, MatchOption, vec_len, vec_capacity};
-ghost use Rattle.std.specs.List.{list_any};
-ghost use Rattle.indexmap.specs.IndexSet.{spare};
+ghost use Rattle.std.specs.Prelude.{◌≡◌, ◌+◌, ◌<◌, ◌≤◌, ◌++◌, ◌∷◌, [], not, filter, length, false, true, Some, slice_get, MatchOption, OnOk, vec_len, vec_capacity};
+ghost use Rattle.std.specs.List.{list_any, IsDistinct};
 ghost use Rattle.dds_base.specs.Happening.{same_key};
 ghost use Rattle.dds_instances.specs.Following.{IsPlaceOf};
 
 use crate::track::InstanceTrack;
 use dds_base::Key;
 use indexmap::IndexSet;
-use std::alloc::Global;
+use std::alloc::{AllocError, Global};
+use std::marker::Model;
+
+/// What was found when a key was looked up last, by which the next one is compared before it is hashed.
+#[derive(Clone, Copy)]
+enum Latest {
+    /// Its instance stood at this place.
+    At(usize),
+    /// This key was that of no instance.
+    Absent(Key),
+}
 
 /// The keys of known instances, each at the place of its instance.
 #[derive(Drop)]
 pub struct KeyIndex {
-    pub set: IndexSet<Key>,
-    /// The place of the instance that a change came of last: its key is compared before a key is hashed.
-    latest: usize,
+    set: IndexSet<Key>,
+    latest: Latest,
+}
+
+impl Model for KeyIndex {
+    ghost use Rattle.dds_instances.specs.Keys.{Keys};
+
+    ghost Value = { Keys };
+
+    ghost use Rattle.dds_instances.specs.Index.{keys_of, Remembers};
+
+    ghost view = { keys_of };
+
+    ghost invariant = { Remembers };
 }
 
 impl KeyIndex {
     /// Of no instance.
     pub fn new(alloc: Global) -> KeyIndex
-        ensures { result.set.keys ≡ [] }
+        ensures { result.keys ≡ [] }
     {
         KeyIndex {
             set: IndexSet::new(alloc),
-            latest: 0,
+            latest: Latest::At(0),
         }
     }
 
-    /// The next key that is looked up is most likely the one at this place.
-    pub fn expect(&mut self, place: usize)
-        ensures set { self.new.set ≡ self.old.set }
+    /// Makes room for so many more keys.
+    pub fn reserve(&mut self, additional: usize) -> Result<(), AllocError>
+        ensures keys { self.new.keys ≡ self.old.keys }
+        ensures ok { OnOk result (additional ≤ self.new.room) }
+        ensures more { self.old.room ≤ self.new.room }
     {
-        self.latest = place;
+        self.set.reserve(additional)
     }
 
-    /// Whether a key is the one that is most likely.
-    fn is_latest(&self, key: Key) -> bool
-        ensures { result ≡ true → slice_get self.now.set.keys self.now.latest ≡ Some key }
+    /// The place of a key, if it is there; the next key that is looked up is most likely this one.
+    pub fn expect(&mut self, key: Key) -> Option<usize>
+        ensures found { MatchOption result (list_any (same_key key) self.old.keys
+            ≡ false) (IsPlaceOf self.old.keys key) }
+        ensures same { self.new ≡ self.old }
     {
-        match self.set.get_index(self.latest) {
-            Some(latest) => *latest == key,
-            None => false,
-        }
+        let found = find(self, key);
+        self.latest = match found {
+            Some(place) => Latest::At(place),
+            None => Latest::Absent(key),
+        };
+        found
+    }
+
+    /// Puts a key last, in the room that there is.
+    pub fn push(&mut self, key: Key)
+        requires room { 0 < self.old.room }
+        requires absent { list_any (same_key key) self.old.keys ≡ false }
+        ensures keys { self.new.keys ≡ self.old.keys ++ key ∷ [] }
+        ensures room { self.old.room ≤ self.new.room + 1 }
+    {
+        self.latest = Latest::At(self.set.len());
+        self.set.insert(key).unwrap();
+    }
+
+    /// Forgets a key.
+    pub fn forget(&mut self, key: Key)
+        ensures keys { self.new.keys ≡ filter (λ other. not (same_key other key)) self.old.keys }
+        ensures room { self.old.room ≤ self.new.room }
+    {
+        self.set.retain(|other| *other != key);
+        self.latest = Latest::Absent(key);
+    }
+
+    /// Forgets all keys.
+    pub fn clear(&mut self)
+        ensures keys { self.new.keys ≡ [] }
+        ensures room { length self.old.keys + self.old.room ≤ self.new.room }
+    {
+        self.set.clear();
+    }
+
+    /// How many keys there are.
+    pub fn len(&self) -> usize
+        ensures len { result ≡ length self.now.keys }
+        ensures distinct { IsDistinct same_key self.now.keys }
+    {
+        self.set.len()
+    }
+}
+
+/// Whether a key stands at this place.
+fn is_at(set: &IndexSet<Key>, place: usize, key: Key) -> bool
+    ensures { result ≡ true → slice_get set.now.keys place ≡ Some key }
+{
+    match set.get_index(place) {
+        Some(other) => *other == key,
+        None => false,
     }
 }
 
 /// The place of a key, if it is there.
 pub fn find(index: &KeyIndex, key: Key) -> Option<usize>
-    ensures { MatchOption result (list_any (same_key key) index.now.set.keys
-        ≡ false) (IsPlaceOf index.now.set.keys key) }
+    ensures { MatchOption result (list_any (same_key key) index.now.keys
+        ≡ false) (IsPlaceOf index.now.keys key) }
 {
     let _ = index.set.len(); // its contract says that no two keys are one
-    if index.is_latest(key) {
-        return Some(index.latest);
+    match index.latest {
+        Latest::At(place) => {
+            if is_at(&index.set, place, key) {
+                return Some(place);
+            }
+        }
+        Latest::Absent(absent) => {
+            if absent == key {
+                return None;
+            }
+        }
     }
     index.set.get_index_of(&key)
 }
 
 /// Puts an instance last, in the room that there is.
 pub fn put_last(index: &mut KeyIndex, tracks: &mut Vec<InstanceTrack>, track: InstanceTrack)
-    requires place { 0 < spare index.old.set }
+    requires place { 0 < index.old.room }
     requires room { vec_len tracks.old < vec_capacity tracks.old }
-    requires absent { list_any (same_key track.key) index.old.set.keys ≡ false }
+    requires absent { list_any (same_key track.key) index.old.keys ≡ false }
     ensures tracks { tracks.new.items ≡ tracks.old.items ++ track ∷ [] }
-    ensures keys { index.new.set.keys ≡ index.old.set.keys ++ track.key ∷ [] }
-    ensures spare { spare index.old.set ≤ spare index.new.set + 1 }
+    ensures keys { index.new.keys ≡ index.old.keys ++ track.key ∷ [] }
+    ensures room { index.old.room ≤ index.new.room + 1 }
     ensures len { vec_len tracks.new ≡ vec_len tracks.old + 1 }
     ensures capacity { vec_capacity tracks.old ≤ vec_capacity tracks.new }
 {
-    let place = tracks.len();
-    index.set.insert(track.key).unwrap();
+    index.push(track.key);
     tracks.push_reserved(track);
-    index.expect(place);
 }

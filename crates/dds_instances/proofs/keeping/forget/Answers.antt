@@ -15,7 +15,7 @@ returns-clause-kept c =
 
 pub returns-clause-indexed : goal.returns-clause-indexed
 returns-clause-indexed c =
-    filter_same _ (λ (k : Key). not (same_key k c.args.key)) _ (λ x b f' k. search rules) _ _ c.retain-2.ensures.filtered
+    c.forget.ensures.keys
     ∙ (ap (λ (ks : List Key). filter (λ (k : Key). not (same_key k c.args.key)) ks) c.requires.indexed
     ∙ (sym (filter-keys (is_other c.args.key) (λ (k : Key). not (same_key k c.args.key)) c.args.tracks.now.items
     (λ k d within. refl))

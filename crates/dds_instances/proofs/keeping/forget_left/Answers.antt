@@ -15,7 +15,7 @@ returns-clause-kept c = filter_same _ lives_on _ (λ x b f' k. search rules) _ _
 
 pub returns-clause-distinct : goal.returns-clause-distinct
 returns-clause-distinct c =
-    subst (λ (ks : List Key). IsDistinct same_key ks) c.requires.indexed c.len.ensures.unique
+    subst (λ (ks : List Key). IsDistinct same_key ks) c.requires.indexed c.len.ensures.distinct
 
 pub index_anew-requires-clause-distinct : goal.index_anew-requires-clause-distinct
 index_anew-requires-clause-distinct c =
@@ -23,7 +23,7 @@ index_anew-requires-clause-distinct c =
     (sym (c.deref.ensures.value
     ∙ filter_same _ lives_on _ (λ x b f' k. search rules) _ _ c.retain.ensures.filtered))
     (filter-distinct lives_on c.args.tracks.now.items
-    (subst (λ (ks : List Key). IsDistinct same_key ks) c.requires.indexed c.len.ensures.unique))
+    (subst (λ (ks : List Key). IsDistinct same_key ks) c.requires.indexed c.len.ensures.distinct))
 
 pub returns-clause-fits : goal.returns-clause-fits
 returns-clause-fits c = fits-of lives_on c.args.tracks.now.items _ (returns-clause-kept c)

@@ -1,17 +1,15 @@
-use Rattle.std.proofs.Common.{◌≡◌, Result, Ok, Err, arith}
-use Rattle.std.specs.Prelude.{IfOk}
-use Rattle.dds_instances.proofs.HoldingLaws.{indexed-more}
+use Rattle.dds_instances.proofs.HoldingLaws.{absent-more, indexed-more}
 use Rattle.dds_instances.proofs.keeping.index_anew.Goals as goal
+use Rattle.std.proofs.Common.{arith}
 
--- what is true where a call succeeded, as it did
-succeeded : {A E P : Type 0} (r : Result A E) (x : A) → r ≡ Ok x → IfOk r (λ (y : A). P) → P
-succeeded (Ok y) x good given = given
-succeeded (Err e) x good given = absurd cc
+pub push-requires-clause-absent : goal.push-requires-clause-absent
+push-requires-clause-absent c =
+    absent-more c.args.tracks.now c.loop-track.track-index c.track-item.result c.loop-track.index.keys
+    c.requires.distinct c.loop-track-test.true c.track-item.is c.loop-track.invariant.keys
 
 pub loop-track-preserved : goal.loop-track-preserved
 loop-track-preserved c = record {
-  keys = indexed-more c.args.tracks.now c.loop-track.track-index c.track-item.result c.loop-track.index.set.keys _
-      c.requires.distinct c.loop-track-test.true c.track-item.is c.loop-track.invariant.keys
-      (succeeded c.insert.result c.unwrap.result c.unwrap.ensures c.insert.ensures.keys);
-  room = omega (arith, c.loop-track.invariant.room, c.insert.ensures.spare);
+  keys = indexed-more c.args.tracks.now c.loop-track.track-index c.track-item.result c.loop-track.index.keys _
+      c.loop-track-test.true c.track-item.is c.loop-track.invariant.keys c.push.ensures.keys;
+  room = omega (arith, c.loop-track.invariant.room, c.push.ensures.room);
 }

@@ -20,7 +20,7 @@ invariant_of-self c = record {
   indexed = c.forget_left.ensures.indexed;
   fits = c.forget_left.ensures.fits (c.self.inside.happened + 1 + 1) c.bury_all.ensures.fits;
   blank = c.self.invariant.blank;
-  places = omega (arith, c.self.invariant.places, c.in_ok-room.ensures.less, c.forget_left.ensures.spare);
+  places = omega (arith, c.self.invariant.places, c.in_ok-room.ensures.less, c.forget_left.ensures.room);
   tracks_fit =
       omega (
         arith,

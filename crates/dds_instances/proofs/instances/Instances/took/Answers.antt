@@ -22,7 +22,7 @@ invariant_of-self c = record {
       (c.see_all.ensures.fits (c.self.inside.happened + 1 + 1)
       (fits-more (c.self.inside.happened + 1) c.self.inside.tracks.items c.self.invariant.fits));
   blank = c.self.invariant.blank;
-  places = omega (arith, c.self.invariant.places, c.in_ok-self-inside.ensures.less, c.forget_left.ensures.spare);
+  places = omega (arith, c.self.invariant.places, c.in_ok-self-inside.ensures.less, c.forget_left.ensures.room);
   tracks_fit =
       omega (
         arith,
