@@ -255,7 +255,7 @@ impl Sink for Store {
         self.cache.reserve(n)
     }
 
-    fn room(&self, arrival: &Arrival) -> bool {
+    fn room(&mut self, arrival: &Arrival) -> bool {
         self.cache.has_room(arrival)
     }
 

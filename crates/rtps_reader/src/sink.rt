@@ -48,12 +48,14 @@ pub trait Sink {
     /// Whether there is room for this change by the reader's resource limits.
     ///
     /// DDS 1.4, 2.2.3 (RESOURCE_LIMITS).
-    fn room(&self, arrival: &Arrival) -> bool
+    fn room(&mut self, arrival: &Arrival) -> bool
         // It goes by what happened.
-        ensures room { (h : List Happening) → stands self.now h
-            → result ≡ has_room (qos self.now) h (Came arrival.now) }
+        ensures room { (h : List Happening) → stands self.old h
+            → result ≡ has_room (qos self.old) h (Came arrival.now) }
         // No access returned what had not happened: so a run that is passed over before the change takes no room.
-        ensures untaken { (h : List Happening) → stands self.now h → NoneTakenAhead h };
+        ensures untaken { (h : List Happening) → stands self.old h → NoneTakenAhead h }
+        // The sink stays as it was.
+        ensures same { self.new ≡ self.old };
 
     /// Enters that a change came.
     ///

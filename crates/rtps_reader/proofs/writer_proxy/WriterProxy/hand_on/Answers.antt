@@ -92,7 +92,7 @@ returns-then-not-room-clause-stays g c stops = (
     count = refl;
     acknacks = refl;
   },
-  refl,
+  c.room.ensures.same,
 )
 
 pub returns-then-not-room-clause-full : goal.returns-then-not-room-clause-full

@@ -20,13 +20,13 @@ pub returns-then-not-room-clause-jumps : goal.returns-then-not-room-clause-jumps
 returns-then-not-room-clause-jumps g c =
     let made = c.in_ok-reserve.ensures in
     let full : c.room.result ≡ false = search rules in
-    not_moved (g.S.Sink.qos c.args.sink.now) c.args.source.now (g.S.Sink.stands c.args.sink.now)
+    rw c.room.ensures.same (not_moved (g.S.Sink.qos c.args.sink.now) c.args.source.now (g.S.Sink.stands c.args.sink.now)
     (g.S.Sink.stands c.reserve.new.sink) (tracked c.args.self.now) (tracked c.reserve.new.self) c.args.number
     c.args.change c.idle-then-not-room.result made.stands made.same
     (λ h was. comes-no_room (g.S.Sink.qos c.args.sink.now) (g.S.Sink.qos c.reserve.new.sink) c.args.source.now
     (tracked c.args.self.now) (tracked c.reserve.new.self) c.arrival_of-coming.result c.args.number c.args.change
     c.room.result h made.qos made.same.place c.arrival_of-coming.ensures (c.room.ensures.room h (made.stands h was))
-    (c.room.ensures.untaken h (made.stands h was)) full) c.idle-then-not-room.ensures
+    (c.room.ensures.untaken h (made.stands h was)) full) c.idle-then-not-room.ensures)
 
 pub returns-clause-jumps : goal.returns-clause-jumps
 returns-clause-jumps g c =
@@ -42,4 +42,4 @@ returns-clause-jumps g c =
     (tracked c.args.self.now) (tracked c.reserve.new.self) c.arrival_of-coming.result c.args.number c.args.change
     c.room.result h made.qos made.same.place c.arrival_of-coming.ensures (c.room.ensures.room h (made.stands h was))
     (c.room.ensures.untaken h (made.stands h was)) (omega (arith, number, place, c.if-number.false)) free)
-    c.come_over.ensures.moved
+    (rw c.room.ensures.same at c.come_over.ensures.moved)
