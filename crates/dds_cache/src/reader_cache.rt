@@ -404,16 +404,19 @@ impl ReaderCache {
     /// if it is accepted, the present writes and the known instances are as many as they may be. It needs no memory.
     ///
     /// It goes over the samples that the change would push out of its history, where as many writes are present as may be; and
-    /// along those of its instance where as many instances are known as may be, and it would leave nobody registered.
+    /// along those of its instance where as many instances are known as may be, and it would leave nobody registered. Where it
+    /// asks for the instance, `come` finds the key of the change looked up.
     ///
     /// DDS 1.4, 2.2.3 (RESOURCE_LIMITS).
-    pub fn has_room(&self, arrival: &Arrival) -> bool
+    pub fn has_room(&mut self, arrival: &Arrival) -> bool
         // It is so by the definitions.
-        ensures room { (h : List Happening) → StandsFor self.now h
-            → result ≡ has_room (qos_of self.now) h (Came arrival.now) }
+        ensures room { (h : List Happening) → StandsFor self.old h
+            → result ≡ has_room (qos_of self.old) h (Came arrival.now) }
+        // The cache stays as it was.
+        ensures same { self.new ≡ self.old }
     {
         is_room(
-            &self.instances,
+            &mut self.instances,
             &self.qos,
             &self.samples,
             &self.summary,

@@ -187,9 +187,10 @@ fn has_spare(qos: &ReaderQos, samples: usize, instances: usize) -> bool
     keeps_to(qos.max_samples, samples, true) && keeps_to(qos.max_instances, instances, true)
 }
 
-/// Whether there is room for a change at a reader of these policies, at which so many came.
+/// Whether there is room for a change at a reader of these policies, at which so many came. Its instance is asked for only
+/// where no room is to spare; then it is several times over, and its key is looked up once for all.
 pub fn is_room(
-    instances: &Instances,
+    instances: &mut Instances,
     qos: &ReaderQos,
     samples: &[Kept],
     summary: &Summary,
@@ -197,10 +198,11 @@ pub fn is_room(
     arrival: &Arrival,
 ) -> bool
     requires counted { IsSummary samples.now summary.now }
-    ensures { (h : List Happening) → Holds qos.now instances.now samples.now h
+    ensures room { (h : List Happening) → Holds qos.now instances.old samples.now h
         → IsFresh h arrival.now.change.key
         → arrivals ≡ min (arrivals_of h) (2 ^ 31 - 1)
         → result ≡ has_room qos.now h (Came arrival.now) }
+    ensures same { instances.new ≡ instances.old }
 {
     if MAX_ARRIVALS - 1 <= arrivals {
         return false;
@@ -208,6 +210,7 @@ pub fn is_room(
     if has_spare(qos, summary.writes, instances.len()) {
         return true;
     }
+    instances.expect(arrival.change.key);
     !instances.accepts(qos, arrival)
         || instances_fit(instances, qos, arrival, samples, summary)
             && samples_fit(instances, qos, arrival, samples, summary)
