@@ -3,10 +3,12 @@
 //! RTPS 2.5, 8.3.4 (the message receiver) and 9.4.
 
 ghost use Rattle.std.specs.Prelude.{◌≡◌, ◌+◌, ◌≤◌, ◌<◌, ℕ, List, length, IfOk, IfErr, IfSome, IfNone, Option, Some, [], unwrap_or};
-ghost use Rattle.rtps_wire.specs.declared.submessage.Submessage.TheVariants.{InfoDst, InfoTs, Other};
+ghost use Rattle.std.specs.Option.{option_map};
+ghost use Rattle.rtps_wire.specs.declared.submessage.Submessage.TheVariants.{InfoDst, InfoTs, Data, Heartbeat, AckNack, Gap, Other};
 ghost use Rattle.dds_base.specs.declared.guid.GuidPrefix.{GuidPrefix as GuidPrefixOf};
 ghost use Rattle.rtps_wire.specs.Frames.{IsEnd, IsFrame};
-ghost use Rattle.rtps_wire.specs.SubmessageAt.{known_at};
+ghost use Rattle.rtps_wire.specs.DataAt.{data_at};
+ghost use Rattle.rtps_wire.specs.SubmessageAt.{heartbeat_at, acknack_at, gap_at, known_at};
 ghost use Rattle.rtps_wire.specs.Submessages.{Reads};
 ghost use Rattle.rtps_wire.specs.Messages.{ReadsFirst, ReadsAll, ReadsMessage, HasFrame, HasHeader, HasSubmessage};
 ghost use Rattle.rtps_wire.specs.declared.message.Message.{Message};
@@ -25,49 +27,91 @@ use crate::submessage::{Submessage, Submessages};
 use dds_base::{Code, GuidPrefix};
 use std::alloc::Global;
 
-/// The submessage of an id, flags and a body: one of a known kind where it is valid, else `Submessage::Other`.
+/// Puts the DATA of a body in a place, where it is valid.
+// As a call of its own, as for the kinds below, it zeroes the temporaries of its kind alone.
+#[inline(never)]
+fn place_data<'a>(place: &mut Submessage<'a>, flags: u8, body: &'a [u8])
+    ensures { place.new ≡ unwrap_or (option_map Data (data_at flags body.now)) place.old }
+{
+    if let Some(data) = data_of(flags, body) {
+        *place = Submessage::Data(data);
+    }
+}
+
+/// Puts the HEARTBEAT of a body in a place, where it is valid.
+#[inline(never)]
+fn place_heartbeat(place: &mut Submessage, flags: u8, body: &[u8])
+    ensures { place.new ≡ unwrap_or (option_map Heartbeat (heartbeat_at flags body.now)) place.old }
+{
+    if let Some(heartbeat) = heartbeat_of(flags, body) {
+        *place = Submessage::Heartbeat(heartbeat);
+    }
+}
+
+/// Puts the ACKNACK of a body in a place, where it is valid.
+#[inline(never)]
+fn place_acknack(place: &mut Submessage, flags: u8, body: &[u8])
+    ensures { place.new ≡ unwrap_or (option_map AckNack (acknack_at flags body.now)) place.old }
+{
+    if let Some(acknack) = acknack_of(flags, body) {
+        *place = Submessage::AckNack(acknack);
+    }
+}
+
+/// Puts the GAP of a body in a place, where it is valid.
+#[inline(never)]
+fn place_gap(place: &mut Submessage, flags: u8, body: &[u8])
+    ensures { place.new ≡ unwrap_or (option_map Gap (gap_at flags body.now)) place.old }
+{
+    if let Some(gap) = gap_of(flags, body) {
+        *place = Submessage::Gap(gap);
+    }
+}
+
+/// Puts the submessage of an id, flags and a body in a place: one of a known kind where it is valid, else
+/// `Submessage::Other`.
 // As a call of its own it stores the fields of that kind alone; within a caller LLVM gathers those of all kinds first.
 #[inline(never)]
 #[tactic(auto, unfolding(crate::specs::SubmessageAt::known_at))]
-fn known_or_other(id: u8, flags: u8, body: &[u8]) -> Submessage<'_>
-    ensures { result ≡ unwrap_or (known_at id flags body.now) (Other id) }
+fn place_known_or_other<'a>(place: &mut Submessage<'a>, id: u8, flags: u8, body: &'a [u8])
+    ensures { place.new ≡ unwrap_or (known_at id flags body.now) (Other id) }
 {
+    *place = Submessage::Other(id);
     if id == ID_PAD {
-        return Submessage::Pad;
-    }
-    if id == ID_INFO_DST {
+        *place = Submessage::Pad;
+    } else if id == ID_INFO_DST {
         if let Some(prefix) = info_dst_of(body) {
-            return Submessage::InfoDst(prefix);
+            *place = Submessage::InfoDst(prefix);
         }
     } else if id == ID_INFO_TS {
         if let Some(stamp) = info_ts_of(flags, body) {
-            return Submessage::InfoTs(stamp);
+            *place = Submessage::InfoTs(stamp);
         }
     } else if id == ID_DATA {
-        if let Some(data) = data_of(flags, body) {
-            return Submessage::Data(data);
-        }
+        place_data(place, flags, body);
     } else if id == ID_HEARTBEAT {
-        if let Some(heartbeat) = heartbeat_of(flags, body) {
-            return Submessage::Heartbeat(heartbeat);
-        }
+        place_heartbeat(place, flags, body);
     } else if id == ID_ACKNACK {
-        if let Some(acknack) = acknack_of(flags, body) {
-            return Submessage::AckNack(acknack);
-        }
+        place_acknack(place, flags, body);
     } else if id == ID_GAP {
-        if let Some(gap) = gap_of(flags, body) {
-            return Submessage::Gap(gap);
-        }
+        place_gap(place, flags, body);
     }
-    Submessage::Other(id)
+}
+
+/// Puts the submessage of an id, flags and a body in a place.
+pub fn read_into<'a>(place: &mut Submessage<'a>, id: u8, flags: u8, body: &'a [u8])
+    ensures { Reads id flags body.now place.new }
+{
+    place_known_or_other(place, id, flags, body);
 }
 
 /// The submessage of an id, flags and a body.
 fn submessage_of(id: u8, flags: u8, body: &[u8]) -> Submessage<'_>
     ensures { Reads id flags body.now result }
 {
-    known_or_other(id, flags, body)
+    let mut submessage = Submessage::Pad;
+    read_into(&mut submessage, id, flags, body);
+    submessage
 }
 
 /// The prefix of the INFO_DST of an id and a body, which no flag changes. `None` of any other submessage.
@@ -198,8 +242,8 @@ fn read_submessages<'a>(
     ensures memory { IfErr result (λ e. (e ≡ Code.Memory) × HasFrame bytes.now) }
 {
     let mut left = bytes;
-    while let Some((submessage, rest)) = next_submessage(left) {
-        submessages.push(submessage)?;
+    while let Some((frame, rest)) = next_frame(left) {
+        submessages.push_frame(frame)?;
         left = rest;
     }
     Ok(left)

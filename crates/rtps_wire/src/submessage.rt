@@ -3,11 +3,15 @@
 //! RTPS 2.5, 8.3.4 and 9.4.5.
 
 ghost use Rattle.std.specs.Prelude.{◌≡◌, ◌<◌, ◌≤◌, [], ◌∷◌, ◌++◌, length, IsOk, OnOk, OnErr};
+ghost use Rattle.rtps_wire.specs.declared.submessage.Submessage.{Submessage as SubmessageOf};
+ghost use Rattle.rtps_wire.specs.Submessages.{Reads};
 
 use crate::acknack::AckNack;
 use crate::data::Data;
+use crate::frame::Frame;
 use crate::gap::Gap;
 use crate::heartbeat::Heartbeat;
+use crate::read::read_into;
 use dds_base::GuidPrefix;
 use smallvec::SmallVec;
 use std::alloc::{AllocError, Global};
@@ -94,6 +98,25 @@ impl<'a> Submessages<'a> {
         ensures few { length self.old < FEW_SUBMESSAGES → IsOk result }
     {
         Ok(self.items.push(submessage)?)
+    }
+
+    /// Adds the submessage of a frame at the end, which is read into its place there.
+    // To push what was read copies it twice, and waits for the stores of its fields each time.
+    #[inline(always)]
+    pub(crate) fn push_frame(&mut self, frame: Frame<'a>) -> Result<(), AllocError>
+        ensures ok { OnOk result ((s : SubmessageOf)
+            × Reads frame.entry.id frame.entry.flags frame.entry.body.now s
+            × (self.new ≡ self.old ++ s ∷ [])) }
+    {
+        let at = self.items.len();
+        self.items.push(Submessage::Pad)?;
+        read_into(
+            &mut self.items.as_mut_slice()[at],
+            frame.id,
+            frame.flags,
+            frame.body,
+        );
+        Ok(())
     }
 
     /// Adds one of the first `FEW_SUBMESSAGES` at the end.
