@@ -316,7 +316,7 @@ receives_nothing old bytes gone quiet zero_lost none config peer s =
     record {
       state = state_of peer;
       dues = [];
-      takes = inr (record { moves = refl; after = refl; cause = inl (refl, unread) }, refl, refl);
+      takes = inr (record { unread = unread; moves = refl; refused = refl; after = refl }, refl, refl);
       stands = stands_again old config peer (with_state peer (state_of peer)) refl refl refl s;
       sent = (quiet, zero_lost);
     }

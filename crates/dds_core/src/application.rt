@@ -8,6 +8,7 @@ ghost use Rattle.dds_conditions.specs.Filtered.{tests_of};
 ghost use Rattle.dds_base.specs.Number.{at_number};
 ghost use Rattle.dds_conditions.specs.Watched.{is_used, uses_in};
 ghost use Rattle.dds_notices.specs.Listeners.{ByEntity, at_entity, shown};
+ghost use Rattle.dds_core.specs.Lending.{event_of};
 ghost use Rattle.dds_core.specs.Listening.{Adds, AreKept, RefusesEntity, RefusesFilter, RefusesListener, Sets, StandsFor, Steps, no_listeners};
 ghost use Rattle.dds_core.specs.Opening.{core_refusal, opening_peer};
 ghost use Rattle.dds_core.specs.Pairs.{IsPair};
@@ -16,10 +17,12 @@ ghost use Rattle.dds_core.specs.Standing.{StandsFor as PeerStandsFor};
 ghost use Rattle.dds_core.specs.Ruling.{IsSound};
 ghost use Rattle.dds_core.specs.Twins.{Twins};
 ghost use Rattle.dds_machine.specs.Part.{own_proxies, place_of};
+ghost use Rattle.dds_protocol.specs.declared.event.Event.TheVariants as event;
 ghost use Rattle.dds_protocol.specs.Peer.{Peer as PeerState};
 ghost use Rattle.dds_base.specs.declared.config.Config.{Config as ConfigOf};
 
 use crate::filtered_peer::FilteredPeer;
+use crate::lent_event::LentEvent;
 use crate::marks::Marks;
 use crate::pairing::Pair;
 use crate::twin::{Twin, pair_of};
@@ -138,12 +141,45 @@ impl<F: Filter, L: Listener> Core<F, L> {
         pair_of(alloc, output, twin)
     }
 
+    /// The bytes of a packet come, as by `step`, and stay with whoever keeps them: no memory is needed to hand them over.
+    ///
+    /// RTPS 2.5, 8.3.4 (the message receiver), 8.4 (behaviour).
+    #[inline(always)]
+    pub fn deliver(&mut self, packet: &[u8]) -> Output
+        // It is the step at which these bytes are delivered.
+        ensures step { Steps L.notices L.capacity L.becomes
+            (tests_of F.meaning self.old.filtered.filters) self.old (event.Deliver packet.now)
+            result self.new }
+        // What goes out is the written form of a message.
+        ensures messages { AreMessages result.packets }
+    {
+        self.happen(LentEvent::Deliver(packet), &mut Twin::Unasked)
+    }
+
     /// One event, and where two replies are asked for, the reply once more.
     #[inline(always)]
     fn step_with(&mut self, event: Event, twin: &mut Twin) -> Output
         ensures step { Steps L.notices L.capacity L.becomes
             (tests_of F.meaning self.old.filtered.filters) self.old event result self.new }
         ensures sends { Sends self.old.filtered.peer event result }
+        ensures messages { AreMessages result.packets }
+        ensures few { result.unsent < max_unsent }
+        ensures twin { Twins twin.old result.reply twin.new }
+    {
+        match event {
+            Event::Call(call) => self.happen(LentEvent::Call(call), twin),
+            Event::Tick(now) => self.happen(LentEvent::Tick(now), twin),
+            Event::Deliver(packet) => self.happen(LentEvent::Deliver(packet.as_slice()), twin),
+        }
+    }
+
+    /// The same of one whose packet is lent.
+    #[inline(always)]
+    fn happen(&mut self, event: LentEvent, twin: &mut Twin) -> Output
+        ensures step { Steps L.notices L.capacity L.becomes
+            (tests_of F.meaning self.old.filtered.filters) self.old (event_of event.entry) result
+            self.new }
+        ensures sends { Sends self.old.filtered.peer (event_of event.entry) result }
         ensures messages { AreMessages result.packets }
         ensures few { result.unsent < max_unsent }
         ensures twin { Twins twin.old result.reply twin.new }

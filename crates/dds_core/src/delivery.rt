@@ -24,7 +24,7 @@ use crate::reader_end::{Ids, ReaderEnd, Ready, ids_of};
 use crate::receiver::{MessageReceiver, receiver_for};
 use crate::sending::Announced;
 use crate::twin::Twin;
-use dds_base::{Code, GuidPrefix, Octets, Sequence, Sn};
+use dds_base::{Code, GuidPrefix, Sequence, Sn};
 use dds_machine::{Endpoint, Move, Reply, Report};
 use dds_protocol::Output;
 use rtps_reader::Step;
@@ -427,14 +427,14 @@ impl Peer {
     }
 
     /// What is done with the bytes of a packet.
-    fn receive(&mut self, packet: &Octets, effects: &mut Effects, twin: &mut Twin) -> Report
+    fn receive(&mut self, packet: &[u8], effects: &mut Effects, twin: &mut Twin) -> Report
         requires none { NothingDone (wants_two twin.old) effects.old }
         ensures receives { ReceivesPacket self.old packet.now result self.new effects.new.sent }
         ensures messages { AreMessages effects.new.sent.packets.items }
         ensures few { effects.new.sent.unsent < max_unsent }
         ensures twin { Twins twin.old (Reported result) twin.new }
     {
-        match begin_message(packet.as_slice()) {
+        match begin_message(packet) {
             Some((source, body)) => self.take_submessages(source, body, effects, twin),
             None => unmoved(self.alloc, None),
         }
@@ -442,7 +442,7 @@ impl Peer {
 
     /// The bytes of a packet come.
     #[inline(always)]
-    pub(crate) fn deliver(&mut self, packet: &Octets, twin: &mut Twin) -> Output
+    pub(crate) fn deliver(&mut self, packet: &[u8], twin: &mut Twin) -> Output
         ensures step { SoundSteps self.old (event.Deliver packet.now) result self.new }
         ensures messages { AreMessages result.packets }
         ensures few { result.unsent < max_unsent }

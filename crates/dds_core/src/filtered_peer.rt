@@ -13,6 +13,7 @@ ghost use Rattle.dds_protocol.specs.Peer.{Peer as PeerState};
 ghost use Rattle.dds_base.specs.declared.config.Config.{Config as ConfigOf};
 ghost use Rattle.dds_core.specs.Filtering.{StandsFor};
 ghost use Rattle.dds_core.specs.FilteredSteps.{Adds, RefusesFilter, Steps};
+ghost use Rattle.dds_core.specs.Lending.{event_of};
 ghost use Rattle.dds_core.specs.Noticing.{AreMarksOf, MarksPeer, Tells};
 ghost use Rattle.dds_core.specs.Opening.{core_refusal, opening_peer};
 ghost use Rattle.dds_core.specs.Pairs.{IsPair};
@@ -21,6 +22,7 @@ ghost use Rattle.dds_core.specs.Standing.{StandsFor as PeerStandsFor};
 ghost use Rattle.dds_core.specs.Stepping.{SoundStepsBy};
 ghost use Rattle.dds_core.specs.Twins.{Twins};
 
+use crate::lent_event::LentEvent;
 use crate::marks::Marks;
 use crate::pairing::Pair;
 use crate::peer::Peer;
@@ -29,7 +31,7 @@ use dds_base::{Code, Config, Moment, Sn};
 use dds_conditions::{Filter, FilterList};
 use dds_machine::Endpoint;
 use dds_notices::{Listener, Slots};
-use dds_protocol::{Event, Output};
+use dds_protocol::Output;
 use std::alloc::Global;
 use std::marker::Model;
 
@@ -87,15 +89,17 @@ impl<F: Filter> FilteredPeer<F> {
     ///
     /// DDS 1.4, 2.2.2.4 and 2.2.2.5 (DataWriter, DataReader); RTPS 2.5, 8.4 (behaviour).
     #[inline(always)]
-    pub fn step(&mut self, event: Event, twin: &mut Twin) -> Output
+    pub fn step(&mut self, event: LentEvent, twin: &mut Twin) -> Output
         // For each state that the peer stands for, the event is a step, by what its filters mean, to one that it stands
         // for afterwards; a delivered packet is taken up by the rules of the protocol, and what is due by them is sent.
-        ensures step { Steps (tests_of F.meaning self.old.filters) self.old event result self.new }
+        ensures step { Steps (tests_of F.meaning self.old.filters) self.old (event_of event.entry)
+            result self.new }
         // The same of what it keeps beside the filters.
         ensures peer { SoundStepsBy
-            (tests_of F.meaning self.old.filters) self.old.peer event result self.new.peer }
+            (tests_of F.meaning self.old.filters) self.old.peer (event_of event.entry) result
+            self.new.peer }
         // What goes out at a call or a tick, and what is counted as unsent.
-        ensures sends { Sends self.old.peer event result }
+        ensures sends { Sends self.old.peer (event_of event.entry) result }
         // What goes out is the written form of a message.
         ensures messages { AreMessages result.packets }
         // Few packets find no memory.

@@ -47,6 +47,7 @@ mod effects;
 mod expiring;
 mod filtered_peer;
 mod heartbeat;
+mod lent_event;
 mod limits;
 mod marks;
 mod matching;

@@ -4,11 +4,13 @@
 
 ghost use Rattle.std.specs.Prelude.{◌≡◌, ◌<◌, ◌≤◌};
 ghost use Rattle.dds_protocol.specs.declared.event.Event.TheVariants as event;
+ghost use Rattle.dds_core.specs.Lending.{event_of};
 ghost use Rattle.dds_core.specs.Stepping.{Steps, SoundStepsBy};
 ghost use Rattle.dds_core.specs.Sending.{Sends, AreMessages, max_unsent};
 ghost use Rattle.dds_core.specs.Twins.{IsPlain, Twins};
 
 use crate::expiring::{counts_deaths, expire_all};
+use crate::lent_event::LentEvent;
 use crate::output::answered;
 use crate::reader_end::ReaderEnd;
 use crate::sending::Announced;
@@ -17,7 +19,7 @@ use crate::writer_end::{WriterEnd, tick_all};
 use dds_base::{Code, GuidPrefix, MOMENT_END, Moment, Sequence};
 use dds_conditions::{Filters, Watch};
 use dds_machine::Reply;
-use dds_protocol::{Event, Output};
+use dds_protocol::Output;
 use std::alloc::Global;
 use std::marker::Model;
 
@@ -59,11 +61,12 @@ impl Peer {
     /// samples its query conditions match, by their numbers. Where two replies are asked for, all memory for both is asked
     /// for before anything changes.
     #[inline(always)]
-    pub fn step_by<T: Filters>(&mut self, filters: &T, event: Event, twin: &mut Twin) -> Output
+    pub fn step_by<T: Filters>(&mut self, filters: &T, event: LentEvent, twin: &mut Twin) -> Output
         // For each state that the peer stands for, the event is a step by what the filters mean.
-        ensures step { SoundStepsBy (T.meaning filters.now) self.old event result self.new }
+        ensures step { SoundStepsBy (T.meaning filters.now) self.old (event_of event.entry) result
+            self.new }
         // What goes out at a call or a tick, and what is counted as unsent.
-        ensures sends { Sends self.old event result }
+        ensures sends { Sends self.old (event_of event.entry) result }
         // What goes out is the written form of a message.
         ensures messages { AreMessages result.packets }
         // Few packets find no memory.
@@ -72,9 +75,9 @@ impl Peer {
         ensures twin { Twins twin.old result.reply twin.new }
     {
         match event {
-            Event::Call(call) => self.call(filters, call, twin),
-            Event::Tick(now) => self.tick(now),
-            Event::Deliver(packet) => self.deliver(&packet, twin),
+            LentEvent::Call(call) => self.call(filters, call, twin),
+            LentEvent::Tick(now) => self.tick(now),
+            LentEvent::Deliver(packet) => self.deliver(packet, twin),
         }
     }
 

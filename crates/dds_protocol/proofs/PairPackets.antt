@@ -6,7 +6,7 @@ use Rattle.dds_base.specs.Kept.{numbers_from}
 use Rattle.rtps_wire.specs.declared.message.Message.{Message}
 use Rattle.rtps_wire.specs.declared.submessage.Submessage.{Submessage}
 use Rattle.rtps_wire.specs.declared.submessage.Submessage.TheVariants.{InfoDst, InfoTs}
-use Rattle.rtps_wire.specs.Messages.{IsWritable, HasSubmessage, spelling_of}
+use Rattle.rtps_wire.specs.Messages.{IsWritable, spelling_of}
 use Rattle.rtps_wire.proofs.SpellingLaws.{message_again}
 use Rattle.dds_machine.specs.declared.reply.Move.{Move}
 use Rattle.dds_machine.specs.declared.reply.Report.{Report}
@@ -30,9 +30,7 @@ read_whole config peer message old report dues new writable whole (inl h) =
     (receiver_of m.prefix) m.submessages old report.moves report.refused dues new)
     (read_again message h.message h.offset writable h.is_read) h.follows)
 read_whole config peer message old report dues new writable whole (inr h) =
-    ⊎_elim (λ none. absurd (none.1 message (length (spelling_of message)) (message_again message writable)))
-    (λ (some : (report.refused ≡ Some 0) × HasSubmessage (spelling_of message)). let both = sym whole
-    ∙ some.0 in absurd cc) h.0.cause
+    absurd (h.0.unread message (length (spelling_of message)) (message_again message writable))
 
 -- steps that all do nothing
 pub idle_turns : {X : Type 0} (step : X → State → List Move → List Due → State → Type 0)

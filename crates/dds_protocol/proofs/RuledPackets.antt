@@ -14,7 +14,7 @@ use Rattle.rtps_wire.specs.declared.heartbeat.Heartbeat.{Heartbeat as HeartbeatB
 use Rattle.rtps_wire.specs.declared.message.Message.{Message}
 use Rattle.rtps_wire.specs.declared.submessage.Submessage.{Submessage}
 use Rattle.rtps_wire.specs.declared.submessage.Submessage.TheVariants.{Data, Gap, Heartbeat, AckNack}
-use Rattle.rtps_wire.specs.Messages.{ReadsMessage, HasSubmessage}
+use Rattle.rtps_wire.specs.Messages.{ReadsMessage}
 use Rattle.dds_machine.specs.declared.endpoint.Endpoint.{Endpoint}
 use Rattle.dds_machine.specs.declared.reply.Move.{Move}
 use Rattle.dds_machine.specs.declared.reply.Report.{Report}
@@ -412,14 +412,12 @@ reported p report s b = record {
   heard = b.heard;
 }
 
--- a packet that is none, or for which there was no memory, tells nothing
+-- a packet that is no message tells nothing
 pub tells_nothing : (config : Config) (peer : ℕ) (before : List Delivery) (bytes : List ℕ) (old new : Part)
     (report : Report) → IsNotTaken bytes old report new → (w : Endpoint) (r : ℕ) (count : ℤ)
     → IsApplied config (record { packet = bytes; report = report }) w (reader_at peer r) count → ⊥
 tells_nothing config peer before bytes old new report n w r count h =
-    ⊎_elim (λ none. none.1 h.there.message h.there.offset h.there.is_read)
-    (λ (some : (report.refused ≡ Some 0) × HasSubmessage bytes). let low : IsBefore h.there.index (Some 0) = subst
-    (λ (o : Option ℕ). IsBefore h.there.index o) some.0 h.before in absurd (omega (arith, low))) n.cause
+    n.unread h.there.message h.there.offset h.there.is_read
 
 -- what is known is backed, as it was
 pub unread_backed : (config : Config) (peer : ℕ) (before : List Delivery) (bytes : List ℕ) (old new : State)

@@ -11,7 +11,7 @@ use Rattle.dds_base.specs.Places.{coming}
 use Rattle.dds_base.specs.Presence.{has_room}
 use Rattle.rtps_wire.specs.declared.message.Message.{Message}
 use Rattle.rtps_wire.specs.declared.submessage.Submessage.{Submessage}
-use Rattle.rtps_wire.specs.Messages.{ReadsMessage, HasSubmessage}
+use Rattle.rtps_wire.specs.Messages.{ReadsMessage}
 use Rattle.dds_machine.specs.declared.endpoint.Endpoint.{Endpoint}
 use Rattle.dds_machine.specs.declared.reply.Move.{Move}
 use Rattle.dds_machine.specs.declared.reply.Move.TheVariants.{Place}
@@ -69,13 +69,12 @@ pub record IsTaken (config : Config) (grounds : ℕ → Grounds) (peer : ℕ) (b
   pub taken : TakesUp config grounds peer (prefix_of config peer) 0
       (receiver_of message.prefix) message.submessages old report.moves report.refused new
 
--- the bytes are no message, or a message with a submessage for whose reading there was no memory: nothing is done
+-- the bytes are no message: nothing is done
 pub record IsNotTaken (bytes : List ℕ) (old : Part) (report : Report) (new : Part) : Type 0 where
+  pub unread : (message : Message) (offset : ℕ) → ReadsMessage bytes message offset → ⊥
   pub moves : report.moves ≡ []
+  pub refused : report.refused ≡ None
   pub after : new ≡ old
-  pub cause :
-      ((report.refused ≡ None) × ((message : Message) (offset : ℕ) → ReadsMessage bytes message offset → ⊥))
-      ⊎ ((report.refused ≡ Some 0) × HasSubmessage bytes)
 
 -- what the peer of this number does with a packet
 abbrev pub Receives : Config → (ℕ → Grounds) → ℕ → List ℕ → Part → Report → Part → Type 0

@@ -64,13 +64,11 @@ SendsOf config old m peer other new = new ≡ old
 
 -- What is sent at an event: an accepted change is announced, an assertion is told, a tick that is done sends the
 -- HEARTBEATs that are due at the peer, and a delivery the ACKNACKs and the answers that are then due there, of which
--- the machine without packets does not know, or nothing where its own bytes found no memory; another call and what is
--- refused send nothing, and lose nothing.
+-- the machine without packets does not know; another call and what is refused send nothing, and lose nothing.
 abbrev pub Sends : Config → Traffic → Machine → WorldEvent → Reply → Traffic → Type 0
 Sends config old m (world.Call peer call) reply new =
     SendsOf config old m peer (effect_of (part_at m peer) call reply) new
 Sends config old m (world.Tick peer now) Done new = SendsDues (heartbeats_due config peer (part_at m peer)) old new
 Sends config old m (world.Tick peer now) reply new = new ≡ old
-Sends config old m (world.Deliver peer packet) (Reported report) new =
-    ((dues : List Due) × SendsDues dues old new) ⊎ (new ≡ old)
+Sends config old m (world.Deliver peer packet) (Reported report) new = (dues : List Due) × SendsDues dues old new
 Sends config old m (world.Deliver peer packet) reply new = new ≡ old

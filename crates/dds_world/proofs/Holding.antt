@@ -21,6 +21,7 @@ use Rattle.dds_protocol.specs.declared.event.Event.TheVariants as event
 use Rattle.dds_machine.specs.declared.event.WorldEvent.{WorldEvent}
 use Rattle.dds_machine.specs.declared.event.WorldEvent.TheVariants as world
 use Rattle.dds_protocol.specs.declared.event.Output.{Output}
+use Rattle.dds_protocol.specs.declared.event.Packet.{Packet}
 use Rattle.dds_machine.specs.declared.reply.Reply.{Reply}
 use Rattle.dds_machine.specs.declared.reply.Reply.TheVariants.{Refused, Reported}
 use Rattle.dds_machine.specs.Filters.{machine_with_filter, part_with_filter}
@@ -42,14 +43,14 @@ use Rattle.dds_core.specs.Sending.{AreMessages, Sends as CoreSends}
 use Rattle.dds_core.specs.Ruling.{IsSound}
 use Rattle.dds_core.proofs.Lists.{map-get, map-set_same}
 use Rattle.dds_core.proofs.Results.{err_as, ok_as}
-use Rattle.dds_world.specs.Acting.{Acts, Counts, IsCopy, IsQuiet, RuledSteps, StepsAt}
+use Rattle.dds_world.specs.Acting.{Acts, Counts, IsQuiet, RuledSteps, StepsAt}
 use Rattle.dds_world.specs.Holding.{Adds, Held, RefusesFilter, RefusesListener, Sets, filters_of, given_at, heard, kept_of, tests_by, tests_in}
 use Rattle.dds_world.specs.HeldSteps.{ActsIn, IsOfPeer, StepsIn}
 use Rattle.dds_world.specs.WorldStanding.{StandsFor}
 use Rattle.dds_world.specs.Posting.{Announces, Posts}
 use Rattle.dds_world.proofs.Replaced.{peer_stands, with_peer}
-use Rattle.dds_world.proofs.Ruled.{called, delivered, not_delivered, ticked}
-use Rattle.dds_world.proofs.Sends.{called_sends, delivered_sends, quiet_delivery_sends, refused_call_sends, refused_tick_sends, ticked_sends}
+use Rattle.dds_world.proofs.Ruled.{called, delivered, ticked}
+use Rattle.dds_world.proofs.Sends.{called_sends, delivered_sends, refused_delivery_sends, refused_call_sends, refused_tick_sends, ticked_sends}
 use Rattle.dds_world.proofs.WorldSteps.{unknown_call, unknown_delivery, unknown_packet, unknown_tick}
 
 -- ---- the machine that the peers of a network are the parts of, once one of them has another filter, or listener
@@ -187,6 +188,25 @@ module _ {F L : Type 0} (notices : L → List Notice) (capacity : L → ℕ) (be
         filters =
             ap (λ (cs : List (CoreKept F L)). map h cs) cores ∙ map-set_same h old.cores i core after at steps.filters;
       }
+
+  -- the same by what the network has inside
+  pub acts_of : (meaning : F → Key → List ℕ → Bool) (kept old : Held F L) → kept ≡ old → (i : ℕ) (ev : Event)
+      (core after : CoreKept F L) (output : Output) (reply : Reply) (new : Held F L)
+      → i < length old.cores → core ≡ get_or kept.cores i core
+      → CoreSteps notices capacity becomes (tests_of meaning core.filtered.filters) core ev output after
+      → CoreSends core.filtered.peer ev output → AreMessages output.packets → reply ≡ output.reply
+      → new.cores ≡ set kept.cores i after → Posts kept.sent output.packets new.sent
+      → ((given : ℕ → ByEntity L) → Counts (kept_of notices capacity becomes given kept) output
+      (kept_of notices capacity becomes given new))
+      → ((given : ℕ → ByEntity L) → IsQuiet (kept_of notices capacity becomes given kept) output
+      (kept_of notices capacity becomes given new))
+      → ActsIn meaning notices capacity becomes old i ev reply new
+  acts_of meaning kept old same i ev core after output reply new low here steps sends messages replies cores posts counts
+      quiet =
+      let count = ap (λ (k : Held F L). length k.cores) same in
+      let within : i < length kept.cores = omega (arith, low, count) in
+      subst (λ (k : Held F L). ActsIn meaning notices capacity becomes k i ev reply new) same
+      (acts_in meaning kept i ev core after output reply new within here steps sends messages replies cores posts counts quiet)
 
   -- ---- another filter, or another listener, at a peer
 
@@ -476,14 +496,16 @@ happened_in meaning notices capacity becomes old new i peer ev (world.Deliver nu
 
 -- the delivery of a packet that was sent
 pub delivered_in : {F L : Type 0} (meaning : F → Key → List ℕ → Bool) (notices : L → List Notice) (capacity : L → ℕ)
-    (becomes : L → Notice → L → Type 0) (old new : Held F L) (i j : ℕ) (bytes : List ℕ) (reply : Reply) → IsCopy old.sent j bytes
-    → ActsIn meaning notices capacity becomes old i (event.Deliver bytes) reply new
+    (becomes : L → Notice → L → Type 0) (old new : Held F L) (i j : ℕ) (packet : Packet) (reply : Reply)
+    → slice_get old.sent j ≡ Some packet
+    → ActsIn meaning notices capacity becomes old i (event.Deliver packet.bytes) reply new
     → StepsIn meaning notices capacity becomes old (world.Deliver (i + 1) (j + 1)) reply new
-delivered_in meaning notices capacity becomes old new i j bytes reply copy a =
-    stepped_in meaning notices capacity becomes old new i (event.Deliver bytes) (event.Deliver bytes)
+delivered_in meaning notices capacity becomes old new i j packet reply at a =
+    stepped_in meaning notices capacity becomes old new i (event.Deliver packet.bytes) (event.Deliver packet.bytes)
     (world.Deliver (i + 1) (j + 1)) reply refl
-    (λ given. delivered (kept_of notices capacity becomes given old) (kept_of notices capacity becomes given new) i j bytes reply copy)
-    (λ given. delivered_sends (kept_of notices capacity becomes given old) (kept_of notices capacity becomes given new) i (i + 1) (j + 1) bytes reply) a
+    (λ given. delivered (kept_of notices capacity becomes given old) (kept_of notices capacity becomes given new) i j packet reply at)
+    (λ given. delivered_sends (kept_of notices capacity becomes given old) (kept_of notices capacity becomes given new) i (i + 1) (j + 1)
+    packet.bytes reply) a
 
 -- no peer has the number
 outside : {F L : Type 0} (notices : L → List Notice) (capacity : L → ℕ) (becomes : L → Notice → L → Type 0)
@@ -495,7 +517,7 @@ outside {F} {L} notices capacity becomes given old peer count number is none sam
     (subst (λ (n : ℕ). (nat_lt 0 peer && nat_le peer n) ≡ false)
     (is ∙ sym (length-map old.cores (λ (c : CoreKept F L). c.filtered.peer))) none)
 
--- what is refused, and what finds no memory
+-- what is refused
 pub no_peer_in : {F L : Type 0} (meaning : F → Key → List ℕ → Bool) (notices : L → List Notice) (capacity : L → ℕ)
     (becomes : L → Notice → L → Type 0)
     (old : Held F L) (peer count : ℕ) (ev : Event) (whole : WorldEvent) → count ≡ length old.cores
@@ -528,8 +550,8 @@ no_delivery_in meaning notices capacity becomes old peer count number is none =
       steps = λ given. unknown_delivery (kept_of notices capacity becomes given old) peer number
           (outside notices capacity becomes given old peer count peer is none refl);
       filters = refl;
-      sends = λ given. quiet_delivery_sends
-          (kept_of notices capacity becomes given old) peer number (Refused BadParameter);
+      sends = λ given. refused_delivery_sends
+          (kept_of notices capacity becomes given old) peer number;
     }
 
 pub no_packet_in : {F L : Type 0} (meaning : F → Key → List ℕ → Bool) (notices : L → List Notice) (capacity : L → ℕ)
@@ -542,21 +564,7 @@ no_packet_in meaning notices capacity becomes old peer count number is none =
       steps = λ given. unknown_packet (kept_of notices capacity becomes given old) peer number
           (subst (λ (n : ℕ). (nat_lt 0 number && nat_le number n) ≡ false) is none);
       filters = refl;
-      sends = λ given. quiet_delivery_sends (kept_of notices capacity becomes given old) peer number (Refused BadParameter);
-    }
-
-pub not_delivered_in : {F L : Type 0} (meaning : F → Key → List ℕ → Bool) (notices : L → List Notice)
-    (capacity : L → ℕ) (becomes : L → Notice → L → Type 0)
-    (old : Held F L) (i j : ℕ) → i < length old.cores → j < length old.sent
-    → StepsIn meaning notices capacity becomes old (world.Deliver (i + 1) (j + 1))
-    (Reported (record { moves = []; refused = Some 0 })) old
-not_delivered_in {F} {L} meaning notices capacity becomes old i j low high =
-    record {
-      steps = λ given. not_delivered (kept_of notices capacity becomes given old) i j
-          (subst (λ (n : ℕ). i < n) (sym (length-map old.cores (λ (c : CoreKept F L). c.filtered.peer))) low) high;
-      filters = refl;
-      sends = λ given. quiet_delivery_sends (kept_of notices capacity becomes given old) (i + 1) (j + 1)
-          (Reported (record { moves = []; refused = Some 0 }));
+      sends = λ given. refused_delivery_sends (kept_of notices capacity becomes given old) peer number;
     }
 
 -- a step at an event is one at the event that was whole

@@ -30,9 +30,9 @@ use Rattle.dds_machine.specs.Noticing.{machine_ended}
 use Rattle.dds_machine.specs.Runs.{Steps}
 use Rattle.dds_world.specs.WorldStanding.{Hearing, WorldKept, StandsFor, MachineStands, KeepsRules, traffic}
 use Rattle.dds_world.specs.Posting.{Announces}
-use Rattle.dds_world.specs.Acting.{Acts, IsCopy, RuledSteps}
+use Rattle.dds_world.specs.Acting.{Acts, RuledSteps}
 use Rattle.dds_world.proofs.Sends.{numbered_so}
-use Rattle.dds_world.proofs.WorldSteps.{SendsItsDues, acts_ruled, calls_at, comes_to_nothing, delivers_at, found_at, nothing_moved, posts_none, set_same, ticks_at}
+use Rattle.dds_world.proofs.WorldSteps.{SendsItsDues, acts_ruled, calls_at, delivers_at, found_at, ticks_at}
 use Rattle.dds_machine.specs.Machine.{AllTests, Machine, Step}
 
 -- what was sent is that of the state
@@ -204,51 +204,11 @@ taken_up {tests} kept new i j packet reply at a =
     (found_at kept.sent j packet at)) a
     (delivery_dues kept new i j packet reply at a)
 
-pub delivered : {hearing : Hearing} → {tests : AllTests} → (kept new : WorldKept hearing) (i j : ℕ) (bytes : List ℕ)
+pub delivered : {hearing : Hearing} → {tests : AllTests} → (kept new : WorldKept hearing) (i j : ℕ) (packet : Packet)
     (reply : Reply)
-    → IsCopy kept.sent j bytes → Acts tests kept i (event.Deliver bytes) reply new
+    → slice_get kept.sent j ≡ Some packet → Acts tests kept i (event.Deliver packet.bytes) reply new
     → RuledSteps tests kept (world.Deliver (i + 1) (j + 1)) reply new
-delivered {tests} kept new i j bytes reply copy a =
-    let packet = copy.packet in
-    let own : Acts tests kept i (event.Deliver packet.bytes) reply new =
-    subst (λ (b : List ℕ). Acts tests kept i (event.Deliver b) reply new) copy.same a in
+delivered {tests} kept new i j packet reply at a =
     let next : suc i ≡ i + 1 = omega arith in
     subst (λ (n : ℕ). RuledSteps tests kept (world.Deliver n (j + 1)) reply new) next
-    (taken_up kept new i j packet reply copy.at own)
-
--- a packet that finds no memory
-pub not_delivered : {hearing : Hearing} → {tests : AllTests} → (kept : WorldKept hearing) (i j : ℕ)
-    → i < length kept.peers → j < length kept.sent
-    → RuledSteps tests kept (world.Deliver (i + 1) (j + 1)) (Reported (record { moves = []; refused = Some 0 })) kept
-not_delivered {hearing} {tests} kept i j low high config network s =
-    let few = s.few in
-    let count = s.count in
-    let listened = s.listened in
-    let core = element kept.peers i low in
-    let slots = element kept.listeners i (omega (arith, low, count, listened)) in
-    let packet = element kept.sent j high in
-    let some : HasSubmessage packet.0.bytes = s.messages packet.0 (contains_at kept.sent j packet.0 packet.1) in
-    let reply : Reply = Reported (record { moves = []; refused = Some 0 }) in
-    let acts : Acts tests kept i (event.Deliver packet.0.bytes) reply kept = record {
-      acts = record {
-        core = core.0;
-        at = core.1;
-        output = nothing_moved;
-        slots = slots.0;
-        slots_at = slots.1;
-        after = core.0;
-        left = slots.0;
-        steps = comes_to_nothing core.0 (get_or kept.filters i 0) (hearing.stands (suc i) slots.0) packet.0.bytes some;
-        messages = λ p c. absurd (omega (arith, c.1));
-        replies = refl;
-        peers = set_same kept.peers i core.0 core.1;
-        filters = refl;
-        listeners = set_same kept.listeners i slots.0 slots.1;
-        posts = posts_none kept.sent;
-      };
-      sends = tt;
-      counts = (0, omega arith, omega (arith, few));
-      quiet = λ nothing. (refl, refl);
-    } in
-    delivered kept kept i j packet.0.bytes reply
-    (record { packet = packet.0; at = packet.1; same = refl }) acts config network s
+    (taken_up kept new i j packet reply at a)

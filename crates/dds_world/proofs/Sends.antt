@@ -212,7 +212,7 @@ ticked_sends kept new i peer now reply is a =
 reported : (config : Config) (old new : Traffic) (network : WorldState) (peer number : ℕ) (reply : Reply)
     (report : Report) → reply ≡ Reported report → (dues : List Due) → SendsDues dues old new
     → Sends config old (machine_of network) (world.Deliver peer number) reply new
-reported config old new network peer number (Reported r) report is dues h = inl (dues, h)
+reported config old new network peer number (Reported r) report is dues h = (dues, h)
 reported config old new network peer number reply report is dues h = absurd cc
 
 pub delivered_sends : {hearing : Hearing} → {tests : AllTests} → (kept new : WorldKept hearing) (i peer number : ℕ)
@@ -240,7 +240,6 @@ pub refused_tick_sends : {hearing : Hearing} → (kept : WorldKept hearing) (pee
     → Announces kept (world.Tick peer now) (Refused BadParameter) kept
 refused_tick_sends kept peer now config network s = refl
 
-pub quiet_delivery_sends : {hearing : Hearing} → (kept : WorldKept hearing) (peer number : ℕ) (reply : Reply)
-    → Announces kept (world.Deliver peer number) reply kept
-quiet_delivery_sends kept peer number (Reported report) config network s = inr refl
-quiet_delivery_sends kept peer number reply config network s = refl
+pub refused_delivery_sends : {hearing : Hearing} → (kept : WorldKept hearing) (peer number : ℕ)
+    → Announces kept (world.Deliver peer number) (Refused BadParameter) kept
+refused_delivery_sends kept peer number config network s = refl

@@ -9,7 +9,6 @@ use Rattle.std.proofs.lemmas.List.Kept.{AllPairs-cons}
 use Rattle.std.proofs.lemmas.Option.{same_Some}
 use Rattle.dds_base.specs.declared.code.Code.TheVariants.{BadParameter}
 use Rattle.dds_base.specs.declared.config.Config.{Config}
-use Rattle.rtps_wire.specs.Messages.{HasSubmessage}
 use Rattle.dds_notices.specs.Listeners.{Places}
 use Rattle.dds_protocol.specs.Bounds.{IsBounded}
 use Rattle.dds_protocol.specs.Fresh.{HasUsedCounts}
@@ -38,7 +37,6 @@ use Rattle.dds_protocol.specs.World.{Sound, WorldState, WorldStep, PeerSteps, ma
 use Rattle.dds_protocol.proofs.Bounded.{steps_bounded}
 use Rattle.dds_protocol.proofs.Composed.{composes}
 use Rattle.dds_protocol.proofs.FreshCounts.{steps_used}
-use Rattle.dds_protocol.proofs.RuledPackets.{unread_backed}
 use Rattle.dds_machine.proofs.Tables.{append_nothing}
 use Rattle.dds_core.specs.Kept.{PeerKept}
 use Rattle.dds_core.specs.Standing.{StandsFor as CoreStandsFor}
@@ -81,19 +79,6 @@ more_apart R (x ∷ ps) p all each =
     let rest : AllPairs R ps = λ i j d lt within. all (suc i) (suc j) d (omega (arith, lt)) (omega (arith, within)) in
     AllPairs-cons R x (ps ++ p ∷ []) (All-push (R x) ps p first (each x (0, omega arith, refl)))
     (more_apart R ps p rest (λ y c. each y (suc c.0, omega (arith, c.1), c.2)))
-
--- nothing was sent yet
-pub posts_none : (old : List Packet) → Posts old [] old
-posts_none old =
-    record {
-      posted = [];
-      sent = sym (append_nothing old);
-      lost = 0;
-      are_posted = (refl, refl);
-      of_packets = λ p c. c;
-      fewer = omega arith;
-      different = λ d. d;
-    }
 
 -- the packets in their order, with one more that was sent, or was lost
 
@@ -259,48 +244,6 @@ pub found_at : (sent : List Packet) (j : ℕ) (packet : Packet) → slice_get se
     → slice_get sent ((j + 1) - 1) ≡ Some packet
 found_at sent j packet at =
     let same : (j + 1) - 1 ≡ j = omega arith in subst (λ (n : ℕ). slice_get sent n ≡ Some packet) (sym same) at
-
--- a packet that finds no memory
-
-abbrev pub nothing_moved : Output
-nothing_moved = record { reply = Reported (record { moves = []; refused = Some 0 }); packets = []; unsent = 0 }
-
-pub comes_to_nothing : {tests : Tests} → (core : PeerKept) (count : ℕ) (AreTold : Places → Type 0) (bytes : List ℕ)
-    → HasSubmessage bytes
-    → StepsAt tests core count AreTold (event.Deliver bytes) nothing_moved core AreTold
-comes_to_nothing {tests} core count AreTold bytes some config peer s counted told sound =
-    let delivery : Delivery = record { packet = bytes; report = record { moves = []; refused = Some 0 } } in
-    let after : Peer =
-    record { number = peer.number; part = peer.part; known = peer.known; delivered = delivery ∷ peer.delivered } in
-    let step : PeerStep config tests peer (event.Deliver bytes) nothing_moved after = record {
-      same_number = refl;
-      knows = tt;
-      step = (inr (record { moves = refl; after = refl; cause = inr (refl, some) }), refl);
-      sent = λ p claim c says. absurd (omega (arith, c.1));
-    } in
-    let stands : CoreStandsFor core config after = stands_again core config peer after refl refl refl s in
-    let known : IsSound config after =
-    unread_backed config peer.number peer.delivered bytes (state_of peer) (state_of peer) delivery.report
-    (record { moves = refl; after = refl; cause = inr (refl, some) }) refl sound in
-    let rules : CoreKeepsRules config peer (event.Deliver bytes) nothing_moved after =
-    record {
-      report = delivery.report;
-      reply = refl;
-      dues = [];
-      takes = inr (record { moves = refl; after = refl; cause = inr (refl, some) }, refl, refl);
-      sent = (refl, refl);
-    } in
-    let same : peer_at_end peer after ≡ after = ap (λ (p : Part). record after { part = p }) (end_same peer.part) in
-    let end =
-    subst (λ (p : Peer). CoreStandsFor core config p × (p.part.dds.watch.filters ≡ count)
-    × AreTold p.part.dds.listeners × IsSound config p) (sym same)
-    (stands, counted, told, known) in
-    (after, step, rules, end.0, end.1, end.2, end.3)
-
-pub set_same : {X : Type 0} (xs : List X) (i : ℕ) (x : X) → slice_get xs i ≡ Some x → xs ≡ set xs i x
-set_same [] i x at = refl
-set_same (y ∷ ys) zero x at = ap (λ z. z ∷ ys) (same_Some y x at)
-set_same (y ∷ ys) (suc i) x at = ap (λ zs. y ∷ zs) (set_same ys i x at)
 
 -- numbers that nobody has
 

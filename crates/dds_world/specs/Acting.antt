@@ -78,12 +78,6 @@ pub record Acts {hearing : Hearing} (tests : AllTests) (old : WorldKept hearing)
   pub counts : Counts old acts.output new
   pub quiet : IsQuiet old acts.output new
 
--- these octets are those of the packet of this index
-pub record IsCopy (sent : List Packet) (index : ℕ) (bytes : List ℕ) : Type 0 where
-  pub packet : Packet
-  pub at : slice_get sent index ≡ Some packet
-  pub same : bytes ≡ packet.bytes
-
 -- the first peers of a configuration, at their opening, without filters; where there is one, the configuration is taken
 pub record OpensFirst {F L : Type 0} (notices : L → List Notice) (capacity : L → ℕ) (becomes : L → Notice → L → Type 0)
     (config : Config) (count : ℕ) (kept : List (CoreKept F L)) : Type 0 where

@@ -2,7 +2,7 @@
 //!
 //! It is this project's own; its peers behave by RTPS 2.5, 8.4, and answer by DDS 1.4, 2.2.2.4 and 2.2.2.5.
 
-ghost use Rattle.std.specs.Prelude.{◌≡◌, ℕ, ◌&&◌, ◌+◌, ◌-◌, ◌^◌, ◌<◌, ◌≤◌, false, nat_lt, nat_le, IfOk, IfErr, OnErr, MatchOption, length, slice_get, None, Some, [], vec_len, vec_capacity};
+ghost use Rattle.std.specs.Prelude.{◌≡◌, ℕ, ◌&&◌, ◌+◌, ◌-◌, ◌^◌, ◌<◌, ◌≤◌, false, nat_lt, nat_le, IfOk, IfErr, OnErr, MatchOption, length, slice_get, None, [], vec_len, vec_capacity};
 ghost use Rattle.std.specs.Option.{option_copied};
 ghost use Rattle.dds_base.specs.Checked.{check_refusal};
 ghost use Rattle.dds_base.specs.declared.config.Config.{Config as ConfigOf};
@@ -20,17 +20,17 @@ ghost use Rattle.dds_core.specs.Opening.{opening_peer};
 ghost use Rattle.dds_core.specs.Listening.{StandsFor as CoreStandsFor, no_listeners};
 ghost use Rattle.dds_world.specs.WorldStanding.{traffic, KeepsRules, RunsByRules, StandsFor};
 ghost use Rattle.dds_world.specs.Posting.{Posts};
-ghost use Rattle.dds_world.specs.Acting.{Counts, IsCopy, IsQuiet, OpensFirst};
+ghost use Rattle.dds_world.specs.Acting.{Counts, IsQuiet, OpensFirst};
 ghost use Rattle.dds_world.specs.Holding.{Adds, RefusesFilter, RefusesListener, Sets, MachineStandsFor, filters_of, kept_of, none_given, tests_in};
 ghost use Rattle.dds_world.specs.HeldSteps.{ActsIn, IsOfPeer, StepsIn};
 
-use dds_base::{Code, Config, Entity, Octets, Sequence, Sn, index_of};
+use dds_base::{Code, Config, Entity, Sequence, Sn, index_of};
 use dds_conditions::Filter;
 use dds_core::Core;
-use dds_machine::{Endpoint, Reply, Report, WorldEvent};
+use dds_machine::{Endpoint, Reply, WorldEvent};
 use dds_notices::{Listener, StatusMask};
 use dds_protocol::{Event, Output, Packet};
-use std::alloc::{AllocError, Global};
+use std::alloc::Global;
 use std::marker::Model;
 
 /// Peers, which are numbered from 1, and all packets that they ever sent. Their filters and their listeners are boxes,
@@ -339,37 +339,15 @@ impl<F: Filter, L: Listener> World<F, L> {
         }
     }
 
-    /// Delivers the packet of this index to the peer of this index. A packet for whose bytes there is no memory moves
-    /// nothing, as one whose first submessage finds none.
+    /// Delivers the packet of this index to the peer of this index, which reads it where it is kept.
     fn deliver_at(&mut self, index: usize, sent: usize) -> Reply
         requires within { index < length self.old.cores }
         requires sent { sent < length self.old.sent }
         ensures { StepsIn F.meaning L.notices L.capacity L.becomes self.old
             (event.Deliver (index + 1) (sent + 1)) result self.new }
     {
-        match self.copied(sent) {
-            Ok(bytes) => self.happen_at(index, Event::Deliver(bytes)),
-            Err(_) => Reply::Reported(self.unmoved()),
-        }
-    }
-
-    /// The bytes of the packet of this index, once more.
-    fn copied(&self, index: usize) -> Result<Octets, AllocError>
-        requires { index < length self.now.sent }
-        ensures { IfOk result (IsCopy self.now.sent index) }
-    {
-        let bytes = Vec::from_slice(self.alloc, self.sent[index].bytes.as_slice())?;
-        Ok(Octets::from_vec(bytes))
-    }
-
-    /// The report of a packet that found no memory.
-    fn unmoved(&self) -> Report
-        ensures { result ≡ record { moves = []; refused = Some 0 } }
-    {
-        Report {
-            moves: Sequence::from_vec(Vec::new(self.alloc)),
-            refused: Some(0),
-        }
+        let output = self.peers[index].deliver(self.sent[sent].bytes.as_slice());
+        self.posted(output)
     }
 
     /// One event of the peer of this index. Sends what the peer gives back, and gives its answer.

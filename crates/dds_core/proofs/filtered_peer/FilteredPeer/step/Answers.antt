@@ -2,6 +2,7 @@ use Rattle.std.proofs.Common.{subst}
 use Rattle.dds_conditions.specs.Filtered.{tests_of}
 use Rattle.dds_core.specs.Filtering.{FilteredKept}
 use Rattle.dds_core.specs.FilteredSteps.{Steps}
+use Rattle.dds_core.specs.Lending.{event_of}
 use Rattle.dds_core.proofs.Filtering.{steps}
 use Rattle.dds_core.proofs.filtered_peer.FilteredPeer.step.Goals as goal
 
@@ -10,6 +11,6 @@ returns-clause-step g c =
     let inside = c.self.inside in
     let kept : FilteredKept g.row.F.Denot = record { peer = inside.peer; filters = inside.filters } in
     subst (λ (k : FilteredKept g.row.F.Denot). Steps
-    (tests_of g.F.Filter.meaning k.filters) k c.args.event c.step_by.result
+    (tests_of g.F.Filter.meaning k.filters) k (event_of c.args.event) c.step_by.result
     (record { peer = c.step_by.new.self; filters = inside.filters }))
-    c.self.view_is (steps _ kept c.args.event c.step_by.result c.step_by.new.self c.step_by.ensures.step)
+    c.self.view_is (steps _ kept (event_of c.args.event) c.step_by.result c.step_by.new.self c.step_by.ensures.step)

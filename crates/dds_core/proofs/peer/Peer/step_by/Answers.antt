@@ -1,5 +1,6 @@
 use Rattle.std.proofs.Common.{sym, subst}
-use Rattle.dds_protocol.specs.declared.event.Event.{Event}
+use Rattle.dds_core.specs.declared.lent_event.LentEvent.{LentEvent}
+use Rattle.dds_core.specs.Lending.{event_of}
 use Rattle.dds_core.specs.Stepping.{SoundStepsBy}
 use Rattle.dds_core.proofs.AnyTests.{any_delivery, any_tick}
 use Rattle.dds_core.proofs.Taking.{sound_call, sound_tick}
@@ -7,19 +8,19 @@ use Rattle.dds_core.proofs.peer.Peer.step_by.Goals as goal
 
 pub returns-in-Call-clause-step : goal.returns-in-Call-clause-step
 returns-in-Call-clause-step g c =
-    subst (λ (x : Event). SoundStepsBy
-    (g.T.Filters.meaning c.args.filters.now) c.args.self.now x c.call.result c.call.new.self) (sym c.in-Call.is)
+    subst (λ (x : LentEvent). SoundStepsBy
+    (g.T.Filters.meaning c.args.filters.now) c.args.self.now (event_of x) c.call.result c.call.new.self) (sym c.in-Call.is)
     (sound_call c.args.self.now c.call.new.self c.in-Call.call c.call.result c.call.ensures.step)
 
 pub returns-in-Tick-clause-step : goal.returns-in-Tick-clause-step
 returns-in-Tick-clause-step g c =
-    subst (λ (x : Event). SoundStepsBy
-    (g.T.Filters.meaning c.args.filters.now) c.args.self.now x c.tick.result c.tick.new.self) (sym c.in-Tick.is)
+    subst (λ (x : LentEvent). SoundStepsBy
+    (g.T.Filters.meaning c.args.filters.now) c.args.self.now (event_of x) c.tick.result c.tick.new.self) (sym c.in-Tick.is)
     (any_tick _ _ _ _ _ (sound_tick c.args.self.now c.tick.new.self c.in-Tick.now c.tick.result c.tick.ensures.step))
 
 pub returns-in-Deliver-clause-step : goal.returns-in-Deliver-clause-step
 returns-in-Deliver-clause-step g c =
-    subst (λ (x : Event). SoundStepsBy
-    (g.T.Filters.meaning c.args.filters.now) c.args.self.now x c.deliver.result c.deliver.new.self)
+    subst (λ (x : LentEvent). SoundStepsBy
+    (g.T.Filters.meaning c.args.filters.now) c.args.self.now (event_of x) c.deliver.result c.deliver.new.self)
     (sym c.in-Deliver.is)
     (any_delivery _ _ _ _ _ c.deliver.ensures.step)

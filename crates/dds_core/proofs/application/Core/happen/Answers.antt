@@ -2,11 +2,12 @@ use Rattle.std.proofs.Common.{◌≡◌, ◌∙◌, ap, false, sym, subst}
 use Rattle.dds_notices.specs.Listeners.{is_any}
 use Rattle.dds_conditions.specs.Filtered.{tests_of}
 use Rattle.dds_core.specs.declared.application.Core.TheInside.{Inside}
+use Rattle.dds_core.specs.Lending.{event_of}
 use Rattle.dds_core.specs.Listening.{CoreKept, Steps}
 use Rattle.dds_core.specs.Noticing.{MarksPeer}
 use Rattle.dds_core.proofs.Ended.{steps_told, steps_untold}
-use Rattle.dds_core.proofs.application.Core.step_with.Goals as goal
-use Rattle.dds_core.proofs.application.Core.step_with.Goals.{then-is_told, else-is_told}
+use Rattle.dds_core.proofs.application.Core.happen.Goals as goal
+use Rattle.dds_core.proofs.application.Core.happen.Goals.{then-is_told, else-is_told}
 
 -- what a core stands for, of what it has
 abbrev kept_of : {F L : Type 0} → Inside F L → CoreKept F L
@@ -25,11 +26,11 @@ returns-then-is_told-2-clause-step g c =
       | else-is_told w ↦ let not = w.if-is_told.false in let is = c.if-is_told-2.true in absurd cc
     ] in
     subst (λ (k : CoreKept g.row.F.Denot g.row.L.Denot). Steps g.L.Listener.notices g.L.Listener.capacity g.L.Listener.becomes
-    (tests_of g.F.Filter.meaning k.filtered.filters) k c.args.event c.step-output.result
+    (tests_of g.F.Filter.meaning k.filtered.filters) k (event_of c.args.event) c.step-output.result
     (record { filtered = c.end.new.self; listeners = c.end.new.slots }))
     same
     (steps_told g.L.Listener.notices g.L.Listener.capacity g.L.Listener.becomes
-    (tests_of g.F.Filter.meaning now.filtered.filters) (kept_of now) c.args.event c.step-output.result
+    (tests_of g.F.Filter.meaning now.filtered.filters) (kept_of now) (event_of c.args.event) c.step-output.result
     c.step-output.new.self c.end.new.self c.end.new.slots now.marks
     c.step-output.ensures.step marks c.end.ensures.told c.end.ensures.filters)
 
@@ -46,9 +47,9 @@ returns-else-is_told-2-clause-step g c =
           (sym w.self-inside-is) (sym c.if-is_told-2.ensures.listeners)
     ] in
     subst (λ (k : CoreKept g.row.F.Denot g.row.L.Denot). Steps g.L.Listener.notices g.L.Listener.capacity g.L.Listener.becomes
-    (tests_of g.F.Filter.meaning k.filtered.filters) k c.args.event c.step-output.result
+    (tests_of g.F.Filter.meaning k.filtered.filters) k (event_of c.args.event) c.step-output.result
     (record { filtered = c.step-output.new.self; listeners = now.listeners }))
     same
     (steps_untold g.L.Listener.notices g.L.Listener.capacity g.L.Listener.becomes
-    (tests_of g.F.Filter.meaning now.filtered.filters) (kept_of now) c.args.event c.step-output.result
+    (tests_of g.F.Filter.meaning now.filtered.filters) (kept_of now) (event_of c.args.event) c.step-output.result
     c.step-output.new.self c.step-output.ensures.step untold)
