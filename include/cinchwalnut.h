@@ -158,7 +158,7 @@ uint8_t cw_open_text(cw_peer *peer, const uint8_t *text, size_t text_len, uint8_
 void cw_close(cw_peer *peer);
 
 /* Events. Each makes the last answer anew: its packets, its samples, its values and its text. Where there was none, for
- * want of memory for a copy of its octets, or of an open peer, or as a line names none, the answer before stays.
+ * want of memory for a copy of its value, or of an open peer, or as a line names none, the answer before stays.
  *
  * A datagram comes, whatever its octets are; the time goes on, in units of 2^-32 second. */
 uint8_t cw_deliver(cw_peer *peer, const uint8_t *datagram, size_t datagram_len);

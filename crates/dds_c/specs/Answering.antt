@@ -38,7 +38,7 @@ abbrev pub Happens : Option Session → Event → ℕ → Option Session → Typ
 Happens None event code new = (code ≡ 4) × (new ≡ None)
 Happens (Some old) event code new = IsSomeAnd new (Answered old event code)
 
--- the same of an event whose octets are copied before: where there is no memory for that, it is refused, and nothing
+-- the same of an event whose value is copied before: where there is no memory for that, it is refused, and nothing
 -- changes
 abbrev pub HappensCopied : Option Session → Event → ℕ → Option Session → Type 0
 HappensCopied old event code new = Happens old event code new ⊎ ((code ≡ 100) × (new ≡ old))

@@ -2,17 +2,29 @@
 //!
 //! RTPS 2.5, 8.3.4 (the message receiver). The interface for C is this project's own.
 
+ghost use Rattle.std.specs.Prelude.{◌≡◌, None, Some};
 ghost use Rattle.dds_protocol.specs.declared.event.Event.TheVariants.{Deliver, Tick};
-ghost use Rattle.dds_c.specs.Answering.{Happens, HappensCopied};
+ghost use Rattle.dds_c.specs.Answering.{Happens, code_number};
 
 use crate::peer::Peer;
-use crate::session::code_of;
-use dds_base::{Code, Moment, Octets};
+use crate::session::{Session, code_of};
+use dds_base::{Code, Moment};
 use dds_protocol::Event;
 use std::alloc::Global;
 
 /// What an export answers where no peer is open.
 pub(crate) const NOT_OPEN: Code = Code::PreconditionNotMet;
+
+/// Puts a session back in, once it has had an event. Answers 0, or the code with which that was refused.
+fn put_back(peer: &mut Peer, session: Box<Session>) -> u8
+    requires { peer.old.held.session ≡ None }
+    ensures session { peer.new.held.session ≡ Some session.value }
+    ensures code { result ≡ code_number session.value.last.reply }
+{
+    let code = code_of(&session.last.reply);
+    peer.put(session);
+    code
+}
 
 /// An event at a peer. Answers 0, or the code with which it was refused.
 pub(crate) fn step(alloc: Global, peer: &mut Peer, event: Event) -> u8
@@ -22,29 +34,26 @@ pub(crate) fn step(alloc: Global, peer: &mut Peer, event: Event) -> u8
         return NOT_OPEN.number();
     };
     session.step(event);
-    let code = code_of(&session.last.reply);
-    peer.put(session);
-    code
+    put_back(peer, session)
 }
 
-/// A datagram comes, whatever its octets are; the answer is a report.
+/// A datagram comes, whatever its octets are; the answer is a report. It is read where it stands.
 ///
 /// # Errors
 ///
-/// PRECONDITION_NOT_MET where no peer is open, MEMORY where there is none for the copy of the datagram; then nothing
-/// changes.
+/// PRECONDITION_NOT_MET where no peer is open.
 ///
 /// RTPS 2.5, 8.3.4 (the message receiver).
 #[unsafe(no_mangle)]
 pub extern "C" fn cw_deliver(alloc: Global, peer: &mut Peer, datagram: &[u8]) -> u8
-    // It is one step of the peer, or nothing changes.
-    ensures step { HappensCopied peer.old.held.session
-        (Deliver datagram.now) result peer.new.held.session }
+    // It is one step of the peer.
+    ensures step { Happens peer.old.held.session (Deliver datagram.now) result peer.new.held.session }
 {
-    let Ok(datagram) = Vec::from_slice(alloc, datagram) else {
-        return Code::Memory.number();
+    let Some(mut session) = peer.take(alloc) else {
+        return NOT_OPEN.number();
     };
-    step(alloc, peer, Event::Deliver(Octets::from_vec(datagram)))
+    session.deliver(datagram);
+    put_back(peer, session)
 }
 
 /// The time goes on to this moment, in units of 2^-32 second.

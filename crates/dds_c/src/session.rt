@@ -8,6 +8,7 @@ ghost use Rattle.dds_core.specs.Listening.{Steps};
 ghost use Rattle.dds_core.specs.Opening.{core_refusal};
 ghost use Rattle.dds_core.specs.Sending.{AreMessages, Sends};
 ghost use Rattle.dds_conditions.specs.Filtered.{tests_of};
+ghost use Rattle.dds_protocol.specs.declared.event.Event.TheVariants as event;
 ghost use Rattle.dds_c.specs.Answering.{code_number, refusing_number};
 ghost use Rattle.dds_c.specs.Meaning.{prefix_meaning, recorder_notices, recorder_capacity, recorder_becomes};
 ghost use Rattle.dds_c.specs.Opening.{IsOpening};
@@ -86,5 +87,16 @@ impl Session {
         ensures told { self.new.told ≡ self.old.told }
     {
         self.last = self.core.step(event);
+    }
+
+    /// A datagram comes at the peer.
+    pub fn deliver(&mut self, datagram: &[u8])
+        ensures step { Steps recorder_notices recorder_capacity recorder_becomes
+            (tests_of prefix_meaning self.old.core.filtered.filters)
+            self.old.core (event.Deliver datagram.now) self.new.last self.new.core }
+        ensures messages { AreMessages self.new.last.packets }
+        ensures told { self.new.told ≡ self.old.told }
+    {
+        self.last = self.core.deliver(datagram);
     }
 }
