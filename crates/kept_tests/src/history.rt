@@ -26,9 +26,9 @@ fn append_all(alloc: Global, history: &mut History, count: u32) -> u32 {
     refused
 }
 
-/// How many of ten, and of a thousand more.
-pub fn refused(alloc: Global) -> (u32, u32) {
-    match opened(alloc) {
+/// How many of ten, and of a thousand more, where so many readers acknowledge nothing.
+pub fn refused(alloc: Global, readers: usize) -> (u32, u32) {
+    match opened(alloc, readers) {
         Some(history) => {
             let mut history = history;
             let first = append_all(alloc, &mut history, 10);
@@ -38,10 +38,10 @@ pub fn refused(alloc: Global) -> (u32, u32) {
     }
 }
 
-/// A history without readers that acknowledge; at the second try, where memory was refused.
-fn opened(alloc: Global) -> Option<History> {
-    match History::open(alloc, HistoryQos::KeepLast(1), None, 0) {
+/// A history of so many readers; at the second try, where memory was refused.
+fn opened(alloc: Global, readers: usize) -> Option<History> {
+    match History::open(alloc, HistoryQos::KeepLast(1), None, readers) {
         Ok(history) => Some(history),
-        Err(_) => History::open(alloc, HistoryQos::KeepLast(1), None, 0).ok(),
+        Err(_) => History::open(alloc, HistoryQos::KeepLast(1), None, readers).ok(),
     }
 }

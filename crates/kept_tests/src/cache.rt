@@ -4,8 +4,8 @@ ghost use Rattle.std.specs.Prelude.{◌≡◌, ◌≤◌, length, IfOk};
 ghost use Rattle.dds_cache.specs.Standing.{qos_of};
 
 use dds_base::{
-    Arrival, Change, ChangeKind, EntityId, Guid, GuidPrefix, Handle, HistoryQos, Key, MatchedWriter,
-    Moment, Octets, OwnershipQos, ReaderQos, ReliabilityQos, Sequence, Sn,
+    Arrival, Change, ChangeKind, EntityId, Guid, GuidPrefix, Handle, HistoryQos, Key,
+    MatchedWriter, Moment, Octets, OwnershipQos, ReaderQos, ReliabilityQos, Sequence, Sn,
 };
 use dds_cache::ReaderCache;
 use std::alloc::{AllocError, Global};
