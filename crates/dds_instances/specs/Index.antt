@@ -2,13 +2,11 @@
 -- nothing here has to be believed.
 --
 -- The index and its room are this project's own.
-use Rattle.std.specs.Prelude.{◌≡◌, List, false}
+use Rattle.std.specs.Prelude.{◌≡◌, List, Option, IfSome, false}
 use Rattle.std.specs.List.{list_any}
 use Rattle.indexmap.specs.IndexSet.{spare}
 use Rattle.dds_base.specs.declared.key.Key.{Key}
 use Rattle.dds_base.specs.Happening.{same_key}
-use Rattle.dds_instances.specs.declared.place.Latest.{Latest}
-use Rattle.dds_instances.specs.declared.place.Latest.TheVariants.{At, Absent}
 use Rattle.dds_instances.specs.declared.place.KeyIndex.TheInside.{Inside}
 use Rattle.dds_instances.specs.Keys.{Keys}
 
@@ -17,10 +15,9 @@ abbrev pub keys_of : Inside → Keys
 keys_of a = record { keys = a.set.keys; room = spare a.set }
 
 -- a key that was not there when it was looked up last is none of these
-abbrev pub IsRight : List Key → Latest → Type 0
-IsRight keys (At place) = Unit {0}
-IsRight keys (Absent key) = list_any (same_key key) keys ≡ false
+abbrev pub IsAbsent : List Key → Option Key → Type 0
+IsAbsent keys absent = IfSome absent (λ (key : Key). list_any (same_key key) keys ≡ false)
 
--- what is remembered is right
+-- what is remembered as absent is
 abbrev pub Remembers : Inside → Type 0
-Remembers a = IsRight a.set.keys a.latest
+Remembers a = IsAbsent a.set.keys a.absent

@@ -207,7 +207,7 @@ impl Instances {
         // It stays as it was.
         ensures same { self.new ≡ self.old }
     {
-        let _ = self.index.expect(key);
+        self.index.expect(key);
     }
 
     /// Notes that nothing is held of any instance.

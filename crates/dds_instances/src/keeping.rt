@@ -172,7 +172,8 @@ pub fn take_up(
         → All (IsForNextLife qos.now h handle) blanks.old.items
         → TakeUp qos.now h arrival.now tracks.new.items result }
 {
-    if let Some(at) = index.expect(arrival.change.key) {
+    if let Some(at) = find(index, arrival.change.key) {
+        index.expect_at(at);
         change_known(tracks, at, qos, strengths, arrival, position);
         return false;
     }

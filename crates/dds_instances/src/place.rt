@@ -13,20 +13,14 @@ use indexmap::IndexSet;
 use std::alloc::{AllocError, Global};
 use std::marker::Model;
 
-/// What was found when a key was looked up last, by which the next one is compared before it is hashed.
-#[derive(Clone, Copy)]
-enum Latest {
-    /// Its instance stood at this place.
-    At(usize),
-    /// This key was that of no instance.
-    Absent(Key),
-}
-
 /// The keys of known instances, each at the place of its instance.
 #[derive(Drop)]
 pub struct KeyIndex {
     set: IndexSet<Key>,
-    latest: Latest,
+    /// The place of the instance that was expected last: its key is compared before a key is hashed.
+    latest: usize,
+    /// The key of no instance that was expected last, if there is one: it is compared then.
+    absent: Option<Key>,
 }
 
 impl Model for KeyIndex {
@@ -48,7 +42,8 @@ impl KeyIndex {
     {
         KeyIndex {
             set: IndexSet::new(alloc),
-            latest: Latest::At(0),
+            latest: 0,
+            absent: None,
         }
     }
 
@@ -61,18 +56,21 @@ impl KeyIndex {
         self.set.reserve(additional)
     }
 
-    /// The place of a key, if it is there; the next key that is looked up is most likely this one.
-    pub fn expect(&mut self, key: Key) -> Option<usize>
-        ensures found { MatchOption result (list_any (same_key key) self.old.keys
-            ≡ false) (IsPlaceOf self.old.keys key) }
+    /// The next key that is looked up is most likely the one at this place.
+    pub fn expect_at(&mut self, place: usize)
         ensures same { self.new ≡ self.old }
     {
-        let found = find(self, key);
-        self.latest = match found {
-            Some(place) => Latest::At(place),
-            None => Latest::Absent(key),
-        };
-        found
+        self.latest = place;
+    }
+
+    /// The next key that is looked up is most likely this one, be it there or not.
+    pub fn expect(&mut self, key: Key)
+        ensures same { self.new ≡ self.old }
+    {
+        match find(self, key) {
+            Some(place) => self.latest = place,
+            None => self.absent = Some(key),
+        }
     }
 
     /// Puts a key last, in the room that there is.
@@ -82,7 +80,8 @@ impl KeyIndex {
         ensures keys { self.new.keys ≡ self.old.keys ++ key ∷ [] }
         ensures room { self.old.room ≤ self.new.room + 1 }
     {
-        self.latest = Latest::At(self.set.len());
+        self.latest = self.set.len();
+        self.absent = None;
         self.set.insert(key).unwrap();
     }
 
@@ -92,7 +91,7 @@ impl KeyIndex {
         ensures room { self.old.room ≤ self.new.room }
     {
         self.set.retain(|other| *other != key);
-        self.latest = Latest::Absent(key);
+        self.absent = Some(key);
     }
 
     /// Forgets all keys.
@@ -122,23 +121,27 @@ fn is_at(set: &IndexSet<Key>, place: usize, key: Key) -> bool
     }
 }
 
+/// Whether this key is that one, if there is one.
+fn is_that(absent: &Option<Key>, key: Key) -> bool
+    ensures { result ≡ true → absent.now ≡ Some key }
+{
+    match absent {
+        Some(absent) => *absent == key,
+        None => false,
+    }
+}
+
 /// The place of a key, if it is there.
 pub fn find(index: &KeyIndex, key: Key) -> Option<usize>
     ensures { MatchOption result (list_any (same_key key) index.now.keys
         ≡ false) (IsPlaceOf index.now.keys key) }
 {
     let _ = index.set.len(); // its contract says that no two keys are one
-    match index.latest {
-        Latest::At(place) => {
-            if is_at(&index.set, place, key) {
-                return Some(place);
-            }
-        }
-        Latest::Absent(absent) => {
-            if absent == key {
-                return None;
-            }
-        }
+    if is_at(&index.set, index.latest, key) {
+        return Some(index.latest);
+    }
+    if is_that(&index.absent, key) {
+        return None;
     }
     index.set.get_index_of(&key)
 }
@@ -154,6 +157,7 @@ pub fn put_last(index: &mut KeyIndex, tracks: &mut Vec<InstanceTrack>, track: In
     ensures len { vec_len tracks.new ≡ vec_len tracks.old + 1 }
     ensures capacity { vec_capacity tracks.old ≤ vec_capacity tracks.new }
 {
-    index.push(track.key);
+    let key = track.key;
     tracks.push_reserved(track);
+    index.push(key);
 }

@@ -14,7 +14,7 @@ pub returns-then-not-is_write_or_dispose-clause-follows :
 returns-then-not-is_write_or_dispose-clause-follows c = λ h may lives.
     let absent : list_any (same_key c.args.arrival.now.change.key) (map key_of c.args.tracks.now.items) ≡ false =
     ap (λ (ks : List Key). list_any (same_key c.args.arrival.now.change.key) ks) (sym c.requires.indexed)
-    ∙ c.in_default.ensures.found in
+    ∙ c.in_default.ensures in
     reaches-nothing c.args.qos.now h c.args.arrival.now c.args.tracks.now.items absent
     (sym c.is_write_or_dispose.ensures.kind ∙ c.if-not-is_write_or_dispose.true) may.before.follows
 

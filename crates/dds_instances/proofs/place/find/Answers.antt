@@ -15,8 +15,8 @@ place ks i (Some at) distinct is there = place-of ks i at distinct (sym is)
 
 pub returns-then-is_at : goal.returns-then-is_at
 returns-then-is_at c =
-    subst (λ (t : Keys). IsPlaceOf t.keys c.args.key c.in-At.place) c.index.view_is
-    (place-got c.index.inside.set.keys c.args.key c.in-At.place c.len.ensures.unique (c.is_at.ensures c.if-is_at.true))
+    subst (λ (t : Keys). IsPlaceOf t.keys c.args.key c.index.inside.latest) c.index.view_is
+    (place-got c.index.inside.set.keys c.args.key c.index.inside.latest c.len.ensures.unique (c.is_at.ensures c.if-is_at.true))
 
 pub returns : goal.returns
 returns c =
