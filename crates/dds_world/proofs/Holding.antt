@@ -23,7 +23,7 @@ use Rattle.dds_machine.specs.declared.event.WorldEvent.TheVariants as world
 use Rattle.dds_protocol.specs.declared.event.Output.{Output}
 use Rattle.dds_protocol.specs.declared.event.Packet.{Packet}
 use Rattle.dds_machine.specs.declared.reply.Reply.{Reply}
-use Rattle.dds_machine.specs.declared.reply.Reply.TheVariants.{Refused, Reported}
+use Rattle.dds_machine.specs.declared.reply.Reply.TheVariants.{Refused}
 use Rattle.dds_machine.specs.Filters.{machine_with_filter, part_with_filter}
 use Rattle.dds_machine.specs.Noticing.{machine_with_place, part_with_place}
 use Rattle.dds_machine.specs.Numbered.{with_numbered}

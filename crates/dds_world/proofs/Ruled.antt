@@ -1,8 +1,7 @@
 -- A network whose peers keep the rules of the protocol.
-use Rattle.std.proofs.Common.{◌≡◌, ap, ℕ, suc, ◌+◌, ◌-◌, ◌<◌, List, [], Some, length, get_or, slice_get, subst, sym, ◌∙◌, refl, arith}
+use Rattle.std.proofs.Common.{◌≡◌, ap, ℕ, suc, ◌+◌, ◌-◌, List, [], Some, length, get_or, slice_get, subst, sym, ◌∙◌, refl, arith}
 use Rattle.dds_base.specs.declared.config.Config.{Config}
 use Rattle.dds_base.specs.Written.{Registered, Changed, Asserted, LookedAt, StrengthSet, Ticked}
-use Rattle.rtps_wire.specs.Messages.{HasSubmessage}
 use Rattle.dds_machine.specs.declared.call.Call.{Call}
 use Rattle.dds_protocol.specs.declared.event.Event.TheVariants as event
 use Rattle.dds_protocol.specs.declared.event.Output.{Output}
@@ -19,10 +18,9 @@ use Rattle.dds_protocol.specs.DueMessages.{Due, AreSent, heartbeats_due}
 use Rattle.dds_protocol.specs.Protocol.{State, TakesPacket}
 use Rattle.dds_protocol.specs.Rules.{AreDue, announcements_due, CountedStep, traffic_of}
 use Rattle.dds_protocol.specs.World.{WorldState, machine_of, peer_at}
-use Rattle.dds_protocol.proofs.Composed.{contains_at, composes}
+use Rattle.dds_protocol.proofs.Composed.{composes}
 use Rattle.dds_core.specs.Sending.{SendsFor, due_at_tick}
 use Rattle.dds_core.proofs.CallSteps.{number_is}
-use Rattle.dds_core.proofs.Lists.{element}
 use Rattle.dds_protocol.specs.Noticing.{world_ended}
 use Rattle.dds_protocol.specs.Traffic.{Traffic, Sends}
 use Rattle.dds_protocol.proofs.EndsBeside.{machine_ends}

@@ -1,5 +1,5 @@
 -- What a network sends at an event.
-use Rattle.std.proofs.Common.{◌≡◌, ℕ, suc, ◌+◌, List, Some, inl, inr, length, get_or, slice_get, subst, sym, ◌∙◌, refl, arith}
+use Rattle.std.proofs.Common.{◌≡◌, ℕ, suc, ◌+◌, List, Some, length, get_or, slice_get, subst, sym, ◌∙◌, refl, arith}
 use Rattle.dds_base.specs.declared.change.Change.{Change}
 use Rattle.dds_base.specs.declared.config.Config.{Config}
 use Rattle.dds_base.specs.Written.{Registered, Changed, Asserted, LookedAt, StrengthSet, Ticked}
@@ -13,7 +13,7 @@ use Rattle.dds_machine.specs.declared.reply.Reply.{Reply}
 use Rattle.dds_machine.specs.declared.reply.Report.{Report}
 use Rattle.dds_machine.specs.declared.reply.Reply.TheVariants.{Done, Refused, Reported}
 use Rattle.dds_base.specs.declared.code.Code.TheVariants.{BadParameter}
-use Rattle.dds_machine.specs.Part.{Part, ReaderProxy, own_writer, writer_changes, peers_of}
+use Rattle.dds_machine.specs.Part.{Part, own_writer, writer_changes, peers_of}
 use Rattle.dds_machine.specs.Calls.{Effect, nothing, writes, effect_of}
 use Rattle.dds_machine.specs.Machine.{AllTests, part_at}
 use Rattle.dds_protocol.specs.Peer.{Peer, no_peer}

@@ -1,35 +1,29 @@
 -- The steps of a network.
-use Rattle.std.proofs.Common.{◌≡◌, ◌≢◌, ◌⊎◌, ℕ, zero, suc, ◌+◌, ◌-◌, ◌^◌, ◌<◌, ◌≤◌, min, Bool, true, false, List, [], ◌∷◌, ◌++◌, Some, length, set, get_or, slice_get, subst, ap, sym, ◌∙◌, refl, inl, inr, ⊎_elim, arith, append_assoc, length-append, get_or-set_same}
+use Rattle.std.proofs.Common.{◌≡◌, ◌≢◌, ◌⊎◌, ℕ, zero, suc, ◌+◌, ◌-◌, ◌^◌, ◌<◌, ◌≤◌, min, Bool, true, false, List, [], ◌∷◌, ◌++◌, Some, length, get_or, slice_get, subst, ap, sym, ◌∙◌, refl, inl, inr, ⊎_elim, arith, append_assoc, length-append, get_or-set_same}
 use Rattle.std.specs.Prelude.{if◌then◌else◌, ◌&&◌, nat_lt, nat_le, Contains, AllPairs}
 use Rattle.std.specs.List.{All}
 use Rattle.std.proofs.lemmas.Bool.Decides.{nat_tests}
 use Rattle.std.proofs.lemmas.List.{get_or_append_left, get_or_at}
 use Rattle.std.proofs.lemmas.List.Elements.{All-push, Contains-append_left, Contains-append_right, Contains-append_cases}
 use Rattle.std.proofs.lemmas.List.Kept.{AllPairs-cons}
-use Rattle.std.proofs.lemmas.Option.{same_Some}
 use Rattle.dds_base.specs.declared.code.Code.TheVariants.{BadParameter}
 use Rattle.dds_base.specs.declared.config.Config.{Config}
-use Rattle.dds_notices.specs.Listeners.{Places}
 use Rattle.dds_protocol.specs.Bounds.{IsBounded}
 use Rattle.dds_protocol.specs.Fresh.{HasUsedCounts}
 use Rattle.dds_machine.specs.Noticing.{peer_of}
 use Rattle.dds_protocol.specs.Noticing.{peer_at_end, world_ended}
-use Rattle.dds_machine.specs.Part.{Part}
-use Rattle.dds_protocol.proofs.AtEnds.{end_same}
 use Rattle.dds_protocol.proofs.EndsBeside.{ended_same, ended_sound, ended_used, world_bounded}
 use Rattle.dds_machine.specs.declared.call.Call.{Call}
 use Rattle.dds_protocol.specs.declared.event.Event.{Event}
 use Rattle.dds_protocol.specs.declared.event.Event.TheVariants as event
-use Rattle.dds_protocol.specs.declared.event.Output.{Output}
 use Rattle.dds_protocol.specs.declared.event.Packet.{Packet}
 use Rattle.dds_machine.specs.declared.event.WorldEvent.{WorldEvent}
 use Rattle.dds_machine.specs.declared.event.WorldEvent.TheVariants as world
 use Rattle.dds_machine.specs.declared.reply.Reply.{Reply}
-use Rattle.dds_machine.specs.declared.reply.Reply.TheVariants.{Reported, Refused}
-use Rattle.dds_machine.specs.Watching.{Tests}
+use Rattle.dds_machine.specs.declared.reply.Reply.TheVariants.{Refused}
 use Rattle.dds_machine.specs.Machine.{AllTests, Step}
 use Rattle.dds_machine.specs.Numbered.{HasNumber}
-use Rattle.dds_protocol.specs.Peer.{Peer, Delivery, PeerStep, no_peer, state_of}
+use Rattle.dds_protocol.specs.Peer.{Peer, no_peer}
 use Rattle.dds_machine.specs.Calls.{Effect}
 use Rattle.dds_protocol.specs.DueMessages.{Due, AreSent}
 use Rattle.dds_protocol.specs.Rules.{RuledStep, AreDue, announcements_due}
@@ -38,15 +32,13 @@ use Rattle.dds_protocol.proofs.Bounded.{steps_bounded}
 use Rattle.dds_protocol.proofs.Composed.{composes}
 use Rattle.dds_protocol.proofs.FreshCounts.{steps_used}
 use Rattle.dds_machine.proofs.Tables.{append_nothing}
-use Rattle.dds_core.specs.Kept.{PeerKept}
 use Rattle.dds_core.specs.Standing.{StandsFor as CoreStandsFor}
-use Rattle.dds_core.specs.Ruling.{IsSound, KeepsRules as CoreKeepsRules}
+use Rattle.dds_core.specs.Ruling.{KeepsRules as CoreKeepsRules}
 use Rattle.dds_core.proofs.CallSteps.{refused_nothing}
 use Rattle.dds_core.proofs.Lists.{get-within}
-use Rattle.dds_core.proofs.Taking.{stands_again}
 use Rattle.dds_world.specs.WorldStanding.{Hearing, WorldKept, StandsFor}
 use Rattle.dds_world.specs.Posting.{ArePosted, Posts}
-use Rattle.dds_world.specs.Acting.{Acts, RuledSteps, StepsAt}
+use Rattle.dds_world.specs.Acting.{Acts, RuledSteps}
 use Rattle.dds_world.proofs.Posted.{lost_is, posted_on}
 use Rattle.dds_world.proofs.Replaced.{ended_at, peer_stands, same_at, with_peer}
 
