@@ -42,7 +42,7 @@ pub enum Move {
 pub struct Report {
     /// In the order in which they were made.
     pub moves: Sequence<Move>,
-    /// 0 also where the message could not be read for want of memory.
+    /// `None` where each was applied, and where the bytes are no message.
     pub refused: Option<u32>,
 }
 
