@@ -86,11 +86,13 @@ typedef struct cw_reader_config {
     bool keeps_last;
     bool has_lease;
     bool is_best_effort;   /* RELIABILITY: BEST_EFFORT, else RELIABLE */
+    bool has_max_arrivals; /* how many changes it takes in its life: max_arrivals, else 2^31 - 2 */
     uint32_t topic;
     uint32_t depth;
     int32_t max_samples;
     int32_t max_instances; /* RESOURCE_LIMITS: positive, or -1 for no limit */
     uint64_t lease;
+    uint64_t max_arrivals; /* from 1 to 2^63, where has_max_arrivals */
 } cw_reader_config;
 
 /* DDS 1.4, 2.2.2.5 (SampleInfo), with the key of the sample. */
@@ -214,7 +216,7 @@ uint8_t cw_notice(cw_peer *peer, size_t at, cw_notice_info *notice);
 
 /* Fetches of the last answer, which change nothing. Packets and samples count from 0; each is copied to the start of the
  * buffer, and *needed is how many octets it has. Where they don't fit, nothing is copied, the code is CW_OUT_OF_RESOURCES,
- * and *needed says how long the buffer has to be. */
+ * and *needed says how long the buffer has to be. With another code than these two and CW_OK nothing is written. */
 uint8_t cw_packet(cw_peer *peer, size_t at, uint8_t *to, uint8_t *buffer, size_t buffer_len, size_t *needed);
 uint8_t cw_sample(cw_peer *peer, size_t at, cw_sample_info *info, uint8_t *buffer, size_t buffer_len, size_t *needed);
 uint8_t cw_key(cw_peer *peer, uint8_t key[16]);                 /* of cw_get_key_value */

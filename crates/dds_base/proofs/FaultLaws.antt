@@ -18,7 +18,7 @@ use Rattle.dds_base.specs.declared.config_fault.ConfigPlace.{ConfigPlace}
 use Rattle.dds_base.specs.declared.config_fault.ConfigPlace.TheVariants.{Whole, Peer, Writer, Reader}
 use Rattle.dds_base.specs.declared.config_fault.ConfigFault.{ConfigFault}
 use Rattle.dds_base.specs.Matched.{matched_writers_of}
-use Rattle.dds_base.specs.Checked.{same_prefix, unknown_prefix, has_kind, prefix_count, entity_count, has_no_depth, is_maximum, is_bad_lease, is_bad_writer, is_bad_reader, is_bad_peer, has_bad_parameter, exceeds_limit, differ, is_longer, are_incompatible, is_inconsistent_peer, has_inconsistent_policy, check_refusal}
+use Rattle.dds_base.specs.Checked.{same_prefix, unknown_prefix, has_kind, prefix_count, entity_count, has_no_depth, is_maximum, is_bad_life, is_bad_lease, is_bad_writer, is_bad_reader, is_bad_peer, has_bad_parameter, exceeds_limit, differ, is_longer, are_incompatible, is_inconsistent_peer, has_inconsistent_policy, check_refusal}
 use Rattle.dds_base.specs.Faults.{code_of_rule, breaks_as_peer, breaks_as_writer, breaks_as_reader, passes_at, breaks_at, Breaks}
 use Rattle.dds_base.specs.FaultAt.{first_broken, writer_rules, reader_rules, peer_rules, whole_rules, fault_at, first_at, writer_fault, reader_fault, writers_fault, readers_fault, peer_fault, pass_fault, config_fault}
 use Rattle.dds_base.specs.Life.{or_else}
@@ -95,7 +95,8 @@ bad_reader peers p peer n r =
     some_reader Parameters peers p peer n r
     ∙ ap (λ (b : Bool). nat_lt 1 (entity_count p r.entity) ||
     (not (has_kind 7 r.entity)
-    || (has_no_depth r.history || (not (is_maximum r.max_samples) || (not (is_maximum r.max_instances) || b)))))
+    || (has_no_depth r.history || (not (is_maximum r.max_samples)
+    || (not (is_maximum r.max_instances) || (is_bad_life r.max_arrivals || b))))))
     (or_false (is_bad_lease r.lease))
 
 exceeding_writer : (p : PeerConfig) (peer n : ℕ) (w : WriterConfig)
@@ -270,7 +271,10 @@ reader_each : (Q : ConfigRule → Type 0) (pass : Pass) (peers : List PeerConfig
     → Each Q (reader_rules pass peers p r)
 reader_each Q Parameters peers p r h = (
   λ e. h _ e refl,
-  (λ e. h _ e refl, (λ e. h _ e refl, (λ e. h _ e refl, (λ e. h _ e refl, (λ e. h _ e refl, tt))))),
+  (
+    λ e. h _ e refl,
+    (λ e. h _ e refl, (λ e. h _ e refl, (λ e. h _ e refl, (λ e. h _ e refl, (λ e. h _ e refl, tt))))),
+  ),
 )
 reader_each Q Policies peers p r h = (λ e. h _ e refl, (λ e. h _ e refl, (λ e. h _ e refl, tt)))
 

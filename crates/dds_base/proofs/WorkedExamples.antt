@@ -24,6 +24,7 @@ use Rattle.dds_base.specs.declared.qos.ReliabilityQos.TheVariants.{Reliable}
 use Rattle.dds_base.specs.declared.qos.HistoryQos.TheVariants.{KeepAll, KeepLast}
 use Rattle.dds_base.specs.declared.selection.Selection.{Selection}
 use Rattle.dds_base.specs.declared.selection.Selection.TheVariants as selection
+use Rattle.dds_base.specs.Bounds.{usual_arrivals}
 use Rattle.dds_base.specs.Presence.{has_room}
 use Rattle.dds_base.specs.Access.{picked_samples, no_filter, collection_of, handle_of, instance_of}
 use Rattle.dds_base.specs.Instance.{instance_state_of, known_instances}
@@ -64,6 +65,7 @@ shared =
       history = KeepAll;
       max_samples = None;
       max_instances = None;
+      max_arrivals = usual_arrivals;
       writers = writer_a
           ∷ [];
     }
@@ -76,6 +78,7 @@ exclusive =
       history = KeepAll;
       max_samples = None;
       max_instances = None;
+      max_arrivals = usual_arrivals;
       writers = writer_a
           ∷ writer_b ∷ [];
     }
@@ -88,6 +91,7 @@ last_two =
       history = KeepLast 2;
       max_samples = None;
       max_instances = None;
+      max_arrivals = usual_arrivals;
       writers = writer_a
           ∷ [];
     }
@@ -248,6 +252,7 @@ limited =
       history = KeepAll;
       max_samples = Some 1;
       max_instances = None;
+      max_arrivals = usual_arrivals;
       writers = writer_a
           ∷ [];
     }
@@ -261,6 +266,17 @@ has_room-full = refl
 has_room-taken : has_room limited (Took (picked limited one_write None any) ∷ one_write) (came 1 2 Write (2 ∷ []))
     ≡ true
 has_room-taken = refl
+
+-- a life of two changes: an unregister counts as one, and what was taken counts too
+abbrev short_lived : ReaderQos
+short_lived = record shared { max_arrivals = 2 }
+
+has_room-last : has_room short_lived one_write (came 1 2 Unregister []) ≡ true
+has_room-last = refl
+
+has_room-over : has_room short_lived (came 1 2 Unregister [] ∷ Took (picked shared one_write None any) ∷ one_write)
+    (came 1 3 Write (2 ∷ [])) ≡ false
+has_room-over = refl
 
 -- two instances, with a write each
 abbrev two_instances : List Happening

@@ -12,6 +12,7 @@ use Rattle.dds_base.specs.declared.qos.OwnershipQos.TheVariants.{Shared}
 use Rattle.dds_base.specs.declared.qos.ReliabilityQos.TheVariants.{Reliable}
 use Rattle.dds_base.specs.declared.qos.HistoryQos.TheVariants.{KeepAll}
 use Rattle.dds_base.specs.declared.status.LivelinessChangedStatus.{LivelinessChangedStatus}
+use Rattle.dds_base.specs.Bounds.{usual_arrivals}
 use Rattle.dds_base.specs.Liveliness.{dead_at, after_deaths, liveliness_changed_status}
 use Rattle.dds_base.specs.Written.{Changed, Asserted, LookedAt, Ticked, liveliness_lost_status}
 
@@ -30,6 +31,7 @@ three = record {
   history = KeepAll;
   max_samples = None;
   max_instances = None;
+  max_arrivals = usual_arrivals;
   writers = leased (Some 10) ∷ leased (Some 10) ∷ leased None ∷ [];
 }
 

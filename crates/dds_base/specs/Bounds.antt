@@ -26,10 +26,14 @@ max_sn = 2 ^ 62
 abbrev pub max_count : ℕ
 max_count = 2 ^ 31 - 1
 
--- fewer changes than this come at a reader, also where RESOURCE_LIMITS say no limit: the greatest that they can say
--- (DDS 1.4, 2.2.3: a long)
-abbrev pub max_arrivals : ℕ
-max_arrivals = 2 ^ 31 - 1
+-- how many changes come at a reader in its life, unless its policy says another number: one less than the greatest that
+-- RESOURCE_LIMITS can say (DDS 1.4, 2.2.3: a long)
+abbrev pub usual_arrivals : ℕ
+usual_arrivals = 2 ^ 31 - 2
+
+-- the greatest number of them that its policy can say
+abbrev pub most_arrivals : ℕ
+most_arrivals = 2 ^ 63
 
 -- From here on, in units of 2^-32 second, there are no moments and no leases: the seconds of a Time_t have 32 bits with
 -- a sign (DDS 1.4, 2.3.3).

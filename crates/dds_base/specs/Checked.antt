@@ -1,5 +1,5 @@
--- Why a configuration is refused (DDS 1.4, 2.2.1.1: BAD_PARAMETER, INCONSISTENT_POLICY). The counts, and that a lease
--- is below 2^63, are limits of this project.
+-- Why a configuration is refused (DDS 1.4, 2.2.1.1: BAD_PARAMETER, INCONSISTENT_POLICY). The counts, that a
+-- lease is below 2^63, and how many changes a reader takes, are limits of this project.
 use Rattle.std.specs.Prelude.{ℕ, zero, suc, ◌+◌, ◌==◌, ◌||◌, Bool, true, false, not, List, length, count_by, replicate, slice_index, nat_eq, nat_lt, nat_le, Option, Some, None, ℤ, pos, negsuc, if◌then◌else◌}
 use Rattle.std.specs.List.{list_any}
 use Rattle.std.specs.Cmp.Lexicographic.{pointwise}
@@ -14,7 +14,7 @@ use Rattle.dds_base.specs.declared.qos.OwnershipQos.TheVariants.{Shared, Exclusi
 use Rattle.dds_base.specs.declared.config.PeerConfig.{PeerConfig}
 use Rattle.dds_base.specs.declared.config.WriterConfig.{WriterConfig}
 use Rattle.dds_base.specs.declared.config.ReaderConfig.{ReaderConfig}
-use Rattle.dds_base.specs.Bounds.{end_of_moments, max_ends, max_peers}
+use Rattle.dds_base.specs.Bounds.{end_of_moments, max_ends, max_peers, most_arrivals}
 use Rattle.dds_base.specs.Matched.{matched_writers_of}
 
 -- two prefixes are one (RTPS 2.5, 8.2: GuidPrefix_t)
@@ -59,6 +59,10 @@ abbrev pub limit_of : ℤ → Option ℕ
 limit_of (pos n) = Some n
 limit_of (negsuc n) = None
 
+-- a reader that takes no change in its life, or more than 2^63
+abbrev pub is_bad_life : ℕ → Bool
+is_bad_life arrivals = (arrivals == 0) || nat_lt most_arrivals arrivals
+
 -- a lease of 0, or of 2^63 units and more (DDS 1.4, 2.2.3, LIVELINESS)
 abbrev pub is_bad_lease : Option ℕ → Bool
 is_bad_lease None = false
@@ -69,11 +73,12 @@ abbrev pub is_bad_writer : WriterConfig → Bool
 is_bad_writer w = not (has_kind 2 w.entity)
     || (has_no_depth w.history || (not (is_maximum w.max_samples) || is_bad_lease w.lease))
 
--- a reader of another kind, without a depth, or with a maximum or a lease that is invalid
+-- a reader of another kind, without a depth, or with a maximum, a life or a lease that is invalid
 abbrev pub is_bad_reader : ReaderConfig → Bool
 is_bad_reader r = not (has_kind 7 r.entity)
     || (has_no_depth r.history
-    || (not (is_maximum r.max_samples) || (not (is_maximum r.max_instances) || is_bad_lease r.lease)))
+    || (not (is_maximum r.max_samples)
+    || (not (is_maximum r.max_instances) || (is_bad_life r.max_arrivals || is_bad_lease r.lease))))
 
 -- a peer with more than 16 writers or readers, with two equal entities, or with a writer or reader that is invalid
 abbrev pub is_bad_peer : PeerConfig → Bool

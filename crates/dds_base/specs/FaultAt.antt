@@ -12,14 +12,14 @@ use Rattle.dds_base.specs.declared.config_rules.PairPolicy.TheVariants as policy
 use Rattle.dds_base.specs.declared.config_rules.Pass.{Pass}
 use Rattle.dds_base.specs.declared.config_rules.Pass.TheVariants.{Parameters, Policies}
 use Rattle.dds_base.specs.declared.config_fault.ConfigRule.{ConfigRule}
-use Rattle.dds_base.specs.declared.config_fault.ConfigRule.TheVariants.{PeerCount, WriterCount, ReaderCount, KnownPrefix, OwnPrefix, OwnEntity, EntityKind, Depth, MaxSamples, MaxInstances, Lease, DepthWithinMaximum, SameOwnership, OfferedLease}
+use Rattle.dds_base.specs.declared.config_fault.ConfigRule.TheVariants.{PeerCount, WriterCount, ReaderCount, KnownPrefix, OwnPrefix, OwnEntity, EntityKind, Depth, MaxSamples, MaxInstances, MaxArrivals, Lease, DepthWithinMaximum, SameOwnership, OfferedLease}
 use Rattle.dds_base.specs.declared.config_fault.ConfigPlace.{ConfigPlace}
 use Rattle.dds_base.specs.declared.config_fault.ConfigPlace.TheVariants.{Whole, Peer, Writer, Reader}
 use Rattle.dds_base.specs.declared.config_fault.ConfigFault.{ConfigFault}
 use Rattle.dds_base.specs.Bounds.{max_ends, max_peers}
 use Rattle.dds_base.specs.Life.{or_else}
 use Rattle.dds_base.specs.Matched.{matched_writers_of}
-use Rattle.dds_base.specs.Checked.{same_prefix, unknown_prefix, has_kind, prefix_count, entity_count, has_no_depth, is_maximum, is_bad_lease, exceeds_limit, differ, is_longer}
+use Rattle.dds_base.specs.Checked.{same_prefix, unknown_prefix, has_kind, prefix_count, entity_count, has_no_depth, is_maximum, is_bad_life, is_bad_lease, exceeds_limit, differ, is_longer}
 
 -- the first of these rules that is broken
 abbrev pub first_broken : List (ConfigRule × Bool) → Option ConfigRule
@@ -45,7 +45,7 @@ reader_rules Parameters peers p r =
     (OwnEntity, nat_lt 1 (entity_count p r.entity)) ∷ (EntityKind, not (has_kind 7 r.entity)) ∷
     (Depth, has_no_depth r.history)
     ∷ (MaxSamples, not (is_maximum r.max_samples)) ∷ (MaxInstances, not (is_maximum r.max_instances))
-    ∷ (Lease, is_bad_lease r.lease) ∷ []
+    ∷ (MaxArrivals, is_bad_life r.max_arrivals) ∷ (Lease, is_bad_lease r.lease) ∷ []
 reader_rules Policies peers p r =
     (DepthWithinMaximum, exceeds_limit r.history r.max_samples)
     ∷ (SameOwnership, list_any (λ (w : WriterConfig). differ w.ownership r.ownership) (matched_writers_of peers r))

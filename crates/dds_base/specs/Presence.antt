@@ -1,14 +1,13 @@
 -- The samples that are present at a reader, and its room.
 --
 -- DDS 1.4, 2.2.3 (HISTORY, RESOURCE_LIMITS), 2.2.2.5 (valid_data).
-use Rattle.std.specs.Prelude.{ℕ, List, ◌∷◌, length, Bool, true, false, ◌&&◌, ◌||◌, nat_le, nat_lt, not, Option, None, Some, is_some, filter, map, count_by}
+use Rattle.std.specs.Prelude.{ℕ, List, ◌∷◌, length, Bool, true, false, ◌&&◌, ◌||◌, nat_le, not, Option, None, Some, is_some, filter, map, count_by}
 use Rattle.std.specs.List.{flat_map}
 use Rattle.dds_base.specs.declared.key.Key.{Key}
 use Rattle.dds_base.specs.declared.happening.SamplePosition.{SamplePosition}
 use Rattle.dds_base.specs.declared.happening.Happening.{Happening}
 use Rattle.dds_base.specs.declared.happening.Happening.TheVariants.{Came}
 use Rattle.dds_base.specs.declared.qos.ReaderQos.{ReaderQos}
-use Rattle.dds_base.specs.Bounds.{max_arrivals}
 use Rattle.dds_base.specs.Happening.{as_of, arrivals}
 use Rattle.dds_base.specs.Ownership.{accepted_kind}
 use Rattle.dds_base.specs.Instance.{known_instances}
@@ -47,11 +46,11 @@ abbrev pub is_accepted : ReaderQos → List Happening → Happening → Bool
 is_accepted q h (Came a) = is_some (accepted_kind q a.change.key h (Came a))
 is_accepted q h _ = false
 
--- after an accepted write or dispose the limits hold, and after any arrival fewer than 2^31 - 1 changes came
--- (RESOURCE_LIMITS)
+-- after an accepted write or dispose the limits hold, and after any arrival no more changes came than the reader takes in
+-- its life (RESOURCE_LIMITS; `max_arrivals` is this project's own)
 abbrev pub has_room : ReaderQos → List Happening → Happening → Bool
 has_room q h e =
-    nat_lt (arrivals (e ∷ h)) max_arrivals
+    nat_le (arrivals (e ∷ h)) q.max_arrivals
     && (not (is_accepted q h e)
     || (is_within q.max_samples (present_writes q (e ∷ h))
     && is_within q.max_instances (length (known_instances q (e ∷ h)))))

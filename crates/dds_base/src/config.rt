@@ -6,6 +6,7 @@ ghost use Rattle.std.specs.Prelude.{◌≡◌, None, true, pos, negsuc};
 ghost use Rattle.dds_base.specs.declared.qos.OwnershipQos.TheVariants.{Shared};
 ghost use Rattle.dds_base.specs.declared.qos.HistoryQos.TheVariants.{KeepAll};
 ghost use Rattle.dds_base.specs.declared.qos.ReliabilityQos.TheVariants.{Reliable};
+ghost use Rattle.dds_base.specs.Bounds.{usual_arrivals};
 ghost use Rattle.dds_base.specs.Ownership.{carried};
 
 use crate::guid::{EntityId, GuidPrefix};
@@ -58,6 +59,9 @@ pub struct ReaderConfig {
     pub max_samples: i32,
     /// How many instances it may know: positive, or -1 for no limit (DDS 1.4, 2.2.3, RESOURCE_LIMITS).
     pub max_instances: i32,
+    /// How many changes it takes in its life, from 1 to 2^63: once so many came there is room for none. It is a limit of
+    /// this project.
+    pub max_arrivals: u64,
     /// The longest lease of a writer that it takes, in units of 2^-32 second; `None` takes all.
     pub lease: Option<u64>,
 }
@@ -107,8 +111,11 @@ impl WriterConfig {
 }
 
 impl ReaderConfig {
-    /// A shared, reliable reader that keeps all samples, without a limit, and takes every lease: the standard's
-    /// defaults but for HISTORY and RELIABILITY.
+    /// How many changes a reader takes in its life, unless its policy says another number: 2^31 - 2.
+    pub const USUAL_ARRIVALS: u64 = (1 << 31) - 2;
+
+    /// A shared, reliable reader that keeps all samples, without a limit but for `USUAL_ARRIVALS`, and takes every lease:
+    /// the standard's defaults but for HISTORY and RELIABILITY.
     ///
     /// DDS 1.4, 2.2.3 (supported QoS).
     pub fn new(entity: EntityId, topic: u32) -> ReaderConfig
@@ -120,6 +127,7 @@ impl ReaderConfig {
           history = KeepAll;
           max_samples = negsuc 0;
           max_instances = negsuc 0;
+          max_arrivals = usual_arrivals;
           lease = None;
         } }
     {
@@ -131,6 +139,7 @@ impl ReaderConfig {
             history: HistoryQos::KeepAll,
             max_samples: -1,
             max_instances: -1,
+            max_arrivals: ReaderConfig::USUAL_ARRIVALS,
             lease: None,
         }
     }

@@ -34,6 +34,8 @@ pub enum ConfigRule {
     MaxSamples,
     /// `max_instances` of a reader is -1, for no limit, or positive (RESOURCE_LIMITS).
     MaxInstances,
+    /// `max_arrivals` of a reader is from 1 to 2^63.
+    MaxArrivals,
     /// A lease is from 1 to 2^63 - 1 units of 2^-32 second (LIVELINESS).
     Lease,
     /// A depth is at most `max_samples`, where that is a limit (HISTORY, RESOURCE_LIMITS).
@@ -70,6 +72,7 @@ impl ConfigRule {
             ConfigRule::Depth => "its depth is 0",
             ConfigRule::MaxSamples => "its max_samples is neither -1 nor positive",
             ConfigRule::MaxInstances => "its max_instances is neither -1 nor positive",
+            ConfigRule::MaxArrivals => "its max_arrivals is 0 or above 2^63",
             ConfigRule::Lease => "its lease is 0 or too long",
             ConfigRule::DepthWithinMaximum => "its depth is above its maximum of samples",
             ConfigRule::SameOwnership => "a matched writer has another ownership",

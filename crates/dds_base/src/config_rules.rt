@@ -6,7 +6,7 @@ ghost use Rattle.std.specs.Prelude.{◌≡◌, ◌&&◌, List};
 ghost use Rattle.std.specs.List.{list_any};
 ghost use Rattle.dds_base.specs.declared.config.PeerConfig.{PeerConfig};
 ghost use Rattle.dds_base.specs.Matched.{same_topic, matched_writers_of};
-ghost use Rattle.dds_base.specs.Checked.{prefix_count, entity_count, has_no_depth, is_maximum, is_bad_lease, exceeds_limit, is_longer};
+ghost use Rattle.dds_base.specs.Checked.{prefix_count, entity_count, has_no_depth, is_maximum, is_bad_life, is_bad_lease, exceeds_limit, is_longer};
 ghost use Rattle.dds_base.specs.FaultAt.{first_broken, is_unfit, whole_rules, peer_rules, writer_rules, reader_rules};
 
 use crate::config::{PeerConfig, ReaderConfig, WriterConfig};
@@ -23,6 +23,9 @@ pub const MAX_ENDS: usize = 16;
 
 /// From this one on a lease is too long, in units of 2^-32 second.
 const LEASE_END: u64 = MOMENT_END;
+
+/// The most changes that a reader takes in its life: a limit of this project.
+const MOST_ARRIVALS: u64 = 1 << 63;
 
 /// Which rules are looked at: those of each parameter, or those of policies with one another. A bad parameter anywhere
 /// goes before an inconsistent policy anywhere.
@@ -170,6 +173,9 @@ fn reader_parameter(peer: &PeerConfig, reader: &ReaderConfig) -> Option<ConfigRu
     if !is_maximum(reader.max_instances) {
         return Some(ConfigRule::MaxInstances);
     }
+    if is_bad_life(reader.max_arrivals) {
+        return Some(ConfigRule::MaxArrivals);
+    }
     if is_bad_lease(reader.lease) {
         return Some(ConfigRule::Lease);
     }
@@ -237,6 +243,13 @@ fn is_maximum(maximum: i32) -> bool
     ensures { result ≡ is_maximum maximum }
 {
     maximum == -1 || 0 < maximum
+}
+
+/// Whether a reader's life is of no change, or of more than 2^63.
+fn is_bad_life(max_arrivals: u64) -> bool
+    ensures { result ≡ is_bad_life max_arrivals }
+{
+    max_arrivals == 0 || MOST_ARRIVALS < max_arrivals
 }
 
 /// Whether there is a lease, of 0 or of 2^63 units and more.

@@ -3,16 +3,19 @@
 //! DDS 1.4, 2.2.2.5 (masks, handles), 2.2.3 (OWNERSHIP); RTPS 2.5, 9.3 (entity kinds), clause 10
 //! (SerializedPayload).
 
-ghost use Rattle.std.specs.Prelude.{◌≡◌, ◌≢◌, ◌↔◌, ◌≤◌, ◌<◌, ◌+◌, ◌∷◌, ℕ, List, [], IsTrue, IsSome, Some, None, length, replicate, true, false};
+ghost use Rattle.std.specs.Prelude.{◌≡◌, ◌≢◌, ◌↔◌, ◌≤◌, ◌<◌, ◌+◌, ◌-◌, ◌^◌, ◌∷◌, ◌&&◌, ◌||◌, ℕ, List, [], IsTrue, IsSome, Some, None, length, nat_lt, not, replicate, true, false};
 ghost use Rattle.dds_base.specs.Access.{sample_state_bit, view_state_bit, instance_state_bit, meets, handle_of, instance_of, lives_begun, not_read};
 ghost use Rattle.dds_base.specs.Checked.{unknown_prefix};
 ghost use Rattle.dds_base.specs.DatumText.{ReadsDatum, ReadsKey, IsDatum, spelling_of_datum, spelling_of_key};
-ghost use Rattle.dds_base.specs.Instance.{disposed_generations, instance_state_of, introduces, is_known, no_writers_generations};
+ghost use Rattle.dds_base.specs.Happening.{arrivals};
+ghost use Rattle.dds_base.specs.Instance.{disposed_generations, instance_state_of, introduces, is_known, known_instances, no_writers_generations};
 ghost use Rattle.dds_base.specs.Life.{ends_life, is_life_over, last_marker};
 ghost use Rattle.dds_base.specs.Ownership.{IsMatched, IsOwner, HaveOwnGuids, owner_of, outranks_all, registered_writers};
-ghost use Rattle.dds_base.specs.Presence.{is_present};
+ghost use Rattle.dds_base.specs.Presence.{has_room, is_accepted, is_present, is_within, present_writes};
 ghost use Rattle.dds_base.specs.declared.datum.Datum.{Datum};
+ghost use Rattle.dds_base.specs.declared.happening.Arrival.{Arrival};
 ghost use Rattle.dds_base.specs.declared.happening.Happening.{Happening};
+ghost use Rattle.dds_base.specs.declared.happening.Happening.TheVariants.{Came};
 ghost use Rattle.dds_base.specs.declared.happening.SamplePosition.{SamplePosition};
 ghost use Rattle.dds_base.specs.declared.key.Key.{Key};
 ghost use Rattle.dds_base.specs.declared.qos.ReaderQos.{ReaderQos};
@@ -20,6 +23,7 @@ ghost use Rattle.dds_base.specs.declared.sample.InstanceState.TheVariants.{Alive
 ghost use Rattle.dds_base.specs.declared.sample.SampleState.TheVariants.{Read as HasBeenRead, NotRead};
 ghost use Rattle.dds_base.specs.declared.sample.ViewState.TheVariants.{New, NotNew};
 
+use crate::config::ReaderConfig;
 use crate::datum::MAX_VALUE;
 use crate::guid::{EntityId, GuidPrefix};
 use crate::handle::Handle;
@@ -108,6 +112,26 @@ pub fn no_handle_is_given_again()
     // That of a life that begins is.
     ensures new { (q : ReaderQos) (i : Key) (h : List Happening) (e : Happening) → introduces q i h e ≡ true
         → is_known q (e ∷ h) i ≡ true → lives_begun q h < handle_of q (e ∷ h) i }
+{}
+
+/// How many changes a reader takes in its life is its policy. By the usual number there is room as by 2^31 - 1, which was
+/// the bound of every reader before there was a policy.
+pub fn a_life_is_as_long_as_its_policy()
+    // A reader of the usual number has room exactly where fewer than 2^31 - 1 changes came and the other limits hold.
+    ensures usual { (q : ReaderQos) (h : List Happening) (e : Happening)
+        → q.max_arrivals ≡ ReaderConfig.USUAL_ARRIVALS
+        → has_room q h e ≡ (nat_lt (arrivals (e ∷ h)) (2 ^ 31 - 1)
+        && (not (is_accepted q h e)
+        || (is_within q.max_samples (present_writes q (e ∷ h))
+        && is_within q.max_instances (length (known_instances q (e ∷ h)))))) }
+    // Once as many came as its policy says, there is room for none.
+    ensures over { (q : ReaderQos) (h : List Happening) (a : Arrival) → q.max_arrivals ≤ arrivals h
+        → has_room q h (Came a) ≡ false }
+    // Before, its policy refuses none.
+    ensures before { (q : ReaderQos) (h : List Happening) (a : Arrival) → arrivals h < q.max_arrivals
+        → has_room q h (Came a) ≡ (not (is_accepted q h (Came a))
+        || (is_within q.max_samples (present_writes q (Came a ∷ h))
+        && is_within q.max_instances (length (known_instances q (Came a ∷ h))))) }
 {}
 
 /// HANDLE_NIL, which has the number 0: the handle of no instance and of no matched writer, since they count from 1.

@@ -82,6 +82,8 @@ pub struct ReaderQos {
     pub max_samples: Option<u32>,
     /// How many instances may be known (DDS 1.4, 2.2.3, RESOURCE_LIMITS).
     pub max_instances: Option<u32>,
+    /// How many changes it takes in its life.
+    pub max_arrivals: u64,
     /// The matched writers, in the order of their publication handles, which count from 1.
     pub writers: Sequence<MatchedWriter>,
 }

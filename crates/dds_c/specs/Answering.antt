@@ -7,7 +7,7 @@ use Rattle.dds_base.specs.declared.code.Code.{Code}
 use Rattle.dds_base.specs.declared.code.Code.TheVariants.{Ok}
 use Rattle.dds_conditions.specs.Filtered.{tests_of}
 use Rattle.dds_core.specs.Listening.{Steps}
-use Rattle.dds_core.specs.Sending.{AreMessages, Sends}
+use Rattle.dds_core.specs.Sending.{AreMessages}
 use Rattle.dds_protocol.specs.declared.event.Event.{Event}
 use Rattle.dds_machine.specs.declared.reply.Reply.{Reply}
 use Rattle.dds_machine.specs.declared.reply.Reply.TheVariants.{Refused}
@@ -24,11 +24,11 @@ abbrev pub refusing_number : Code → ℕ
 refusing_number Ok = 1
 refusing_number code = number_of_code code
 
--- The event is one step of the peer, what it gave back is kept as the last answer, and the number is that of its reply.
+-- The event is one step of the peer, which says what it sends too; what it gave back is kept as the last answer, and the
+-- number is that of its reply.
 pub record Answered (old : Session) (event : Event) (number : ℕ) (new : Session) : Type 0 where
   pub step : Steps recorder_notices recorder_capacity recorder_becomes (tests_of prefix_meaning old.core.filtered.filters)
       old.core event new.last new.core
-  pub sends : Sends old.core.filtered.peer event new.last
   pub messages : AreMessages new.last.packets
   pub code : number ≡ code_number new.last.reply
   pub told : new.told ≡ old.told

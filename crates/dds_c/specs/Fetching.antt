@@ -27,20 +27,27 @@ pub record Copies (octets old new : List ℕ) (needed code : ℕ) : Type 0 where
   pub buffer : new ≡ filled octets old
   pub answer : code ≡ fits_code octets old
 
--- nothing is copied, for this cause
-pub record CopiesNothing (old new : List ℕ) (cause code : ℕ) : Type 0 where
+-- nothing is copied, and how many octets there are is not said, for this cause
+pub record CopiesNothing (old new : List ℕ) (before needed : ℕ) (cause code : ℕ) : Type 0 where
   pub buffer : new ≡ old
+  pub length_kept : needed ≡ before
   pub answer : code ≡ cause
 
--- a packet and the number of the peer that it is for, where there is one; else the code is 11
-abbrev pub PacketCopied : Option Packet → ℕ → List ℕ → List ℕ → ℕ → ℕ → Type 0
-PacketCopied (Some p) to old new needed code = (to ≡ p.to) × Copies p.bytes old new needed code
-PacketCopied None to old new needed code = CopiesNothing old new 11 code
+-- nothing is written beside it either
+abbrev pub WritesNothing : {X : Type 0} → (was now : X) → (old new : List ℕ) → (before needed cause code : ℕ) → Type 0
+WritesNothing was now old new before needed cause code =
+    (now ≡ was) × CopiesNothing old new before needed cause code
+
+-- a packet and the number of the peer that it is for, where there is one; else the code is 11, and nothing is written
+abbrev pub PacketCopied : Option Packet → (was to : ℕ) → (old new : List ℕ) → (before needed code : ℕ) → Type 0
+PacketCopied (Some p) was to old new before needed code = (to ≡ p.to) × Copies p.bytes old new needed code
+PacketCopied None was to old new before needed code = WritesNothing was to old new before needed 11 code
 
 -- the same of the last answer, counted from 0; the code is 4 where no peer is open
-abbrev pub PacketFetched : Option Session → ℕ → ℕ → List ℕ → List ℕ → ℕ → ℕ → Type 0
-PacketFetched (Some s) at to old new needed code = PacketCopied (slice_get s.last.packets at) to old new needed code
-PacketFetched None at to old new needed code = CopiesNothing old new 4 code
+abbrev pub PacketFetched : Option Session → ℕ → (was to : ℕ) → (old new : List ℕ) → (before needed code : ℕ) → Type 0
+PacketFetched (Some s) at was to old new before needed code =
+    PacketCopied (slice_get s.last.packets at) was to old new before needed code
+PacketFetched None at was to old new before needed code = WritesNothing was to old new before needed 4 code
 
 -- what is said of a sample
 abbrev pub info_of : Sample → FlatInfo
@@ -65,15 +72,18 @@ abbrev pub sample_at : Reply → ℕ → Option Sample
 sample_at (Samples samples) at = slice_get samples at
 sample_at _ at = None
 
--- a sample's value, and what is said of it, where there is one; else the code is 11
-abbrev pub SampleCopied : Option Sample → FlatInfo → List ℕ → List ℕ → ℕ → ℕ → Type 0
-SampleCopied (Some s) info old new needed code = (info ≡ info_of s) × Copies s.value old new needed code
-SampleCopied None info old new needed code = CopiesNothing old new 11 code
+-- a sample's value, and what is said of it, where there is one; else the code is 11, and nothing is written
+abbrev pub SampleCopied : Option Sample → (was info : FlatInfo) → (old new : List ℕ) → (before needed code : ℕ) → Type 0
+SampleCopied (Some s) was info old new before needed code =
+    (info ≡ info_of s) × Copies s.value old new needed code
+SampleCopied None was info old new before needed code = WritesNothing was info old new before needed 11 code
 
 -- the same of the last answer; the code is 4 where no peer is open
-abbrev pub SampleFetched : Option Session → ℕ → FlatInfo → List ℕ → List ℕ → ℕ → ℕ → Type 0
-SampleFetched (Some s) at info old new needed code = SampleCopied (sample_at s.last.reply at) info old new needed code
-SampleFetched None at info old new needed code = CopiesNothing old new 4 code
+abbrev pub SampleFetched : Option Session → ℕ → (was info : FlatInfo) → (old new : List ℕ) → (before needed code : ℕ)
+    → Type 0
+SampleFetched (Some s) at was info old new before needed code =
+    SampleCopied (sample_at s.last.reply at) was info old new before needed code
+SampleFetched None at was info old new before needed code = WritesNothing was info old new before needed 4 code
 
 -- a value is written where there is one, and the code is 0; else it is 11, and nothing is written
 abbrev pub ValueWritten : {X : Type 0} → Option X → X → X → ℕ → Type 0
@@ -127,11 +137,11 @@ unsent_of (Some s) = s.last.unsent
 unsent_of None = 0
 
 -- some text is copied, whatever it says, or nothing for want of memory (code 100)
-abbrev pub TextWritten : List ℕ → List ℕ → ℕ → ℕ → Type 0
-TextWritten old new needed code =
-    ((octets : List ℕ) × Copies octets old new needed code) ⊎ CopiesNothing old new 100 code
+abbrev pub TextWritten : (old new : List ℕ) → (before needed code : ℕ) → Type 0
+TextWritten old new before needed code =
+    ((octets : List ℕ) × Copies octets old new needed code) ⊎ CopiesNothing old new before needed 100 code
 
 -- the same where a peer is open; else nothing is copied (code 4)
-abbrev pub TextFetched : Option Session → List ℕ → List ℕ → ℕ → ℕ → Type 0
-TextFetched None old new needed code = CopiesNothing old new 4 code
-TextFetched (Some session) old new needed code = TextWritten old new needed code
+abbrev pub TextFetched : Option Session → (old new : List ℕ) → (before needed code : ℕ) → Type 0
+TextFetched None old new before needed code = CopiesNothing old new before needed 4 code
+TextFetched (Some session) old new before needed code = TextWritten old new before needed code

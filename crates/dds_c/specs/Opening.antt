@@ -3,6 +3,7 @@
 -- DDS 1.4, 2.2.3 (supported QoS); that a configuration comes in arrays is this project's own.
 use Rattle.std.specs.Prelude.{◌≡◌, ◌⊎◌, ℕ, ◌+◌, List, [], ◌∷◌, length, map, Bool, true, false, ◌||◌, not, nat_eq, Option, Some, None, if◌then◌else◌}
 use Rattle.std.specs.List.{filter, list_any}
+use Rattle.dds_base.specs.Bounds.{usual_arrivals}
 use Rattle.dds_base.specs.Number.{is_number}
 use Rattle.dds_base.specs.Refusal.{Refuses}
 use Rattle.dds_base.specs.declared.code.Code.{Code}
@@ -39,6 +40,11 @@ abbrev pub lease_of : Bool → ℕ → Option ℕ
 lease_of true lease = Some lease
 lease_of false lease = None
 
+-- how many changes a reader takes in its life
+abbrev pub max_arrivals_of : Bool → ℕ → ℕ
+max_arrivals_of true max_arrivals = max_arrivals
+max_arrivals_of false max_arrivals = usual_arrivals
+
 -- whether one writer alone may change an instance
 abbrev pub ownership_of : Bool → OwnershipQos
 ownership_of true = Exclusive
@@ -72,6 +78,7 @@ reader_of r = record {
   history = history_of r.keeps_last r.depth;
   max_samples = r.max_samples;
   max_instances = r.max_instances;
+  max_arrivals = max_arrivals_of r.has_max_arrivals r.max_arrivals;
   lease = lease_of r.has_lease r.lease;
 }
 

@@ -25,7 +25,7 @@ fn packet_out(
     needed: &mut usize,
 ) -> u8
     ensures copied { PacketCopied (slice_get packets.now at)
-        to.new buffer.old buffer.new needed.new result }
+        to.old to.new buffer.old buffer.new needed.old needed.new result }
 {
     match packets.get(at) {
         Some(packet) => {
@@ -41,8 +41,8 @@ fn packet_out(
 ///
 /// # Errors
 ///
-/// PRECONDITION_NOT_MET where no peer is open, NO_DATA where there is no packet of this index, OUT_OF_RESOURCES where the
-/// buffer is too short: then nothing is copied, and `needed` says how long it has to be.
+/// PRECONDITION_NOT_MET where no peer is open, NO_DATA where there is no packet of this index: nothing is written then.
+/// OUT_OF_RESOURCES where the buffer is too short: then nothing is copied, and `needed` says how long it has to be.
 #[unsafe(no_mangle)]
 pub extern "C" fn cw_packet(
     alloc: Global,
@@ -52,9 +52,9 @@ pub extern "C" fn cw_packet(
     buffer: &mut [u8],
     needed: &mut usize,
 ) -> u8
-    // It is that packet of the last answer, wherever there is one and it fits.
+    // It is that packet of the last answer, wherever there is one and it fits; where there is none nothing is written.
     ensures packet { PacketFetched peer.old.held.session at
-        to.new buffer.old buffer.new needed.new result }
+        to.old to.new buffer.old buffer.new needed.old needed.new result }
     // Nothing happens to the peer.
     ensures keeps { peer.new.held.session ≡ peer.old.held.session }
 {
@@ -75,7 +75,7 @@ fn sample_out(
     needed: &mut usize,
 ) -> u8
     ensures copied { SampleCopied (sample_at reply.now at)
-        info.new buffer.old buffer.new needed.new result }
+        info.old info.new buffer.old buffer.new needed.old needed.new result }
 {
     let Reply::Samples(samples) = reply else {
         return NOTHING.number();
@@ -94,8 +94,8 @@ fn sample_out(
 ///
 /// # Errors
 ///
-/// PRECONDITION_NOT_MET where no peer is open, NO_DATA where there is no sample of this index, OUT_OF_RESOURCES where the
-/// buffer is too short: then no octet is copied, and `needed` says how long it has to be.
+/// PRECONDITION_NOT_MET where no peer is open, NO_DATA where there is no sample of this index: nothing is written then.
+/// OUT_OF_RESOURCES where the buffer is too short: then no octet is copied, and `needed` says how long it has to be.
 ///
 /// DDS 1.4, 2.2.2.5 (SampleInfo).
 #[unsafe(no_mangle)]
@@ -107,9 +107,9 @@ pub extern "C" fn cw_sample(
     buffer: &mut [u8],
     needed: &mut usize,
 ) -> u8
-    // It is that sample of the last answer, wherever there is one and it fits.
+    // It is that sample of the last answer, wherever there is one and it fits; where there is none nothing is written.
     ensures sample { SampleFetched peer.old.held.session at
-        info.new buffer.old buffer.new needed.new result }
+        info.old info.new buffer.old buffer.new needed.old needed.new result }
     // Nothing happens to the peer.
     ensures keeps { peer.new.held.session ≡ peer.old.held.session }
 {

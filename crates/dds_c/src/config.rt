@@ -5,7 +5,7 @@
 ghost use Rattle.std.specs.Prelude.{◌≡◌, IfOk, not};
 ghost use Rattle.std.specs.List.{list_any};
 ghost use Rattle.dds_base.specs.Number.{is_number};
-ghost use Rattle.dds_c.specs.Opening.{config_of, history_of, lease_of, names_no_peer, ownership_of, peer_of, reader_of, readers_of, reliability_of, writer_of, writers_of};
+ghost use Rattle.dds_c.specs.Opening.{config_of, history_of, lease_of, max_arrivals_of, names_no_peer, ownership_of, peer_of, reader_of, readers_of, reliability_of, writer_of, writers_of};
 
 use dds_base::{
     Config, EntityId, GuidPrefix, HistoryQos, OwnershipQos, PeerConfig, ReaderConfig,
@@ -71,6 +71,8 @@ pub struct FlatReader {
     pub has_lease: bool,
     /// Whether it is best-effort; else it is reliable.
     pub is_best_effort: bool,
+    /// Whether it takes `max_arrivals` changes in its life; else as many as `ReaderConfig::USUAL_ARRIVALS` says.
+    pub has_max_arrivals: bool,
     /// Writers and readers of equal numbers match.
     pub topic: u32,
     /// From 1; it counts only where `keeps_last` is true.
@@ -81,6 +83,8 @@ pub struct FlatReader {
     pub max_instances: i32,
     /// In units of 2^-32 second, from 1 to 2^63 - 1; it counts only where `has_lease` is true.
     pub lease: u64,
+    /// From 1 to 2^63; it counts only where `has_max_arrivals` is true.
+    pub max_arrivals: u64,
 }
 
 fn history(keeps_last: bool, depth: u32) -> HistoryQos
@@ -97,6 +101,16 @@ fn lease(has_lease: bool, lease: u64) -> Option<u64>
     ensures { result ≡ lease_of has_lease lease }
 {
     if has_lease { Some(lease) } else { None }
+}
+
+fn max_arrivals(has_max_arrivals: bool, max_arrivals: u64) -> u64
+    ensures { result ≡ max_arrivals_of has_max_arrivals max_arrivals }
+{
+    if has_max_arrivals {
+        max_arrivals
+    } else {
+        ReaderConfig::USUAL_ARRIVALS
+    }
 }
 
 fn ownership(is_exclusive: bool) -> OwnershipQos
@@ -145,6 +159,7 @@ fn reader_config(reader: &FlatReader) -> ReaderConfig
         history: history(reader.keeps_last, reader.depth),
         max_samples: reader.max_samples,
         max_instances: reader.max_instances,
+        max_arrivals: max_arrivals(reader.has_max_arrivals, reader.max_arrivals),
         lease: lease(reader.has_lease, reader.lease),
     }
 }

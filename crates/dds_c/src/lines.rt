@@ -110,7 +110,7 @@ fn reply_text(alloc: Global, session: &Session) -> Result<String, AllocError> {
 }
 
 fn text_out(alloc: Global, session: &Session, buffer: &mut [u8], needed: &mut usize) -> u8
-    ensures written { TextWritten buffer.old buffer.new needed.new result }
+    ensures written { TextWritten buffer.old buffer.new needed.old needed.new result }
 {
     match reply_text(alloc, session) {
         Ok(text) => copy_out(text.as_bytes(), buffer, needed),
@@ -133,7 +133,8 @@ pub extern "C" fn cw_text(
     needed: &mut usize,
 ) -> u8
     // Some text is copied as far as it fits, which no clause spells, or nothing for its cause.
-    ensures text { TextFetched peer.old.held.session buffer.old buffer.new needed.new result }
+    ensures text { TextFetched peer.old.held.session
+        buffer.old buffer.new needed.old needed.new result }
     // Nothing happens to the peer.
     ensures keeps { peer.new.held.session ≡ peer.old.held.session }
 {

@@ -6,7 +6,7 @@ ghost use Rattle.std.specs.Prelude.{◌≡◌, ◌≢◌, None, IfOk, IfErr};
 ghost use Rattle.dds_base.specs.Refusal.{Refuses};
 ghost use Rattle.dds_core.specs.Listening.{Steps};
 ghost use Rattle.dds_core.specs.Opening.{core_refusal};
-ghost use Rattle.dds_core.specs.Sending.{AreMessages, Sends};
+ghost use Rattle.dds_core.specs.Sending.{AreMessages};
 ghost use Rattle.dds_conditions.specs.Filtered.{tests_of};
 ghost use Rattle.dds_protocol.specs.declared.event.Event.TheVariants as event;
 ghost use Rattle.dds_c.specs.Answering.{code_number, refusing_number};
@@ -82,7 +82,6 @@ impl Session {
         ensures step { Steps recorder_notices recorder_capacity recorder_becomes
             (tests_of prefix_meaning self.old.core.filtered.filters)
             self.old.core event self.new.last self.new.core }
-        ensures sends { Sends self.old.core.filtered.peer event self.new.last }
         ensures messages { AreMessages self.new.last.packets }
         ensures told { self.new.told ≡ self.old.told }
     {

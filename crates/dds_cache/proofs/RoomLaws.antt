@@ -2,7 +2,7 @@
 use Rattle.std.proofs.Common.{◌≡◌, ◌≢◌, ℕ, ◌+◌, ◌-◌, ◌^◌, ◌≤◌, ◌<◌, min, List, [], ◌∷◌, ◌++◌, length, filter, Bool, true, false, not, ◌==◌, ◌&&◌, ◌||◌, sym, ap, ◌∙◌, refl, subst, cond, Option, Some, None, arith, ⊎_elim, get_or, take, zero, suc}
 use Rattle.std.specs.Prelude.{if◌then◌else◌}
 use Rattle.std.specs.List.{list_any, All, count_by}
-use Rattle.std.proofs.lemmas.Bool.{and_from, and_parts, and_right, cases_Bool, le-leb, leb-true, lt-ltb}
+use Rattle.std.proofs.lemmas.Bool.{and_from, and_parts, and_right, cases_Bool, le-leb, leb-true}
 use Rattle.std.proofs.lemmas.Bool.Decides.{nat_tests}
 use Rattle.std.proofs.lemmas.List.{append-nil, get_or_default, length-append, take_all}
 use Rattle.std.proofs.lemmas.List.Sums.{sum_by-append, sum_by-cons, length-filter}
@@ -511,12 +511,12 @@ instances-spare q a h before counted within =
 -- where one sample and one instance more keep to the limits, there is room for each change
 pub spare-is-room : (q : ReaderQos) (a : Arrival) (h : List Happening) (ks : List Kept) (came known : ℕ)
     → All (IsKept q h) ks → ((i : Key) → filter (is_present q h i) (up_to (length h)) ≡ positions_in q h i ks)
-    → IsFresh h a.change.key → came ≡ min (arrivals h) (2 ^ 31 - 1) → came < 2 ^ 31 - 2
+    → IsFresh h a.change.key → came ≡ min (arrivals h) (2 ^ 64 - 1) → came < q.max_arrivals → q.max_arrivals < 2 ^ 64
     → known ≡ length (known_instances q h) → is_within q.max_samples (count_by has_data ks + 1) ≡ true
     → is_within q.max_instances (known + 1) ≡ true → true ≡ has_room q h (Came a)
-spare-is-room q a h ks came known each present fresh counted few known_is samples instances =
-    sym (ap (λ (b : Bool). b && fits (is_accepted q h (Came a))) (lt-ltb (arrivals h + 1) (2 ^ 31 - 1)
-    (omega (arith, counted, few)))
+spare-is-room q a h ks came known each present fresh counted few wide known_is samples instances =
+    sym (ap (λ (b : Bool). b && fits (is_accepted q h (Came a))) (le-leb (arrivals h + 1) q.max_arrivals
+    (omega (arith, counted, few, wide)))
     ∙ ⊎_elim
     (λ accepted. ap fits accepted
     ∙ (ap (λ (b : Bool). b && is_within q.max_instances (length (known_instances q (Came a ∷ h))))

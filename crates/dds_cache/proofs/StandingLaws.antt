@@ -66,7 +66,7 @@ holds stored h stands = record {
 }
 
 -- one more change is counted
-pub counts-more : (n m : ℕ) → n ≡ min m (2 ^ 31 - 1) → min (n + 1) (2 ^ 31 - 1) ≡ min (m + 1) (2 ^ 31 - 1)
+pub counts-more : (n m : ℕ) → n ≡ min m (2 ^ 64 - 1) → min (n + 1) (2 ^ 64 - 1) ≡ min (m + 1) (2 ^ 64 - 1)
 counts-more n m is = omega (arith, is)
 
 -- what is kept says what is true after one more entry
@@ -143,7 +143,7 @@ up-quiet q e h f ks unwritten same filled matched each up =
 -- a cache stands for one entry more, once what it keeps holds after it: the samples that the entry leaves were added to those
 -- that were left
 pub stands-added : (q : ReaderQos) (e : Happening) (h : List Happening) (left mid : List Kept) (old new : Stored)
-    → old.qos ≡ q → new.qos ≡ q → taken_by e ≡ [] → read_by e ≡ [] → new.arrivals ≡ min (arrivals (e ∷ h)) (2 ^ 31 - 1)
+    → old.qos ≡ q → new.qos ≡ q → taken_by e ≡ [] → read_by e ≡ [] → new.arrivals ≡ min (arrivals (e ∷ h)) (2 ^ 64 - 1)
     → data_available_at q (e ∷ h) ≡ (if brings_sample q (e ∷ h) then Some (length h + 1) else data_available_at q h)
     → new.data_at ≡ (if nat_lt (length left) (length mid) then Some (length h + 1) else old.data_at)
     → Leaves q e h old.samples left → Adds q e h left mid → Holds q new.instances new.samples (e ∷ h)
@@ -194,7 +194,7 @@ adds-none q e h ks absent = record {
 pub stands-quiet : (q : ReaderQos) (e : Happening) (h : List Happening) (old new : Stored) → old.qos ≡ q → new.qos ≡ q
     → IsOfMatched q e → taken_by e ≡ [] → read_by e ≡ [] → ((i : Key) → accepted_kind q i h e ≡ None)
     → ((i : Key) → registered_writers q i (e ∷ h) ≡ registered_writers q i h)
-    → new.arrivals ≡ min (arrivals (e ∷ h)) (2 ^ 31 - 1)
+    → new.arrivals ≡ min (arrivals (e ∷ h)) (2 ^ 64 - 1)
     → data_available_at q (e ∷ h) ≡ (if brings_sample q (e ∷ h) then Some (length h + 1) else data_available_at q h)
     → new.data_at ≡ old.data_at → new.samples ≡ old.samples → Stands q new.instances (e ∷ h) → StandsFor old h
     → StandsFor new (e ∷ h)
@@ -579,7 +579,7 @@ stands-entered kind ss h old new qos counted lowered past now stands = record {
       (later-apart kind ss h i j (omega (arith, later)) past).1 ∙ stands.untaken i j (omega (arith, later));
   arrivals_are =
       counted
-      ∙ (stands.arrivals_are ∙ ap (λ (n : ℕ). min n (2 ^ 31 - 1)) (sym (arrivals-access kind ss h)));
+      ∙ (stands.arrivals_are ∙ ap (λ (n : ℕ). min n (2 ^ 64 - 1)) (sym (arrivals-access kind ss h)));
   data_is = lowered ∙ sym (data-access kind new.qos ss h);
   matched = now.matched;
   in_order = now.in_order;

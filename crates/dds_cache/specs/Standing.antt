@@ -60,7 +60,7 @@ pub record StandsFor (stored : Stored) (h : List Happening) : Type 0 where
       (up_to (length h)) ≡ positions_in stored.qos h i stored.samples
   pub unread : (i : Key) (j : ℕ) → length h < j → is_read (sample_at i j) h ≡ false
   pub untaken : (i : Key) (j : ℕ) → length h < j → is_taken (sample_at i j) h ≡ false
-  pub arrivals_are : stored.arrivals ≡ min (arrivals h) (2 ^ 31 - 1)
+  pub arrivals_are : stored.arrivals ≡ min (arrivals h) (2 ^ 64 - 1)
   pub data_is : stored.data_at ≡ data_available_at stored.qos h
   pub matched : AreOfMatched stored.qos h
   pub in_order : IsNonDecreasingBy position_of stored.samples

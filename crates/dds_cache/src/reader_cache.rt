@@ -62,8 +62,8 @@ pub struct ReaderCache {
     /// The present samples, and some that are no longer present: dropped by the history, or taken; none of an instance that
     /// is not known any more.
     samples: Vec<Kept>,
-    /// How many changes came: at most `MAX_ARRIVALS`, where it stays.
-    arrivals: u32,
+    /// How many changes came; it stays at its greatest value.
+    arrivals: u64,
     /// How many samples there are when they are swept next.
     sweep_at: usize,
     /// How many of them were taken, how many of the others were read, and have data, and where those of each instance are.
@@ -400,8 +400,9 @@ impl ReaderCache {
         Ok(())
     }
 
-    /// Whether there is room for a change by the limits of the policies: fewer than 2^31 - 1 changes came with it, and
-    /// if it is accepted, the present writes and the known instances are as many as they may be. It needs no memory.
+    /// Whether there is room for a change by the limits of the policies: with it no more changes came than the reader takes
+    /// in its life, and if it is accepted, the present writes and the known instances are as many as they may be. It needs
+    /// no memory.
     ///
     /// It goes over the samples that the change would push out of its history, where as many writes are present as may be; and
     /// along those of its instance where as many instances are known as may be, and it would leave nobody registered. Where it

@@ -29,18 +29,11 @@ use crate::summary::Summary;
 use dds_base::{Arrival, ReaderQos};
 use dds_instances::{Instances, KnownInstance};
 
-/// Fewer changes than this come at a reader.
-const MAX_ARRIVALS: u32 = (1 << 31) - 1;
-
-/// How many changes came once one more has; the count stays at `MAX_ARRIVALS`.
-pub fn count_arrival(arrivals: u32) -> u32
-    ensures { result ≡ min (arrivals + 1) (2 ^ 31 - 1) }
+/// How many changes came once one more has; the count stays at its greatest value.
+pub fn count_arrival(arrivals: u64) -> u64
+    ensures { result ≡ min (arrivals + 1) (2 ^ 64 - 1) }
 {
-    if arrivals < MAX_ARRIVALS {
-        arrivals + 1
-    } else {
-        MAX_ARRIVALS
-    }
+    arrivals.saturating_add(1)
 }
 
 /// Whether the number, or the one after it, keeps to the limit, if there is one.
@@ -194,17 +187,17 @@ pub fn is_room(
     qos: &ReaderQos,
     samples: &[Kept],
     summary: &Summary,
-    arrivals: u32,
+    arrivals: u64,
     arrival: &Arrival,
 ) -> bool
     requires counted { IsSummary samples.now summary.now }
     ensures room { (h : List Happening) → Holds qos.now instances.old samples.now h
         → IsFresh h arrival.now.change.key
-        → arrivals ≡ min (arrivals_of h) (2 ^ 31 - 1)
+        → arrivals ≡ min (arrivals_of h) (2 ^ 64 - 1)
         → result ≡ has_room qos.now h (Came arrival.now) }
     ensures same { instances.new ≡ instances.old }
 {
-    if MAX_ARRIVALS - 1 <= arrivals {
+    if qos.max_arrivals <= arrivals {
         return false;
     }
     if has_spare(qos, summary.writes, instances.len()) {

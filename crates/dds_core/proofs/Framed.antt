@@ -1,5 +1,5 @@
 -- A submessage whose body is not read yet is taken up as the one that it is.
-use Rattle.std.proofs.Common.{◌≡◌, ℕ, List, Option, refl}
+use Rattle.std.proofs.Common.{◌≡◌, ℕ, List, Option, refl, inl}
 use Rattle.std.specs.Prelude.{Result, Ok, Err, OnErr, OnOk}
 use Rattle.dds_base.specs.declared.guid.GuidPrefix.{GuidPrefix}
 use Rattle.rtps_wire.specs.declared.acknack.AckNack.{AckNack as AckNackBody}
@@ -24,7 +24,7 @@ takes_for_receiver old at id flags body s effects left other nobody read leaves 
   is_read = read;
   takes =
       readers_take old old at s effects effects other
-      (nobody_told old at s effects (λ i k there reader_id writer_id by row named. nobody reader_id writer_id by));
+      (nobody_told old at s effects (λ i k there. inl (λ reader_id writer_id by row named. nobody reader_id writer_id by)));
   leaves = leaves;
 }
 

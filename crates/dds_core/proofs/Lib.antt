@@ -31,6 +31,7 @@ pub mod Named
 pub mod Rows
 pub mod Takes
 pub mod TakenSoFar
+pub mod Idle
 pub mod Turns
 pub mod Ready
 pub mod LastReader

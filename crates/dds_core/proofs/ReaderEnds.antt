@@ -35,6 +35,7 @@ qos_with r writers =
       history = r.history;
       max_samples = limit_of r.max_samples;
       max_instances = limit_of r.max_instances;
+      max_arrivals = r.max_arrivals;
       writers = writers;
     }
 
@@ -47,6 +48,7 @@ pub qos_as : (r : ReaderConfig) (samples instances : Option ℕ) (writers matche
       history = r.history;
       max_samples = samples;
       max_instances = instances;
+      max_arrivals = r.max_arrivals;
       writers = writers;
     }) (qos_with r matched)
 qos_as r samples instances writers matched e f g = cc

@@ -15,6 +15,9 @@ use Rattle.dds_machine.specs.declared.endpoint.Endpoint.{Endpoint}
 use Rattle.rtps_reader.specs.declared.step.Step.{Step}
 use Rattle.dds_machine.specs.declared.reply.Move.{Move}
 use Rattle.dds_protocol.specs.Claims.{Receiver, Names}
+use Rattle.dds_protocol.specs.Protocol.{may_do}
+use Rattle.dds_base.specs.declared.qos.ReaderQos.{ReaderQos}
+use Rattle.dds_base.specs.Matched.{is_reliable}
 use Rattle.dds_machine.specs.Part.{WriterProxy, Reader}
 use Rattle.dds_core.specs.declared.delivery.FirstNamed.{FirstNamed}
 use Rattle.dds_core.specs.declared.matching.WriterName.{WriterName}
@@ -114,11 +117,11 @@ named_here own at s readers first i k h at_k is =
 -- its row, where the submessage names these
 pub row_named : (own : GuidPrefix) (at : Receiver) (s : Submessage) (readers : List ReaderKept) (first : FirstNamed)
     (i : ℕ) (k : ReaderKept) (row : Option ℕ) → IsFirstNamed own at s readers first → slice_get readers i ≡ Some k
-    → ((t : Submessage) → NamedBy t first.ids.reader first.ids.writer → (i < first.index → IsReadyFor own at t k None)
-    → (i ≡ first.index → IsNamedAt own at t k first.row) → IsRowOf own at t k row)
+    → ((i < first.index → IsReadyFor own at s k None)
+    → (i ≡ first.index → IsNamedAt own at s k first.row) → IsRowOf own at s k row)
     → IsRowOf own at s k row
 row_named own at s readers first i k row h at_k named =
-    named s h.by (λ lt. h.before i k lt at_k) (named_here own at s readers first i k h at_k)
+    named (λ lt. h.before i k lt at_k) (named_here own at s readers first i k h at_k)
 
 -- more memory, and it is named as well
 named_alike : (own : GuidPrefix) (at : Receiver) (s : Submessage) (old new : ReaderKept) (row : ℕ) → IsAlike old new
@@ -139,15 +142,24 @@ named_alike own at s old new row h is = record {
 pub ready_for : (own : GuidPrefix) (at : Receiver) (s : Submessage) (old new : ReaderKept) (row : Option ℕ)
     (one : Option Ready) → IsAlike old new → IsRowOf own at s old row → IsPrepared row at s new one
     → IsReadyFor own at s new one
-ready_for own at s old new None None h none is = λ reader_id writer_id by k here.
+ready_for own at s old new None None h (inl none) is = inl (λ reader_id writer_id by k here.
     none reader_id writer_id by k
     (record {
       is_for = here.is_for;
       named = subst (λ (e : EntityId). Names reader_id e) h.entity here.named;
       first = subst (λ (ns : List WriterName). IsFirstName ns (writer_guid at writer_id) k) h.writers here.first;
-    })
+    }))
+ready_for own at s old new None None h (inr idle) is = inr (record {
+  row = idle.row;
+  named = named_alike own at s old new idle.row h idle.named;
+  idle = record {
+    known = idle.idle.known;
+    tracks = h.reader idle.row idle.idle.known idle.idle.tracks;
+    does = ap (λ (q : ReaderQos). may_do (is_reliable q.reliability) idle.idle.known s) h.qos ∙ idle.idle.does;
+  };
+})
 ready_for own at s old new None (Some ready) h none is = absurd cc
-ready_for own at s old new (Some row) None h named is = λ reader_id writer_id by k here. is reader_id writer_id by
+ready_for own at s old new (Some row) None h named is = inl (λ reader_id writer_id by k here. is reader_id writer_id by)
 ready_for own at s old new (Some row) (Some ready) h named is =
     let now : IsNamedAt own at s new ready.row =
     subst (λ (n : ℕ). IsNamedAt own at s new n) (sym is.row_is) (named_alike own at s old new row h named) in

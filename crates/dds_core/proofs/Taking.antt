@@ -48,7 +48,7 @@ use Rattle.dds_core.proofs.TakenSoFar.{TakenTo, TakesTo}
 use Rattle.dds_core.specs.Sending.{AreMessages}
 use Rattle.dds_core.specs.Standing.{StandsFor}
 use Rattle.dds_core.specs.Ruling.{IsSound}
-use Rattle.dds_core.specs.Stepping.{Steps, StepsBy, SoundSteps, SoundStepsBy}
+use Rattle.dds_core.specs.Stepping.{Sends, Steps, StepsBy, SoundSteps, SoundStepsBy}
 use Rattle.dds_machine.specs.Watching.{Tests}
 use Rattle.dds_protocol.proofs.Growth.{TickStep-rows}
 use Rattle.dds_core.proofs.Beating.{written_on}
@@ -367,22 +367,23 @@ effect_readers old nothing = refl
 effect_readers old (writes w entry) = refl
 
 pub sound_call : {tests : Tests} (old new : PeerKept) (call : Call) (output : Output)
-    → StepsBy tests old (event.Call call) output new → SoundStepsBy tests old (event.Call call) output new
-sound_call old new call output steps config peer s sound =
+    → StepsBy tests old (event.Call call) output new → Sends old (event.Call call) output
+    → SoundStepsBy tests old (event.Call call) output new
+sound_call old new call output steps sends config peer s sound =
     let r = steps config peer s in
     let readers : r.0.part.rtps.readers ≡ peer.part.rtps.readers =
     ap (λ (x : Rtps). x.readers) r.1.step.0.rtps
     ∙ effect_readers peer.part.rtps (effect_of peer.part call output.reply) in
-    (r.0, r.1, r.2, sound_still config peer r.0 r.1.same_number r.1.knows r.1.step.1 readers sound, tt)
+    (r.0, r.1, r.2, sound_still config peer r.0 r.1.same_number r.1.knows r.1.step.1 readers sound, sends config peer s)
 
 pub sound_tick : (old new : PeerKept) (now : ℕ) (output : Output) → Steps old (event.Tick now) output new
-    → SoundSteps old (event.Tick now) output new
-sound_tick old new now output steps config peer s sound =
+    → Sends old (event.Tick now) output → SoundSteps old (event.Tick now) output new
+sound_tick old new now output steps sends config peer s sound =
     let r = steps config peer s in (
       r.0,
       r.1,
       r.2,
       sound_still config peer r.0 r.1.same_number r.1.knows r.1.step.1
           (TickStep-rows peer.part now output.reply r.0.part r.1.step.0) sound,
-      tt,
+      sends config peer s,
     )

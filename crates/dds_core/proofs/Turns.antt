@@ -1,5 +1,5 @@
 -- The peer's readers take a submessage up, one after the other, by the rules of the protocol.
-use Rattle.std.proofs.Common.{◌≡◌, ℕ, ℤ, zero, suc, ◌+◌, ◌<◌, Bool, true, false, List, [], ◌∷◌, ◌++◌, Option, Some, None, drop, length, slice_get, refl, ap, sym, ◌∙◌, subst, arith, inl, inr, append_assoc, nat_lt}
+use Rattle.std.proofs.Common.{◌≡◌, ℕ, ℤ, zero, suc, ◌+◌, ◌<◌, ◌≤◌, Bool, true, false, List, [], ◌∷◌, ◌++◌, Option, Some, None, drop, length, slice_get, refl, ap, sym, ◌∙◌, subst, arith, inl, inr, append_assoc, nat_lt}
 use Rattle.std.specs.Prelude.{IfSome, if◌then◌else◌}
 use Rattle.std.proofs.lemmas.Option.{same_Some}
 use Rattle.std.proofs.lemmas.List.{append-nil}
@@ -16,8 +16,11 @@ use Rattle.dds_cache.specs.Standing.{qos_of}
 use Rattle.rtps_reader.specs.declared.step.AckNackDue.{AckNackDue}
 use Rattle.rtps_reader.specs.declared.step.Step.{Step}
 use Rattle.rtps_reader.specs.declared.step.HeartbeatSeen.{HeartbeatSeen}
+use Rattle.rtps_reader.specs.declared.writer_proxy.WriterProxy.{WriterProxy as RtpsProxy}
+use Rattle.rtps_reader.specs.Proxy.{tracked}
 use Rattle.rtps_reader.specs.Tracked.{Tracked, with_data, with_gap}
-use Rattle.rtps_reader.specs.Reader.{Tracks, OthersStay, match_at, MovesOn, JumpsOn}
+use Rattle.rtps_reader.proofs.MoveLaws.{same_is}
+use Rattle.rtps_reader.specs.Reader.{Proxies, Tracks, OthersStay, match_at, MovesOn, JumpsOn}
 use Rattle.rtps_wire.specs.declared.heartbeat.Heartbeat.{Heartbeat as HeartbeatBody}
 use Rattle.rtps_wire.specs.declared.submessage.Submessage.{Submessage}
 use Rattle.rtps_wire.specs.declared.submessage.Submessage.TheVariants.{Data, Heartbeat, Gap}
@@ -28,7 +31,7 @@ use Rattle.dds_machine.specs.declared.reply.Move.TheVariants.{Place, Heard}
 use Rattle.dds_protocol.specs.Claims.{Receiver, IsToReader, Names}
 use Rattle.dds_protocol.specs.Peer.{Peer, state_of}
 use Rattle.dds_protocol.specs.DueMessages.{Due, acknacks_due}
-use Rattle.dds_protocol.specs.Protocol.{State, InTurn, MayNeedMemory, TakesChange, TakesGap, heard_as, TakesHeartbeat, TakesOrNot, ReaderTakes}
+use Rattle.dds_protocol.specs.Protocol.{State, InTurn, MayNeedMemory, TakesChange, TakesGap, heard_as, TakesHeartbeat, TakesOrNot, ReaderTakes, may_do}
 use Rattle.dds_core.specs.declared.delivery.FirstNamed.{FirstNamed}
 use Rattle.dds_core.specs.declared.matching.WriterName.{WriterName}
 use Rattle.dds_core.specs.declared.effects.Effects.{Effects}
@@ -39,7 +42,10 @@ use Rattle.dds_core.specs.declared.reader_end.Told.TheVariants as told
 use Rattle.dds_core.specs.Identity.{reliable_in}
 use Rattle.dds_core.specs.Kept.{ReaderKept, PeerKept}
 use Rattle.dds_core.proofs.Names.{own_reader_is}
-use Rattle.dds_core.specs.Readiness.{IsReadyWith, IsReadyFor, AreReady, IsFirstNamed, NamesNone, NamedBy, IsToldBy, SameReader, TellsSo, moves_of, writer_guid}
+use Rattle.dds_core.specs.Readiness.{IsReadyWith, IsReadyFor, IsNamedAt, IsUnnamed, AreReady, IsFirstNamed, NamesNone, NamedBy, IsToldBy, SameReader, TellsSo, moves_of, seen_in, writer_guid}
+use Rattle.dds_core.proofs.Idle.{jumps_nowhere, stays_with}
+use Rattle.dds_base.specs.Places.{Match}
+use Rattle.dds_base.specs.declared.happening.Happening.{Happening}
 use Rattle.dds_core.specs.Moved.{MovesKept}
 use Rattle.dds_core.specs.Receiving.{TakesAt, TookAt, with_state, NeedsMemory, ReadersTook, TakesAll, TellsReaders, StandsAsWell}
 use Rattle.dds_core.proofs.TakenSoFar.{TakesSome}
@@ -48,7 +54,7 @@ use Rattle.dds_core.specs.Standing.{IsFirstRow, StandsFor}
 use Rattle.dds_core.proofs.Beating.{adds_none, adds_on}
 use Rattle.dds_core.specs.Storing.{Holds}
 use Rattle.dds_core.proofs.Ends.{with_reader, with_read}
-use Rattle.dds_core.proofs.Lists.{element, left_at, left_more, drop_set}
+use Rattle.dds_core.proofs.Lists.{element, left_at, left_more, drop_set, set_back}
 use Rattle.dds_core.proofs.Named.{first_row, is_to, row_of_writer}
 use Rattle.std.proofs.lemmas.Bool.Decides.{nat_tests}
 use Rattle.dds_machine.specs.Numbered.{with_numbered}
@@ -272,6 +278,28 @@ told_so c own at s said k' from step reader_id writer_id by is to policy same ot
 abbrev pub answer_due : GuidPrefix → ReaderKept → WriterName → Step → List Due
 answer_due own k name step = acknacks_due own name.guid.prefix name.writer.peer k.entity name.guid.entity step.acknack
 
+-- a reader that a submessage names
+abbrev telling : (config : Config) (peer : Peer) (kept : PeerKept) (at : Receiver) (s : Submessage) (i : ℕ) (k : ReaderKept)
+    (row : ℕ) → StandsFor kept config peer → slice_get kept.readers i ≡ Some k → IsNamedAt kept.prefix at s k row → Telling
+telling config peer kept at s i k row stands at_k is = record {
+  config = config;
+  peer = peer;
+  kept = kept;
+  stands = stands;
+  i = i;
+  k = k;
+  at = at_k;
+  writer = is.named.first.name.writer;
+  row = row;
+  first = first_row config peer kept stands i k at_k _ row is.named.first;
+}
+
+-- one thing alone is known of a writer
+tracks_one : (reader : Proxies) (row : ℕ) (t u : Tracked) → Tracks reader row t → Tracks reader row u → t ≡ u
+tracks_one reader row t u a b =
+    same_is _ _ a.2
+    ∙ (ap (λ (p : RtpsProxy). tracked p) (same_Some a.0 b.0 (sym a.1 ∙ b.1)) ∙ sym (same_is _ _ b.2))
+
 -- the reader of this index took up what was ready for it
 took : (config : Config) (peer : Peer) (kept new : PeerKept) (at : Receiver) (s : Submessage) (i : ℕ) (k : ReaderKept)
     (ready : Ready) (moves : List Move) (sent : Announced) (after : List Move) (gone : Announced)
@@ -324,29 +352,97 @@ took config peer kept new at s i k ready moves sent after gone stands at_k is t 
     same_name : own_name ≡ t.name
     same_name = same_Some own_name t.name (sym is.named.first.at ∙ t.at_name)
 
--- nothing is ready for it, and so it has nothing to do
-idles : (config : Config) (peer : Peer) (kept : PeerKept) (at : Receiver) (s : Submessage) (i : ℕ) (k : ReaderKept)
-    → StandsFor kept config peer → slice_get kept.readers i ≡ Some k → IsReadyFor kept.prefix at s k None
+-- it is not named, and so it has nothing to do
+unnamed : (config : Config) (peer : Peer) (kept : PeerKept) (at : Receiver) (s : Submessage) (i : ℕ) (k : ReaderKept)
+    → StandsFor kept config peer → slice_get kept.readers i ≡ Some k → IsUnnamed kept.prefix at s k
     → ReaderTakes config kept.prefix peer.number at s (suc i) (state_of peer) [] [] (state_of peer)
-idles config peer kept at (Data d) i k stands at_k none =
+unnamed config peer kept at (Data d) i k stands at_k none =
     inr (
       λ w to. row_of_writer config peer kept stands i k at_k at d.reader_id d.writer_id w to
           (none d.reader_id d.writer_id (refl, refl)),
       (refl, refl, refl),
     )
-idles config peer kept at (Gap g) i k stands at_k none =
+unnamed config peer kept at (Gap g) i k stands at_k none =
     inr (
       λ w to. row_of_writer config peer kept stands i k at_k at g.reader_id g.writer_id w to
           (none g.reader_id g.writer_id (refl, refl)),
       (refl, refl, refl),
     )
-idles config peer kept at (Heartbeat h) i k stands at_k none =
+unnamed config peer kept at (Heartbeat h) i k stands at_k none =
     inr (
       λ w to. row_of_writer config peer kept stands i k at_k at h.reader_id h.writer_id w to
           (none h.reader_id h.writer_id (refl, refl)),
       (refl, refl, refl),
     )
-idles config peer kept at s i k stands at_k none = (refl, refl, refl)
+unnamed config peer kept at s i k stands at_k none = (refl, refl, refl)
+
+-- what a reader is told that does nothing at it
+said_of : Bool → Receiver → Submessage → Told
+said_of true at (Data d) = told.Change d.writer_sn (change_in d.content at.timestamp)
+said_of false at (Data d) = told.Jump d.writer_sn (change_in d.content at.timestamp)
+said_of reliable at (Heartbeat h) = told.Heartbeat (seen_in (heard_as reliable h))
+said_of reliable at s = told.Nothing
+
+-- what it then does
+abbrev idle_step : Tracked → Step
+idle_step t = record { to = t.place; passed = []; heard = false; acknack = None }
+
+-- a submessage that can do nothing is told so, and nothing was done
+says_idle : (reliable : Bool) (at : Receiver) (s : Submessage) (reader_id writer_id : EntityId) (match : Match)
+    (t : Tracked) (h : List Happening) (Knows : Tracked → Type 0) (Has : List Happening → Type 0)
+    → NamedBy s reader_id writer_id → may_do reliable t s ≡ false → Knows t → Has h
+    → IsToldBy reliable at s (said_of reliable at s)
+    × TellsSo match (said_of reliable at s) t h (idle_step t) Knows Has
+unfolding said_of
+says_idle true at (Data d) reader_id writer_id match t h Knows Has by is knows has =
+    ((refl, refl, refl), stays_with d.writer_sn (change_in d.content at.timestamp) match t h Knows Has is knows has)
+says_idle false at (Data d) reader_id writer_id match t h Knows Has by is knows has =
+    ((refl, refl, refl), jumps_nowhere d.writer_sn (change_in d.content at.timestamp) match t h Knows Has is knows has)
+says_idle true at (Gap g) reader_id writer_id match t h Knows Has by is knows has =
+    absurd (let clash : true ≡ false = is in cc)
+says_idle false at (Gap g) reader_id writer_id match t h Knows Has by is knows has =
+    (refl, (record { to = refl; passed = refl; heard = refl; acknack = refl }, knows, has))
+says_idle reliable at (Heartbeat b) reader_id writer_id match t h Knows Has by is knows has = (
+  refl,
+  inr (
+    ap (λ (n : ℤ). is_later t.count n) (heard_count reliable b) ∙ is,
+    record { to = refl; passed = refl; heard = refl; acknack = refl },
+    knows,
+    has,
+  ),
+)
+says_idle reliable at s reader_id writer_id match t h Knows Has by is knows has = absurd by
+
+-- nothing is ready for it, and so it does nothing
+idles : (config : Config) (peer : Peer) (kept : PeerKept) (at : Receiver) (s : Submessage) (i : ℕ) (k : ReaderKept)
+    → StandsFor kept config peer → slice_get kept.readers i ≡ Some k → IsReadyFor kept.prefix at s k None
+    → ReaderTook config kept.prefix at s (suc i) peer [] [] kept
+idles config peer kept at s i k stands at_k (inl none) = record {
+  state = state_of peer;
+  takes = unnamed config peer kept at s i k stands at_k none;
+  stands = stands;
+}
+idles config peer kept at s i k stands at_k (inr idle) =
+    let is : IsNamedAt kept.prefix at s k idle.row = idle.named in
+    let c : Telling = telling config peer kept at s i k idle.row stands at_k is in
+    let knows : Tracks k.reader idle.row (known_of c) = (stood c).knows c.writer idle.row c.first in
+    let may : may_do (reliable_in k.store) (known_of c) s ≡ false =
+    subst (λ (t : Tracked). may_do (reliable_in k.store) t s ≡ false)
+    (tracks_one k.reader idle.row idle.idle.known (known_of c) idle.idle.tracks knows) idle.idle.does in
+    let said =
+    says_idle (reliable_in k.store) at s is.reader_id is.writer_id
+    (match_at (qos_of k.store.cache) idle.row kept.moment) (known_of c) (reader_of c).happened
+    (Tracks k.reader idle.row) (λ h. Holds k.store h) is.by may knows (stood c).holds in
+    let r =
+    told_so c kept.prefix at s (said_of (reliable_in k.store) at s) k (known_of c).place (idle_step (known_of c))
+    is.reader_id is.writer_id is.by said.0
+    (is_to config peer kept stands i k at_k at is.reader_id is.writer_id idle.row is.named)
+    (own_reader_is config peer.number kept stands.is_peer i k at_k).reliable
+    (record { entity = refl; writers = refl; qos = refl; seen = refl }) (λ j t apart h. h) refl said.1 in
+    subst (λ (x : PeerKept). ReaderTook config kept.prefix at s (suc i) peer [] [] x)
+    (ap (λ (rs : List ReaderKept). record kept { readers = rs }) (set_back kept.readers i k k at_k refl))
+    (subst (λ (ms : List Move). ReaderTook config kept.prefix at s (suc i) peer ms [] (with_reader kept i k))
+    (no_moves c.writer (i + 1) (known_of c).place (idle_step (known_of c)) refl refl) r)
 
 -- ---- one reader after the other
 
@@ -404,64 +500,41 @@ number_at first (suc count) zero x at = let is = same_Some first x at in (omega 
 number_at first (suc count) (suc k) x at =
     let f = number_at (first + 1) count k x at in let lt = f.0 in let is = f.1 in (omega (arith, lt), omega (arith, is))
 
--- one that names a reader may need memory
+-- what may do something at a reader may need memory
+needs : (c : Telling) (own : GuidPrefix) (at : Receiver) (s : Submessage) (reader_id writer_id : EntityId)
+    → NamedBy s reader_id writer_id
+    → (to : IsToReader c.config own at reader_id writer_id c.writer (record { peer = c.peer.number; number = suc c.i }))
+    → may_do (is_reliable_reader to.to.end) (known_of c) s ≡ true
+    → MayNeedMemory c.config own c.peer.number at s (state_of c.peer)
+needs c own at (Data d) reader_id writer_id by to may =
+    (c.writer, suc c.i, named_as c own at reader_id writer_id d.reader_id d.writer_id by.0 by.1 to, may)
+needs c own at (Gap g) reader_id writer_id by to may =
+    (c.writer, suc c.i, named_as c own at reader_id writer_id g.reader_id g.writer_id by.0 by.1 to, may)
+needs c own at (Heartbeat h) reader_id writer_id by to may =
+    (c.writer, suc c.i, named_as c own at reader_id writer_id h.reader_id h.writer_id by.0 by.1 to, may)
+needs c own at s reader_id writer_id by to may = absurd by
+
+-- so may one that names a reader, and may do something there
 pub named_needs : (old : PeerKept) (at : Receiver) (s : Submessage) (first : FirstNamed)
     → IsFirstNamed old.prefix at s old.readers first → NeedsMemory old at s
 named_needs old at s first is config peer stands =
-    needs s is.named.reader_id is.named.writer_id is.named.by is.named.named.first.name.writer
-    (is_to config peer old stands first.index is.reader is.there at is.named.reader_id is.named.writer_id first.row
+    let k : ReaderKept = is.reader in
+    let c : Telling = telling config peer old at s first.index k first.row stands is.there is.named in
+    let knows : Tracks k.reader first.row (known_of c) = (stood c).knows c.writer first.row c.first in
+    let may : may_do (reliable_in k.store) (known_of c) s ≡ true =
+    subst (λ (t : Tracked). may_do (reliable_in k.store) t s ≡ true)
+    (tracks_one k.reader first.row is.does.known (known_of c) is.does.tracks knows) is.does.does in
+    needs c old.prefix at s is.named.reader_id is.named.writer_id is.named.by
+    (is_to config peer old stands first.index k is.there at is.named.reader_id is.named.writer_id first.row
     is.named.named)
-  where
-    own : Endpoint
-    own = record { peer = peer.number; number = suc first.index }
-
-    named_by : (a b d e : EntityId) (w : Endpoint) → a ≡ d → b ≡ e → IsToReader config old.prefix at a b w own
-        → IsToReader config old.prefix at d e w own
-    named_by a b d e w f g to =
-        subst (λ (x : EntityId). IsToReader config old.prefix at x e w own) f
-        (subst (λ (x : EntityId). IsToReader config old.prefix at a x w own) g to)
-
-    needs : (s : Submessage) (reader_id writer_id : EntityId) → NamedBy s reader_id writer_id → (w : Endpoint)
-        → IsToReader config old.prefix at reader_id writer_id w own
-        → MayNeedMemory config old.prefix peer.number at s (state_of peer)
-    needs (Data d) reader_id writer_id by w to =
-        (w, own, named_by reader_id writer_id _ _ w by.0 by.1 to, refl)
-    needs (Gap g) reader_id writer_id by w to =
-        (w, own, named_by reader_id writer_id _ _ w by.0 by.1 to, refl)
-    needs (Heartbeat h) reader_id writer_id by w to =
-        (w, own, named_by reader_id writer_id _ _ w by.0 by.1 to, refl)
-    needs s reader_id writer_id by w to = absurd by
+    (ap (λ (b : Bool). may_do b (known_of c) s)
+    (own_reader_is config peer.number old stands.is_peer first.index k is.there).reliable ∙ may)
 
 -- so does what was found among the readers of a peer
 pub needs_if : (found : Option FirstNamed) (now : PeerKept) (at : Receiver) (s : Submessage)
     → IfSome found (IsFirstNamed now.prefix at s now.readers) → IfSome found (λ first. NeedsMemory now at s)
 needs_if None now at s h = tt
 needs_if (Some first) now at s h = named_needs now at s first h
-
--- a submessage that names none of the readers is taken up, and nothing is done
-pub nobody_told : (old : PeerKept) (at : Receiver) (s : Submessage) (effects : Effects)
-    → NamesNone old.prefix at s old.readers → TellsReaders old at s effects old effects
-nobody_told old at s effects none = record {
-  made = [];
-  after_is = sym (append-nil effects.moves.items);
-  takes = λ config peer stands. record {
-    state = state_of peer;
-    dues = [];
-    turn =
-        turn_idle (ReaderTakes config old.prefix peer.number at s) (numbers_from 1 (length old.readers))
-        (state_of peer)
-        (λ j x there.
-        let f = number_at 1 (length old.readers) j x there in
-        let found = element old.readers j f.0 in
-        subst (λ (n : ℕ). ReaderTakes config old.prefix peer.number at s n (state_of peer) [] [] (state_of peer))
-        (next f.1) (idles config peer old at s j found.0 stands found.1 (none j found.0 found.1)));
-    stands = stands;
-    adds = adds_none effects.sent.packets.items effects.sent.unsent;
-  };
-}
-  where
-    next : {k x : ℕ} → x ≡ k + 1 → suc k ≡ x
-    next is = omega (arith, is)
 
 -- none has taken it up yet
 pub takes_none : (old : PeerKept) (ready : List (Option Ready)) (effects : Effects)
@@ -505,6 +578,32 @@ more_took config own at s i peer made one due sent mid gone now new before after
     one_on : (n : ℕ) → suc n ≡ 1 + n
     one_on n = omega arith
 
+-- a submessage that can do nothing at the readers is taken up, and nothing is done
+pub nobody_told : (old : PeerKept) (at : Receiver) (s : Submessage) (effects : Effects)
+    → NamesNone old.prefix at s old.readers → TellsReaders old at s effects old effects
+nobody_told old at s effects none = record {
+  made = [];
+  after_is = sym (append-nil effects.moves.items);
+  takes = λ config peer stands. so_far config peer stands (length old.readers) (omega arith);
+}
+  where
+    so_far : (config : Config) (peer : Peer) → StandsFor old config peer → (count : ℕ) → count ≤ length old.readers
+        → ReadersTook config old.prefix at s count peer [] effects.sent old effects.sent
+    so_far config peer stands zero within = record {
+      state = state_of peer;
+      dues = [];
+      turn = (refl, refl, refl);
+      stands = stands;
+      adds = adds_none effects.sent.packets.items effects.sent.unsent;
+    }
+    so_far config peer stands (suc i) within =
+        let before = so_far config peer stands i (omega (arith, within)) in
+        let k = element old.readers i (omega (arith, within)) in
+        let r =
+        idles config (with_state peer before.state) old at s i k.0 before.stands k.1 (none i k.0 k.1) in
+        more_took config old.prefix at s i peer [] [] [] effects.sent effects.sent effects.sent old old before r.state
+        r.takes r.stands (adds_none effects.sent.packets.items effects.sent.unsent)
+
 next_index : (n : ℕ) → suc n ≡ n + 1
 next_index n = omega arith
 
@@ -523,13 +622,13 @@ takes_skip old now ready i effects after h within none =
           h.takes at s are config peer stands in
           let k = element old.readers i within in
           let at_now : slice_get now.readers i ≡ Some k.0 = left_at now.readers old.readers i k.0 h.left k.1 in
-          let idle : ReaderTakes config now.prefix peer.number at s (suc i) t.state [] [] t.state =
+          let r =
           idles config (with_state peer t.state) now at s i k.0 t.stands at_now
           (subst (λ p. IsReadyFor p at s k.0 None) (sym h.prefix) (are.each i k.0 None k.1 none)) in
-          let same : ReaderTakes config old.prefix peer.number at s (suc i) t.state [] [] t.state =
-          subst (λ p. ReaderTakes config p peer.number at s (suc i) t.state [] [] t.state) h.prefix idle in
+          let same : ReaderTakes config old.prefix peer.number at s (suc i) t.state [] [] r.state =
+          subst (λ p. ReaderTakes config p peer.number at s (suc i) t.state [] [] r.state) h.prefix r.takes in
           subst (λ ms. ReadersTook config old.prefix at s (suc i) peer ms sent now gone) (append-nil h.made)
-          (more_took config old.prefix at s i peer h.made [] [] sent gone gone now now t t.state same t.stands
+          (more_took config old.prefix at s i peer h.made [] [] sent gone gone now now t r.state same r.stands
           (adds_none gone.packets.items gone.unsent));
       left = left_more now.readers old.readers i h.left;
       prefix = h.prefix;

@@ -22,9 +22,8 @@ use Rattle.dds_protocol.specs.DueMessages.{Due, AreSent, assertions_due, changes
 use Rattle.dds_protocol.specs.Peer.{Peer, PeerStep, EventStep}
 use Rattle.dds_core.specs.declared.twin.Twin.{Twin}
 use Rattle.dds_core.specs.declared.twin.Twin.TheVariants.{Unasked, Asked, Kept}
-use Rattle.dds_core.specs.Kept.{PeerKept}
 use Rattle.dds_core.specs.Listening.{CoreKept, Steps}
-use Rattle.dds_core.specs.Sending.{AreMessages, Sends, SendsChange, SendsFor, SendsNothing, due_at_tick}
+use Rattle.dds_core.specs.Sending.{AreMessages, SendsChange, SendsFor, SendsNothing, due_at_tick}
 use Rattle.dds_core.specs.Ruling.{KeepsRules}
 use Rattle.dds_core.specs.Twins.{AreLeft, IsPlain, IsTwin, Leaves, LosesPackets, wants_two}
 
@@ -217,17 +216,6 @@ effect_sent config peer (writes w (StrengthSet strength)) output less l none = n
 effect_sent config peer (writes w (Ticked now behind)) output less l none = nothing_sent output less l none
 effect_sent config peer nothing output less l none = nothing_sent output less l none
 
--- what goes out at an event
-pub loses_sends : (old : PeerKept) (e : Event) (output less : Output) → LosesPackets output less → Sends old e output
-    → Sends old e less
-loses_sends old (event.Call call) output less l sends = λ config peer given.
-    subst (λ (r : Reply). SendsFor config peer (effect_of peer.part call r) less) (sym l.reply)
-    (effect_sent config peer (effect_of peer.part call output.reply) output less l (sends config peer given))
-loses_sends old (event.Tick now) output less l sends = λ config peer given.
-    subst (λ (r : Reply). AreSent (due_at_tick config peer r) less.packets less.unsent) (sym l.reply)
-    (dues_sent (due_at_tick config peer output.reply) output less l (sends config peer given))
-loses_sends old (event.Deliver packet) output less l sends = tt
-
 pub loses_messages : (output less : Output) → LosesPackets output less → AreMessages output.packets
     → AreMessages less.packets
 loses_messages output less l messages = λ packet m. messages packet (l.leaves.of_packets packet m)
@@ -243,8 +231,12 @@ loses_step config tests old e output less new l s = record {
 
 loses_rules : (config : Config) (old : Peer) (e : Event) (output less : Output) (new : Peer) → LosesPackets output less
     → KeepsRules config old e output new → KeepsRules config old e less new
-loses_rules config old (event.Call call) output less new l k = tt
-loses_rules config old (event.Tick now) output less new l k = tt
+loses_rules config old (event.Call call) output less new l k =
+    subst (λ (r : Reply). SendsFor config old (effect_of old.part call r) less) (sym l.reply)
+    (effect_sent config old (effect_of old.part call output.reply) output less l k)
+loses_rules config old (event.Tick now) output less new l k =
+    subst (λ (r : Reply). AreSent (due_at_tick config old r) less.packets less.unsent) (sym l.reply)
+    (dues_sent (due_at_tick config old output.reply) output less l k)
 loses_rules config old (event.Deliver packet) output less new l k = record {
   report = k.report;
   reply = l.reply ∙ k.reply;

@@ -16,8 +16,8 @@ use Rattle.dds_core.specs.Ruling.{IsSound, KeepsRules}
 use Rattle.dds_core.specs.Filtering.{FilteredKept, StandsFor}
 
 -- For each state that the old values stand for, and of which all that is known was claimed, the event is a step by what
--- the filters mean to one that the new values stand for, and of which all that is known was claimed; a delivery follows
--- the rules of the protocol. The filters stay.
+-- the filters mean to one that the new values stand for, and of which all that is known was claimed; it follows the
+-- rules of the protocol. The filters stay.
 pub record Steps {F : Type 0} (tests : Tests) (old : FilteredKept F) (event : Event) (output : Output)
     (new : FilteredKept F) : Type 0 where
   pub step : (config : Config) (peer : Peer) → StandsFor old config peer → IsSound config peer

@@ -25,7 +25,7 @@ use Rattle.dds_machine.specs.declared.endpoint.Endpoint.{Endpoint}
 use Rattle.dds_machine.specs.declared.reply.Move.{Move}
 use Rattle.dds_machine.specs.declared.reply.Move.TheVariants.{Place, Heard}
 use Rattle.dds_protocol.specs.Claims.{Receiver, is_for, Names}
-use Rattle.dds_protocol.specs.Protocol.{heard_as}
+use Rattle.dds_protocol.specs.Protocol.{heard_as, may_do}
 use Rattle.dds_core.specs.Identity.{reliable_in}
 use Rattle.dds_core.specs.declared.delivery.FirstNamed.{FirstNamed}
 use Rattle.dds_core.specs.declared.matching.WriterName.{WriterName}
@@ -78,6 +78,24 @@ pub record IsNamedAt (own : GuidPrefix) (at : Receiver) (submessage : Submessage
   pub writer_id : EntityId
   pub by : NamedBy submessage reader_id writer_id
   pub named : IsNamedFor own kept at reader_id writer_id row
+
+-- what the submessage may do at the reader, by what that knows of its writer of this row
+pub record MayDo (kept : ReaderKept) (row : ℕ) (submessage : Submessage) (answer : Bool) : Type 0 where
+  pub known : Tracked
+  pub tracks : Tracks kept.reader row known
+  pub does : may_do (reliable_in kept.store) known submessage ≡ answer
+
+-- it names the reader, and can do nothing there
+pub record IsIdleAt (own : GuidPrefix) (at : Receiver) (submessage : Submessage) (kept : ReaderKept) : Type 0 where
+  pub row : ℕ
+  pub named : IsNamedAt own at submessage kept row
+  pub idle : MayDo kept row submessage false
+
+-- it does not name the reader
+abbrev pub IsUnnamed : GuidPrefix → Receiver → Submessage → ReaderKept → Type 0
+IsUnnamed own at submessage kept =
+    (reader_id writer_id : EntityId) → NamedBy submessage reader_id writer_id → (k : ℕ)
+    → IsNamedFor own kept at reader_id writer_id k → ⊥
 
 -- ---- what it tells
 
@@ -148,25 +166,24 @@ IsPrepared None at submessage kept ready = ready ≡ None
 IsPrepared (Some row) at submessage kept None = NamesNobody submessage
 IsPrepared (Some row) at submessage kept (Some ready) = IsPreparedAt row at submessage kept ready
 
--- what is ready for a reader, or nothing, where the submessage does not name it
+-- what is ready for a reader, or nothing, where the submessage does not name it, or can do nothing there
 abbrev pub IsReadyFor : GuidPrefix → Receiver → Submessage → ReaderKept → Option Ready → Type 0
-IsReadyFor own at submessage kept None =
-    (reader_id writer_id : EntityId) → NamedBy submessage reader_id writer_id → (k : ℕ)
-    → IsNamedFor own kept at reader_id writer_id k → ⊥
+IsReadyFor own at submessage kept None = IsUnnamed own at submessage kept ⊎ IsIdleAt own at submessage kept
 IsReadyFor own at submessage kept (Some ready) = IsReadyWith own at submessage kept ready
 
--- the row of the writer that the submessage is from, if it is for the reader
+-- the row of the writer that the submessage is from, if it is for the reader, and may do something there
 abbrev pub IsRowOf : GuidPrefix → Receiver → Submessage → ReaderKept → Option ℕ → Type 0
 IsRowOf own at submessage kept None = IsReadyFor own at submessage kept None
 IsRowOf own at submessage kept (Some row) = IsNamedAt own at submessage kept row
 
--- the first reader that the submessage names, and the row of its writer there
+-- the first reader that the submessage names, and at which it may do something, and the row of its writer there
 pub record IsFirstNamed (own : GuidPrefix) (at : Receiver) (submessage : Submessage) (readers : List ReaderKept)
     (first : FirstNamed) : Type 0 where
   pub by : NamedBy submessage first.ids.reader first.ids.writer
   pub reader : ReaderKept
   pub there : slice_get readers first.index ≡ Some reader
   pub named : IsNamedAt own at submessage reader first.row
+  pub does : MayDo reader first.row submessage true
   pub before : (i : ℕ) (k : ReaderKept) → i < first.index → slice_get readers i ≡ Some k
       → IsReadyFor own at submessage k None
 

@@ -1,4 +1,4 @@
--- That what a peer knows was claimed, and that an event keeps to the rules of the protocol.
+-- That what a peer knows was claimed, and that an event keeps to the rules of the protocol: what it sends, too.
 --
 -- RTPS 2.5, 8.4.7 (StatefulWriter, ReaderProxy), 8.4.10 (StatefulReader, WriterProxy).
 use Rattle.std.specs.Prelude.{◌≡◌, ℕ, List}
@@ -12,6 +12,8 @@ use Rattle.dds_protocol.specs.Backed.{IsBacked}
 use Rattle.dds_protocol.specs.Peer.{Peer, packets_of, state_of as network_of}
 use Rattle.dds_protocol.specs.DueMessages.{Due, AreSent}
 use Rattle.dds_protocol.specs.Protocol.{TakesPacket}
+use Rattle.dds_machine.specs.Calls.{effect_of}
+use Rattle.dds_core.specs.Sending.{SendsFor, due_at_tick}
 
 -- all that the peer knows is claimed by what was delivered to it
 abbrev pub IsSound : Config → Peer → Type 0
@@ -26,7 +28,10 @@ pub record IsTakenByRules (config : Config) (old : Peer) (packet : List ℕ) (ou
   pub takes : TakesPacket config old.number packet (network_of old) report dues (network_of new)
   pub sent : AreSent dues output.packets output.unsent
 
--- a delivery follows the rules of the protocol (RTPS 2.5, 8.4.9, 8.4.12); of other events they say nothing here
+-- what a call enters is announced; at a tick what is due then is sent; a delivery follows the rules of the protocol
+-- (RTPS 2.5, 8.4.9, 8.4.12)
 abbrev pub KeepsRules : Config → Peer → Event → Output → Peer → Type 0
+KeepsRules config old (event.Call call) output new = SendsFor config old (effect_of old.part call output.reply) output
+KeepsRules config old (event.Tick now) output new =
+    AreSent (due_at_tick config old output.reply) output.packets output.unsent
 KeepsRules config old (event.Deliver packet) output new = IsTakenByRules config old packet output new
-KeepsRules config old other output new = Unit {0}

@@ -7,20 +7,16 @@ use Rattle.dds_base.specs.declared.config.Config.{Config}
 use Rattle.dds_base.specs.Written.{Changed, Asserted}
 use Rattle.rtps_wire.specs.Messages.{HasSubmessage}
 use Rattle.dds_machine.specs.declared.endpoint.Endpoint.{Endpoint}
-use Rattle.dds_protocol.specs.declared.event.Event.{Event}
-use Rattle.dds_protocol.specs.declared.event.Event.TheVariants as event
 use Rattle.dds_protocol.specs.declared.event.Output.{Output}
 use Rattle.dds_protocol.specs.declared.event.Packet.{Packet}
 use Rattle.dds_machine.specs.Part.{own_writer, writer_changes}
-use Rattle.dds_machine.specs.Calls.{Effect, writes, effect_of}
+use Rattle.dds_machine.specs.Calls.{Effect, writes}
 use Rattle.dds_protocol.specs.Claims.{ChangeIs, Claims}
 use Rattle.dds_protocol.specs.Peer.{Peer}
 use Rattle.dds_machine.specs.Part.{peers_of}
 use Rattle.dds_machine.specs.declared.reply.Reply.{Reply}
 use Rattle.dds_machine.specs.declared.reply.Reply.TheVariants.{Done}
 use Rattle.dds_protocol.specs.DueMessages.{Due, AreSent, changes_due, heartbeats_due, assertions_due}
-use Rattle.dds_core.specs.Kept.{PeerKept}
-use Rattle.dds_core.specs.Standing.{StandsFor}
 
 -- Of one event fewer packets than this are counted as unsent: such counts can be added.
 abbrev pub max_unsent : ℕ
@@ -60,14 +56,3 @@ AreMessages packets = (packet : Packet) → Contains packets packet → HasSubme
 abbrev pub due_at_tick : Config → Peer → Reply → List Due
 due_at_tick config peer Done = heartbeats_due config peer.number peer.part
 due_at_tick config peer reply = []
-
--- for each state that the values stand for, this is what is sent at a call or a tick; what is sent at a delivery is
--- said by the rules of the protocol
-abbrev pub Sends : PeerKept → Event → Output → Type 0
-Sends old (event.Call call) output =
-    (config : Config) (peer : Peer) → StandsFor old config peer
-    → SendsFor config peer (effect_of peer.part call output.reply) output
-Sends old (event.Tick now) output =
-    (config : Config) (peer : Peer) → StandsFor old config peer
-    → AreSent (due_at_tick config peer output.reply) output.packets output.unsent
-Sends old (event.Deliver packet) output = Unit {0}

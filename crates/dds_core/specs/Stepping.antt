@@ -8,17 +8,20 @@ use Rattle.dds_base.specs.declared.config.Config.{Config}
 use Rattle.dds_base.specs.Written.{Written}
 use Rattle.dds_machine.specs.declared.endpoint.Endpoint.{Endpoint}
 use Rattle.dds_protocol.specs.declared.event.Event.{Event}
+use Rattle.dds_protocol.specs.declared.event.Event.TheVariants as event
 use Rattle.dds_protocol.specs.declared.event.Output.{Output}
 use Rattle.dds_machine.specs.Part.{Writer}
 use Rattle.dds_machine.specs.Ticks.{ticked}
-use Rattle.dds_machine.specs.Calls.{with_written}
+use Rattle.dds_machine.specs.Calls.{effect_of, with_written}
 use Rattle.dds_machine.specs.Watching.{Tests}
 use Rattle.dds_conditions.specs.NoFilters.{no_filters}
+use Rattle.dds_protocol.specs.DueMessages.{AreSent}
 use Rattle.dds_protocol.specs.Peer.{Peer, PeerStep}
 use Rattle.dds_core.specs.Kept.{WriterKept, PeerKept}
 use Rattle.dds_core.specs.Identity.{writer_identity}
 use Rattle.dds_core.specs.Standing.{WriterStands, StandsFor}
 use Rattle.dds_core.specs.Ruling.{IsSound, KeepsRules}
+use Rattle.dds_core.specs.Sending.{SendsFor, due_at_tick}
 
 -- for each state that the old values stand for, the event is a step by these filters to one that the new values stand
 -- for
@@ -30,9 +33,19 @@ StepsBy tests old event output new = (config : Config) (peer : Peer) → StandsF
 abbrev pub Steps : PeerKept → Event → Output → PeerKept → Type 0
 Steps old event output new = StepsBy no_filters old event output new
 
+-- for each state that the values stand for, this is what is sent at a call or a tick; what is sent at a delivery is
+-- said by the rules of the protocol
+abbrev pub Sends : PeerKept → Event → Output → Type 0
+Sends old (event.Call call) output =
+    (config : Config) (peer : Peer) → StandsFor old config peer
+    → SendsFor config peer (effect_of peer.part call output.reply) output
+Sends old (event.Tick now) output =
+    (config : Config) (peer : Peer) → StandsFor old config peer
+    → AreSent (due_at_tick config peer output.reply) output.packets output.unsent
+Sends old (event.Deliver packet) output = Unit {0}
+
 -- For each state that the old values stand for, and of which all that is known was claimed, the event is a step to one
--- that the new values stand for, and of which all that is known was claimed; a delivery follows the rules of the
--- protocol.
+-- that the new values stand for, and of which all that is known was claimed; it follows the rules of the protocol.
 abbrev pub SoundStepsBy : Tests → PeerKept → Event → Output → PeerKept → Type 0
 SoundStepsBy tests old event output new =
     (config : Config) (peer : Peer) → StandsFor old config peer → IsSound config peer

@@ -12,7 +12,7 @@ ghost use Rattle.dds_core.specs.Lending.{event_of};
 ghost use Rattle.dds_core.specs.Listening.{Adds, AreKept, RefusesEntity, RefusesFilter, RefusesListener, Sets, StandsFor, Steps, no_listeners};
 ghost use Rattle.dds_core.specs.Opening.{core_refusal, opening_peer};
 ghost use Rattle.dds_core.specs.Pairs.{IsPair};
-ghost use Rattle.dds_core.specs.Sending.{AreMessages, Sends, max_unsent};
+ghost use Rattle.dds_core.specs.Sending.{AreMessages, max_unsent};
 ghost use Rattle.dds_core.specs.Standing.{StandsFor as PeerStandsFor};
 ghost use Rattle.dds_core.specs.Ruling.{IsSound};
 ghost use Rattle.dds_core.specs.Twins.{Twins};
@@ -103,12 +103,10 @@ impl<F: Filter, L: Listener> Core<F, L> {
     #[inline(always)]
     pub fn step(&mut self, event: Event) -> Output
         // For each state that the peer stands for, the event is a step, by what its filters mean, whose end listeners
-        // are told of, to one that it stands for afterwards; a delivered packet is taken up by the rules of the
-        // protocol, and what is due by them is sent.
+        // are told of, to one that it stands for afterwards; what a call enters is announced, what is due at a tick is
+        // sent, and a delivered packet is taken up by the rules of the protocol, and what is due by them is sent.
         ensures step { Steps L.notices L.capacity L.becomes
             (tests_of F.meaning self.old.filtered.filters) self.old event result self.new }
-        // What goes out at a call or a tick, and what is counted as unsent.
-        ensures sends { Sends self.old.filtered.peer event result }
         // What goes out is the written form of a message.
         ensures messages { AreMessages result.packets }
     {
@@ -124,12 +122,10 @@ impl<F: Filter, L: Listener> Core<F, L> {
     /// (behaviour).
     pub fn step_pair(&mut self, event: Event) -> (Output, Output)
         // For each state that the peer stands for, the event is a step, by what its filters mean, whose end listeners
-        // are told of, to one that it stands for afterwards; a delivered packet is taken up by the rules of the
-        // protocol, and what is due by them is sent.
+        // are told of, to one that it stands for afterwards; what a call enters is announced, what is due at a tick is
+        // sent, and a delivered packet is taken up by the rules of the protocol, and what is due by them is sent.
         ensures step { Steps L.notices L.capacity L.becomes
             (tests_of F.meaning self.old.filtered.filters) self.old event result.0 self.new }
-        // What goes out at a call or a tick, and what is counted as unsent.
-        ensures sends { Sends self.old.filtered.peer event result.0 }
         // What goes out is the written form of a message.
         ensures messages { AreMessages result.0.packets }
         // The second output is the first one.
@@ -161,7 +157,6 @@ impl<F: Filter, L: Listener> Core<F, L> {
     fn step_with(&mut self, event: Event, twin: &mut Twin) -> Output
         ensures step { Steps L.notices L.capacity L.becomes
             (tests_of F.meaning self.old.filtered.filters) self.old event result self.new }
-        ensures sends { Sends self.old.filtered.peer event result }
         ensures messages { AreMessages result.packets }
         ensures few { result.unsent < max_unsent }
         ensures twin { Twins twin.old result.reply twin.new }
@@ -179,7 +174,6 @@ impl<F: Filter, L: Listener> Core<F, L> {
         ensures step { Steps L.notices L.capacity L.becomes
             (tests_of F.meaning self.old.filtered.filters) self.old (event_of event.entry) result
             self.new }
-        ensures sends { Sends self.old.filtered.peer (event_of event.entry) result }
         ensures messages { AreMessages result.packets }
         ensures few { result.unsent < max_unsent }
         ensures twin { Twins twin.old result.reply twin.new }

@@ -7,9 +7,9 @@ ghost use Rattle.dds_base.specs.Bounds.{max_peers, max_value};
 ghost use Rattle.dds_machine.specs.declared.reply.Reply.TheVariants.{Done, Refused};
 ghost use Rattle.dds_machine.specs.declared.call.Call.TheVariants as call;
 ghost use Rattle.dds_protocol.specs.declared.event.Event.TheVariants as event;
-ghost use Rattle.dds_core.specs.Stepping.{Steps, StepsBy};
+ghost use Rattle.dds_core.specs.Stepping.{Sends, Steps, StepsBy};
 ghost use Rattle.dds_core.specs.Making.{Makes, IsValueOf};
-ghost use Rattle.dds_core.specs.Sending.{Sends, SendsNothing, AreMessages};
+ghost use Rattle.dds_core.specs.Sending.{SendsNothing, AreMessages};
 ghost use Rattle.dds_core.specs.Twins.{IsPlain, Twins};
 
 use crate::output::answered;

@@ -8,7 +8,6 @@ ghost use Rattle.dds_base.specs.Bounds.{max_ends};
 ghost use Rattle.dds_base.specs.declared.code.Code.TheVariants.{Memory};
 ghost use Rattle.dds_machine.specs.declared.reply.Reply.TheVariants.{Reported};
 ghost use Rattle.dds_protocol.specs.declared.event.Event.TheVariants as event;
-ghost use Rattle.rtps_wire.specs.declared.submessage.Submessage.{Submessage as SubmessageOf};
 ghost use Rattle.dds_core.specs.Stepping.{SoundSteps};
 ghost use Rattle.dds_core.specs.Sending.{AreMessages, max_unsent};
 ghost use Rattle.dds_core.specs.Readiness.{receiver_at, IsBounded, AreReady, AreAlike, IsFirstNamed, IsNamedAt, IsReadyFor, IsRowOf, NamedBy, NamesNone, moves_of};
@@ -31,7 +30,8 @@ use rtps_reader::Step;
 use rtps_wire::{Frame, MAX_MESSAGE, Submessage, begin_message, next_frame};
 use smallvec::SmallVec;
 
-/// The first of a peer's readers that a submessage is for, and there the row of the writer that it is from.
+/// The first of a peer's readers that a submessage is for, and may do something at, and there the row of the writer that
+/// it is from.
 #[derive(Clone, Copy)]
 pub struct FirstNamed {
     /// Whom the submessage names.
@@ -40,7 +40,8 @@ pub struct FirstNamed {
     pub row: usize,
 }
 
-/// The first of the readers of the peer of this prefix that a submessage is for, from a writer that it is matched with.
+/// The first of the readers of the peer of this prefix that a submessage is for, from a writer that it is matched with,
+/// and at which it may do something.
 fn named_reader(
     readers: &[ReaderEnd],
     own: &GuidPrefix,
@@ -56,28 +57,29 @@ fn named_reader(
         return None;
     };
     for (index, reader) in readers.iter().enumerate() {
-        if let Some(row) = reader.named_row(own, receiver, &ids) {
+        if let Some(row) = reader.named_row(own, receiver, &ids, submessage) {
             return Some(FirstNamed { ids, index, row });
         }
     }
     None
 }
 
-/// The row of the writer that a submessage is from, at the reader of this index: the readers before the first one that
-/// is named have none, and that one's was found.
+/// The row of the writer that a submessage is from, at the reader of this index, if it may do something there: the
+/// readers before the first one where that is so have none, and that one's was found.
 fn row_at(
     first: FirstNamed,
     index: usize,
     reader: &ReaderEnd,
     own: &GuidPrefix,
     receiver: &MessageReceiver,
+    submessage: &Submessage,
 ) -> Option<usize>
-    ensures { (submessage : SubmessageOf) → NamedBy submessage first.ids.reader first.ids.writer
-        → (index < first.index
-        → IsReadyFor own.now (receiver_at receiver.now) submessage reader.now None)
+    requires by { NamedBy submessage.now first.ids.reader first.ids.writer }
+    ensures row { (index < first.index
+        → IsReadyFor own.now (receiver_at receiver.now) submessage.now reader.now None)
         → (index ≡ first.index
-        → IsNamedAt own.now (receiver_at receiver.now) submessage reader.now first.row)
-        → IsRowOf own.now (receiver_at receiver.now) submessage reader.now result }
+        → IsNamedAt own.now (receiver_at receiver.now) submessage.now reader.now first.row)
+        → IsRowOf own.now (receiver_at receiver.now) submessage.now reader.now result }
 {
     if index < first.index {
         return None;
@@ -85,7 +87,7 @@ fn row_at(
     if index == first.index {
         return Some(first.row);
     }
-    reader.named_row(own, receiver, &first.ids)
+    reader.named_row(own, receiver, &first.ids, submessage)
 }
 
 /// How many readers a peer has for which no memory is needed for the list of what is ready. The place of each is zeroed at
@@ -110,7 +112,7 @@ fn prepare(
     ensures memory { IfErr result (λ code. code ≡ Memory) }
 {
     for index in 0..readers.len() {
-        let row = row_at(first, index, &readers[index], own, receiver);
+        let row = row_at(first, index, &readers[index], own, receiver, submessage);
         let one = readers[index].prepare(row, receiver, submessage)?;
         ready.push(one)?;
     }
@@ -226,7 +228,7 @@ impl Peer {
         )
     }
 
-    /// The first of the peer's readers that a submessage is for.
+    /// The first of the peer's readers that a submessage is for, and may do something at.
     fn named(&self, receiver: &MessageReceiver, submessage: &Submessage) -> Option<FirstNamed>
         ensures first { IfSome result (IsFirstNamed self.now.prefix
             (receiver_at receiver.now) submessage.now self.now.readers) }
@@ -322,7 +324,8 @@ impl Peer {
         Ok(())
     }
 
-    /// Each reader that a submessage names is told what it says. Adds what moved. One that names none needs no memory.
+    /// Each reader that a submessage names is told what it says. Adds what moved. One that can do nothing at any of them
+    /// needs no memory.
     fn tell_readers(
         &mut self,
         effects: &mut Effects,

@@ -17,7 +17,7 @@ ghost use Rattle.dds_core.specs.Lending.{event_of};
 ghost use Rattle.dds_core.specs.Noticing.{AreMarksOf, MarksPeer, Tells};
 ghost use Rattle.dds_core.specs.Opening.{core_refusal, opening_peer};
 ghost use Rattle.dds_core.specs.Pairs.{IsPair};
-ghost use Rattle.dds_core.specs.Sending.{AreMessages, Sends, max_unsent};
+ghost use Rattle.dds_core.specs.Sending.{AreMessages, max_unsent};
 ghost use Rattle.dds_core.specs.Standing.{StandsFor as PeerStandsFor};
 ghost use Rattle.dds_core.specs.Stepping.{SoundStepsBy};
 ghost use Rattle.dds_core.specs.Twins.{Twins};
@@ -91,15 +91,14 @@ impl<F: Filter> FilteredPeer<F> {
     #[inline(always)]
     pub fn step(&mut self, event: LentEvent, twin: &mut Twin) -> Output
         // For each state that the peer stands for, the event is a step, by what its filters mean, to one that it stands
-        // for afterwards; a delivered packet is taken up by the rules of the protocol, and what is due by them is sent.
+        // for afterwards; what a call enters is announced, what is due at a tick is sent, and a delivered packet is
+        // taken up by the rules of the protocol, and what is due by them is sent.
         ensures step { Steps (tests_of F.meaning self.old.filters) self.old (event_of event.entry)
             result self.new }
         // The same of what it keeps beside the filters.
         ensures peer { SoundStepsBy
             (tests_of F.meaning self.old.filters) self.old.peer (event_of event.entry) result
             self.new.peer }
-        // What goes out at a call or a tick, and what is counted as unsent.
-        ensures sends { Sends self.old.peer (event_of event.entry) result }
         // What goes out is the written form of a message.
         ensures messages { AreMessages result.packets }
         // Few packets find no memory.

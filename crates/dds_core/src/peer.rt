@@ -5,8 +5,8 @@
 ghost use Rattle.std.specs.Prelude.{◌≡◌, ◌<◌, ◌≤◌};
 ghost use Rattle.dds_protocol.specs.declared.event.Event.TheVariants as event;
 ghost use Rattle.dds_core.specs.Lending.{event_of};
-ghost use Rattle.dds_core.specs.Stepping.{Steps, SoundStepsBy};
-ghost use Rattle.dds_core.specs.Sending.{Sends, AreMessages, max_unsent};
+ghost use Rattle.dds_core.specs.Stepping.{Sends, Steps, SoundStepsBy};
+ghost use Rattle.dds_core.specs.Sending.{AreMessages, max_unsent};
 ghost use Rattle.dds_core.specs.Twins.{IsPlain, Twins};
 
 use crate::expiring::{counts_deaths, expire_all};
@@ -62,11 +62,10 @@ impl Peer {
     /// for before anything changes.
     #[inline(always)]
     pub fn step_by<T: Filters>(&mut self, filters: &T, event: LentEvent, twin: &mut Twin) -> Output
-        // For each state that the peer stands for, the event is a step by what the filters mean.
+        // For each state that the peer stands for, the event is a step by what the filters mean, and by the rules of
+        // the protocol.
         ensures step { SoundStepsBy (T.meaning filters.now) self.old (event_of event.entry) result
             self.new }
-        // What goes out at a call or a tick, and what is counted as unsent.
-        ensures sends { Sends self.old (event_of event.entry) result }
         // What goes out is the written form of a message.
         ensures messages { AreMessages result.packets }
         // Few packets find no memory.

@@ -2,7 +2,7 @@
 //!
 //! RTPS 2.5, 8.4.10 (StatefulReader, WriterProxy); DDS 1.4, 2.2.2.5 (DataReader).
 
-ghost use Rattle.std.specs.Prelude.{◌≡◌, ◌↔◌, ◌<◌, ◌≤◌, ℕ, List, [], length, slice_get, None, Some, true, false, IsTrue, IfSome, IfNone, IfOk, IfErr, OnOk, IsOk, Ok, MatchOption};
+ghost use Rattle.std.specs.Prelude.{◌≡◌, ◌↔◌, ◌<◌, ◌≤◌, ℕ, List, [], length, nat_le, slice_get, None, Some, true, false, if◌then◌else◌, IsTrue, IfSome, IfNone, IfOk, IfErr, OnOk, IsOk, Ok, MatchOption};
 ghost use Rattle.dds_base.specs.Access.{instance_of, handle_of};
 ghost use Rattle.dds_base.specs.Checked.{check_refusal};
 ghost use Rattle.dds_base.specs.Liveliness.{liveliness_changed_status};
@@ -13,17 +13,18 @@ ghost use Rattle.rtps_wire.specs.declared.submessage.Submessage.{Submessage as S
 ghost use Rattle.rtps_wire.specs.declared.submessage.Submessage.TheVariants as submessage;
 ghost use Rattle.rtps_reader.specs.Answer.{IsIdle, IsSayable};
 ghost use Rattle.rtps_reader.specs.Reader.{Tracks};
-ghost use Rattle.rtps_reader.specs.Tracked.{Tracked};
+ghost use Rattle.rtps_reader.specs.Tracked.{Tracked, may_take};
 ghost use Rattle.dds_core.specs.Expiring.{Expires, HasRoomForDeaths, IsPastCounting};
-ghost use Rattle.dds_core.specs.Identity.{reader_identity};
+ghost use Rattle.dds_core.specs.Identity.{reader_identity, reliable_in};
 ghost use Rattle.dds_core.specs.Noticing.{MarksReader, RaisesSo, SeesStatus};
 ghost use Rattle.dds_core.specs.OpeningEnds.{OpensReader};
-ghost use Rattle.dds_core.specs.Readiness.{receiver_at, IsFirstName, IsNamedFor, IsRowOf, NamedBy, NamesNobody, IsToldBy, HasMemory, IsPrepared, IsAlike, CanTake, TakesTold, SameReader, IsPlaceAt};
+ghost use Rattle.dds_core.specs.Readiness.{receiver_at, IsFirstName, IsNamedFor, IsRowOf, NamedBy, NamesNobody, IsToldBy, HasMemory, IsPrepared, IsAlike, CanTake, MayDo, TakesTold, SameReader, IsPlaceAt};
 ghost use Rattle.dds_core.specs.Looking.{access_reply, TakesOnly, TellsFlags, TellsLost, TellsLiveliness, TellsMatch};
 ghost use Rattle.dds_core.specs.Twins.{Twins};
 ghost use Rattle.dds_core.specs.Storing.{Holds};
 ghost use Rattle.dds_cache.specs.Standing.{qos_of, AccessAnswers, AfterAccess};
 ghost use Rattle.dds_protocol.specs.Claims.{is_for};
+ghost use Rattle.dds_protocol.specs.Protocol.{may_do};
 ghost use Rattle.dds_machine.specs.Noticing.{data_raised, lost_raised, turn_raised};
 
 use crate::limits::limit_of;
@@ -139,6 +140,7 @@ impl ReaderEnd {
             history: config.history,
             max_samples: limit_of(config.max_samples),
             max_instances: limit_of(config.max_instances),
+            max_arrivals: config.max_arrivals,
             writers: Sequence::from_vec(qos),
         };
         // So is this one's.
@@ -344,20 +346,55 @@ impl ReaderEnd {
         self.reader.reserve_for(row, &mut self.store)
     }
 
-    /// The row of the writer that a submessage is from which names these, if it is for this reader of the peer of this prefix,
-    /// and the writer is matched.
+    /// Whether a DATA of this number, of the writer of this row, may do something here.
+    fn may_take(&self, row: usize, number: Sn) -> bool
+        requires { row < length self.now.writers }
+        ensures { (t : Tracked) → Tracks self.now.reader row t
+            → result ≡ (if reliable_in self.now.store then may_take t number else nat_le t.place number) }
+    {
+        if self.is_reliable {
+            self.reader.may_take(row, number)
+        } else {
+            self.reader.place(row).number() <= number.number()
+        }
+    }
+
+    /// Whether a submessage of the writer of this row may do something here. One that can't needs no memory.
+    fn may_do(&self, row: usize, submessage: &Submessage) -> bool
+        requires { row < length self.now.writers }
+        ensures does { (t : Tracked) → Tracks self.now.reader row t
+            → result ≡ may_do (reliable_in self.now.store) t submessage.now }
+        ensures known { (t : Tracked) × Tracks self.now.reader row t }
+    {
+        // Something is known of the writer: the proof has it from here.
+        let _place = self.reader.place(row);
+        match submessage {
+            Submessage::Data(body) => self.may_take(row, body.writer_sn),
+            Submessage::Gap(_) => self.is_reliable,
+            Submessage::Heartbeat(body) => self.reader.is_later(row, body.count),
+            _ => false,
+        }
+    }
+
+    /// The row of the writer that a submessage is from, which names these, if it is for this reader of the peer of this
+    /// prefix, the writer is matched, and the submessage may do something here.
     pub fn named_row(
         &self,
         own: &GuidPrefix,
         receiver: &MessageReceiver,
         ids: &Ids,
+        submessage: &Submessage,
     ) -> Option<usize>
-        ensures { (submessage : SubmessageOf) → NamedBy submessage ids.now.reader ids.now.writer
-            → IsRowOf own.now (receiver_at receiver.now) submessage self.now result }
+        requires { NamedBy submessage.now ids.now.reader ids.now.writer }
+        ensures row { IsRowOf own.now (receiver_at receiver.now) submessage.now self.now result }
+        ensures does { IfSome result (λ row. MayDo self.now row submessage.now true) }
     {
         let Some(row) = self.row_of(own, receiver, &ids.reader, &ids.writer) else {
             return None;
         };
+        if !self.may_do(row, submessage) {
+            return None;
+        }
         Some(row)
     }
 

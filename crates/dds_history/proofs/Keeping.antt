@@ -1,14 +1,17 @@
 -- Which changes a history keeps, by what is held of them.
-use Rattle.std.proofs.Common.{◌≡◌, ℕ, zero, suc, ◌+◌, ◌-◌, Bool, true, false, not, ◌&&◌, Option, Some, None, List, length, drop, count_by, slice_get, refl, ap, sym, ◌∙◌, arith}
+use Rattle.std.proofs.Common.{◌≡◌, ℕ, zero, suc, ◌+◌, ◌-◌, Bool, true, false, not, ◌&&◌, Option, Some, None, List, [], ◌∷◌, ◌++◌, length, length-append, drop, count_by, slice_get, refl, ap, subst, sym, ◌∙◌, arith}
 use Rattle.std.specs.Prelude.{if◌then◌else◌, is_some, nat_lt, nat_le, find}
 use Rattle.std.specs.Option.{option_map, option_map_or, unwrap_or}
 use Rattle.std.proofs.lemmas.Bool.Decides.{nat_tests}
+use Rattle.std.proofs.lemmas.List.{drop_all, get_or_at}
 use Rattle.std.proofs.lemmas.List.Sums.{length-filter}
+use Rattle.std.proofs.lemmas.Option.{slice_get-get_or}
 use Rattle.dds_base.specs.declared.change.Change.{Change}
 use Rattle.dds_base.specs.declared.qos.HistoryQos.{HistoryQos}
 use Rattle.dds_base.specs.declared.qos.HistoryQos.TheVariants.{KeepAll, KeepLast}
-use Rattle.dds_base.specs.Kept.{WriterHistory, change_at, is_dropped_by, is_kept, kept_change, kept_count, first_kept, numbers_from, later_changes}
-use Rattle.dds_history.specs.Held.{HeldChange, all_from, awaits, held_of, is_held, remaining_before}
+use Rattle.dds_base.specs.declared.key.Key.{Key}
+use Rattle.dds_base.specs.Kept.{WriterHistory, appended, change_at, is_dropped_by, is_kept, kept_change, kept_count, first_kept, numbers_from, later_changes}
+use Rattle.dds_history.specs.Held.{HeldChange, all_from, awaits, granted, held_of, is_held, remaining_before}
 use Rattle.dds_history.proofs.Numbering.{Agree, all-at, all-numbered, at_number, counted, entry_of, find-at, find-below, first-number, length-all, passing}
 
 -- all changes of a history, also those that are let go of
@@ -49,6 +52,40 @@ change_if : (b : Bool) (e : HeldChange) → (if b then Some e.change else None)
 change_if true e = refl
 change_if false e = refl
 
+-- a number is kept exactly if its change is held
+kept_as : (w : WriterHistory) (i : ℕ) (c : Change) → slice_get w.changes i ≡ Some c
+    → is_kept w (1 + i) ≡ is_held w.acknowledged (entry_of w.policy (1 + i) c (drop (suc i) w.changes))
+kept_as w i c at =
+    let here = change_at-next w.changes i ∙ at in
+    let later : suc i ≡ 1 + i = omega arith in
+    let remains = ap (λ (k : ℕ). remaining_before w.policy (drop k w.changes) c.key) later in
+    all_three _ _ _ _ (ap (λ (o : Option Change). is_some o) here)
+    (dropped_at w.policy w.changes (1 + i) c (entry_of w.policy (1 + i) c (drop (suc i) w.changes)).remaining here remains)
+
+-- of a change that no other follows so much remains as is granted
+newest_remains : (policy : HistoryQos) (key : Key) → remaining_before policy [] key ≡ granted policy
+newest_remains KeepAll key = refl
+newest_remains (KeepLast depth) key = omega arith
+
+-- the newest change is kept, if the policy keeps any and some reader awaits it
+pub newest_kept : (w : WriterHistory) (c : Change)
+    → (nat_lt 0 (granted w.policy) && awaits w.acknowledged (length w.changes + 1)) ≡ true
+    → is_kept (appended w c) (length w.changes + 1) ≡ true
+newest_kept w c is =
+    let i : ℕ = length w.changes in
+    let next : 1 + i ≡ i + 1 = omega arith in
+    let changes : List Change = w.changes ++ c ∷ [] in
+    let total : length changes ≡ i + 1 = length-append w.changes (c ∷ []) in
+    let at : slice_get changes i ≡ Some c =
+    slice_get-get_or changes i c (omega (arith, total)) ∙ ap (λ (x : Change). Some x) (get_or_at w.changes c [] c i refl) in
+    let last : drop (suc i) changes ≡ [] = drop_all (suc i) changes (omega (arith, total)) in
+    let remains : remaining_before w.policy (drop (suc i) changes) c.key ≡ granted w.policy =
+    ap (λ (cs : List Change). remaining_before w.policy cs c.key) last ∙ newest_remains w.policy c.key in
+    subst (λ (n : ℕ). is_kept (appended w c) n ≡ true) next
+    (kept_as (appended w c) i c at
+    ∙ (ap (λ (n : ℕ). nat_lt 0 n && awaits w.acknowledged (1 + i)) remains
+    ∙ (ap (λ (n : ℕ). nat_lt 0 (granted w.policy) && awaits w.acknowledged n) next ∙ is)))
+
 -- whether a number is kept, and its change, by the change that stands there
 abbrev KeptBy : WriterHistory → ℕ → Option HeldChange → Type 0
 KeptBy w i o =
@@ -64,11 +101,7 @@ kept_by w i None at =
 kept_by w i (Some c) at =
     let here = change_at-next w.changes i ∙ at in
     let entry : HeldChange = entry_of w.policy (1 + i) c (drop (suc i) w.changes) in
-    let later : suc i ≡ 1 + i = omega arith in
-    let remains = ap (λ (k : ℕ). remaining_before w.policy (drop k w.changes) c.key) later in
-    let kept : is_kept w (1 + i) ≡ is_held w.acknowledged entry =
-    all_three _ _ _ _ (ap (λ (o : Option Change). is_some o) here)
-    (dropped_at w.policy w.changes (1 + i) c entry.remaining here remains) in (
+    let kept = kept_as w i c at in (
       kept ∙ some_if (is_held w.acknowledged entry) entry,
       ap (λ (b : Bool). if b then change_at w.changes (1 + i) else None) kept
           ∙ (ap (λ (o : Option Change). if is_held w.acknowledged entry then o else None) here

@@ -362,6 +362,7 @@ impl Kept {
             → OnOk result (Gains number change is_awaited (state self.old) (state self.new)) }
         ensures policy { self.new.policy ≡ self.old.policy }
         ensures memory { IfErr result (λ code. code ≡ Memory) }
+        ensures taken { OnErr result ((nat_lt 0 (granted self.old.policy) && is_awaited) ≡ true) }
         ensures err { OnErr result (state self.new ≡ state self.old) }
     {
         if self.takes(is_awaited) {

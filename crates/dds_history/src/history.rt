@@ -2,7 +2,7 @@
 //!
 //! DDS 1.4, 2.2.3 (HISTORY, RESOURCE_LIMITS); RTPS 2.5, 8.2 (HistoryCache).
 
-ghost use Rattle.std.specs.Prelude.{◌≡◌, ◌+◌, ◌^◌, ◌<◌, ◌≤◌, None, [], length, replicate, slice_index, IfOk, IfErr, OnErr};
+ghost use Rattle.std.specs.Prelude.{◌≡◌, ◌+◌, ◌^◌, ◌<◌, ◌≤◌, true, None, [], length, replicate, slice_index, IfOk, IfErr, OnErr};
 ghost use Rattle.std.specs.Option.{option_copied};
 ghost use Rattle.dds_base.specs.declared.change.Change.{Change};
 ghost use Rattle.dds_base.specs.declared.code.Code.TheVariants.{Memory};
@@ -92,7 +92,8 @@ impl History {
     /// # Errors
     ///
     /// In this order, and each leaves the history as it was: `OutOfResources` after 2^48 changes, `Timeout` where
-    /// more than `max_samples` numbers would be kept (max_blocking_time is 0), `Memory` where a growth was refused.
+    /// more than `max_samples` numbers would be kept (max_blocking_time is 0), `Memory` where a growth was refused: a
+    /// change that is not kept needs none.
     ///
     /// DDS 1.4, 2.2.3 (RESOURCE_LIMITS).
     pub fn append(&mut self, change: Change) -> Result<Sn, Code>
@@ -103,6 +104,10 @@ impl History {
         // A refusal is by the first cause that there is, or for want of memory.
         ensures refused { (w : WriterHistory) → StandsFor self.old w
             → IfErr result (Refuses (append_refusal w change)) }
+        // Where there is no cause, it is refused only if the change is one to be kept.
+        ensures wants { (w : WriterHistory) → StandsFor self.old w
+            → OnErr result (append_refusal w change ≡ None
+            → is_kept (appended w change) (length w.changes + 1) ≡ true) }
         // Numbers are 1 to 2^48.
         ensures number { IfOk result (λ number. (1 ≤ number) × (number ≤ 2 ^ 48)) }
         // The readers stay the same ones.

@@ -10,6 +10,7 @@ use Rattle.dds_base.specs.declared.qos.HistoryQos.TheVariants.{KeepAll}
 use Rattle.dds_base.specs.declared.qos.MatchedWriter.{MatchedWriter}
 use Rattle.dds_base.specs.declared.qos.OwnershipQos.TheVariants.{Shared}
 use Rattle.dds_base.specs.declared.qos.ReliabilityQos.TheVariants.{Reliable}
+use Rattle.dds_base.specs.Bounds.{usual_arrivals}
 use Rattle.dds_base.specs.Written.{Written, Asserted, LookedAt, Ticked}
 use Rattle.dds_conditions.specs.Watched.{opened as nothing_watched}
 use Rattle.dds_notices.specs.declared.mask.StatusMask.{StatusMask}
@@ -47,7 +48,7 @@ part written seen happened places = record {
     moment = 0;
     readers = record {
       qos = record
-          { ownership = Shared; reliability = Reliable; history = KeepAll; max_samples = None; max_instances = None; writers = leased ∷ [] };
+          { ownership = Shared; reliability = Reliable; history = KeepAll; max_samples = None; max_instances = None; max_arrivals = usual_arrivals; writers = leased ∷ [] };
       happened = happened;
       seen = seen;
     } ∷ [];

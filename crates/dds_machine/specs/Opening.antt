@@ -52,6 +52,7 @@ reader_qos peers r = record {
   history = r.history;
   max_samples = limit_of r.max_samples;
   max_instances = limit_of r.max_instances;
+  max_arrivals = r.max_arrivals;
   writers = writer_qos r.topic peers;
 }
 

@@ -12,6 +12,7 @@ use Rattle.dds_base.specs.declared.qos.HistoryQos.TheVariants.{KeepAll}
 use Rattle.dds_base.specs.declared.qos.OwnershipQos.TheVariants.{Shared}
 use Rattle.dds_base.specs.declared.qos.ReliabilityQos.TheVariants.{Reliable}
 use Rattle.dds_base.specs.declared.qos.ReaderQos.{ReaderQos}
+use Rattle.dds_base.specs.Bounds.{usual_arrivals}
 use Rattle.dds_base.specs.Written.{Written, changes_of, counts_of}
 use Rattle.dds_base.specs.Kept.{WriterHistory}
 use Rattle.dds_conditions.specs.Watched.{Watched, opened as nothing_watched}
@@ -109,6 +110,7 @@ no_reader = record {
     history = KeepAll;
     max_samples = None;
     max_instances = None;
+    max_arrivals = usual_arrivals;
     writers = [];
   };
   happened =

@@ -67,4 +67,4 @@ pub mod Alike
 pub mod SameBeside
 pub mod EndsBeside
 pub mod PairEnded
-mod WorkedSent
+pub mod WorkedSent

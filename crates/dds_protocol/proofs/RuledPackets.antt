@@ -337,10 +337,10 @@ all_of p index at rest s b =
 concerned : (p : Packet) (own : GuidPrefix) (at : Receiver) (s : Submessage) (old : State)
     → MayNeedMemory p.config own p.peer at s old → Concerns p.config own p.peer at s
 concerned p own at (AckNack a) old h = (record { peer = p.peer; number = h.0 }, h.1, h.2, refl)
-concerned p own at (Data d) old h = h
-concerned p own at (Gap g) old h = h
-concerned p own at (Heartbeat b) old h = h
-concerned p own at s old h = h
+concerned p own at (Data d) old h = (h.0, record { peer = p.peer; number = h.1 }, h.2, refl)
+concerned p own at (Gap g) old h = (h.0, record { peer = p.peer; number = h.1 }, h.2, refl)
+concerned p own at (Heartbeat b) old h = (h.0, record { peer = p.peer; number = h.1 }, h.2, refl)
+concerned p own at s old h = absurd h
 
 follows_up : (p : Packet) (index : ℕ) (at : Receiver) (ss : List Submessage) → IsRest p index at ss
     → (old : State) (moves : List Move) (refused : Option ℕ) (dues : List Due) (new : State) → Backed p (Some index) old

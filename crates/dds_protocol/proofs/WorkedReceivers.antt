@@ -12,6 +12,7 @@ use Rattle.dds_base.specs.declared.qos.HistoryQos.{HistoryQos}
 use Rattle.dds_base.specs.declared.qos.HistoryQos.TheVariants.{KeepAll}
 use Rattle.dds_base.specs.declared.qos.OwnershipQos.TheVariants.{Shared}
 use Rattle.dds_base.specs.declared.qos.ReliabilityQos.TheVariants.{Reliable}
+use Rattle.dds_base.specs.Bounds.{usual_arrivals}
 use Rattle.rtps_wire.specs.declared.data.Data.{Data as DataBody}
 use Rattle.rtps_wire.specs.declared.submessage.Submessage.TheVariants.{Pad, InfoDst, InfoTs, Data}
 use Rattle.dds_machine.specs.declared.endpoint.Endpoint.{Endpoint}
@@ -58,6 +59,7 @@ reader entity topic =
       history = KeepAll;
       max_samples = negsuc 0;
       max_instances = negsuc 0;
+      max_arrivals = usual_arrivals;
       lease = None;
     }
 

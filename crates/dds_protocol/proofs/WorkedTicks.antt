@@ -7,6 +7,7 @@ use Rattle.dds_base.specs.declared.qos.HistoryQos.TheVariants.{KeepAll}
 use Rattle.dds_base.specs.declared.qos.MatchedWriter.{MatchedWriter}
 use Rattle.dds_base.specs.declared.qos.OwnershipQos.TheVariants.{Shared}
 use Rattle.dds_base.specs.declared.qos.ReliabilityQos.TheVariants.{Reliable}
+use Rattle.dds_base.specs.Bounds.{usual_arrivals}
 use Rattle.dds_base.specs.Written.{Asserted, Ticked}
 use Rattle.rtps_wire.specs.declared.submessage.Submessage.TheVariants.{InfoDst, Heartbeat}
 use Rattle.dds_machine.specs.Ticks.{RefusesTick, after_tick, is_past_counting, tick_refusal}
@@ -38,6 +39,7 @@ part = record no_part {
             history = KeepAll;
             max_samples = None;
             max_instances = None;
+            max_arrivals = usual_arrivals;
             writers = leased
                 ∷ leased ∷ [];
           };

@@ -151,11 +151,15 @@ assertions_due config writer w =
           (writer_entity config writer.peer writer.number) w;
     }) (peers_of w.matched)
 
+-- the packet of a message that is due, in the one written form that it has
+abbrev pub packet_of : Due → Packet
+packet_of due = record { to = due.to; bytes = spelling_of due.message }
+
 -- of the messages that are due these packets are sent, in their order, each in the one written form that it has; so
 -- many more found no memory
 abbrev pub AreSent : List Due → List Packet → ℕ → Type 0
 AreSent [] packets unsent = (packets ≡ []) × (unsent ≡ 0)
 AreSent (due ∷ dues) packets unsent =
-    ((rest : List Packet) × (packets ≡ record { to = due.to; bytes = spelling_of due.message } ∷ rest)
+    ((rest : List Packet) × (packets ≡ packet_of due ∷ rest)
     × IsWritable due.message × AreSent dues rest unsent)
     ⊎ ((fewer : ℕ) × (unsent ≡ fewer + 1) × AreSent dues packets fewer)

@@ -22,7 +22,7 @@ use Rattle.rtps_wire.specs.declared.submessage.Submessage.TheVariants.{Data, Hea
 use Rattle.rtps_wire.specs.Content.{change_in}
 use Rattle.rtps_wire.specs.Messages.{ReadsMessage}
 use Rattle.rtps_reader.specs.declared.step.AckNackDue.{AckNackDue}
-use Rattle.rtps_reader.specs.Tracked.{Tracked, fresh, with_data, with_gap, with_heartbeat}
+use Rattle.rtps_reader.specs.Tracked.{Tracked, fresh, may_take, with_data, with_gap, with_heartbeat}
 use Rattle.rtps_reader.specs.Advance.{Advances}
 use Rattle.rtps_reader.specs.Jump.{Jumps}
 use Rattle.rtps_reader.specs.Answer.{AnswersHeartbeat, answered}
@@ -34,7 +34,7 @@ use Rattle.dds_machine.specs.declared.reply.Move.{Move}
 use Rattle.dds_machine.specs.declared.reply.Move.TheVariants.{Place, Acknowledged, Heard}
 use Rattle.dds_machine.specs.Part.{Part, ReaderProxy, Writer, same_endpoint, own_writer, own_proxies, own_reader, acknowledged_of, with_acknowledged, with_place, with_heard, publication_among, at_reader, at_writer, writer_changes, history_of}
 use Rattle.dds_machine.specs.Moves.{IsMatchedAt, match_of}
-use Rattle.dds_protocol.specs.Claims.{Receiver, receiver_of, after_submessage, IsToReader, IsToWriter, Concerns}
+use Rattle.dds_protocol.specs.Claims.{Receiver, receiver_of, after_submessage, IsToReader, IsToWriter}
 use Rattle.dds_protocol.specs.Receipt.{prefix_of, IsNotTaken}
 use Rattle.dds_protocol.specs.DueMessages.{Due, answer_message, acknacks_due}
 
@@ -251,13 +251,34 @@ Takes config own peer at submessage old moves dues new =
     InTurn (ReaderTakes config own peer at submessage)
     (numbers_from 1 (length old.part.rtps.readers)) old moves dues new
 
--- the submessage may need memory: it concerns an endpoint of the peer, and an ACKNACK is one that the writer takes
+-- A submessage of a writer may do something at a reader that knows this of the writer, by the reader's reliability: a
+-- DATA there is held, or comes, or the place may go on by what is known already; a GAP is for reliable readers; a
+-- HEARTBEAT is taken.
+abbrev pub may_do : Bool → Tracked → Submessage → Bool
+may_do true t (Data d) = may_take t d.writer_sn
+may_do false t (Data d) = nat_le t.place d.writer_sn
+may_do reliable t (Gap g) = reliable
+may_do reliable t (Heartbeat h) = is_later t.count h.count
+may_do reliable t submessage = false
+
+-- it names a reader of the peer, is of a writer that is matched with it, and may do something there
+abbrev pub MayDoAt : Config → GuidPrefix → ℕ → Receiver → EntityId → EntityId → Submessage → State → Type 0
+MayDoAt config own peer at reader_id writer_id submessage old =
+    (writer : Endpoint) × (reader : ℕ)
+    × (is : IsToReader config own at reader_id writer_id writer (record { peer = peer; number = reader }))
+    × (may_do (is_reliable_reader is.to.end) (old.known.tracked writer reader) submessage ≡ true)
+
+-- the submessage may need memory: it may do something at a reader of the peer, or is an ACKNACK that a writer there takes
 abbrev pub MayNeedMemory : Config → GuidPrefix → ℕ → Receiver → Submessage → State → Type 0
 MayNeedMemory config own peer at (AckNack a) old =
     (writer : ℕ) × (reader : Endpoint)
     × IsToWriter config own at a.reader_id a.writer_id (record { peer = peer; number = writer }) reader
     × (is_taken_up old writer reader a ≡ true)
-MayNeedMemory config own peer at submessage old = Concerns config own peer at submessage
+MayNeedMemory config own peer at (Data d) old = MayDoAt config own peer at d.reader_id d.writer_id (Data d) old
+MayNeedMemory config own peer at (Gap g) old = MayDoAt config own peer at g.reader_id g.writer_id (Gap g) old
+MayNeedMemory config own peer at (Heartbeat h) old =
+    MayDoAt config own peer at h.reader_id h.writer_id (Heartbeat h) old
+MayNeedMemory config own peer at submessage old = ⊥
 
 -- The submessages from this index on are taken up in turn. Either one that may need memory finds none, and nothing is
 -- done from it on, or it is taken up, and those that follow are.

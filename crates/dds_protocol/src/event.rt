@@ -24,7 +24,8 @@ pub enum Event {
     Call(Call),
     /// The time goes on to this moment: those whose lease is over die at the peer's readers, and then the HEARTBEATs
     /// are sent that are due. `BadParameter` where it would go back, or to 2^63 units of 2^-32 second and beyond;
-    /// `Memory` only where somebody dies.
+    /// `Memory` only where, with those that die, more than 2^64 - 1 entries would have happened at a reader: no death
+    /// needs memory.
     Tick(Moment),
     /// The bytes of a packet come, whatever they are. The answer is a `Report`.
     Deliver(Octets),

@@ -3,13 +3,15 @@
 //! The laws are this project's own; what they speak of is in RTPS 2.5, 8.3.8 and 8.4 (behaviour), and DDS 1.4,
 //! 2.2.3.
 
-ghost use Rattle.std.specs.Prelude.{◌≡◌, ◌↔◌, IsTrue};
+ghost use Rattle.std.specs.Prelude.{◌≡◌, ◌↔◌, ◌⊎◌, ◌+◌, ◌∷◌, [], IsTrue, List, length, ℕ};
 ghost use Rattle.dds_protocol.specs.Bounds.{OpensBounded, RunsBounded, StepsBounded};
 ghost use Rattle.dds_protocol.specs.CatchUp.{WindowCatchesUp};
+ghost use Rattle.dds_protocol.specs.DueMessages.{AreSent, Due, packet_of};
 ghost use Rattle.dds_protocol.specs.Fresh.{OpensUsed, StepsUsed};
 ghost use Rattle.dds_protocol.specs.InOrder.{ChangesComeInOrder};
 ghost use Rattle.dds_protocol.specs.Laws.{AnswersAreTrue, AnswersCanBeWritten, AssertionsAreTrue, AssertionsCanBeWritten, Composes, ComposesRuns, HeartbeatsAreTrue, KeepAllIsKept, OpensBacked, OpensSound, OwnersExist, ReadersTellWritersApart, RulesRestOnClaims};
 ghost use Rattle.dds_protocol.specs.Repair.{AnswersAreFew, AsksAreSent, BeatsAreSent, PairCatchesUp};
+ghost use Rattle.dds_protocol.specs.declared.event.Packet.{Packet};
 
 use crate::event::{Event, Output};
 use dds_base::laws::owner_is_found;
@@ -103,6 +105,21 @@ pub fn what_is_due_is_true()
     ensures assertion { AssertionsAreTrue }
     // They have a written form too.
     ensures told { AssertionsCanBeWritten }
+{}
+
+/// Each message that is due is sent, as one packet, or counted as unsent, and nothing else is.
+///
+/// RTPS 2.5, 8.4.9, 8.4.12.
+pub fn each_due_message_is_sent_or_counted()
+    // Where nothing is due, nothing is sent, and nothing is counted.
+    ensures nothing { (packets : List Packet) (unsent : ℕ) → AreSent [] packets unsent
+        → (packets ≡ []) × (unsent ≡ 0) }
+    // One due message is one packet to its peer, in its written form, or counts 1.
+    ensures one { (due : Due) (packets : List Packet) (unsent : ℕ) → AreSent (due ∷ []) packets unsent
+        → ((packets ≡ (packet_of due) ∷ []) × (unsent ≡ 0)) ⊎ ((packets ≡ []) × (unsent ≡ 1)) }
+    // As many as are due are sent or counted.
+    ensures all { (dues : List Due) (packets : List Packet) (unsent : ℕ) → AreSent dues packets unsent
+        → length packets + unsent ≡ length dues }
 {}
 
 /// No count of a HEARTBEAT or of an ACKNACK is sent or taken that its sender has not used: so the next one is newer

@@ -16,6 +16,8 @@ pub struct Options {
     pub max_samples: i32,
     /// `instances`, of a reader: positive, or -1 for no limit.
     pub max_instances: i32,
+    /// `arrivals`, of a reader: from 1 to 2^63.
+    pub max_arrivals: u64,
     /// `strength`, of a writer.
     pub strength: i32,
     /// `lease`, in units of 2^-32 second; none never ends.
@@ -35,6 +37,7 @@ impl Options {
             history: HistoryQos::KeepLast(1),
             max_samples: -1,
             max_instances: -1,
+            max_arrivals: ReaderConfig::USUAL_ARRIVALS,
             strength: 0,
             lease: None,
             autodispose: true,
@@ -84,6 +87,8 @@ impl Options {
             self.reliability = ReliabilityQos::BestEffort;
         } else if let Some(max) = word.strip_prefix("instances=") {
             self.max_instances = decimal_i32(max)?;
+        } else if let Some(max) = word.strip_prefix("arrivals=") {
+            self.max_arrivals = decimal(max)?;
         } else {
             self.take_common(word)?;
         }
@@ -133,6 +138,7 @@ pub fn reader_config(entity: EntityId, options: Options) -> ReaderConfig {
         history: options.history,
         max_samples: options.max_samples,
         max_instances: options.max_instances,
+        max_arrivals: options.max_arrivals,
         lease: options.lease,
     }
 }

@@ -39,7 +39,7 @@ use Rattle.dds_protocol.proofs.Composed.{parts_at}
 use Rattle.dds_protocol.proofs.SameBeside.{SameBeside, bounded_beside, filter_beside, place_beside, sound_beside, used_beside}
 use Rattle.dds_core.specs.Kept.{PeerKept}
 use Rattle.dds_core.specs.Listening.{Adds as CoreAdds, CoreKept, RefusesFilter as CoreRefuses, RefusesListener as CoreRefusesListener, Sets as CoreSets, StandsFor as CoreStands, Steps as CoreSteps}
-use Rattle.dds_core.specs.Sending.{AreMessages, Sends as CoreSends}
+use Rattle.dds_core.specs.Sending.{AreMessages}
 use Rattle.dds_core.specs.Ruling.{IsSound}
 use Rattle.dds_core.proofs.Lists.{map-get, map-set_same}
 use Rattle.dds_core.proofs.Results.{err_as, ok_as}
@@ -142,14 +142,14 @@ module _ {F L : Type 0} (notices : L → List Notice) (capacity : L → ℕ) (be
       (output : Output) (reply : Reply) (new : Held F L)
       → i < length old.cores → core ≡ get_or old.cores i core
       → CoreSteps notices capacity becomes (tests_of meaning core.filtered.filters) core ev output after
-      → CoreSends core.filtered.peer ev output → AreMessages output.packets → reply ≡ output.reply
+      → AreMessages output.packets → reply ≡ output.reply
       → new.cores ≡ set old.cores i after → Posts old.sent output.packets new.sent
       → ((given : ℕ → ByEntity L) → Counts (kept_of notices capacity becomes given old) output
       (kept_of notices capacity becomes given new))
       → ((given : ℕ → ByEntity L) → IsQuiet (kept_of notices capacity becomes given old) output
       (kept_of notices capacity becomes given new))
       → ActsIn meaning notices capacity becomes old i ev reply new
-  acts_in meaning old i ev core after output reply new low here steps sends messages replies cores posts counts quiet =
+  acts_in meaning old i ev core after output reply new low here steps messages replies cores posts counts quiet =
       let f : CoreKept F L → PeerKept = λ c. c.filtered.peer in
       let g : CoreKept F L → ℕ = λ c. length c.filtered.filters in
       let h : CoreKept F L → List F = λ c. c.filtered.filters in
@@ -181,7 +181,6 @@ module _ {F L : Type 0} (notices : L → List Notice) (capacity : L → ℕ) (be
             listeners = ap (λ (cs : List (CoreKept F L)). map k cs) cores ∙ map-set k old.cores i after;
             posts = posts;
           };
-          sends = sends;
           counts = counts given;
           quiet = quiet given;
         };
@@ -194,19 +193,19 @@ module _ {F L : Type 0} (notices : L → List Notice) (capacity : L → ℕ) (be
       (core after : CoreKept F L) (output : Output) (reply : Reply) (new : Held F L)
       → i < length old.cores → core ≡ get_or kept.cores i core
       → CoreSteps notices capacity becomes (tests_of meaning core.filtered.filters) core ev output after
-      → CoreSends core.filtered.peer ev output → AreMessages output.packets → reply ≡ output.reply
+      → AreMessages output.packets → reply ≡ output.reply
       → new.cores ≡ set kept.cores i after → Posts kept.sent output.packets new.sent
       → ((given : ℕ → ByEntity L) → Counts (kept_of notices capacity becomes given kept) output
       (kept_of notices capacity becomes given new))
       → ((given : ℕ → ByEntity L) → IsQuiet (kept_of notices capacity becomes given kept) output
       (kept_of notices capacity becomes given new))
       → ActsIn meaning notices capacity becomes old i ev reply new
-  acts_of meaning kept old same i ev core after output reply new low here steps sends messages replies cores posts counts
+  acts_of meaning kept old same i ev core after output reply new low here steps messages replies cores posts counts
       quiet =
       let count = ap (λ (k : Held F L). length k.cores) same in
       let within : i < length kept.cores = omega (arith, low, count) in
       subst (λ (k : Held F L). ActsIn meaning notices capacity becomes k i ev reply new) same
-      (acts_in meaning kept i ev core after output reply new within here steps sends messages replies cores posts counts quiet)
+      (acts_in meaning kept i ev core after output reply new within here steps messages replies cores posts counts quiet)
 
   -- ---- another filter, or another listener, at a peer
 

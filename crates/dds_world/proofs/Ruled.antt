@@ -97,8 +97,7 @@ call_dues kept new i call reply a config network next s rules =
     let peer : Peer = get_or network.peers i no_peer in
     let output : Output = a.acts.output in
     let sent =
-    effect_due config peer (effect_of peer.part call output.reply) output
-    (a.sends config peer (s.each i a.acts.core a.acts.at)) in
+    effect_due config peer (effect_of peer.part call output.reply) output rules in
     let replied : AreSent (announcements_due config peer.number peer.part (effect_of peer.part call reply))
     output.packets output.unsent =
     subst (λ (r : Reply). AreSent (announcements_due config peer.number peer.part (effect_of peer.part call r))
@@ -144,8 +143,7 @@ tick_dues kept new i now reply a config network next s rules =
     let peer : Peer = get_or network.peers i no_peer in
     let output : Output = a.acts.output in
     let sent : AreSent (due_so config peer.number peer.part output.reply) output.packets output.unsent =
-    subst (λ (ds : List Due). AreSent ds output.packets output.unsent) (tick_due config peer output.reply)
-    (a.sends config peer (s.each i a.acts.core a.acts.at)) in
+    subst (λ (ds : List Due). AreSent ds output.packets output.unsent) (tick_due config peer output.reply) rules in
     let replied : AreSent (due_so config peer.number peer.part reply) output.packets output.unsent =
     subst (λ (r : Reply). AreSent (due_so config peer.number peer.part r) output.packets output.unsent)
     (sym a.acts.replies) sent in (

@@ -5,6 +5,7 @@ use Rattle.dds_base.specs.declared.config.Config.{Config}
 use Rattle.dds_base.specs.Written.{Registered, Changed, Asserted, LookedAt, StrengthSet, Ticked}
 use Rattle.dds_machine.specs.declared.call.Call.{Call}
 use Rattle.dds_machine.specs.declared.endpoint.Endpoint.{Endpoint}
+use Rattle.dds_protocol.specs.declared.event.Event.{Event}
 use Rattle.dds_protocol.specs.declared.event.Event.TheVariants as event
 use Rattle.dds_protocol.specs.declared.event.Output.{Output}
 use Rattle.dds_protocol.specs.declared.event.Packet.{Packet}
@@ -22,6 +23,7 @@ use Rattle.dds_protocol.specs.Traffic.{Traffic, Announced, Sends, SendsDues, Sen
 use Rattle.dds_protocol.specs.World.{WorldState, machine_of}
 use Rattle.dds_machine.proofs.Tables.{numbered-map}
 use Rattle.dds_core.specs.Kept.{PeerKept}
+use Rattle.dds_core.specs.Ruling.{KeepsRules as CoreKeepsRules}
 use Rattle.dds_core.specs.Sending.{SendsNothing, SendsChange, SendsFor, due_at_tick}
 use Rattle.dds_core.proofs.CallSteps.{number_is, refused_nothing}
 use Rattle.dds_core.proofs.Lists.{get-within}
@@ -126,6 +128,18 @@ numbered_so kept config network i core s at =
     let count = s.count in
     let low = get-within kept.peers i core at in s.sound.number (suc i) (omega arith, omega (arith, count, low))
 
+-- the event of the peer of this index follows the rules of the protocol
+rules_of : {hearing : Hearing} → {tests : AllTests} → (kept new : WorldKept hearing) (i : ℕ) (ev : Event)
+    (reply : Reply) (a : Acts tests kept i ev reply new) (config : Config) (network : WorldState)
+    → StandsFor kept config network
+    → (after : Peer) × CoreKeepsRules config (get_or network.peers i no_peer) ev a.acts.output after
+rules_of kept new i ev reply a config network s =
+    let acts = a.acts in
+    let r =
+    acts.steps config (get_or network.peers i no_peer) (s.each i acts.core acts.at) (s.filters i)
+    (s.listeners i acts.slots acts.slots_at) (s.known i acts.core acts.at) in
+    (r.0, r.2)
+
 -- what is sent at a call of the peer of this index
 call_sends : {hearing : Hearing} → {tests : AllTests} → (kept new : WorldKept hearing) (i : ℕ) (c : Call)
     (reply : Reply)
@@ -141,7 +155,7 @@ call_sends kept new i c reply a config network s =
     let effect : Effect = effect_of peer.part c output.reply in
     let sent : SendsAt config old peer.number peer.part effect (traffic new) =
     effect_sends kept new config peer effect output acts.posts a.counts a.quiet
-    (a.sends config peer (s.each i acts.core acts.at)) in
+    (rules_of kept new i (event.Call c) reply a config network s).1 in
     let replied : SendsAt config old peer.number peer.part (effect_of peer.part c reply) (traffic new) =
     subst (λ (r : Reply). SendsAt config old peer.number peer.part (effect_of peer.part c r) (traffic new))
     (sym acts.replies) sent in
@@ -193,7 +207,7 @@ ticks_sent kept new i now reply a config network s =
     numbered-map (λ (p : Peer). p.part) network.peers (suc i) no_peer in
     let sent : TicksAt config old peer.number peer.part acts.output.reply (traffic new) =
     tick_sends kept new config peer acts.output.reply acts.output acts.posts a.counts a.quiet
-    (a.sends config peer (s.each i acts.core acts.at)) in
+    (rules_of kept new i (event.Tick now) reply a config network s).1 in
     let replied : TicksAt config old peer.number peer.part reply (traffic new) =
     subst (λ (r : Reply). TicksAt config old peer.number peer.part r (traffic new)) (sym acts.replies) sent in
     machine_ticks config old (traffic new) network (suc i) now reply
@@ -220,10 +234,7 @@ pub delivered_sends : {hearing : Hearing} → {tests : AllTests} → (kept new :
     → Acts tests kept i (event.Deliver bytes) reply new → Announces kept (world.Deliver peer number) reply new
 delivered_sends kept new i peer number bytes reply a config network s =
     let acts = a.acts in
-    let at_peer : Peer = get_or network.peers i no_peer in
-    let rules =
-    (acts.steps config at_peer (s.each i acts.core acts.at) (s.filters i) (s.listeners i acts.slots acts.slots_at)
-    (s.known i acts.core acts.at)).2 in
+    let rules = (rules_of kept new i (event.Deliver bytes) reply a config network s).1 in
     reported config (traffic kept) (traffic new) network peer number reply rules.report
     (acts.replies ∙ rules.reply) rules.dues
     (dues_sent kept new rules.dues acts.output acts.posts a.counts rules.sent)

@@ -19,7 +19,7 @@ use Rattle.dds_protocol.specs.Rules.{RuledStep}
 use Rattle.dds_protocol.specs.World.{WorldState, machine_of}
 use Rattle.dds_core.specs.Kept.{PeerKept}
 use Rattle.dds_core.specs.Opening.{opening_peer}
-use Rattle.dds_core.specs.Sending.{Sends as CoreSends, SendsNothing, AreMessages}
+use Rattle.dds_core.specs.Sending.{SendsNothing, AreMessages}
 use Rattle.dds_core.specs.Listening.{CoreKept, StandsFor as CoreStands, no_listeners}
 use Rattle.dds_core.specs.Standing.{StandsFor as CoreStandsFor}
 use Rattle.dds_core.specs.Ruling.{IsSound, KeepsRules as CoreKeepsRules}
@@ -68,12 +68,11 @@ pub record ActsAt {hearing : Hearing} (tests : AllTests) (old : WorldKept hearin
   pub listeners : new.listeners ≡ set old.listeners index left
   pub posts : Posts old.sent output.packets new.sent
 
--- so it is, and what it sends is said, and counted
+-- so it is, and what it sends is counted
 pub record Acts {hearing : Hearing} (tests : AllTests) (old : WorldKept hearing) (index : ℕ) (event : Event)
     (reply : Reply)
     (new : WorldKept hearing) : Type 0 where
   pub acts : ActsAt tests old index event reply new
-  pub sends : CoreSends acts.core event acts.output
   pub counts : Counts old acts.output new
   pub quiet : IsQuiet old acts.output new
 

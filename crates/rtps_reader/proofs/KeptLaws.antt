@@ -184,6 +184,24 @@ not_passable w held first n keeps marked = by (cases_Bool (is_in_window (window_
     by (inr out) =
         absurd (let e : Some mark.Held ≡ None = sym marked ∙ mark_outside w n out in cc)
 
+-- the change of a number that is marked as held is known
+pub is_known : (w : Marks) (held : List (Option Change)) (n : ℕ) → Keeps w held → mark_of w n ≡ Some mark.Held
+    → is_missing (slot_from (mark_of w n) (held_at held n)) ≡ false
+is_known w held n keeps marked = by (cases_Bool (is_in_window (window_place w) n))
+  where
+    known : (o : Option Change) → is_some o ≡ true → is_missing (slot_from (Some mark.Held) o) ≡ false
+    known None is = absurd (let clash : false ≡ true = is in cc)
+    known (Some change) is = refl
+
+    by : (is_in_window (window_place w) n ≡ true) ⊎ (is_in_window (window_place w) n ≡ false)
+        → is_missing (slot_from (mark_of w n) (held_at held n)) ≡ false
+    by (inl inside) =
+        rw marked (known (held_at held n)
+        (keeps n (window_from (window_place w) n inside) (window_to (window_place w) n inside)
+        ∙ ap (λ (m : Option Mark). says_held m) marked))
+    by (inr out) =
+        absurd (let e : Some mark.Held ≡ None = sym marked ∙ mark_outside w n out in cc)
+
 -- a number past the window has the place of one that is passed
 pub earlier : (place n : ℕ) → place + 256 ≤ n
     → (k : ℕ) × (place ≤ k) × (k < place + 256) × (k + 256 ≤ n) × (k % 256 ≡ n % 256)

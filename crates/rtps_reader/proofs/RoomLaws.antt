@@ -1,6 +1,6 @@
 -- There is as much room for a change once a run was passed over before it as without that.
 use Rattle.std.proofs.Common.{◌≡◌, ℕ, zero, suc, ◌+◌, ◌-◌, ◌^◌, ◌<◌, ◌≤◌, Bool, true, false, not, cond, ◌&&◌, ◌||◌, List, [], ◌∷◌, ◌++◌, length, map, filter, Option, None, Some, refl, sym, ap, ◌∙◌, arith}
-use Rattle.std.specs.Prelude.{if◌then◌else◌, nat_lt, is_some, IfSome}
+use Rattle.std.specs.Prelude.{if◌then◌else◌, nat_le, is_some, IfSome}
 use Rattle.std.specs.List.{flat_map, list_any}
 use Rattle.std.proofs.lemmas.Bool.{eq-eqb, ne_eqb, le-leb, lt-leb}
 use Rattle.std.proofs.lemmas.List.{append-nil, length-append}
@@ -431,5 +431,5 @@ pub room_passed : (q : ReaderQos) (a : Arrival) (h : List Happening) (w first la
 room_passed q a h w first last untaken =
     let writes = writes_same q a h w first last untaken in
     let known = known_same q a h w first last untaken in
-    λ k. nat_lt (arrivals (Came a ∷ h)) (2 ^ 31 - 1) && (not (is_accepted q h (Came a))
+    λ k. nat_le (arrivals (Came a ∷ h)) q.max_arrivals && (not (is_accepted q h (Came a))
     || (is_within q.max_samples (writes k) && is_within q.max_instances (length (known k))))

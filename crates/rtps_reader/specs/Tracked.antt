@@ -2,7 +2,7 @@
 -- the window as it stood when the submessage came.
 --
 -- RTPS 2.5, 8.4.10 (WriterProxy, ChangeFromWriter), 8.3.8 (Data, Gap, Heartbeat).
-use Rattle.std.specs.Prelude.{◌≡◌, ℕ, Bool, true, false, ◌&&◌, ◌||◌, ◌==◌, nat_lt, nat_le, max, ℤ, Option, None}
+use Rattle.std.specs.Prelude.{◌≡◌, ℕ, Bool, true, false, not, ◌&&◌, ◌||◌, ◌==◌, nat_lt, nat_le, max, ℤ, Option, None}
 use Rattle.std.specs.Prelude.{Some, if◌then◌else◌}
 use Rattle.dds_base.specs.declared.change.Change.{Change}
 use Rattle.rtps_sets.specs.Window.{is_in_window}
@@ -50,6 +50,14 @@ is_passable t n = is_passable_slot t.first n (t.slot n)
 -- the number is one of the window of which nothing is known
 abbrev pub is_open : Tracked → ℕ → Bool
 is_open t n = is_in_window t.place n && is_missing (t.slot n)
+
+-- nothing moves the place by what is known already: nothing is known of the number there, and it can't be passed over
+abbrev pub is_waiting : Tracked → Bool
+is_waiting t = is_missing (t.slot t.place) && nat_le t.first t.place
+
+-- a received change of this number does something: it is held, or the place may go on by what is known already
+abbrev pub may_take : Tracked → ℕ → Bool
+may_take t number = not (is_waiting t) || is_open t number
 
 -- a received change is held, if its number is one of the window of which nothing is known
 abbrev pub with_data : ℕ → Change → Tracked → Tracked

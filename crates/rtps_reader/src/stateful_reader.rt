@@ -7,7 +7,7 @@ ghost use Rattle.dds_base.specs.Bounds.{max_sn};
 ghost use Rattle.dds_base.specs.declared.code.Code.TheVariants.{Memory};
 ghost use Rattle.dds_base.specs.declared.happening.Happening.{Happening};
 ghost use Rattle.dds_base.specs.Counts.{is_later};
-ghost use Rattle.rtps_reader.specs.Tracked.{Tracked, fresh, with_data, with_gap};
+ghost use Rattle.rtps_reader.specs.Tracked.{Tracked, fresh, may_take, with_data, with_gap};
 ghost use Rattle.rtps_reader.specs.Answer.{IsIdle};
 ghost use Rattle.rtps_reader.specs.Reader.{Tracks, count_of, IsReady, IsReadyAt, AllStay, match_at, MovesOn, JumpsOn, TakesHeartbeat, KeepsRest};
 
@@ -83,6 +83,31 @@ impl StatefulReader {
         ensures known { (t : Tracked) × Tracks self.now writer t }
     {
         self.proxies[writer].place()
+    }
+
+    /// Whether a change of this number of a writer does something at a reliable reader: it is held, or the place may go
+    /// on by what is known already. One that does nothing needs no memory.
+    ///
+    /// RTPS 2.5, 8.4.12 (received_change_set).
+    pub fn may_take(&self, writer: usize, number: Sn) -> bool
+        // The writer is a matched one.
+        requires matched { writer < count_of self.now }
+        // It is so by what is known of the writer.
+        ensures takes { (t : Tracked) → Tracks self.now writer t → result ≡ may_take t number }
+    {
+        self.proxies[writer].may_take(number)
+    }
+
+    /// Whether a HEARTBEAT of a writer with this count would be taken: one that was taken before does nothing.
+    ///
+    /// RTPS 2.5, 8.3.8 (Heartbeat: count).
+    pub fn is_later(&self, writer: usize, count: i32) -> bool
+        // The writer is a matched one.
+        requires matched { writer < count_of self.now }
+        // It is so by what is known of the writer.
+        ensures later { (t : Tracked) → Tracks self.now writer t → result ≡ is_later t.count count }
+    {
+        self.proxies[writer].is_later(count)
     }
 
     /// Makes all memory that the next submessage may take, here and at the sink. It changes that alone.

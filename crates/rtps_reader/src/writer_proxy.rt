@@ -10,7 +10,7 @@ ghost use Rattle.dds_base.specs.Ownership.{IsMatched};
 ghost use Rattle.dds_base.specs.Counts.{is_later};
 ghost use Rattle.rtps_sets.specs.Window.{mark_of, window_place, can_mark};
 ghost use Rattle.rtps_sets.specs.declared.window.Mark.TheVariants as mark;
-ghost use Rattle.rtps_reader.specs.Tracked.{fresh, is_named, is_passable, with_data, with_gap, with_heartbeat, SameTracked};
+ghost use Rattle.rtps_reader.specs.Tracked.{fresh, is_missing, is_named, is_open, is_passable, may_take, with_data, with_gap, with_heartbeat, SameTracked};
 ghost use Rattle.rtps_reader.specs.Moving.{ArePassable, FindsNoRoom, PassesOver, HandsOn, Moves, HeartbeatMoves, JumpMoves, HasMoved, match_of, mark_named, CanMove};
 ghost use Rattle.rtps_reader.specs.Jump.{run_of, passed_from};
 ghost use Rattle.rtps_reader.specs.Advance.{Stays};
@@ -185,6 +185,45 @@ impl WriterProxy {
         ensures { result ≡ (tracked self.now).place }
     {
         self.window.place()
+    }
+
+    /// Whether nothing is known of a number.
+    fn is_missing(&self, number: u64) -> bool
+        requires sound { IsSound self.now }
+        ensures { result ≡ is_missing ((tracked self.now).slot number) }
+    {
+        match self.window.mark_of(Sn::new(number)) {
+            None => true,
+            Some(Mark::Irrelevant) => false,
+            Some(Mark::Held) => false,
+        }
+    }
+
+    /// Whether the number is one of the window of which nothing is known.
+    fn is_open(&self, number: u64) -> bool
+        requires sound { IsSound self.now }
+        ensures { result ≡ is_open (tracked self.now) number }
+    {
+        let place = self.window.place().number();
+        place <= number && number < place + WIDTH && self.is_missing(number)
+    }
+
+    /// Whether a received change of this number does something: it is held, or the place may go on by what is known
+    /// already.
+    pub fn may_take(&self, number: Sn) -> bool
+        requires sound { IsSound self.now }
+        ensures { result ≡ may_take (tracked self.now) number }
+    {
+        let place = self.window.place().number();
+        let is_waiting = self.is_missing(place) && self.first <= place;
+        !is_waiting || self.is_open(number.number())
+    }
+
+    /// Whether a HEARTBEAT of this count would be taken.
+    pub fn is_later(&self, count: i32) -> bool
+        ensures { result ≡ is_later (tracked self.now).count count }
+    {
+        is_later(self.count, count)
     }
 
     /// Makes all memory that the next submessage may take, here and at the sink. It changes that alone.

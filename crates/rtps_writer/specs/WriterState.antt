@@ -1,9 +1,11 @@
 -- The state of a writer with its matched reliable readers, which are named by an index from 0
 -- (RTPS 2.5, 8.4.7: StatefulWriter, ReaderProxy).
-use Rattle.std.specs.Prelude.{ℕ, ◌^◌, ◌&&◌, Bool, List, [], ◌∷◌, length, replicate, slice_index, nat_le, nat_lt, Option, None, Some, ℤ, pos, if◌then◌else◌}
+use Rattle.std.specs.Prelude.{◌≡◌, ◌⊎◌, ℕ, ◌+◌, ◌^◌, ◌&&◌, true, false, Bool, List, [], ◌∷◌, length, replicate, slice_index, nat_le, nat_lt, Option, None, Some, ℤ, pos, if◌then◌else◌}
 use Rattle.dds_base.specs.declared.qos.HistoryQos.{HistoryQos}
-use Rattle.dds_base.specs.Kept.{WriterHistory, first_kept, is_awaited}
-use Rattle.dds_base.specs.Written.{Written, Ticked, changes_of, counts_of}
+use Rattle.dds_base.specs.declared.change.Change.{Change}
+use Rattle.dds_base.specs.Happening.{is_unregister}
+use Rattle.dds_base.specs.Kept.{WriterHistory, appended, first_kept, is_awaited, is_kept}
+use Rattle.dds_base.specs.Written.{Written, Ticked, changes_of, counts_of, is_key_registered}
 use Rattle.rtps_writer.specs.declared.heartbeat.HeartbeatDue.{HeartbeatDue}
 
 -- a writer: its policy, limit and lease, the strength that it was configured with, none of a writer of shared ownership,
@@ -50,6 +52,12 @@ history_of s = record {
 -- the number of its last change; 0 before the first
 abbrev pub last_of : WriterState → ℕ
 last_of s = length (changes_of s.written)
+
+-- a change wants room: it is one to be kept, or it registers an instance that is not registered
+abbrev pub WantsRoom : WriterState → Change → Type 0
+WantsRoom s change =
+    (is_kept (appended (history_of s) change) (last_of s + 1) ≡ true)
+    ⊎ ((is_unregister change.kind ≡ false) × (is_key_registered change.key s.written ≡ false))
 
 -- the number below which this reader has acknowledged all
 abbrev pub acknowledged_by : WriterState → ℕ → ℕ

@@ -2,7 +2,7 @@
 //!
 //! DDS 1.4, 2.2.2.4 (register_instance, unregister_instance).
 
-ghost use Rattle.std.specs.Prelude.{◌≡◌, ◌<◌, ◌||◌, not, false, true, IsOk, OnErr, OnOk, if◌then◌else◌};
+ghost use Rattle.std.specs.Prelude.{◌≡◌, ◌<◌, ◌||◌, ◌⊎◌, not, false, true, IsOk, OnErr, OnOk, if◌then◌else◌};
 ghost use Rattle.indexmap.specs.IndexSet.{spare};
 ghost use Rattle.dds_base.specs.Happening.{same_key, is_unregister};
 ghost use Rattle.rtps_writer.specs.Registered.{is_among};
@@ -39,21 +39,29 @@ pub fn unregister(keys: &mut IndexSet<Key>, key: Key)
     keys.swap_remove(&key);
 }
 
-/// Makes the room that a change of this kind needs.
-pub fn reserve(keys: &mut IndexSet<Key>, kind: ChangeKind) -> Result<(), AllocError>
+/// Makes the room that a change of this kind needs: one that registers an instance which is not registered yet.
+pub fn reserve(keys: &mut IndexSet<Key>, key: Key, kind: ChangeKind) -> Result<(), AllocError>
     ensures keys { keys.new.keys ≡ keys.old.keys }
-    ensures room { OnOk result (is_unregister kind ≡ false → 0 < spare keys.new) }
-    ensures none { is_unregister kind ≡ true → IsOk result }
+    ensures room { OnOk result (is_unregister kind ≡ false
+        → (0 < spare keys.new) ⊎ (is_among keys.new.keys key ≡ true)) }
+    ensures wants { OnErr result
+        ((is_unregister kind ≡ false) × (is_among keys.old.keys key ≡ false)) }
 {
     if kind.is_unregister() {
         return Ok(());
     }
-    keys.reserve(1)
+    match keys.reserve(1) {
+        Ok(()) => Ok(()),
+        // Most sets have room: which instances there are is looked up only where there is none.
+        Err(_) if is_registered(keys, key) => Ok(()),
+        Err(error) => Err(error),
+    }
 }
 
 /// What a change of this kind does: a write and a dispose register its instance, the others end its registration.
 pub fn note(keys: &mut IndexSet<Key>, key: Key, kind: ChangeKind)
-    requires { is_unregister kind ≡ false → 0 < spare keys.old }
+    requires { is_unregister kind ≡ false
+        → (0 < spare keys.old) ⊎ (is_among keys.old.keys key ≡ true) }
     ensures { (k : Key) → is_among keys.new.keys k
         ≡ (if same_key key k then not (is_unregister kind) else is_among keys.old.keys k) }
 {

@@ -14,7 +14,7 @@ ghost use Rattle.rtps_sets.specs.NumberSet.{span};
 ghost use Rattle.rtps_writer.specs.Acknack.{acknack_answers, after_acknack, answers_after, applied, if_later, is_applied, newly_acknowledged};
 ghost use Rattle.rtps_writer.specs.Liveliness.{assert_refusal, asserted, heartbeat_asserted};
 ghost use Rattle.rtps_writer.specs.Standing.{StandsFor, reader_count};
-ghost use Rattle.rtps_writer.specs.WriterState.{WriterState, entering, heartbeat_due, history_of, is_reader_behind, last_of, opening, ticked};
+ghost use Rattle.rtps_writer.specs.WriterState.{WantsRoom, WriterState, entering, heartbeat_due, history_of, is_reader_behind, last_of, opening, ticked};
 
 use crate::answer::{Answer, Answered, put_answers};
 use crate::heartbeat::HeartbeatDue;
@@ -175,7 +175,8 @@ impl StatefulWriter {
     /// # Errors
     ///
     /// In this order, and each leaves the writer as it was: `OutOfResources` after 2^48 changes, `Timeout` where more
-    /// than `max_samples` numbers would be kept (max_blocking_time is 0), `Memory` where a growth was refused.
+    /// than `max_samples` numbers would be kept (max_blocking_time is 0), `Memory` where a growth was refused: a change
+    /// that is not kept, and does not register its instance, needs none.
     ///
     /// DDS 1.4, 2.2.2.4 (write, dispose, unregister_instance), 2.2.3 (RESOURCE_LIMITS).
     pub fn write(&mut self, change: Change) -> Result<Sn, Code>
@@ -188,6 +189,9 @@ impl StatefulWriter {
         // A refusal is by the first cause that there is, or for want of memory.
         ensures refused { (s : WriterState) → StandsFor self.old s
             → IfErr result (Refuses (append_refusal (history_of s) change)) }
+        // Where there is no cause, it is refused only if the change is one to be kept, or registers its instance.
+        ensures wants { (s : WriterState) → StandsFor self.old s
+            → OnErr result (append_refusal (history_of s) change ≡ None → WantsRoom s change) }
         // Numbers are 1 to 2^48.
         ensures number { IfOk result (λ number. (1 ≤ number) × (number ≤ 2 ^ 48)) }
         // The readers stay the same ones.
@@ -199,7 +203,7 @@ impl StatefulWriter {
             return Err(code);
         }
         let (key, kind, moment) = (change.key, change.kind, change.source_timestamp);
-        if reserve(&mut self.registered, kind).is_err() {
+        if reserve(&mut self.registered, key, kind).is_err() {
             return Err(Code::Memory);
         }
         match self.history.append(change) {

@@ -9,8 +9,8 @@ use crate::tests::rows::{Subject, Words, expect_rows, number_of, octets_of, word
 use bitflags::Flags;
 use dds_base::{
     Arrival, Change, ChangeKind, Code, EntityId, Guid, GuidPrefix, Handle, HistoryQos, Key, Masks,
-    MatchedWriter, Moment, Octets, OwnershipQos, ReaderQos, ReliabilityQos, Sample, SampleInfo,
-    SampleStateMask, Selection, Sequence, Sn,
+    MatchedWriter, Moment, Octets, OwnershipQos, ReaderConfig, ReaderQos, ReliabilityQos, Sample,
+    SampleInfo, SampleStateMask, Selection, Sequence, Sn,
 };
 use dds_cache::{AccessKind, Everything, ReaderCache};
 use readers::READERS;
@@ -43,6 +43,7 @@ fn qos_of_reader(
         history,
         max_samples: None,
         max_instances: None,
+        max_arrivals: ReaderConfig::USUAL_ARRIVALS,
         writers: Sequence::from_vec(writers),
     })
 }

@@ -2,8 +2,8 @@
 
 use crate::tests::rows::{Subject, expect_rows, number_of, words_of};
 use dds_base::{
-    EntityId, Guid, GuidPrefix, Handle, HistoryQos, MatchedWriter, Moment, OwnershipQos, ReaderQos,
-    ReliabilityQos, Sequence,
+    EntityId, Guid, GuidPrefix, Handle, HistoryQos, MatchedWriter, Moment, OwnershipQos,
+    ReaderConfig, ReaderQos, ReliabilityQos, Sequence,
 };
 use dds_lease::Leases;
 use std::alloc::Global;
@@ -70,6 +70,7 @@ fn qos_of(alloc: Global, operands: &str) -> ReaderQos {
         history: HistoryQos::KeepAll,
         max_samples: None,
         max_instances: None,
+        max_arrivals: ReaderConfig::USUAL_ARRIVALS,
         writers: Sequence::from_vec(matched(alloc, operands)),
     }
 }

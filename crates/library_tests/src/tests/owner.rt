@@ -3,7 +3,8 @@
 use crate::tests::rows::{Subject, expect_rows, number_of, words_of};
 use dds_base::{
     Arrival, Change, ChangeKind, EntityId, Guid, GuidPrefix, Handle, HistoryQos, Key,
-    MatchedWriter, Moment, Octets, OwnershipQos, ReaderQos, ReliabilityQos, Sequence, Sn,
+    MatchedWriter, Moment, Octets, OwnershipQos, ReaderConfig, ReaderQos, ReliabilityQos, Sequence,
+    Sn,
 };
 use dds_owner::{Owners, Strengths};
 use std::alloc::Global;
@@ -128,6 +129,7 @@ fn qos_of(alloc: Global, operands: &str) -> ReaderQos {
         history: HistoryQos::KeepAll,
         max_samples: None,
         max_instances: None,
+        max_arrivals: ReaderConfig::USUAL_ARRIVALS,
         writers: Sequence::from_vec(matched(alloc, operands)),
     }
 }

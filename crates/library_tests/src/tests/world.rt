@@ -41,6 +41,7 @@ const READER: ReaderConfig = ReaderConfig {
     history: HistoryQos::KeepAll,
     max_samples: -1,
     max_instances: -1,
+    max_arrivals: ReaderConfig::USUAL_ARRIVALS,
     lease: None,
 };
 

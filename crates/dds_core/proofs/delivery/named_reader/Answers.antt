@@ -13,7 +13,7 @@ loop-index-preserved c = λ j k lt at.
     (λ x at_x. subst (λ (y : ReaderKept). IsReadyFor c.args.own.now
     (receiver_at c.args.receiver.now) c.args.submessage.now y None)
     (c.index-readers-index.is ∙ get_or_from_slice_get c.args.readers.now c.loop-index.index x _ at_x)
-    (c.in_default-named_row.ensures c.args.submessage.now c.in-Some.ensures)) j lt k at
+    c.in_default-named_row.ensures.row) j lt k at
 
 pub returns-clause-none : goal.returns-clause-none
 returns-clause-none c = λ i k at.

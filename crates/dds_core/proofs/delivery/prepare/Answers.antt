@@ -23,7 +23,7 @@ prepare-requires c =
     (row_named c.args.own.now (receiver_at c.args.receiver.now) c.args.submessage.now c.args.readers.now c.args.first
     c.loop-index.index _ c.row_at-row.result c.requires.first
     (still_ready c.args.readers.now c.loop-index.readers c.loop-index.index _ c.index-readers-index.result
-    c.loop-index.invariant.left (search rules) refl) c.row_at-row.ensures))
+    c.loop-index.invariant.left (search rules) refl) c.row_at-row.ensures.row))
 
 pub returns-in_err-one-clause-alike : goal.returns-in_err-one-clause-alike
 returns-in_err-one-clause-alike c =
@@ -57,5 +57,5 @@ loop-index-preserved c =
           (row_named c.args.own.now (receiver_at c.args.receiver.now) c.args.submessage.now c.args.readers.now
           c.args.first c.loop-index.index _ c.row_at-row.result c.requires.first
           (still_ready c.args.readers.now c.loop-index.readers c.loop-index.index _ c.index-readers-index.result
-          c.loop-index.invariant.left (search rules) refl) c.row_at-row.ensures)) c.in_ok-one.ensures.ready);
+          c.loop-index.invariant.left (search rules) refl) c.row_at-row.ensures.row)) c.in_ok-one.ensures.ready);
     }

@@ -18,6 +18,7 @@ struct End {
     history: HistoryQos,
     max_samples: i32,
     max_instances: i32,
+    max_arrivals: u64,
     lease: Option<u64>,
 }
 
@@ -32,6 +33,7 @@ impl End {
         history: HistoryQos::KeepAll,
         max_samples: -1,
         max_instances: -1,
+        max_arrivals: ReaderConfig::USUAL_ARRIVALS,
         lease: None,
     };
 
@@ -44,6 +46,7 @@ impl End {
             "last" => self.history = HistoryQos::KeepLast(number.parse().unwrap_or(0)),
             "max" => self.max_samples = number.parse().unwrap_or(0),
             "instances" => self.max_instances = number.parse().unwrap_or(0),
+            "arrivals" => self.max_arrivals = number_of(number),
             "lease" => self.lease = Some(number_of(number)),
             _ => {}
         }
@@ -80,6 +83,7 @@ impl End {
             history: self.history,
             max_samples: self.max_samples,
             max_instances: self.max_instances,
+            max_arrivals: self.max_arrivals,
             lease: self.lease,
         }
     }

@@ -55,6 +55,9 @@ fault writer reader kind=2 => reader 1 of peer 2: its entity has the wrong kind,
 fault writer times=2 writer last=0 reader => writer 3 of peer 1: its depth is 0, BAD_PARAMETER
 fault writer max=0 reader => writer 1 of peer 1: its max_samples is neither -1 nor positive, BAD_PARAMETER
 fault writer reader instances=0 => reader 1 of peer 2: its max_instances is neither -1 nor positive, BAD_PARAMETER
+fault writer reader arrivals=0 => reader 1 of peer 2: its max_arrivals is 0 or above 2^63, BAD_PARAMETER
+fault writer reader instances=0 arrivals=0 => reader 1 of peer 2: its max_instances is neither -1 nor positive, BAD_PARAMETER
+fault writer reader lease=0 arrivals=0 => reader 1 of peer 2: its max_arrivals is 0 or above 2^63, BAD_PARAMETER
 fault writer lease=0 reader => writer 1 of peer 1: its lease is 0 or too long, BAD_PARAMETER
 fault writer last=3 max=2 reader => writer 1 of peer 1: its depth is above its maximum of samples, INCONSISTENT_POLICY
 fault writer exclusive reader => reader 1 of peer 2: a matched writer has another ownership, INCONSISTENT_POLICY
@@ -64,7 +67,8 @@ fault writer lease=20 reader lease=10 => reader 1 of peer 2: a matched writer ha
 /// Configurations, and the answer to each. There are two peers, or as many as `peers` says; the first has the writers,
 /// and the last, which may have another `prefix`, the readers. A writer or a reader keeps all, has no limits and no
 /// lease, and is shared, but for the words after it: its entity `kind`, `last` so many are kept, its `max`_samples, its
-/// max_`instances`, its `lease`, its `topic`, and how many `times` it is there, each time as another entity.
+/// max_`instances`, its max_`arrivals`, its `lease`, its `topic`, and how many `times` it is there, each time as another
+/// entity.
 pub const CONFIGS: &str = "\
 # Peers that keep all are taken.
 check writer reader => Ok(())
@@ -98,6 +102,12 @@ check reader instances=0 => Err(BadParameter)
 check writer exclusive reader instances=0 => Err(BadParameter)
 check reader instances=-5 => Err(BadParameter)
 check writer exclusive reader instances=-5 => Err(BadParameter)
+check reader arrivals=0 => Err(BadParameter)
+check writer exclusive reader arrivals=0 => Err(BadParameter)
+check reader arrivals=9223372036854775809 => Err(BadParameter)
+check writer exclusive reader arrivals=9223372036854775809 => Err(BadParameter)
+check reader arrivals=9223372036854775808 => Ok(())
+check writer exclusive reader arrivals=9223372036854775808 => Err(InconsistentPolicy)
 check reader lease=0 => Err(BadParameter)
 check writer exclusive reader lease=0 => Err(BadParameter)
 check reader lease=9223372036854775808 => Err(BadParameter)

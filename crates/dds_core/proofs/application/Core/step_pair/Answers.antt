@@ -1,5 +1,5 @@
 use Rattle.dds_conditions.specs.Filtered.{tests_of}
-use Rattle.dds_core.proofs.Twice.{loses_messages, loses_sends, loses_steps}
+use Rattle.dds_core.proofs.Twice.{loses_messages, loses_steps}
 use Rattle.dds_core.proofs.application.Core.step_pair.Goals as goal
 
 pub returns-clause-step : goal.returns-clause-step
@@ -8,11 +8,6 @@ returns-clause-step g c =
     (tests_of g.F.Filter.meaning c.args.self.now.filtered.filters) c.args.self.now c.args.event
     c.step_with-output.result c.pair_of.result.0 c.step_with-output.new.self c.pair_of.ensures.loses
     c.step_with-output.ensures.step
-
-pub returns-clause-sends : goal.returns-clause-sends
-returns-clause-sends g c =
-    loses_sends c.args.self.now.filtered.peer c.args.event c.step_with-output.result c.pair_of.result.0
-    c.pair_of.ensures.loses c.step_with-output.ensures.sends
 
 pub returns-clause-messages : goal.returns-clause-messages
 returns-clause-messages g c =

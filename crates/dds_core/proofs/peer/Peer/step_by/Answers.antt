@@ -10,13 +10,14 @@ pub returns-in-Call-clause-step : goal.returns-in-Call-clause-step
 returns-in-Call-clause-step g c =
     subst (λ (x : LentEvent). SoundStepsBy
     (g.T.Filters.meaning c.args.filters.now) c.args.self.now (event_of x) c.call.result c.call.new.self) (sym c.in-Call.is)
-    (sound_call c.args.self.now c.call.new.self c.in-Call.call c.call.result c.call.ensures.step)
+    (sound_call c.args.self.now c.call.new.self c.in-Call.call c.call.result c.call.ensures.step c.call.ensures.sends)
 
 pub returns-in-Tick-clause-step : goal.returns-in-Tick-clause-step
 returns-in-Tick-clause-step g c =
     subst (λ (x : LentEvent). SoundStepsBy
     (g.T.Filters.meaning c.args.filters.now) c.args.self.now (event_of x) c.tick.result c.tick.new.self) (sym c.in-Tick.is)
-    (any_tick _ _ _ _ _ (sound_tick c.args.self.now c.tick.new.self c.in-Tick.now c.tick.result c.tick.ensures.step))
+    (any_tick _ _ _ _ _ (sound_tick c.args.self.now c.tick.new.self c.in-Tick.now c.tick.result c.tick.ensures.step
+    c.tick.ensures.sends))
 
 pub returns-in-Deliver-clause-step : goal.returns-in-Deliver-clause-step
 returns-in-Deliver-clause-step g c =

@@ -7,7 +7,7 @@ use Rattle.dds_protocol.specs.declared.event.Event.TheVariants as event
 use Rattle.dds_protocol.specs.Peer.{Peer}
 use Rattle.dds_core.specs.Kept.{WriterKept, PeerKept}
 use Rattle.dds_core.specs.Making.{Makes}
-use Rattle.dds_core.specs.Sending.{Sends}
+use Rattle.dds_core.specs.Stepping.{Sends}
 use Rattle.dds_core.specs.Standing.{StandsFor, WriterStands}
 use Rattle.dds_core.specs.Stepping.{Steps}
 use Rattle.dds_core.proofs.CallSteps.{follows_as, unregister_at, unregistered_at, made_steps, made_sends}

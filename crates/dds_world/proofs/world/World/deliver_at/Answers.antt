@@ -30,6 +30,6 @@ returns g c =
     (acts_of g.L.Listener.notices g.L.Listener.capacity g.L.Listener.becomes g.F.Filter.meaning kept c.args.self.now
     c.self.view_is c.args.index (event.Deliver packet.bytes) core
     c.deliver-output.new.self c.deliver-output.result c.posted.result c.posted.new.self c.requires.within
-    c.index_mut.ensures.value steps tt c.deliver-output.ensures.messages c.posted.ensures.reply
+    c.index_mut.ensures.value steps c.deliver-output.ensures.messages c.posted.ensures.reply
     c.posted.ensures.cores c.posted.ensures.posted c.posted.ensures.unsent
     c.posted.ensures.quiet)

@@ -10,6 +10,6 @@ returns g c =
     acts_of g.L.Listener.notices g.L.Listener.capacity g.L.Listener.becomes g.F.Filter.meaning kept c.args.self.now
     c.self.view_is c.args.index c.args.event c.index_mut.result.now
     c.step-output.new.self c.step-output.result c.posted.result c.posted.new.self c.requires c.index_mut.ensures.value
-    c.step-output.ensures.step c.step-output.ensures.sends c.step-output.ensures.messages c.posted.ensures.reply
+    c.step-output.ensures.step c.step-output.ensures.messages c.posted.ensures.reply
     c.posted.ensures.cores c.posted.ensures.posted c.posted.ensures.unsent
     c.posted.ensures.quiet

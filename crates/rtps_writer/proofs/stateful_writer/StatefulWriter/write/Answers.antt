@@ -1,4 +1,4 @@
-use Rattle.std.proofs.Common.{Option, sym, ◌∙◌, refl, subst}
+use Rattle.std.proofs.Common.{Option, sym, ◌∙◌, refl, subst, inl}
 use Rattle.dds_base.specs.declared.code.Code.{Code}
 use Rattle.dds_base.specs.declared.code.Code.TheVariants.{Memory}
 use Rattle.dds_base.specs.Refusal.{Refuses}
@@ -35,3 +35,13 @@ pub returns-in-Err-clause-refused : goal.returns-in-Err-clause-refused
 returns-in-Err-clause-refused c = λ s given.
     let h = history_at _ c.args.self.now s c.self.view_is given in
     c.in-Err.ensures.refused (history_of s) h
+
+pub returns-in-Some-clause-wants : goal.returns-in-Some-clause-wants
+returns-in-Some-clause-wants c = λ s given none.
+    let h = history_at _ c.args.self.now s c.self.view_is given in
+    let some = sym c.in-Some.is ∙ c.refusal.ensures.refusal (history_of s) h in absurd cc
+
+pub returns-in-Err-clause-wants : goal.returns-in-Err-clause-wants
+returns-in-Err-clause-wants c = λ s given none.
+    let h = history_at _ c.args.self.now s c.self.view_is given in
+    inl (c.in-Err.ensures.wants (history_of s) h none)
