@@ -21,23 +21,6 @@ folds_more {P} {A} R p xs i x q r within is all last =
     take_more xs i x within ∙ ap (λ (y : A). take i xs ++ y ∷ []) (sym is) in
     subst (λ (ys : List A). FoldsTo R p ys r) (sym more) (folds_last R p (take i xs) x q r all last)
 
-abbrev last_of : Entry → List Entry → Entry
-last_of none [] = none
-last_of none (e ∷ es) = last_of e es
-
-last_of-snoc : (none e : Entry) (es : List Entry) → last_of none (es ++ e ∷ []) ≡ e
-last_of-snoc none e [] = refl
-last_of-snoc none e (x ∷ xs) = last_of-snoc x e xs
-
--- equal lists end with the same entry
-pub same_last : (es fs : List Entry) (e f : Entry) → es ++ e ∷ [] ≡ fs ++ f ∷ [] → e ≡ f
-same_last es fs e f same = sym (last_of-snoc e e es) ∙ ap (last_of e) same ∙ last_of-snoc e f fs
-
--- a list that is empty has no last entry
-pub no_last : {X : Type 0} (es : List Entry) (e : Entry) → [] ≡ es ++ e ∷ [] → X
-no_last [] e same = absurd cc
-no_last (x ∷ xs) e same = absurd cc
-
 -- a pass grows by nothing
 pub Grows-none : (was : Carried) → Grows was was []
 Grows-none was =

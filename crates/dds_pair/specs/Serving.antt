@@ -3,6 +3,8 @@
 -- RTPS 2.5, 8.4 (what is sent and when), is the peer's; links, gates and turns are this project's own.
 use Rattle.std.specs.Prelude.{◌≡◌, ◌⊎◌, ℕ, List, [], ◌∷◌, ◌++◌, length, Option, None, Some}
 use Rattle.std.specs.List.{FoldsTo}
+use Rattle.dds_base.specs.declared.code.Code.{Code}
+use Rattle.dds_base.specs.declared.code.Code.TheVariants.{Memory}
 use Rattle.dds_protocol.specs.declared.event.Event.{Event}
 use Rattle.dds_protocol.specs.declared.event.Event.TheVariants as event_of
 use Rattle.dds_protocol.specs.declared.event.Output.{Output}
@@ -68,8 +70,21 @@ Stops {K} {G} sends receives says was after link gate to at count =
     (before : G) × (served : Served sends receives says was after link gate to before)
     × (length served.turns ≡ count) × (says before Stop at ⊎ ((count ≡ 18446744073709551615) × (at ≡ before)))
 
--- the turn that the gate said last failed: it entered nothing, and what was done before stands
-abbrev pub Breaks : {K G : Type 0} → Sending K → Receiving K → Saying G → Carried → Carried → K → G → G → Type 0
-Breaks {K} {G} sends receives says was after link gate at =
+-- what a receive that is refused may make of a link
+abbrev pub Failing : Type 0 → Type 1
+Failing K = K → Code → K → Type 0
+
+-- A turn that fails: the link is refused, or memory was wanting for what came, or for the tick.
+abbrev pub IsFailed : {K : Type 0} → Receiving K → Failing K → Turn → K → Code → K → Type 0
+IsFailed receives fails Stop link code after = ⊥
+IsFailed receives fails Receive link code after =
+    fails link code after ⊎ ((code ≡ Memory) × (octets : List ℕ) × receives link (Some octets) after)
+IsFailed receives fails (Tick now) link code after = (code ≡ Memory) × (after ≡ link)
+
+-- the turn that the gate said last failed so: it entered nothing, and what was done before stands
+abbrev pub Breaks : {K G : Type 0} → Sending K → Receiving K → Failing K → Saying G → Carried → Carried → K → G → K → G
+    → Code → Type 0
+Breaks {K} {G} sends receives fails says was after link gate to at code =
     (mid : K) × (before : G) × (turn : Turn)
     × Served sends receives says was after link gate mid before × says before turn at
+    × IsFailed receives fails turn mid code to

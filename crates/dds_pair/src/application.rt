@@ -5,7 +5,7 @@
 use crate::workers::Task;
 use dds_base::{Code, Key, Masks, Octets, Selection};
 use dds_conditions::Filter;
-use dds_front::HasWord;
+use dds_log::HasWord;
 use dds_machine::{Call, Reply};
 use dds_notices::Listener;
 use dds_shared::{Named, Pass, Shared};

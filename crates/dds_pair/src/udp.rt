@@ -2,7 +2,7 @@
 //!
 //! RTPS 2.5, 9.6.2 (UDP): one message a datagram. Which datagrams come, and that any does, is the system's.
 
-ghost use Rattle.std.specs.Prelude.{◌≡◌, ◌⊎◌, IfErr};
+ghost use Rattle.std.specs.Prelude.{◌≡◌, ◌⊎◌, ◌≤◌, IfErr, vec_len};
 ghost use Rattle.dds_base.specs.declared.code.Code.TheVariants as code_of;
 
 use crate::link::Link;
@@ -65,20 +65,22 @@ impl UdpSender {
 }
 
 /// A socket on 127.0.0.1, at a port that the system picks, and the address of the one other that it exchanges datagrams
-/// with. A datagram from elsewhere is dropped. A receive that finds nothing waits for a millisecond at most, and one of
-/// 16 in a row does. `docs/DECISIONS.md`, "Threads and links".
+/// with. A datagram from elsewhere is dropped. A receive that finds nothing waits in the system for a millisecond at most,
+/// and one of 16 in a row does. `docs/DECISIONS.md`, "Threads and links".
 ///
 /// RTPS 2.5, 9.6.2 (UDP).
 #[derive(Drop)]
 pub struct UdpLink {
-    alloc: Global,
     socket: UdpSocket,
     poll: Poll,
     events: Events,
     buffer: Vec<u8>,
+    // How many octets of it came last.
+    count: usize,
     sender: UdpSender,
     // How many looks in a row found nothing, since the last wait.
     looks: u32,
+    ghost fits: { count ≤ vec_len buffer },
 }
 
 impl UdpLink {
@@ -106,11 +108,11 @@ impl UdpLink {
         poll.registry()
             .register(&mut socket, Token(0), Interest::READABLE)?;
         Ok(UdpLink {
-            alloc,
             socket,
             poll,
             events: Events::with_capacity(alloc, 1)?,
             buffer: Vec::from_elem(alloc, 0, ROOM)?,
+            count: 0,
             sender,
             looks: 0,
         })
@@ -145,38 +147,38 @@ impl UdpLink {
         self.sender.try_clone().map_err(failure)
     }
 
-    // A datagram that is there.
-    fn take(&mut self) -> io::Result<Option<Vec<u8>>> {
+    // Whether a datagram is there, which is taken.
+    fn take(&mut self) -> io::Result<bool> {
         match self.socket.recv_from(self.buffer.as_mut_slice()) {
             Ok((count, from)) => {
-                if self.sender.other != Some(from) {
-                    return Ok(None);
+                if self.sender.other != Some(from) || count > self.buffer.len() {
+                    return Ok(false);
                 }
-                let octets = Vec::from_slice(self.alloc, &self.buffer[..count])?;
-                Ok(Some(octets))
+                self.count = count;
+                Ok(true)
             }
-            Err(error) if error.kind() == ErrorKind::WouldBlock => Ok(None),
+            Err(error) if error.kind() == ErrorKind::WouldBlock => Ok(false),
             Err(error) => Err(error),
         }
     }
 
     // Waits a millisecond at most until a datagram is there, and takes it. A change of the socket is told once, so it is
     // called where a look found nothing.
-    fn wait_and_take(&mut self) -> io::Result<Option<Vec<u8>>> {
+    fn wait_and_take(&mut self) -> io::Result<bool> {
         self.poll
             .poll(&mut self.events, Some(Duration::from_millis(1)))?;
         self.take()
     }
 
-    // The next datagram; none where none is there, after a wait at each so many looks.
-    fn look(&mut self) -> io::Result<Option<Vec<u8>>> {
-        if let Some(octets) = self.take()? {
+    // Whether a datagram is there, after a wait at each so many looks.
+    fn look(&mut self) -> io::Result<bool> {
+        if self.take()? {
             self.looks = 0;
-            return Ok(Some(octets));
+            return Ok(true);
         }
         self.looks = self.looks.wrapping_add(1);
         if self.looks < LOOKS_A_WAIT {
-            return Ok(None);
+            return Ok(false);
         }
         self.looks = 0;
         self.wait_and_take()
@@ -184,17 +186,25 @@ impl UdpLink {
 }
 
 impl Link for UdpLink {
-    ghost use Rattle.std.specs.Prelude.{⊤};
+    ghost use Rattle.std.specs.Prelude.{⊤, take};
 
     ghost sends = { λ _ _ _. ⊤ };
 
+    ghost came = { λ u. take u.count u.buffer.items };
+
     ghost receives = { λ _ _ _. ⊤ };
+
+    ghost fails = { λ _ _ _. ⊤ };
 
     fn send(&mut self, packet: &Packet) -> bool {
         self.sender.send(packet)
     }
 
-    fn receive(&mut self) -> Result<Option<Vec<u8>>, Code> {
+    fn receive(&mut self) -> Result<bool, Code> {
         self.look().map_err(failure)
+    }
+
+    fn octets(&self) -> &[u8] {
+        &self.buffer[..self.count]
     }
 }

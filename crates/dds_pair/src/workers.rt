@@ -10,7 +10,7 @@ use crate::link::Link;
 use crate::serving::serve;
 use dds_base::Code;
 use dds_conditions::Filter;
-use dds_front::HasWord;
+use dds_log::HasWord;
 use dds_notices::Listener;
 use dds_shared::{Named, Pass, Shared};
 use std::alloc::Global;

@@ -3,3 +3,4 @@ pub mod Given
 pub mod Seeds
 pub mod Looks
 pub mod Using
+pub mod Locking

@@ -2,3 +2,4 @@ pub mod Seeds
 pub mod Passes
 pub mod Locks
 pub mod Waits
+pub mod Closings

@@ -1,24 +1,37 @@
 -- What a pass carries, and how one event, and a peer that is closed, speak of it.
 --
 -- Passes are this project's own.
-use Rattle.std.specs.Prelude.{◌≡◌, ℕ, List, [], ◌∷◌, ◌++◌, ◌==◌, if◌then◌else◌}
+use Rattle.std.specs.Prelude.{◌≡◌, ℕ, List, [], ◌∷◌, ◌++◌, ◌==◌, if◌then◌else◌, Option, None}
 use Rattle.dds_protocol.specs.declared.event.Event.{Event}
 use Rattle.dds_protocol.specs.declared.event.Output.{Output}
 use Rattle.dds_trace.specs.declared.trace.Entry.{Entry}
 use Rattle.dds_trace.specs.History.{entry_of}
 
+-- a wait that was given up: its WaitSet, in which nobody waited when there were so many entries
+pub record GaveUp : Type 0 where
+  pub wait_set : ℕ
+  pub at : ℕ
+
 -- a pass: its seat, the entries that it made or that came with the passes joined into it, for how many more there is
--- room, how many passes it is, and a number of entries that it has seen the peer reach
+-- room, how many passes it is, a number of entries that it has seen the peer reach, and which wait it gave up last
 pub record Carried : Type 0 where
   pub seat : ℕ
   pub list : List Entry
   pub spare : ℕ
   pub parts : ℕ
   pub front : ℕ
+  pub gave_up : Option GaveUp
 
 -- a pass of this seat that did nothing yet, and has seen so many entries
 abbrev pub unused : ℕ → ℕ → ℕ → Carried
-unused seat spare front = record { seat = seat; list = []; spare = spare; parts = 1; front = front }
+unused seat spare front = record {
+  seat = seat;
+  list = [];
+  spare = spare;
+  parts = 1;
+  front = front;
+  gave_up = None;
+}
 
 -- the list of a pass grows by these entries, which it has seen
 abbrev pub Grows : Carried → Carried → List Entry → Type 0

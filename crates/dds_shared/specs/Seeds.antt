@@ -6,7 +6,7 @@ use Rattle.dds_base.specs.declared.config.Config.{Config}
 use Rattle.dds_notices.specs.declared.mask.StatusMask.{StatusMask}
 use Rattle.dds_notices.specs.Listeners.{ByEntity, Slot, Slotted}
 use Rattle.dds_core.specs.Listening.{CoreKept}
-use Rattle.dds_front.specs.Fronts.{WordName}
+use Rattle.dds_log.specs.Logs.{WordName}
 
 -- a seed: its core, of which peer of which configuration it is, the name and the parts of its ledger, and its word
 pub record Planted (F L : Type 0) : Type 0 where

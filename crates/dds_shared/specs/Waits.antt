@@ -1,7 +1,7 @@
 -- What a wait enters in the list of its pass.
 --
 -- DDS 1.4, 2.2.2.1 (WaitSet, wait). That a wait is its looks is this project's own.
-use Rattle.std.specs.Prelude.{◌≡◌, ◌≢◌, ◌⊎◌, ℕ, Bool, List, [], ◌∷◌, ◌++◌, MatchBool}
+use Rattle.std.specs.Prelude.{◌≡◌, ◌≢◌, ◌⊎◌, ℕ, Bool, ◌<◌, List, [], ◌∷◌, ◌++◌, MatchBool, Some}
 use Rattle.dds_base.specs.declared.code.Code.TheVariants.{Memory}
 use Rattle.dds_machine.specs.declared.call.Call.TheVariants.{WaitBegin, WaitEnd, WaitLook}
 use Rattle.dds_machine.specs.declared.reply.Reply.{Reply}
@@ -44,6 +44,13 @@ Begins begun reply = MatchBool begun (reply ≡ Done) (reply ≢ Done)
 abbrev pub Ends : Bool → Reply → Type 0
 Ends over reply = MatchBool over (IsLast reply) (reply ≡ Waiting)
 
+-- a wait that was answered with this: its begin was refused, or its last look answered it
+abbrev pub AnsweredWith : Carried → Carried → ℕ → ℕ → Output → Type 0
+AnsweredWith was after wait_set deadline o =
+    (Lists was after (Call (WaitBegin wait_set deadline)) o × (o.reply ≢ Done))
+    ⊎ ((b : Output) × (looks : List Entry)
+    × Waits was after wait_set deadline b looks (look_of was.seat wait_set o ∷ []) × IsLast o.reply)
+
 -- a wait that was answered: its begin was refused, or its last look answered it
 abbrev pub Answered : Carried → Carried → ℕ → ℕ → Type 0
 Answered was after wait_set deadline =
@@ -66,9 +73,13 @@ GivesUp seat wait_set es =
     (looked ended : List Entry) × (es ≡ looked ++ ended) × IsMissedLook seat wait_set looked
     × IsEndOfWait seat wait_set ended
 
--- a wait that found no memory: nothing happened, or it was ended
+-- a pass that gave a wait up: nobody waits in its WaitSet any more, now that the pass has seen what there is
+abbrev pub given_up : ℕ → Carried → Carried
+given_up wait_set last = record last { gave_up = Some (record { wait_set = wait_set; at = last.front }) }
+
+-- a wait that found no memory: nothing happened, or it was given up, at a moment that the pass had not seen before
 abbrev pub Failed : Carried → Carried → ℕ → ℕ → Type 0
 Failed was after wait_set deadline =
     IsAsBefore was after
-    ⊎ ((b : Output) × (looks last : List Entry) × Waits was after wait_set deadline b looks last
-    × GivesUp was.seat wait_set last)
+    ⊎ ((b : Output) × (looks ends : List Entry) × (last : Carried) × Waits was last wait_set deadline b looks ends
+    × GivesUp was.seat wait_set ends × (after ≡ given_up wait_set last) × (was.front < after.front))

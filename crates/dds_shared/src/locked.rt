@@ -2,83 +2,106 @@
 //!
 //! Passes are this project's own.
 
-ghost use Rattle.std.specs.Prelude.{◌≡◌, ℕ, ◌++◌, ◌∷◌, [], ◌+◌, ◌<◌, ◌≤◌, length, All, OnOk, OnErr, IfErr, IfOk, IfNone, IfSome, ◌⊎◌};
-ghost use Rattle.dds_base.specs.declared.code.Code.TheVariants.{Memory, Mismatch, OutOfResources, PreconditionNotMet};
+ghost use Rattle.std.specs.Prelude.{◌≡◌, ◌↔◌, ℕ, ◌++◌, ◌∷◌, [], ◌+◌, ◌<◌, ◌≤◌, Some, None, length, true, All, OnOk, OnErr, IfErr, IfOk, IsTrue};
+ghost use Rattle.dds_base.specs.declared.code.Code.TheVariants.{Memory, OutOfResources};
 ghost use Rattle.dds_machine.specs.declared.call.Call.TheVariants.{WaitLook};
 ghost use Rattle.dds_protocol.specs.declared.event.Event.TheVariants as event_of;
 ghost use Rattle.dds_protocol.specs.declared.event.Output.{Output as OutputOf};
 ghost use Rattle.dds_trace.specs.History.{IsHistoryOf};
-ghost use Rattle.dds_trace.specs.Uses.{IsInUse};
-ghost use Rattle.dds_shared.specs.Passes.{IsAsBefore, Lists, lists_of, unused};
-ghost use Rattle.dds_shared.specs.Locks.{Adds, Matches};
+ghost use Rattle.dds_trace.specs.Uses.{IsInUse, in_use_of};
+ghost use Rattle.dds_shared.specs.Passes.{IsAsBefore, SameSeats, lists_of, unused};
+ghost use Rattle.dds_shared.specs.Locks.{Adds, Did as DidOf, HasAll};
 ghost use Rattle.dds_shared.specs.Seeds.{listeners_in, slots_shown};
-ghost use Rattle.dds_shared.specs.Waits.{IsLast};
 
-use crate::closing::{give_all, parts_of, same_lists};
+use crate::closing::{give_all, parts_of};
 use crate::named::Named;
 use crate::pass::Pass;
+use crate::said::Said;
 use crate::tally::Tally;
 use crate::whole::Whole;
 use dds_base::Code;
 use dds_conditions::Filter;
 use dds_core::Core;
-use dds_front::{Front, Word};
+use dds_keeping::{Counted, Handing, Keeping};
+use dds_log::{Hand, Word};
 use dds_notices::Listener;
-use dds_protocol::Event;
-use dds_trace::{Entry, Trace};
+use dds_protocol::{Event, Output};
+use dds_trace::Entry;
 use std::alloc::Global;
-use std::marker::Model;
+use std::marker::{Brand, Model};
+use std::snapshot::Snapshot;
 use std::sync::ledger::Share;
 
 /// How many passes a peer has at most.
 pub const SEATS: u64 = 4294967295;
 
-/// The core, beside a history that leads to it.
+/// The core, beside a history that leads to it, which is stored or known in proofs alone.
 #[derive(Drop)]
-pub struct Locked<N: Named<F, L>, F: Filter, L: Listener> {
+pub struct Locked<N: Named<F, L>, F: Filter, L: Listener, T: Keeping> {
     pub(crate) core: Core<F, L>,
-    pub(crate) trace: Trace,
+    pub(crate) peer: u8,
+    pub(crate) trace: T,
     pub(crate) tally: Tally<N>,
     rest: Share<N>,
     left: u64,
     whole: Whole<N>,
 }
 
-impl<N: Named<F, L>, F: Filter, L: Listener> Model for Locked<N, F, L> {
+impl<N: Named<F, L>, F: Filter, L: Listener, T: Keeping> Model for Locked<N, F, L, T> {
+    ghost use Rattle.std.specs.Prelude.{◌≡◌};
     ghost use Rattle.dds_shared.specs.Locks.{IsKept, Kept};
 
     ghost Value = { Kept F L };
 
-    ghost view = { λ k. record { core = k.core; entries = k.trace.entries; left = k.left } };
+    ghost view = { λ k. record { core = k.core; entries = k.tally.log; left = k.left } };
 
-    ghost invariant = { λ k. IsKept F.meaning L.notices L.capacity L.becomes N.filters N.slots N.config N.peer k.core k.trace
-        k.tally k.rest.parts k.rest.amount k.left };
+    ghost invariant = { λ k. IsKept F.meaning L.notices L.capacity L.becomes N.filters N.slots N.config N.peer k.core
+        k.tally.log (T.room k.trace) k.rest.parts k.rest.amount k.left k.tally.next
+        × (k.peer ≡ N.peer) × T.keeps k.trace k.tally.log };
 }
 
-impl<N: Named<F, L>, F: Filter, L: Listener> Locked<N, F, L> {
-    /// A locked peer without entries, and its first pass.
-    pub fn open(
+/// What an event gave: what the caller gets, and what that says to one who waits.
+#[derive(Drop)]
+pub struct Did<A: Drop> {
+    pub answer: A,
+    pub said: Said,
+}
+
+/// What a locked peer leaves: the core, the number of the peer, and what was stored.
+#[derive(Drop)]
+pub struct Left<F: Filter, L: Listener, T: Keeping> {
+    pub core: Core<F, L>,
+    pub peer: u8,
+    pub trace: T,
+}
+
+impl<N: Named<F, L>, F: Filter, L: Listener, T: Keeping> Locked<N, F, L, T> {
+    /// A locked peer to which nothing happened, and its first pass.
+    pub fn open<P: Handing>(
         alloc: Global,
         core: Core<F, L>,
-        trace: Trace,
+        peer: u8,
         tally: Tally<N>,
         all: Share<N>,
-        front: Front<N>,
-    ) -> (Locked<N, F, L>, Pass<N>)
+        word: &Word<N, Entry>,
+    ) -> (Locked<N, F, L, T>, Pass<N, P>)
         requires core { IsHistoryOf F.meaning L.notices L.capacity L.becomes (listeners_in N.slots) N.config N.peer [] core }
         requires set { (core.filtered.filters ≡ N.filters) × (core.listeners ≡ N.slots) }
-        requires trace { (trace.entries ≡ []) × (trace.peer ≡ N.peer) }
-        requires tally { tally ≡ 0 }
+        requires peer { peer ≡ N.peer }
+        requires tally { tally ≡ record { log = []; next = 1; seat = None; list = [] } }
         requires all { (all.parts ≡ 4294967295) × (all.amount ≡ 0) × (N.parts ≡ 4294967295) }
-        ensures pass { result.1 ≡ unused 1 result.1.spare front }
+        ensures pass { result.1 ≡ unused 1 result.1.spare 0 }
     {
+        let mut tally = tally;
         let mut rest = all;
         let share = rest.split_off(1, 0);
-        let pass = Pass::new(alloc, 1, share, Whole::new(), front);
+        let hand = tally.seat(word);
+        let pass = Pass::new(alloc, 1, share, Whole::new(), hand);
         (
             Locked {
                 core,
-                trace,
+                peer,
+                trace: T::open(alloc),
                 tally,
                 rest,
                 left: SEATS - 1,
@@ -89,8 +112,14 @@ impl<N: Named<F, L>, F: Filter, L: Listener> Locked<N, F, L> {
     }
 
     /// A new pass with a seat of its own, and with what it has seen.
-    pub fn split(&mut self, alloc: Global, front: Front<N>) -> Result<Pass<N>, Code>
-        ensures ok { IfOk result (λ pass. pass ≡ unused pass.seat pass.spare front) }
+    pub fn split<P: Handing>(
+        &mut self,
+        alloc: Global,
+        word: &Word<N, Entry>,
+        seen: Hand<N, Entry>,
+    ) -> Result<Pass<N, P>, Code>
+        requires seen { (seen.seat ≡ None) × (seen.list ≡ []) }
+        ensures ok { IfOk result (λ pass. pass ≡ unused pass.seat pass.spare seen.at) }
         ensures seat { IfOk result (λ pass. pass.seat + self.new.left ≡ 4294967295) }
         ensures kept { OnOk result (self.new ≡ record self.old { left = self.new.left }) }
         ensures fewer { OnOk result (self.new.left + 1 ≡ self.old.left) }
@@ -103,85 +132,108 @@ impl<N: Named<F, L>, F: Filter, L: Listener> Locked<N, F, L> {
         let share = self.rest.split_off(1, 0);
         self.left -= 1;
         let seat = (SEATS - self.left) as u32;
-        Ok(Pass::new(alloc, seat, share, self.whole.again(), front))
+        let mut hand = self.tally.seat(word);
+        hand.join(word, seen);
+        Ok(Pass::new(alloc, seat, share, self.whole.again(), hand))
     }
 
-    /// Whether all passes are here, and have what the trace has.
-    pub fn refusal(&self, passes: &[Pass<N>]) -> Option<Code>
-        ensures none { IfNone result (Matches self.now passes.now) }
-        ensures code { IfSome result (λ code. (code ≡ PreconditionNotMet) ⊎ (code ≡ Mismatch)) }
+    /// Whether all passes are here.
+    pub fn has_all<P: Handing>(&self, passes: &[Pass<N, P>]) -> bool
+        ensures all { IsTrue result ↔ HasAll self.now passes.now }
     {
         let Some(parts) = parts_of(passes) else {
-            return Some(Code::PreconditionNotMet);
+            return false;
         };
-        if parts > SEATS || parts + self.left != SEATS {
-            return Some(Code::PreconditionNotMet);
-        }
-        if !same_lists(self.trace.as_slice(), passes, SEATS - self.left + 1) {
-            return Some(Code::Mismatch);
-        }
-        None
+        parts <= SEATS && parts + self.left == SEATS
     }
 
-    /// Ends with the core and the trace.
-    pub fn close(self, passes: Vec<Pass<N>>, word: &Word<N>) -> (Core<F, L>, Trace)
-        requires passes { Matches self passes.items }
+    /// Ends with the core, and with what was stored.
+    pub fn close<P: Handing>(self, passes: Vec<Pass<N, P>>, word: &Word<N, Entry>) -> Left<F, L, T>
+        requires passes { HasAll self passes.items }
         ensures history { IsHistoryOf F.meaning L.notices L.capacity L.becomes (listeners_in N.slots) N.config N.peer
-            result.1.entries result.0 }
-        ensures named { result.1.peer ≡ N.peer }
-        ensures filters { result.0.filtered.filters ≡ N.filters }
-        ensures slots { slots_shown L.capacity result.0.listeners ≡ slots_shown L.capacity N.slots }
-        ensures same { (result.1.entries ≡ self.entries) × (result.0 ≡ self.core) }
-        ensures complete { length result.1.entries ≡ length (lists_of passes.items) }
-        ensures fronts { All (λ p. p.front ≤ length result.1.entries) passes.items }
+            self.entries result.core }
+        ensures named { result.peer ≡ N.peer }
+        ensures stored { T.keeps result.trace self.entries }
+        ensures filters { result.core.filtered.filters ≡ N.filters }
+        ensures slots { slots_shown L.capacity result.core.listeners ≡ slots_shown L.capacity N.slots }
+        ensures same { result.core ≡ self.core }
+        ensures lists { SameSeats self.entries passes.items }
+        ensures complete { length self.entries ≡ length (lists_of passes.items) }
+        ensures fronts { All (λ p. p.front ≤ length self.entries) passes.items }
     {
         let Locked {
             core,
+            peer,
             trace,
-            mut tally,
+            tally,
             mut rest,
             left: _,
             whole,
         } = self;
         whole.show();
-        give_all(passes, &mut rest, &mut tally, word);
-        tally.audit(&mut rest);
-        (core, trace)
+        give_all(passes, &mut rest, tally, word);
+        Left { core, peer, trace }
     }
 
-    /// Does one event, and enters it in the trace and in the pass's list.
-    pub fn event(&mut self, word: &Word<N>, pass: &mut Pass<N>, event: Event) -> Result<(), Code>
-        ensures ok { OnOk result ((o : OutputOf)
-            × Adds F.meaning L.notices L.capacity L.becomes self.old self.new pass.old pass.new event o) }
+    // Whether one event more can be counted, and behind it the ends of all waits.
+    fn has_room(&self) -> bool
+        ensures room { result ≡ true
+            → in_use_of self.now.core + length self.now.entries + 2 ≤ 18446744073709551615 }
+    {
+        self.tally.room() >= u64::from(self.core.in_use()) + 2
+    }
+
+    /// Does one event, and enters it in the history and in the pass's list.
+    pub fn event<P: Handing>(
+        &mut self,
+        word: &Word<N, Entry>,
+        pass: &mut Pass<N, P>,
+        event: Event,
+    ) -> Result<Did<P::Answer>, Code>
+        ensures ok { IfOk result (λ did. (o : OutputOf)
+            × DidOf F.meaning L.notices L.capacity L.becomes P.answers self.old self.new pass.old pass.new event
+            did.answer o did.said) }
         ensures err { OnErr result ((self.new ≡ self.old) × IsAsBefore pass.old pass.new) }
         ensures refused { IfErr result (λ code. code ≡ Memory) }
-        ensures ends { OnOk result ((s : ℕ) (o : OutputOf) → event ≡ event_of.Call (WaitLook s)
-            → Lists pass.old pass.new event o → IsLast o.reply → IsInUse self.new.core s → ⊥) }
+        ensures ends { IfOk result (λ did. (s : ℕ) → event ≡ event_of.Call (WaitLook s)
+            → (IsTrue did.said.waiting → ⊥) → (IsTrue did.said.memory → ⊥) → IsInUse self.new.core s → ⊥) }
         ensures room { pass.old.spare ≤ pass.new.spare + 1 }
         ensures room_kept { OnErr result (pass.old.spare ≤ pass.new.spare) }
     {
-        let one = event.clone()?;
-        let two = event.clone()?;
+        if !self.has_room() {
+            return Err(Code::Memory);
+        }
+        let one = T::tell(&event)?;
+        let two = P::tell(&event)?;
         self.trace.reserve(self.core.in_use() as usize + 2)?;
         pass.reserve(1)?;
-        let seat = pass.seat();
-        let (output, same) = self.core.step_pair(event);
-        self.trace.push(Entry {
-            seat,
-            event: one,
-            output,
-        });
-        let length = self.trace.len() as u64;
-        pass.record(
-            &mut self.tally,
-            word,
-            length,
-            Entry {
-                seat,
-                event: two,
-                output: same,
-            },
-        );
-        Ok(())
+        let what = Snapshot::of(&event);
+        let (output, twin) = T::step(&mut self.core, event);
+        let said = Said::of(&output.reply);
+        self.trace.push(pass.seat(), one, twin);
+        let answer = pass.record::<Brand>(&mut self.tally, word, what, two, output);
+        Ok(Did { answer, said })
+    }
+}
+
+impl<N: Named<F, L>, F: Filter, L: Listener> Locked<N, F, L, Counted> {
+    /// Delivers these octets, which stay where they are, and enters that, in proofs alone.
+    pub fn deliver(
+        &mut self,
+        word: &Word<N, Entry>,
+        pass: &mut Pass<N, Counted>,
+        octets: &[u8],
+    ) -> Result<Output, Code>
+        ensures ok { IfOk result (λ o. Adds F.meaning L.notices L.capacity L.becomes self.old self.new pass.old pass.new
+            (event_of.Deliver octets.now) o) }
+        ensures err { OnErr result ((self.new ≡ self.old) × (pass.new ≡ pass.old)) }
+        ensures refused { IfErr result (λ code. code ≡ Memory) }
+    {
+        if !self.has_room() {
+            return Err(Code::Memory);
+        }
+        let output = self.core.deliver(octets);
+        pass.record_delivery::<Brand>(&mut self.tally, word, octets, &output);
+        Ok(output)
     }
 }

@@ -10,9 +10,9 @@ ghost use Rattle.dds_core.specs.Opening.{core_refusal};
 use dds_base::{Code, Config, Entity};
 use dds_conditions::Filter;
 use dds_core::Core;
-use dds_front::NewWord;
+use dds_log::NewWord;
 use dds_notices::{Listener, StatusMask};
-use dds_trace::Trace;
+use dds_trace::Entry;
 use std::alloc::Global;
 use std::marker::Model;
 use std::snapshot::Snapshot;
@@ -24,9 +24,8 @@ use std::sync::ledger::Blank;
 #[derive(Drop)]
 pub struct Seed<F: Filter, L: Listener> {
     pub(crate) core: Core<F, L>,
-    pub(crate) trace: Trace,
     pub(crate) blank: Blank,
-    pub(crate) word: NewWord,
+    pub(crate) word: NewWord<Entry>,
     pub(crate) config: Snapshot<Config>,
     pub(crate) peer: u8,
     pub(crate) alloc: Global,
@@ -51,7 +50,7 @@ impl<F: Filter, L: Listener> Model for Seed<F, L> {
     ghost invariant = { λ s.
         IsHistoryOf F.meaning L.notices L.capacity L.becomes (listeners_in s.core.listeners) s.config.value s.peer []
         s.core
-        × (s.trace.entries ≡ []) × (s.trace.peer ≡ s.peer) × (s.blank.parts ≡ 4294967295) };
+        × (s.blank.parts ≡ 4294967295) };
 }
 
 impl<F: Filter, L: Listener> Seed<F, L> {
@@ -74,7 +73,6 @@ impl<F: Filter, L: Listener> Seed<F, L> {
         let word = NewWord::new(alloc)?;
         Ok(Seed {
             core,
-            trace: Trace::open(alloc, peer),
             blank: Blank::new(4294967295),
             word,
             config: Snapshot::of(config),

@@ -1,90 +1,93 @@
-//! A peer that threads share.
+//! A peer that threads share: what each form of it has.
 //!
 //! DDS 1.4, 2.2.2.1 (Entity, WaitSet). Passes and closing are this project's own.
 
-ghost use Rattle.std.specs.Prelude.{◌≡◌, ◌++◌, ◌+◌, ◌<◌, ◌≤◌, length, max, All, OnOk, OnErr, IfErr, IfOk, ◌⊎◌};
-ghost use Rattle.dds_base.specs.declared.code.Code.TheVariants.{Memory, Mismatch, OutOfResources, PreconditionNotMet};
-ghost use Rattle.dds_protocol.specs.declared.event.Event.TheVariants as event;
+ghost use Rattle.std.specs.Prelude.{◌≡◌, ◌<◌, ◌≤◌, max, OnOk, OnErr, IfErr, IfOk};
+ghost use Rattle.dds_base.specs.declared.code.Code.TheVariants.{Memory, OutOfResources};
 ghost use Rattle.dds_protocol.specs.declared.event.Output.{Output as OutputOf};
-ghost use Rattle.dds_trace.specs.History.{IsHistoryOf};
-ghost use Rattle.dds_shared.specs.Passes.{IsAsBefore, Lists, SameSeats, lists_of, unused};
-ghost use Rattle.dds_shared.specs.Seeds.{listeners_in, slots_shown};
-ghost use Rattle.dds_shared.specs.Waits.{Answered, Failed};
+ghost use Rattle.dds_shared.specs.Passes.{IsAsBefore, Lists, unused};
+ghost use Rattle.dds_shared.specs.Waits.{AnsweredWith, Failed};
 
 use crate::locked::Locked;
 use crate::named::Named;
 use crate::pass::Pass;
 use crate::seed::Seed;
 use crate::tally::Tally;
-use dds_base::{Code, Moment, Octets};
+use dds_base::{Code, Moment};
 use dds_conditions::Filter;
-use dds_core::Core;
-use dds_front::Word;
+use dds_keeping::{Handing, Keeping, Recorded};
+use dds_log::Word;
 use dds_machine::Call;
 use dds_notices::Listener;
 use dds_protocol::Event;
-use dds_trace::Trace;
+use dds_trace::Entry;
 use std::alloc::Global;
+use std::marker::PhantomData;
 use std::sync::{Condvar, Mutex, Wait};
 
 /// A peer that threads share, by `&Shared`: each event is done whole, under one lock.
+///
+/// What was done is recorded, in the peer's trace (`T`) and in the list of each pass (`P`), or known in proofs alone:
+/// `Shared` records both and grows with each event, `Flat` neither.
 #[derive(Drop)]
-pub struct Shared<N: Named<F, L>, F: Filter, L: Listener> {
-    locked: Mutex<Locked<N, F, L>>,
-    changed: Condvar,
-    word: Word<N>,
-    alloc: Global,
-}
-
-/// What a closed peer leaves.
-#[derive(Drop)]
-pub struct Closed<F: Filter, L: Listener> {
-    /// What the peer did, in the order in which it did it.
-    pub trace: Trace,
-    /// The peer, which one thread may use on.
-    pub core: Core<F, L>,
+pub struct Shared<
+    N: Named<F, L>,
+    F: Filter,
+    L: Listener,
+    T: Keeping = Recorded,
+    P: Handing = Recorded,
+> {
+    pub(crate) locked: Mutex<Locked<N, F, L, T>>,
+    pub(crate) changed: Condvar,
+    pub(crate) word: Word<N, Entry>,
+    pub(crate) alloc: Global,
+    pub(crate) of: PhantomData<P>,
 }
 
 /// A peer that was not closed, with its passes.
 #[derive(Drop)]
-pub struct NotClosed<N: Named<F, L>, F: Filter, L: Listener> {
+pub struct NotClosed<
+    N: Named<F, L>,
+    F: Filter,
+    L: Listener,
+    T: Keeping = Recorded,
+    P: Handing = Recorded,
+> {
     /// Why.
     pub code: Code,
     /// The peer, as it was.
-    pub shared: Shared<N, F, L>,
+    pub shared: Shared<N, F, L, T, P>,
     /// The passes that were handed in.
-    pub passes: Vec<Pass<N>>,
+    pub passes: Vec<Pass<N, P>>,
 }
 
-impl<N: Named<F, L>, F: Filter, L: Listener> Shared<N, F, L> {
-    /// Shares a peer under its name, and gives the first pass. It takes no memory.
-    pub fn open(seed: Seed<F, L>) -> (Shared<N, F, L>, Pass<N>)
-        // The name is that of the seed.
+impl<N: Named<F, L>, F: Filter, L: Listener, T: Keeping, P: Handing> Shared<N, F, L, T, P> {
+    // Shares a peer under its name, and gives the first pass.
+    pub(crate) fn of_seed(seed: Seed<F, L>) -> (Shared<N, F, L, T, P>, Pass<N, P>)
         requires name { (seed.name ≡ N.name) × (seed.parts ≡ N.parts) × (seed.word ≡ N.word) }
-        // It is of the seed's peer, with the filters and the listeners that this has.
         requires of { (seed.config ≡ N.config) × (seed.peer ≡ N.peer) }
         requires set { (seed.core.filtered.filters ≡ N.filters) × (seed.core.listeners ≡ N.slots) }
-        // The pass did nothing yet, and has seen nothing.
         ensures pass { result.1 ≡ unused 1 result.1.spare 0 }
     {
         let Seed {
             core,
-            trace,
+            peer,
             blank,
             word,
             alloc,
             ..
         } = seed;
         let (book, all) = blank.open::<N>();
-        let (word, keeper, front) = word.open::<N>();
+        let (word, keeper) = word.open::<N>();
         let tally = Tally::new(book, keeper);
-        let (locked, pass) = Locked::open(alloc, core, trace, tally, all, front);
+        let (locked, pass) = Locked::open(alloc, core, peer, tally, all, &word);
         (
             Shared {
                 locked: Mutex::new(locked),
                 changed: Condvar::new(),
                 word,
                 alloc,
+                of: PhantomData,
             },
             pass,
         )
@@ -95,7 +98,7 @@ impl<N: Named<F, L>, F: Filter, L: Listener> Shared<N, F, L> {
     /// # Errors
     ///
     /// `OutOfResources` where 2^32 - 1 passes were made.
-    pub fn split_pass<R: Wait>(&self, rt: &R, pass: &mut Pass<N>) -> Result<Pass<N>, Code>
+    pub fn split_pass<R: Wait>(&self, rt: &R, pass: &mut Pass<N, P>) -> Result<Pass<N, P>, Code>
         // It did nothing yet.
         ensures ok { IfOk result (λ split. split ≡ unused split.seat split.spare pass.old.front) }
         // The other one stays.
@@ -103,29 +106,8 @@ impl<N: Named<F, L>, F: Filter, L: Listener> Shared<N, F, L> {
         // A refusal is for want of a seat.
         ensures refused { IfErr result (λ code. code ≡ OutOfResources) }
     {
-        let front = pass.split_front(&self.word);
-        self.locked.lock(rt).split(self.alloc, front)
-    }
-
-    /// Joins a pass into another, with its list and with what it has seen.
-    ///
-    /// # Errors
-    ///
-    /// `Memory` where a growth was refused. The pass comes back, and nothing changes.
-    pub fn join_pass(&self, pass: &mut Pass<N>, other: Pass<N>) -> Result<(), (Code, Pass<N>)>
-        // Its entries follow, the greater front is kept, and the seat stays.
-        ensures ok { OnOk result (pass.new ≡ record pass.old {
-          list = pass.old.list ++ other.list;
-          spare = pass.new.spare;
-          parts = pass.old.parts + other.parts;
-          front = max pass.old.front other.front;
-        }) }
-        // A refusal is for want of memory, and changes nothing.
-        ensures refused { IfErr result (λ e. e.0 ≡ Memory) }
-        ensures back { IfErr result (λ e. e.1 ≡ other) }
-        ensures err { OnErr result (IsAsBefore pass.old pass.new) }
-    {
-        pass.join(&self.word, other)
+        let seen = pass.split_front(&self.word);
+        self.locked.lock(rt).split(self.alloc, &self.word, seen)
     }
 
     /// How many entries the peer has, as far as this pass has to see: at least all that it did, all that was done
@@ -133,7 +115,7 @@ impl<N: Named<F, L>, F: Filter, L: Listener> Shared<N, F, L> {
     /// lock and waits for nobody.
     ///
     /// Fronts are this project's own.
-    pub fn front(&self, pass: &mut Pass<N>) -> u64
+    pub fn front(&self, pass: &mut Pass<N, P>) -> u64
         // It is not below what the pass had seen.
         ensures found { pass.old.front ≤ result }
         // From then on the pass has seen it.
@@ -145,7 +127,7 @@ impl<N: Named<F, L>, F: Filter, L: Listener> Shared<N, F, L> {
     /// Both passes have seen afterwards what either had seen. It takes no lock and waits for nobody.
     ///
     /// Fronts are this project's own.
-    pub fn meet_pass(&self, pass: &mut Pass<N>, other: &mut Pass<N>)
+    pub fn meet_pass(&self, pass: &mut Pass<N, P>, other: &mut Pass<N, P>)
         // Both stand at the greater front.
         ensures this { pass.new ≡ record pass.old { front = max pass.old.front other.old.front } }
         ensures that { other.new ≡ record other.old { front = max pass.old.front other.old.front } }
@@ -153,146 +135,54 @@ impl<N: Named<F, L>, F: Filter, L: Listener> Shared<N, F, L> {
         pass.meet(&self.word, other);
     }
 
-    /// Ends with the trace and the peer, if all passes are handed in. It takes no memory; it goes over the trace once
-    /// for each pass that was made.
+    /// Does one event, and gives what the caller gets of its output, which `Pass::output` shows: for code over both forms.
     ///
     /// # Errors
     ///
-    /// `PreconditionNotMet` where a pass is missing; else `Mismatch` where the entries of a seat differ from what its
-    /// pass holds. The peer and its passes come back.
-    pub fn close(self, passes: Vec<Pass<N>>) -> Result<Closed<F, L>, NotClosed<N, F, L>>
-        // The trace is of this peer, and a history of it: what was done leads from its opening to it.
-        ensures history { IfOk result (λ closed. IsHistoryOf F.meaning L.notices L.capacity L.becomes
-            (listeners_in N.slots) N.config N.peer closed.trace.entries closed.core) }
-        ensures named { IfOk result (λ closed. closed.trace.peer ≡ N.peer) }
-        // It has the filters that it was shared with, and at each entity the listener's statuses and room.
-        ensures filters { IfOk result (λ closed. closed.core.filtered.filters ≡ N.filters) }
-        ensures slots { IfOk result
-            (λ closed. slots_shown L.capacity closed.core.listeners ≡ slots_shown L.capacity N.slots) }
-        // The entries of each seat are what the passes hold of it, in order, and there are no others.
-        ensures lists { IfOk result (λ closed. SameSeats closed.trace.entries passes.items) }
-        ensures complete { IfOk result
-            (λ closed. length closed.trace.entries ≡ length (lists_of passes.items)) }
-        // No pass has seen more entries than there are.
-        ensures fronts { IfOk result
-            (λ closed. All (λ p. p.front ≤ length closed.trace.entries) passes.items) }
-        // A refusal has one of two causes, and the passes come back.
-        ensures refused { IfErr result
-            (λ e. (e.code ≡ PreconditionNotMet) ⊎ (e.code ≡ Mismatch)) }
-        ensures back { IfErr result (λ e. e.passes.items ≡ passes.items) }
-    {
-        let Shared {
-            locked,
-            changed,
-            word,
-            alloc,
-        } = self;
-        let locked = locked.into_inner();
-        match locked.refusal(passes.as_slice()) {
-            None => {
-                let (core, trace) = locked.close(passes, &word);
-                Ok(Closed { trace, core })
-            }
-            Some(code) => Err(NotClosed {
-                code,
-                shared: Shared {
-                    locked: Mutex::new(locked),
-                    changed,
-                    word,
-                    alloc,
-                },
-                passes,
-            }),
-        }
-    }
-
-    // Does one event, and wakes those who wait, unless it is a look: that changes no condition.
-    fn event<R: Wait>(&self, rt: &R, pass: &mut Pass<N>, event: Event) -> Result<(), Code>
-        ensures ok { OnOk result ((o : OutputOf) × Lists pass.old pass.new event o) }
+    /// `Memory` where a growth of what is recorded was refused, or 2^64 - 1 events were done, or nearly: then nothing
+    /// happened. What the peer itself refuses is an answer.
+    // It wakes those who wait, unless it is a look: that changes no condition.
+    pub fn event<R: Wait>(
+        &self,
+        rt: &R,
+        pass: &mut Pass<N, P>,
+        event: Event,
+    ) -> Result<P::Answer, Code>
+        // The pass has done one event more: this one, with an output of which the caller gets this.
+        ensures ok { IfOk result (λ answer. (o : OutputOf)
+            × Lists pass.old pass.new event o × P.answers answer o) }
+        // The entry stands above what the pass had seen; then it has seen it.
+        ensures front { OnOk result (pass.old.front < pass.new.front) }
+        // A refusal changes nothing.
         ensures refused { IfErr result (λ code. code ≡ Memory) }
         ensures err { OnErr result (IsAsBefore pass.old pass.new) }
-        ensures front { OnOk result (pass.old.front < pass.new.front) }
     {
         let is_look = matches!(event, Event::Call(Call::WaitLook { .. }));
-        self.locked.lock(rt).event(&self.word, pass, event)?;
+        let did = self.locked.lock(rt).event(&self.word, pass, event)?;
         if !is_look {
             self.changed.notify_all();
         }
-        Ok(())
+        Ok(did.answer)
     }
 
-    /// Does a call. What answers it stands at the end of the pass's list. `docs/DECISIONS.md`, "Threads and links".
+    /// Waits in a WaitSet of the peer, as `wait` does, and gives what the caller gets of what answers: for code over both
+    /// forms.
     ///
     /// # Errors
     ///
-    /// `Memory` where a growth was refused: then nothing happened. What the peer itself refuses is an answer.
-    pub fn call<R: Wait>(&self, rt: &R, pass: &mut Pass<N>, call: Call) -> Result<(), Code>
-        // The list has one entry more: this call, with its answer.
-        ensures ok { OnOk result ((o : OutputOf) × Lists pass.old pass.new (event.Call call) o) }
-        // The entry stands above what the pass had seen; then it has seen it.
-        ensures front { OnOk result (pass.old.front < pass.new.front) }
-        // A refusal is for want of memory, and changes nothing.
-        ensures refused { IfErr result (λ code. code ≡ Memory) }
-        ensures err { OnErr result (IsAsBefore pass.old pass.new) }
-    {
-        self.event(rt, pass, Event::Call(call))
-    }
-
-    /// The peer's time goes on to this moment, as by `Event::Tick`.
-    ///
-    /// # Errors
-    ///
-    /// `Memory` where a growth was refused: then nothing happened.
-    pub fn tick<R: Wait>(&self, rt: &R, pass: &mut Pass<N>, now: Moment) -> Result<(), Code>
-        // The list has one entry more: this tick, with its answer.
-        ensures ok { OnOk result ((o : OutputOf) × Lists pass.old pass.new (event.Tick now) o) }
-        // The entry stands above what the pass had seen; then it has seen it.
-        ensures front { OnOk result (pass.old.front < pass.new.front) }
-        // A refusal is for want of memory, and changes nothing.
-        ensures refused { IfErr result (λ code. code ≡ Memory) }
-        ensures err { OnErr result (IsAsBefore pass.old pass.new) }
-    {
-        self.event(rt, pass, Event::Tick(now))
-    }
-
-    /// The bytes of a packet come, whatever they are.
-    ///
-    /// # Errors
-    ///
-    /// `Memory` where a growth was refused: then nothing happened.
-    pub fn deliver<R: Wait>(&self, rt: &R, pass: &mut Pass<N>, bytes: Octets) -> Result<(), Code>
-        // The list has one entry more: this delivery, with its report.
-        ensures ok { OnOk result ((o : OutputOf) × Lists pass.old pass.new (event.Deliver bytes) o) }
-        // The entry stands above what the pass had seen; then it has seen it.
-        ensures front { OnOk result (pass.old.front < pass.new.front) }
-        // A refusal is for want of memory, and changes nothing.
-        ensures refused { IfErr result (λ code. code ≡ Memory) }
-        ensures err { OnErr result (IsAsBefore pass.old pass.new) }
-    {
-        self.event(rt, pass, Event::Deliver(bytes))
-    }
-
-    /// Waits in a WaitSet of the peer until a condition of it is true, or the peer's time has come to the deadline. The
-    /// answer stands at the end of the pass's list: `Active`, or `Refused` with `Timeout`; or what refused the wait
-    /// (`BadParameter` for a WaitSet that was not made, `PreconditionNotMet` where somebody waits in it), or another
-    /// pass's end of it. It is never `Waiting`, and nobody waits in the WaitSet afterwards.
-    ///
-    /// The lock is let go between looks. A look follows each event of another pass; where there is none, nobody looks.
-    ///
-    /// # Errors
-    ///
-    /// `Memory` where a growth was refused: then nothing happened, or what was entered of the wait ends it.
+    /// `Memory` where a look found none, or as of `event`: then nothing happened, or the wait was ended.
     ///
     /// DDS 1.4, 2.2.2.1 (WaitSet, wait).
-    pub fn wait<R: Wait>(
+    pub fn wait_in<R: Wait>(
         &self,
         rt: &R,
-        pass: &mut Pass<N>,
+        pass: &mut Pass<N, P>,
         wait_set: u32,
         deadline: Moment,
-    ) -> Result<(), Code>
-        // The list has the begin of the wait, and its looks; the last one answers.
-        ensures ok { OnOk result (Answered pass.old pass.new wait_set deadline) }
+    ) -> Result<P::Answer, Code>
+        // The pass has done the begin of the wait, and its looks; the last one answers.
+        ensures ok { IfOk result (λ answer. (o : OutputOf)
+            × AnsweredWith pass.old pass.new wait_set deadline o × P.answers answer o) }
         // What the pass has seen does not fall.
         ensures front { pass.old.front ≤ pass.new.front }
         // A refusal is for want of memory, and ends the wait.
@@ -302,13 +192,16 @@ impl<N: Named<F, L>, F: Filter, L: Listener> Shared<N, F, L> {
         let mut locked = self.locked.lock(rt);
         let begun = locked.begin(&self.word, pass, wait_set, deadline)?;
         self.changed.notify_all();
-        if !begun {
-            return Ok(());
+        if !begun.is_so {
+            return Ok(begun.answer);
         }
         for _ in rt.forever() {
             match locked.look(&self.word, pass, wait_set) {
-                Ok(true) => return Ok(()),
-                Ok(false) => {}
+                Ok(looked) => {
+                    if looked.is_so {
+                        return Ok(looked.answer);
+                    }
+                }
                 Err(code) => {
                     self.changed.notify_all();
                     return Err(code);

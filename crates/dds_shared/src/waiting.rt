@@ -1,106 +1,130 @@
-//! Waits of a shared peer, between which the lock is let go.
+//! A wait under the lock of a shared peer, look by look: between looks the lock is let go.
 //!
-//! DDS 1.4, 2.2.2.1 (WaitSet, wait).
+//! DDS 1.4, 2.2.2.1 (WaitSet, wait). That a wait is its looks is this project's own.
 
-ghost use Rattle.std.specs.Prelude.{◌≡◌, ◌↔◌, ◌<◌, ◌≤◌, List, OnOk, OnErr, IfErr, IfOk, IsTrue, true};
+ghost use Rattle.std.specs.Prelude.{◌≡◌, ◌<◌, ◌≤◌, List, OnOk, OnErr, IfErr, IfOk, true};
 ghost use Rattle.dds_base.specs.declared.code.Code.TheVariants.{Memory};
 ghost use Rattle.dds_machine.specs.declared.call.Call.TheVariants.{WaitBegin, WaitLook};
-ghost use Rattle.dds_machine.specs.declared.reply.Reply.TheVariants as reply_of;
 ghost use Rattle.dds_protocol.specs.declared.event.Event.TheVariants as event;
 ghost use Rattle.dds_protocol.specs.declared.event.Output.{Output as OutputOf};
 ghost use Rattle.dds_trace.specs.declared.trace.Entry.{Entry as EntryOf};
 ghost use Rattle.dds_trace.specs.Uses.{IsInUse};
-ghost use Rattle.dds_shared.specs.Passes.{Grows, IsAsBefore};
+ghost use Rattle.dds_shared.specs.Passes.{Carried, Grows, IsAsBefore};
 ghost use Rattle.dds_shared.specs.Locks.{Adds};
-ghost use Rattle.dds_shared.specs.Waits.{Begins, Ends, GivesUp, IsEndOfWait};
+ghost use Rattle.dds_shared.specs.Waits.{Begins, Ends, GivesUp, IsEndOfWait, given_up};
 
-use crate::locked::Locked;
+use crate::locked::{Did, Locked};
 use crate::named::Named;
 use crate::pass::Pass;
 use dds_base::{Code, Moment};
 use dds_conditions::Filter;
-use dds_front::Word;
-use dds_machine::{Call, Reply};
+use dds_keeping::{Handing, Keeping};
+use dds_log::Word;
+use dds_machine::Call;
 use dds_notices::Listener;
 use dds_protocol::Event;
 use dds_trace::Entry;
+use std::marker::Brand;
+use std::snapshot::Snapshot;
 
-fn is_done(reply: &Reply) -> bool
-    ensures done { IsTrue result ↔ (reply.now ≡ reply_of.Done) }
-{
-    matches!(reply, Reply::Done)
+/// What the begin of a wait, or a look, gave: what the caller gets, and whether it stands so. Of a begin that is whether
+/// the wait began, of a look whether the wait is over.
+#[derive(Drop)]
+pub struct Waited<A: Drop> {
+    pub answer: A,
+    pub is_so: bool,
 }
 
-fn is_waiting(reply: &Reply) -> bool
-    ensures waiting { IsTrue result ↔ (reply.now ≡ reply_of.Waiting) }
-{
-    matches!(reply, Reply::Waiting)
-}
-
-fn found_no_memory(reply: &Reply) -> bool
-    ensures missed { IsTrue result ↔ (reply.now ≡ reply_of.Refused Memory) }
-{
-    matches!(reply, Reply::Refused(Code::Memory))
-}
-
-impl<N: Named<F, L>, F: Filter, L: Listener> Locked<N, F, L> {
+impl<N: Named<F, L>, F: Filter, L: Listener, T: Keeping> Locked<N, F, L, T> {
     /// Begins a wait, and says whether it began. There is room for its end in the pass's list.
-    pub fn begin(
+    pub fn begin<P: Handing>(
         &mut self,
-        word: &Word<N>,
-        pass: &mut Pass<N>,
+        word: &Word<N, Entry>,
+        pass: &mut Pass<N, P>,
         wait_set: u32,
         deadline: Moment,
-    ) -> Result<bool, Code>
+    ) -> Result<Waited<P::Answer>, Code>
         ensures ok { IfOk result (λ begun. (o : OutputOf)
             × Adds F.meaning L.notices L.capacity L.becomes self.old self.new pass.old pass.new
             (event.Call (WaitBegin wait_set deadline)) o
-            × Begins begun o.reply) }
+            × P.answers begun.answer o × Begins begun.is_so o.reply) }
         ensures room { OnOk result (0 < pass.new.spare) }
         ensures err { OnErr result ((self.new ≡ self.old) × IsAsBefore pass.old pass.new) }
         ensures refused { IfErr result (λ code. code ≡ Memory) }
     {
         pass.reserve(2)?;
-        self.event(
+        let Did { answer, said } = self.event(
             word,
             pass,
             Event::Call(Call::WaitBegin { wait_set, deadline }),
         )?;
-        Ok(is_done(&pass.last_output().reply))
+        Ok(Waited {
+            answer,
+            is_so: said.done,
+        })
     }
 
-    /// Looks once, and says whether the wait is over. Where there is no memory it ends the wait.
-    pub fn look(&mut self, word: &Word<N>, pass: &mut Pass<N>, wait_set: u32) -> Result<bool, Code>
+    /// Looks once, and says whether the wait is over. Where there is no memory it gives the wait up.
+    pub fn look<P: Handing>(
+        &mut self,
+        word: &Word<N, Entry>,
+        pass: &mut Pass<N, P>,
+        wait_set: u32,
+    ) -> Result<Waited<P::Answer>, Code>
         requires room { 0 < pass.old.spare }
-        ensures ok { IfOk result (λ over. (o : OutputOf)
+        ensures ok { IfOk result (λ looked. (o : OutputOf)
             × Adds F.meaning L.notices L.capacity L.becomes self.old self.new pass.old pass.new
             (event.Call (WaitLook wait_set)) o
-            × Ends over o.reply) }
+            × P.answers looked.answer o × Ends looked.is_so o.reply) }
         ensures room { OnOk result (0 < pass.new.spare) }
-        ensures err { OnErr result ((es : List EntryOf) × Grows pass.old pass.new es
-            × GivesUp pass.old.seat wait_set es) }
+        ensures err { OnErr result ((es : List EntryOf) × (last : Carried) × Grows pass.old last es
+            × GivesUp pass.old.seat wait_set es × (pass.new ≡ given_up wait_set last)) }
         ensures front { pass.old.front ≤ pass.new.front }
         ensures unused { OnErr result (IsInUse self.new.core wait_set → ⊥) }
-        ensures over { IfOk result (λ over. over ≡ true → IsInUse self.new.core wait_set → ⊥) }
+        ensures over { IfOk result (λ looked. looked.is_so ≡ true → IsInUse self.new.core wait_set → ⊥) }
         ensures refused { IfErr result (λ code. code ≡ Memory) }
     {
         if pass.reserve(2).is_err() {
-            self.end_wait(word, pass, wait_set);
-            return Err(Code::Memory);
+            return Err(self.give_up(word, pass, wait_set));
         }
-        let Ok(()) = self.event(word, pass, Event::Call(Call::WaitLook { wait_set })) else {
-            self.end_wait(word, pass, wait_set);
-            return Err(Code::Memory);
+        let Ok(Did { answer, said }) = self.event(
+            word,
+            pass,
+            Event::Call(Call::WaitLook { wait_set }),
+        ) else {
+            return Err(self.give_up(word, pass, wait_set));
         };
-        if found_no_memory(&pass.last_output().reply) {
-            self.end_wait(word, pass, wait_set);
-            return Err(Code::Memory);
+        if said.memory {
+            return Err(self.give_up(word, pass, wait_set));
         }
-        Ok(!is_waiting(&pass.last_output().reply))
+        Ok(Waited {
+            answer,
+            is_so: !said.waiting,
+        })
+    }
+
+    // Gives a wait up for want of memory: it is ended, if somebody waits there.
+    fn give_up<P: Handing>(
+        &mut self,
+        word: &Word<N, Entry>,
+        pass: &mut Pass<N, P>,
+        wait_set: u32,
+    ) -> Code
+        requires room { 0 < pass.old.spare }
+        ensures list { (es : List EntryOf) × (last : Carried) × Grows pass.old last es
+            × IsEndOfWait pass.old.seat wait_set es × (pass.new ≡ given_up wait_set last) }
+        ensures front { pass.old.front ≤ pass.new.front }
+        ensures unused { IsInUse self.new.core wait_set → ⊥ }
+        ensures code { result ≡ Memory }
+    {
+        self.end_wait(word, pass, wait_set);
+        let over = self.over(wait_set);
+        pass.leave(&mut self.tally, word, over);
+        Code::Memory
     }
 
     // Ends the wait in a WaitSet, if somebody waits there, in the room that was kept for this.
-    fn end_wait(&mut self, word: &Word<N>, pass: &mut Pass<N>, wait_set: u32)
+    fn end_wait<P: Handing>(&mut self, word: &Word<N, Entry>, pass: &mut Pass<N, P>, wait_set: u32)
         requires room { 0 < pass.old.spare }
         ensures list { (es : List EntryOf) × Grows pass.old pass.new es
             × IsEndOfWait pass.old.seat wait_set es }
@@ -110,24 +134,12 @@ impl<N: Named<F, L>, F: Filter, L: Listener> Locked<N, F, L> {
         if !self.core.is_in_use(wait_set) {
             return;
         }
-        let seat = pass.seat();
         let event = Event::Call(Call::WaitEnd { wait_set });
-        let (output, same) = self.core.step_pair(event);
-        self.trace.push(Entry {
-            seat,
-            event: Event::Call(Call::WaitEnd { wait_set }),
-            output,
-        });
-        let length = self.trace.len() as u64;
-        pass.record(
-            &mut self.tally,
-            word,
-            length,
-            Entry {
-                seat,
-                event: Event::Call(Call::WaitEnd { wait_set }),
-                output: same,
-            },
-        );
+        let what = Snapshot::of(&event);
+        let one = T::own(Event::Call(Call::WaitEnd { wait_set }));
+        let two = P::own(Event::Call(Call::WaitEnd { wait_set }));
+        let (output, twin) = T::step(&mut self.core, event);
+        self.trace.push(pass.seat(), one, twin);
+        pass.record::<Brand>(&mut self.tally, word, what, two, output);
     }
 }

@@ -17,7 +17,8 @@ use Rattle.dds_core.specs.Opening.{opening_peer}
 use Rattle.dds_core.specs.Ruling.{IsSound, KeepsRules}
 use Rattle.dds_trace.specs.declared.trace.Entry.{Entry}
 
--- one event of a peer to its end, at which listeners are told; a delivery follows the rules of the protocol
+-- one event of a peer to its end, at which listeners are told; it follows the rules of the protocol, which say what is
+-- sent
 pub record Happens (config : Config) (tests : Tests) (old : Peer) (event : Event) (output : Output)
     (new : Peer) : Type 0 where
   pub stepped : Peer

@@ -6,6 +6,7 @@ ghost use Rattle.std.specs.Prelude.{◌≡◌, ◌++◌, ◌∷◌, [], ◌+◌,
 ghost use Rattle.dds_base.specs.declared.code.Code.TheVariants.{Memory};
 
 use dds_base::Code;
+use dds_log::Seated;
 use dds_protocol::laws::{events_are_compared, outputs_are_compared};
 use dds_protocol::{Event, Output};
 use std::alloc::Global;
@@ -31,6 +32,10 @@ impl Entry {
             && events_are_compared(&self.event, &other.event)
             && outputs_are_compared(&self.output, &other.output)
     }
+}
+
+impl Seated for Entry {
+    ghost seat = { λ e. e.seat };
 }
 
 /// What a peer did, event by event. Contracts see the number of the peer, the entries, and for how many more there is
@@ -64,6 +69,14 @@ impl Trace {
             peer,
             entries: Vec::new(alloc),
         }
+    }
+
+    /// The trace of the peer of this number, which did this. It takes no memory.
+    pub fn from_entries(peer: u8, entries: Vec<Entry>) -> Trace
+        ensures peer { result.peer ≡ peer }
+        ensures entries { result.entries ≡ entries.items }
+    {
+        Trace { peer, entries }
     }
 
     /// Makes room for so many more entries: as many that follow find it.

@@ -3,8 +3,10 @@
 ghost use Rattle.std.specs.Prelude.{◌≡◌};
 
 mod answers;
+mod flat;
 mod fronts;
 mod given;
+mod recording;
 mod scene;
 mod threads;
 mod waits;
@@ -13,6 +15,7 @@ use self::scene::{BeginsWithOne, config};
 use dds_base::{Code, Config, Entity};
 use dds_conditions::Filter;
 use dds_core::Core;
+use dds_keeping::{Handing, Keeping};
 use dds_notices::{Listener, Notice, Recorder, Status, StatusMask};
 use dds_shared::{Closed, Named, NotClosed, Pass, Seed, Shared};
 use dds_trace::{Trace, weave};
@@ -27,18 +30,20 @@ use std::thread::Threads;
 // that waits looks once more if it came first.
 const ENTRIES: usize = 5 + 2 + 7 + 9 + 3 + 200;
 
-// What is done with a shared peer, from its first pass to its passes at the end.
+// What is done with a shared peer, recorded or flat, from its first pass to those of its two threads.
 fn use_peer<
     N: Named<F, L> + Send + Sync,
     F: Filter + Send,
     L: Listener + Send,
+    T: Keeping + Send,
+    P: Handing + Send + Sync,
     R: Threads + Wait + Abort + Sync,
 >(
     rt: &R,
     alloc: Global,
-    shared: &Shared<N, F, L>,
-    first: Pass<N>,
-) -> Result<(Pass<N>, Pass<N>), Fail> {
+    shared: &Shared<N, F, L, T, P>,
+    first: Pass<N, P>,
+) -> Result<(Pass<N, P>, Pass<N, P>), Fail> {
     let mut first = first;
     let mut second = shared.split_pass(rt, &mut first)?;
     assert!(rt; fronts::are_seen(rt, shared, &mut first, &mut second)?);
@@ -82,6 +87,21 @@ fn close_late<N: Named<F, L>, F: Filter, L: Listener>(
     }
 }
 
+// One pass takes the other in, and another has nothing.
+fn join_two<N: Named<F, L>, F: Filter, L: Listener, R: Wait>(
+    rt: &R,
+    shared: &Shared<N, F, L>,
+    first: Pass<N>,
+    second: Pass<N>,
+) -> Result<(Pass<N>, Pass<N>), Code> {
+    let mut first = first;
+    let third = shared.split_pass(rt, &mut first)?;
+    match shared.join_pass(&mut first, second) {
+        Ok(()) => Ok((first, third)),
+        Err((code, _)) => Err(code),
+    }
+}
+
 // The peer is shared under its name, used and closed.
 fn share<
     N: Named<F, L> + Send + Sync,
@@ -96,6 +116,7 @@ fn share<
     let passes = Vec::with_capacity(alloc, 1)?;
     let (shared, first) = Shared::<N, F, L>::open(seed);
     let (first, second) = use_peer(rt, alloc, &shared, first)?;
+    let (first, second) = join_two(rt, &shared, first, second)?;
     let mut passes = passes;
     passes.push_reserved(first);
     Ok(close_late(shared, passes, second)?)
@@ -115,6 +136,26 @@ fn listen<F: Filter, L: Listener>(seed: &mut Seed<F, L>, used: L, fresh: L) -> R
     }
 }
 
+// The peer before it is shared, with a filter and listeners of any types.
+fn seed_of<F: Filter, L: Listener>(
+    alloc: Global,
+    filter: F,
+    used: L,
+    fresh: L,
+) -> Result<Seed<F, L>, Code> {
+    let config = config(alloc)?;
+    let mut seed: Seed<F, L> = Seed::new(alloc, &config, 1)?;
+    match seed.add_filter(filter) {
+        Ok(_) => {}
+        Err((code, _)) => return Err(code),
+    }
+    if listen(&mut seed, used, fresh)? {
+        Ok(seed)
+    } else {
+        Err(Code::Error)
+    }
+}
+
 // With a filter and listeners of any types: what is left at the end.
 fn run<F: Filter + Send, L: Listener + Send, R: Threads + Wait + Abort + Sync>(
     rt: &R,
@@ -123,12 +164,7 @@ fn run<F: Filter + Send, L: Listener + Send, R: Threads + Wait + Abort + Sync>(
     used: L,
     fresh: L,
 ) -> Result<Closed<F, L>, Fail> {
-    let config = config(alloc)?;
-    let mut seed: Seed<F, L> = Seed::new(alloc, &config, 1)?;
-    if seed.add_filter(filter).is_err() {
-        return Err("no filter".into());
-    }
-    assert!(rt; listen(&mut seed, used, fresh)?);
+    let seed = seed_of(alloc, filter, used, fresh)?;
     share::<Brand, F, L, R>(rt, alloc, seed)
 }
 

@@ -6,16 +6,19 @@ use dds_base::{
     Code, Config, Entity, EntityId, GuidPrefix, Moment, PeerConfig, Sequence, WriterConfig,
 };
 use dds_conditions::Filter;
+use dds_keeping::Handing;
+use dds_log::HasWord;
 use dds_machine::Call;
 use dds_notices::{Listener, Notice, StatusMask};
-use dds_pair::{Link, PairGate, serve};
+use dds_pair::{Link, PairGate, Served, serve};
 use dds_protocol::Packet;
 use dds_script::Prefix;
-use dds_shared::{Named, Pass, Seed, Shared};
+use dds_shared::{Flat, FlatPass, Named, Pass, Seed, Shared};
 use std::alloc::Global;
 use std::marker::Brand;
 use std::process::Abort;
 use std::sync::atomic::{AtomicBool, Ordering};
+use std::sync::ledger::Ledger;
 use std::sync::{Arc, Wait};
 use std::test::*;
 use std::thread::{self, Threads, join};
@@ -81,18 +84,26 @@ impl Listener for Waiting {
 struct Broken;
 
 impl Link for Broken {
-    ghost use Rattle.std.specs.Prelude.{⊤};
+    ghost use Rattle.std.specs.Prelude.{[], ⊤};
 
     ghost sends = { λ _ _ _. ⊤ };
 
+    ghost came = { λ _. [] };
+
     ghost receives = { λ _ _ _. ⊤ };
+
+    ghost fails = { λ _ _ _. ⊤ };
 
     fn send(&mut self, _: &Packet) -> bool {
         false
     }
 
-    fn receive(&mut self) -> Result<Option<Vec<u8>>, Code> {
+    fn receive(&mut self) -> Result<bool, Code> {
         Err(Code::Link)
+    }
+
+    fn octets(&self) -> &[u8] {
+        &[]
     }
 }
 
@@ -121,13 +132,13 @@ fn go_on<N: Named<F, L>, F: Filter, L: Listener, R: Wait>(
     Ok(pass)
 }
 
-// Calls another peer once that listener was told.
+// Calls another peer, which is flat, once that listener was told.
 fn answer<N: Named<F, L>, F: Filter, L: Listener, R: Wait>(
     rt: &R,
-    shared: &Shared<N, F, L>,
-    mut pass: Pass<N>,
+    shared: &Flat<N, F, L>,
+    mut pass: FlatPass<N>,
     signals: &Signals,
-) -> Result<Pass<N>, Code> {
+) -> Result<FlatPass<N>, Code> {
     if comes(&signals.told) {
         shared.call(rt, &mut pass, Call::CreateGuardCondition)?;
         signals.answered.store(true, Ordering::SeqCst);
@@ -136,18 +147,18 @@ fn answer<N: Named<F, L>, F: Filter, L: Listener, R: Wait>(
 }
 
 // What a worker with a broken link answers.
-fn break_off<N: Named<F, L>, F: Filter, L: Listener, R: Wait>(
+fn break_off<S: Served<N, P>, N: Ledger + HasWord, P: Handing, R: Wait>(
     rt: &R,
     alloc: Global,
-    shared: &Shared<N, F, L>,
-    pass: &mut Pass<N>,
+    shared: &S,
+    pass: &mut Pass<N, P>,
 ) -> Result<Result<u64, Code>, Code> {
     let mut gate = PairGate::receiving(Arc::new(alloc, AtomicBool::new(false))?);
     Ok(serve(rt, shared, pass, &mut Broken, &mut gate))
 }
 
-// One peer's event lasts until a call on the other is answered. Then its worker's link breaks, and it is closed all the
-// same.
+// One peer's event lasts until a call on the other, which is flat, is answered. Then their workers' links break, and they
+// are closed all the same.
 fn share<
     Near: Named<F, L> + Send + Sync,
     Far: Named<F, L> + Send + Sync,
@@ -173,20 +184,21 @@ fn share<
         × (far_seed.core.listeners ≡ Far.slots) }
 {
     let (near, near_pass) = Shared::<Near, F, L>::open(near_seed);
-    let (far, far_pass) = Shared::<Far, F, L>::open(far_seed);
+    let (far, far_pass) = Flat::<Far, F, L>::open_flat(far_seed);
     let (at_event, calling) = (&near, &far);
     let (near_pass, far_pass) = join(
         rt,
         move || go_on(rt, at_event, near_pass),
         move || answer(rt, calling, far_pass, signals),
     );
-    let mut near_pass = near_pass?;
-    let _ = far_pass?;
+    let (mut near_pass, mut far_pass) = (near_pass?, far_pass?);
     assert!(rt; signals.seen.load(Ordering::SeqCst));
     let broken = break_off(rt, alloc, &near, &mut near_pass)?;
     assert!(rt; matches!(broken, Err(Code::Link)));
-    let passes = vec![in alloc; near_pass]?;
-    assert!(rt; near.close(passes).is_ok());
+    let broken = break_off(rt, alloc, &far, &mut far_pass)?;
+    assert!(rt; matches!(broken, Err(Code::Link)));
+    assert!(rt; near.close(vec![in alloc; near_pass]?).is_ok());
+    assert!(rt; far.close(vec![in alloc; far_pass]?).is_ok());
     Ok(())
 }
 

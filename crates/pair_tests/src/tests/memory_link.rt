@@ -42,6 +42,7 @@ pub struct MemoryLink<'a, R: Wait> {
     pub own: &'a Way,
     pub other: &'a Way,
     pub faults: Faults,
+    pub came: Vec<u8>,
 }
 
 impl<'a, R: Wait> Link for MemoryLink<'a, R> {
@@ -49,7 +50,11 @@ impl<'a, R: Wait> Link for MemoryLink<'a, R> {
 
     ghost sends = { λ _ _ _. ⊤ };
 
+    ghost came = { λ link. link.came.items };
+
     ghost receives = { λ _ _ _. ⊤ };
+
+    ghost fails = { λ _ _ _. ⊤ };
 
     fn send(&mut self, packet: &Packet) -> bool {
         let number = self
@@ -67,7 +72,7 @@ impl<'a, R: Wait> Link for MemoryLink<'a, R> {
         packets.push_back(octets).is_ok()
     }
 
-    fn receive(&mut self) -> Result<Option<Vec<u8>>, Code> {
+    fn receive(&mut self) -> Result<bool, Code> {
         let number = self
             .own
             .receives
@@ -79,9 +84,15 @@ impl<'a, R: Wait> Link for MemoryLink<'a, R> {
         let mut packets = self.own.packets.lock(self.rt);
         let octets = packets.pop_front();
         drop(packets);
-        if octets.is_none() {
+        let Some(octets) = octets else {
             thread::yield_now();
-        }
-        Ok(octets)
+            return Ok(false);
+        };
+        self.came = octets;
+        Ok(true)
+    }
+
+    fn octets(&self) -> &[u8] {
+        self.came.as_slice()
     }
 }

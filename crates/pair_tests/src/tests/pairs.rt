@@ -56,6 +56,7 @@ fn exchange<R: Threads + Wait + Clock + Sync>(
         own: &near,
         other: &far,
         faults: near_faults,
+        came: Vec::new(alloc),
     };
     let far_link = MemoryLink {
         rt,
@@ -63,6 +64,7 @@ fn exchange<R: Threads + Wait + Clock + Sync>(
         own: &far,
         other: &near,
         faults: far_faults,
+        came: Vec::new(alloc),
     };
     let (mut output, mut errors) = (Vec::new(alloc), Vec::new(alloc));
     let status = run_pair(

@@ -2,27 +2,31 @@
 
 use dds_base::{Code, Key};
 use dds_conditions::Filter;
+use dds_keeping::{Handing, Keeping};
 use dds_machine::Call;
 use dds_notices::Listener;
+use dds_protocol::Event;
 use dds_shared::{Named, Pass, Shared};
 use std::sync::Wait;
 
 // A call that changes nothing.
-fn look_up<N: Named<F, L>, F: Filter, L: Listener, R: Wait>(
+fn look_up<N: Named<F, L>, F: Filter, L: Listener, T: Keeping, P: Handing, R: Wait>(
     rt: &R,
-    shared: &Shared<N, F, L>,
-    pass: &mut Pass<N>,
+    shared: &Shared<N, F, L, T, P>,
+    pass: &mut Pass<N, P>,
 ) -> Result<(), Code> {
     let (reader, key) = (1, Key([0; 16]));
-    shared.call(rt, pass, Call::LookupInstance { reader, key })
+    let call = Call::LookupInstance { reader, key };
+    shared.event(rt, pass, Event::Call(call))?;
+    Ok(())
 }
 
 // Each pass sees what the other did, and after they met no less than that. Five calls are done.
-pub fn are_seen<N: Named<F, L>, F: Filter, L: Listener, R: Wait>(
+pub fn are_seen<N: Named<F, L>, F: Filter, L: Listener, T: Keeping, P: Handing, R: Wait>(
     rt: &R,
-    shared: &Shared<N, F, L>,
-    first: &mut Pass<N>,
-    second: &mut Pass<N>,
+    shared: &Shared<N, F, L, T, P>,
+    first: &mut Pass<N, P>,
+    second: &mut Pass<N, P>,
 ) -> Result<bool, Code> {
     let at_first = (shared.front(first), shared.front(second));
     look_up(rt, shared, first)?;
@@ -39,11 +43,11 @@ pub fn are_seen<N: Named<F, L>, F: Filter, L: Listener, R: Wait>(
 
 // One pass does something, and says how far it came. Another sees that the peer is as far, and comes behind it. Two calls
 // are done.
-pub fn comes_behind<N: Named<F, L>, F: Filter, L: Listener, R: Wait>(
+pub fn comes_behind<N: Named<F, L>, F: Filter, L: Listener, T: Keeping, P: Handing, R: Wait>(
     rt: &R,
-    shared: &Shared<N, F, L>,
-    mine: &mut Pass<N>,
-    theirs: &mut Pass<N>,
+    shared: &Shared<N, F, L, T, P>,
+    mine: &mut Pass<N, P>,
+    theirs: &mut Pass<N, P>,
 ) -> Result<bool, Code> {
     look_up(rt, shared, mine)?;
     let done = shared.front(mine);

@@ -1,20 +1,9 @@
-use Rattle.std.proofs.Common.{refl, sym, ap, ◌∙◌, rules}
-use Rattle.std.specs.Prelude.{◌≢◌}
-use Rattle.dds_base.specs.declared.code.Code.TheVariants.{Memory}
-use Rattle.dds_machine.specs.declared.reply.Reply.TheVariants.{Refused, Waiting}
-use Rattle.dds_protocol.specs.declared.event.Output.{Output}
-use Rattle.dds_shared.specs.Passes.{Carried}
+use Rattle.std.proofs.Common.{rules}
+use Rattle.dds_shared.proofs.Looks.{missed_behind}
 use Rattle.dds_shared.proofs.locked.Locked.look.Goals as goal
 
-pub returns-clause-over : goal.returns-clause-over
-returns-clause-over g c is_over used =
+pub returns-then-said-clause-err : goal.returns-then-said-clause-err
+returns-then-said-clause-err g c =
     let did = c.in-Ok.ensures.ok in
-    let lists = ap (λ (p : Carried). p.list) did.1.list in
-    let first = c.last_output.ensures.last _ _ lists in
-    let second = c.last_output-2.ensures.last _ _ lists in
-    let goes_on : c.last_output-2.result.now.reply ≢ Waiting = search (rules, is_over) in
-    let memory : c.last_output.result.now.reply ≢ Refused Memory = search rules in
-    c.in-Ok.ensures.ends c.args.wait_set did.0 refl did.1.list (
-      λ is. goes_on (ap (λ (o : Output). o.reply) (sym second) ∙ is),
-      λ is. memory (ap (λ (o : Output). o.reply) (sym first) ∙ is),
-    ) used
+    missed_behind c.args.pass.now c.reserve.new.self c.event.new.pass c.give_up-then-said.new.pass c.args.wait_set did.0
+    c.reserve.ensures.same did.1.0.list (did.1.2.2.0 (search rules)) c.give_up-then-said.ensures.list

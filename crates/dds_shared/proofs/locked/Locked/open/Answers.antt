@@ -1,4 +1,5 @@
-use Rattle.std.proofs.Common.{List, length, sym, ap, subst, arith}
+use Rattle.std.proofs.Common.{List, length, sym, ap, ◌∙◌, subst, arith}
+use Rattle.dds_log.specs.Logs.{Logged}
 use Rattle.dds_notices.specs.Listeners.{Slotted}
 use Rattle.dds_trace.specs.declared.trace.Entry.{Entry}
 use Rattle.dds_trace.specs.History.{IsHistoryOf}
@@ -14,14 +15,22 @@ invariant_of-result g c =
     g.N.Named.config g.N.Named.peer es c.args.core in
     let unused = unused_yet g.F.Filter.meaning g.L.Listener.notices g.L.Listener.capacity g.L.Listener.becomes given
     g.N.Named.config g.N.Named.peer c.args.core c.requires.core in
-    record {
-      history = subst P (sym c.requires.trace.0) c.requires.core;
-      named = c.requires.trace.1;
-      same_filters = c.requires.set.0;
-      same_slots = ap (λ (s : Slotted g.row.L.Denot). slots_shown g.L.Listener.capacity s) c.requires.set.1;
-      room = omega (arith, unused);
-      counted = omega (arith, c.requires.tally, ap length c.requires.trace.0);
-      rest = omega (arith, c.split_off-share.ensures.parts_left, c.requires.all.0);
-      nothing = omega (arith, c.split_off-share.ensures.amount_left, c.requires.all.1);
-      few = omega arith;
-    }
+    let kept = ap (λ (t : Logged Entry). t.log) c.seat-hand.ensures.fewer in
+    let none = ap (λ (t : Logged Entry). t.log) c.requires.tally in
+    let next = ap (λ (t : Logged Entry). t.next) c.seat-hand.ensures.fewer in
+    let first = ap (λ (t : Logged Entry). t.next) c.requires.tally in
+    let nothing = ap (λ (es : List Entry). length es) (kept ∙ none) in (
+      record {
+        history = subst P (sym (kept ∙ none)) c.requires.core;
+        same_filters = c.requires.set.0;
+        same_slots = ap (λ (s : Slotted g.row.L.Denot). slots_shown g.L.Listener.capacity s) c.requires.set.1;
+        room = omega (arith, unused);
+        countable = omega (arith, unused, nothing);
+        rest = omega (arith, c.split_off-share.ensures.parts_left, c.requires.all.0);
+        nothing = omega (arith, c.split_off-share.ensures.amount_left, c.requires.all.1);
+        few = omega arith;
+        seats = omega (arith, next, first);
+      },
+      c.requires.peer,
+      subst (λ (es : List Entry). g.T.Keeping.keeps c.open.result es) (sym (kept ∙ none)) c.open.ensures.nothing,
+    )

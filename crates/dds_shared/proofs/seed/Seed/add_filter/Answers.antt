@@ -11,8 +11,6 @@ invariant_of-self g c = (
       c.self.inside.config.value c.self.inside.peer c.self.inside.core c.add_filter.new.self c.args.filter
       c.add_filter.result c.self.invariant.0 c.add_filter.ensures.ok c.add_filter.ensures.err,
   c.self.invariant.1,
-  c.self.invariant.2,
-  c.self.invariant.3,
 )
 
 pub returns-clause-refused : goal.returns-clause-refused

@@ -20,7 +20,5 @@ invariant_of-result g c =
           c.args.config.now c.args.peer core
           (begins g.F.Filter.meaning g.L.Listener.notices g.L.Listener.capacity g.L.Listener.becomes given
           c.args.config.now c.args.peer core c.in_ok-core.ensures.opening c.in_ok-core.ensures.none)),
-      c.open-2.ensures.entries,
-      c.open-2.ensures.peer,
       search rules,
     )

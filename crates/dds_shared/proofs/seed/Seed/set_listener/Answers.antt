@@ -11,8 +11,6 @@ invariant_of-self g c = (
       c.self.inside.config.value c.self.inside.peer c.self.inside.core c.set_listener.new.self c.args.entity c.args.mask
       c.args.listener c.set_listener.result c.self.invariant.0 c.set_listener.ensures.ok c.set_listener.ensures.err,
   c.self.invariant.1,
-  c.self.invariant.2,
-  c.self.invariant.3,
 )
 
 pub returns-clause-refused : goal.returns-clause-refused

@@ -1,0 +1,74 @@
+//! A flat peer, which two threads share.
+
+ghost use Rattle.std.specs.Prelude.{◌≡◌};
+
+use super::scene::BeginsWithOne;
+use super::{is_left, seed_of, use_peer};
+use dds_base::{Code, Entity};
+use dds_conditions::Filter;
+use dds_core::Core;
+use dds_notices::{Listener, Notice, Recorder, Status};
+use dds_shared::{Flat, FlatPass, Named, Seed};
+use std::alloc::Global;
+use std::marker::Brand;
+use std::process::Abort;
+use std::sync::Wait;
+use std::test::*;
+use std::thread::Threads;
+
+// A peer that lacks a pass does not close, and comes back with the passes that were handed in; with all it closes.
+fn close_late<N: Named<F, L>, F: Filter, L: Listener>(
+    shared: Flat<N, F, L>,
+    passes: Vec<FlatPass<N>>,
+    missing: FlatPass<N>,
+) -> Result<Core<F, L>, Code> {
+    let Err(refused) = shared.close(passes) else {
+        return Err(Code::Error);
+    };
+    let mut passes = refused.passes;
+    passes.push(missing)?;
+    match refused.shared.close(passes) {
+        Ok(core) => Ok(core),
+        Err(refused) => Err(refused.code),
+    }
+}
+
+// The peer is shared under its name, used and closed.
+fn share<
+    N: Named<F, L> + Send + Sync,
+    F: Filter + Send,
+    L: Listener + Send,
+    R: Threads + Wait + Abort + Sync,
+>(rt: &R, alloc: Global, seed: Seed<F, L>) -> Result<Core<F, L>, Fail>
+    requires name { (seed.name ≡ N.name) × (seed.parts ≡ N.parts) × (seed.word ≡ N.word) }
+    requires of { (seed.config ≡ N.config) × (seed.peer ≡ N.peer) }
+    requires set { (seed.core.filtered.filters ≡ N.filters) × (seed.core.listeners ≡ N.slots) }
+{
+    let (shared, first) = Flat::<N, F, L>::open_flat(seed);
+    let (mut first, second) = use_peer(rt, alloc, &shared, first)?;
+    let third = shared.split_pass(rt, &mut first)?;
+    shared.join_pass(&mut first, second);
+    Ok(close_late(shared, vec![in alloc; first]?, third)?)
+}
+
+// With a filter and a listener of these types: the core that is left.
+fn run<R: Threads + Wait + Abort + Sync>(
+    rt: &R,
+    alloc: Global,
+    used: Recorder,
+    fresh: Recorder,
+) -> Result<Core<BeginsWithOne, Recorder>, Fail> {
+    let seed = seed_of(alloc, BeginsWithOne, used, fresh)?;
+    share::<Brand, BeginsWithOne, Recorder, R>(rt, alloc, seed)
+}
+
+#[test]
+fn threads_share_a_flat_peer(rt: HostRuntime) -> Result<(), Fail> {
+    let alloc = rt.alloc();
+    let mut used = Recorder::open(alloc, 2)?;
+    let (entity, status) = (Entity::Reader(1), Status::DataAvailable);
+    used.on_notice(&Notice { entity, status });
+    let core = run(&rt, alloc, used, Recorder::open(alloc, 512)?)?;
+    assert!(rt; is_left(&core));
+    Ok(())
+}
