@@ -5,7 +5,8 @@ ghost use Rattle.dds_cache.specs.Standing.{qos_of};
 
 use dds_base::{
     Arrival, Change, ChangeKind, EntityId, Guid, GuidPrefix, Handle, HistoryQos, Key,
-    MatchedWriter, Moment, Octets, OwnershipQos, ReaderQos, ReliabilityQos, Sequence, Sn,
+    MatchedWriter, Moment, Octets, OwnershipQos, ReaderConfig, ReaderQos, ReliabilityQos, Sequence,
+    Sn,
 };
 use dds_cache::ReaderCache;
 use std::alloc::{AllocError, Global};
@@ -31,6 +32,7 @@ fn qos(alloc: Global) -> Result<ReaderQos, AllocError>
         history: HistoryQos::KeepLast(1),
         max_samples: None,
         max_instances: None,
+        max_arrivals: ReaderConfig::USUAL_ARRIVALS,
         writers: Sequence::from_vec(writers),
     })
 }
