@@ -81,6 +81,7 @@ class Said(NamedTuple):
     first: int  # a DATA's number, firstSN, gapStart, or the base of an ACKNACK
     last: int  # the greatest number that it names
     rest: Tuple  # all else that counts
+    strength: Optional[int] = None  # that a DATA says
 
 
 class Set(NamedTuple):
@@ -114,13 +115,14 @@ def take_set(order: str, octets: bytes, at: int) -> Set:
     return Set(base, members, at + 12 + 4 * len(words))
 
 
-def take_parameters(order: str, body: bytes, at: int) -> Tuple[Optional[bytes], int, int]:
-    """The key hash, the status, and where what follows begins."""
+def take_parameters(order: str, body: bytes, at: int) -> Tuple[Optional[bytes], int, Optional[int], int]:
+    """The key hash, the status, the strength, and where what follows begins."""
     found: dict = {}
     while True:
         name, length = take(order, "HH", body, at)
         if name == 1:
-            return found.get(0x70), found.get(0x71, bytes(4))[3] & 3, at + 4
+            strength = take(order, "i", found[0x06], 0)[0] if 0x06 in found else None
+            return found.get(0x70), found.get(0x71, bytes(4))[3] & 3, strength, at + 4
         value = body[at + 4 : at + 4 + length]
         if length % 4 or len(value) < length or length != {0x06: 4, 0x70: 16, 0x71: 4}.get(name, length):
             raise ValueError
@@ -149,15 +151,15 @@ def read_data(order: str, flags: int, body: bytes, moment: int) -> Said:
     sequence = take_number(order, body, 12)
     if skip < 16 or at > len(body) or flags & 16 or flags & 12 == 12:
         raise ValueError
-    key, status = None, 0
+    key, status, strength = None, 0, None
     if flags & 2:
-        key, status, at = take_parameters(order, body, at)
+        key, status, strength, at = take_parameters(order, body, at)
     value: Optional[bytes] = None
     if flags & 12:
         key, value = take_payload(body[at:], bool(flags & 4))
     if key is None or status == 0 and not flags & 4:
         raise ValueError
-    return Said("data", reader, writer, sequence, sequence, (KINDS[status], key, b"" if status else value, moment))
+    return Said("data", reader, writer, sequence, sequence, (KINDS[status], key, b"" if status else value, moment), strength)
 
 
 def read_other(order: str, kind: int, flags: int, body: bytes) -> Said:
@@ -329,7 +331,8 @@ def text_of(said: Said) -> str:
     ids, rest = f"writer {said.writer.hex()} reader {said.reader.hex()}", said.rest
     if said.kind == "data":
         value = f" {rest[2].hex()}" if rest[0] == "write" else ""
-        return f"DATA {ids} sn {said.first} {rest[0]} {rest[1].hex()}{value}".rstrip()
+        strength = "" if said.strength is None else f" strength {said.strength}"
+        return f"DATA {ids} sn {said.first} {rest[0]} {rest[1].hex()}{value}".rstrip() + strength
     if said.kind == "heartbeat":
         final, liveliness = (str(it).lower() for it in rest[1:])
         return f"HEARTBEAT {ids} first {said.first} last {said.last} count {rest[0]} final {final} liveliness {liveliness}"

@@ -4,8 +4,9 @@ The library is looked for where CINCHWALNUT says, else beside this file."""
 import ctypes as c
 import os
 import pathlib
+from typing import TextIO
 
-OK, OUT_OF_RESOURCES, NO_DATA, ANY = 0, 5, 11, 65535
+OK, BAD_PARAMETER, OUT_OF_RESOURCES, NO_DATA, MEMORY, ANY = 0, 3, 5, 11, 100, 65535
 BESIDE = pathlib.Path(__file__).resolve().parent / "libcinchwalnut.so"
 
 
@@ -29,9 +30,9 @@ class WriterConfig(c.Structure):
 class ReaderConfig(c.Structure):
     _fields_ = [
         *[("peer", c.c_uint8), ("entity", c.c_uint8 * 4)],
-        *[(name, c.c_bool) for name in ("is_exclusive", "keeps_last", "has_lease", "is_best_effort")],
+        *[(name, c.c_bool) for name in ("is_exclusive", "keeps_last", "has_lease", "is_best_effort", "has_max_arrivals")],
         *[("topic", c.c_uint32), ("depth", c.c_uint32), ("max_samples", c.c_int32), ("max_instances", c.c_int32)],
-        ("lease", c.c_uint64),
+        *[("lease", c.c_uint64), ("max_arrivals", c.c_uint64)],
     ]
 
 
@@ -184,3 +185,68 @@ class Peer:
         said = line.encode()
         _LIBRARY.cw_line(self._peer, said, len(said))
         return self.text()
+
+
+class RecordedPeer(Peer):
+    """A peer whose events are written as lines of docs/PIPE.md, each with its packets and its reply, as dds_pipe gives them:
+    so a run of the field is played again at the desk, by dds_pipe, and looked at, by tools/draw.
+
+    Not recorded is what changed nothing and may have been no event: what is refused for want of memory, and a line that is
+    refused with BAD_PARAMETER. The lines go to a text stream, which stays the caller's."""
+
+    def __init__(self, prefixes: list[bytes], writers: list[WriterConfig], readers: list[ReaderConfig], number: int, to: TextIO):
+        super().__init__(prefixes, writers, readers, number)
+        self._to = to
+        for at, prefix in enumerate(prefixes, 1):
+            to.write(f"peer {prefix.hex()}\n")
+            to.writelines(f"{_options(it)}\n" for it in [*writers, *readers] if it.peer == at)
+        to.write(f"open {number}\nreply ok\n")
+
+    def _recorded(self, line: str, event, *arguments):
+        """An event, and then its lines; those of one that is refused too."""
+        try:
+            return event(*arguments)
+        except Refused as refused:
+            line = "" if refused.code == MEMORY else line
+            raise
+        finally:
+            if line:
+                packets = [f"packet {to} {octets.hex()}\n" for to, octets in self.packets()]
+                self._to.writelines([f"{line}\n", *packets, f"reply {self.text()}\n"])
+
+    def write(self, number: int, key: bytes, value: bytes) -> list[tuple[int, bytes]]:
+        shown = value[:1025].hex() or "-"
+        return self._recorded(f"call write w{number} {key.hex()} {shown}", super().write, number, self._key(key), value)
+
+    def dispose(self, number: int, key: bytes) -> list[tuple[int, bytes]]:
+        return self._recorded(f"call dispose w{number} {key.hex()}", super().dispose, number, self._key(key))
+
+    def unregister(self, number: int, key: bytes) -> list[tuple[int, bytes]]:
+        return self._recorded(f"call unregister w{number} {key.hex()}", super().unregister, number, self._key(key))
+
+    def deliver(self, datagram: bytes) -> list[tuple[int, bytes]]:
+        shown = datagram.hex() if 0 < len(datagram) < 1 << 16 else "-"
+        return self._recorded(f"deliver {shown}", super().deliver, datagram)
+
+    def tick(self, now: int) -> list[tuple[int, bytes]]:
+        return self._recorded(f"tick {now}", super().tick, now)
+
+    def take(self, number: int, most: int = -1) -> list[tuple[SampleInfo, bytes]]:
+        return self._recorded(f"call take r{number} {most} {ANY} {ANY} {ANY}", super().take, number, most)
+
+    def line(self, line: str) -> str:
+        said = line.encode()
+        code = _LIBRARY.cw_line(self._peer, said, len(said))
+        return self._recorded("" if code in (BAD_PARAMETER, MEMORY) else line, self.text)
+
+
+def _options(end: WriterConfig | ReaderConfig) -> str:
+    """A writer or a reader of a configuration, as a line of docs/PIPE.md."""
+    words = ["writer" if isinstance(end, WriterConfig) else "reader", bytes(end.entity).hex()]
+    words += ["exclusive" if end.is_exclusive else "shared", f"last={end.depth}" if end.keeps_last else "all"]
+    words += [f"max={end.max_samples}", f"topic={end.topic}"]
+    words += [f"strength={end.strength}"] if isinstance(end, WriterConfig) else [f"instances={end.max_instances}"]
+    words += [f"lease={end.lease}"] if end.has_lease else []
+    words += ["noauto"] if isinstance(end, WriterConfig) and not end.autodispose else []
+    words += ["besteffort"] if isinstance(end, ReaderConfig) and end.is_best_effort else []
+    return " ".join(words)

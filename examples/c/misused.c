@@ -9,6 +9,12 @@ static const cw_writer_config writers[] = {
 static const cw_reader_config readers[] = {
     {.peer = 1, .entity = {0, 0, 1, 7}, .keeps_last = true, .depth = 0, .max_samples = -1, .max_instances = -1}};
 
+/* Readers of no change in their life, of one too many, and of as many as can be said. */
+#define LIFE(changes) \
+    {.peer = 1, .entity = {0, 0, 1, 7}, .max_samples = -1, .max_instances = -1, \
+     .has_max_arrivals = true, .max_arrivals = (changes)}
+static const cw_reader_config lives[] = {LIFE(0), LIFE(((uint64_t)1 << 63) + 1), LIFE((uint64_t)1 << 63)};
+
 static void say(const char *what, uint8_t code) { printf("%s: %u\n", what, code); }
 
 static uint8_t open_with(cw_peer *peer, size_t writers_len, size_t readers_len, uint8_t number) {
@@ -27,6 +33,10 @@ int main(void) {
     say("a peer that there isn't", open_with(&peer, 1, 0, 2));
     say("peer 0", open_with(&peer, 1, 0, 0));
     say("a depth of 0", open_with(&peer, 1, 1, 1));
+    say("a reader that takes no change", cw_open(&peer, peers, 1, writers, 1, &lives[0], 1, 1));
+    say("a reader that takes more than 2^63", cw_open(&peer, peers, 1, writers, 1, &lives[1], 1, 1));
+    say("a reader that takes 2^63", cw_open(&peer, peers, 1, writers, 1, &lives[2], 1, 1));
+    cw_close(&peer);
     say("a configuration that is none", cw_open_text(&peer, (const uint8_t *)"nonsense", 8, 1));
     say("and now one that is", open_with(&peer, 1, 0, 1));
     say("a writer that there isn't", cw_write(&peer, 2, key, value, 1));
