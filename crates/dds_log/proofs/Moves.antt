@@ -1,15 +1,15 @@
 -- Each step keeps the rule of a log.
 use Rattle.std.proofs.Common.{◌≡◌, ◌≢◌, ◌⊎◌, ℕ, zero, suc, ◌+◌, ◌≤◌, ◌<◌, ◌%◌, ◌^◌, ◌==◌, eqb, eq-eqb, ne_eqb, Bool, List, [], ◌∷◌, ◌++◌, set, length, length-set, length-append, append-nil, append_assoc, true, false, true≢false, refl, sym, ap, ◌∙◌, subst, inl, inr, ⊎_elim, arith, rules}
-use Rattle.std.specs.Prelude.{slice_index, slice_set, Option, Some, None, if◌then◌else◌, max}
+use Rattle.std.specs.Prelude.{slice_index, slice_set, Option, Some, None, if◌then◌else◌}
 use mathlib.Core.Option.{some, some-ne-none, some-injective}
 use mathlib.Core.Logic.{dite}
 use native.Mathlib.Decide.{ℕ_discrete}
 use prog.Atomic.{either}
 use lib.ListN.{get_elem?}
 use Rattle.atomic_table.specs.Table.{Me, Step, State, keeps, Allows, Splits, Joins, opening}
-use Rattle.atomic_table.proofs.Lists.{at_set, set_again}
+use Rattle.atomic_table.proofs.Lists.{at_set}
 use Rattle.dds_log.specs.declared.rule.View.{View}
-use Rattle.dds_log.specs.Logs.{BeginsWith, entries_of, hand_of, keeper_of, told, emptied, handed, one_less, newcomer, joined, nobody, shown, written_out, read_in, either_seat, held_by, Keeps, Fits, IsLogged, Looks, Counts, Settles, Compares}
+use Rattle.dds_log.specs.Logs.{BeginsWith, entries_of, keeper_of, told, emptied, handed, one_less, newcomer, joined, nobody, shown, written_out, read_in, either_seat, held_by, Fits, IsLogged, Looks, Counts, Settles, Compares}
 
 -- ---- choices
 
@@ -206,25 +206,32 @@ module _ {E : Type 0} (seat_of : E → ℕ) where
             (looked h.log h.keeper h.home id v found is (h.fit id v at));
       }
 
-  looks_bare : (slots id : ℕ) (v : View E) (st : Step ℕ) → Allows (IsLogged seat_of) slots id (v, []) 0 (λ n. n) (Looks st (v, []))
-  looks_bare slots id v st s h homes at fits =
-      let found = slice_index s.words 0 in
-      let is : found ≡ length h.log = ap (λ ws. slice_index ws 0) h.word in
-      let mine = h.fit id v at in (
-        record v { at = found },
-        keeps,
-        tt,
-        seen_more id v s h at,
-        (omega (arith, is, mine.seen), (λ k. is ∙ sym (mine.keeps k).counted), refl),
-      )
+  -- who holds no slot and looks finds the word, and keeps the rule: whatever that tells of the number found
+  sees : (slots id : ℕ) (me : Me ℕ (View E)) (tells : Me ℕ (View E) → ℕ → Me ℕ (View E) → Type 0) → me.1 ≡ []
+      → ((v : View E) (s : State ℕ (View E)) (h : IsLogged seat_of s) → get_elem? s.views id ≡ some v
+      → (found : ℕ) → found ≡ length h.log → tells (v, []) found (record v { at = found }, []))
+      → Allows (IsLogged seat_of) slots id me 0 (λ n. n) (tells me)
+  sees slots id me tells empty told_by = subst allows (sym empty) bare
+    where
+      allows : List (ℕ × ℕ) → Type 0
+      allows held = Allows (IsLogged seat_of) slots id (me.0, held) 0 (λ n. n) (tells (me.0, held))
 
-  -- of one that holds no slot, each look keeps the rule
+      bare : allows []
+      bare s h homes at fits =
+          let found = slice_index s.words 0 in (
+            record me.0 { at = found },
+            keeps,
+            tt,
+            seen_more id me.0 s h at,
+            told_by me.0 s h at found (ap (λ ws. slice_index ws 0) h.word),
+          )
+
   pub looks : (slots id : ℕ) (me : Me ℕ (View E)) (st : Step ℕ) → me.1 ≡ []
       → Allows (IsLogged seat_of) slots id me 0 (λ n. n) (Looks st me)
   looks slots id me st empty =
-      let P : List (ℕ × ℕ) → Type 0 =
-      λ held. Allows (IsLogged seat_of) slots id (me.0, held) 0 (λ n. n) (Looks st (me.0, held)) in
-      subst P (sym empty) (looks_bare slots id me.0 st)
+      sees slots id me (Looks st) empty
+      (λ v s h at found is. let mine = h.fit id v at in
+      (omega (arith, is, mine.seen), (λ k. is ∙ sym (mine.keeps k).counted), refl))
 
   -- who has as many entries as there are has all of each seat
   has_all : (id : ℕ) (v : View E) (s : State ℕ (View E)) (h : IsLogged seat_of s) → get_elem? s.views id ≡ some v
@@ -243,42 +250,19 @@ module _ {E : Type 0} (seat_of : E → ℕ) where
           let nothing : other.0.list ≡ [] = empty other.0.list (omega (arith, few, long, h.each)) in
           (h.fit id v at).elsewhere seat away ∙ ap (λ es. of seat es) (sym nothing) ∙ theirs.here seat (omega (arith, e))
 
-  settles_bare : (slots id : ℕ) (v : View E) (st : Step ℕ) → Allows (IsLogged seat_of) slots id (v, []) 0 (λ n. n) (Settles seat_of st (v, []))
-  settles_bare slots id v st s h homes at fits =
-      let found = slice_index s.words 0 in
-      let is : found ≡ length h.log = ap (λ ws. slice_index ws 0) h.word in
-      let mine = h.fit id v at in (
-        record v { at = found },
-        keeps,
-        tt,
-        seen_more id v s h at,
-        (
-          (λ k. is ∙ sym (mine.keeps k).counted),
-          (λ k long seat. has_all id v s h at (long ∙ ap (λ (es : List E). length es) (mine.keeps k).all) seat ∙ ap (λ (es : List E). of seat es) (sym (mine.keeps k).all)),
-          refl,
-        ),
-      )
-
   pub settles : (slots id : ℕ) (me : Me ℕ (View E)) (st : Step ℕ) → me.1 ≡ []
       → Allows (IsLogged seat_of) slots id me 0 (λ n. n) (Settles seat_of st me)
   settles slots id me st empty =
-      let P : List (ℕ × ℕ) → Type 0 =
-      λ held. Allows (IsLogged seat_of) slots id (me.0, held) 0 (λ n. n) (Settles seat_of st (me.0, held)) in
-      subst P (sym empty) (settles_bare slots id me.0 st)
+      sees slots id me (Settles seat_of st) empty
+      (λ v s h at found is. let mine = h.fit id v at in (
+        (λ k. is ∙ sym (mine.keeps k).counted),
+        (λ k long seat.
+        let all = (mine.keeps k).all in
+        has_all id v s h at (long ∙ ap (λ (es : List E). length es) all) seat ∙ ap (λ (es : List E). of seat es) (sym all)),
+        refl,
+      ))
 
   -- ---- a note
-
-  -- a newcomer in no seat that has nothing
-  nobody_new : (log : List E) (keeper : ℕ) (home : ℕ → ℕ) (id n : ℕ) → n ≤ length log → ((s : ℕ) → home s ≢ id + 1)
-      → Fits seat_of log keeper home id (hand_of n None [])
-  nobody_new log keeper home id n seen away = record {
-    seen = seen;
-    keeps = λ k. absurd (off k);
-    here = λ s e. absurd (away s e);
-    elsewhere = λ s _. refl;
-    own = λ s e. absurd (none_some s e);
-    wrote = nothing_yet log;
-  }
 
   -- a newcomer that is told what was handed out
   shown_new : (log : List E) (keeper : ℕ) (home : ℕ → ℕ) (id : ℕ) (v : View E) (first : List E) → v.at ≤ length log
@@ -319,44 +303,18 @@ module _ {E : Type 0} (seat_of : E → ℕ) where
   pub writes : (id : ℕ) (v : View E) → v.keeps ≡ true → Splits (IsLogged seat_of) id v v (written_out v)
   writes id v keeper s h at = tells_new id v v.log s h at ([], sym ((h.fit id v at).keeps keeper).all ∙ sym (append-nil v.log))
 
-  compares_bare : (slots id : ℕ) (v : View E) (st : Step ℕ) → Allows (IsLogged seat_of) slots id (v, []) 0 (λ n. n) (Compares st (v, []))
-  compares_bare slots id v st s h homes at fits =
-      let found = slice_index s.words 0 in
-      let is : found ≡ length h.log = ap (λ ws. slice_index ws 0) h.word in
-      let mine = h.fit id v at in (
-        record v { at = found },
-        keeps,
-        tt,
-        seen_more id v s h at,
-        (
-          (λ k. (is ∙ sym (mine.keeps k).counted, subst (λ (es : List E). BeginsWith es v.written) (sym (mine.keeps k).all) mine.wrote)),
-          refl,
-        ),
-      )
-
   pub compares : (slots id : ℕ) (me : Me ℕ (View E)) (st : Step ℕ) → me.1 ≡ []
       → Allows (IsLogged seat_of) slots id me 0 (λ n. n) (Compares st me)
   compares slots id me st empty =
-      let P : List (ℕ × ℕ) → Type 0 =
-      λ held. Allows (IsLogged seat_of) slots id (me.0, held) 0 (λ n. n) (Compares st (me.0, held)) in
-      subst P (sym empty) (compares_bare slots id me.0 st)
+      sees slots id me (Compares st) empty
+      (λ v s h at found is. let mine = h.fit id v at in (
+        (λ k. let own = mine.keeps k in
+        (is ∙ sym own.counted, subst (λ (es : List E). BeginsWith es v.written) (sym own.all) mine.wrote)),
+        refl,
+      ))
 
   pub notes : (id : ℕ) (v : View E) → Splits (IsLogged seat_of) id v v (told v)
-  notes id v s h at =
-      let mine = h.fit id v at in record {
-        log = h.log;
-        keeper = h.keeper;
-        home = h.home;
-        word = h.word;
-        each =
-            let p = held_set s.views id v v at in
-            let q = held_snoc (set s.views id v) (told v) in omega (arith, h.each, p, q);
-        none = h.none;
-        within = λ n. omega (arith, h.within n, length-set s.views id v, length-append (set s.views id v) (told v ∷ []));
-        fit =
-            all_set_snoc (Fits seat_of h.log h.keeper h.home) s.views id v (told v) (λ j u _ e. h.fit j u e) mine
-            (nobody_new h.log h.keeper h.home (length s.views) v.at mine.seen (λ n e. absurd (omega (arith, h.within n, e))));
-      }
+  notes id v s h at = tells_new id v [] s h at (nothing_yet h.log)
 
   -- ---- all is handed on
 
