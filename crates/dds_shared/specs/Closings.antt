@@ -1,4 +1,4 @@
--- What a peer leaves of which nothing was recorded, once it is closed.
+-- What a peer leaves, recorded or not, once it is closed.
 --
 -- Passes and closing are this project's own.
 use Rattle.std.specs.Prelude.{◌≡◌, ℕ, ◌≤◌, Bool, List, length, All}

@@ -22,7 +22,7 @@ use dds_keeping::{Counted, Keeping};
 use dds_machine::Call;
 use dds_notices::Listener;
 use dds_protocol::{Event, Output};
-use std::sync::{Mutex, Wait};
+use std::sync::Wait;
 
 /// A peer that threads share, of which nothing is recorded.
 pub type Flat<N, F, L> = Shared<N, F, L, Counted, Counted>;
@@ -144,28 +144,7 @@ impl<N: Named<F, L>, F: Filter, L: Listener> Shared<N, F, L, Counted, Counted> {
         ensures missing { IfErr result (λ e. e.code ≡ PreconditionNotMet) }
         ensures back { IfErr result (λ e. e.passes.items ≡ passes.items) }
     {
-        let Shared {
-            locked,
-            changed,
-            word,
-            alloc,
-            of,
-        } = self;
-        let locked = locked.into_inner();
-        if locked.has_all(passes.as_slice()) {
-            return Ok(locked.close(passes, &word).core);
-        }
-        Err(NotClosed {
-            code: Code::PreconditionNotMet,
-            shared: Shared {
-                locked: Mutex::new(locked),
-                changed,
-                word,
-                alloc,
-                of,
-            },
-            passes,
-        })
+        Ok(self.end(passes)?.core)
     }
 
     /// The bytes of a packet come, whatever they are, and stay where they are.

@@ -90,7 +90,7 @@ impl<N: Ledger + HasWord, P: Handing> Pass<N, P> {
         self.seat
     }
 
-    /// The output of the event that was done last, of which the caller got this: for code over both forms.
+    /// The output of the event that was done last, of which the caller got this: for code over all forms.
     pub fn output<'a>(&'a self, answer: &'a P::Answer) -> Option<&'a Output>
         ensures output { (es : List EntryOf) (seat : ℕ) (e : EventOf) (o : OutputOf)
             → self.now.list ≡ es ++ entry_of seat e o ∷ [] → P.answers answer.now o

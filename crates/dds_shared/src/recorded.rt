@@ -24,7 +24,7 @@ use dds_machine::Call;
 use dds_notices::Listener;
 use dds_protocol::Event;
 use dds_trace::Trace;
-use std::sync::{Mutex, Wait};
+use std::sync::Wait;
 
 /// What a closed peer leaves.
 #[derive(Drop)]
@@ -97,30 +97,9 @@ impl<N: Named<F, L>, F: Filter, L: Listener> Shared<N, F, L, Recorded, Recorded>
         ensures missing { IfErr result (λ e. e.code ≡ PreconditionNotMet) }
         ensures back { IfErr result (λ e. e.passes.items ≡ passes.items) }
     {
-        let Shared {
-            locked,
-            changed,
-            word,
-            alloc,
-            of,
-        } = self;
-        let locked = locked.into_inner();
-        if locked.has_all(passes.as_slice()) {
-            let Left { core, peer, trace } = locked.close(passes, &word);
-            let trace = Trace::from_entries(peer, trace.entries);
-            return Ok(Closed { trace, core });
-        }
-        Err(NotClosed {
-            code: Code::PreconditionNotMet,
-            shared: Shared {
-                locked: Mutex::new(locked),
-                changed,
-                word,
-                alloc,
-                of,
-            },
-            passes,
-        })
+        let Left { core, peer, trace } = self.end(passes)?;
+        let trace = Trace::from_entries(peer, trace.entries);
+        Ok(Closed { trace, core })
     }
 
     /// Does a call. What answers it stands at the end of the pass's list. `docs/DECISIONS.md`, "Threads and links".

@@ -3,12 +3,14 @@
 //! DDS 1.4, 2.2.2.1 (Entity, WaitSet). Passes and closing are this project's own.
 
 ghost use Rattle.std.specs.Prelude.{◌≡◌, ◌<◌, ◌≤◌, max, OnOk, OnErr, IfErr, IfOk};
-ghost use Rattle.dds_base.specs.declared.code.Code.TheVariants.{Memory, OutOfResources};
+ghost use Rattle.dds_base.specs.declared.code.Code.TheVariants.{Memory, OutOfResources, PreconditionNotMet};
 ghost use Rattle.dds_protocol.specs.declared.event.Output.{Output as OutputOf};
+ghost use Rattle.dds_shared.specs.Closings.{HasHistory};
 ghost use Rattle.dds_shared.specs.Passes.{IsAsBefore, Lists, unused};
+ghost use Rattle.dds_shared.specs.Seeds.{listeners_in, slots_shown};
 ghost use Rattle.dds_shared.specs.Waits.{AnsweredWith, Failed};
 
-use crate::locked::Locked;
+use crate::locked::{Left, Locked};
 use crate::named::Named;
 use crate::pass::Pass;
 use crate::seed::Seed;
@@ -93,6 +95,45 @@ impl<N: Named<F, L>, F: Filter, L: Listener, T: Keeping, P: Handing> Shared<N, F
         )
     }
 
+    // Ends with what is left, if all passes are handed in.
+    pub(crate) fn end(
+        self,
+        passes: Vec<Pass<N, P>>,
+    ) -> Result<Left<F, L, T>, NotClosed<N, F, L, T, P>>
+        // What is stored is of the entries of a history of the core, which are what the passes did.
+        ensures history { IfOk result (λ left. (h : HasHistory F.meaning L.notices L.capacity L.becomes
+            (listeners_in N.slots) N.config N.peer left.core passes.items) × T.keeps left.trace h.entries) }
+        ensures named { IfOk result (λ left. left.peer ≡ N.peer) }
+        ensures filters { IfOk result (λ left. left.core.filtered.filters ≡ N.filters) }
+        ensures slots { IfOk result
+            (λ left. slots_shown L.capacity left.core.listeners ≡ slots_shown L.capacity N.slots) }
+        ensures missing { IfErr result (λ e. e.code ≡ PreconditionNotMet) }
+        ensures back { IfErr result (λ e. e.passes.items ≡ passes.items) }
+    {
+        let Shared {
+            locked,
+            changed,
+            word,
+            alloc,
+            of,
+        } = self;
+        let locked = locked.into_inner();
+        if locked.has_all(passes.as_slice()) {
+            return Ok(locked.close(passes, &word));
+        }
+        Err(NotClosed {
+            code: Code::PreconditionNotMet,
+            shared: Shared {
+                locked: Mutex::new(locked),
+                changed,
+                word,
+                alloc,
+                of,
+            },
+            passes,
+        })
+    }
+
     /// A pass more, with a seat of its own, which has seen as much. The one that it is split from stays as it is.
     ///
     /// # Errors
@@ -135,7 +176,7 @@ impl<N: Named<F, L>, F: Filter, L: Listener, T: Keeping, P: Handing> Shared<N, F
         pass.meet(&self.word, other);
     }
 
-    /// Does one event, and gives what the caller gets of its output, which `Pass::output` shows: for code over both forms.
+    /// Does one event, and gives what the caller gets of its output, which `Pass::output` shows: for code over all forms.
     ///
     /// # Errors
     ///
@@ -165,7 +206,7 @@ impl<N: Named<F, L>, F: Filter, L: Listener, T: Keeping, P: Handing> Shared<N, F
         Ok(did.answer)
     }
 
-    /// Waits in a WaitSet of the peer, as `wait` does, and gives what the caller gets of what answers: for code over both
+    /// Waits in a WaitSet of the peer, as `wait` does, and gives what the caller gets of what answers: for code over all
     /// forms.
     ///
     /// # Errors
