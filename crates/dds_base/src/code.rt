@@ -62,8 +62,8 @@ pub enum Code {
     /// LINK, 101, of this project: what carries packets is broken, as a socket that failed. What receives from a link
     /// answers it, and so does a worker that serves a peer over one. No call of a peer does.
     Link,
-    /// MISMATCH, 103, of this project: what a thread recorded of its calls differs from what the peer recorded. The
-    /// closing of a shared peer answers it. No call of a peer does.
+    /// MISMATCH, 103, of this project: the next piece of a trace does not follow upon those that were cut off. No program
+    /// sees it: what cuts a trace asks, and finds that it follows. No call of a peer answers it.
     Mismatch,
 }
 

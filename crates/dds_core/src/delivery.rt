@@ -317,7 +317,7 @@ impl Peer {
             self.new effects.new) }
         ensures keeps { KeepsPeer 16 self.old effects.old self.new effects.new result }
     {
-        let mut ready = SmallVec::new(self.alloc);
+        let mut ready = SmallVec::with_capacity(self.alloc, self.readers.len())?;
         self.make_ready(&mut ready, first, receiver, submessage)?;
         effects.moves.reserve(2 * ready.len())?;
         self.take_all(effects, &mut ready);

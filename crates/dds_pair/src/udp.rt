@@ -8,11 +8,13 @@ ghost use Rattle.dds_base.specs.declared.code.Code.TheVariants as code_of;
 use crate::link::Link;
 use dds_base::Code;
 use dds_protocol::Packet;
+use libc::net::{SO_RCVBUF, SO_SNDBUF, SOL_SOCKET, setsockopt};
 use mio::net::UdpSocket;
 use mio::{Events, Interest, Poll, Token};
 use std::alloc::Global;
 use std::io::ErrorKind;
 use std::net::{Ipv4Addr, Net, SocketAddr};
+use std::os::fd::AsRawFd;
 use std::time::Duration;
 use std::{io, net};
 
@@ -30,6 +32,18 @@ fn failure(error: io::Error) -> Code
         Code::Memory
     } else {
         Code::Link
+    }
+}
+
+// Asks for buffers as large as the system lets a socket's be: it cuts what is asked for. Where it refuses, they stay.
+fn widen(socket: &net::UdpSocket) {
+    let mut most = [0; 16];
+    most[..4].copy_from_slice(&i32::MAX.to_ne_bytes());
+    let fd = socket.as_raw_fd();
+    // SAFETY: the value of both options is four octets, without a pointer.
+    unsafe {
+        let _ = setsockopt(fd, SOL_SOCKET, SO_RCVBUF, &most, 4);
+        let _ = setsockopt(fd, SOL_SOCKET, SO_SNDBUF, &most, 4);
     }
 }
 
@@ -65,7 +79,7 @@ impl UdpSender {
 }
 
 /// A socket on 127.0.0.1, at a port that the system picks, and the address of the one other that it exchanges datagrams
-/// with. A datagram from elsewhere is dropped. A receive that finds nothing waits in the system for a millisecond at most,
+/// with. Its buffers are as large as the system lets them be. A datagram from elsewhere is dropped. A receive that finds nothing waits in the system for a millisecond at most,
 /// and one of 16 in a row does. `docs/DECISIONS.md`, "Threads and links".
 ///
 /// RTPS 2.5, 9.6.2 (UDP).
@@ -99,6 +113,7 @@ impl UdpLink {
     fn try_open<R: Net>(rt: &R, alloc: Global) -> io::Result<UdpLink> {
         let socket = rt.bind_udp(SocketAddr::from((Ipv4Addr::LOCALHOST, 0)))?;
         socket.set_nonblocking(true)?;
+        widen(&socket);
         let sender = UdpSender {
             socket: socket.try_clone()?,
             other: None,

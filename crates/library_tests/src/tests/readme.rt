@@ -1,4 +1,4 @@
-//! The example of the README, line for line, and what it gives.
+//! The example of the README, with its configuration, and what it gives.
 
 use dds_base::{
     Code, Config, EntityId, GuidPrefix, Key, Masks, Octets, PeerConfig, ReaderConfig, Selection,
