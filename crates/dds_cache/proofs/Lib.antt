@@ -24,3 +24,4 @@ pub mod RoomLaws
 pub mod DeathLaws
 pub mod SweepLaws
 pub mod HoldLaws
+pub mod OnlyLaws

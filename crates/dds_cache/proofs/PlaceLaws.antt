@@ -133,7 +133,7 @@ sample-same a b same =
     let position : a.position ≡ b.position = grind (arith, nat_tests, parts.1) in
     ap (λ (x : Key). sample_at x a.position) key ∙ ap (λ (n : ℕ). sample_at b.key n) position
 
-same-sample : (a b : SamplePosition) → a ≡ b → same_sample a b ≡ true
+pub same-sample : (a b : SamplePosition) → a ≡ b → same_sample a b ≡ true
 same-sample a b is =
     ap (λ (x : SamplePosition). same_sample a x) (sym is)
     ∙ (ap (λ (y : Bool). y && (a.position == a.position)) (same_key-refl a.key)

@@ -13,3 +13,4 @@ pub mod Dying
 pub mod Sweeping
 pub mod Twice
 pub mod Chains
+pub mod Only

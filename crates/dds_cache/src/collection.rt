@@ -34,7 +34,7 @@ fn value_of(alloc: Global, kind: AccessKind, kept: &Kept) -> Result<Octets, Allo
 }
 
 /// A candidate as the sample of a collection, with this value, before those that were told.
-fn as_sample(candidate: &Candidate, ranks: &mut Ranks, value: Octets) -> Sample
+pub fn as_sample(candidate: &Candidate, ranks: &mut Ranks, value: Octets) -> Sample
     requires small { own_generations candidate.now.picked < 2 ^ 64 }
     ensures sample { (later : List Picked) → StandsBefore candidate.now.picked later ranks.old
         → result ≡ record {

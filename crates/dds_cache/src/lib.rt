@@ -19,6 +19,7 @@ mod entering;
 mod first;
 mod kept;
 mod masks;
+mod only;
 mod pick;
 mod positions;
 mod pushing;

@@ -2,7 +2,7 @@
 //!
 //! DDS 1.4, 2.2.2.5 (read, take, SampleInfo); RTPS 2.5, 8.2 (HistoryCache of a reader).
 
-ghost use Rattle.std.specs.Prelude.{◌≡◌, ◌≢◌, ◌==◌, ℕ, ◌+◌, ◌-◌, ◌≤◌, ◌<◌, ◌^◌, ◌∷◌, [], if◌then◌else◌, nat_le, nat_lt, List, Some, true, false, Ok, length, IsOk, OnOk, IfOk, IfErr};
+ghost use Rattle.std.specs.Prelude.{◌≡◌, ◌≢◌, ◌==◌, ℕ, ◌+◌, ◌-◌, ◌≤◌, ◌<◌, ◌^◌, ◌∷◌, [], if◌then◌else◌, nat_le, nat_lt, List, None, Some, IfSome, true, false, Ok, length, IsOk, OnOk, IfOk, IfErr};
 ghost use Rattle.dds_base.specs.declared.happening.Happening.{Happening};
 ghost use Rattle.dds_base.specs.declared.happening.Happening.TheVariants.{Came, Passed, Heard, Died};
 ghost use Rattle.dds_base.specs.declared.code.Code.TheVariants.{Memory, NoData};
@@ -14,6 +14,7 @@ ghost use Rattle.dds_base.specs.Selection.{selection_refusal};
 ghost use Rattle.dds_base.specs.StatusFlags.{data_available_at};
 ghost use Rattle.std.specs.List.Sorted.{IsNonDecreasingBy};
 ghost use Rattle.dds_cache.specs.Finding.{handle_in};
+ghost use Rattle.dds_cache.specs.Only.{Returns};
 ghost use Rattle.dds_cache.specs.Picking.{IsAccess, IsDelivered, IsFoundIn, IsGathered};
 ghost use Rattle.dds_cache.specs.Standing.{deaths_of, picked, qos_of, room_of, StandsFor, entry_of};
 ghost use Rattle.dds_cache.specs.Standing.{AccessAnswers, AfterAccess, MakesRoom, TakesEntry};
@@ -23,11 +24,12 @@ use crate::access::is_any_match;
 use crate::access_kind::AccessKind;
 use crate::arriving::{add_left, is_accepted_write};
 use crate::asking::is_none_asked;
-use crate::collection::{Access, gather, twice};
+use crate::collection::{Access, as_sample, gather, twice};
 use crate::dying::add_markers;
 use crate::ending::{hold_present, is_end};
 use crate::entering::enter_access;
 use crate::kept::Kept;
+use crate::only::{find_only, masks_of_all, take_last};
 use crate::pick::{pick, picks_any};
 use crate::pushing::push_out;
 use crate::room::{count_arrival, is_room};
@@ -38,6 +40,7 @@ use dds_base::{
     Arrival, Code, Handle, Key, Masks, Moment, OwnershipQos, ReaderQos, Sample, SamplePosition,
     Selection, Sequence, Sn,
 };
+use dds_info::Ranks;
 use dds_instances::Instances;
 use std::alloc::Global;
 use std::marker::Model;
@@ -536,6 +539,46 @@ impl ReaderCache {
         Ok(())
     }
 
+    /// Takes the only sample that is kept, where a take of all asks for it and ends no life by that, and where there is room
+    /// for the entry and memory for the collection. Else nothing has changed: `find` says what the access finds, or why it is
+    /// refused.
+    #[inline(always)]
+    fn take_only<T: Test>(
+        &mut self,
+        kind: AccessKind,
+        selection: &Selection,
+        test: &T,
+    ) -> Option<Sequence<Sample>>
+        ensures taken { IfSome result (λ samples. (h : List Happening) → StandsFor self.old h
+            → Returns kind self.old h selection.now (T.meaning test.now) samples self.new) }
+        ensures same { result ≡ None → self.new ≡ self.old }
+        ensures qos { qos_of self.new ≡ qos_of self.old }
+        ensures room { room_of self.old ≤ room_of self.new + 1 }
+    {
+        if self.room == 0 {
+            return None;
+        }
+        let masks = masks_of_all(kind, selection)?;
+        // Not by `?`, which would move it once more.
+        let Some(only) = find_only(&self.instances, &self.qos, masks, test, &self.samples) else {
+            return None;
+        };
+        let Ok(mut samples) = Vec::with_capacity(self.alloc, 1) else {
+            return None;
+        };
+        let value = take_last(
+            self.alloc,
+            &mut self.instances,
+            &mut self.samples,
+            &mut self.summary,
+            only.sample,
+        );
+        samples.push_reserved(as_sample(&only, &mut Ranks::new(), value));
+        self.room -= 1;
+        self.data_at = None;
+        Some(Sequence::from_vec(samples))
+    }
+
     /// Reads or takes the present samples that the selection asks for and that pass the test; `Everything` is the test
     /// that each sample passes. The next sample is picked without the test. `docs/DECISIONS.md`, "A reader's cache",
     /// says why they are one.
@@ -569,6 +612,9 @@ impl ReaderCache {
         // It takes the room of one entry at most.
         ensures room { room_of self.old ≤ room_of self.new + 1 }
     {
+        if let Some(samples) = self.take_only(kind, &selection, test) {
+            return Ok(samples);
+        }
         // Not by `?`, which would move what is found once more.
         match self.find(kind, selection, test) {
             Ok(mut access) => {
