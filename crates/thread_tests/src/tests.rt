@@ -43,7 +43,14 @@ fn use_peer<
     alloc: Global,
     shared: &Shared<N, F, L, T, P>,
     first: Pass<N, P>,
-) -> Result<(Pass<N, P>, Pass<N, P>), Fail> {
+) -> Result<(Pass<N, P>, Pass<N, P>), Fail>
+where
+    T::Told: Send,
+    T::Twin: Send,
+    P::Told: Send,
+    P::Twin: Send,
+    P::Answer: Send,
+{
     let mut first = first;
     let mut second = shared.split_pass(rt, &mut first)?;
     assert!(rt; fronts::are_seen(rt, shared, &mut first, &mut second)?);

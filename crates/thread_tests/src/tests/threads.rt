@@ -69,7 +69,14 @@ pub fn work_both<
     shared: &Shared<N, F, L, T, P>,
     first: Pass<N, P>,
     second: Pass<N, P>,
-) -> Result<(Pass<N, P>, Pass<N, P>), Code> {
+) -> Result<(Pass<N, P>, Pass<N, P>), Code>
+where
+    T::Told: Send,
+    T::Twin: Send,
+    P::Told: Send,
+    P::Twin: Send,
+    P::Answer: Send,
+{
     let (first, second) = join(
         rt,
         move || work(rt, alloc, shared, first, 1),

@@ -95,7 +95,14 @@ pub fn wait_for_another<
     shared: &Shared<N, F, L, T, P>,
     first: Pass<N, P>,
     second: Pass<N, P>,
-) -> Result<(Pass<N, P>, Pass<N, P>), Code> {
+) -> Result<(Pass<N, P>, Pass<N, P>), Code>
+where
+    T::Told: Send,
+    T::Twin: Send,
+    P::Told: Send,
+    P::Twin: Send,
+    P::Answer: Send,
+{
     let (first, second) = join(
         rt,
         move || wait_for_guard(rt, shared, first),
