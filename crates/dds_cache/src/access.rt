@@ -185,6 +185,7 @@ fn candidate_of<T: Test>(
 }
 
 /// The kept sample at an index as a candidate, if it is present, meets the masks and passes the test.
+#[inline(always)]
 pub fn as_candidate<T: Test>(
     instances: &Instances,
     qos: &ReaderQos,

@@ -257,8 +257,8 @@ module _ {E : Type 0} (seat_of : E → ℕ) where
       (λ v s h at found is. let mine = h.fit id v at in (
         (λ k. is ∙ sym (mine.keeps k).counted),
         (λ k long seat.
-        let all = (mine.keeps k).all in
-        has_all id v s h at (long ∙ ap (λ (es : List E). length es) all) seat ∙ ap (λ (es : List E). of seat es) (sym all)),
+            let all = (mine.keeps k).all in
+            has_all id v s h at (long ∙ ap (λ (es : List E). length es) all) seat ∙ ap (λ (es : List E). of seat es) (sym all)),
         refl,
       ))
 
@@ -309,7 +309,7 @@ module _ {E : Type 0} (seat_of : E → ℕ) where
       sees slots id me (Compares st) empty
       (λ v s h at found is. let mine = h.fit id v at in (
         (λ k. let own = mine.keeps k in
-        (is ∙ sym own.counted, subst (λ (es : List E). BeginsWith es v.written) (sym own.all) mine.wrote)),
+            (is ∙ sym own.counted, subst (λ (es : List E). BeginsWith es v.written) (sym own.all) mine.wrote)),
         refl,
       ))
 
