@@ -1,0 +1,5 @@
+use Rattle.rtps_adapter.proofs.MessageRounds.{comes_back}
+use Rattle.rtps_adapter.proofs.laws.what_was_written_comes_back.Goals as goal
+
+pub returns : goal.returns
+returns c = record { back = comes_back }

@@ -1,0 +1,52 @@
+-- What a peer wrote goes to the network, and comes back to a peer as it was (RTPS 2.5, clause 10).
+use Rattle.std.specs.Prelude.{◌≡◌, ℕ, ◌≤◌, List, length, Some}
+use Rattle.std.specs.List.{AllByRecursion}
+use Rattle.dds_base.specs.declared.guid.GuidPrefix.{GuidPrefix}
+use Rattle.dds_base.specs.declared.key.Key.{Key}
+use Rattle.rtps_wire.specs.declared.data.ChangeBody.{ChangeBody}
+use Rattle.rtps_wire.specs.declared.data.ChangeBody.TheVariants.{Write, Dispose, Unregister, DisposeUnregister}
+use Rattle.rtps_wire.specs.declared.message.Message.{Message}
+use Rattle.rtps_wire.specs.declared.submessage.Submessage.{Submessage}
+use Rattle.rtps_wire.specs.declared.submessage.Submessage.TheVariants.{Data}
+use Rattle.rtps_wire.specs.Messages.{IsWritable, spelling_of}
+use Rattle.rtps_adapter.specs.declared.direction.Direction.TheVariants.{Inward, Outward}
+use Rattle.rtps_adapter.specs.declared.kinds.Kind.{Kind}
+use Rattle.rtps_adapter.specs.declared.kinds.Kind.TheVariants.{Datum, Opaque}
+use Rattle.rtps_adapter.specs.declared.kinds.KeyRule.{KeyRule}
+use Rattle.rtps_adapter.specs.declared.kinds.KeyRule.TheVariants.{Keyless}
+use Rattle.rtps_adapter.specs.declared.kinds.WriterKind.{WriterKind}
+use Rattle.rtps_adapter.specs.Kinds.{key_by, kind_of, no_key}
+use Rattle.rtps_adapter.specs.Payloads.{payload_of}
+use Rattle.rtps_adapter.specs.Adapting.{Adapts}
+
+-- a value that a payload can carry
+abbrev pub IsValue : List ℕ → Type 0
+IsValue value = (payload : List ℕ) × (payload_of value ≡ Some payload)
+
+-- a key that a type of the rule has
+abbrev pub IsKey : KeyRule → Key → Type 0
+IsKey Keyless k = k ≡ no_key
+
+-- A change is one of a type of the rule: its value is a payload's, and has its key.
+abbrev pub FitsRule : KeyRule → ChangeBody → Type 0
+FitsRule rule (Write d) = IsValue d.value × (key_by rule d.value ≡ Some d.key)
+FitsRule rule (Dispose k) = IsKey rule k
+FitsRule rule (Unregister k) = IsKey rule k
+FitsRule rule (DisposeUnregister k) = IsKey rule k
+
+-- Any change is one of the datum.
+abbrev pub FitsKind : Kind → ChangeBody → Type 0
+FitsKind Datum b = Unit {0}
+FitsKind (Opaque rule) b = FitsRule rule b
+
+-- The change of a DATA is one of the type that the topic of its writer carries.
+abbrev pub Fits : List WriterKind → GuidPrefix → Submessage → Type 0
+Fits kinds source (Data d) = FitsKind (kind_of kinds source d.writer_id) d.content.body
+Fits kinds source s = Unit {0}
+
+-- What a peer wrote gets no longer, and comes back as it was, octet for octet, where each change is one of the type that its topic carries.
+abbrev pub ComesBack : Type 0
+ComesBack = (kinds : List WriterKind) (m : Message) (out back : List ℕ) → IsWritable m
+    → AllByRecursion (Fits kinds m.prefix) m.submessages
+    → Adapts Outward kinds (spelling_of m) out → Adapts Inward kinds out back
+    → (length out ≤ length (spelling_of m)) × (back ≡ spelling_of m)

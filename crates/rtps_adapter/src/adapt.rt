@@ -1,0 +1,208 @@
+//! A datagram, and what it turns into.
+//!
+//! RTPS 2.5, 8.3.4 (the message receiver) and 9.4.5 (submessages).
+
+ghost use Rattle.std.specs.Prelude.{◌≡◌, ◌≤◌, ◌<◌, ◌++◌, [], ℕ, List, length, map, false, IfOk, IfErr, OnOk, MatchBool, Ok};
+ghost use Rattle.std.specs.List.{list_any};
+ghost use Rattle.rtps_wire.specs.Fields.{order_of};
+ghost use Rattle.rtps_wire.specs.Frames.{frame_text};
+ghost use Rattle.rtps_wire.specs.Names.{max_message};
+ghost use Rattle.rtps_adapter.specs.declared.adapt.Adapted.TheVariants.{AsItIs};
+ghost use Rattle.rtps_adapter.specs.Adapting.{Piece, StandsIn, turned, texts_of, is_foreign, NeedsNothing, Answers};
+ghost use Rattle.rtps_adapter.specs.PayloadText.{Puts};
+
+use crate::change::{Change, change_of, is_foreign};
+use crate::data::order_of;
+use crate::direction::Direction;
+use crate::kinds::WriterKind;
+use dds_base::{Code, Endianness, GuidPrefix, Octets};
+use rtps_wire::{Frame, MAX_MESSAGE, begin_message, next_frame};
+use std::alloc::Global;
+
+/// The header of a submessage: id, flags and length.
+const LEN_SUBMESSAGE_HEADER: usize = 4;
+
+/// So many octets a DATA takes more, at most, where its payload stands in a datum.
+const MAX_GROWTH: usize = 28;
+
+/// What becomes of a datagram.
+#[derive(Drop)]
+pub enum Adapted {
+    /// It is handed on as it stands: nothing of it has to be turned.
+    AsItIs,
+    /// These octets are handed on in its place.
+    Rewritten(Octets),
+    /// What it turns into is longer than a message may be, so nothing of it is handed on.
+    TooLong,
+}
+
+/// Whether a submessage of a body has to be turned.
+fn has_foreign(kinds: &[WriterKind], source: &GuidPrefix, body: &[u8]) -> bool
+    ensures { (ps : List Piece) × (left : List ℕ) × StandsIn body.now ps left
+        × (result ≡ list_any (is_foreign kinds.now source.now) ps) }
+{
+    let mut has = false;
+    let mut left = body;
+    while let Some((frame, rest)) = next_frame(left) {
+        has |= is_foreign(kinds, source, &frame);
+        left = rest;
+    }
+    has
+}
+
+/// Appends octets, if a message is then no longer than it may be. Returns whether it is.
+fn put_within(out: &mut Vec<u8>, octets: &[u8]) -> Result<bool, Code>
+    ensures ok { IfOk result (Puts out.old.items out.new.items octets.now) }
+    ensures memory { IfErr result (λ e. e ≡ Code.Memory) }
+{
+    if MAX_MESSAGE < out.len() || MAX_MESSAGE - out.len() < octets.len() {
+        return Ok(false);
+    }
+    out.extend_from_slice(octets)?;
+    Ok(true)
+}
+
+/// Appends the header of a submessage.
+fn put_submessage_header(out: &mut Vec<u8>, id: u8, flags: u8, len: u16) -> Result<(), Code>
+    ensures ok { OnOk result (out.new.items ≡ out.old.items ++ frame_text id flags len []) }
+    ensures memory { IfErr result (λ e. e ≡ Code.Memory) }
+{
+    let [first, second] = match order_of(flags) {
+        Endianness::Big => len.to_be_bytes(),
+        Endianness::Little => len.to_le_bytes(),
+    };
+    out.extend_from_slice(&[id, flags, first, second])?;
+    Ok(())
+}
+
+/// Appends a submessage with other flags and another body, if a message is then no longer than it may be. Returns whether
+/// it is.
+fn put_change(out: &mut Vec<u8>, id: u8, change: &Change) -> Result<bool, Code>
+    ensures ok { IfOk result (Puts out.old.items out.new.items
+        (frame_text id change.now.0 (length change.now.1) change.now.1)) }
+    ensures memory { IfErr result (λ e. e ≡ Code.Memory) }
+{
+    let Some(len) = change.body_len() else {
+        return Ok(false);
+    };
+    let len_with_header = LEN_SUBMESSAGE_HEADER + len;
+    if MAX_MESSAGE < out.len() || MAX_MESSAGE - out.len() < len_with_header {
+        return Ok(false);
+    }
+    put_submessage_header(out, id, change.flags(), len as u16)?;
+    change.put_body(out)?;
+    Ok(true)
+}
+
+/// Appends what a submessage turns into, which stands in these octets, if a message is then no longer than it may be.
+/// Returns whether it is.
+fn put_turned(
+    out: &mut Vec<u8>,
+    direction: Direction,
+    kinds: &[WriterKind],
+    source: &GuidPrefix,
+    frame: &Frame,
+    octets: &[u8],
+) -> Result<bool, Code>
+    ensures ok { IfOk result (Puts out.old.items out.new.items (turned direction kinds.now source.now
+        (record { id = frame.now.id; flags = frame.now.flags; body = frame.now.body.now; text = octets.now })).text) }
+    ensures memory { IfErr result (λ e. e ≡ Code.Memory) }
+{
+    match change_of(direction, kinds, source, frame) {
+        Some(change) => put_change(out, frame.id, &change),
+        None => put_within(out, octets),
+    }
+}
+
+/// Appends what the submessages of a body turn into, and what is not read behind them, if a message is then no longer than
+/// it may be. Returns whether it is.
+fn put_all(
+    out: &mut Vec<u8>,
+    direction: Direction,
+    kinds: &[WriterKind],
+    source: &GuidPrefix,
+    body: &[u8],
+) -> Result<bool, Code>
+    ensures ok { IfOk result (λ fits. (ps : List Piece) × (left : List ℕ) × StandsIn body.now ps left
+        × Puts out.old.items out.new.items (texts_of (map (turned direction kinds.now source.now) ps) ++ left) fits) }
+    ensures memory { IfErr result (λ e. e ≡ Code.Memory) }
+{
+    let mut left = body;
+    while let Some((frame, rest)) = next_frame(left) {
+        let octets = &left[..left.len() - rest.len()];
+        if !put_turned(out, direction, kinds, source, &frame, octets)? {
+            return Ok(false);
+        }
+        left = rest;
+    }
+    put_within(out, left)
+}
+
+/// What a datagram turns into.
+fn adapt(
+    alloc: Global,
+    direction: Direction,
+    kinds: &[WriterKind],
+    bytes: &[u8],
+) -> Result<Adapted, Code>
+    ensures answers { IfOk result (Answers direction kinds.now bytes.now) }
+    ensures lent { NeedsNothing kinds.now bytes.now → result ≡ Ok AsItIs }
+    ensures memory { IfErr result (λ e. e ≡ Code.Memory) }
+{
+    let Some((source, body)) = begin_message(bytes) else {
+        return Ok(Adapted::AsItIs);
+    };
+    if !has_foreign(kinds, &source, body) {
+        return Ok(Adapted::AsItIs);
+    }
+    let mut out = Vec::with_capacity(alloc, bytes.len() + MAX_GROWTH)?;
+    out.extend_from_slice(&bytes[..bytes.len() - body.len()])?;
+    if !put_all(&mut out, direction, kinds, &source, body)? {
+        return Ok(Adapted::TooLong);
+    }
+    Ok(Adapted::Rewritten(Octets::from_vec(out)))
+}
+
+/// What a datagram of the network turns into before a peer reads it: the payload of each DATA whose writer's topic carries
+/// another type stands in a datum, as its value, with the key that the rule finds. All else stays as it is. A payload
+/// whose value or key can't be found stays too, and the flag N of its DATA is set, by which a peer reads none.
+///
+/// Where nothing has to be turned no memory is needed, and the datagram is to be handed on as it stands.
+///
+/// # Errors
+///
+/// `Memory` where no memory was found for the octets. The datagram counts as lost then.
+///
+/// RTPS 2.5, 8.3.4 and 9.4.5.
+pub fn inward(alloc: Global, kinds: &[WriterKind], bytes: &[u8]) -> Result<Adapted, Code>
+    // What is handed on is what the datagram turns into, and no other.
+    ensures answers { IfOk result (Answers Direction.Inward kinds.now bytes.now) }
+    // Where nothing has to be turned it is handed on as it stands.
+    ensures lent { NeedsNothing kinds.now bytes.now → result ≡ Ok AsItIs }
+    // The only refusal is for want of memory.
+    ensures memory { IfErr result (λ e. e ≡ Code.Memory) }
+{
+    adapt(alloc, Direction::Inward, kinds, bytes)
+}
+
+/// What a datagram of a peer turns into before it goes to the network: the value of each datum of a writer whose topic
+/// carries another type stands as a payload again. All else stays as it is. A datum whose value is no payload, or has
+/// another key than the rule finds, stays too, and the flag N of its DATA is set, by which nobody reads it.
+///
+/// Where nothing has to be turned no memory is needed, and the datagram is to be handed on as it stands.
+///
+/// # Errors
+///
+/// `Memory` where no memory was found for the octets. The datagram counts as lost then.
+///
+/// RTPS 2.5, 8.3.4 and 9.4.5.
+pub fn outward(alloc: Global, kinds: &[WriterKind], bytes: &[u8]) -> Result<Adapted, Code>
+    // What is handed on is what the datagram turns into, and no other.
+    ensures answers { IfOk result (Answers Direction.Outward kinds.now bytes.now) }
+    // Where nothing has to be turned it is handed on as it stands.
+    ensures lent { NeedsNothing kinds.now bytes.now → result ≡ Ok AsItIs }
+    // The only refusal is for want of memory.
+    ensures memory { IfErr result (λ e. e ≡ Code.Memory) }
+{
+    adapt(alloc, Direction::Outward, kinds, bytes)
+}

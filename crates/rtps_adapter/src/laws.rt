@@ -1,0 +1,26 @@
+//! What holds of every table of kinds and every message. The functions do nothing.
+//!
+//! RTPS 2.5, 8.3 (messages) and clause 10 (SerializedPayload).
+
+ghost use Rattle.rtps_adapter.specs.ComesBack.{ComesBack};
+ghost use Rattle.rtps_adapter.specs.Same.{Same, StrangersStay};
+
+/// What a peer wrote goes to the network and comes back as it was, octet for octet, where each change is one of the type
+/// that the topic of its writer carries. So a network with `outward` and `inward` at its ends is one without them.
+pub fn what_was_written_comes_back()
+    // Each message that can be written comes back.
+    ensures back { ComesBack }
+{}
+
+/// What a message turns into is a message of the same sender, with as many submessages, each in its place with its id and its
+/// head, and with the same octets behind them.
+pub fn each_submessage_keeps_its_place()
+    // So it is of each message that turns into one no longer than a message may be.
+    ensures same { Same }
+{}
+
+/// A DATA of a writer whose topic carries the datum stays as it is; so does one of a writer that the table does not name.
+pub fn a_datum_stays()
+    // It stays, octet for octet.
+    ensures stays { StrangersStay }
+{}

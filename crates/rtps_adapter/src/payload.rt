@@ -1,0 +1,253 @@
+//! Payloads, and what they turn into.
+//!
+//! RTPS 2.5, clause 10 (SerializedPayload); XTypes 1.3, 7.6.3.1.2 (octets of padding).
+
+ghost use Rattle.std.specs.Prelude.{◌≡◌, ◌≤◌, ◌<◌, ◌+◌, ◌^◌, ◌++◌, length, replicate, OnOk, IfErr};
+ghost use Rattle.std.specs.Option.{option_map};
+ghost use Rattle.dds_base.specs.declared.datum.Datum.{Datum};
+ghost use Rattle.dds_base.specs.DatumAt.{datum_at};
+ghost use Rattle.dds_base.specs.DatumText.{spelling_of_datum, spelling_of_key};
+ghost use Rattle.rtps_wire.specs.Submessages.{padding};
+ghost use Rattle.rtps_adapter.specs.Payloads.{value_at, payload_of, key_payload_of, inward_payload, outward_payload, has_own_key};
+ghost use Rattle.rtps_adapter.specs.Kinds.{key_by};
+ghost use Rattle.rtps_adapter.specs.PayloadText.{new_text};
+
+use crate::kinds::{KeyRule, NO_KEY};
+use dds_base::{Code, Key, decode_datum_ref, decode_key};
+use rtps_wire::MAX_MESSAGE;
+use std::marker::Model;
+
+/// A datum up to its value: representation, options, key and length.
+const LEN_DATUM_HEAD: usize = LEN_KEY_FORM + 4;
+
+/// A key form: representation, options and key.
+const LEN_KEY_FORM: usize = 20;
+
+/// Representation, options and body: a value, or a payload. Contracts see its octets.
+#[derive(Drop)]
+pub struct Serialized<'a> {
+    /// Representation and options.
+    head: [u8; 4],
+    body: &'a [u8],
+}
+
+impl<'a> Model for Serialized<'a> {
+    ghost use Rattle.std.specs.Prelude.{ℕ, List, ◌++◌};
+
+    ghost Value = { List ℕ };
+
+    ghost view = { λ s. s.head ++ s.body.now };
+}
+
+impl<'a> Serialized<'a> {
+    /// How many octets there are.
+    fn octets(&self) -> usize
+        ensures len { result ≡ length self.now }
+        ensures small { result < 2 ^ 63 + 4 }
+    {
+        self.head.len() + self.body.len()
+    }
+
+    /// Appends them.
+    fn put(&self, out: &mut Vec<u8>) -> Result<(), Code>
+        ensures ok { OnOk result (out.new.items ≡ out.old.items ++ self.now) }
+        ensures memory { IfErr result (λ e. e ≡ Code.Memory) }
+    {
+        out.extend_from_slice(&self.head)?;
+        out.extend_from_slice(self.body)?;
+        Ok(())
+    }
+}
+
+/// What stands in place of a payload.
+#[derive(Drop)]
+pub enum NewPayload<'a> {
+    /// A datum of this key and value.
+    Datum(Key, Serialized<'a>),
+    /// The key form of this key.
+    KeyForm(Key),
+    /// A payload of the topic's own type, with these octets and zeros up to a multiple of 4.
+    Own(Serialized<'a>),
+}
+
+/// How many zeros follow so many octets, up to a multiple of 4.
+pub fn zeros_after(len: usize) -> usize
+    ensures len { result ≡ length (padding len) }
+    ensures few { result < 4 }
+    ensures zeros { replicate result 0 ≡ padding len }
+{
+    (4 - len % 4) % 4
+}
+
+/// The value of a payload. `None` where fewer octets are there than representation, options and padding take.
+#[tactic(auto, unfolding(crate::specs::Payloads::value_at))]
+fn value_of(payload: &[u8]) -> Option<Serialized<'_>>
+    ensures { result ≡ value_at payload.now }
+{
+    let [first, second, third, options, body @ ..] = payload else {
+        return None;
+    };
+    let padding = *options % 4;
+    let head = [*first, *second, *third, *options - padding];
+    let padding = padding as usize;
+    if body.len() < padding {
+        return None;
+    }
+    let body = &body[..body.len() - padding];
+    Some(Serialized { head, body })
+}
+
+/// The key of a value, by the rule.
+fn key_of(rule: KeyRule, _value: &Serialized) -> Option<Key>
+    ensures { result ≡ key_by rule _value.now }
+{
+    match rule {
+        KeyRule::Keyless => Some(NO_KEY),
+    }
+}
+
+/// What a payload of another type turns into. `None` where it can't be turned.
+#[tactic(auto, unfolding(crate::specs::Payloads::inward_payload))]
+pub fn inward_payload(rule: KeyRule, is_key: bool, payload: &[u8]) -> Option<NewPayload<'_>>
+    ensures { option_map new_text result ≡ inward_payload rule is_key payload.now }
+{
+    let value = value_of(payload)?;
+    let key = key_of(rule, &value)?;
+    if is_key {
+        Some(NewPayload::KeyForm(key))
+    } else {
+        Some(NewPayload::Datum(key, value))
+    }
+}
+
+/// A value as a payload, whose options count the zeros that follow it. `None` where it is no value.
+#[tactic(auto, unfolding(crate::specs::Payloads::payload_of))]
+fn own_payload(value: &[u8]) -> Option<NewPayload<'_>>
+    ensures { option_map new_text result ≡ payload_of value.now }
+{
+    let [first, second, third, options, body @ ..] = value else {
+        return None;
+    };
+    if *options % 4 != 0 {
+        return None;
+    }
+    let zeros = zeros_after(body.len()) as u8;
+    let head = [*first, *second, *third, *options + zeros];
+    Some(NewPayload::Own(Serialized { head, body }))
+}
+
+/// The payload that says a key alone. `None` where the type has no such key.
+#[tactic(auto, unfolding(crate::specs::Payloads::key_payload_of))]
+fn own_key(rule: KeyRule, key: &Key) -> Option<NewPayload<'static>>
+    ensures { option_map new_text result ≡ key_payload_of rule key.now }
+{
+    match rule {
+        KeyRule::Keyless => {
+            if *key != NO_KEY {
+                return None;
+            }
+            Some(NewPayload::Own(Serialized {
+                head: [0, 1, 0, 0],
+                body: &[],
+            }))
+        }
+    }
+}
+
+/// The key and the value of the datum that the bytes begin with; they lend the value. `None` where they begin with none.
+fn datum_in(payload: &[u8]) -> Option<(Key, &[u8])>
+    ensures { option_map (λ x. record { key = x.0; value = x.1.now }) result ≡ datum_at payload.now }
+{
+    let datum = decode_datum_ref(payload)?;
+    let len = datum.value().len();
+    let key = datum.key();
+    let value = &payload[LEN_DATUM_HEAD..LEN_DATUM_HEAD + len];
+    Some((key, value))
+}
+
+/// Whether a key is that of a value, by the rule.
+#[tactic(auto, unfolding(crate::specs::Payloads::has_own_key))]
+fn has_own_key(rule: KeyRule, key: &Key, _value: &[u8]) -> bool
+    ensures { result ≡ has_own_key rule (record { key = key.now; value = _value.now }) }
+{
+    match rule {
+        KeyRule::Keyless => *key == NO_KEY,
+    }
+}
+
+/// What a datum or a key form turns into. `None` where it can't be turned.
+#[tactic(auto, unfolding(crate::specs::Payloads::outward_payload))]
+pub fn outward_payload(rule: KeyRule, is_key: bool, payload: &[u8]) -> Option<NewPayload<'_>>
+    ensures { option_map new_text result ≡ outward_payload rule is_key payload.now }
+{
+    if is_key {
+        let key = decode_key(payload)?;
+        return own_key(rule, &key);
+    }
+    let (key, value) = datum_in(payload)?;
+    if !has_own_key(rule, &key, value) {
+        return None;
+    }
+    own_payload(value)
+}
+
+/// How many octets it takes.
+pub fn payload_len(payload: &NewPayload) -> usize
+    ensures len { result ≡ length (new_text payload.now) }
+    ensures small { result < 2 ^ 63 + 32 }
+{
+    match payload {
+        NewPayload::Datum(key, value) => {
+            // This shows the prover how many octets there are.
+            let _octets = key.as_slice();
+            LEN_DATUM_HEAD + value.octets()
+        }
+        NewPayload::KeyForm(key) => {
+            // This shows the prover how many octets there are.
+            let _octets = key.as_slice();
+            LEN_KEY_FORM
+        }
+        NewPayload::Own(own) => own.octets() + zeros_after(own.octets()),
+    }
+}
+
+/// Appends the zeros.
+pub fn put_zeros(out: &mut Vec<u8>, count: usize) -> Result<(), Code>
+    requires { count < 4 }
+    ensures ok { OnOk result (out.new.items ≡ out.old.items ++ replicate count 0) }
+    ensures memory { IfErr result (λ e. e ≡ Code.Memory) }
+{
+    let zeros = [0; 4];
+    out.extend_from_slice(&zeros[..count])?;
+    Ok(())
+}
+
+/// Appends the key form.
+fn put_key(out: &mut Vec<u8>, key: &Key) -> Result<(), Code>
+    ensures ok { OnOk result (out.new.items ≡ out.old.items ++ spelling_of_key key.now) }
+    ensures memory { IfErr result (λ e. e ≡ Code.Memory) }
+{
+    out.extend_from_slice(&[0, 1, 0, 0])?;
+    out.extend_from_slice(&key.0)?;
+    Ok(())
+}
+
+/// Appends the octets of what stands in place of a payload.
+pub fn put_payload(out: &mut Vec<u8>, payload: &NewPayload) -> Result<(), Code>
+    requires { length (new_text payload.now) ≤ MAX_MESSAGE }
+    ensures ok { OnOk result (out.new.items ≡ out.old.items ++ new_text payload.now) }
+    ensures memory { IfErr result (λ e. e ≡ Code.Memory) }
+{
+    match payload {
+        NewPayload::Datum(key, value) => {
+            put_key(out, key)?;
+            out.extend_from_slice(&(value.octets() as u32).to_le_bytes())?;
+            value.put(out)
+        }
+        NewPayload::KeyForm(key) => put_key(out, key),
+        NewPayload::Own(own) => {
+            own.put(out)?;
+            put_zeros(out, zeros_after(own.octets()))
+        }
+    }
+}
