@@ -15,7 +15,10 @@ mod direction;
 mod kinds;
 pub mod laws;
 mod payload;
+#[cfg(test)]
+mod tests;
 
 pub use adapt::{Adapted, inward, outward};
 pub use direction::Direction;
 pub use kinds::{KeyRule, Kind, WriterKind};
+pub use payload::fits;

@@ -2,7 +2,7 @@
 //!
 //! RTPS 2.5, clause 10 (SerializedPayload); XTypes 1.3, 7.6.3.1.2 (octets of padding).
 
-ghost use Rattle.std.specs.Prelude.{◌≡◌, ◌≤◌, ◌<◌, ◌+◌, ◌^◌, ◌++◌, length, replicate, OnOk, IfErr};
+ghost use Rattle.std.specs.Prelude.{◌≡◌, ◌≤◌, ◌<◌, ◌+◌, ◌^◌, ◌++◌, length, replicate, OnOk, IfErr, IsTrue, ◌↔◌, Some};
 ghost use Rattle.std.specs.Option.{option_map};
 ghost use Rattle.dds_base.specs.declared.datum.Datum.{Datum};
 ghost use Rattle.dds_base.specs.DatumAt.{datum_at};
@@ -10,9 +10,11 @@ ghost use Rattle.dds_base.specs.DatumText.{spelling_of_datum, spelling_of_key};
 ghost use Rattle.rtps_wire.specs.Submessages.{padding};
 ghost use Rattle.rtps_adapter.specs.Payloads.{value_at, payload_of, key_payload_of, inward_payload, outward_payload, has_own_key};
 ghost use Rattle.rtps_adapter.specs.Kinds.{key_by};
+ghost use Rattle.rtps_wire.specs.declared.data.ChangeBody.TheVariants.{Write};
+ghost use Rattle.rtps_adapter.specs.ComesBack.{IsValue, FitsKind};
 ghost use Rattle.rtps_adapter.specs.PayloadText.{new_text};
 
-use crate::kinds::{KeyRule, NO_KEY};
+use crate::kinds::{KeyRule, Kind, NO_KEY, rule_of};
 use dds_base::{Code, Key, decode_datum_ref, decode_key};
 use rtps_wire::MAX_MESSAGE;
 use std::marker::Model;
@@ -172,6 +174,44 @@ fn has_own_key(rule: KeyRule, key: &Key, _value: &[u8]) -> bool
 {
     match rule {
         KeyRule::Keyless => *key == NO_KEY,
+    }
+}
+
+/// Whether a payload can carry a value.
+fn is_value(value: &[u8]) -> bool
+    ensures { IsTrue result ↔ IsValue value.now }
+{
+    own_payload(value).is_some()
+}
+
+/// Whether two keys are one.
+fn is_same_key(first: &Key, second: &Key) -> bool
+    ensures { IsTrue result ↔ (first.now ≡ second.now) }
+{
+    *first == *second
+}
+
+/// Whether the rule finds this key in a value.
+fn finds_key(rule: KeyRule, key: &Key, _value: &[u8]) -> bool
+    ensures { IsTrue result ↔ (key_by rule _value.now ≡ Some key.now) }
+{
+    match rule {
+        KeyRule::Keyless => is_same_key(&NO_KEY, key),
+    }
+}
+
+/// Whether a datum of this key and value is one of a topic of this kind. `outward` makes a payload of such a one, and of no
+/// other, so whoever writes asks before.
+///
+/// RTPS 2.5, clause 10 (SerializedPayload).
+pub fn fits(kind: Kind, key: &Key, value: &[u8]) -> bool
+    // It is so exactly where a payload can carry the value, and the rule finds the key in it; of the datum it is.
+    ensures fits { IsTrue result
+        ↔ FitsKind kind (Write (record { key = key.now; value = value.now })) }
+{
+    match rule_of(kind) {
+        None => true,
+        Some(rule) => is_value(value) && finds_key(rule, key, value),
     }
 }
 
