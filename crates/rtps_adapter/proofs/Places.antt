@@ -16,7 +16,9 @@ use Rattle.rtps_wire.specs.ParametersAt.{parameter_at}
 use Rattle.rtps_wire.specs.Frames.{runs_to_end, IsFrame, IsEnd, frame_text}
 use Rattle.rtps_wire.specs.Messages.{header_text}
 use Rattle.rtps_wire.proofs.FrameLaws.{frame_length}
-use Rattle.rtps_wire.specs.Submessages.{padding}
+use Rattle.rtps_wire.specs.declared.submessage.Submessage.TheVariants as submessages
+use Rattle.rtps_wire.specs.Submessages.{Reads, padding}
+use Rattle.std.proofs.lemmas.Nat.{and_or_self}
 use Rattle.rtps_wire.proofs.TestLaws.{match_false}
 use Rattle.rtps_adapter.specs.declared.direction.Direction.{Direction}
 use Rattle.rtps_adapter.specs.declared.kinds.WriterKind.{WriterKind}
@@ -26,7 +28,7 @@ use Rattle.rtps_adapter.specs.Opened.{after_first, after_parameters, after_inlin
 use Rattle.rtps_adapter.specs.Adapting.{Piece, piece_of, Payload, StandsIn, foreign_payload, turned_payload, changed, turned, has_payload, aligned}
 use Rattle.rtps_adapter.proofs.Rounds.{positive_within}
 use Rattle.rtps_adapter.proofs.Standing.{turned_texts}
-use Rattle.rtps_adapter.specs.Same.{HasSameHead, Same, StrangersStay}
+use Rattle.rtps_adapter.specs.Same.{HasSameHead, StaysInPlace, Same, StrangersStay, NoneIsRead}
 
 -- ---- how much is left behind a field
 
@@ -369,3 +371,16 @@ strangers_stay direction kinds source p w q opens is =
     let none =
     not_foreign kinds source p.id p.flags p.body w q (eqb p.id 21 && has_payload p.flags) refl opens is in
     rw none refl
+
+-- ---- what can't be turned
+
+pub none_is_read : NoneIsRead
+unfolding changed
+none_is_read direction kinds source p x d found none reads =
+    let is : turned direction kinds source p ≡ piece_of p.id (bit_or p.flags 16) p.body = rw (found, none) refl in
+    let known : Reads p.id (bit_or p.flags 16) p.body (submessages.Data d) =
+    subst (λ (q : Piece). Reads q.id q.flags q.body (submessages.Data d)) is reads in
+    let no_flag : has_flag (bit_or p.flags 16) 16 ≡ false = known.flags_are in
+    let flag : has_flag (bit_or p.flags 16) 16 ≡ true = rw (and_or_self 16 p.flags) refl in
+    let both : true ≡ false = sym flag ∙ no_flag in
+    absurd cc

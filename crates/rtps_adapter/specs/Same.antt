@@ -1,14 +1,17 @@
--- What of a message stays as it was (RTPS 2.5, 8.3.4 and 9.4.5).
-use Rattle.std.specs.Prelude.{◌≡◌, ℕ, ◌≤◌, List, length, take, map, Some}
+-- What of a message stays as it was, and what of it nobody reads (RTPS 2.5, 8.3.4 and 9.4.5).
+use Rattle.std.specs.Prelude.{◌≡◌, ℕ, ◌≤◌, List, length, take, map, Option, None, Some}
 use Rattle.dds_base.specs.declared.guid.EntityId.{EntityId}
 use Rattle.dds_base.specs.declared.guid.GuidPrefix.{GuidPrefix}
+use Rattle.rtps_wire.specs.declared.data.Data.{Data as DataOf}
+use Rattle.rtps_wire.specs.declared.submessage.Submessage.TheVariants.{Data}
 use Rattle.rtps_wire.specs.Names.{max_message}
+use Rattle.rtps_wire.specs.Submessages.{Reads}
 use Rattle.rtps_adapter.specs.declared.direction.Direction.{Direction}
 use Rattle.rtps_adapter.specs.declared.kinds.Kind.TheVariants.{Datum}
 use Rattle.rtps_adapter.specs.declared.kinds.WriterKind.{WriterKind}
 use Rattle.rtps_adapter.specs.Kinds.{kind_of}
 use Rattle.rtps_adapter.specs.Opened.{payload_at}
-use Rattle.rtps_adapter.specs.Adapting.{Piece, IsMessage, Turns, turned}
+use Rattle.rtps_adapter.specs.Adapting.{Piece, Payload, IsMessage, Turns, foreign_payload, turned_payload, turned}
 
 -- extraFlags, octetsToInlineQos, readerId, writerId and writerSN of a DATA
 abbrev pub len_data_head : ℕ
@@ -39,3 +42,11 @@ abbrev pub StrangersStay : Type 0
 StrangersStay = (direction : Direction) (kinds : List WriterKind) (source : GuidPrefix) (p : Piece) (writer : EntityId)
     (payload : List ℕ) → payload_at p.flags p.body ≡ Some (writer, payload) → kind_of kinds source writer ≡ Datum
     → turned direction kinds source p ≡ p
+
+-- No peer reads a DATA whose payload can't be turned.
+abbrev pub NoneIsRead : Type 0
+NoneIsRead = (direction : Direction) (kinds : List WriterKind) (source : GuidPrefix) (p : Piece) (x : Payload) (d : DataOf)
+    → foreign_payload kinds source p.id p.flags p.body ≡ Some x → turned_payload direction x ≡ None
+    → Reads (turned direction kinds source p).id (turned direction kinds source p).flags
+    (turned direction kinds source p).body (Data d)
+    → ⊥

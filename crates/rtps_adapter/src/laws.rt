@@ -3,7 +3,7 @@
 //! RTPS 2.5, 8.3 (messages) and clause 10 (SerializedPayload).
 
 ghost use Rattle.rtps_adapter.specs.ComesBack.{ComesBack};
-ghost use Rattle.rtps_adapter.specs.Same.{Same, StrangersStay};
+ghost use Rattle.rtps_adapter.specs.Same.{Same, StrangersStay, NoneIsRead};
 
 /// What a peer wrote goes to the network and comes back as it was, octet for octet, where each change is one of the type
 /// that the topic of its writer carries. So a network with `outward` and `inward` at its ends is one without them.
@@ -23,4 +23,10 @@ pub fn each_submessage_keeps_its_place()
 pub fn a_datum_stays()
     // It stays, octet for octet.
     ensures stays { StrangersStay }
+{}
+
+/// A DATA whose payload can't be turned is one that no peer reads as a DATA, so nothing is taken for a datum that is none.
+pub fn what_cant_be_turned_is_not_read()
+    // It is read as a submessage that is not valid.
+    ensures none { NoneIsRead }
 {}
