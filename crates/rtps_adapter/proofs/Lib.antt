@@ -5,3 +5,4 @@ pub mod Returning
 pub mod Rounds
 pub mod MessageRounds
 pub mod Places
+pub mod Taking

@@ -28,7 +28,7 @@ use Rattle.rtps_adapter.specs.Opened.{after_first, after_parameters, after_inlin
 use Rattle.rtps_adapter.specs.Adapting.{Piece, piece_of, Payload, StandsIn, foreign_payload, turned_payload, changed, turned, has_payload, aligned}
 use Rattle.rtps_adapter.proofs.Rounds.{positive_within}
 use Rattle.rtps_adapter.proofs.Standing.{turned_texts}
-use Rattle.rtps_adapter.specs.Same.{HasSameHead, StaysInPlace, Same, StrangersStay, NoneIsRead}
+use Rattle.rtps_adapter.specs.Same.{HasSameHead, Same, StrangersStay, NoneIsRead}
 
 -- ---- how much is left behind a field
 

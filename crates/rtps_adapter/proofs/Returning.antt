@@ -184,7 +184,7 @@ key_flag (Dispose k) strength = refl
 key_flag (Unregister k) strength = refl
 key_flag (DisposeUnregister k) strength = refl
 
-sn_length : (order : Endianness) (sn : ℕ) → length (sn_text order sn) ≡ 8
+pub sn_length : (order : Endianness) (sn : ℕ) → length (sn_text order sn) ≡ 8
 sn_length Big sn = refl
 sn_length Little sn = refl
 
@@ -255,7 +255,7 @@ foreign_is kinds source flags w front q rule has opens is =
 aligned_same : (octets : List ℕ) → length octets % 4 ≡ 0 → aligned octets ≡ octets
 aligned_same octets whole = rw whole (append-nil octets)
 
-changed_is : (direction : Direction) (kinds : List WriterKind) (source : GuidPrefix) (flags : ℕ) (w : EntityId)
+pub changed_is : (direction : Direction) (kinds : List WriterKind) (source : GuidPrefix) (flags : ℕ) (w : EntityId)
     (front q new : List ℕ) (rule : KeyRule) → has_payload flags ≡ true → payload_at flags (front ++ q) ≡ Some (w, q)
     → rule_of (kind_of kinds source w) ≡ Some rule
     → turned_payload direction (record { rule = rule; is_key = has_flag flags 8; front = front; octets = q }) ≡ Some new

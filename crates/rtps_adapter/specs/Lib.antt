@@ -5,3 +5,4 @@ pub mod Opened
 pub mod Adapting
 pub mod ComesBack
 pub mod Same
+pub mod Taken

@@ -3,6 +3,7 @@
 //! RTPS 2.5, 8.3 (messages) and clause 10 (SerializedPayload).
 
 ghost use Rattle.rtps_adapter.specs.ComesBack.{ComesBack};
+ghost use Rattle.rtps_adapter.specs.Taken.{ValuesAreRead};
 ghost use Rattle.rtps_adapter.specs.Same.{Same, StrangersStay, NoneIsRead};
 
 /// What a peer wrote goes to the network and comes back as it was, octet for octet, where each change is one of the type
@@ -29,4 +30,11 @@ pub fn a_datum_stays()
 pub fn what_cant_be_turned_is_not_read()
     // It is read as a submessage that is not valid.
     ensures none { NoneIsRead }
+{}
+
+/// A write of another type is read by a peer as a write of its value, with the key that the rule finds: for the same reader,
+/// of the same writer, with the same number and strength.
+pub fn values_are_read()
+    // So it is of each that has a value of at most 1,024 octets.
+    ensures read { ValuesAreRead }
 {}
