@@ -44,7 +44,8 @@ abbrev pub Fits : List WriterKind → GuidPrefix → Submessage → Type 0
 Fits kinds source (Data d) = FitsKind (kind_of kinds source d.writer_id) d.content.body
 Fits kinds source s = Unit {0}
 
--- What a peer wrote gets no longer, and comes back as it was, octet for octet, where each change is one of the type that its topic carries.
+-- What a peer wrote gets no longer, and comes back as it was, octet for octet, where each change is one of the type
+-- that its topic carries.
 abbrev pub ComesBack : Type 0
 ComesBack = (kinds : List WriterKind) (m : Message) (out back : List ℕ) → IsWritable m
     → AllByRecursion (Fits kinds m.prefix) m.submessages

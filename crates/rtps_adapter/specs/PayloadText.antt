@@ -5,6 +5,7 @@ use Rattle.std.specs.Prelude.{◌≡◌, ℕ, ◌+◌, ◌≤◌, ◌<◌, Bool,
 use Rattle.dds_base.specs.DatumText.{spelling_of_datum, spelling_of_key}
 use Rattle.rtps_wire.specs.Names.{max_message}
 use Rattle.rtps_wire.specs.Submessages.{padding}
+use Rattle.rtps_adapter.specs.Adapting.{Piece}
 use Rattle.rtps_adapter.specs.declared.payload.NewPayload.{NewPayload}
 use Rattle.rtps_adapter.specs.declared.payload.NewPayload.TheVariants.{Datum, KeyForm, Own}
 
@@ -22,3 +23,7 @@ body_with front (Some payload) = (front ++ new_text payload) ++ padding (length 
 abbrev pub Puts : List ℕ → List ℕ → List ℕ → Bool → Type 0
 Puts old new octets fits =
     MatchBool fits ((new ≡ old ++ octets) × (length new ≤ max_message)) (max_message < length old + length octets)
+
+-- a submessage that stands in these octets
+abbrev pub piece_in : ℕ → ℕ → List ℕ → List ℕ → Piece
+piece_in id flags body octets = record { id = id; flags = flags; body = body; text = octets }

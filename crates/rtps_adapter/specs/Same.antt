@@ -22,8 +22,8 @@ pub record HasSameHead (was is : Piece) : Type 0 where
   pub id : is.id ≡ was.id
   pub head : take len_data_head is.body ≡ take len_data_head was.body
 
--- What a message turns into is a message of the same sender, with as many submessages, each in its place with its id and
--- head, and with the same octets behind them.
+-- What a message turns into is a message of the same sender, with as many submessages, each in its place with its id
+-- and head, and with the same octets behind them.
 pub record StaysInPlace (direction : Direction) (kinds : List WriterKind) (bytes out : List ℕ) : Type 0 where
   pub source : GuidPrefix
   pub pieces : List Piece
@@ -45,7 +45,8 @@ StrangersStay = (direction : Direction) (kinds : List WriterKind) (source : Guid
 
 -- No peer reads a DATA whose payload can't be turned.
 abbrev pub NoneIsRead : Type 0
-NoneIsRead = (direction : Direction) (kinds : List WriterKind) (source : GuidPrefix) (p : Piece) (x : Payload) (d : DataOf)
+NoneIsRead = (direction : Direction) (kinds : List WriterKind) (source : GuidPrefix) (p : Piece) (x : Payload)
+    (d : DataOf)
     → foreign_payload kinds source p.id p.flags p.body ≡ Some x → turned_payload direction x ≡ None
     → Reads (turned direction kinds source p).id (turned direction kinds source p).flags
     (turned direction kinds source p).body (Data d)

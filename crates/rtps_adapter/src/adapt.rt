@@ -9,7 +9,7 @@ ghost use Rattle.rtps_wire.specs.Frames.{frame_text};
 ghost use Rattle.rtps_wire.specs.Names.{max_message};
 ghost use Rattle.rtps_adapter.specs.declared.adapt.Adapted.TheVariants.{AsItIs};
 ghost use Rattle.rtps_adapter.specs.Adapting.{Piece, StandsIn, turned, texts_of, is_foreign, NeedsNothing, Answers};
-ghost use Rattle.rtps_adapter.specs.PayloadText.{Puts};
+ghost use Rattle.rtps_adapter.specs.PayloadText.{Puts, piece_in};
 
 use crate::change::{Change, change_of, is_foreign};
 use crate::data::order_of;
@@ -75,8 +75,8 @@ fn put_submessage_header(out: &mut Vec<u8>, id: u8, flags: u8, len: u16) -> Resu
     Ok(())
 }
 
-/// Appends a submessage with other flags and another body, if a message is then no longer than it may be. Returns whether
-/// it is.
+/// Appends a submessage with other flags and another body, if a message is then no longer than it may be. Returns
+/// whether it is.
 fn put_change(out: &mut Vec<u8>, id: u8, change: &Change) -> Result<bool, Code>
     ensures ok { IfOk result (Puts out.old.items out.new.items
         (frame_text id change.now.0 (length change.now.1) change.now.1)) }
@@ -104,8 +104,9 @@ fn put_turned(
     frame: &Frame,
     octets: &[u8],
 ) -> Result<bool, Code>
-    ensures ok { IfOk result (Puts out.old.items out.new.items (turned direction kinds.now source.now
-        (record { id = frame.now.id; flags = frame.now.flags; body = frame.now.body.now; text = octets.now })).text) }
+    ensures ok { IfOk result (Puts out.old.items out.new.items
+        (turned direction kinds.now source.now (piece_in frame.now.id frame.now.flags
+        frame.now.body.now octets.now)).text) }
     ensures memory { IfErr result (λ e. e ≡ Code.Memory) }
 {
     match change_of(direction, kinds, source, frame) {
@@ -114,8 +115,8 @@ fn put_turned(
     }
 }
 
-/// Appends what the submessages of a body turn into, and what is not read behind them, if a message is then no longer than
-/// it may be. Returns whether it is.
+/// Appends what the submessages of a body turn into, and what is not read behind them, if a message is then no longer
+/// than it may be. Returns whether it is.
 fn put_all(
     out: &mut Vec<u8>,
     direction: Direction,
@@ -123,8 +124,9 @@ fn put_all(
     source: &GuidPrefix,
     body: &[u8],
 ) -> Result<bool, Code>
-    ensures ok { IfOk result (λ fits. (ps : List Piece) × (left : List ℕ) × StandsIn body.now ps left
-        × Puts out.old.items out.new.items (texts_of (map (turned direction kinds.now source.now) ps) ++ left) fits) }
+    ensures ok { IfOk result (λ fits. (ps : List Piece) × (left : List ℕ)
+        × StandsIn body.now ps left × Puts out.old.items out.new.items
+        (texts_of (map (turned direction kinds.now source.now) ps) ++ left) fits) }
     ensures memory { IfErr result (λ e. e ≡ Code.Memory) }
 {
     let mut left = body;
@@ -163,9 +165,10 @@ fn adapt(
     Ok(Adapted::Rewritten(Octets::from_vec(out)))
 }
 
-/// What a datagram of the network turns into before a peer reads it: the payload of each DATA whose writer's topic carries
-/// another type stands in a datum, as its value, with the key that the rule finds. All else stays as it is. A payload
-/// whose value or key can't be found stays too, and the flag N of its DATA is set, by which a peer reads none.
+/// What a datagram of the network turns into before a peer reads it: the payload of each DATA whose writer's topic
+/// carries another type stands in a datum, as its value, with the key that the rule finds. All else stays as it is. A
+/// payload whose value or key can't be found stays too, and the flag N of its DATA is set, by which a peer reads
+/// none.
 ///
 /// Where nothing has to be turned no memory is needed, and the datagram is to be handed on as it stands.
 ///
@@ -185,9 +188,9 @@ pub fn inward(alloc: Global, kinds: &[WriterKind], bytes: &[u8]) -> Result<Adapt
     adapt(alloc, Direction::Inward, kinds, bytes)
 }
 
-/// What a datagram of a peer turns into before it goes to the network: the value of each datum of a writer whose topic
-/// carries another type stands as a payload again. All else stays as it is. A datum whose value is no payload, or has
-/// another key than the rule finds, stays too, and the flag N of its DATA is set, by which nobody reads it.
+/// What a datagram of a peer turns into before it goes to the network: the value of each datum of a writer whose
+/// topic carries another type stands as a payload again. All else stays as it is. A datum whose value is no payload,
+/// or has another key than the rule finds, stays too, and the flag N of its DATA is set, by which nobody reads it.
 ///
 /// Where nothing has to be turned no memory is needed, and the datagram is to be handed on as it stands.
 ///

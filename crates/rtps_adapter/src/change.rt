@@ -81,7 +81,8 @@ fn foreign_payload<'a>(
       front = x.front.now;
       octets = x.octets.now;
     })
-        result ≡ foreign_payload kinds.now source.now frame.now.id frame.now.flags frame.now.body.now }
+        result
+        ≡ foreign_payload kinds.now source.now frame.now.id frame.now.flags frame.now.body.now }
 {
     if frame.id != ID_DATA || !has_payload(frame.flags) {
         return None;
@@ -128,7 +129,8 @@ pub fn change_of<'a>(
     source: &GuidPrefix,
     frame: &Frame<'a>,
 ) -> Option<Change<'a>>
-    ensures { result ≡ changed direction kinds.now source.now frame.now.id frame.now.flags frame.now.body.now }
+    ensures { result
+        ≡ changed direction kinds.now source.now frame.now.id frame.now.flags frame.now.body.now }
 {
     let found = foreign_payload(kinds, source, frame)?;
     let payload = turned_payload(direction, &found);

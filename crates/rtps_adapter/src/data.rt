@@ -61,7 +61,8 @@ fn take_entity_id(bytes: &[u8]) -> Option<(EntityId, &[u8])>
 /// One parameter: its id and its value, which is empty for the sentinel, and the bytes after it.
 #[tactic(auto, unfolding(rtps_wire::specs::ParametersAt::parameter_at))]
 fn take_parameter(order: Endianness, bytes: &[u8]) -> Option<(u16, &[u8], &[u8])>
-    ensures value { option_map (λ x. (x.0, x.1.now, x.2.now)) result ≡ parameter_at order bytes.now }
+    ensures value { option_map (λ x. (x.0, x.1.now, x.2.now)) result
+        ≡ parameter_at order bytes.now }
     ensures rest { IfSome result (λ x. length x.2.now < length bytes.now) }
 {
     let (id, rest) = take_u16(order, bytes)?;
@@ -98,8 +99,8 @@ fn skip_inline(flags: u8, bytes: &[u8]) -> Option<&[u8]>
     Some(bytes)
 }
 
-/// The writer that a DATA names, and its payload. `None` where it is cut, has no sentinel, or says that the payload is of
-/// no standard form.
+/// The writer that a DATA names, and its payload. `None` where it is cut, has no sentinel, or says that the payload
+/// is of no standard form.
 #[tactic(auto, unfolding(crate::specs::Opened::payload_at))]
 pub fn payload_of(flags: u8, body: &[u8]) -> Option<(EntityId, &[u8])>
     ensures value { option_map (λ x. (x.0, x.1.now)) result ≡ payload_at flags body.now }

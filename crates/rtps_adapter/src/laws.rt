@@ -6,34 +6,37 @@ ghost use Rattle.rtps_adapter.specs.ComesBack.{ComesBack};
 ghost use Rattle.rtps_adapter.specs.Taken.{ValuesAreRead};
 ghost use Rattle.rtps_adapter.specs.Same.{Same, StrangersStay, NoneIsRead};
 
-/// What a peer wrote goes to the network and comes back as it was, octet for octet, where each change is one of the type
-/// that the topic of its writer carries. So a network with `outward` and `inward` at its ends is one without them.
+/// What a peer wrote goes to the network and comes back as it was, octet for octet, where each change is one of the
+/// type that the topic of its writer carries. So a network with `outward` and `inward` at its ends is one without
+/// them.
 pub fn what_was_written_comes_back()
     // Each message that can be written comes back.
     ensures back { ComesBack }
 {}
 
-/// What a message turns into is a message of the same sender, with as many submessages, each in its place with its id and its
-/// head, and with the same octets behind them.
+/// What a message turns into is a message of the same sender, with as many submessages, each in its place with its id
+/// and its head, and with the same octets behind them.
 pub fn each_submessage_keeps_its_place()
     // So it is of each message that turns into one no longer than a message may be.
     ensures same { Same }
 {}
 
-/// A DATA of a writer whose topic carries the datum stays as it is; so does one of a writer that the table does not name.
+/// A DATA of a writer whose topic carries the datum stays as it is; so does one of a writer that the table does not
+/// name.
 pub fn a_datum_stays()
     // It stays, octet for octet.
     ensures stays { StrangersStay }
 {}
 
-/// A DATA whose payload can't be turned is one that no peer reads as a DATA, so nothing is taken for a datum that is none.
+/// A DATA whose payload can't be turned is one that no peer reads as a DATA, so nothing is taken for a datum that is
+/// none.
 pub fn what_cant_be_turned_is_not_read()
     // It is read as a submessage that is not valid.
     ensures none { NoneIsRead }
 {}
 
-/// A write of another type is read by a peer as a write of its value, with the key that the rule finds: for the same reader,
-/// of the same writer, with the same number and strength.
+/// A write of another type is read by a peer as a write of its value, with the key that the rule finds: for the same
+/// reader, of the same writer, with the same number and strength.
 pub fn values_are_read()
     // So it is of each that has a value of at most 1,024 octets.
     ensures read { ValuesAreRead }

@@ -1,9 +1,9 @@
 //! Payloads of other types, between the network and a peer.
 //!
-//! A peer reads one type, the datum: a key, and a value of octets. `inward` turns a datagram so that the payload of each
-//! DATA whose writer's topic carries another type stands in a datum, as its value, and `outward` turns it back; all else
-//! stays as it is, octet for octet, and a datagram that needs nothing is not copied. Which topic carries what, the caller
-//! says by the GUIDs of writers. Not here: sockets, and what a peer does with a datagram.
+//! A peer reads one type, the datum: a key, and a value of octets. `inward` turns a datagram so that the payload of
+//! each DATA whose writer's topic carries another type stands in a datum, as its value, and `outward` turns it back;
+//! all else stays as it is, octet for octet, and a datagram that needs nothing is not copied. Which topic carries
+//! what, the caller says by the GUIDs of writers. Not here: sockets, and what a peer does with a datagram.
 //!
 //! RTPS 2.5, 8.3.4 and 9.4.5 (messages and submessages), clause 10 (SerializedPayload).
 #![tactic(auto)]

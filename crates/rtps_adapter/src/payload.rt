@@ -156,9 +156,11 @@ fn own_key(rule: KeyRule, key: &Key) -> Option<NewPayload<'static>>
     }
 }
 
-/// The key and the value of the datum that the bytes begin with; they lend the value. `None` where they begin with none.
+/// The key and the value of the datum that the bytes begin with; they lend the value. `None` where they begin with
+/// none.
 fn datum_in(payload: &[u8]) -> Option<(Key, &[u8])>
-    ensures { option_map (λ x. record { key = x.0; value = x.1.now }) result ≡ datum_at payload.now }
+    ensures { option_map (λ x. record { key = x.0; value = x.1.now }) result
+        ≡ datum_at payload.now }
 {
     let datum = decode_datum_ref(payload)?;
     let len = datum.value().len();
@@ -200,8 +202,8 @@ fn finds_key(rule: KeyRule, key: &Key, _value: &[u8]) -> bool
     }
 }
 
-/// Whether a datum of this key and value is one of a topic of this kind. `outward` makes a payload of such a one, and of no
-/// other, so whoever writes asks before.
+/// Whether a datum of this key and value is one of a topic of this kind. `outward` makes a payload of such a one, and
+/// of no other, so whoever writes asks before.
 ///
 /// RTPS 2.5, clause 10 (SerializedPayload).
 pub fn fits(kind: Kind, key: &Key, value: &[u8]) -> bool
