@@ -12,8 +12,8 @@ use dds_notices::Listener;
 use dds_protocol::{Event, Output};
 use std::alloc::Global;
 
-/// A list of what was done: that of a peer, or that of a pass. By `keeps` it says of which entries it may be: one that
-/// is recorded is of those that it stores, one that is only known may be of any.
+/// A list of what was done: that of a peer, or that of a pass. `keeps` says for which entries it stands: one that is
+/// stored for those that it stores, one that is only known for any.
 ///
 /// Histories and passes are this project's own.
 pub trait Keeping: Drop {
@@ -111,7 +111,7 @@ pub trait Handing: Keeping {
         ensures answer { answers result output }
         ensures less { Self.room self.old ≤ Self.room self.new + 1 };
 
-    /// The output of the event that was entered last, of which the caller got this; `None` where nothing was entered.
+    /// The output of the event that was entered last, of which the caller got this. It is there wherever one was entered.
     fn output<'a>(&'a self, answer: &'a Self::Answer) -> Option<&'a Output>
         ensures output { (es : List Entry) (seat : ℕ) (e : Event) (o : Output)
             → Self.keeps self.now (es ++ entry_of seat e o ∷ []) → answers answer.now o

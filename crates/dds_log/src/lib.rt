@@ -1,4 +1,4 @@
-//! What happened, in proofs alone, and a word that counts it: whoever has a front of it sees how far it was, and what it
+//! What happened, in proofs alone, and a word that counts it: whoever has a hand of it sees how far it was, and what it
 //! did itself, and waits for nobody.
 //!
 //! Logs are this project's own.

@@ -293,7 +293,7 @@ fn gates(alloc: Global) -> Result<(Arc<AtomicBool>, PairGate, PairGate), Code> {
 }
 
 /// Runs two peers of one process over UDP on the loopback, as `run_pair` does: peer 1's worker ticks in each 64th turn,
-/// and both stop once all is done, or after 1,000,000 turns, of which each waits at most a millisecond.
+/// and both stop once all is done, or after 1,000,000 turns, of which one in 16 waits, a millisecond at most.
 ///
 /// # Errors
 ///

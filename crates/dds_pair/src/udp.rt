@@ -79,8 +79,8 @@ impl UdpSender {
 }
 
 /// A socket on 127.0.0.1, at a port that the system picks, and the address of the one other that it exchanges datagrams
-/// with. Its buffers are as large as the system lets them be. A datagram from elsewhere is dropped. A receive that finds nothing waits in the system for a millisecond at most,
-/// and one of 16 in a row does. `docs/DECISIONS.md`, "Threads and links".
+/// with. Its buffers are as large as the system lets them be. A datagram from elsewhere is dropped. After 16 looks in a row
+/// that found nothing a receive waits in the system, a millisecond at most. `docs/DECISIONS.md`, "Threads and links".
 ///
 /// RTPS 2.5, 9.6.2 (UDP).
 #[derive(Drop)]

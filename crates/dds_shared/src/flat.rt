@@ -1,5 +1,5 @@
-//! A peer that threads share, whose passes store nothing; and one that stores nothing at all, so that its memory is that
-//! of the peer alone.
+//! A peer that threads share and of which nothing is stored (`Flat`), so that its memory is that of the peer alone; and
+//! the calls of any peer whose passes store nothing.
 //!
 //! DDS 1.4, 2.2.2.1 (Entity, WaitSet). Passes and closing are this project's own.
 

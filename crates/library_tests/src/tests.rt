@@ -1,5 +1,6 @@
 //! The tests, by the crate of which they are.
 
+mod adapter;
 mod base;
 mod cache;
 mod conditions;

@@ -2,11 +2,10 @@
 //!
 //! RTPS 2.5, 9.4.5 (Data).
 
-ghost use Rattle.std.specs.Prelude.{◌≡◌, ◌≤◌, ◌<◌, ◌++◌, [], length, is_some, IfSome, IfNone, IfOk, IfErr, OnOk};
+ghost use Rattle.std.specs.Prelude.{◌≡◌, ◌≤◌, ◌<◌, ◌++◌, length, is_some, IfSome, IfNone, IfErr, OnOk};
 ghost use Rattle.std.specs.Option.{option_map};
-ghost use Rattle.rtps_wire.specs.Frames.{frame_text};
-ghost use Rattle.rtps_adapter.specs.Adapting.{has_payload, foreign_payload, turned_payload, changed, turned};
-ghost use Rattle.rtps_adapter.specs.PayloadText.{new_text, Puts};
+ghost use Rattle.rtps_adapter.specs.Adapting.{has_payload, foreign_payload, turned_payload, changed};
+ghost use Rattle.rtps_adapter.specs.PayloadText.{new_text};
 
 use crate::data::{FLAG_NON_STANDARD, has_flag, payload_of};
 use crate::direction::Direction;
@@ -26,9 +25,6 @@ const FLAG_DATA: u8 = 0x04;
 
 /// K: the payload is a key.
 const FLAG_KEY: u8 = 0x08;
-
-/// The header of a submessage: id, flags and length.
-const LEN_SUBMESSAGE_HEADER: usize = 4;
 
 /// A payload of another type than the datum, and what stands before it.
 #[derive(Clone, Copy)]

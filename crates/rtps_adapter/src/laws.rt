@@ -7,8 +7,7 @@ ghost use Rattle.rtps_adapter.specs.Taken.{ValuesAreRead};
 ghost use Rattle.rtps_adapter.specs.Same.{Same, StrangersStay, NoneIsRead};
 
 /// What a peer wrote goes to the network and comes back as it was, octet for octet, where each change is one of the
-/// type that the topic of its writer carries. So a network with `outward` and `inward` at its ends is one without
-/// them.
+/// type that the topic of its writer carries. So ends with one table exchange what they would exchange without it.
 pub fn what_was_written_comes_back()
     // Each message that can be written comes back.
     ensures back { ComesBack }

@@ -15,8 +15,6 @@ mod direction;
 mod kinds;
 pub mod laws;
 mod payload;
-#[cfg(test)]
-mod tests;
 
 pub use adapt::{Adapted, inward, outward};
 pub use direction::Direction;

@@ -202,8 +202,8 @@ fn finds_key(rule: KeyRule, key: &Key, _value: &[u8]) -> bool
     }
 }
 
-/// Whether a datum of this key and value is one of a topic of this kind. `outward` makes a payload of such a one, and
-/// of no other, so whoever writes asks before.
+/// Whether a datum of this key and value is one of a topic of this kind, so that it comes back as it was: whoever writes
+/// asks before. Of one that is not, whose type is another than the datum, nobody reads anything.
 ///
 /// RTPS 2.5, clause 10 (SerializedPayload).
 pub fn fits(kind: Kind, key: &Key, value: &[u8]) -> bool

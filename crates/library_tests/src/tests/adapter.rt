@@ -1,8 +1,8 @@
-//! What no clause says: that a datagram is turned, in and out. What is expected was made by a model in another language,
-//! which was tried with two other products.
+//! What no clause says: that a datagram is turned, in and out. The octets are those of CDR and of XTypes 1.3,
+//! 7.6.3.1.2, written out.
 
-use crate::{Adapted, KeyRule, Kind, WriterKind, inward, outward};
 use dds_base::{EntityId, Guid, GuidPrefix, Octets};
+use rtps_adapter::{Adapted, KeyRule, Kind, WriterKind, inward, outward};
 use std::test::Fail;
 
 /// A string of a type without a key, as it comes from the network, and a HEARTBEAT.
