@@ -20,17 +20,20 @@ use std::alloc::Global;
 pub struct Pieces {
     /// What was done since entries were handed out last.
     pub newest: Recorded,
+    /// How many entries were handed out.
+    pub cut: u64,
 }
 
 impl Keeping for Pieces {
-    ghost use Rattle.std.specs.Prelude.{◌≡◌, ◌++◌, ◌-◌, ⊤, List, vec_capacity, vec_len};
+    ghost use Rattle.std.specs.Prelude.{◌≡◌, ◌++◌, ◌-◌, ⊤, List, length, vec_capacity, vec_len};
     ghost use Rattle.dds_trace.specs.declared.trace.Entry.{Entry};
 
     type Told = Event;
 
     type Twin = Output;
 
-    ghost keeps = { λ k es. (first : List Entry) × (es ≡ first ++ k.newest.entries.items) };
+    ghost keeps = { λ k es. (first : List Entry) × (length first ≡ k.cut)
+        × (es ≡ first ++ k.newest.entries.items) };
 
     ghost room = { λ k. vec_capacity k.newest.entries - vec_len k.newest.entries };
 
@@ -41,6 +44,7 @@ impl Keeping for Pieces {
     fn open(alloc: Global) -> Pieces {
         Pieces {
             newest: Recorded::open(alloc),
+            cut: 0,
         }
     }
 

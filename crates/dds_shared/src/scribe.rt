@@ -75,6 +75,7 @@ impl<N: Named<F, L>, F: Filter, L: Listener> Locked<N, F, L, Pieces> {
         }
         let mut empty = Pieces::open(alloc);
         empty.reserve(self.core.in_use() as usize)?;
+        empty.cut = done;
         self.tally.compare(word, &mut scribe.scribe);
         let full = mem::replace(&mut self.trace, empty);
         self.tally.write(word, &mut scribe.scribe);

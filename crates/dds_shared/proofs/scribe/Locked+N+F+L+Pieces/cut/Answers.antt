@@ -20,15 +20,27 @@ invariant_of-self g c =
     let room = ap (λ (p : Pieces). vec_capacity p.newest.entries - vec_len p.newest.entries) after in
     let empty = c.in_ok-reserve.ensures.same [] c.open-empty.ensures.nothing in
     let is_log = ap (λ (t : Logged Entry). t.log) tally in
-    let stored = sym (append-nil log) ∙ ap (λ (es : List Entry). log ++ es) empty.1
-    ∙ sym (append_assoc log empty.0 c.reserve.new.self.newest.entries.items) in (
+    let stored = sym (append-nil log) ∙ ap (λ (es : List Entry). log ++ es) empty.2
+    ∙ sym (append_assoc log empty.0 c.reserve.new.self.newest.entries.items) in
+    let handed_out : length (log ++ empty.0) ≡ c.done-done.result =
+    omega (
+      arith,
+      length-append log empty.0,
+      length-append empty.0 c.reserve.new.self.newest.entries.items,
+      ap (λ (es : List Entry). length es) empty.2,
+      c.done-done.ensures.done,
+    ) in (
       stays g.F.Filter.meaning g.L.Listener.notices g.L.Listener.capacity g.L.Listener.becomes g.N.Named.filters
           g.N.Named.slots g.N.Named.config g.N.Named.peer old.core log c.write.new.self.log
           (vec_capacity old.trace.newest.entries - vec_len old.trace.newest.entries) more old.rest.parts old.rest.amount
           old.left old.tally.next c.write.new.self.next kept is_log (ap (λ (t : Logged Entry). t.next) tally)
           (omega (arith, in_use, c.in_ok-reserve.ensures.room, room)),
       c.self.invariant.1,
-      (log ++ empty.0, is_log ∙ stored ∙ ap (λ (p : Pieces). (log ++ empty.0) ++ p.newest.entries.items) (sym after)),
+      (
+        log ++ empty.0,
+        handed_out ∙ ap (λ (p : Pieces). p.cut) (sym after),
+        is_log ∙ stored ∙ ap (λ (p : Pieces). (log ++ empty.0) ++ p.newest.entries.items) (sym after),
+      ),
     )
 
 pub returns-clause-piece : goal.returns-clause-piece
@@ -41,7 +53,7 @@ returns-clause-piece g c =
     let long : length kept.0 ≡ length cut =
     omega (
       arith,
-      ap (λ (es : List Entry). length es) kept.1,
+      ap (λ (es : List Entry). length es) kept.2,
       length-append kept.0 items,
       c.done-done.ensures.done,
       c.len-newest.ensures,
@@ -49,7 +61,7 @@ returns-clause-piece g c =
       c.if-scribe-done.false,
       c.if-done-scribe.false,
     ) in
-    let same = same_end kept.0 items cut split.0 (sym kept.1 ∙ split.1) long in
+    let same = same_end kept.0 items cut split.0 (sym kept.2 ∙ split.1) long in
     let piece = c.from_entries.ensures.entries
     ∙ ap (λ (p : Pieces). p.newest.entries.items) c.replace-full.ensures.value in
     c.write.ensures.all
