@@ -6,3 +6,4 @@ pub mod Rounds
 pub mod MessageRounds
 pub mod Places
 pub mod Taking
+pub mod Leaving

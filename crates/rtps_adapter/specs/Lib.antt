@@ -4,5 +4,6 @@ pub mod PayloadText
 pub mod Opened
 pub mod Adapting
 pub mod ComesBack
+pub mod Leaving
 pub mod Same
 pub mod Taken

@@ -3,6 +3,7 @@
 //! RTPS 2.5, 8.3 (messages) and clause 10 (SerializedPayload).
 
 ghost use Rattle.rtps_adapter.specs.ComesBack.{ComesBack};
+ghost use Rattle.rtps_adapter.specs.Leaving.{WhatGoesOutFits};
 ghost use Rattle.rtps_adapter.specs.Taken.{ValuesAreRead};
 ghost use Rattle.rtps_adapter.specs.Same.{Same, StrangersStay, NoneIsRead};
 
@@ -39,4 +40,10 @@ pub fn what_cant_be_turned_is_not_read()
 pub fn values_are_read()
     // So it is of each that has a value of at most 1,024 octets.
     ensures read { ValuesAreRead }
+{}
+
+/// What goes out is of its topic's type: a value with the key that the rule finds in it, or a key that the type has.
+pub fn what_goes_out_is_of_its_type()
+    // So it is of the datum that the payload was, or the key form.
+    ensures fits { WhatGoesOutFits }
 {}
