@@ -4,4 +4,5 @@ pub mod KeptLaws
 pub mod MoveLaws
 pub mod RoomLaws
 pub mod JumpLaws
+pub mod NextLaws
 pub mod ReaderLaws

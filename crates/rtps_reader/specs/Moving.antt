@@ -10,7 +10,7 @@ use Rattle.dds_base.specs.Bounds.{window_width}
 use Rattle.dds_base.specs.Presence.{has_room}
 use Rattle.dds_base.specs.Counts.{is_later}
 use Rattle.dds_base.specs.Places.{Match, coming}
-use Rattle.rtps_reader.specs.Tracked.{Tracked, Held, is_named, is_passable}
+use Rattle.rtps_reader.specs.Tracked.{Tracked, Held, is_missing, is_named, is_passable}
 use Rattle.rtps_sets.specs.NumberSet.{NumberSet}
 use Rattle.rtps_reader.specs.declared.step.HeartbeatSeen.{HeartbeatSeen}
 use Rattle.rtps_reader.specs.declared.step.Step.{Step}
@@ -66,6 +66,13 @@ pub record HandsOn (match : Match) (before after : List Happening → Type 0) (o
 abbrev pub FindsNoRoom : Match → (List Happening → Type 0) → Tracked → Type 0
 FindsNoRoom match before t = (change : Change) (h : List Happening) → t.slot t.place ≡ Held change → before h
     → has_room match.qos h (coming match (record { place = t.place; happened = h }) change) ≡ false
+
+-- the number is the next one, and nothing is known of it, nor of the one behind it
+pub record IsNext (t : Tracked) (number : ℕ) : Type 0 where
+  pub here : number ≡ t.place
+  pub first : t.first ≤ number
+  pub missing : is_missing (t.slot number) ≡ true
+  pub behind : is_missing (t.slot (number + 1)) ≡ true
 
 -- what moving the place did: for all that the sink stood for, it stands for what the way entered
 abbrev pub Moves : Match → (List Happening → Type 0) → (List Happening → Type 0) → Tracked → ℕ → List PassedRun

@@ -11,7 +11,7 @@ ghost use Rattle.dds_base.specs.Counts.{is_later};
 ghost use Rattle.rtps_sets.specs.Window.{mark_of, window_place, can_mark};
 ghost use Rattle.rtps_sets.specs.declared.window.Mark.TheVariants as mark;
 ghost use Rattle.rtps_reader.specs.Tracked.{fresh, is_missing, is_named, is_open, is_passable, may_take, with_data, with_gap, with_heartbeat, SameTracked};
-ghost use Rattle.rtps_reader.specs.Moving.{ArePassable, FindsNoRoom, PassesOver, HandsOn, Moves, HeartbeatMoves, JumpMoves, HasMoved, match_of, mark_named, CanMove};
+ghost use Rattle.rtps_reader.specs.Moving.{ArePassable, FindsNoRoom, IsNext, PassesOver, HandsOn, Moves, HeartbeatMoves, JumpMoves, HasMoved, match_of, mark_named, CanMove};
 ghost use Rattle.rtps_reader.specs.Jump.{run_of, passed_from};
 ghost use Rattle.rtps_reader.specs.Advance.{Stays};
 ghost use Rattle.rtps_reader.specs.HeldChanges.{count_held};
@@ -460,6 +460,51 @@ impl WriterProxy {
         }
     }
 
+    /// Whether a number is the next one, and nothing is known of it, nor of the one behind it.
+    fn is_next(&self, number: Sn) -> bool
+        requires sound { IsSound self.now }
+        ensures next { result ≡ true → IsNext (tracked self.now) number }
+    {
+        let place = self.window.place().number();
+        number.number() == place
+            && self.first <= place
+            && self.is_missing(place)
+            && self.is_missing(place + 1)
+    }
+
+    /// The next change was received, behind which nothing waits: it comes, or is held where there is no room for it.
+    #[inline(always)]
+    fn take_next<S: Sink>(
+        &mut self,
+        sink: &mut S,
+        source: &Source,
+        number: Sn,
+        change: Change,
+    ) -> Step
+        requires sound { IsSound self.old }
+        requires matched { IsMatched (S.qos sink.old) source.now.publication }
+        requires next { IsNext (tracked self.old) number }
+        requires small { number ≤ max_sn }
+        requires spare { 1 ≤ S.spare sink.old }
+        ensures sound { IsSound self.new }
+        ensures quiet { (result.heard ≡ false) × (result.acknack ≡ None) }
+        ensures qos { S.qos sink.new ≡ S.qos sink.old }
+        ensures moves { Moves (match_of (S.qos sink.old) source.now) (S.stands sink.old)
+            (S.stands sink.new)
+            (with_data number change (tracked self.old)) result.to result.passed
+            (tracked self.new) }
+        ensures none { result.passed ≡ [] }
+    {
+        let coming = arrival_of(source, number, change);
+        if !sink.room(&coming) {
+            self.hold(number, coming.change);
+            return self.idle();
+        }
+        sink.come(coming).unwrap();
+        self.window.pass(Sn::new(number.number() + 1));
+        self.idle()
+    }
+
     /// A change was received.
     pub fn on_data<S: Sink>(
         &mut self,
@@ -481,6 +526,9 @@ impl WriterProxy {
             self.old self.new sink.old sink.new result }
     {
         self.reserve(sink)?;
+        if self.is_next(number) {
+            return Ok(self.take_next(sink, source, number, change));
+        }
         self.hold(number, change);
         Ok(self.moved(sink, source))
     }
