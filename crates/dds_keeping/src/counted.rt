@@ -38,18 +38,22 @@ impl Keeping for Counted {
         Counted
     }
 
+    #[inline(always)]
     fn tell(event: &Event) -> Result<Snapshot<Event>, Code> {
         Ok(Snapshot::of(event))
     }
 
+    #[inline(always)]
     fn own(event: Event) -> Snapshot<Event> {
         Snapshot::of(&event)
     }
 
+    #[inline(always)]
     fn reserve(&mut self, _: usize) -> Result<(), Code> {
         Ok(())
     }
 
+    #[inline(always)]
     fn step<F: Filter, L: Listener>(
         core: &mut Core<F, L>,
         event: Event,
@@ -59,6 +63,7 @@ impl Keeping for Counted {
         (output, twin)
     }
 
+    #[inline(always)]
     fn push(&mut self, _: u32, _: Snapshot<Event>, _: Snapshot<Output>) {}
 }
 
@@ -69,6 +74,7 @@ impl Handing for Counted {
 
     ghost answers = { λ a o. a ≡ o };
 
+    #[inline(always)]
     fn hand(&mut self, _: u32, _: Snapshot<Event>, output: Output) -> Output {
         output
     }

@@ -49,6 +49,7 @@ impl<N: Named<F, L>, F: Filter, L: Listener, T: Keeping> Shared<N, F, L, T, Coun
     ///
     /// `Memory` where 2^64 - 1 events were done, or nearly, or a growth of what is recorded was refused: then nothing
     /// happened. What the peer itself refuses, for want of memory too, is an answer.
+    #[inline(always)]
     pub fn call<R: Wait>(&self, rt: &R, pass: &mut FlatPass<N>, call: Call) -> Result<Output, Code>
         // The pass has done one event more: this call, with this answer.
         ensures ok { IfOk result (λ o. Lists pass.old pass.new (event.Call call) o) }
@@ -66,6 +67,7 @@ impl<N: Named<F, L>, F: Filter, L: Listener, T: Keeping> Shared<N, F, L, T, Coun
     /// # Errors
     ///
     /// As of `call`.
+    #[inline(always)]
     pub fn tick<R: Wait>(&self, rt: &R, pass: &mut FlatPass<N>, now: Moment) -> Result<Output, Code>
         // The pass has done one event more: this tick, with this answer.
         ensures ok { IfOk result (λ o. Lists pass.old pass.new (event.Tick now) o) }
@@ -152,6 +154,7 @@ impl<N: Named<F, L>, F: Filter, L: Listener> Shared<N, F, L, Counted, Counted> {
     /// # Errors
     ///
     /// As of `call`.
+    #[inline(always)]
     pub fn deliver<R: Wait>(
         &self,
         rt: &R,
@@ -166,8 +169,13 @@ impl<N: Named<F, L>, F: Filter, L: Listener> Shared<N, F, L, Counted, Counted> {
         ensures refused { IfErr result (λ code. code ≡ Memory) }
         ensures err { OnErr result (IsAsBefore pass.old pass.new) }
     {
-        let output = self.locked.lock(rt).deliver(&self.word, pass, octets)?;
-        self.changed.notify_all();
+        let mut locked = self.locked.lock(rt);
+        let wakes = locked.is_awaited();
+        let output = locked.deliver(&self.word, pass, octets)?;
+        drop(locked);
+        if wakes {
+            self.changed.notify_all();
+        }
         Ok(output)
     }
 }

@@ -176,6 +176,7 @@ impl<N: Named<F, L>, F: Filter, L: Listener, T: Keeping> Locked<N, F, L, T> {
     }
 
     // Whether one event more can be counted, and behind it the ends of all waits.
+    #[inline(always)]
     fn has_room(&self) -> bool
         ensures room { result ≡ true
             → in_use_of self.now.core + length self.now.entries + 2 ≤ 18446744073709551615 }
@@ -183,7 +184,16 @@ impl<N: Named<F, L>, F: Filter, L: Listener, T: Keeping> Locked<N, F, L, T> {
         self.tally.room() >= u64::from(self.core.in_use()) + 2
     }
 
+    /// Whether somebody waits in a WaitSet, so that an event has to wake who waits.
+    #[inline(always)]
+    pub fn is_awaited(&self) -> bool
+        ensures awaited { IsTrue result ↔ 0 < in_use_of self.now.core }
+    {
+        0 < self.core.in_use()
+    }
+
     /// Does one event, and enters it in the history and in the pass's list.
+    #[inline(always)]
     pub fn event<P: Handing>(
         &mut self,
         word: &Word<N, Entry>,
@@ -218,6 +228,7 @@ impl<N: Named<F, L>, F: Filter, L: Listener, T: Keeping> Locked<N, F, L, T> {
 
 impl<N: Named<F, L>, F: Filter, L: Listener> Locked<N, F, L, Counted> {
     /// Delivers these octets, which stay where they are, and enters that, in proofs alone.
+    #[inline(always)]
     pub fn deliver(
         &mut self,
         word: &Word<N, Entry>,

@@ -148,6 +148,7 @@ impl<N: Ledger + HasWord, P: Handing> Pass<N, P> {
     }
 
     // Makes room for so many more entries.
+    #[inline(always)]
     pub(crate) fn reserve(&mut self, additional: usize) -> Result<(), Code>
         ensures room { OnOk result (additional ≤ self.new.spare) }
         ensures spare { self.old.spare ≤ self.new.spare }
@@ -158,6 +159,7 @@ impl<N: Ledger + HasWord, P: Handing> Pass<N, P> {
     }
 
     // Enters what happened at an event, counts it, and gives what the caller gets.
+    #[inline(always)]
     pub(crate) fn record<B: Adding<Entry>>(
         &mut self,
         tally: &mut Tally<N>,
@@ -257,6 +259,7 @@ impl<N: Ledger + HasWord> Pass<N, Recorded> {
 
 impl<N: Ledger + HasWord> Pass<N, Counted> {
     // Counts what happened at the delivery of these octets.
+    #[inline(always)]
     pub(crate) fn record_delivery<B: Adding<Entry>>(
         &mut self,
         tally: &mut Tally<N>,

@@ -21,18 +21,21 @@ pub struct Said {
     pub memory: bool,
 }
 
+#[inline(always)]
 fn is_done(reply: &Reply) -> bool
     ensures done { IsTrue result ↔ (reply.now ≡ reply_of.Done) }
 {
     matches!(reply, Reply::Done)
 }
 
+#[inline(always)]
 fn is_waiting(reply: &Reply) -> bool
     ensures waiting { IsTrue result ↔ (reply.now ≡ reply_of.Waiting) }
 {
     matches!(reply, Reply::Waiting)
 }
 
+#[inline(always)]
 fn found_no_memory(reply: &Reply) -> bool
     ensures missed { IsTrue result ↔ (reply.now ≡ reply_of.Refused Memory) }
 {
@@ -41,6 +44,7 @@ fn found_no_memory(reply: &Reply) -> bool
 
 impl Said {
     /// What this reply says to one who waits.
+    #[inline(always)]
     pub fn of(reply: &Reply) -> Said
         ensures says { Says reply.now result }
     {

@@ -182,7 +182,8 @@ impl<N: Named<F, L>, F: Filter, L: Listener, T: Keeping, P: Handing> Shared<N, F
     ///
     /// `Memory` where a growth of what is recorded was refused, or 2^64 - 1 events were done, or nearly: then nothing
     /// happened. What the peer itself refuses is an answer.
-    // It wakes those who wait, unless it is a look: that changes no condition.
+    // It wakes those who wait, where somebody does, unless it is a look: that changes no condition.
+    #[inline(always)]
     pub fn event<R: Wait>(
         &self,
         rt: &R,
@@ -199,8 +200,11 @@ impl<N: Named<F, L>, F: Filter, L: Listener, T: Keeping, P: Handing> Shared<N, F
         ensures err { OnErr result (IsAsBefore pass.old pass.new) }
     {
         let is_look = matches!(event, Event::Call(Call::WaitLook { .. }));
-        let did = self.locked.lock(rt).event(&self.word, pass, event)?;
-        if !is_look {
+        let mut locked = self.locked.lock(rt);
+        let wakes = !is_look && locked.is_awaited();
+        let did = locked.event(&self.word, pass, event)?;
+        drop(locked);
+        if wakes {
             self.changed.notify_all();
         }
         Ok(did.answer)

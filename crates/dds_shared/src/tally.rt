@@ -52,6 +52,7 @@ impl<N: Ledger + HasWord> Tally<N> {
     }
 
     /// How many more can be counted.
+    #[inline(always)]
     pub fn room(&self) -> u64
         ensures room { result + length self.now.log ≡ 18446744073709551615 }
     {
@@ -79,6 +80,7 @@ impl<N: Ledger + HasWord> Tally<N> {
     }
 
     /// Counts one entry more, which happened already, in the seat of this hand.
+    #[inline(always)]
     pub fn count<B: Adding<Entry>>(
         &mut self,
         word: &Word<N, Entry>,
