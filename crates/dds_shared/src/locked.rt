@@ -2,7 +2,7 @@
 //!
 //! Passes are this project's own.
 
-ghost use Rattle.std.specs.Prelude.{◌≡◌, ◌↔◌, ℕ, ◌++◌, ◌∷◌, [], ◌+◌, ◌<◌, ◌≤◌, Some, None, length, true, All, OnOk, OnErr, IfErr, IfOk, IsTrue};
+ghost use Rattle.std.specs.Prelude.{◌≡◌, ◌↔◌, ℕ, ◌++◌, ◌∷◌, [], ◌+◌, ◌<◌, ◌≤◌, Some, None, length, nat_lt, true, All, OnOk, OnErr, IfErr, IfOk, IsTrue};
 ghost use Rattle.dds_base.specs.declared.code.Code.TheVariants.{Memory, OutOfResources};
 ghost use Rattle.dds_machine.specs.declared.call.Call.TheVariants.{WaitLook};
 ghost use Rattle.dds_protocol.specs.declared.event.Event.TheVariants as event_of;
@@ -187,7 +187,7 @@ impl<N: Named<F, L>, F: Filter, L: Listener, T: Keeping> Locked<N, F, L, T> {
     /// Whether somebody waits in a WaitSet, so that an event has to wake who waits.
     #[inline(always)]
     pub fn is_awaited(&self) -> bool
-        ensures awaited { IsTrue result ↔ 0 < in_use_of self.now.core }
+        ensures awaited { result ≡ nat_lt 0 (in_use_of self.now.core) }
     {
         0 < self.core.in_use()
     }
