@@ -2,22 +2,23 @@
 //!
 //! RTPS 2.5, 8.3.7 (INFO_DST, INFO_TS, DATA) and 9.4.
 
-ghost use Rattle.std.specs.Prelude.{◌≡◌, [], ◌∷◌, ◌++◌, Some, OnOk, IfOk, IfErr};
+ghost use Rattle.std.specs.Prelude.{◌≡◌, [], ◌∷◌, ◌++◌, length, Some, OnOk, IfOk, IfErr};
 ghost use Rattle.dds_base.specs.declared.endianness.Endianness.TheVariants.{Little};
 ghost use Rattle.rtps_wire.specs.declared.submessage.Submessage.TheVariants as submessage;
 ghost use Rattle.rtps_wire.specs.Data.{content_flags, data_head};
 ghost use Rattle.rtps_wire.specs.Frames.{frame_text};
-ghost use Rattle.rtps_wire.specs.Messages.{IsWritable, spelling_of};
-ghost use Rattle.rtps_wire.specs.Names.{id_data, extra_flags, least_octets_to_inline_qos};
+ghost use Rattle.rtps_wire.specs.Messages.{IsWritable, header_text, spelling_of};
+ghost use Rattle.rtps_wire.specs.Names.{id_data, extra_flags, least_octets_to_inline_qos, minor_version, vendor_unknown};
 ghost use Rattle.rtps_wire.specs.Submessages.{spelling_of_submessage};
 
 use crate::data::{Data, DataContent, content_flags, content_len, put_content};
 use crate::field::halves_of;
 use crate::names::{
     EXTRA_FLAGS, FLAG_ENDIANNESS, ID_DATA, ID_INFO_DST, ID_INFO_TS, LEAST_OCTETS_TO_INLINE_QOS,
-    LEN_DATA_HEAD, LEN_HEADER, LEN_MOMENT, LEN_PREFIX, LEN_SUBMESSAGE_HEADER,
+    LEN_DATA_HEAD, LEN_HEADER, LEN_MOMENT, LEN_PREFIX, LEN_SUBMESSAGE_HEADER, MAJOR_VERSION,
+    MINOR_VERSION, VENDOR_UNKNOWN,
 };
-use crate::write::{put_header, put_zeros, zeros_after};
+use crate::write::{put_zeros, zeros_after};
 use dds_base::{Code, GuidPrefix};
 use std::alloc::Global;
 
@@ -28,15 +29,15 @@ const LEN_BEFORE_DATA: usize = LEN_HEADER
     + LEN_SUBMESSAGE_HEADER
     + LEN_MOMENT;
 
-/// Appends an INFO_DST.
-fn put_info_dst(out: &mut Vec<u8>, to: &GuidPrefix) -> Result<(), Code>
-    ensures ok { OnOk result
-        (out.new.items ≡ out.old.items ++ spelling_of_submessage (submessage.InfoDst to.now)) }
-    ensures memory { IfErr result (λ e. e ≡ Code.Memory) }
+/// The octets of a prefix, four at a time.
+fn words_of(prefix: &GuidPrefix) -> ([u8; 4], [u8; 4], [u8; 4])
+    ensures octets { (result.0 ++ result.1) ++ result.2 ≡ prefix.now.0 }
+    ensures len { length prefix.now.0 ≡ 12 }
 {
-    out.extend_from_slice(&[ID_INFO_DST, FLAG_ENDIANNESS, LEN_PREFIX as u8, 0])?;
-    out.extend_from_slice(&to.0)?;
-    Ok(())
+    // This shows the prover how many octets a prefix has.
+    let _octets = prefix.as_slice();
+    let [a, b, c, d, e, f, g, h, i, j, k, l] = prefix.0;
+    ([a, b, c, d], [e, f, g, h], [i, j, k, l])
 }
 
 /// The header of a DATA, whose body takes so many octets.
@@ -45,6 +46,31 @@ fn data_header(content: &DataContent, len: u16) -> [u8; 4]
 {
     let [low, high] = len.to_le_bytes();
     [ID_DATA, content_flags(content), low, high]
+}
+
+/// Appends the header of a message, and its INFO_DST.
+fn put_head(out: &mut Vec<u8>, prefix: &GuidPrefix, to: &GuidPrefix) -> Result<(), Code>
+    ensures ok { OnOk result (out.new.items
+        ≡ out.old.items ++ (header_text minor_version vendor_unknown prefix.now
+        ++ spelling_of_submessage (submessage.InfoDst to.now))) }
+    ensures memory { IfErr result (λ e. e ≡ Code.Memory) }
+{
+    let [vendor, product] = VENDOR_UNKNOWN;
+    let (from_first, from_second, from_third) = words_of(prefix);
+    let (to_first, to_second, to_third) = words_of(to);
+    let words = [
+        [b'R', b'T', b'P', b'S'],
+        [MAJOR_VERSION, MINOR_VERSION, vendor, product],
+        from_first,
+        from_second,
+        from_third,
+        [ID_INFO_DST, FLAG_ENDIANNESS, LEN_PREFIX as u8, 0],
+        to_first,
+        to_second,
+        to_third,
+    ];
+    out.extend_from_slice(words.as_flattened())?;
+    Ok(())
 }
 
 /// Appends the INFO_TS of this moment, and a DATA up to its number, whose body takes so many octets.
@@ -107,8 +133,7 @@ pub fn write_change(
     let len = LEN_DATA_HEAD + content_len(&change.content);
     let zeros = zeros_after(len);
     let mut out = Vec::with_capacity(alloc, LEN_BEFORE_DATA + LEN_SUBMESSAGE_HEADER + len + zeros)?;
-    put_header(&mut out, prefix)?;
-    put_info_dst(&mut out, to)?;
+    put_head(&mut out, prefix, to)?;
     put_front(&mut out, moment, change, (len + zeros) as u16)?;
     put_content(&mut out, &change.content)?;
     put_zeros(&mut out, zeros)?;

@@ -20,6 +20,16 @@ pub fn put_key_form(out: &mut Vec<u8>, key: &Key) -> Result<(), Code>
     Ok(())
 }
 
+/// The octets of a key, four at a time.
+fn words_of(key: &Key) -> ([u8; 4], [u8; 4], [u8; 4], [u8; 4])
+    ensures { ((result.0 ++ result.1) ++ result.2) ++ result.3 ≡ key.now.0 }
+{
+    // This shows the prover how many octets a key has.
+    let _octets = key.as_slice();
+    let [a, b, c, d, e, f, g, h, i, j, k, l, m, n, o, p] = key.0;
+    ([a, b, c, d], [e, f, g, h], [i, j, k, l], [m, n, o, p])
+}
+
 /// Appends the datum. Its value is copied into the octets at once.
 pub fn put_datum(out: &mut Vec<u8>, datum: &DatumRef) -> Result<(), Code>
     requires { length datum.now.value ≤ MAX_VALUE }
@@ -27,8 +37,19 @@ pub fn put_datum(out: &mut Vec<u8>, datum: &DatumRef) -> Result<(), Code>
     ensures memory { IfErr result (λ e. e ≡ Code.Memory) }
 {
     let value = datum.value();
-    put_key_form(out, &datum.key())?;
-    out.extend_from_slice(&(value.len() as u32).to_le_bytes())?;
+    let (first, second, third, fourth) = words_of(&datum.key());
+    let len = (value.len() as u32).to_le_bytes();
+    let [scheme, form] = CDR_LE;
+    let [unused, padding] = NO_OPTIONS;
+    let words = [
+        [scheme, form, unused, padding],
+        first,
+        second,
+        third,
+        fourth,
+        len,
+    ];
+    out.extend_from_slice(words.as_flattened())?;
     out.extend_from_slice(value)?;
     Ok(())
 }
