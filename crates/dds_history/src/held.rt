@@ -349,6 +349,10 @@ impl Kept {
         ensures same { (last : ℕ) → Holds last (state self.old)
             → Holds last (state self.new) × (shown (state self.new) ≡ shown (state self.old)) }
     {
+        // Then nothing is dropped.
+        if let HistoryQos::KeepAll = self.policy {
+            return;
+        }
         self.let_go(0);
         if self.is_sparse() {
             retain_kept(&mut self.entries, self.policy, &self.keys);
