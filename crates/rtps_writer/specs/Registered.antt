@@ -2,10 +2,21 @@
 -- has to be believed.
 --
 -- DDS 1.4, 2.2.2.4 (register_instance, unregister_instance).
-use Rattle.std.specs.Prelude.{Bool, List}
+use Rattle.std.specs.Prelude.{ℕ, Bool, List}
 use Rattle.std.specs.List.{list_any}
+use Rattle.indexmap.specs.IndexSet.{spare}
 use Rattle.dds_base.specs.declared.key.Key.{Key}
 use Rattle.dds_base.specs.Happening.{same_key}
+use Rattle.rtps_writer.specs.declared.registration.RegisteredInstances.TheInside.{Inside}
+
+-- their keys, and for how many more there is memory
+pub record Instances : Type 0 where
+  pub keys : List Key
+  pub room : ℕ
+
+-- what a contract sees of them
+abbrev pub instances_of : Inside → Instances
+instances_of a = record { keys = a.set.keys; room = spare a.set }
 
 -- the instance is one of these
 abbrev pub is_among : List Key → Key → Bool

@@ -2,72 +2,135 @@
 //!
 //! DDS 1.4, 2.2.2.4 (register_instance, unregister_instance).
 
-ghost use Rattle.std.specs.Prelude.{◌≡◌, ◌<◌, ◌||◌, ◌⊎◌, not, false, true, IsOk, OnErr, OnOk, if◌then◌else◌};
-ghost use Rattle.indexmap.specs.IndexSet.{spare};
+ghost use Rattle.std.specs.Prelude.{◌≡◌, ◌<◌, ◌||◌, ◌⊎◌, [], not, false, true, slice_get, Some, IsOk, OnErr, OnOk, if◌then◌else◌};
 ghost use Rattle.dds_base.specs.Happening.{same_key, is_unregister};
 ghost use Rattle.rtps_writer.specs.Registered.{is_among};
 
 use dds_base::{ChangeKind, Key};
 use indexmap::IndexSet;
-use std::alloc::{AllocError, AllocFailed};
+use std::alloc::{AllocError, AllocFailed, Global};
+use std::marker::Model;
 
-/// Whether the instance is registered.
-pub fn is_registered(keys: &IndexSet<Key>, key: Key) -> bool
-    ensures { result ≡ is_among keys.now.keys key }
-{
-    keys.contains(&key)
+/// The instances that a writer has registered.
+#[derive(Drop)]
+pub struct RegisteredInstances {
+    set: IndexSet<Key>,
+    /// The place of the instance of the last change: its key is compared before a key is hashed.
+    latest: usize,
 }
 
-/// Registers an instance, whether or not it is registered.
-pub fn register(keys: &mut IndexSet<Key>, key: Key) -> Result<(), AllocFailed<Key>>
-    ensures registered { OnOk result ((k : Key)
-        → is_among keys.new.keys k ≡ (same_key key k || is_among keys.old.keys k)) }
-    ensures err { OnErr result (keys.new.keys ≡ keys.old.keys) }
-    ensures absent { OnErr result (is_among keys.old.keys key ≡ false) }
-    ensures succeeds { 0 < spare keys.old → IsOk result }
-{
-    keys.insert(key)?;
-    Ok(())
+impl Model for RegisteredInstances {
+    ghost use Rattle.rtps_writer.specs.Registered.{Instances, instances_of};
+
+    ghost Value = { Instances };
+
+    ghost view = { instances_of };
 }
 
-/// Ends the registration of an instance.
-pub fn unregister(keys: &mut IndexSet<Key>, key: Key)
-    ensures { (k : Key)
-        → is_among keys.new.keys k
-        ≡ (if same_key key k then false else is_among keys.old.keys k) }
+/// Whether a key stands at this place.
+fn is_at(set: &IndexSet<Key>, place: usize, key: Key) -> bool
+    ensures { result ≡ true → slice_get set.now.keys place ≡ Some key }
 {
-    keys.swap_remove(&key);
-}
-
-/// Makes the room that a change of this kind needs: one that registers an instance which is not registered yet.
-pub fn reserve(keys: &mut IndexSet<Key>, key: Key, kind: ChangeKind) -> Result<(), AllocError>
-    ensures keys { keys.new.keys ≡ keys.old.keys }
-    ensures room { OnOk result (is_unregister kind ≡ false
-        → (0 < spare keys.new) ⊎ (is_among keys.new.keys key ≡ true)) }
-    ensures wants { OnErr result
-        ((is_unregister kind ≡ false) × (is_among keys.old.keys key ≡ false)) }
-{
-    if kind.is_unregister() {
-        return Ok(());
-    }
-    match keys.reserve(1) {
-        Ok(()) => Ok(()),
-        // Most sets have room: which instances there are is looked up only where there is none.
-        Err(_) if is_registered(keys, key) => Ok(()),
-        Err(error) => Err(error),
+    match set.get_index(place) {
+        Some(other) => *other == key,
+        None => false,
     }
 }
 
-/// What a change of this kind does: a write and a dispose register its instance, the others end its registration.
-pub fn note(keys: &mut IndexSet<Key>, key: Key, kind: ChangeKind)
-    requires { is_unregister kind ≡ false
-        → (0 < spare keys.old) ⊎ (is_among keys.old.keys key ≡ true) }
-    ensures { (k : Key) → is_among keys.new.keys k
-        ≡ (if same_key key k then not (is_unregister kind) else is_among keys.old.keys k) }
-{
-    if kind.is_unregister() {
-        unregister(keys, key);
-    } else {
-        register(keys, key).unwrap();
+impl RegisteredInstances {
+    /// None.
+    pub fn new(alloc: Global) -> RegisteredInstances
+        ensures none { result.keys ≡ [] }
+    {
+        RegisteredInstances {
+            set: IndexSet::new(alloc),
+            latest: 0,
+        }
+    }
+
+    /// Whether the instance is registered.
+    pub fn has(&self, key: Key) -> bool
+        ensures { result ≡ is_among self.now.keys key }
+    {
+        self.set.contains(&key)
+    }
+
+    /// Whether it is the instance of the last change, and registered.
+    fn is_latest(&self, key: Key) -> bool
+        ensures { result ≡ true → is_among self.now.keys key ≡ true }
+    {
+        is_at(&self.set, self.latest, key)
+    }
+
+    /// Registers an instance, whether or not it is registered.
+    pub fn register(&mut self, key: Key) -> Result<(), AllocFailed<Key>>
+        ensures registered { OnOk result ((k : Key)
+            → is_among self.new.keys k ≡ (same_key key k || is_among self.old.keys k)) }
+        ensures err { OnErr result (self.new.keys ≡ self.old.keys) }
+        ensures absent { OnErr result (is_among self.old.keys key ≡ false) }
+        ensures succeeds { 0 < self.old.room → IsOk result }
+    {
+        self.set.insert(key)?;
+        Ok(())
+    }
+
+    /// Ends the registration of an instance.
+    fn unregister(&mut self, key: Key)
+        ensures { (k : Key)
+            → is_among self.new.keys k
+            ≡ (if same_key key k then false else is_among self.old.keys k) }
+    {
+        self.set.swap_remove(&key);
+    }
+
+    /// Makes the room that a change of this kind needs: one that registers an instance which is not registered yet.
+    pub fn reserve(&mut self, key: Key, kind: ChangeKind) -> Result<(), AllocError>
+        ensures keys { self.new.keys ≡ self.old.keys }
+        ensures room { OnOk result (is_unregister kind ≡ false
+            → (0 < self.new.room) ⊎ (is_among self.new.keys key ≡ true)) }
+        ensures wants { OnErr result
+            ((is_unregister kind ≡ false) × (is_among self.old.keys key ≡ false)) }
+    {
+        if kind.is_unregister() || self.is_latest(key) {
+            return Ok(());
+        }
+        match self.set.reserve(1) {
+            Ok(()) => Ok(()),
+            // Most sets have room: which instances there are is looked up only where there is none.
+            Err(_) if self.has(key) => Ok(()),
+            Err(error) => Err(error),
+        }
+    }
+
+    /// Registers the instance of a change, for which there is room.
+    fn keep(&mut self, key: Key)
+        requires { (0 < self.old.room) ⊎ (is_among self.old.keys key ≡ true) }
+        ensures { (k : Key)
+            → is_among self.new.keys k ≡ (if same_key key k then true else is_among self.old.keys k) }
+    {
+        if self.is_latest(key) {
+            return;
+        }
+        match self.set.get_index_of(&key) {
+            Some(place) => self.latest = place,
+            None => {
+                self.latest = self.set.len();
+                self.register(key).unwrap();
+            }
+        }
+    }
+
+    /// What a change of this kind does: a write and a dispose register its instance, the others end its registration.
+    pub fn note(&mut self, key: Key, kind: ChangeKind)
+        requires { is_unregister kind ≡ false
+            → (0 < self.old.room) ⊎ (is_among self.old.keys key ≡ true) }
+        ensures { (k : Key) → is_among self.new.keys k
+            ≡ (if same_key key k then not (is_unregister kind) else is_among self.old.keys k) }
+    {
+        if kind.is_unregister() {
+            self.unregister(key);
+        } else {
+            self.keep(key);
+        }
     }
 }

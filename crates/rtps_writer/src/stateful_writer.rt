@@ -19,12 +19,11 @@ ghost use Rattle.rtps_writer.specs.WriterState.{WantsRoom, WriterState, entering
 use crate::answer::{Answer, Answered, put_answers};
 use crate::heartbeat::HeartbeatDue;
 use crate::liveliness::Liveliness;
-use crate::registration::{is_registered, note, register, reserve};
+use crate::registration::RegisteredInstances;
 use dds_base::{
     Change, Code, HistoryQos, Key, LivelinessLostStatus, MAX_COUNT, Moment, Sn, is_later,
 };
 use dds_history::History;
-use indexmap::IndexSet;
 use rtps_sets::SnSet;
 use std::alloc::Global;
 use std::marker::Model;
@@ -48,7 +47,7 @@ pub struct StatefulWriter {
     alloc: Global,
     history: History,
     /// The instances that it has registered.
-    registered: IndexSet<Key>,
+    registered: RegisteredInstances,
     /// Of each reader, the count of the last ACKNACK that was applied.
     counts: Vec<Option<i32>>,
     /// How many HEARTBEAT counts were used.
@@ -115,7 +114,7 @@ impl StatefulWriter {
         Ok(StatefulWriter {
             alloc,
             history,
-            registered: IndexSet::new(alloc),
+            registered: RegisteredInstances::new(alloc),
             counts,
             counts_used: 0,
             liveliness: Liveliness::new(lease),
@@ -131,7 +130,7 @@ impl StatefulWriter {
         ensures registered { (s : WriterState) → StandsFor self.now s
             → result ≡ is_key_registered key s.written }
     {
-        is_registered(&self.registered, key)
+        self.registered.has(key)
     }
 
     /// Registers an instance, whether or not it is registered.
@@ -155,7 +154,7 @@ impl StatefulWriter {
         ensures new { (s : WriterState) → StandsFor self.old s
             → OnErr result (is_key_registered key s.written ≡ false) }
     {
-        register(&mut self.registered, key)?;
+        self.registered.register(key)?;
         Ok(())
     }
 
@@ -203,12 +202,12 @@ impl StatefulWriter {
             return Err(code);
         }
         let (key, kind, moment) = (change.key, change.kind, change.source_timestamp);
-        if reserve(&mut self.registered, key, kind).is_err() {
+        if self.registered.reserve(key, kind).is_err() {
             return Err(Code::Memory);
         }
         match self.history.append(change) {
             Ok(number) => {
-                note(&mut self.registered, key, kind);
+                self.registered.note(key, kind);
                 self.liveliness.assert_at(moment);
                 Ok(number)
             }

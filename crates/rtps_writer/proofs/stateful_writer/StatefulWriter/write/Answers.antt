@@ -21,7 +21,7 @@ returns-then-is_err-clause-refused c = λ s given.
 pub returns-in-Ok-clause-ok : goal.returns-in-Ok-clause-ok
 returns-in-Ok-clause-ok c = λ s given.
     let h = history_at _ c.args.self.now s c.self.view_is given in
-    changes _ c.args.self.now s c.self.view_is given c.reserve.new.keys.keys c.note.new.keys.keys c.append.new.self
+    changes _ c.args.self.now s c.self.view_is given c.reserve.new.self.keys c.note.new.self.keys c.append.new.self
     c.args.change c.reserve.ensures.keys c.note.ensures (c.in-Ok.ensures.ok (history_of s) h).2 c.assert_at.new.self
     (λ lives. c.assert_at.ensures.changed s.lease s.written c.args.change lives refl)
 
