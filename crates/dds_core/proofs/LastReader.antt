@@ -1,6 +1,6 @@
 -- A submessage that the peer's last reader alone may be told, by the rules of the protocol.
-use Rattle.std.proofs.Common.{◌≡◌, ◌≤◌, ◌<◌, ◌+◌, ℕ, zero, suc, List, Option, Some, None, length, slice_get, set, length-set, refl, ap, sym, ◌∙◌, subst, arith, ⊎_elim}
-use Rattle.std.proofs.lemmas.Option.{same_Some, slice_get_within}
+use Rattle.std.proofs.Common.{◌≡◌, ◌≤◌, ◌<◌, ◌+◌, ℕ, zero, suc, List, Option, Some, None, length, slice_get, get_or, set, length-set, refl, ap, sym, ◌∙◌, subst, arith, ⊎_elim}
+use Rattle.std.proofs.lemmas.Option.{same_Some, get_or_from_slice_get, slice_get_within}
 use Rattle.std.proofs.lemmas.Bool.{cases_lt}
 use Rattle.dds_base.specs.declared.guid.GuidPrefix.{GuidPrefix}
 use Rattle.rtps_wire.specs.declared.submessage.Submessage.{Submessage}
@@ -10,9 +10,9 @@ use Rattle.dds_core.specs.declared.effects.Effects.{Effects}
 use Rattle.dds_core.specs.declared.reader_end.Ready.{Ready}
 use Rattle.dds_core.specs.Kept.{ReaderKept, PeerKept}
 use Rattle.dds_core.specs.Readiness.{AreReady, IsAlike, IsFirstNamed, IsPrepared, IsReadyFor}
-use Rattle.dds_core.specs.Receiving.{TakesAll, TakesAt, only_last}
+use Rattle.dds_core.specs.Receiving.{TakesAll, TakesAt, StandsAsWell, only_last}
 use Rattle.dds_core.proofs.TakenSoFar.{TakesSome}
-use Rattle.dds_core.proofs.Ready.{named_here, ready_for, set-cases, takes_all}
+use Rattle.dds_core.proofs.Ready.{all_alike_self, alike_core, alike_more, named_here, ready_for, set-cases, takes_all}
 use Rattle.dds_core.proofs.Turns.{takes_none, takes_skip, takes_more}
 
 last_count : (index : ℕ) (one : Option Ready) → length (only_last index one) ≡ index + 1
@@ -95,3 +95,23 @@ last_ready own at s readers now first k k' one h last there is alike prepared = 
       subst (λ (y : Option Ready). IsReadyFor own at s x y) none (h.before i x before o.1))
       (set-cases readers first.index k' i x (subst (λ (rs : List ReaderKept). slice_get rs i ≡ Some x) is at_x));
 }
+
+-- more memory for one reader leaves all that the peer stands for
+pub last_stands : (old inside : PeerKept) → inside ≡ old → (index : ℕ) (k now k' : ReaderKept)
+    → slice_get old.readers index ≡ Some k → now ≡ k → IsAlike now k'
+    → StandsAsWell old (record inside { readers = set inside.readers index k' })
+last_stands old inside view index k now k' at is alike =
+    let there : slice_get inside.readers index ≡ Some k =
+    subst (λ (q : PeerKept). slice_get q.readers index ≡ Some k) (sym view) at in
+    subst (λ (q : PeerKept). StandsAsWell q (record inside { readers = set inside.readers index k' })) view
+    (alike_core inside (set inside.readers index k')
+    (alike_more inside.readers inside.readers index k k' (all_alike_self inside.readers)
+    (slice_get_within inside.readers index k there) (get_or_from_slice_get inside.readers index k k there)
+    (subst (λ (x : ReaderKept). IsAlike x k') is alike)))
+
+-- the reader that is at hand is the one that is there
+pub here_now : (old inside : PeerKept) → inside ≡ old → (index : ℕ) (k now d : ReaderKept)
+    → slice_get old.readers index ≡ Some k → now ≡ get_or inside.readers index d → now ≡ k
+here_now old inside view index k now d at is =
+    is ∙ get_or_from_slice_get inside.readers index k d
+    (subst (λ (q : PeerKept). slice_get q.readers index ≡ Some k) (sym view) at)

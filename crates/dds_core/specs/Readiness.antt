@@ -4,6 +4,7 @@
 --
 -- RTPS 2.5, 8.3.4 (the message receiver), 8.4.12 (the behaviour of a reliable StatefulReader).
 use Rattle.std.specs.Prelude.{◌≡◌, ◌⊎◌, ◌<◌, ◌≤◌, Bool, true, false, ℕ, List, [], ◌∷◌, ◌++◌, length, slice_get, nat_lt, if◌then◌else◌, Option, Some, None}
+use Rattle.dds_base.specs.declared.change.Change.{Change}
 use Rattle.dds_base.specs.declared.guid.EntityId.{EntityId}
 use Rattle.dds_base.specs.declared.guid.Guid.{Guid}
 use Rattle.dds_base.specs.declared.guid.GuidPrefix.{GuidPrefix}
@@ -143,6 +144,10 @@ IsToldBounded (told.Heartbeat seen) = seen.first ≤ max_sn
 abbrev pub HasMemory : ReaderKept → ℕ → Type 0
 HasMemory kept row = IsReadyAt kept.reader row (room_of kept.store.cache)
 
+-- a change of the writer of this row, as what is ready for a reliable reader
+abbrev pub change_ready : ℕ → ℕ → Change → Ready
+change_ready row number change = record { row = row; told = told.Change number change }
+
 -- what is ready for a reader that a submessage names
 pub record IsReadyWith (own : GuidPrefix) (at : Receiver) (submessage : Submessage) (kept : ReaderKept)
     (ready : Ready) : Type 0 where
@@ -198,6 +203,11 @@ pub record AreReady (own : GuidPrefix) (at : Receiver) (submessage : Submessage)
   pub count : length ready ≡ length readers
   pub each : (i : ℕ) (k : ReaderKept) (r : Option Ready) → slice_get readers i ≡ Some k → slice_get ready i ≡ Some r
       → IsReadyFor own at submessage k r
+
+-- the reader of this index is a reliable one
+abbrev pub IsReliableAt : List ReaderKept → ℕ → Type 0
+IsReliableAt readers index =
+    (k : ReaderKept) → slice_get readers index ≡ Some k → reliable_in k.store ≡ true
 
 -- a reader with more memory, and nothing else
 pub record IsAlike (old new : ReaderKept) : Type 0 where

@@ -3,14 +3,15 @@
 //! RTPS 2.5, 8.3.4 (the message receiver), 8.4.12 (the behaviour of a reliable StatefulReader). What the peer's writers
 //! do with an ACKNACK is in `requests`.
 
-ghost use Rattle.std.specs.Prelude.{◌≡◌, ◌++◌, ◌+◌, ◌*◌, ◌^◌, ◌<◌, ◌≤◌, [], length, None, IfSome, IfNone, IfOk, IfErr, OnOk, OnErr};
+ghost use Rattle.std.specs.Prelude.{◌≡◌, ◌++◌, ◌+◌, ◌*◌, ◌^◌, ◌<◌, ◌≤◌, [], length, None, Some, IfSome, IfNone, IfOk, IfErr, OnOk, OnErr};
 ghost use Rattle.dds_base.specs.Bounds.{max_ends};
 ghost use Rattle.dds_base.specs.declared.code.Code.TheVariants.{Memory};
 ghost use Rattle.dds_machine.specs.declared.reply.Reply.TheVariants.{Reported};
 ghost use Rattle.dds_protocol.specs.declared.event.Event.TheVariants as event;
+ghost use Rattle.rtps_wire.specs.declared.submessage.Submessage.TheVariants as submessage_of;
 ghost use Rattle.dds_core.specs.Stepping.{SoundSteps};
 ghost use Rattle.dds_core.specs.Sending.{AreMessages, max_unsent};
-ghost use Rattle.dds_core.specs.Readiness.{receiver_at, IsBounded, AreReady, AreAlike, IsFirstNamed, IsNamedAt, IsReadyFor, IsRowOf, NamedBy, NamesNone, moves_of};
+ghost use Rattle.dds_core.specs.Readiness.{receiver_at, change_ready, IsReliableAt, IsBounded, AreReady, AreAlike, IsFirstNamed, IsNamedAt, IsReadyFor, IsRowOf, NamedBy, NamesNone, moves_of};
 ghost use Rattle.dds_core.specs.Receiving.{only_last, CanTakeAt, TakesAt, AllCanTake, TakesAll, TellsReaders, TakesOneMore, TakesFrame, KeepsPeer, NeedsMemory, FrameNeedsMemory, GoOn, NothingDone, TakesBody, StandsAsWell, ReceivesPacket};
 ghost use Rattle.dds_core.specs.Twins.{Twins, wants_two};
 
@@ -19,7 +20,7 @@ use crate::effects::Effects;
 use crate::moves::Moves;
 use crate::output::unmoved;
 use crate::peer::Peer;
-use crate::reader_end::{Ids, ReaderEnd, Ready, ids_of};
+use crate::reader_end::{Ids, ReaderEnd, Ready, ReadyChange, Telling, ids_of};
 use crate::receiver::{MessageReceiver, receiver_for};
 use crate::sending::Announced;
 use crate::twin::Twin;
@@ -27,7 +28,7 @@ use dds_base::{Code, GuidPrefix, Sequence, Sn};
 use dds_machine::{Endpoint, Move, Reply, Report};
 use dds_protocol::Output;
 use rtps_reader::Step;
-use rtps_wire::{Frame, MAX_MESSAGE, Submessage, begin_message, next_frame};
+use rtps_wire::{Data, Frame, MAX_MESSAGE, Submessage, begin_message, next_frame};
 use smallvec::SmallVec;
 
 /// The first of a peer's readers that a submessage is for, and may do something at, and there the row of the writer that
@@ -149,19 +150,20 @@ fn push_moves(moves: &mut Moves, writer: Endpoint, reader: u8, from: Sn, step: S
 impl Peer {
     /// The reader of this index is told what is ready for it, and sends the ACKNACK that is then due. Adds the moves,
     /// for which there is room.
-    fn take_at(&mut self, effects: &mut Effects, index: usize, ready: Ready)
-        requires can { CanTakeAt self.old.readers index ready }
+    fn take_at<T: Telling>(&mut self, effects: &mut Effects, index: usize, ready: T)
+        requires can { CanTakeAt self.old.readers index (T.ready ready) }
         requires room { 2 ≤ effects.old.moves.room }
         requires low { effects.old.sent.unsent < max_unsent }
-        ensures takes { TakesAt self.old index ready effects.old self.new effects.new }
+        ensures takes { TakesAt self.old index (T.ready ready) effects.old self.new effects.new }
         ensures room { effects.old.moves.room ≤ effects.new.moves.room + 2 }
         ensures on { GoOn 1 effects.old effects.new }
     {
         let (alloc, prefix, moment) = (self.alloc, self.prefix, self.moment);
         let end = &mut self.readers[index];
-        let writer = end.writer(ready.row);
-        let from = end.place(ready.row);
-        let step = end.take_up(ready, moment);
+        let row = ready.row();
+        let writer = end.writer(row);
+        let from = end.place(row);
+        let step = ready.tell(end, moment);
         send_acknack(
             alloc,
             prefix,
@@ -261,6 +263,20 @@ impl Peer {
         self.readers[first.index].prepare(Some(first.row), receiver, submessage)
     }
 
+    /// The peer's last reader, of this index, is told this, which is ready for it.
+    fn take_last_one<T: Telling>(&mut self, effects: &mut Effects, index: usize, one: T)
+        requires can { CanTakeAt self.old.readers index (T.ready one) }
+        requires last { index + 1 ≡ length self.old.readers }
+        requires room { 2 ≤ effects.old.moves.room }
+        requires low { effects.old.sent.unsent < 2 ^ 60 }
+        ensures takes { TakesAll self.old (only_last index (Some (T.ready one))) effects.old
+            self.new effects.new }
+        ensures prefix { self.new.prefix ≡ self.old.prefix }
+        ensures on { GoOn 1 effects.old effects.new }
+    {
+        self.take_at(effects, index, one);
+    }
+
     /// The peer's last reader, of this index, is told what is ready for it, if something is.
     fn take_last(&mut self, effects: &mut Effects, index: usize, ready: Option<Ready>)
         requires can { AllCanTake self.old.readers (only_last index ready) }
@@ -272,8 +288,58 @@ impl Peer {
         ensures on { GoOn 1 effects.old effects.new }
     {
         if let Some(one) = ready {
-            self.take_at(effects, index, one);
+            self.take_last_one(effects, index, one);
         }
+    }
+
+    /// Makes ready the change of a DATA for the peer's last reader, a reliable one, where that is the first one that is
+    /// named.
+    fn make_change_ready(
+        &mut self,
+        first: FirstNamed,
+        receiver: &MessageReceiver,
+        body: &Data,
+    ) -> Result<ReadyChange, Code>
+        requires first { IsFirstNamed self.old.prefix
+            (receiver_at receiver.now) (submessage_of.Data body.now) self.old.readers first }
+        requires last { first.index + 1 ≡ length self.old.readers }
+        requires reliable { IsReliableAt self.old.readers first.index }
+        ensures ready { IfOk result
+            (λ it. AreReady self.old.prefix
+            (receiver_at receiver.now) (submessage_of.Data body.now) self.new.readers
+            (only_last first.index (Some (change_ready it.row it.number it.change)))) }
+        ensures stands { StandsAsWell self.old self.new }
+        ensures count { length self.new.readers ≡ length self.old.readers }
+        ensures prefix { self.new.prefix ≡ self.old.prefix }
+        ensures memory { IfErr result (λ code. code ≡ Memory) }
+    {
+        self.readers[first.index].prepare_change(first.row, receiver, body)
+    }
+
+    /// The peer's last reader, a reliable one, is told the change of a DATA, where that is the first one that is named.
+    /// Adds what moved.
+    fn tell_change(
+        &mut self,
+        effects: &mut Effects,
+        first: FirstNamed,
+        receiver: &MessageReceiver,
+        body: &Data,
+    ) -> Result<(), Code>
+        requires bounded { IsBounded (submessage_of.Data body.now) }
+        requires low { effects.old.sent.unsent < 2 ^ 60 }
+        requires first { IsFirstNamed self.old.prefix
+            (receiver_at receiver.now) (submessage_of.Data body.now) self.old.readers first }
+        requires last { first.index + 1 ≡ length self.old.readers }
+        requires reliable { IsReliableAt self.old.readers first.index }
+        ensures takes { OnOk result
+            (TellsReaders self.old (receiver_at receiver.now) (submessage_of.Data body.now) effects.old
+            self.new effects.new) }
+        ensures keeps { KeepsPeer 16 self.old effects.old self.new effects.new result }
+    {
+        let ready = self.make_change_ready(first, receiver, body)?;
+        effects.moves.reserve(2)?;
+        self.take_last_one(effects, first.index, ready);
+        Ok(())
     }
 
     /// The peer's last reader is told what a submessage says, where that is the first one that is named. Adds what moved.
@@ -294,6 +360,11 @@ impl Peer {
             self.new effects.new) }
         ensures keeps { KeepsPeer 16 self.old effects.old self.new effects.new result }
     {
+        if let Submessage::Data(body) = submessage {
+            if self.readers[first.index].is_reliable() {
+                return self.tell_change(effects, first, receiver, body);
+            }
+        }
         let ready = self.make_last_ready(first, receiver, submessage)?;
         effects.moves.reserve(2)?;
         self.take_last(effects, first.index, ready);

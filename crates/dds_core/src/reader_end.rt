@@ -18,7 +18,7 @@ ghost use Rattle.dds_core.specs.Expiring.{Expires, HasRoomForDeaths, IsPastCount
 ghost use Rattle.dds_core.specs.Identity.{reader_identity, reliable_in};
 ghost use Rattle.dds_core.specs.Noticing.{MarksReader, RaisesSo, SeesStatus};
 ghost use Rattle.dds_core.specs.OpeningEnds.{OpensReader};
-ghost use Rattle.dds_core.specs.Readiness.{receiver_at, IsFirstName, IsNamedFor, IsRowOf, NamedBy, NamesNobody, IsToldBy, HasMemory, IsPrepared, IsAlike, CanTake, MayDo, TakesTold, SameReader, IsPlaceAt};
+ghost use Rattle.dds_core.specs.Readiness.{receiver_at, IsFirstName, IsNamedFor, IsRowOf, NamedBy, NamesNobody, IsToldBy, HasMemory, IsPrepared, IsPreparedAt, change_ready, IsAlike, CanTake, MayDo, TakesTold, SameReader, IsPlaceAt};
 ghost use Rattle.dds_core.specs.Looking.{access_reply, TakesOnly, TellsFlags, TellsLost, TellsLiveliness, TellsMatch};
 ghost use Rattle.dds_core.specs.Twins.{Twins};
 ghost use Rattle.dds_core.specs.Storing.{Holds};
@@ -67,6 +67,38 @@ pub enum Told {
 pub struct Ready {
     pub row: usize,
     pub told: Told,
+}
+
+/// A change that a reliable reader is told, by the writer of this row. There is memory for all that it does.
+#[derive(Drop)]
+pub struct ReadyChange {
+    pub row: usize,
+    pub number: Sn,
+    pub change: Change,
+}
+
+/// What a reader can be told at once: whatever is ready, or a change that is known to be one, which is not moved as
+/// often.
+pub trait Telling: Drop {
+    ghost use Rattle.std.specs.Prelude.{◌≡◌, ◌≤◌, length, IfSome};
+    ghost use Rattle.rtps_reader.specs.Answer.{IsSayable};
+    ghost use Rattle.dds_core.specs.declared.reader_end.Ready.{Ready as ReadyOf};
+    ghost use Rattle.dds_core.specs.Readiness.{CanTake, TakesTold, SameReader};
+
+    /// What is ready by this.
+    ghost ready: { Self → ReadyOf };
+
+    /// The row of the writer that says it.
+    fn row(&self) -> usize
+        ensures row { result ≡ (ready self.now).row };
+
+    /// The reader is told, at this moment of its peer.
+    fn tell(self, end: &mut ReaderEnd, moment: Moment) -> Step
+        requires can { CanTake end.old (ready self) }
+        ensures told { TakesTold end.old (ready self) moment result end.new }
+        ensures few { length result.passed ≤ 257 }
+        ensures sayable { IfSome result.acknack IsSayable }
+        ensures same { SameReader end.old end.new };
 }
 
 /// A reader, with the names of the writers that it is matched with, what it knows of them, and what it holds.
@@ -465,6 +497,60 @@ impl ReaderEnd {
         self.take_told(ready, moment).unwrap()
     }
 
+    /// Whether it is a reliable one.
+    pub fn is_reliable(&self) -> bool
+        ensures { result ≡ reliable_in self.now.store }
+    {
+        self.is_reliable
+    }
+
+    /// Makes ready the change of a DATA, for this reader, which is a reliable one, from its writer of this row: a copy of
+    /// it, and memory for all that it does.
+    ///
+    /// # Errors
+    ///
+    /// `Memory` where a growth was refused; the reader is then as it was.
+    pub fn prepare_change(
+        &mut self,
+        row: usize,
+        receiver: &MessageReceiver,
+        body: &Data,
+    ) -> Result<ReadyChange, Code>
+        requires row { row < length self.old.writers }
+        requires reliable { reliable_in self.old.store ≡ true }
+        ensures ready { IfOk result
+            (λ it. IsPreparedAt row (receiver_at receiver.now) (submessage.Data body.now) self.new
+            (change_ready it.row it.number it.change)) }
+        ensures alike { IsAlike self.old self.new }
+        ensures memory { IfErr result (λ code. code ≡ Memory) }
+    {
+        self.make_room(row)?;
+        let change = body.content.to_change(self.alloc, receiver.timestamp)?;
+        Ok(ReadyChange {
+            row,
+            number: body.writer_sn,
+            change,
+        })
+    }
+
+    /// The reader is told a change that is ready for it, at this moment of its peer.
+    fn take_change(&mut self, ready: ReadyChange, moment: Moment) -> Step
+        requires can { CanTake self.old (change_ready ready.row ready.number ready.change) }
+        ensures told { TakesTold self.old (change_ready ready.row ready.number ready.change) moment result self.new }
+        ensures few { length result.passed ≤ 257 }
+        ensures sayable { IfSome result.acknack IsSayable }
+        ensures same { SameReader self.old self.new }
+    {
+        let ReadyChange {
+            row,
+            number,
+            change,
+        } = ready;
+        self.reader
+            .on_data(&mut self.store, row, number, change, moment)
+            .unwrap()
+    }
+
     /// Whether all that die at this moment can be counted: no more than 2^64 - 1 entries happened with them.
     pub fn counts_deaths(&self, now: Moment) -> bool
         ensures room { result ≡ true → HasRoomForDeaths now self.now.store }
@@ -697,5 +783,31 @@ impl ReaderEnd {
         ensures { TellsMatch self.now masks (T.meaning test.now) result }
     {
         self.store.has_match(masks, test)
+    }
+}
+
+impl Telling for Ready {
+    ghost ready = { λ r. r };
+
+    fn row(&self) -> usize {
+        self.row
+    }
+
+    fn tell(self, end: &mut ReaderEnd, moment: Moment) -> Step {
+        end.take_up(self, moment)
+    }
+}
+
+impl Telling for ReadyChange {
+    ghost use Rattle.dds_core.specs.Readiness.{change_ready};
+
+    ghost ready = { λ r. change_ready r.row r.number r.change };
+
+    fn row(&self) -> usize {
+        self.row
+    }
+
+    fn tell(self, end: &mut ReaderEnd, moment: Moment) -> Step {
+        end.take_change(self, moment)
     }
 }

@@ -1,0 +1,12 @@
+use Rattle.std.proofs.Common.{refl}
+use Rattle.dds_core.specs.declared.reader_end.Told.TheVariants as told
+use Rattle.dds_core.specs.Readiness.{change_ready}
+use Rattle.dds_core.proofs.Telling.{answer_told}
+use Rattle.dds_core.proofs.reader_end.ReaderEnd.take_change.Goals as goal
+
+pub returns-clause-told : goal.returns-clause-told
+returns-clause-told c =
+    let ready = c.args.ready in
+    answer_told c.self.view_is (change_ready ready.row ready.number ready.change) c.args.moment c.on_data.result
+    c.unwrap.result (told.Change ready.number ready.change) refl c.unwrap.ensures c.on_data.ensures.moves
+    c.on_data.ensures.keeps.others
