@@ -149,6 +149,7 @@ one_entered entry quiet k k' proxies r tracked samples same s stands = record {
     turned_is = same.turned ∙ (s.holds.turned_is ∙ sym (quiet.turned samples r.happened));
   };
   seen_is = s.seen_is ∙ sym same.seen;
+  begun = s.begun;
 }
 
 -- the part after an access

@@ -7,11 +7,11 @@ use Rattle.dds_base.specs.declared.config.WriterConfig.{WriterConfig}
 use Rattle.dds_base.specs.declared.config.ReaderConfig.{ReaderConfig}
 use Rattle.dds_base.specs.Checked.{check_refusal}
 use Rattle.dds_conditions.specs.Watched.{Watched, opened}
-use Rattle.dds_machine.specs.Opening.{opening_writer, matched_writers, reader_qos, opening_part}
+use Rattle.dds_machine.specs.Opening.{opening_reader, opening_writer, matched_writers, opening_part}
 use Rattle.dds_protocol.specs.Opening.{opening_peers}
 use Rattle.dds_protocol.specs.Claims.{IsNumbered}
 use Rattle.dds_protocol.proofs.CountsOpened.{matched_opened}
-use Rattle.dds_machine.specs.Part.{Writer, Reader, WriterProxy, no_writer, no_reader, nothing_seen}
+use Rattle.dds_machine.specs.Part.{Writer, Reader, WriterProxy, no_writer, no_reader}
 use Rattle.rtps_reader.specs.Tracked.{fresh}
 use Rattle.dds_protocol.specs.Protocol.{knows_nothing}
 use Rattle.dds_protocol.specs.Peer.{Peer, no_peer}
@@ -109,11 +109,11 @@ writers_stand peers ws kept opened = record {
 readers_stand : (peers : List PeerConfig) (rs : List ReaderConfig) (kept : List ReaderKept)
     → OpensEach (OpensReader peers) rs kept
     → ReadersStand kept (map (λ (r : ReaderConfig). matched_writers r.topic 1 peers) rs)
-    (map (λ (r : ReaderConfig). record { qos = reader_qos peers r; happened = []; seen = nothing_seen }) rs)
+    (map (opening_reader peers) rs)
     knows_nothing
 readers_stand peers rs kept opens =
     let proxies : ReaderConfig → List WriterProxy = λ r. matched_writers r.topic 1 peers in
-    let opened : ReaderConfig → Reader = λ r. record { qos = reader_qos peers r; happened = []; seen = nothing_seen } in
+    let opened : ReaderConfig → Reader = opening_reader peers in
     record {
       rows = length-map rs proxies ∙ sym opens.count;
       count = length-map rs opened ∙ sym opens.count;

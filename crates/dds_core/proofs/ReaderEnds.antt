@@ -14,9 +14,10 @@ use Rattle.dds_machine.specs.declared.endpoint.Endpoint.{Endpoint}
 use Rattle.dds_base.specs.Checked.{limit_of}
 use Rattle.dds_protocol.proofs.Opened.{writers_in}
 use Rattle.dds_machine.specs.Opening.{matched_writers}
-use Rattle.dds_machine.specs.Part.{WriterProxy, same_endpoint, row_of, place_of, nothing_seen}
+use Rattle.dds_machine.specs.Part.{Begun, WriterProxy, same_endpoint, row_of, place_of, nothing_seen}
 use Rattle.dds_protocol.proofs.OwnGuids.{as_many}
 use Rattle.dds_core.specs.declared.matching.WriterName.{WriterName}
+use Rattle.dds_core.proofs.Rows.{AllBegun}
 use Rattle.dds_core.specs.Identity.{FitsWriters, reliable_in}
 use Rattle.dds_core.specs.EndNames.{writer_name, matched_writer}
 use Rattle.dds_core.specs.OpeningEnds.{OpensReader}
@@ -85,7 +86,7 @@ ones_in topic peer number (w ∷ ws) = by (same_topic w.topic topic) (ones_in to
   where
     by : (b : Bool) → AreOnes (writers_in topic peer (number + 1) ws)
         → AreOnes
-        (cond b (record { writer = record { peer = peer; number = number }; place = 1; heard = None }
+        (cond b (record { writer = record { peer = peer; number = number }; place = 1; heard = None; how = Begun }
         ∷ writers_in topic peer (number + 1) ws) (writers_in topic peer (number + 1) ws))
     by true h = (refl, h)
     by false h = h
@@ -95,6 +96,29 @@ are_ones topic peer [] = tt
 are_ones topic peer (p ∷ ps) =
     ones_both (writers_in topic peer 1 p.writers) (matched_writers topic (peer + 1) ps) (ones_in topic peer 1 p.writers)
     (are_ones topic (peer + 1) ps)
+
+-- ---- each place has begun
+
+begun_both : (xs ys : List WriterProxy) → AllBegun xs → AllBegun ys → AllBegun (xs ++ ys)
+begun_both [] ys f g = g
+begun_both (x ∷ xs) ys f g = (f.0, begun_both xs ys f.1 g)
+
+begun_in : (topic peer number : ℕ) (ws : List WriterConfig) → AllBegun (writers_in topic peer number ws)
+begun_in topic peer number [] = tt
+begun_in topic peer number (w ∷ ws) = by (same_topic w.topic topic) (begun_in topic peer (number + 1) ws)
+  where
+    by : (b : Bool) → AllBegun (writers_in topic peer (number + 1) ws)
+        → AllBegun
+        (cond b (record { writer = record { peer = peer; number = number }; place = 1; heard = None; how = Begun }
+        ∷ writers_in topic peer (number + 1) ws) (writers_in topic peer (number + 1) ws))
+    by true h = (refl, h)
+    by false h = h
+
+all_begun : (topic peer : ℕ) (ps : List PeerConfig) → AllBegun (matched_writers topic peer ps)
+all_begun topic peer [] = tt
+all_begun topic peer (p ∷ ps) =
+    begun_both (writers_in topic peer 1 p.writers) (matched_writers topic (peer + 1) ps)
+    (begun_in topic peer 1 p.writers) (all_begun topic (peer + 1) ps)
 
 -- ---- the reader
 
@@ -120,6 +144,7 @@ opens_reader peers r names writers reader store matched told nothing qos stands 
         qos_is = sym (qos ∙ ap (λ (ws : List MatchedWriter). qos_with r ws) told);
         holds = stands;
         seen_is = refl;
+        begun = all_begun r.topic 1 peers;
       };
     }
 

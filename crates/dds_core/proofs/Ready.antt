@@ -272,6 +272,7 @@ alike_stands a b proxies r tracked h s = record {
   qos_is = s.qos_is ∙ sym h.qos;
   holds = h.holds r.happened s.holds;
   seen_is = s.seen_is ∙ sym h.seen;
+  begun = s.begun;
 }
 
 same_identities : (old new : List ReaderKept) → AreAlike old new → map reader_identity new ≡ map reader_identity old

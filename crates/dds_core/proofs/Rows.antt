@@ -1,9 +1,10 @@
 -- A reader's matched writers, of which the first of an endpoint is looked for.
 use Rattle.std.proofs.Common.{◌≡◌, ℕ, zero, suc, ◌+◌, ◌<◌, Bool, true, false, cond, List, [], ◌∷◌, Option, Some, None, map, slice_get, refl, ap, sym, ◌∙◌, arith}
-use Rattle.std.specs.Option.{option_map}
+use Rattle.std.specs.List.{AllByRecursion}
+use Rattle.std.specs.Option.{option_map, option_map_or}
 use Rattle.std.proofs.lemmas.Option.{same_Some}
 use Rattle.dds_machine.specs.declared.endpoint.Endpoint.{Endpoint}
-use Rattle.dds_machine.specs.Part.{WriterProxy, same_endpoint, row_of, with_row, place_of, publication_from, publication_among}
+use Rattle.dds_machine.specs.Part.{Away, Begun, how_of, WriterProxy, same_endpoint, row_of, with_row, place_of, publication_from, publication_among}
 use Rattle.dds_protocol.proofs.InOrder.{same_self}
 use Rattle.dds_machine.proofs.Tables.{same_is}
 use Rattle.dds_core.specs.declared.matching.WriterName.{WriterName}
@@ -96,6 +97,35 @@ place_there (p ∷ ps) e (suc k) first =
       ap (λ (o : Option WriterProxy). option_map (λ (q : WriterProxy). q.place) o)
           (miss (same_endpoint p.writer e) (Some p) (row_of (λ (q : WriterProxy). q.writer) ps e) first.0) ∙ rest.1,
     )
+
+-- each place has begun
+abbrev pub AllBegun : List WriterProxy → Type 0
+AllBegun rows = AllByRecursion (λ (p : WriterProxy). p.how ≡ Begun) rows
+
+-- so has that of the first row of a writer
+pub how_there : (rows : List WriterProxy) (e : Endpoint) (k : ℕ) → IsFirstOf (proxied rows) e k → AllBegun rows
+    → how_of rows e ≡ Begun
+how_there [] e k first all = absurd first
+how_there (p ∷ ps) e zero first all =
+    ap (λ (o : Option WriterProxy). option_map_or (λ (q : WriterProxy). q.how) o Away)
+    (hit (same_endpoint p.writer e) (Some p) (row_of (λ (q : WriterProxy). q.writer) ps e) first)
+    ∙ all.0
+how_there (p ∷ ps) e (suc k) first all =
+    ap (λ (o : Option WriterProxy). option_map_or (λ (q : WriterProxy). q.how) o Away)
+    (miss (same_endpoint p.writer e) (Some p) (row_of (λ (q : WriterProxy). q.writer) ps e) first.0)
+    ∙ how_there ps e k first.1 all.1
+
+-- after a change that leaves it so, each still has
+pub begun_kept : (change : WriterProxy → WriterProxy) → ((p : WriterProxy) → (change p).how ≡ p.how)
+    → (rows : List WriterProxy) (w : Endpoint) → AllBegun rows
+    → AllBegun (with_row (λ (p : WriterProxy). p.writer) change rows w)
+begun_kept change kept [] w all = all
+begun_kept change kept (p ∷ ps) w all = by (same_endpoint p.writer w) (begun_kept change kept ps w all.1)
+  where
+    by : (b : Bool) → AllBegun (with_row (λ (q : WriterProxy). q.writer) change ps w)
+        → AllBegun (cond b (change p ∷ ps) (p ∷ with_row (λ (q : WriterProxy). q.writer) change ps w))
+    by true rest = (kept p ∙ all.0, all.1)
+    by false rest = (all.0, rest)
 
 -- a changed row is still of its writer
 kept_step : (change : WriterProxy → WriterProxy) (p : WriterProxy) (ps qs : List WriterProxy) (b : Bool)

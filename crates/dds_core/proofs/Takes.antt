@@ -26,7 +26,7 @@ use Rattle.dds_machine.specs.declared.endpoint.Endpoint.{Endpoint}
 use Rattle.dds_machine.specs.declared.reply.Move.{Move}
 use Rattle.dds_machine.specs.declared.reply.Move.TheVariants.{Place, Heard}
 use Rattle.dds_machine.specs.Numbered.{with_numbered, HasNumber}
-use Rattle.dds_machine.specs.Part.{Part, Reader, WriterProxy, no_reader, own_proxies, own_reader, place_of, with_place, with_heard, at_reader}
+use Rattle.dds_machine.specs.Part.{is_attached, Part, Reader, WriterProxy, no_reader, own_proxies, own_reader, place_of, with_place, with_heard, at_reader}
 use Rattle.dds_machine.specs.Moves.{IsMatchedAt, match_of}
 use Rattle.dds_protocol.specs.Claims.{Receiver}
 use Rattle.dds_protocol.specs.Peer.{Peer, state_of}
@@ -45,7 +45,7 @@ use Rattle.dds_core.specs.Storing.{Holds}
 use Rattle.dds_core.proofs.Ends.{with_reader, with_read, own_reader_stepped}
 use Rattle.dds_core.proofs.Identities.{same_identity}
 use Rattle.dds_core.proofs.Lists.{get-within}
-use Rattle.dds_core.proofs.Rows.{writers_of, proxied, IsFirstOf, is_first_of, one_first, handle_is, place_there, writers_kept}
+use Rattle.dds_core.proofs.Rows.{AllBegun, begun_kept, how_there, writers_of, proxied, IsFirstOf, is_first_of, one_first, handle_is, place_there, writers_kept}
 
 -- a reader of the peer, which is told something by the writer of one of its rows
 pub record Telling : Type 0 where
@@ -110,7 +110,7 @@ pub record After (c : Telling) (k' : ReaderKept) (t : Tracked) (happened : List 
 -- it stands for the reader of the new part
 pub stands_after : (c : Telling) (k' : ReaderKept) (t : Tracked) (happened : List Happening)
     (proxies : List WriterProxy) (known : Known) → known.answered ≡ c.peer.known.answered → After c k' t happened
-    → proxied proxies ≡ proxied (proxies_of c)
+    → proxied proxies ≡ proxied (proxies_of c) → AllBegun proxies
     → ((p : ℕ) → place_of proxies c.writer ≡ Some p → t.place ≡ p)
     → ((w : Endpoint) (p : ℕ) → (w ≡ c.writer → ⊥) → place_of proxies w ≡ Some p
     → place_of (proxies_of c) w ≡ Some p)
@@ -122,7 +122,7 @@ pub stands_after : (c : Telling) (k' : ReaderKept) (t : Tracked) (happened : Lis
           (record (reader_of c) { happened = happened });
       known = known;
     })
-stands_after c k' t happened proxies known counts a writers here elsewhere is others =
+stands_after c k' t happened proxies known counts a writers begun here elsewhere is others =
     own_reader_stepped c.kept c.i c.k k' proxies
     (record (reader_of c) { happened = happened }) known c.config c.peer c.stands c.at identity counts
     (λ w n apart. others w n (λ s. apart s.1)) (record {
@@ -133,6 +133,7 @@ stands_after c k' t happened proxies known counts a writers here elsewhere is ot
       qos_is = (stood c).qos_is ∙ sym a.same.qos;
       holds = a.holds;
       seen_is = (stood c).seen_is ∙ sym a.same.seen;
+      begun = begun;
     })
   where
     identity : reader_identity k' ≡ reader_identity c.k
@@ -173,17 +174,19 @@ stands_after c k' t happened proxies known counts a writers here elsewhere is ot
 
 -- ---- the place goes on
 
--- the writer's row, before and after something was heard of it: its place and its handle
+-- the writer's row, before and after something was heard of it: its place, which has begun, and its handle
 matched_by : (c : Telling) (part : Part) → proxied (own_proxies part (suc c.i)) ≡ writers_of c.k.writers
+    → AllBegun (own_proxies part (suc c.i))
     → ((p : ℕ) → place_of (own_proxies part (suc c.i)) c.writer ≡ Some p → (known_of c).place ≡ p)
     → IsMatchedAt part c.writer (suc c.i) (c.row + 1) (known_of c).place
-matched_by c part same places =
+matched_by c part same begun places =
     let first = stands_first c (own_proxies part (suc c.i)) same in
     let there = place_there (own_proxies part (suc c.i)) c.writer c.row first in
     record {
       handle = handle_is (own_proxies part (suc c.i)) c.writer c.row first;
       at = there.1
           ∙ ap (λ (p : ℕ). Some p) (sym (places there.0 there.1));
+      begun = how_there (own_proxies part (suc c.i)) c.writer c.row first begun;
     }
 
 -- the row of the writer after its place went on
@@ -225,7 +228,7 @@ way_on c k' from step same others at new after way place knows holds quiet = (
   record {
     publication = c.row + 1;
     place = (known_of c).place;
-    matched = matched_by c (part_of c) (stood c).writers_are ((stood c).places c.writer);
+    matched = matched_by c (part_of c) (stood c).writers_are (stood c).begun ((stood c).places c.writer);
     to = step.to;
     passed = step.passed;
     known = new;
@@ -242,6 +245,8 @@ way_on c k' from step same others at new after way place knows holds quiet = (
       (with_tracked c.peer.known c.writer (suc c.i) new)
       refl (record { same = same; others = others; knows = knows; holds = holds })
       (writers_kept (λ (p : WriterProxy). record p { place = step.to }) (λ p. refl) (proxies_of c) c.writer)
+      (begun_kept (λ (p : WriterProxy). record p { place = step.to }) (λ p. refl) (proxies_of c) c.writer
+      (stood c).begun)
       (λ p e. place ∙ same_Some step.to p (sym (place_hits_there c step.to) ∙ e))
       (λ w p apart e. sym (elsewhere c w step.to apart) ∙ e)
       (tracked_here c.peer.known c.writer (suc c.i) new)
@@ -378,6 +383,12 @@ heard_writers true c count =
     writers_kept (λ (p : WriterProxy). record p { heard = Some count }) (λ p. refl) (proxies_of c) c.writer
 heard_writers false c count = refl
 
+heard_begun : (b : Bool) (c : Telling) (count : ℤ) → AllBegun (heard_proxies b c count)
+heard_begun true c count =
+    begun_kept (λ (p : WriterProxy). record p { heard = Some count }) (λ p. refl) (proxies_of c) c.writer
+    (stood c).begun
+heard_begun false c count = (stood c).begun
+
 heard_places : (b : Bool) (c : Telling) (count : ℤ) (w : Endpoint)
     → place_of (heard_proxies b c count) w ≡ place_of (proxies_of c) w
 heard_places true c count w = place-heard (proxies_of c) c.writer count w
@@ -391,6 +402,9 @@ heard_asserts true c count = (
     publication = c.row + 1;
     handle = handle_is (proxies_of c) c.writer c.row
         (stands_first c (proxies_of c) (stood c).writers_are);
+    here = ap is_attached
+        (how_there (proxies_of c) c.writer c.row (stands_first c (proxies_of c) (stood c).writers_are)
+        (stood c).begun);
     after = refl;
   },
   refl,
@@ -480,6 +494,8 @@ heartbeat_on c own at entity k' h seen from step seen_is same others at_place la
       publication = c.row + 1;
       place = (known_of c).place;
       matched = matched_by c heard.part proxied_is
+          (subst (λ (xs : List WriterProxy). AllBegun xs) (sym (heard_proxies_are b c h.count))
+          (heard_begun b c h.count))
           (λ p e. (stood c).places c.writer p (sym (heard_places b c h.count c.writer)
           ∙ (ap (λ (xs : List WriterProxy). place_of xs c.writer) (sym (heard_proxies_are b c h.count)) ∙ e)));
       to = step.to;
@@ -558,7 +574,7 @@ heartbeat_on c own at entity k' h seen from step seen_is same others at_place la
     here_place : place_of rows c.writer ≡ Some (known_of c).place
     here_place =
         heard_places b c h.count c.writer
-        ∙ (matched_by c (part_of c) (stood c).writers_are ((stood c).places c.writer)).at
+        ∙ (matched_by c (part_of c) (stood c).writers_are (stood c).begun ((stood c).places c.writer)).at
 
     stands : StandsFor (with_reader c.kept c.i k') c.config (with_state c.peer new)
     stands =
@@ -569,6 +585,8 @@ heartbeat_on c own at entity k' h seen from step seen_is same others at_place la
         refl (record { same = same; others = others; knows = m.known; holds = m.stands })
         (writers_kept (λ (p : WriterProxy). record p { place = step.to }) (λ p. refl) rows c.writer
         ∙ heard_writers b c h.count)
+        (begun_kept (λ (p : WriterProxy). record p { place = step.to }) (λ p. refl) rows c.writer
+        (heard_begun b c h.count))
         (λ p e. placed ∙ same_Some step.to p (sym (place-hits rows c.writer (known_of c).place step.to here_place) ∙ e))
         (λ w p apart e. sym (heard_places b c h.count w)
         ∙ (⊎_elim (λ x. sym x ∙ e) (λ s. absurd (apart s.0))

@@ -78,7 +78,7 @@ idles_after c k' same others knows holds =
     part_same
     (stands_after c k' (known_of c) (reader_of c).happened
     (proxies_of c) c.peer.known refl (record { same = same; others = others; knows = knows; holds = holds })
-    refl ((stood c).places c.writer) (λ w p apart e. e) refl (λ w n apart. refl))
+    refl (stood c).begun ((stood c).places c.writer) (λ w p apart e. e) refl (λ w n apart. refl))
   where
     part_same : with_read (part_of c) (suc c.i) (proxies_of c)
         (record (reader_of c) { happened = (reader_of c).happened }) ≡ part_of c

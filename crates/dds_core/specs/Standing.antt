@@ -5,6 +5,7 @@
 -- RTPS 2.5, 8.4.7 (StatefulWriter, ReaderProxy), 8.4.10 (StatefulReader, WriterProxy): the machine has them
 -- without packets.
 use Rattle.std.specs.Prelude.{◌≡◌, ℕ, suc, ◌<◌, ◌≤◌, List, [], map, length, get_or, slice_get, Option, Some, ℤ, All}
+use Rattle.std.specs.List.{AllByRecursion}
 use Rattle.dds_base.specs.declared.config.Config.{Config}
 use Rattle.dds_base.specs.declared.config.PeerConfig.{PeerConfig}
 use Rattle.dds_base.specs.declared.config.WriterConfig.{WriterConfig}
@@ -20,7 +21,7 @@ use Rattle.rtps_writer.specs.WriterState.{WriterState}
 use Rattle.dds_machine.specs.declared.endpoint.Endpoint.{Endpoint}
 use Rattle.dds_protocol.specs.Dues.{AreTellable}
 use Rattle.dds_machine.specs.Opening.{matched_readers}
-use Rattle.dds_machine.specs.Part.{Writer, Reader, ReaderProxy, WriterProxy, has_readers, no_writer, no_reader, own_writer, place_of}
+use Rattle.dds_machine.specs.Part.{Begun, Writer, Reader, ReaderProxy, WriterProxy, has_readers, no_writer, no_reader, own_writer, place_of}
 use Rattle.dds_protocol.specs.Claims.{IsNumbered}
 use Rattle.dds_protocol.specs.Peer.{Peer}
 use Rattle.dds_protocol.specs.Protocol.{Known}
@@ -90,6 +91,7 @@ pub record ReaderStands (kept : ReaderKept) (proxies : List WriterProxy) (r : Re
   pub qos_is : r.qos ≡ qos_of kept.store.cache
   pub holds : Holds kept.store r.happened
   pub seen_is : r.seen ≡ kept.seen
+  pub begun : AllByRecursion (λ (p : WriterProxy). p.how ≡ Begun) proxies
 
 -- each of a peer's writers stands for the one of its number, with the counts of the last ACKNACKs that it took
 pub record WritersStand (kept : List WriterKept) (ws : List Writer) (answered : ℕ → Endpoint → Option ℤ) : Type 0 where

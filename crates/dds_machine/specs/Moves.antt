@@ -1,7 +1,7 @@
 -- What a delivery may do at a peer: a reader's place goes on over changes that come and changes that are passed over, a
 -- reader acknowledges changes, and a writer is heard to assert its liveliness (RTPS 2.5, 8.4: reliable StatefulWriter
 -- and StatefulReader; 8.7.2.2, LIVELINESS).
-use Rattle.std.specs.Prelude.{◌≡◌, ℕ, ◌<◌, List, [], ◌∷◌, Option, Some, None, ℤ, ◌<ℤ◌}
+use Rattle.std.specs.Prelude.{◌≡◌, ℕ, ◌<◌, true, List, [], ◌∷◌, Option, Some, None, ℤ, ◌<ℤ◌}
 use Rattle.dds_base.specs.declared.change.Change.{Change}
 use Rattle.dds_base.specs.declared.happening.Happening.TheVariants.{Heard as WasHeard}
 use Rattle.dds_base.specs.declared.happening.PassedRun.{PassedRun}
@@ -11,7 +11,7 @@ use Rattle.dds_machine.specs.declared.reply.Move.{Move}
 use Rattle.dds_machine.specs.declared.reply.Move.TheVariants.{Place, Acknowledged, Heard}
 use Rattle.dds_machine.specs.declared.reply.Reply.{Reply}
 use Rattle.dds_machine.specs.declared.reply.Reply.TheVariants.{Reported}
-use Rattle.dds_machine.specs.Part.{Part, own_writer, own_proxies, own_reader, acknowledged_of, with_acknowledged, place_of, with_place, heard_of, with_heard, publication_among, at_reader, at_writer}
+use Rattle.dds_machine.specs.Part.{is_attached, Begun, how_of, Part, own_writer, own_proxies, own_reader, acknowledged_of, with_acknowledged, place_of, with_place, heard_of, with_heard, publication_among, at_reader, at_writer}
 
 -- What a delivery at one peer may rest on. A far end is an endpoint, an own one a number.
 pub record Grounds : Type 1 where
@@ -34,10 +34,12 @@ abbrev pub match_of : Part → ℕ → ℕ → Match
 match_of part reader publication =
     record { qos = (own_reader part reader).qos; publication = publication; moment = part.dds.moment }
 
--- the peer's reader is matched with the writer, which has this publication handle there, and it is at this place
+-- the peer's reader is matched with the writer, which has this publication handle there, and it is at this place, which
+-- has begun
 pub record IsMatchedAt (part : Part) (writer : Endpoint) (reader publication place : ℕ) : Type 0 where
   pub handle : publication_among (own_proxies part reader) writer ≡ Some publication
   pub at : place_of (own_proxies part reader) writer ≡ Some place
+  pub begun : how_of (own_proxies part reader) writer ≡ Begun
 
 -- the peer's reader of this number, at this place in a writer's list, with what happened there so far
 abbrev pub position_at : Part → ℕ → ℕ → PlaceWith
@@ -74,6 +76,7 @@ IsLater (Some heard) count = heard <ℤ count
 pub record Hears (grounds : Grounds) (old : Part) (writer : Endpoint) (reader : ℕ) (new : Part) : Type 0 where
   pub publication : ℕ
   pub matched : publication_among (own_proxies old reader) writer ≡ Some publication
+  pub here : is_attached (how_of (own_proxies old reader) writer) ≡ true
   pub heard : Option ℤ
   pub last : heard_of (own_proxies old reader) writer ≡ Some heard
   pub count : ℤ

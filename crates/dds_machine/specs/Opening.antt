@@ -1,5 +1,5 @@
--- The opening of a configuration: writers and readers of equal topic are matched, nothing has happened, each place is 1
--- and nothing is acknowledged.
+-- The opening of a configuration: writers and readers of equal topic are matched, nothing has happened, each place has
+-- begun at 1, and nothing is acknowledged.
 --
 -- DDS 1.4, 2.2.2.3, 2.2.3 (policies of matched entities); RTPS 2.5, 8.4.7 (matched_readers), 8.4.10
 -- (matched_writers).
@@ -15,7 +15,7 @@ use Rattle.dds_notices.specs.Listeners.{nobody}
 use Rattle.dds_base.specs.Ownership.{carried}
 use Rattle.dds_base.specs.Matched.{of_matched_writers, of_matched_readers, of_reliable_readers}
 use Rattle.dds_machine.specs.declared.endpoint.Endpoint.{Endpoint}
-use Rattle.dds_machine.specs.Part.{ReaderProxy, WriterProxy, Writer, Part, nothing_seen}
+use Rattle.dds_machine.specs.Part.{ReaderProxy, WriterProxy, Begun, Writer, Reader, Part, nothing_seen, opened_with}
 use Rattle.dds_base.specs.Checked.{limit_of}
 use Rattle.dds_machine.specs.Machine.{Machine}
 
@@ -26,14 +26,15 @@ matched_readers topic peer ps = of_matched_readers (λ i p n r. record { peer = 
 -- what a writer of the topic has of its matched reliable readers; the first of these peers has this number
 abbrev pub reliable_readers : ℕ → ℕ → List PeerConfig → List ReaderProxy
 reliable_readers topic peer ps =
-    of_reliable_readers (λ i p n r. record { reader = record { peer = i; number = n }; acknowledged = 1 }) topic peer ps
+    of_reliable_readers (λ i p n r. record
+    { reader = record { peer = i; number = n }; first = 1; acknowledged = 1 }) topic peer ps
 
 -- what a reader of the topic has of its matched writers, in the order of publication handles; the first of these peers
 -- has this number
 abbrev pub matched_writers : ℕ → ℕ → List PeerConfig → List WriterProxy
 matched_writers topic peer ps =
     of_matched_writers (λ i p n w. record
-    { writer = record { peer = i; number = n }; place = 1; heard = None }) topic peer ps
+    { writer = record { peer = i; number = n }; place = 1; heard = None; how = Begun }) topic peer ps
 
 -- what a reader's QoS says of the matched writers of the topic
 abbrev pub writer_qos : ℕ → List PeerConfig → List MatchedWriter
@@ -68,7 +69,17 @@ opening_writer peers w =
       written = [];
       matched = matched_readers w.topic 1 peers;
       readers = reliable_readers w.topic 1 peers;
+      matches = opened_with (length (matched_readers w.topic 1 peers));
     }
+
+-- a reader at which nothing has happened
+abbrev pub opening_reader : List PeerConfig → ReaderConfig → Reader
+opening_reader peers r = record {
+  qos = reader_qos peers r;
+  happened = [];
+  seen = nothing_seen;
+  matches = opened_with (length (matched_writers r.topic 1 peers));
+}
 
 -- the part of a peer to which nothing has happened: at moment 0, with nothing watched and no listener
 abbrev pub opening_part : List PeerConfig → PeerConfig → Part
@@ -79,8 +90,7 @@ opening_part peers p = record {
   };
   dds = record {
     moment = 0;
-    readers = map (λ (r : ReaderConfig). record
-        { qos = reader_qos peers r; happened = []; seen = nothing_seen }) p.readers;
+    readers = map (opening_reader peers) p.readers;
     watch = nothing_watched (length p.writers) (length p.readers);
     listeners = nobody (length p.writers) (length p.readers);
   };

@@ -2,7 +2,7 @@
 -- each matched pair. What other peers may learn of stands apart from what only its own calls ask for.
 --
 -- RTPS 2.5, 8.4.7 (StatefulWriter, ReaderProxy), 8.4.10 (StatefulReader, WriterProxy).
-use Rattle.std.specs.Prelude.{ℕ, ◌+◌, ◌<◌, ◌≤◌, Bool, false, if◌then◌else◌, ◌==◌, nat_le, nat_lt, List, [], ◌∷◌, length, map, Option, Some, None, ℤ, pos, negsuc}
+use Rattle.std.specs.Prelude.{ℕ, ◌+◌, ◌<◌, ◌≤◌, Bool, true, false, if◌then◌else◌, ◌==◌, nat_le, nat_lt, List, [], ◌∷◌, length, map, Option, Some, None, ℤ, pos, negsuc}
 use Rattle.std.specs.List.{list_any}
 use Rattle.std.specs.Option.{option_map, option_map_or}
 use Rattle.dds_base.specs.declared.change.Change.{Change}
@@ -24,21 +24,42 @@ use Rattle.dds_machine.specs.Numbered.{numbered, with_numbered}
 abbrev pub same_endpoint : Endpoint → Endpoint → Bool
 same_endpoint a b = if a.peer == b.peer then a.number == b.number else false
 
--- what a writer knows of a matched reader: it has acknowledged all changes below this number
+-- what a writer knows of a matched reliable reader: the number of the first change that it made since it was told of it,
+-- and that it has acknowledged all changes below this number
 pub record ReaderProxy : Type 0 where
   pub reader : Endpoint
+  pub first : ℕ
   pub acknowledged : ℕ
 
--- what a reader knows of a matched writer: its place there, the number of the next change, and the count of the last
--- HEARTBEAT by which it heard the writer assert its liveliness, if there was one
+-- how a reader stands to a writer that it knows: not matched; matched, and its place has not begun since; or begun
+pub data Attachment : Type 0 where
+  Away : Attachment
+  Waiting : Attachment
+  Begun : Attachment
+
+-- the matches of a writer or a reader: how many there were, with whom the last one was made or ended since the opening,
+-- and how many there had been and were when the application looked at them last (DDS 1.4, 2.2.4.1)
+pub record Matches : Type 0 where
+  pub made : ℕ
+  pub last : Option Endpoint
+  pub made_seen : ℕ
+  pub here_seen : ℕ
+
+-- so many, which the opening made, and of which nothing is new
+abbrev pub opened_with : ℕ → Matches
+opened_with count = record { made = count; last = None; made_seen = count; here_seen = count }
+
+-- what a reader knows of a writer: its place there, the number of the next change; the count of the last HEARTBEAT by
+-- which it heard the writer assert its liveliness, if there was one; and how it stands to it
 pub record WriterProxy : Type 0 where
   pub writer : Endpoint
   pub place : ℕ
   pub heard : Option ℤ
+  pub how : Attachment
 
 -- a writer: its policy, limit and lease, the strength that it was configured with, none of a writer of shared ownership,
--- whether an unregister disposes too, what happened there, the newest first, its matched readers, and what it knows of
--- those that are reliable
+-- whether an unregister disposes too, what happened there, the newest first, its matched readers, what it knows of those
+-- that are reliable, and its matches
 pub record Writer : Type 0 where
   pub policy : HistoryQos
   pub max_samples : Option ℕ
@@ -48,6 +69,7 @@ pub record Writer : Type 0 where
   pub written : List Written
   pub matched : List Endpoint
   pub readers : List ReaderProxy
+  pub matches : Matches
 
 -- a peer's writers, and for each of its readers the matched writers in the order of their publication handles
 pub record Rtps : Type 0 where
@@ -70,11 +92,13 @@ abbrev pub nothing_seen : Seen
 nothing_seen =
     record { lost = 0; entries_at_lost = 0; entries_at_data = 0; alive = 0; not_alive = 0; entries_at_turn = 0 }
 
--- a reader as its own calls see it: its QoS, what happened there, the newest first, and what was seen of its statuses
+-- a reader as its own calls see it: its QoS, what happened there, the newest first, what was seen of its statuses, and
+-- its matches
 pub record Reader : Type 0 where
   pub qos : ReaderQos
   pub happened : List Happening
   pub seen : Seen
+  pub matches : Matches
 
 -- a peer's moment, its readers, what its application watches, and the places of its listeners
 pub record Dds : Type 0 where
@@ -99,6 +123,7 @@ no_writer = record {
   written = [];
   matched = [];
   readers = [];
+  matches = opened_with 0;
 }
 
 -- in the place of a reader that is not there: one at which nothing has happened, and that is matched with nobody
@@ -116,6 +141,7 @@ no_reader = record {
   happened =
       [];
   seen = nothing_seen;
+  matches = opened_with 0;
 }
 
 -- in the place of the part of a peer that is not there: it has no writers and no readers
@@ -188,6 +214,17 @@ heard_of rows writer = option_map (λ (p : WriterProxy). p.heard) (row_of (λ (p
 abbrev pub with_heard : List WriterProxy → Endpoint → ℤ → List WriterProxy
 with_heard rows writer count =
     with_row (λ (p : WriterProxy). p.writer) (λ (p : WriterProxy). record p { heard = Some count }) rows writer
+
+-- how the reader stands to this writer; not matched where it has no row
+abbrev pub how_of : List WriterProxy → Endpoint → Attachment
+how_of rows writer =
+    option_map_or (λ (p : WriterProxy). p.how) (row_of (λ (p : WriterProxy). p.writer) rows writer) Away
+
+-- the reader is matched with the writer to which it stands so
+abbrev pub is_attached : Attachment → Bool
+is_attached Away = false
+is_attached Waiting = true
+is_attached Begun = true
 
 -- the number of the first row of this writer in a list that is numbered from n on
 abbrev pub publication_from : ℕ → List WriterProxy → Endpoint → Option ℕ

@@ -109,6 +109,7 @@ sound_move m i g t old (Acknowledged w r to) new low h = record {
 sound_move m i g t old (Heard w r) new low h = record {
   publication = h.publication;
   matched = h.matched;
+  here = h.here;
   heard = h.heard;
   last = h.last;
   count = h.count;

@@ -83,7 +83,7 @@ rows_opened peers own (suc k) w at =
     let there : slice_get own.writers k ≡ Some w = subst (λ (n : ℕ). slice_get own.writers n ≡ Some w) index at.1 in
     ap (λ (x : Writer). names x.readers) (writer_opened peers own.writers k w there)
     ∙ matched_told (λ (p : ReaderProxy). p.reader)
-    (λ i p n r. record { reader = record { peer = i; number = n }; acknowledged = 1 }) w.topic 1 peers
+    (λ i p n r. record { reader = record { peer = i; number = n }; first = 1; acknowledged = 1 }) w.topic 1 peers
 
 pub matched_opened : (peers : List PeerConfig) (own : PeerConfig) (number : ℕ) (w : WriterConfig)
     → IsNumbered own.writers number w

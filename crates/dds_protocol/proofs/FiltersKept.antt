@@ -6,7 +6,6 @@ use Rattle.std.proofs.lemmas.List.{length-map}
 use Rattle.rtps_wire.specs.declared.submessage.Submessage.{Submessage}
 use Rattle.dds_base.specs.declared.config.Config.{Config}
 use Rattle.dds_base.specs.declared.config.PeerConfig.{PeerConfig}
-use Rattle.dds_base.specs.declared.config.ReaderConfig.{ReaderConfig}
 use Rattle.dds_base.specs.declared.guid.GuidPrefix.{GuidPrefix}
 use Rattle.dds_notices.specs.Listeners.{Places, nobody}
 use Rattle.dds_notices.proofs.ListenerLaws.{nobody_is_told, NobodyTakes}
@@ -17,11 +16,11 @@ use Rattle.dds_machine.specs.declared.reply.Move.{Move}
 use Rattle.dds_machine.specs.declared.reply.Move.TheVariants.{Place, Acknowledged, Heard}
 use Rattle.dds_machine.specs.declared.reply.Reply.{Reply}
 use Rattle.dds_machine.specs.declared.reply.Reply.TheVariants.{Done, Reported, Refused}
-use Rattle.dds_machine.specs.Part.{Part, Dds, Reader as ReaderState, nothing_seen}
+use Rattle.dds_machine.specs.Part.{Part, Dds}
 use Rattle.dds_machine.specs.Moves.{Grounds, IsMove, AreMoves}
 use Rattle.dds_protocol.specs.Claims.{Receiver, after_submessage}
 use Rattle.dds_protocol.specs.Receipt.{TakesUp}
-use Rattle.dds_machine.specs.Opening.{opening_writer, reader_qos}
+use Rattle.dds_machine.specs.Opening.{opening_reader, opening_writer}
 use Rattle.dds_protocol.specs.Opening.{opening_peers, opening_world}
 use Rattle.dds_protocol.specs.Peer.{Peer, PeerStep, EventStep, no_peer}
 use Rattle.dds_protocol.specs.World.{peer_at}
@@ -119,12 +118,7 @@ nobody_yet peers n [] (suc i) = refl
 nobody_yet peers n (p ∷ ps) zero =
     ap (λ (w : ℕ). nobody w (length p.readers)) (sym (length-map p.writers (opening_writer peers)))
     ∙ ap (λ (r : ℕ). nobody (length (map (opening_writer peers) p.writers)) r)
-    (sym (length-map p.readers
-    (λ (r : ReaderConfig). let x : ReaderState = record {
-      qos = reader_qos peers r;
-      happened = [];
-      seen = nothing_seen;
-    } in x)))
+    (sym (length-map p.readers (opening_reader peers)))
 nobody_yet peers n (p ∷ ps) (suc i) = nobody_yet peers (n + 1) ps i
 
 -- a peer opens without listeners

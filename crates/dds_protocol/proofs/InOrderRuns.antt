@@ -25,8 +25,8 @@ use Rattle.dds_base.specs.declared.happening.PassedRun.{PassedRun}
 use Rattle.dds_machine.specs.declared.reply.Reply.{Reply}
 use Rattle.dds_machine.specs.declared.reply.Reply.TheVariants.{Done, Reported, Refused}
 use Rattle.dds_machine.specs.Numbered.{numbered, with_numbered, HasNumber}
-use Rattle.dds_machine.specs.Part.{same_endpoint, WriterProxy, Reader, Dds, Part, no_reader, no_part, own_writer, own_proxies, own_reader, at_reader, at_writer, row_of, place_of, with_place, with_heard, with_acknowledged, publication_among, writer_changes, nothing_seen}
-use Rattle.dds_machine.specs.Moves.{Grounds, as_to, match_of, IsMatchedAt, position_at, AreMoves, Places, Hears, DeliveryStep}
+use Rattle.dds_machine.specs.Part.{Begun, same_endpoint, WriterProxy, Reader, Dds, Part, no_reader, no_part, own_writer, own_proxies, own_reader, at_reader, at_writer, row_of, place_of, with_place, with_heard, with_acknowledged, publication_among, writer_changes}
+use Rattle.dds_machine.specs.Moves.{Grounds, as_to, match_of, position_at, AreMoves, Places, Hears, DeliveryStep}
 use Rattle.dds_machine.specs.Ticks.{TickStep, reader_ticked}
 use Rattle.dds_machine.specs.Calls.{Effect, nothing, writes, effect, effect_of, Answers, CallStep}
 use Rattle.dds_machine.specs.Watching.{Tests}
@@ -35,7 +35,7 @@ use Rattle.dds_machine.specs.Runs.{Run}
 use Rattle.dds_protocol.specs.InOrder.{came_from, CameInOrder}
 use Rattle.dds_protocol.proofs.Opened.{opening_is, writers_in}
 use Rattle.dds_protocol.specs.World.{machine_of}
-use Rattle.dds_machine.specs.Opening.{matched_writers, reader_qos, opening_part, opening}
+use Rattle.dds_machine.specs.Opening.{opening_reader, matched_writers, opening_part, opening}
 use Rattle.dds_protocol.specs.Opening.{opening_peers, opening_world}
 use Rattle.dds_protocol.specs.Peer.{Peer}
 use Rattle.dds_machine.proofs.Tables.{numbered-cases, numbered-map-cases, numbered-same, length-with_numbered, place-cases, place-hits, place-heard, same_is}
@@ -56,13 +56,18 @@ numbered-other : {X : Type 0} (xs : List X) (i : ℕ) (x : X) (j : ℕ) (d : X) 
     → numbered (with_numbered xs i x) j d ≡ numbered xs j d
 numbered-other xs i x j d f = ⊎_elim (λ s. s) (λ o. absurd (f o.0)) (numbered-cases xs i x j d)
 
+-- a writer has this publication handle at the peer's reader, which is at this place in its list
+record HasPlace (part : Part) (w : Endpoint) (r publication place : ℕ) : Type 0 where
+  handle : publication_among (own_proxies part r) w ≡ Some publication
+  at : place_of (own_proxies part r) w ≡ Some place
+
 -- what came at a peer's reader from a matched writer with these changes
 record Lane (changes : List Change) (part : Part) (w : Endpoint) (r : ℕ) : Type 0 where
   rows : HasNumber part.rtps.readers r
   own : HasNumber part.dds.readers r
   publication : ℕ
   place : ℕ
-  matched : IsMatchedAt part w r publication place
+  matched : HasPlace part w r publication place
   along : Along changes publication (position_at part r place)
 
 -- the reader has the same writers and places as before, and was entered what did not come
@@ -523,7 +528,7 @@ abbrev FirstOrNone : List WriterProxy → Endpoint → Type 0
 FirstOrNone rows w = (place_of rows w ≡ None) ⊎ (place_of rows w ≡ Some 1)
 
 abbrev begun : ℕ → ℕ → WriterProxy
-begun peer n = record { writer = record { peer = peer; number = n }; place = 1; heard = None }
+begun peer n = record { writer = record { peer = peer; number = n }; place = 1; heard = None; how = Begun }
 
 first_or_none : (c : Bool) (peer n : ℕ) (rest : Option WriterProxy)
     → (option_map (λ (p : WriterProxy). p.place) rest ≡ None)
@@ -566,8 +571,7 @@ own_first peers (r ∷ rs) zero w = matched_first r.topic 1 peers w
 own_first peers (r ∷ rs) (suc k) w = own_first peers rs k w
 
 own_quiet : (peers : List PeerConfig) (rs : List ReaderConfig) (k : ℕ)
-    → (get_or (map (λ (r : ReaderConfig). record { qos = reader_qos peers r; happened = []; seen = nothing_seen }) rs) k
-    no_reader).happened ≡ []
+    → (get_or (map (opening_reader peers) rs) k no_reader).happened ≡ []
 own_quiet peers [] k = refl
 own_quiet peers (r ∷ rs) zero = refl
 own_quiet peers (r ∷ rs) (suc k) = own_quiet peers rs k
@@ -583,8 +587,7 @@ begins_part peers p k w = record {
   first = own_first peers p.readers k w;
   quiet = own_quiet peers p.readers k;
   alike =
-      length-map p.readers
-      (λ (r : ReaderConfig). record { qos = reader_qos peers r; happened = []; seen = nothing_seen })
+      length-map p.readers (opening_reader peers)
       ∙ sym (length-map p.readers (λ (r : ReaderConfig). matched_writers r.topic 1 peers));
 }
 

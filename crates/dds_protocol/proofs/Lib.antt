@@ -68,3 +68,4 @@ pub mod SameBeside
 pub mod EndsBeside
 pub mod PairEnded
 pub mod WorkedSent
+pub mod Closed

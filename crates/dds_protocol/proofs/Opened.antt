@@ -7,7 +7,7 @@ use Rattle.dds_base.specs.declared.config.WriterConfig.{WriterConfig}
 use Rattle.dds_base.specs.declared.config.ReaderConfig.{ReaderConfig}
 use Rattle.dds_machine.specs.declared.endpoint.Endpoint.{Endpoint}
 use Rattle.dds_machine.specs.Numbered.{numbered, HasNumber}
-use Rattle.dds_machine.specs.Part.{row_of, NoLess, IsAtMost, same_endpoint, ReaderProxy, WriterProxy, Part, no_part, no_writer, own_writer, own_proxies, acknowledged_of, place_of}
+use Rattle.dds_machine.specs.Part.{Begun, row_of, NoLess, IsAtMost, same_endpoint, ReaderProxy, WriterProxy, Part, no_part, no_writer, own_writer, own_proxies, acknowledged_of, place_of}
 use Rattle.dds_protocol.specs.Peer.{Peer, Delivery, no_peer}
 use Rattle.dds_machine.specs.Machine.{Machine, part_at, place_at}
 use Rattle.dds_protocol.specs.World.{machine_of, Sound}
@@ -36,12 +36,12 @@ opening_is config = ap (λ (parts : List Part). let m : Machine = record { parts
 abbrev pub writers_in : ℕ → ℕ → ℕ → List WriterConfig → List WriterProxy
 writers_in topic peer number ws =
     of_writers_in (λ n w. record
-    { writer = record { peer = peer; number = n }; place = 1; heard = None }) topic number ws
+    { writer = record { peer = peer; number = n }; place = 1; heard = None; how = Begun }) topic number ws
 
 -- the readers of the topic among these, of which the first has this number
 abbrev pub readers_in : ℕ → ℕ → ℕ → List ReaderConfig → List ReaderProxy
 readers_in topic peer number rs =
-    of_readers_in (λ n r. record { reader = record { peer = peer; number = n }; acknowledged = 1 }) topic number rs
+    of_readers_in (λ n r. record { reader = record { peer = peer; number = n }; first = 1; acknowledged = 1 }) topic number rs
 
 -- the topics of a list, of which one stands at this place, counted from 0
 abbrev At : ℕ → List ℕ → ℕ → Type 0
@@ -74,7 +74,7 @@ same_self peer number =
     ap (λ (b : Bool). cond b (number == number) false) (eq-eqb peer peer refl) ∙ eq-eqb number number refl
 
 abbrev begun : ℕ → ℕ → WriterProxy
-begun peer n = record { writer = record { peer = peer; number = n }; place = 1; heard = None }
+begun peer n = record { writer = record { peer = peer; number = n }; place = 1; heard = None; how = Begun }
 
 abbrev places : Option WriterProxy → Option ℕ
 places o = option_map (λ (p : WriterProxy). p.place) o
@@ -146,7 +146,7 @@ found_later : (topic peer n : ℕ) (x : ReaderConfig) (rs : List ReaderConfig) (
 found_later topic peer n x rs r f = let e = f.2 in (suc f.0, f.1, omega (arith, e), f.3)
 
 abbrev begun_reader : ℕ → ℕ → ReaderProxy
-begun_reader peer n = record { reader = record { peer = peer; number = n }; acknowledged = 1 }
+begun_reader peer n = record { reader = record { peer = peer; number = n }; first = 1; acknowledged = 1 }
 
 abbrev acks : Option ReaderProxy → Option ℕ
 acks o = option_map (λ (p : ReaderProxy). p.acknowledged) o

@@ -10,7 +10,7 @@ use Rattle.dds_base.specs.declared.config.ReaderConfig.{ReaderConfig}
 use Rattle.rtps_reader.specs.Tracked.{is_passable}
 use Rattle.dds_machine.specs.declared.endpoint.Endpoint.{Endpoint}
 use Rattle.dds_machine.specs.Numbered.{numbered}
-use Rattle.dds_machine.specs.Part.{row_of, same_endpoint, WriterProxy, own_proxies, place_of, heard_of}
+use Rattle.dds_machine.specs.Part.{Begun, row_of, same_endpoint, WriterProxy, own_proxies, place_of, heard_of}
 use Rattle.dds_protocol.specs.Peer.{Peer, Delivery, no_peer, state_of, packets_of}
 use Rattle.dds_protocol.specs.Protocol.{Known, knows_nothing}
 use Rattle.dds_machine.specs.Opening.{matched_writers}
@@ -58,7 +58,7 @@ fresh_both (x ∷ xs) ys f g = (f.0, f.1, fresh_both xs ys f.2 g)
 
 -- the proxy of a writer of which nothing was heard
 abbrev begun : ℕ → ℕ → WriterProxy
-begun peer n = record { writer = record { peer = peer; number = n }; place = 1; heard = None }
+begun peer n = record { writer = record { peer = peer; number = n }; place = 1; heard = None; how = Begun }
 
 fresh_row : (topic peer n : ℕ) (ws : List WriterConfig) → AreFresh (writers_in topic peer n ws)
 fresh_row topic peer n [] = tt

@@ -25,7 +25,7 @@ use Rattle.dds_machine.specs.declared.endpoint.Endpoint.{Endpoint}
 use Rattle.dds_base.specs.declared.config.Config.{Config}
 use Rattle.dds_protocol.specs.Claims.{IsNumbered, IsWriter, IsReader, every_reader, every_peer}
 use Rattle.std.proofs.lemmas.Option.{same_Some}
-use Rattle.dds_machine.specs.Part.{WriterProxy, same_endpoint, publication_from}
+use Rattle.dds_machine.specs.Part.{Begun, WriterProxy, same_endpoint, publication_from}
 use Rattle.dds_machine.specs.Opening.{matched_writers, writer_qos, reader_qos}
 use Rattle.dds_protocol.specs.Laws.{ReadersTellWritersApart}
 
@@ -321,7 +321,7 @@ pub tell_apart : ReadersTellWritersApart
 tell_apart config peer reader fits at_peer at_reader =
     let good = checked config.peers fits in
     let same : length (matched_writers reader.topic 1 config.peers) ≡ length (reader_qos config.peers reader).writers =
-    as_many (λ i p n w. record { writer = record { peer = i; number = n }; place = 1; heard = None })
+    as_many (λ i p n w. record { writer = record { peer = i; number = n }; place = 1; heard = None; how = Begun })
     (λ i p n w. told p w) reader.topic 1 config.peers in
     record {
       own_guids = own_guids config.peers reader good;

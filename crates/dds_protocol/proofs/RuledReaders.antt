@@ -437,6 +437,7 @@ hears c w r count true old hearing heard b there later says h =
         record {
           publication = h.0.publication;
           matched = h.0.handle;
+          here = h.0.here;
           heard = last.0;
           last = last.1;
           count = count;

@@ -11,7 +11,7 @@ use Rattle.rtps_wire.specs.declared.submessage.Submessage.TheVariants.{Pad, Info
 use Rattle.dds_machine.specs.declared.endpoint.Endpoint.{Endpoint}
 use Rattle.dds_machine.specs.declared.reply.Move.{Move}
 use Rattle.dds_machine.specs.declared.reply.Move.TheVariants.{Place, Acknowledged, Heard}
-use Rattle.dds_machine.specs.Part.{Reader, WriterProxy, own_proxies, own_reader, place_of, publication_among}
+use Rattle.dds_machine.specs.Part.{how_of, Reader, WriterProxy, own_proxies, own_reader, place_of, publication_among}
 use Rattle.dds_machine.specs.Moves.{AreMoves}
 use Rattle.dds_protocol.specs.Receipt.{GoesOver}
 use Rattle.dds_protocol.specs.DueMessages.{Due}
@@ -87,6 +87,7 @@ moves_it_on c s r old mid made later f m = λ w publication number change told m
       handle = ap (λ (xs : List WriterProxy). publication_among xs w) f.proxies
           ∙ matched.handle;
       at = ap (λ (xs : List WriterProxy). place_of xs w) f.proxies ∙ matched.at;
+      begun = ap (λ (xs : List WriterProxy). how_of xs w) f.proxies ∙ matched.begun;
     }))
   where
     room_at : Reader → ℕ → ℕ → ℕ → Change → Bool

@@ -18,7 +18,7 @@ use Rattle.dds_notices.specs.Listeners.{nobody}
 use Rattle.dds_machine.specs.declared.reply.Move.{Move}
 use Rattle.dds_machine.specs.declared.reply.Move.TheVariants.{Place}
 use Rattle.dds_machine.specs.declared.reply.Reply.TheVariants.{Reported}
-use Rattle.dds_machine.specs.Part.{Part, Writer, nothing_seen}
+use Rattle.dds_machine.specs.Part.{Begun, opened_with, Part, Writer, nothing_seen}
 use Rattle.dds_machine.specs.Moves.{Grounds, as_to, AreMoves, match_of, Places, DeliveryStep}
 use Rattle.dds_machine.specs.Machine.{Machine, grounds_of}
 use Rattle.dds_machine.specs.Opening.{opening, reader_qos}
@@ -45,7 +45,8 @@ writing policy max_samples happened acknowledged =
       autodispose = true;
       written = happened;
       matched = r1 ∷ [];
-      readers = record { reader = r1; acknowledged = acknowledged } ∷ [];
+      readers = record { reader = r1; first = 1; acknowledged = acknowledged } ∷ [];
+      matches = opened_with 1;
     }
 
 abbrev pub part_1 : Writer → Part
@@ -58,7 +59,7 @@ part_1 w =
 -- r1 at this place, with the count by which it heard w1 last, and what happened there
 abbrev pub part_2 : ℕ → Option ℤ → List Happening → Part
 part_2 place heard happened = record {
-  rtps = record { writers = []; readers = (record { writer = w1; place = place; heard = heard } ∷ []) ∷ [] };
+  rtps = record { writers = []; readers = (record { writer = w1; place = place; heard = heard; how = Begun } ∷ []) ∷ [] };
   dds =
       record {
         moment = 0;
@@ -67,6 +68,7 @@ part_2 place heard happened = record {
               (reader r1_id 0);
           happened = happened;
           seen = nothing_seen;
+          matches = opened_with 1;
         }
             ∷ [];
         watch = nothing_watched 0 1;
@@ -121,7 +123,7 @@ place_goes grounds place to old happened passed forward goes = (
   record {
     publication = 1;
     place = place;
-    matched = record { handle = refl; at = refl };
+    matched = record { handle = refl; at = refl; begun = refl };
     forward = forward;
     end = position to happened;
     goes = goes;

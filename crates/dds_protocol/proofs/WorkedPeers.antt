@@ -113,6 +113,7 @@ hears-1 = (
   record {
     publication = 1;
     matched = refl;
+    here = refl;
     heard = None;
     last = refl;
     count = pos 1;

@@ -21,7 +21,7 @@ use Rattle.dds_notices.specs.Listeners.{nobody}
 use Rattle.dds_machine.specs.declared.endpoint.Endpoint.{Endpoint}
 use Rattle.dds_machine.specs.declared.reply.Move.{Move}
 use Rattle.dds_machine.specs.declared.reply.Move.TheVariants.{Place, Acknowledged}
-use Rattle.dds_machine.specs.Part.{Part, Writer, own_reader, nothing_seen}
+use Rattle.dds_machine.specs.Part.{opened_with, Part, Writer, own_reader, nothing_seen}
 use Rattle.dds_base.specs.Places.{coming}
 use Rattle.dds_machine.specs.Moves.{Grounds, match_of, position_at, AreMoves}
 use Rattle.dds_protocol.specs.Claims.{Receiver, receiver_of, after_submessage, IsNumbered, IsWriter, IsReader, IsToReader}
@@ -294,7 +294,7 @@ taken_up-must_move refused new not_0 not_1 not_2 h =
     let from_3 =
     goes_on 2 to_2 (Data (data_of 1)) (InfoTs (Some 0) ∷ Data (data_of 2) ∷ []) refused new not_2 from_2.1 in
     ⊎_elim (λ none. none) has_room-for_1
-    (from_3.0 w1 r1 1 1 (write_of 1 1) (to_r1, refl, refl) refl (record { handle = refl; at = refl }) (omega arith)
+    (from_3.0 w1 r1 1 1 (write_of 1 1) (to_r1, refl, refl) refl (record { handle = refl; at = refl; begun = refl }) (omega arith)
     (omega arith))
 
 taken_up-not_without_moves : (new : Part) → TakenUp [] None new → ⊥
@@ -319,6 +319,7 @@ limited happened = record (part_2 2 None []) {
               { max_samples = Some 1 };
           happened = happened;
           seen = nothing_seen;
+          matches = opened_with 1;
         }
             ∷ [];
         watch = nothing_watched 0 1;

@@ -13,7 +13,7 @@ use Rattle.rtps_wire.specs.declared.submessage.Submessage.TheVariants.{InfoDst, 
 use Rattle.dds_machine.specs.Ticks.{RefusesTick, after_tick, is_past_counting, tick_refusal}
 use Rattle.dds_machine.specs.Calls.{with_written}
 use Rattle.dds_protocol.specs.Claims.{every_reader}
-use Rattle.dds_machine.specs.Part.{Part, Writer, heartbeats_used, is_assertion, no_part, no_writer, nothing_seen, own_reader}
+use Rattle.dds_machine.specs.Part.{opened_with, Part, Writer, heartbeats_used, is_assertion, no_part, no_writer, nothing_seen, own_reader}
 use Rattle.dds_protocol.specs.DueMessages.{assertions_due}
 use Rattle.dds_protocol.proofs.WorkedReceivers.{network, prefix_1, prefix_2, r1, r3, w1, w1_id}
 
@@ -45,6 +45,7 @@ part = record no_part {
           };
       happened = Heard 2 5 ∷ Heard 1 2 ∷ [];
       seen = nothing_seen;
+      matches = opened_with 2;
     } ∷ [];
   };
 }
@@ -77,7 +78,7 @@ tick-back = refl
 abbrev writer : Writer
 writer = record no_writer {
   matched = r1 ∷ r3 ∷ [];
-  readers = record { reader = r1; acknowledged = 1 } ∷ record { reader = r3; acknowledged = 1 } ∷ [];
+  readers = record { reader = r1; first = 1; acknowledged = 1 } ∷ record { reader = r3; first = 1; acknowledged = 1 } ∷ [];
   written = Ticked 0 true ∷ [];
 }
 

@@ -1,4 +1,5 @@
 pub mod Claims
+pub mod Closed
 pub mod Receipt
 pub mod Peer
 pub mod World

@@ -32,7 +32,7 @@ use Rattle.dds_machine.specs.declared.endpoint.Endpoint.{Endpoint}
 use Rattle.dds_machine.specs.declared.reply.Report.{Report}
 use Rattle.dds_machine.specs.declared.reply.Move.{Move}
 use Rattle.dds_machine.specs.declared.reply.Move.TheVariants.{Place, Acknowledged, Heard}
-use Rattle.dds_machine.specs.Part.{Part, ReaderProxy, Writer, same_endpoint, own_writer, own_proxies, own_reader, acknowledged_of, with_acknowledged, with_place, with_heard, publication_among, at_reader, at_writer, writer_changes, history_of}
+use Rattle.dds_machine.specs.Part.{is_attached, how_of, Part, ReaderProxy, Writer, same_endpoint, own_writer, own_proxies, own_reader, acknowledged_of, with_acknowledged, with_place, with_heard, publication_among, at_reader, at_writer, writer_changes, history_of}
 use Rattle.dds_machine.specs.Moves.{IsMatchedAt, match_of}
 use Rattle.dds_protocol.specs.Claims.{Receiver, receiver_of, after_submessage, IsToReader, IsToWriter}
 use Rattle.dds_protocol.specs.Receipt.{prefix_of, IsNotTaken}
@@ -128,6 +128,7 @@ heard_as false h = record h { first_sn = 0; last_sn = 0; final_flag = true }
 pub record HearsOf (old : State) (writer : Endpoint) (reader : ℕ) (count : ℤ) (new : State) : Type 0 where
   pub publication : ℕ
   pub handle : publication_among (own_proxies old.part reader) writer ≡ Some publication
+  pub here : is_attached (how_of (own_proxies old.part reader) writer) ≡ true
   pub after : new ≡ record old {
     part = at_reader old.part reader (with_heard (own_proxies old.part reader) writer count)
         (WasHeard publication old.part.dds.moment ∷ (own_reader old.part reader).happened);

@@ -6,6 +6,7 @@
 ghost use Rattle.std.specs.Prelude.{◌≡◌, ◌↔◌, ◌⊎◌, ◌+◌, ◌∷◌, [], IsTrue, List, length, ℕ};
 ghost use Rattle.dds_protocol.specs.Bounds.{OpensBounded, RunsBounded, StepsBounded};
 ghost use Rattle.dds_protocol.specs.CatchUp.{WindowCatchesUp};
+ghost use Rattle.dds_protocol.specs.Closed.{OpensClosed, RunsClosed, StaysClosed};
 ghost use Rattle.dds_protocol.specs.DueMessages.{AreSent, Due, packet_of};
 ghost use Rattle.dds_protocol.specs.Fresh.{OpensUsed, StepsUsed};
 ghost use Rattle.dds_protocol.specs.InOrder.{ChangesComeInOrder};
@@ -34,6 +35,16 @@ pub fn composes_runs()
 /// No run passes over a change of a writer that keeps all.
 pub fn keep_all_is_kept()
     ensures kept { KeepAllIsKept }
+{}
+
+/// Nobody comes or goes: each place has begun, and each matched reliable reader is owed all changes.
+pub fn nobody_comes_or_goes()
+    // at the opening,
+    ensures opening { OpensClosed }
+    // after every event,
+    ensures step { StaysClosed }
+    // and after every run.
+    ensures run { RunsClosed }
 {}
 
 /// After every run, the changes of a writer that keeps all that came at a matched reader are the first ones of its

@@ -1,0 +1,338 @@
+-- Where nobody comes or goes nobody has.
+use Rattle.std.proofs.Common.{◌≡◌, ℕ, zero, suc, ◌+◌, ◌==◌, ◌&&◌, ◌≤◌, Bool, true, false, cond, get_or, map, List, [], ◌∷◌, ◌++◌, Option, None, Some, refl, subst, ap, sym, ◌∙◌, inl, inr, ⊎_elim, arith}
+use Rattle.std.specs.Option.{option_map}
+use Rattle.std.proofs.lemmas.Option.{same_Some}
+use Rattle.dds_base.specs.declared.config.Config.{Config}
+use Rattle.dds_base.specs.declared.config.PeerConfig.{PeerConfig}
+use Rattle.dds_base.specs.declared.config.WriterConfig.{WriterConfig}
+use Rattle.dds_base.specs.declared.config.ReaderConfig.{ReaderConfig}
+use Rattle.dds_base.specs.Matched.{is_reliable_reader, same_topic}
+use Rattle.dds_machine.specs.declared.endpoint.Endpoint.{Endpoint}
+use Rattle.dds_machine.specs.declared.event.WorldEvent.{WorldEvent}
+use Rattle.dds_machine.specs.declared.event.WorldEvent.TheVariants as world
+use Rattle.dds_machine.specs.declared.reply.Move.{Move}
+use Rattle.dds_machine.specs.declared.reply.Move.TheVariants.{Place, Acknowledged, Heard}
+use Rattle.dds_machine.specs.declared.reply.Reply.{Reply}
+use Rattle.dds_machine.specs.declared.reply.Reply.TheVariants.{Reported}
+use Rattle.dds_machine.specs.Calls.{Effect, nothing, writes, effect, effect_of}
+use Rattle.dds_machine.specs.Machine.{Machine, AllTests, part_at, grounds_of, Step}
+use Rattle.dds_machine.specs.Moves.{Grounds, IsMove, AreMoves, DeliveryStep}
+use Rattle.dds_machine.specs.Noticing.{machine_ended}
+use Rattle.dds_machine.specs.Numbered.{numbered, with_numbered}
+use Rattle.dds_machine.specs.Opening.{matched_writers, reliable_readers, opening_writer, opening_part, opening}
+use Rattle.dds_machine.specs.Part.{Begun, same_endpoint, ReaderProxy, WriterProxy, Writer, Rtps, Part, no_part, no_writer, row_of, with_row, own_proxies, own_writer, with_acknowledged, with_place, with_heard}
+use Rattle.dds_machine.specs.Runs.{Run}
+use Rattle.dds_machine.proofs.Tables.{numbered-cases, row-cases}
+use Rattle.dds_protocol.specs.Closed.{IsClosed}
+use Rattle.dds_protocol.proofs.Alike.{alike_readers}
+use Rattle.dds_protocol.proofs.EndsBeside.{ended_alike}
+use Rattle.dds_protocol.proofs.Growth.{CallStep-readers, TickStep-rows, TickStep-acknowledged}
+use Rattle.dds_protocol.proofs.Opened.{writers_in, readers_in}
+
+-- ---- rows
+
+-- the place of this row, if there is one, has begun
+abbrev HasBegun : Option WriterProxy → Type 0
+HasBegun o = (row : WriterProxy) → o ≡ Some row → row.how ≡ Begun
+
+abbrev RowsBegun : List WriterProxy → Type 0
+RowsBegun rows = (w : Endpoint) → HasBegun (row_of (λ (p : WriterProxy). p.writer) rows w)
+
+still_begun : (change : WriterProxy → WriterProxy) → ((p : WriterProxy) → (change p).how ≡ p.how)
+    → (o : Option WriterProxy) → HasBegun o → HasBegun (option_map change o)
+still_begun change kept None h row e = cc
+still_begun change kept (Some x) h row e =
+    sym (ap (λ (p : WriterProxy). p.how) (same_Some (change x) row e)) ∙ (kept x ∙ h x refl)
+
+rows_begun : (change : WriterProxy → WriterProxy) → ((p : WriterProxy) → (change p).writer ≡ p.writer)
+    → ((p : WriterProxy) → (change p).how ≡ p.how) → (rows : List WriterProxy) (v : Endpoint) → RowsBegun rows
+    → RowsBegun (with_row (λ (p : WriterProxy). p.writer) change rows v)
+rows_begun change named kept rows v h w =
+    ⊎_elim (λ e. subst (λ (o : Option WriterProxy). HasBegun o) (sym e) (h w))
+    (λ s. subst (λ (o : Option WriterProxy). HasBegun o) (sym s.1)
+    (still_begun change kept (row_of (λ (p : WriterProxy). p.writer) rows v) (h v)))
+    (row-cases (λ (p : WriterProxy). p.writer) change named rows v w)
+
+-- the reader of this row, if there is one, is owed all
+abbrev IsOwedAll : Option ReaderProxy → Type 0
+IsOwedAll o = (row : ReaderProxy) → o ≡ Some row → row.first ≤ 1
+
+abbrev RowsOwed : List ReaderProxy → Type 0
+RowsOwed rows = (r : Endpoint) → IsOwedAll (row_of (λ (p : ReaderProxy). p.reader) rows r)
+
+owed_row_is : (p row : ReaderProxy) → p.first ≤ 1 → ◌≡◌ {A = Option ReaderProxy} (Some p) (Some row) → row.first ≤ 1
+owed_row_is p row low e = subst (λ (q : ReaderProxy). q.first ≤ 1) (same_Some p row e) low
+
+still_owed : (to : ℕ) (o : Option ReaderProxy) → IsOwedAll o
+    → IsOwedAll (option_map (λ (p : ReaderProxy). record p { acknowledged = to }) o)
+still_owed to None h row e = cc
+still_owed to (Some x) h row e = owed_row_is (record x { acknowledged = to }) row (h x refl) e
+
+rows_owed : (rows : List ReaderProxy) (v : Endpoint) (to : ℕ) → RowsOwed rows → RowsOwed (with_acknowledged rows v to)
+rows_owed rows v to h r =
+    ⊎_elim (λ e. subst (λ (o : Option ReaderProxy). IsOwedAll o) (sym e) (h r))
+    (λ s. subst (λ (o : Option ReaderProxy). IsOwedAll o) (sym s.1)
+    (still_owed to (row_of (λ (p : ReaderProxy). p.reader) rows v) (h v)))
+    (row-cases (λ (p : ReaderProxy). p.reader) (λ (p : ReaderProxy). record p { acknowledged = to }) (λ p. refl) rows v r)
+
+-- ---- parts
+
+record PartClosed (part : Part) : Type 0 where
+  begun : (r : ℕ) → RowsBegun (own_proxies part r)
+  owed : (k : ℕ) → RowsOwed (own_writer part k).readers
+
+same_closed : (old new : Part) → ((r : ℕ) → own_proxies new r ≡ own_proxies old r)
+    → ((k : ℕ) → (own_writer new k).readers ≡ (own_writer old k).readers) → PartClosed old → PartClosed new
+same_closed old new proxies readers c = record {
+  begun = λ r. subst (λ (rows : List WriterProxy). RowsBegun rows) (sym (proxies r)) (c.begun r);
+  owed = λ k. subst (λ (rows : List ReaderProxy). RowsOwed rows) (sym (readers k)) (c.owed k);
+}
+
+set_begun : (old : Part) (k : ℕ) (rows : List WriterProxy) → PartClosed old → RowsBegun rows → (r : ℕ)
+    → RowsBegun (numbered (with_numbered old.rtps.readers k rows) r [])
+set_begun old k rows c h r =
+    ⊎_elim (λ e. subst (λ (xs : List WriterProxy). RowsBegun xs) (sym e) (c.begun r))
+    (λ s. subst (λ (xs : List WriterProxy). RowsBegun xs) (sym s.1) h)
+    (numbered-cases old.rtps.readers k rows r [])
+
+-- ---- what an event does
+
+move_closed : (g : Grounds) (old : Part) (m : Move) (new : Part) → PartClosed old → IsMove g old m new → PartClosed new
+move_closed g old (Place w r to passed) new c h =
+    subst (λ (q : Part). PartClosed q) (sym h.after) (record {
+      begun = set_begun old r (with_place (own_proxies old r) w to) c
+          (rows_begun (λ (p : WriterProxy). record p { place = to }) (λ p. refl) (λ p. refl) (own_proxies old r) w
+          (c.begun r));
+      owed = λ k. c.owed k;
+    })
+move_closed g old (Heard w r) new c h =
+    subst (λ (q : Part). PartClosed q) (sym h.after) (record {
+      begun = set_begun old r (with_heard (own_proxies old r) w h.count) c
+          (rows_begun (λ (p : WriterProxy). record p { heard = Some h.count }) (λ p. refl) (λ p. refl)
+          (own_proxies old r) w (c.begun r));
+      owed = λ k. c.owed k;
+    })
+move_closed g old (Acknowledged w r to) new c h =
+    let after : Writer = record (own_writer old w) { readers = with_acknowledged (own_writer old w).readers r to } in
+    subst (λ (q : Part). PartClosed q) (sym h.after) (record {
+      begun = λ k. c.begun k;
+      owed = λ k.
+          ⊎_elim (λ e. subst (λ (x : Writer). RowsOwed x.readers) (sym e) (c.owed k))
+          (λ s. subst (λ (x : Writer). RowsOwed x.readers) (sym s.1)
+          (rows_owed (own_writer old w).readers r to (c.owed w)))
+          (numbered-cases old.rtps.writers w after k no_writer);
+    })
+
+moves_closed : (g : Grounds) (old : Part) (ms : List Move) (new : Part) → PartClosed old → AreMoves g old ms new
+    → PartClosed new
+moves_closed g old [] new c h = subst (λ (q : Part). PartClosed q) (sym h) c
+moves_closed g old (m ∷ ms) new c h = moves_closed g h.0 ms new (move_closed g old m h.0 c h.1) h.2
+
+delivery_closed : (g : Grounds) (old : Part) (reply : Reply) (new : Part) → PartClosed old → DeliveryStep g old reply new
+    → PartClosed new
+delivery_closed g old (Reported report) new c h = moves_closed g old report.moves new c h
+delivery_closed g old reply new c h = absurd h
+
+-- a call enters one thing more at a writer, or nothing
+effect_proxies : (old : Rtps) (e : Effect) → (effect old e).readers ≡ old.readers
+effect_proxies old nothing = refl
+effect_proxies old (writes w entry) = refl
+
+-- ---- the machine
+
+abbrev AllClosed : Machine → Type 0
+AllClosed m = (i : ℕ) → PartClosed (part_at m i)
+
+parts_of : (m : Machine) → IsClosed m → AllClosed m
+parts_of m c i = record {
+  begun = λ r w row e. c.begun (record { peer = i; number = r }) w row e;
+  owed = λ k r row e. c.owed (record { peer = i; number = k }) r row e;
+}
+
+of_parts : (m : Machine) → AllClosed m → IsClosed m
+of_parts m c = record {
+  begun = λ r w row e. (c r.peer).begun r.number w row e;
+  owed = λ w r row e. (c w.peer).owed w.number r row e;
+}
+
+with_closed : (m : Machine) (peer : ℕ) (after : Part) (new : Machine)
+    → new ≡ record { parts = with_numbered m.parts peer after } → AllClosed m → PartClosed after → AllClosed new
+with_closed m peer after new is c h =
+    subst (λ (x : Machine). AllClosed x) (sym is)
+    (λ i. ⊎_elim (λ e. subst (λ (q : Part). PartClosed q) (sym e) (c i))
+    (λ s. subst (λ (q : Part). PartClosed q) (sym s.1) h)
+    (numbered-cases m.parts peer after i no_part))
+
+ended_closed : (before : Machine) (e : WorldEvent) (m : Machine) → AllClosed m → AllClosed (machine_ended before e m)
+ended_closed before e m c i =
+    let alike = ended_alike before e m i in
+    same_closed (part_at m i) (part_at (machine_ended before e m) i)
+    (λ r. ap (λ (rows : List (List WriterProxy)). numbered rows r []) alike.rows)
+    (λ k. alike_readers (own_writer (part_at m i) k) (own_writer (part_at (machine_ended before e m) i) k)
+    (alike.writers k)) (c i)
+
+step_closed : (tests : AllTests) (sent : ℕ) (m : Machine) (ev : WorldEvent) (reply : Reply) (new : Machine)
+    → AllClosed m → Step tests sent m ev reply new → AllClosed new
+step_closed tests sent m (world.Call peer c) reply new a (inl h) =
+    let old : Part = part_at m peer in
+    with_closed m peer h.after new h.changed a
+    (same_closed old h.after
+    (λ r. ap (λ (x : Rtps). numbered x.readers r []) h.step.rtps
+    ∙ ap (λ (rows : List (List WriterProxy)). numbered rows r []) (effect_proxies old.rtps (effect_of old c reply)))
+    (CallStep-readers (tests peer) old c reply h.after h.step) (a peer))
+step_closed tests sent m (world.Call peer c) reply new a (inr h) = subst (λ (x : Machine). AllClosed x) (sym h.1.1) a
+step_closed tests sent m (world.Tick peer now) reply new a (inl h) =
+    with_closed m peer h.after new h.changed a
+    (same_closed (part_at m peer) h.after
+    (λ r. ap (λ (rows : List (List WriterProxy)). numbered rows r [])
+    (TickStep-rows (part_at m peer) now reply h.after h.step))
+    (TickStep-acknowledged (part_at m peer) now reply h.after h.step) (a peer))
+step_closed tests sent m (world.Tick peer now) reply new a (inr h) = subst (λ (x : Machine). AllClosed x) (sym h.1.1) a
+step_closed tests sent m (world.Deliver peer packet) reply new a (inl h) =
+    with_closed m peer h.2.after new h.2.changed a
+    (delivery_closed (grounds_of m peer) (part_at m peer) reply h.2.after (a peer) h.2.step)
+step_closed tests sent m (world.Deliver peer packet) reply new a (inr h) =
+    subst (λ (x : Machine). AllClosed x) (sym h.1.1) a
+
+pub stays_closed : (tests : AllTests) (sent : ℕ) (m : Machine) (ev : WorldEvent) (reply : Reply) (new : Machine)
+    → IsClosed m → Step tests sent m ev reply new → IsClosed (machine_ended m ev new)
+stays_closed tests sent m ev reply new c h =
+    of_parts (machine_ended m ev new)
+    (ended_closed m ev new (step_closed tests sent m ev reply new (parts_of m c) h))
+
+pub runs_closed : (tests : AllTests) (sent : ℕ) (m : Machine) (events : List WorldEvent) (replies : List Reply) (last : ℕ)
+    (after : Machine)
+    → IsClosed m → Run tests sent m events replies last after → IsClosed after
+runs_closed tests sent m [] [] last after c h = subst (λ (x : Machine). IsClosed x) (sym h.0) c
+runs_closed tests sent m [] (reply ∷ replies) last after c h = absurd h
+runs_closed tests sent m (ev ∷ events) [] last after c h = absurd h
+runs_closed tests sent m (ev ∷ events) (reply ∷ replies) last after c h =
+    runs_closed tests h.1 (machine_ended m ev h.0) events replies last after
+    (stays_closed tests sent m ev reply h.0 c h.2) h.4
+
+-- ---- the opening
+
+-- each row has begun, and each is owed all
+abbrev AllBegun : List WriterProxy → Type 0
+AllBegun [] = Unit {0}
+AllBegun (p ∷ ps) = (p.how ≡ Begun) × AllBegun ps
+
+abbrev AllOwed : List ReaderProxy → Type 0
+AllOwed [] = Unit {0}
+AllOwed (p ∷ ps) = (p.first ≤ 1) × AllOwed ps
+
+begun_found : (rows : List WriterProxy) → AllBegun rows → RowsBegun rows
+begun_found [] f w = λ row e. cc
+begun_found (p ∷ ps) f w = by (same_endpoint p.writer w) (begun_found ps f.1 w)
+  where
+    by : (b : Bool) → HasBegun (row_of (λ (x : WriterProxy). x.writer) ps w)
+        → HasBegun (cond b (Some p) (row_of (λ (x : WriterProxy). x.writer) ps w))
+    by true rest = λ row e. sym (ap (λ (x : WriterProxy). x.how) (same_Some p row e)) ∙ f.0
+    by false rest = rest
+
+owed_found : (rows : List ReaderProxy) → AllOwed rows → RowsOwed rows
+owed_found [] f r = λ row e. cc
+owed_found (p ∷ ps) f r = by (same_endpoint p.reader r) (owed_found ps f.1 r)
+  where
+    by : (b : Bool) → IsOwedAll (row_of (λ (x : ReaderProxy). x.reader) ps r)
+        → IsOwedAll (cond b (Some p) (row_of (λ (x : ReaderProxy). x.reader) ps r))
+    by true rest = λ row e. owed_row_is p row f.0 e
+    by false rest = rest
+
+begun_or : (b : Bool) (p : WriterProxy) (rows : List WriterProxy) → p.how ≡ Begun → AllBegun rows
+    → AllBegun (cond b (p ∷ rows) rows)
+begun_or true p rows begun f = (begun, f)
+begun_or false p rows begun f = f
+
+begun_both : (xs ys : List WriterProxy) → AllBegun xs → AllBegun ys → AllBegun (xs ++ ys)
+begun_both [] ys f g = g
+begun_both (x ∷ xs) ys f g = (f.0, begun_both xs ys f.1 g)
+
+owed_or : (b : Bool) (p : ReaderProxy) (rows : List ReaderProxy) → p.first ≤ 1 → AllOwed rows
+    → AllOwed (cond b (p ∷ rows) rows)
+owed_or true p rows all f = (all, f)
+owed_or false p rows all f = f
+
+owed_both : (xs ys : List ReaderProxy) → AllOwed xs → AllOwed ys → AllOwed (xs ++ ys)
+owed_both [] ys f g = g
+owed_both (x ∷ xs) ys f g = (f.0, owed_both xs ys f.1 g)
+
+begun_row : (topic peer n : ℕ) (ws : List WriterConfig) → AllBegun (writers_in topic peer n ws)
+begun_row topic peer n [] = tt
+begun_row topic peer n (x ∷ ws) =
+    begun_or (x.topic == topic)
+    (record { writer = record { peer = peer; number = n }; place = 1; heard = None; how = Begun })
+    (writers_in topic peer (n + 1) ws) refl (begun_row topic peer (n + 1) ws)
+
+begun_rows : (topic peer : ℕ) (ps : List PeerConfig) → AllBegun (matched_writers topic peer ps)
+begun_rows topic peer [] = tt
+begun_rows topic peer (p ∷ ps) =
+    let here : AllBegun (writers_in topic peer 1 p.writers) = begun_row topic peer 1 p.writers in
+    begun_both (writers_in topic peer 1 p.writers) (matched_writers topic (peer + 1) ps) here
+    (begun_rows topic (peer + 1) ps)
+
+owed_row : (topic peer n : ℕ) (rs : List ReaderConfig) → AllOwed (readers_in topic peer n rs)
+owed_row topic peer n [] = tt
+owed_row topic peer n (x ∷ rs) =
+    owed_or (is_reliable_reader x && same_topic x.topic topic)
+    (record { reader = record { peer = peer; number = n }; first = 1; acknowledged = 1 })
+    (readers_in topic peer (n + 1) rs) (omega arith) (owed_row topic peer (n + 1) rs)
+
+owed_rows : (topic peer : ℕ) (ps : List PeerConfig) → AllOwed (reliable_readers topic peer ps)
+owed_rows topic peer [] = tt
+owed_rows topic peer (p ∷ ps) =
+    let here : AllOwed (readers_in topic peer 1 p.readers) = owed_row topic peer 1 p.readers in
+    owed_both (readers_in topic peer 1 p.readers) (reliable_readers topic (peer + 1) ps) here
+    (owed_rows topic (peer + 1) ps)
+
+begun_reader : (peers : List PeerConfig) (rs : List ReaderConfig) (k : ℕ)
+    → AllBegun (get_or (map (λ (x : ReaderConfig). matched_writers x.topic 1 peers) rs) k [])
+begun_reader peers [] k = tt
+begun_reader peers (x ∷ rs) zero = begun_rows x.topic 1 peers
+begun_reader peers (x ∷ rs) (suc k) = begun_reader peers rs k
+
+owed_writer : (peers : List PeerConfig) (ws : List WriterConfig) (k : ℕ)
+    → AllOwed (get_or (map (opening_writer peers) ws) k no_writer).readers
+owed_writer peers [] k = tt
+owed_writer peers (x ∷ ws) zero = owed_rows x.topic 1 peers
+owed_writer peers (x ∷ ws) (suc k) = owed_writer peers ws k
+
+none_closed : PartClosed no_part
+none_closed = record {
+  begun = λ r. begun_found (own_proxies no_part r) (proxies r);
+  owed = λ k. owed_found (own_writer no_part k).readers (readers k);
+}
+  where
+    proxies : (r : ℕ) → AllBegun (own_proxies no_part r)
+    proxies zero = tt
+    proxies (suc r) = tt
+
+    readers : (k : ℕ) → AllOwed (own_writer no_part k).readers
+    readers zero = tt
+    readers (suc k) = tt
+
+part_closed : (peers : List PeerConfig) (p : PeerConfig) → PartClosed (opening_part peers p)
+part_closed peers p = record {
+  begun = λ r. begun_found (own_proxies (opening_part peers p) r) (proxies r);
+  owed = λ k. owed_found (own_writer (opening_part peers p) k).readers (readers k);
+}
+  where
+    proxies : (r : ℕ) → AllBegun (own_proxies (opening_part peers p) r)
+    proxies zero = tt
+    proxies (suc r) = begun_reader peers p.readers r
+
+    readers : (k : ℕ) → AllOwed (own_writer (opening_part peers p) k).readers
+    readers zero = tt
+    readers (suc k) = owed_writer peers p.writers k
+
+parts_closed : (peers ps : List PeerConfig) (i : ℕ) → PartClosed (get_or (map (opening_part peers) ps) i no_part)
+parts_closed peers [] i = none_closed
+parts_closed peers (p ∷ ps) zero = part_closed peers p
+parts_closed peers (p ∷ ps) (suc i) = parts_closed peers ps i
+
+pub opens_closed : (config : Config) → IsClosed (opening config)
+opens_closed config = of_parts (opening config) all
+  where
+    all : (i : ℕ) → PartClosed (part_at (opening config) i)
+    all zero = none_closed
+    all (suc i) = parts_closed config.peers config.peers i

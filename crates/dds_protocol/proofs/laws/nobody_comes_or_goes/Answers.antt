@@ -1,0 +1,5 @@
+use Rattle.dds_protocol.proofs.Closed.{opens_closed, runs_closed, stays_closed}
+use Rattle.dds_protocol.proofs.laws.nobody_comes_or_goes.Goals as goal
+
+pub returns : goal.returns
+returns c = record { opening = opens_closed; step = stays_closed; run = runs_closed }
