@@ -1,3 +1,5 @@
+pub mod KeyLaws
+pub mod KeyForms
 pub mod ParameterSkipping
 pub mod PayloadLaws
 pub mod Standing

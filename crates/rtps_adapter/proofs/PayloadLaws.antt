@@ -1,12 +1,13 @@
 -- Where the value of a datum stands.
-use Rattle.std.proofs.Common.{◌≡◌, ◌≤◌, ℕ, ◌+◌, ◌-◌, List, ◌++◌, length, take, drop, Some, refl, ap, ◌∙◌, append_assoc, arith}
+use Rattle.std.proofs.Common.{◌≡◌, ◌≤◌, ℕ, ◌+◌, ◌-◌, List, [], ◌∷◌, ◌++◌, length, get_or, take, drop, Some, refl, sym, ap, ◌∙◌, append_assoc, arith}
 use Rattle.std.specs.Int.{w32}
-use Rattle.std.proofs.lemmas.List.{take_at, drop_at, length-append}
+use Rattle.std.proofs.lemmas.List.{take_at, take_all, drop_at, length-append}
 use Rattle.dds_base.specs.declared.datum.Datum.{Datum}
+use Rattle.dds_base.specs.declared.key.Key.{Key}
 use Rattle.dds_base.specs.declared.endianness.Endianness.{Endianness}
 use Rattle.dds_base.specs.declared.endianness.Endianness.TheVariants.{Big, Little}
 use Rattle.dds_base.specs.Fields.{number}
-use Rattle.dds_base.specs.DatumText.{ReadsDatum, key_text}
+use Rattle.dds_base.specs.DatumText.{ReadsDatum, ReadsKey, key_text, representation}
 use Rattle.rtps_wire.specs.Submessages.{padding}
 use Rattle.rtps_adapter.specs.declared.payload.NewPayload.{NewPayload}
 use Rattle.rtps_adapter.specs.PayloadText.{new_text, body_with}
@@ -38,3 +39,40 @@ body_le front payload =
       length-append (front ++ new_text payload) (padding (length (front ++ new_text payload))),
       length-append front (new_text payload),
     )
+
+-- the octets of a key form stand behind four
+pub key_octets_there : (bytes : List ℕ) (k : Key) → ReadsKey bytes k → take 16 (drop 4 bytes) ≡ k.0
+key_octets_there bytes k r =
+    let head = representation r.order ++ r.options in
+    let parts : bytes ≡ (representation r.order ++ r.options) ++ (k.0 ++ r.rest) =
+    r.text ∙ append_assoc (representation r.order ++ r.options) k.0 r.rest in
+    let len : length (representation r.order ++ r.options) ≡ 4 = four r.order r.options r.two in
+    rw (ap (drop 4) parts ∙ drop_at (representation r.order ++ r.options) (k.0 ++ r.rest) 4 len)
+    (take_at k.0 r.rest 16 r.valid)
+  where
+    four : (order : Endianness) (options : List ℕ) → length options ≡ 2
+        → length (representation order ++ options) ≡ 4
+    four Big options two = omega (arith, two)
+    four Little options two = omega (arith, two)
+
+-- four octets, and others
+pub four_first : (head body : List ℕ) → length head ≡ 4
+    → head ++ body ≡ get_or head 0 0 ∷ get_or head 1 0 ∷ get_or head 2 0 ∷ get_or head 3 0 ∷ body
+four_first (a ∷ b ∷ c ∷ d ∷ []) body len = refl
+four_first [] body len = absurd (omega arith)
+four_first (a ∷ []) body len = absurd (omega arith)
+four_first (a ∷ b ∷ []) body len = absurd (omega arith)
+four_first (a ∷ b ∷ c ∷ []) body len = absurd (omega arith)
+four_first (a ∷ b ∷ c ∷ d ∷ e ∷ more) body len = absurd (omega arith)
+
+-- the first four octets of some, and the others
+pub four_of : (bytes : List ℕ) → 4 ≤ length bytes
+    → bytes ≡ get_or bytes 0 0 ∷ get_or bytes 1 0 ∷ get_or bytes 2 0 ∷ get_or bytes 3 0
+    ∷ take (length bytes - 4) (drop 4 bytes)
+four_of (a ∷ b ∷ c ∷ d ∷ body) le =
+    ap (λ (z : List ℕ). a ∷ b ∷ c ∷ d ∷ z)
+    (sym (take_all (length (a ∷ b ∷ c ∷ d ∷ body) - 4) body (omega arith)))
+four_of [] le = absurd (omega arith)
+four_of (a ∷ []) le = absurd (omega arith)
+four_of (a ∷ b ∷ []) le = absurd (omega arith)
+four_of (a ∷ b ∷ c ∷ []) le = absurd (omega arith)

@@ -11,8 +11,8 @@ use Rattle.dds_base.specs.declared.guid.GuidPrefix.{GuidPrefix}
 use Rattle.dds_base.specs.declared.key.Key.{Key}
 use Rattle.dds_base.specs.DatumText.{IsDatum, ReadsDatum, ReadsKey, spelling_of_datum, spelling_of_key}
 use Rattle.dds_base.specs.Fields.{number, octets_at}
-use Rattle.dds_base.specs.Happening.{same_key}
 use Rattle.dds_base.proofs.DatumLaws.{datum_only, key_form_only}
+use Rattle.dds_base.proofs.KeyLaws.{same_key-refl}
 use Rattle.dds_base.proofs.FieldLaws.{some_is, field_u16, field_octets}
 use Rattle.rtps_wire.specs.declared.data.ChangeBody.{ChangeBody}
 use Rattle.rtps_wire.specs.declared.data.ChangeBody.TheVariants.{Write, Dispose, Unregister, DisposeUnregister}
@@ -24,14 +24,17 @@ use Rattle.rtps_wire.specs.Submessages.{padding}
 use Rattle.rtps_wire.proofs.WireFields.{field_entity_id}
 use Rattle.rtps_adapter.specs.declared.direction.Direction.{Direction}
 use Rattle.rtps_adapter.specs.declared.direction.Direction.TheVariants.{Inward, Outward}
+use Rattle.rtps_adapter.specs.declared.kinds.Encoding.{Encoding}
 use Rattle.rtps_adapter.specs.declared.kinds.KeyRule.{KeyRule}
-use Rattle.rtps_adapter.specs.declared.kinds.KeyRule.TheVariants.{Keyless}
+use Rattle.rtps_adapter.specs.declared.kinds.KeyRule.TheVariants.{Keyless, Fields}
 use Rattle.rtps_adapter.specs.declared.kinds.WriterKind.{WriterKind}
-use Rattle.rtps_adapter.specs.Kinds.{kind_of, rule_of, key_by, no_key}
+use Rattle.rtps_adapter.specs.Kinds.{kind_of, rule_of}
+use Rattle.rtps_adapter.specs.Keys.{key_by, key_alone, representation_of}
+use Rattle.rtps_adapter.proofs.KeyForms.{own_few, fields_again, key_form_is, alone_says}
 use Rattle.rtps_adapter.specs.Opened.{after_first, after_parameters, after_inline, payload_at}
 use Rattle.rtps_adapter.specs.Payloads.{value_at, payload_of, key_payload_of, has_own_key, inward_payload, outward_payload}
 use Rattle.rtps_adapter.specs.Adapting.{Piece, piece_of, has_payload, foreign_payload, turned_payload, aligned, changed, turned}
-use Rattle.rtps_adapter.specs.ComesBack.{IsKey}
+use Rattle.rtps_adapter.specs.ComesBack.{IsKey, IsValue}
 
 -- ---- parameters
 
@@ -331,8 +334,7 @@ payload_back (a ∷ b ∷ c ∷ d ∷ body) p e =
     )
 
 own_key : (rule : KeyRule) (d : Datum) → key_by rule d.value ≡ Some d.key → has_own_key rule d ≡ true
-unfolding has_own_key
-own_key Keyless d e = subst (λ (k : Key). same_key k no_key ≡ true) (some_is no_key d.key e) refl
+own_key rule d e = rw e (same_key-refl d.key)
 
 pub write_there : (rule : KeyRule) (d : Datum) (new zeros : List ℕ) → IsDatum d → key_by rule d.value ≡ Some d.key
     → payload_of d.value ≡ Some new → outward_payload rule false (spelling_of_datum d ++ zeros) ≡ Some new
@@ -347,34 +349,15 @@ pub write_back : (rule : KeyRule) (d : Datum) (new : List ℕ) → key_by rule d
 unfolding inward_payload
 write_back rule d new key value = rw (value, key) refl
 
--- the payload of a key
-abbrev pub key_payload : KeyRule → List ℕ
-key_payload Keyless = 0 ∷ 1 ∷ 0 ∷ 0 ∷ []
-
-pub key_there : (rule : KeyRule) (k : Key) (zeros : List ℕ) → length k.0 ≡ 16 → IsKey rule k
-    → outward_payload rule true (spelling_of_key k ++ zeros) ≡ Some (key_payload rule)
-unfolding outward_payload key_payload_of
-key_there Keyless k zeros len is =
-    let reads : ReadsKey (spelling_of_key k ++ zeros) k =
-    record { order = Little; options = 0 ∷ 0 ∷ []; rest = zeros; two = refl; text = refl; valid = len } in
-    rw (key_form_only (spelling_of_key k ++ zeros) k reads) (rw is refl)
-
-pub key_back : (rule : KeyRule) (k : Key) → IsKey rule k → inward_payload rule true (key_payload rule) ≡ Some (spelling_of_key k)
-unfolding inward_payload value_at
-key_back Keyless k is = rw is refl
-
-pub key_whole : (rule : KeyRule) → length (key_payload rule) % 4 ≡ 0
-key_whole Keyless = refl
-
 -- ---- lengths
 
-payload_short : (v p : List ℕ) → payload_of v ≡ Some p → length p ≤ 24 + length v
+payload_length : (v p : List ℕ) → payload_of v ≡ Some p → length p ≡ length v + (4 - length v % 4) % 4
 unfolding payload_of
-payload_short [] p e = absurd cc
-payload_short (a ∷ []) p e = absurd cc
-payload_short (a ∷ b ∷ []) p e = absurd cc
-payload_short (a ∷ b ∷ c ∷ []) p e = absurd cc
-payload_short (a ∷ b ∷ c ∷ d ∷ body) p e =
+payload_length [] p e = absurd cc
+payload_length (a ∷ []) p e = absurd cc
+payload_length (a ∷ b ∷ []) p e = absurd cc
+payload_length (a ∷ b ∷ c ∷ []) p e = absurd cc
+payload_length (a ∷ b ∷ c ∷ d ∷ body) p e =
     let made : List ℕ = a ∷ b ∷ c ∷ (d + length (padding (length body))) ∷ (body ++ padding (length body)) in
     let passed = test_passed (eqb (d % 4) 0) made p e in
     omega (
@@ -387,7 +370,59 @@ payload_short (a ∷ b ∷ c ∷ d ∷ body) p e =
 -- a payload is not longer than the datum of its value
 pub payload_less : (d : Datum) (p : List ℕ) → IsDatum d → payload_of d.value ≡ Some p
     → length p ≤ length (spelling_of_datum d)
-payload_less d p valid e = simp length-append (omega (arith, valid.key, payload_short d.value p e))
+payload_less d p valid e = simp length-append (omega (arith, valid.key, payload_length d.value p e))
 
-pub key_less : (rule : KeyRule) (k : Key) → length k.0 ≡ 16 → length (key_payload rule) ≤ length (spelling_of_key k)
-key_less Keyless k len = omega (arith, len)
+-- ---- keys
+
+-- a key that is turned both ways is as it was
+pub record KeyReturns (rule : KeyRule) (k : Key) : Type 0 where
+  pub new : List ℕ
+  pub whole : length new % 4 ≡ 0
+  pub less : length new ≤ length (spelling_of_key k)
+  pub sent : key_payload_of rule k ≡ Some new
+  pub back : inward_payload rule true new ≡ Some (spelling_of_key k)
+
+pub key_back : (rule : KeyRule) (k : Key) (new value : List ℕ) → value_at new ≡ Some value → key_alone rule value ≡ Some k
+    → inward_payload rule true new ≡ Some (spelling_of_key k)
+unfolding inward_payload
+key_back rule k new value opens is = rw (opens, is) refl
+
+payload_made : (encoding : Encoding) (octets : List ℕ) → IsValue (0 ∷ representation_of encoding ∷ 0 ∷ 0 ∷ octets)
+unfolding payload_of
+payload_made encoding octets = (
+  0 ∷ representation_of encoding ∷ 0 ∷ (0 + length (padding (length octets))) ∷ (octets ++ padding (length octets)),
+  refl,
+)
+
+pub key_returns : (rule : KeyRule) (k : Key) → length k.0 ≡ 16 → IsKey rule k → KeyReturns rule k
+unfolding key_payload_of value_at
+key_returns Keyless k len is = record {
+  new = 0 ∷ 1 ∷ 0 ∷ 0 ∷ [];
+  whole = refl;
+  less = omega (arith, len);
+  sent = rw is refl;
+  back = key_back Keyless k (0 ∷ 1 ∷ 0 ∷ 0 ∷ []) (0 ∷ 1 ∷ 0 ∷ 0 ∷ []) refl (ap Some (sym is));
+}
+key_returns (Fields encoding fields) k len is =
+    let s = alone_says encoding fields.now k is in
+    let few : length s.octets ≤ 16 = own_few encoding fields.now k s.octets len s.found in
+    let value : List ℕ = 0 ∷ representation_of encoding ∷ 0 ∷ 0 ∷ s.octets in
+    let made = payload_made encoding s.octets in
+    let returns = payload_back value made.0 made.1 in
+    record {
+      new = made.0;
+      whole = returns.1;
+      less = omega (arith, len, few, payload_length value made.0 made.1);
+      sent = rw s.own made.1;
+      back = key_back (Fields encoding fields) k made.0 value returns.0
+          (key_form_is encoding fields.now s.octets s.octets (fields_again fields.now encoding k.0 [] s.octets s.found)
+          ∙ ap Some s.is);
+    }
+
+pub key_there : (rule : KeyRule) (k : Key) (new zeros : List ℕ) → length k.0 ≡ 16 → key_payload_of rule k ≡ Some new
+    → outward_payload rule true (spelling_of_key k ++ zeros) ≡ Some new
+unfolding outward_payload
+key_there rule k new zeros len sent =
+    let reads : ReadsKey (spelling_of_key k ++ zeros) k =
+    record { order = Little; options = 0 ∷ 0 ∷ []; rest = zeros; two = refl; text = refl; valid = len } in
+    rw (key_form_only (spelling_of_key k ++ zeros) k reads) sent

@@ -30,7 +30,7 @@ use Rattle.rtps_adapter.specs.Opened.{payload_at}
 use Rattle.rtps_adapter.specs.Adapting.{Piece, piece_of, aligned, foreign_payload, changed, turned}
 use Rattle.rtps_adapter.specs.Payloads.{inward_payload, outward_payload}
 use Rattle.rtps_adapter.specs.ComesBack.{IsKey, FitsRule, FitsKind, Fits}
-use Rattle.rtps_adapter.proofs.Returning.{written_parameters, written_payload, written_whole, says_key, carries_payload, key_flag, head_of_data, data_opens, data_returns, write_there, write_back, payload_back, payload_less, key_payload, key_less, key_there, key_back, key_whole, foreign_not}
+use Rattle.rtps_adapter.proofs.Returning.{written_parameters, written_payload, written_whole, says_key, carries_payload, key_flag, head_of_data, data_opens, data_returns, write_there, write_back, payload_back, payload_less, key_returns, key_there, foreign_not}
 
 -- a submessage as it is written
 abbrev pub spelled : Submessage → Piece
@@ -131,13 +131,15 @@ record Turning (rule : KeyRule) (b : ChangeBody) (is_key : Bool) : Type 0 where
   back : inward_payload rule is_key new ≡ Some (written_payload b)
 
 key_turning : (rule : KeyRule) (k : Key) → length k.0 ≡ 16 → IsKey rule k → Turning rule (Dispose k) true
-key_turning rule k len is = record {
-  new = key_payload rule;
-  whole = key_whole rule;
-  less = key_less rule k len;
-  there = λ zeros. key_there rule k zeros len is;
-  back = key_back rule k is;
-}
+key_turning rule k len is =
+    let r = key_returns rule k len is in
+    record {
+      new = r.new;
+      whole = r.whole;
+      less = r.less;
+      there = λ zeros. key_there rule k r.new zeros len r.sent;
+      back = r.back;
+    }
 
 turning : (rule : KeyRule) (b : ChangeBody) → IsBody b → FitsRule rule b → Turning rule b (says_key b)
 turning rule (Write d) valid fits =

@@ -5,27 +5,36 @@ use Rattle.std.specs.Int.{w16}
 use Rattle.std.proofs.lemmas.Bool.{ne_eqb, le-ltb}
 use Rattle.std.proofs.lemmas.List.{length-append}
 use Rattle.dds_base.specs.declared.datum.Datum.{Datum}
+use Rattle.dds_base.specs.declared.guid.GuidPrefix.{GuidPrefix}
+use Rattle.dds_base.specs.declared.key.Key.{Key}
 use Rattle.dds_base.specs.declared.endianness.Endianness.{Endianness}
 use Rattle.dds_base.specs.declared.endianness.Endianness.TheVariants.{Little}
 use Rattle.dds_base.specs.declared.guid.EntityId.{EntityId}
-use Rattle.dds_base.specs.DatumText.{ReadsDatum, spelling_of_datum}
+use Rattle.dds_base.specs.DatumText.{ReadsDatum, ReadsKey, spelling_of_datum, spelling_of_key}
 use Rattle.dds_base.specs.Fields.{number, octets_at}
 use Rattle.dds_base.proofs.FieldLaws.{field_u16, field_octets}
+use Rattle.rtps_wire.specs.declared.data.ChangeBody.{ChangeBody}
+use Rattle.rtps_wire.specs.declared.data.ChangeBody.TheVariants.{Write, Dispose, Unregister, DisposeUnregister}
+use Rattle.rtps_wire.specs.declared.data.Data.{Data}
 use Rattle.rtps_wire.specs.declared.submessage.Submessage.TheVariants as submessages
-use Rattle.rtps_wire.specs.Data.{data_head, SaysContent, ReadsData}
+use Rattle.rtps_wire.specs.Data.{data_head, SaysBody, SaysContent, ReadsData, IsData}
 use Rattle.rtps_wire.specs.Fields.{has_flag, order_of, sn_text}
 use Rattle.rtps_wire.specs.Parameters.{Parameter, IsParameter, parameter_text, ReadsParameters}
 use Rattle.rtps_wire.specs.ParametersAt.{parameter_at}
 use Rattle.rtps_wire.specs.Submessages.{padding, Reads}
 use Rattle.rtps_wire.proofs.WireFields.{len_16, field_entity_id}
 use Rattle.rtps_adapter.specs.declared.direction.Direction.TheVariants.{Inward}
+use Rattle.rtps_adapter.specs.declared.kinds.Kind.TheVariants.{Opaque}
 use Rattle.rtps_adapter.specs.declared.kinds.KeyRule.{KeyRule}
-use Rattle.rtps_adapter.specs.Kinds.{rule_of, key_by}
+use Rattle.rtps_adapter.specs.declared.kinds.WriterKind.{WriterKind}
+use Rattle.rtps_adapter.specs.Kinds.{kind_of, rule_of}
+use Rattle.rtps_adapter.specs.Keys.{key_by, key_alone}
 use Rattle.rtps_adapter.specs.Opened.{after_first, after_parameters, after_inline, payload_at}
 use Rattle.rtps_adapter.specs.Payloads.{value_at}
 use Rattle.rtps_adapter.specs.Adapting.{Piece, piece_of, has_payload, turned_payload, aligned, changed, turned}
-use Rattle.rtps_adapter.specs.Taken.{ValuesAreRead}
-use Rattle.rtps_adapter.proofs.Returning.{sn_length, changed_is, write_back}
+use Rattle.rtps_adapter.specs.Taken.{Carries, SaysEnd, ValuesAreRead, KeysAreRead}
+use Rattle.rtps_adapter.proofs.Returning.{sn_length, changed_is, write_back, key_back}
+use Rattle.rtps_adapter.proofs.KeyForms.{key_is_long}
 
 -- ---- parameters
 
@@ -180,9 +189,6 @@ head_opens flags extra r w sn skipped rest q no_flag small short reader writer i
 
 -- ---- the DATA
 
-test_payload : (flags : ℕ) → has_flag flags 4 ≡ true → has_flag flags 8 ≡ false → has_payload flags ≡ true
-test_payload flags value key = rw (value, key) refl
-
 inward_is : (rule : KeyRule) (is_key : Bool) (front payload : List ℕ) (datum : Datum) → is_key ≡ false
     → value_at payload ≡ Some datum.value → key_by rule datum.value ≡ Some datum.key
     → turned_payload Inward (record { rule = rule; is_key = is_key; front = front; octets = payload })
@@ -190,14 +196,32 @@ inward_is : (rule : KeyRule) (is_key : Bool) (front payload : List ℕ) (datum :
 unfolding turned_payload
 inward_is rule is_key front payload datum clear value key = rw clear (write_back rule datum payload key value)
 
-pub values_are_read : ValuesAreRead
+inward_key : (rule : KeyRule) (is_key : Bool) (front payload value : List ℕ) (k : Key) → is_key ≡ true
+    → value_at payload ≡ Some value → key_alone rule value ≡ Some k
+    → turned_payload Inward (record { rule = rule; is_key = is_key; front = front; octets = payload })
+    ≡ Some (spelling_of_key k)
+unfolding turned_payload
+inward_key rule is_key front payload value k set opens key = rw set (key_back rule k payload value opens key)
+
+-- what a DATA of another type is turned into is read, where that says what it does
+is_read : (has_value has_key : Bool) (kinds : List WriterKind) (source : GuidPrefix) (p : Piece) (ps : List Parameter)
+    (payload new : List ℕ) (rule : KeyRule) (d : Data)
+    → Carries has_value has_key p d.reader_id d.writer_id d.writer_sn ps payload → has_payload p.flags ≡ true
+    → kind_of kinds source d.writer_id ≡ Opaque rule
+    → ((front : List ℕ) → turned_payload Inward (record {
+      rule = rule;
+      is_key = has_flag p.flags 8;
+      front = front;
+      octets = payload;
+    }) ≡ Some new)
+    → ((zeros : List ℕ) → SaysContent p.flags ps (new ++ zeros) d.content) → IsData d
+    → Reads (turned Inward kinds source p).id (turned Inward kinds source p).flags (turned Inward kinds source p).body
+    (submessages.Data d)
 unfolding changed
-values_are_read kinds source p ps payload rule datum d w status strength kind value key valid body is_data =
-    let order = order_of p.flags in
+is_read has_value has_key kinds source p ps payload new rule d w has kind turns says is_data =
     let s = swaps_inline (has_flag p.flags 2) (order_of p.flags) w.from_parameters ps payload w.inline in
     let head = data_head (order_of p.flags) w.extra (16 + length w.skipped) d.reader_id d.writer_id d.writer_sn in
     let front : List ℕ = head ++ (w.skipped ++ s.front) in
-    let new = spelling_of_datum datum in
     let behind : (q : List ℕ) → (head ++ (w.skipped ++ s.front)) ++ q ≡ head ++ (w.skipped ++ (s.front ++ q)) =
     λ q. regroup head w.skipped s.front q in
     let opens : payload_at p.flags ((head ++ (w.skipped ++ s.front)) ++ payload) ≡ Some (d.writer_id, payload) =
@@ -208,39 +232,66 @@ values_are_read kinds source p ps payload rule datum d w status strength kind va
     let was : p.body ≡ (head ++ (w.skipped ++ s.front)) ++ payload =
     w.text ∙ ap (λ (z : List ℕ). head ++ (w.skipped ++ z)) s.parts ∙ sym (behind payload) in
     let change : changed Inward kinds source 21 p.flags ((head ++ (w.skipped ++ s.front)) ++ payload)
-    ≡ Some (p.flags, aligned ((head ++ (w.skipped ++ s.front)) ++ spelling_of_datum datum)) =
-    changed_is Inward kinds source p.flags d.writer_id (head ++ (w.skipped ++ s.front)) payload (spelling_of_datum datum)
-    rule (test_payload p.flags w.has_value w.no_key) opens (ap rule_of kind)
-    (inward_is rule (has_flag p.flags 8) (head ++ (w.skipped ++ s.front)) payload datum w.no_key value key) in
+    ≡ Some (p.flags, aligned ((head ++ (w.skipped ++ s.front)) ++ new)) =
+    changed_is Inward kinds source p.flags d.writer_id (head ++ (w.skipped ++ s.front)) payload new rule has opens
+    (ap rule_of kind) (turns (head ++ (w.skipped ++ s.front))) in
     let here : changed Inward kinds source p.id p.flags p.body
-    ≡ Some (p.flags, aligned ((head ++ (w.skipped ++ s.front)) ++ spelling_of_datum datum)) =
-    rw (w.kind, was) change in
-    let is : turned Inward kinds source p
-    ≡ piece_of p.id p.flags (aligned ((head ++ (w.skipped ++ s.front)) ++ spelling_of_datum datum)) = rw here refl in
-    let zeros = padding (length ((head ++ (w.skipped ++ s.front)) ++ spelling_of_datum datum)) in
-    let text : aligned ((head ++ (w.skipped ++ s.front)) ++ spelling_of_datum datum)
-    ≡ head ++ (w.skipped ++ (s.front ++ (spelling_of_datum datum ++ zeros))) =
-    append_assoc (head ++ (w.skipped ++ s.front)) (spelling_of_datum datum) zeros
-    ∙ behind (spelling_of_datum datum ++ zeros) in
-    let reads : ReadsDatum (spelling_of_datum datum ++ zeros) datum =
-    record { order = Little; options = 0 ∷ 0 ∷ []; rest = zeros; two = refl; text = refl; valid = valid } in
-    let says : SaysContent p.flags ps (spelling_of_datum datum ++ zeros) d.content =
-    record { body = rw body (status, w.has_value, w.no_key, reads); strength = strength } in
-    let known : ReadsData p.flags (aligned ((head ++ (w.skipped ++ s.front)) ++ spelling_of_datum datum)) d =
+    ≡ Some (p.flags, aligned ((head ++ (w.skipped ++ s.front)) ++ new)) = rw (w.kind, was) change in
+    let is : turned Inward kinds source p ≡ piece_of p.id p.flags (aligned ((head ++ (w.skipped ++ s.front)) ++ new)) =
+    rw here refl in
+    let zeros = padding (length ((head ++ (w.skipped ++ s.front)) ++ new)) in
+    let text : aligned ((head ++ (w.skipped ++ s.front)) ++ new) ≡ head ++ (w.skipped ++ (s.front ++ (new ++ zeros))) =
+    append_assoc (head ++ (w.skipped ++ s.front)) new zeros ∙ behind (new ++ zeros) in
+    let known : ReadsData p.flags (aligned ((head ++ (w.skipped ++ s.front)) ++ new)) d =
     record {
       extra = w.extra;
       skipped = w.skipped;
-      from_parameters = s.front ++ (spelling_of_datum datum ++ zeros);
+      from_parameters = s.front ++ (new ++ zeros);
       parameters = ps;
-      payload = spelling_of_datum datum ++ zeros;
+      payload = new ++ zeros;
       extra_small = w.extra_small;
       skipped_small = w.skipped_small;
       text = text;
-      inline = s.again (spelling_of_datum datum ++ zeros);
-      says = says;
+      inline = s.again (new ++ zeros);
+      says = says zeros;
     } in
     subst (λ (q : Piece). Reads q.id q.flags q.body (submessages.Data d)) (sym is)
     (record { kind = w.kind; flags_are = w.standard; body_is = known; valid = is_data })
   where
     regroup : (a b c d : List ℕ) → (a ++ (b ++ c)) ++ d ≡ a ++ (b ++ (c ++ d))
     regroup a b c d = simp append_assoc
+
+pub values_are_read : ValuesAreRead
+values_are_read kinds source p ps payload rule datum d w status strength kind value key valid body is_data =
+    is_read true false kinds source p ps payload (spelling_of_datum datum) rule d w (rw (w.value_flag, w.key_flag) refl) kind
+    (λ front. inward_is rule (has_flag p.flags 8) front payload datum w.key_flag value key)
+    (λ zeros.
+    let reads : ReadsDatum (spelling_of_datum datum ++ zeros) datum =
+    record { order = Little; options = 0 ∷ 0 ∷ []; rest = zeros; two = refl; text = refl; valid = valid } in
+    record { body = rw body (status, w.value_flag, w.key_flag, reads); strength = strength })
+    is_data
+
+-- the key form of an instance that is ended
+says_end : (flags : ℕ) (ps : List Parameter) (k : Key) (zeros : List ℕ) (body : ChangeBody) → has_flag flags 4 ≡ false
+    → has_flag flags 8 ≡ true → length k.0 ≡ 16 → SaysEnd ps k body → SaysBody flags ps (spelling_of_key k ++ zeros) body
+says_end flags ps k zeros body no_value key len ends = by_body body ends
+  where
+    reads : (own : Key) → own ≡ k → ReadsKey (spelling_of_key k ++ zeros) own
+    reads own is = subst (λ (z : Key). ReadsKey (spelling_of_key k ++ zeros) z) (sym is)
+        (record { order = Little; options = 0 ∷ 0 ∷ []; rest = zeros; two = refl; text = refl; valid = len })
+
+    by_body : (body : ChangeBody) → SaysEnd ps k body → SaysBody flags ps (spelling_of_key k ++ zeros) body
+    by_body (Write d) ends = absurd ends
+    by_body (Dispose own) ends = (ends.0, rw (no_value, key) (reads own ends.1))
+    by_body (Unregister own) ends = (ends.0, rw (no_value, key) (reads own ends.1))
+    by_body (DisposeUnregister own) ends = (ends.0, rw (no_value, key) (reads own ends.1))
+
+pub keys_are_read : KeysAreRead
+keys_are_read kinds source p ps payload value rule k d w ends strength kind opens key is_data =
+    is_read false true kinds source p ps payload (spelling_of_key k) rule d w (rw (w.value_flag, w.key_flag) refl) kind
+    (λ front. inward_key rule (has_flag p.flags 8) front payload value k w.key_flag opens key)
+    (λ zeros. record {
+      body = says_end p.flags ps k zeros d.content.body w.value_flag w.key_flag (key_is_long true rule value k key) ends;
+      strength = strength;
+    })
+    is_data

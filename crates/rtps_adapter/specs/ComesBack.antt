@@ -1,5 +1,5 @@
 -- What a peer wrote goes to the network, and comes back to a peer as it was (RTPS 2.5, clause 10).
-use Rattle.std.specs.Prelude.{◌≡◌, ℕ, ◌≤◌, List, length, Some}
+use Rattle.std.specs.Prelude.{◌≡◌, ℕ, ◌≤◌, List, ◌∷◌, length, Some}
 use Rattle.std.specs.List.{AllByRecursion}
 use Rattle.dds_base.specs.declared.guid.GuidPrefix.{GuidPrefix}
 use Rattle.dds_base.specs.declared.key.Key.{Key}
@@ -13,9 +13,10 @@ use Rattle.rtps_adapter.specs.declared.direction.Direction.TheVariants.{Inward, 
 use Rattle.rtps_adapter.specs.declared.kinds.Kind.{Kind}
 use Rattle.rtps_adapter.specs.declared.kinds.Kind.TheVariants.{Datum, Opaque}
 use Rattle.rtps_adapter.specs.declared.kinds.KeyRule.{KeyRule}
-use Rattle.rtps_adapter.specs.declared.kinds.KeyRule.TheVariants.{Keyless}
+use Rattle.rtps_adapter.specs.declared.kinds.KeyRule.TheVariants.{Keyless, Fields}
 use Rattle.rtps_adapter.specs.declared.kinds.WriterKind.{WriterKind}
-use Rattle.rtps_adapter.specs.Kinds.{key_by, kind_of, no_key}
+use Rattle.rtps_adapter.specs.Kinds.{kind_of, no_key}
+use Rattle.rtps_adapter.specs.Keys.{key_alone, key_by, representation_of}
 use Rattle.rtps_adapter.specs.Payloads.{payload_of}
 use Rattle.rtps_adapter.specs.Adapting.{Adapts}
 
@@ -23,9 +24,12 @@ use Rattle.rtps_adapter.specs.Adapting.{Adapts}
 abbrev pub IsValue : List ℕ → Type 0
 IsValue value = (payload : List ℕ) × (payload_of value ≡ Some payload)
 
--- a key that a type of the rule has
+-- A key that a type of the rule has, and that can be said alone: of key fields it is what they say where they stand in
+-- its own sixteen octets, big-endian.
 abbrev pub IsKey : KeyRule → Key → Type 0
 IsKey Keyless k = k ≡ no_key
+IsKey (Fields encoding fields) k =
+    key_alone (Fields encoding fields) (0 ∷ representation_of encoding ∷ 0 ∷ 0 ∷ k.0) ≡ Some k
 
 -- A change is one of a type of the rule: its value is a payload's, and has its key.
 abbrev pub FitsRule : KeyRule → ChangeBody → Type 0

@@ -1,5 +1,5 @@
 -- What the topics of writers carry (RTPS 2.5, 8.2: GUID_t; clause 10: SerializedPayload).
-use Rattle.std.specs.Prelude.{ℕ, ◌&&◌, Bool, List, Option, None, Some, find, replicate}
+use Rattle.std.specs.Prelude.{◌&&◌, Bool, List, Option, None, Some, find, replicate}
 use Rattle.std.specs.Option.{option_map_or}
 use Rattle.dds_base.specs.declared.guid.EntityId.{EntityId}
 use Rattle.dds_base.specs.declared.guid.GuidPrefix.{GuidPrefix}
@@ -9,7 +9,6 @@ use Rattle.dds_base.specs.Checked.{same_prefix, same_entity}
 use Rattle.rtps_adapter.specs.declared.kinds.Kind.{Kind}
 use Rattle.rtps_adapter.specs.declared.kinds.Kind.TheVariants.{Datum, Opaque}
 use Rattle.rtps_adapter.specs.declared.kinds.KeyRule.{KeyRule}
-use Rattle.rtps_adapter.specs.declared.kinds.KeyRule.TheVariants.{Keyless}
 use Rattle.rtps_adapter.specs.declared.kinds.WriterKind.{WriterKind}
 
 -- the row is of this writer
@@ -28,7 +27,3 @@ rule_of (Opaque rule) = Some rule
 -- the key of the one instance of a type without a key: sixteen zeros
 abbrev pub no_key : Key
 no_key = record { 0 = replicate key_octets 0 }
-
--- the key of a value, by the rule; none where the value has none
-abbrev pub key_by : KeyRule → List ℕ → Option Key
-key_by Keyless value = Some no_key

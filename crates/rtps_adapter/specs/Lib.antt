@@ -1,4 +1,6 @@
 pub mod Kinds
+pub mod Keys
+pub mod KeyOctets
 pub mod Payloads
 pub mod PayloadText
 pub mod Opened

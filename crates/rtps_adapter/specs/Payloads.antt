@@ -13,8 +13,9 @@ use Rattle.dds_base.specs.DatumText.{spelling_of_datum, spelling_of_key}
 use Rattle.dds_base.specs.Happening.{same_key}
 use Rattle.rtps_wire.specs.Submessages.{padding}
 use Rattle.rtps_adapter.specs.declared.kinds.KeyRule.{KeyRule}
-use Rattle.rtps_adapter.specs.declared.kinds.KeyRule.TheVariants.{Keyless}
-use Rattle.rtps_adapter.specs.Kinds.{key_by, no_key}
+use Rattle.rtps_adapter.specs.declared.kinds.KeyRule.TheVariants.{Keyless, Fields}
+use Rattle.rtps_adapter.specs.Kinds.{no_key}
+use Rattle.rtps_adapter.specs.Keys.{key_alone, key_by, own_octets, representation_of}
 
 -- The value of a payload: representation, options and body, without the octets of padding that the low two bits of
 -- the options count, and with these bits clear. None where there are fewer octets than that.
@@ -32,9 +33,13 @@ payload_of (a ∷ b ∷ c ∷ d ∷ body) =
     else None
 payload_of _ = None
 
--- the payload that says a key alone, by the rule: of a type without a key it has nothing after the options
+-- the payload that says a key alone, by the rule: of a type without a key it has nothing after the options, and of one
+-- with key fields these, big-endian
 unfoldable pub key_payload_of : KeyRule → Key → Option (List ℕ)
 key_payload_of Keyless k = if same_key k no_key then Some (0 ∷ 1 ∷ 0 ∷ 0 ∷ []) else None
+key_payload_of (Fields encoding fields) k = do
+  octets ← own_octets encoding fields.now k
+  payload_of (0 ∷ representation_of encoding ∷ 0 ∷ 0 ∷ octets)
 
 -- what a payload of another type turns into: the datum of its key and value, or where it says a key alone, the key form
 unfoldable pub inward_payload : KeyRule → Bool → List ℕ → Option (List ℕ)
@@ -44,12 +49,17 @@ inward_payload rule false payload = do
   Some (spelling_of_datum (record { key = key; value = value }))
 inward_payload rule true payload = do
   value ← value_at payload
-  key ← key_by rule value
+  key ← key_alone rule value
   Some (spelling_of_key key)
 
+-- the key that was found is this one
+abbrev pub is_found : Option Key → Key → Bool
+is_found None k = false
+is_found (Some own) k = same_key k own
+
 -- the datum has the key of its value
-unfoldable pub has_own_key : KeyRule → Datum → Bool
-has_own_key Keyless d = same_key d.key no_key
+abbrev pub has_own_key : KeyRule → Datum → Bool
+has_own_key rule d = is_found (key_by rule d.value) d.key
 
 -- what a datum or a key form turns into: its value as a payload, where that has this key, or the payload of the key
 unfoldable pub outward_payload : KeyRule → Bool → List ℕ → Option (List ℕ)

@@ -28,8 +28,8 @@ const FLAG_KEY: u8 = 0x08;
 
 /// A payload of another type than the datum, and what stands before it.
 #[derive(Clone, Copy)]
-struct Foreign<'a> {
-    rule: KeyRule,
+struct Foreign<'k, 'a> {
+    rule: KeyRule<'k>,
     is_key: bool,
     front: &'a [u8],
     octets: &'a [u8],
@@ -66,11 +66,11 @@ fn has_payload(flags: u8) -> bool
 
 /// The payload that has to be turned, where there is one.
 #[tactic(auto, unfolding(crate::specs::Adapting::foreign_payload))]
-fn foreign_payload<'a>(
-    kinds: &[WriterKind],
+fn foreign_payload<'k, 'a>(
+    kinds: &[WriterKind<'k>],
     source: &GuidPrefix,
     frame: &Frame<'a>,
-) -> Option<Foreign<'a>>
+) -> Option<Foreign<'k, 'a>>
     ensures { option_map (λ x. record {
       rule = x.rule;
       is_key = x.is_key;
@@ -103,7 +103,7 @@ pub fn is_foreign(kinds: &[WriterKind], source: &GuidPrefix, frame: &Frame) -> b
 
 /// What a payload turns into. `None` where it can't be turned.
 #[tactic(auto, unfolding(crate::specs::Adapting::turned_payload))]
-fn turned_payload<'a>(direction: Direction, found: &Foreign<'a>) -> Option<NewPayload<'a>>
+fn turned_payload<'a>(direction: Direction, found: &Foreign<'_, 'a>) -> Option<NewPayload<'a>>
     ensures { option_map new_text result ≡ turned_payload direction (record {
       rule = found.now.rule;
       is_key = found.now.is_key;

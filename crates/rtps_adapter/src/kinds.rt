@@ -8,29 +8,69 @@ ghost use Rattle.rtps_adapter.specs.Kinds.{is_of, kind_of, rule_of};
 
 use dds_base::{EntityId, Guid, GuidPrefix, Key};
 
+/// By which rules of CDR the values of a type are encoded.
+///
+/// XTypes 1.3, 7.4: PLAIN_CDR and PLAIN_CDR2.
+#[derive(Clone, Copy)]
+pub enum Encoding {
+    /// Representations 0 and 1, CDR_BE and CDR_LE: a number of eight octets begins at a multiple of 8.
+    Cdr,
+    /// Representations 6 and 7, CDR2_BE and CDR2_LE: a number of eight octets begins at a multiple of 4.
+    Cdr2,
+}
+
+/// How many octets a key field takes.
+#[derive(Clone, Copy)]
+pub enum FieldSize {
+    /// An octet, a character or a boolean.
+    One,
+    /// A number of 16 bits.
+    Two,
+    /// A number of 32 bits, or an enumerator.
+    Four,
+    /// A number of 64 bits.
+    Eight,
+}
+
+/// A key field of a type.
+#[derive(Clone, Copy)]
+pub struct KeyField {
+    /// How many octets of the body of a value, which follows the options, stand before it.
+    pub place: usize,
+    /// How many octets it takes.
+    pub size: FieldSize,
+}
+
 /// How the key of a value is found in a payload.
 #[derive(Clone, Copy)]
-pub enum KeyRule {
+pub enum KeyRule<'a> {
     /// The type has no key, so there is one instance: its key is sixteen zeros.
     Keyless,
+    /// The type has these key fields, in this order: each stands at one place in every value. The key is the fields
+    /// alone in CDR, big-endian, with zeros behind them up to sixteen octets; of more octets it is their MD5.
+    ///
+    /// Where the fields stand in a payload that says a key alone follows from their sizes.
+    ///
+    /// RTPS 2.5, 9.6.4.8 (KeyHash).
+    Fields(Encoding, &'a [KeyField]),
 }
 
 /// What a topic carries.
 #[derive(Clone, Copy)]
-pub enum Kind {
+pub enum Kind<'a> {
     /// The datum of this project, which stands as it is.
     Datum,
     /// Another type: the value is the payload, with its representation and its options.
-    Opaque(KeyRule),
+    Opaque(KeyRule<'a>),
 }
 
 /// What the topic of a writer carries.
 #[derive(Clone, Copy)]
-pub struct WriterKind {
+pub struct WriterKind<'a> {
     /// The writer.
     pub writer: Guid,
     /// What its topic carries.
-    pub kind: Kind,
+    pub kind: Kind<'a>,
 }
 
 /// Whether a row is of a writer.
@@ -41,18 +81,18 @@ fn is_of(prefix: &GuidPrefix, entity: &EntityId, row: &WriterKind) -> bool
 }
 
 /// The first row of a writer.
-fn row_of<'a>(
-    kinds: &'a [WriterKind],
+fn row_of<'r, 'a>(
+    kinds: &'r [WriterKind<'a>],
     prefix: &GuidPrefix,
     entity: &EntityId,
-) -> Option<&'a WriterKind>
+) -> Option<&'r WriterKind<'a>>
     ensures { option_copied result ≡ find (is_of prefix.now entity.now) kinds.now }
 {
     kinds.iter().find(|row| is_of(prefix, entity, row))
 }
 
 /// What the topic of a writer carries: a datum, where the table does not say.
-pub fn kind_of(kinds: &[WriterKind], prefix: &GuidPrefix, entity: &EntityId) -> Kind
+pub fn kind_of<'a>(kinds: &[WriterKind<'a>], prefix: &GuidPrefix, entity: &EntityId) -> Kind<'a>
     ensures { result ≡ kind_of kinds.now prefix.now entity.now }
 {
     match row_of(kinds, prefix, entity) {
@@ -62,8 +102,8 @@ pub fn kind_of(kinds: &[WriterKind], prefix: &GuidPrefix, entity: &EntityId) -> 
 }
 
 /// The rule of the key, where it is no datum.
-pub fn rule_of(kind: Kind) -> Option<KeyRule>
-    ensures { result ≡ rule_of kind }
+pub fn rule_of<'a>(kind: Kind<'a>) -> Option<KeyRule<'a>>
+    ensures { result ≡ rule_of kind.entry }
 {
     match kind {
         Kind::Datum => None,

@@ -4,7 +4,7 @@
 
 ghost use Rattle.rtps_adapter.specs.ComesBack.{ComesBack};
 ghost use Rattle.rtps_adapter.specs.Leaving.{WhatGoesOutFits};
-ghost use Rattle.rtps_adapter.specs.Taken.{ValuesAreRead};
+ghost use Rattle.rtps_adapter.specs.Taken.{KeysAreRead, ValuesAreRead};
 ghost use Rattle.rtps_adapter.specs.Same.{Same, StrangersStay, NoneIsRead};
 
 /// What a peer wrote goes to the network and comes back as it was, octet for octet, where each change is one of the
@@ -40,6 +40,13 @@ pub fn what_cant_be_turned_is_not_read()
 pub fn values_are_read()
     // So it is of each that has a value of at most 1,024 octets.
     ensures read { ValuesAreRead }
+{}
+
+/// A dispose or an unregister of another type is read by a peer as one of the key that the rule finds in its payload:
+/// for the same reader, of the same writer, with the same number and strength.
+pub fn keys_are_read()
+    // So it is of each whose payload says a key alone.
+    ensures read { KeysAreRead }
 {}
 
 /// What goes out is of its topic's type: a value with the key that the rule finds in it, or a key that the type has.

@@ -12,11 +12,12 @@ mod adapt;
 mod change;
 mod data;
 mod direction;
+mod key;
 mod kinds;
 pub mod laws;
 mod payload;
 
 pub use adapt::{Adapted, inward, outward};
 pub use direction::Direction;
-pub use kinds::{KeyRule, Kind, WriterKind};
+pub use kinds::{Encoding, FieldSize, KeyField, KeyRule, Kind, WriterKind};
 pub use payload::fits;

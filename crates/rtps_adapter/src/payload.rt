@@ -2,19 +2,21 @@
 //!
 //! RTPS 2.5, clause 10 (SerializedPayload); XTypes 1.3, 7.6.3.1.2 (octets of padding).
 
-ghost use Rattle.std.specs.Prelude.{◌≡◌, ◌≤◌, ◌<◌, ◌+◌, ◌^◌, ◌++◌, length, replicate, OnOk, IfErr, IsTrue, ◌↔◌, Some};
+ghost use Rattle.std.specs.Prelude.{◌≡◌, ◌≤◌, ◌<◌, ◌+◌, ◌^◌, ◌∷◌, ◌++◌, length, replicate, OnOk, IfErr, IfSome, IsTrue, ◌↔◌, Some};
 ghost use Rattle.std.specs.Option.{option_map};
 ghost use Rattle.dds_base.specs.declared.datum.Datum.{Datum};
-ghost use Rattle.dds_base.specs.DatumAt.{datum_at};
+ghost use Rattle.dds_base.specs.DatumAt.{datum_at, key_form_at};
+ghost use Rattle.dds_base.specs.Happening.{same_key};
 ghost use Rattle.dds_base.specs.DatumText.{spelling_of_datum, spelling_of_key};
 ghost use Rattle.rtps_wire.specs.Submessages.{padding};
 ghost use Rattle.rtps_adapter.specs.Payloads.{value_at, payload_of, key_payload_of, inward_payload, outward_payload, has_own_key};
-ghost use Rattle.rtps_adapter.specs.Kinds.{key_by};
+ghost use Rattle.rtps_adapter.specs.Keys.{key_in, key_by, representation_of};
 ghost use Rattle.rtps_wire.specs.declared.data.ChangeBody.TheVariants.{Write};
 ghost use Rattle.rtps_adapter.specs.ComesBack.{IsValue, FitsKind};
 ghost use Rattle.rtps_adapter.specs.PayloadText.{new_text};
 
-use crate::kinds::{KeyRule, Kind, NO_KEY, rule_of};
+use crate::key::{key_by_fields, own_len, representation_of};
+use crate::kinds::{Encoding, KeyRule, Kind, NO_KEY, rule_of};
 use dds_base::{Code, Key, decode_datum_ref, decode_key};
 use rtps_wire::MAX_MESSAGE;
 use std::marker::Model;
@@ -23,7 +25,10 @@ use std::marker::Model;
 const LEN_DATUM_HEAD: usize = LEN_KEY_FORM + 4;
 
 /// A key form: representation, options and key.
-const LEN_KEY_FORM: usize = 20;
+const LEN_KEY_FORM: usize = LEN_KEY_HEAD + 16;
+
+/// A key form up to its key: representation and options.
+const LEN_KEY_HEAD: usize = 4;
 
 /// Representation, options and body: a value, or a payload. Contracts see its octets.
 #[derive(Drop)]
@@ -99,25 +104,30 @@ fn value_of(payload: &[u8]) -> Option<Serialized<'_>>
     Some(Serialized { head, body })
 }
 
-/// The key of a value, by the rule.
-fn key_of(rule: KeyRule, _value: &Serialized) -> Option<Key>
-    ensures { result ≡ key_by rule _value.now }
+/// The key of a value, or of what says a key alone, by the rule.
+fn key_of(rule: KeyRule, is_key: bool, value: &Serialized) -> Option<Key>
+    ensures { result ≡ key_in is_key rule.entry value.now }
 {
     match rule {
         KeyRule::Keyless => Some(NO_KEY),
+        KeyRule::Fields(encoding, fields) => {
+            let [first, second, _, _] = value.head;
+            key_by_fields(is_key, encoding, fields, (first, second), value.body)
+        }
     }
 }
 
 /// What a payload of another type turns into. `None` where it can't be turned.
 #[tactic(auto, unfolding(crate::specs::Payloads::inward_payload))]
-pub fn inward_payload(rule: KeyRule, is_key: bool, payload: &[u8]) -> Option<NewPayload<'_>>
-    ensures { option_map new_text result ≡ inward_payload rule is_key payload.now }
+pub fn inward_payload<'a>(rule: KeyRule, is_key: bool, payload: &'a [u8]) -> Option<NewPayload<'a>>
+    ensures { option_map new_text result ≡ inward_payload rule.entry is_key payload.now }
 {
     let value = value_of(payload)?;
-    let key = key_of(rule, &value)?;
     if is_key {
+        let key = key_of(rule, true, &value)?;
         Some(NewPayload::KeyForm(key))
     } else {
+        let key = key_of(rule, false, &value)?;
         Some(NewPayload::Datum(key, value))
     }
 }
@@ -138,11 +148,30 @@ fn own_payload(value: &[u8]) -> Option<NewPayload<'_>>
     Some(NewPayload::Own(Serialized { head, body }))
 }
 
-/// The payload that says a key alone. `None` where the type has no such key.
-#[tactic(auto, unfolding(crate::specs::Payloads::key_payload_of))]
-fn own_key(rule: KeyRule, key: &Key) -> Option<NewPayload<'static>>
-    ensures { option_map new_text result ≡ key_payload_of rule key.now }
+/// Key fields of sixteen octets at most as a payload, big-endian, whose options count the zeros that follow them.
+#[tactic(auto, unfolding(crate::specs::Payloads::payload_of))]
+fn own_fields<'a>(encoding: Encoding, octets: &'a [u8]) -> Option<NewPayload<'a>>
+    requires few { length octets.now ≤ 16 }
+    ensures { option_map new_text result
+        ≡ payload_of (0 ∷ representation_of encoding ∷ 0 ∷ 0 ∷ octets.now) }
 {
+    let head = [
+        0,
+        representation_of(encoding),
+        0,
+        zeros_after(octets.len()) as u8,
+    ];
+    Some(NewPayload::Own(Serialized { head, body: octets }))
+}
+
+/// The payload that says a key alone, of these octets. `None` where the type has no such key.
+#[tactic(auto, unfolding(crate::specs::Payloads::key_payload_of))]
+fn own_key<'a>(rule: KeyRule, key: &Key, octets: &'a [u8]) -> Option<NewPayload<'a>>
+    requires octets { octets.now ≡ key.now.0 }
+    ensures { option_map new_text result ≡ key_payload_of rule.entry key.now }
+{
+    // This shows the prover how many octets there are.
+    let _octets = key.as_slice();
     match rule {
         KeyRule::Keyless => {
             if *key != NO_KEY {
@@ -153,7 +182,21 @@ fn own_key(rule: KeyRule, key: &Key) -> Option<NewPayload<'static>>
                 body: &[],
             }))
         }
+        KeyRule::Fields(encoding, fields) => {
+            let len = own_len(encoding, fields, key)?;
+            own_fields(encoding, &octets[..len])
+        }
     }
+}
+
+/// The key of the key form that the bytes begin with, and its octets, which they lend. `None` where they begin with
+/// none.
+fn key_form_in(payload: &[u8]) -> Option<(Key, &[u8])>
+    ensures key { option_map (λ x. x.0) result ≡ key_form_at payload.now }
+    ensures octets { IfSome result (λ x. x.1.now ≡ x.0.0) }
+{
+    let key = decode_key(payload)?;
+    Some((key, &payload[LEN_KEY_HEAD..LEN_KEY_FORM]))
 }
 
 /// The key and the value of the datum that the bytes begin with; they lend the value. `None` where they begin with
@@ -169,16 +212,6 @@ fn datum_in(payload: &[u8]) -> Option<(Key, &[u8])>
     Some((key, value))
 }
 
-/// Whether a key is that of a value, by the rule.
-#[tactic(auto, unfolding(crate::specs::Payloads::has_own_key))]
-fn has_own_key(rule: KeyRule, key: &Key, _value: &[u8]) -> bool
-    ensures { result ≡ has_own_key rule (record { key = key.now; value = _value.now }) }
-{
-    match rule {
-        KeyRule::Keyless => *key == NO_KEY,
-    }
-}
-
 /// Whether a payload can carry a value.
 fn is_value(value: &[u8]) -> bool
     ensures { IsTrue result ↔ IsValue value.now }
@@ -188,17 +221,37 @@ fn is_value(value: &[u8]) -> bool
 
 /// Whether two keys are one.
 fn is_same_key(first: &Key, second: &Key) -> bool
-    ensures { IsTrue result ↔ (first.now ≡ second.now) }
+    ensures same { result ≡ same_key first.now second.now }
+    ensures one { IsTrue result ↔ (first.now ≡ second.now) }
 {
     *first == *second
 }
 
-/// Whether the rule finds this key in a value.
-fn finds_key(rule: KeyRule, key: &Key, _value: &[u8]) -> bool
-    ensures { IsTrue result ↔ (key_by rule _value.now ≡ Some key.now) }
+/// The key of a value, by the rule. `None` where the value has none.
+#[tactic(auto, unfolding(crate::specs::Keys::key_by_fields))]
+fn key_by(rule: KeyRule, value: &[u8]) -> Option<Key>
+    ensures { result ≡ key_by rule.entry value.now }
 {
     match rule {
-        KeyRule::Keyless => is_same_key(&NO_KEY, key),
+        KeyRule::Keyless => Some(NO_KEY),
+        KeyRule::Fields(encoding, fields) => {
+            let [first, second, _, _, body @ ..] = value else {
+                return None;
+            };
+            key_by_fields(false, encoding, fields, (*first, *second), body)
+        }
+    }
+}
+
+/// Whether a key is that of a value, by the rule.
+fn has_own_key(rule: KeyRule, key: &Key, value: &[u8]) -> bool
+    ensures own { result
+        ≡ has_own_key rule.entry (record { key = key.now; value = value.now }) }
+    ensures found { IsTrue result ↔ (key_by rule.entry value.now ≡ Some key.now) }
+{
+    match key_by(rule, value) {
+        Some(own) => is_same_key(key, &own),
+        None => false,
     }
 }
 
@@ -209,22 +262,22 @@ fn finds_key(rule: KeyRule, key: &Key, _value: &[u8]) -> bool
 pub fn fits(kind: Kind, key: &Key, value: &[u8]) -> bool
     // It is so exactly where a payload can carry the value, and the rule finds the key in it; of the datum it is.
     ensures fits { IsTrue result
-        ↔ FitsKind kind (Write (record { key = key.now; value = value.now })) }
+        ↔ FitsKind kind.entry (Write (record { key = key.now; value = value.now })) }
 {
     match rule_of(kind) {
         None => true,
-        Some(rule) => is_value(value) && finds_key(rule, key, value),
+        Some(rule) => is_value(value) && has_own_key(rule, key, value),
     }
 }
 
 /// What a datum or a key form turns into. `None` where it can't be turned.
 #[tactic(auto, unfolding(crate::specs::Payloads::outward_payload))]
-pub fn outward_payload(rule: KeyRule, is_key: bool, payload: &[u8]) -> Option<NewPayload<'_>>
-    ensures { option_map new_text result ≡ outward_payload rule is_key payload.now }
+pub fn outward_payload<'a>(rule: KeyRule, is_key: bool, payload: &'a [u8]) -> Option<NewPayload<'a>>
+    ensures { option_map new_text result ≡ outward_payload rule.entry is_key payload.now }
 {
     if is_key {
-        let key = decode_key(payload)?;
-        return own_key(rule, &key);
+        let (key, octets) = key_form_in(payload)?;
+        return own_key(rule, &key, octets);
     }
     let (key, value) = datum_in(payload)?;
     if !has_own_key(rule, &key, value) {

@@ -1,0 +1,5 @@
+use Rattle.rtps_adapter.proofs.Taking as taking
+use Rattle.rtps_adapter.proofs.laws.keys_are_read.Goals as goal
+
+pub returns : goal.returns
+returns c = record { read = taking.keys_are_read }
