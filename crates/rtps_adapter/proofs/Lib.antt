@@ -9,3 +9,4 @@ pub mod MessageRounds
 pub mod Places
 pub mod Taking
 pub mod Leaving
+pub mod Gaps

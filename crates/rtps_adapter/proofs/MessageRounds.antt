@@ -18,7 +18,8 @@ use Rattle.rtps_wire.proofs.TestLaws.{match_false}
 use Rattle.rtps_adapter.specs.declared.direction.Direction.{Direction}
 use Rattle.rtps_adapter.specs.declared.direction.Direction.TheVariants.{Inward, Outward}
 use Rattle.rtps_adapter.specs.declared.kinds.WriterKind.{WriterKind}
-use Rattle.rtps_adapter.specs.Adapting.{Piece, piece_of, StandsIn, IsMessage, Turns, Adapts, turned, texts_of}
+use Rattle.rtps_adapter.specs.Turning.{Piece, piece_of, turned}
+use Rattle.rtps_adapter.specs.Adapting.{StandsIn, IsMessage, Turns, Adapts, texts_of}
 use Rattle.rtps_adapter.specs.ComesBack.{Fits, ComesBack}
 use Rattle.rtps_adapter.proofs.Rounds.{Round, round, spelled}
 

@@ -21,11 +21,13 @@ use Rattle.rtps_wire.specs.Submessages.{Reads, padding}
 use Rattle.std.proofs.lemmas.Nat.{and_or_self}
 use Rattle.rtps_wire.proofs.TestLaws.{match_false}
 use Rattle.rtps_adapter.specs.declared.direction.Direction.{Direction}
+use Rattle.rtps_adapter.specs.declared.direction.Way.TheVariants.{Turning}
 use Rattle.rtps_adapter.specs.declared.kinds.WriterKind.{WriterKind}
 use Rattle.rtps_adapter.specs.declared.kinds.Kind.TheVariants as kinds_of
 use Rattle.rtps_adapter.specs.Kinds.{kind_of, rule_of}
 use Rattle.rtps_adapter.specs.Opened.{after_first, after_parameters, after_inline, payload_at}
-use Rattle.rtps_adapter.specs.Adapting.{Piece, piece_of, Payload, StandsIn, foreign_payload, turned_payload, changed, turned, has_payload, aligned}
+use Rattle.rtps_adapter.specs.Turning.{Piece, piece_of, Payload, foreign_payload, turned_payload, changed, turned, has_payload, aligned}
+use Rattle.rtps_adapter.specs.Adapting.{StandsIn}
 use Rattle.rtps_adapter.proofs.Rounds.{positive_within}
 use Rattle.rtps_adapter.proofs.Standing.{turned_texts}
 use Rattle.rtps_adapter.specs.Same.{HasSameHead, Same, StrangersStay, NoneIsRead}
@@ -239,10 +241,10 @@ nothing_stands [] left s = (refl, s.1)
 nothing_stands (p ∷ ps) left s = absurd (omega (arith, frame_length [] p.id p.flags p.body s.0 s.1))
 
 nothing_turned : (direction : Direction) (kinds : List WriterKind) (source : GuidPrefix) (rest : List ℕ) (ps : List Piece)
-    (left : List ℕ) → StandsIn rest ps left → rest ≡ [] → turned_texts direction kinds source ps ++ left ≡ []
+    (left : List ℕ) → StandsIn rest ps left → rest ≡ [] → turned_texts (Turning direction) kinds source ps ++ left ≡ []
 nothing_turned direction kinds source rest ps left s e =
     let n = nothing_stands ps left (subst (λ (z : List ℕ). StandsIn z ps left) e s) in
-    ap (λ (qs : List Piece). turned_texts direction kinds source qs ++ left) n.0 ∙ n.1
+    ap (λ (qs : List Piece). turned_texts (Turning direction) kinds source qs ++ left) n.0 ∙ n.1
 
 extent_again : (b : Bool) (rest other body : List ℕ) (len : ℕ) → MatchBool b (rest ≡ []) (length body ≡ len)
     → (rest ≡ [] → other ≡ []) → MatchBool b (other ≡ []) (length body ≡ len)
@@ -290,23 +292,23 @@ frame_turned direction kinds source bytes rest other p frame text go short q is 
 
 stands_turned : (direction : Direction) (kinds : List WriterKind) (source : GuidPrefix) (bytes : List ℕ)
     (ps : List Piece) (left : List ℕ) → StandsIn bytes ps left
-    → length (turned_texts direction kinds source ps ++ left) ≤ 65535
-    → StandsIn (turned_texts direction kinds source ps ++ left) (map (turned direction kinds source) ps) left
+    → length (turned_texts (Turning direction) kinds source ps ++ left) ≤ 65535
+    → StandsIn (turned_texts (Turning direction) kinds source ps ++ left) (map (turned direction kinds source) ps) left
 stands_turned direction kinds source bytes [] left s short =
     (subst (λ (z : List ℕ). IsEnd z) (sym s.1) s.0, refl)
 stands_turned direction kinds source bytes (p ∷ ps) left s short =
     let q = turned direction kinds source p in
-    let texts = turned_texts direction kinds source ps in
-    let other = turned_texts direction kinds source ps ++ left in
-    let parts : turned_texts direction kinds source (p ∷ ps) ++ left
-    ≡ (turned direction kinds source p).text ++ (turned_texts direction kinds source ps ++ left) =
-    append_assoc ((turned direction kinds source p).text) (turned_texts direction kinds source ps) left in
+    let texts = turned_texts (Turning direction) kinds source ps in
+    let other = turned_texts (Turning direction) kinds source ps ++ left in
+    let parts : turned_texts (Turning direction) kinds source (p ∷ ps) ++ left
+    ≡ (turned direction kinds source p).text ++ (turned_texts (Turning direction) kinds source ps ++ left) =
+    append_assoc ((turned direction kinds source p).text) (turned_texts (Turning direction) kinds source ps) left in
     let len = length-append q.text other in
     let whole = ap length parts in (
-      turned_texts direction kinds source ps ++ left,
+      turned_texts (Turning direction) kinds source ps ++ left,
       subst (λ (z : List ℕ). IsFrame z (turned direction kinds source p).id (turned direction kinds source p).flags
-          (turned direction kinds source p).body (turned_texts direction kinds source ps ++ left)) (sym parts)
-          (frame_turned direction kinds source bytes s.0 (turned_texts direction kinds source ps ++ left) p s.1 s.2
+          (turned direction kinds source p).body (turned_texts (Turning direction) kinds source ps ++ left)) (sym parts)
+          (frame_turned direction kinds source bytes s.0 (turned_texts (Turning direction) kinds source ps ++ left) p s.1 s.2
           (nothing_turned direction kinds source s.0 ps left s.3) (omega (arith, short, len, whole))
           (turned direction kinds source p) refl (shape direction kinds source p)),
       parts,
@@ -328,8 +330,8 @@ same_places direction kinds bytes out t short =
     let h = m.begins in
     let header : m.header ≡ header_text m.begins.minor m.begins.vendor t.source =
     append_cancel_right m.header (header_text h.minor h.vendor t.source) m.body (sym m.parts ∙ h.header) in
-    let texts = turned_texts direction kinds t.source t.pieces ++ t.left in
-    let few : length (turned_texts direction kinds t.source t.pieces ++ t.left) ≤ 65535 =
+    let texts = turned_texts (Turning direction) kinds t.source t.pieces ++ t.left in
+    let few : length (turned_texts (Turning direction) kinds t.source t.pieces ++ t.left) ≤ 65535 =
     omega (arith, short, ap length t.text, length-append m.header texts) in
     record {
       source = t.source;
@@ -339,7 +341,7 @@ same_places direction kinds bytes out t short =
       is =
           record {
             header = m.header;
-            body = turned_texts direction kinds t.source t.pieces ++ t.left;
+            body = turned_texts (Turning direction) kinds t.source t.pieces ++ t.left;
             begins =
                 record {
                   minor = h.minor;
@@ -347,7 +349,7 @@ same_places direction kinds bytes out t short =
                   two = h.two;
                   prefix = h.prefix;
                   header = t.text
-                      ∙ ap (λ (z : List ℕ). z ++ (turned_texts direction kinds t.source t.pieces ++ t.left)) header;
+                      ∙ ap (λ (z : List ℕ). z ++ (turned_texts (Turning direction) kinds t.source t.pieces ++ t.left)) header;
                   short = short;
                 };
             parts = t.text;

@@ -33,7 +33,7 @@ use Rattle.rtps_adapter.specs.Keys.{key_by, key_alone, representation_of}
 use Rattle.rtps_adapter.proofs.KeyForms.{own_few, fields_again, key_form_is, alone_says}
 use Rattle.rtps_adapter.specs.Opened.{after_first, after_parameters, after_inline, payload_at}
 use Rattle.rtps_adapter.specs.Payloads.{value_at, payload_of, key_payload_of, has_own_key, inward_payload, outward_payload}
-use Rattle.rtps_adapter.specs.Adapting.{Piece, piece_of, has_payload, foreign_payload, turned_payload, aligned, changed, turned}
+use Rattle.rtps_adapter.specs.Turning.{Piece, piece_of, has_payload, foreign_payload, turned_payload, aligned, changed, turned}
 use Rattle.rtps_adapter.specs.ComesBack.{IsKey, IsValue}
 
 -- ---- parameters

@@ -27,7 +27,7 @@ use Rattle.rtps_adapter.specs.declared.kinds.KeyRule.{KeyRule}
 use Rattle.rtps_adapter.specs.declared.kinds.WriterKind.{WriterKind}
 use Rattle.rtps_adapter.specs.Kinds.{kind_of, rule_of}
 use Rattle.rtps_adapter.specs.Opened.{payload_at}
-use Rattle.rtps_adapter.specs.Adapting.{Piece, piece_of, aligned, foreign_payload, changed, turned}
+use Rattle.rtps_adapter.specs.Turning.{Piece, piece_of, aligned, foreign_payload, changed, turned}
 use Rattle.rtps_adapter.specs.Payloads.{inward_payload, outward_payload}
 use Rattle.rtps_adapter.specs.ComesBack.{IsKey, FitsRule, FitsKind, Fits}
 use Rattle.rtps_adapter.proofs.Returning.{written_parameters, written_payload, written_whole, says_key, carries_payload, key_flag, head_of_data, data_opens, data_returns, write_there, write_back, payload_back, payload_less, key_returns, key_there, foreign_not}

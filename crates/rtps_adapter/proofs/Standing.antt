@@ -12,8 +12,13 @@ use Rattle.rtps_wire.specs.Messages.{ReadsAll, HasHeader, header_text}
 use Rattle.rtps_wire.specs.Names.{max_message}
 use Rattle.rtps_wire.proofs.MessageLaws.{reading}
 use Rattle.rtps_adapter.specs.declared.direction.Direction.{Direction}
+use Rattle.rtps_adapter.specs.declared.direction.Direction.TheVariants.{Inward}
+use Rattle.rtps_adapter.specs.declared.direction.Way.{Way}
+use Rattle.rtps_adapter.specs.declared.direction.Way.TheVariants.{Turning, Filling}
 use Rattle.rtps_adapter.specs.declared.kinds.WriterKind.{WriterKind}
-use Rattle.rtps_adapter.specs.Adapting.{Piece, StandsIn, changed, foreign_payload, turned, texts_of, is_foreign, IsMessage, Adapts, NeedsNothing}
+use Rattle.rtps_adapter.specs.Turning.{Piece, changed, foreign_payload, turned}
+use Rattle.rtps_adapter.specs.Filling.{lost}
+use Rattle.rtps_adapter.specs.Adapting.{StandsIn, texts_of, becomes, is_foreign, is_touched, IsMessage, Makes, Stays}
 use Rattle.rtps_adapter.specs.PayloadText.{Puts}
 
 -- one more submessage of those that are left
@@ -44,13 +49,13 @@ stands_first bytes id flags body rest ps left frame on =
     (front_of bytes (frame_text id flags frame.len body) rest frame.text) on
 
 -- what was gone over so far, with whether one of it has to be turned
-pub record Seeks (kinds : List WriterKind) (source : GuidPrefix) (start left : List ℕ) (has : Bool) : Type 0 where
+pub record Seeks (way : Way) (kinds : List WriterKind) (source : GuidPrefix) (start left : List ℕ) (has : Bool) : Type 0 where
   pub before : List Piece
   pub on : (ps : List Piece) (end : List ℕ) → StandsIn left ps end → StandsIn start (before ++ ps) end
-  pub is : has ≡ list_any (is_foreign kinds source) before
+  pub is : has ≡ list_any (is_touched way kinds source) before
 
-pub seeks_none : (kinds : List WriterKind) (source : GuidPrefix) (start : List ℕ) → Seeks kinds source start start false
-seeks_none kinds source start = record { before = []; on = λ ps end s. s; is = refl }
+pub seeks_none : (way : Way) (kinds : List WriterKind) (source : GuidPrefix) (start : List ℕ) → Seeks way kinds source start start false
+seeks_none way kinds source start = record { before = []; on = λ ps end s. s; is = refl }
 
 any_more : (f : Piece → Bool) (xs : List Piece) (y : Piece) → list_any f (xs ++ y ∷ []) ≡ (list_any f xs || f y)
 any_more f xs y = list_any-append f xs (y ∷ []) ∙ ap (λ (z : Bool). list_any f xs || z) (any_one (f y))
@@ -59,23 +64,23 @@ any_more f xs y = list_any-append f xs (y ∷ []) ∙ ap (λ (z : Bool). list_an
     any_one true = refl
     any_one false = refl
 
-pub seeks_more : (kinds : List WriterKind) (source : GuidPrefix) (start left : List ℕ) (has here : Bool) (id flags : ℕ)
-    (body rest : List ℕ) → Seeks kinds source start left has → IsFrame left id flags body rest
-    → here ≡ is_foreign kinds source (piece_at left id flags body rest)
-    → Seeks kinds source start rest (has || here)
-seeks_more kinds source start left has here id flags body rest s frame is =
+pub seeks_more : (way : Way) (kinds : List WriterKind) (source : GuidPrefix) (start left : List ℕ) (has here : Bool) (id flags : ℕ)
+    (body rest : List ℕ) → Seeks way kinds source start left has → IsFrame left id flags body rest
+    → here ≡ is_touched way kinds source (piece_at left id flags body rest)
+    → Seeks way kinds source start rest (has || here)
+seeks_more way kinds source start left has here id flags body rest s frame is =
     let p = piece_at left id flags body rest in
     record {
       before = s.before ++ piece_at left id flags body rest ∷ [];
       on = λ ps end r. rw append_assoc (s.on (piece_at left id flags body rest ∷ ps) end
           (stands_first left id flags body rest ps end frame r));
-      is = rw (s.is, is) (sym (any_more (is_foreign kinds source) s.before (piece_at left id flags body rest)));
+      is = rw (s.is, is) (sym (any_more (is_touched way kinds source) s.before (piece_at left id flags body rest)));
     }
 
-pub sought_all : (kinds : List WriterKind) (source : GuidPrefix) (start left : List ℕ) (has : Bool)
-    → Seeks kinds source start left has → IsEnd left
-    → (ps : List Piece) × (end : List ℕ) × StandsIn start ps end × (has ≡ list_any (is_foreign kinds source) ps)
-sought_all kinds source start left has s end =
+pub sought_all : (way : Way) (kinds : List WriterKind) (source : GuidPrefix) (start left : List ℕ) (has : Bool)
+    → Seeks way kinds source start left has → IsEnd left
+    → (ps : List Piece) × (end : List ℕ) × StandsIn start ps end × (has ≡ list_any (is_touched way kinds source) ps)
+sought_all way kinds source start left has s end =
     let all : StandsIn start s.before left = rw (← append-nil s.before) (s.on [] left (end, refl)) in
     (s.before, left, all, s.is)
 
@@ -118,50 +123,50 @@ puts_false old new octets true is p = absurd cc
 puts_false old new octets false is p = p
 
 -- the octets of what submessages turn into
-abbrev pub turned_texts : Direction → List WriterKind → GuidPrefix → List Piece → List ℕ
-turned_texts direction kinds source ps = texts_of (map (turned direction kinds source) ps)
+abbrev pub turned_texts : Way → List WriterKind → GuidPrefix → List Piece → List ℕ
+turned_texts way kinds source ps = texts_of (map (becomes way kinds source) ps)
 
-pub texts_more : (direction : Direction) (kinds : List WriterKind) (source : GuidPrefix) (ps qs : List Piece)
-    → turned_texts direction kinds source (ps ++ qs)
-    ≡ turned_texts direction kinds source ps ++ turned_texts direction kinds source qs
-texts_more direction kinds source [] qs = refl
-texts_more direction kinds source (p ∷ ps) qs =
-    let first = (turned direction kinds source p).text in
-    ap (λ (z : List ℕ). (turned direction kinds source p).text ++ z) (texts_more direction kinds source ps qs)
-    ∙ sym (append_assoc ((turned direction kinds source p).text) (turned_texts direction kinds source ps)
-    (turned_texts direction kinds source qs))
+pub texts_more : (way : Way) (kinds : List WriterKind) (source : GuidPrefix) (ps qs : List Piece)
+    → turned_texts way kinds source (ps ++ qs)
+    ≡ turned_texts way kinds source ps ++ turned_texts way kinds source qs
+texts_more way kinds source [] qs = refl
+texts_more way kinds source (p ∷ ps) qs =
+    let first = (becomes way kinds source p).text in
+    ap (λ (z : List ℕ). (becomes way kinds source p).text ++ z) (texts_more way kinds source ps qs)
+    ∙ sym (append_assoc ((becomes way kinds source p).text) (turned_texts way kinds source ps)
+    (turned_texts way kinds source qs))
 
 -- what was appended so far is what was gone over so far turns into
-pub record Goes (direction : Direction) (kinds : List WriterKind) (source : GuidPrefix) (start left begun out : List ℕ)
+pub record Goes (way : Way) (kinds : List WriterKind) (source : GuidPrefix) (start left begun out : List ℕ)
     : Type 0 where
   pub before : List Piece
   pub on : (ps : List Piece) (end : List ℕ) → StandsIn left ps end → StandsIn start (before ++ ps) end
-  pub text : out ≡ begun ++ turned_texts direction kinds source before
+  pub text : out ≡ begun ++ turned_texts way kinds source before
   pub octets : AreOctets left
 
-pub goes_none : (direction : Direction) (kinds : List WriterKind) (source : GuidPrefix) (start begun : List ℕ)
-    → AreOctets start → Goes direction kinds source start start begun begun
-goes_none direction kinds source start begun octets =
+pub goes_none : (way : Way) (kinds : List WriterKind) (source : GuidPrefix) (start begun : List ℕ)
+    → AreOctets start → Goes way kinds source start start begun begun
+goes_none way kinds source start begun octets =
     record { before = []; on = λ ps end s. s; text = sym (append-nil begun); octets = octets }
 
-pub goes_more : (direction : Direction) (kinds : List WriterKind) (source : GuidPrefix) (start left begun old new : List ℕ)
-    (id flags : ℕ) (body rest : List ℕ) (fits : Bool) → Goes direction kinds source start left begun old
+pub goes_more : (way : Way) (kinds : List WriterKind) (source : GuidPrefix) (start left begun old new : List ℕ)
+    (id flags : ℕ) (body rest : List ℕ) (fits : Bool) → Goes way kinds source start left begun old
     → IsFrame left id flags body rest
-    → Puts old new ((turned direction kinds source (piece_at left id flags body rest)).text) fits → fits ≡ true
-    → Goes direction kinds source start rest begun new
-goes_more direction kinds source start left begun old new id flags body rest fits g frame put has =
-    let e = (puts_true old new ((turned direction kinds source (piece_at left id flags body rest)).text) fits has put).0 in
+    → Puts old new ((becomes way kinds source (piece_at left id flags body rest)).text) fits → fits ≡ true
+    → Goes way kinds source start rest begun new
+goes_more way kinds source start left begun old new id flags body rest fits g frame put has =
+    let e = (puts_true old new ((becomes way kinds source (piece_at left id flags body rest)).text) fits has put).0 in
     let p : Piece = piece_at left id flags body rest in
-    let one : List ℕ = (turned direction kinds source (piece_at left id flags body rest)).text in
-    let texts = turned_texts direction kinds source in
+    let one : List ℕ = (becomes way kinds source (piece_at left id flags body rest)).text in
+    let texts = turned_texts way kinds source in
     record {
       before = g.before ++ piece_at left id flags body rest ∷ [];
       on = λ ps end r. rw append_assoc (g.on (piece_at left id flags body rest ∷ ps) end
           (stands_first left id flags body rest ps end frame r));
-      text = e ∙ ap (λ (z : List ℕ). z ++ one) g.text ∙ append_assoc begun (turned_texts direction kinds source g.before) one
+      text = e ∙ ap (λ (z : List ℕ). z ++ one) g.text ∙ append_assoc begun (turned_texts way kinds source g.before) one
           ∙ ap (λ (z : List ℕ). begun ++ z)
-          (ap (λ (z : List ℕ). turned_texts direction kinds source g.before ++ z) (sym (append-nil one))
-          ∙ sym (texts_more direction kinds source g.before (p ∷ [])));
+          (ap (λ (z : List ℕ). turned_texts way kinds source g.before ++ z) (sym (append-nil one))
+          ∙ sym (texts_more way kinds source g.before (p ∷ [])));
       octets = octets_after left (frame_text_of left id flags body rest frame) rest frame.text g.octets;
     }
   where
@@ -169,29 +174,29 @@ goes_more direction kinds source start left begun old new id flags body rest fit
     frame_text_of left id flags body rest frame = frame_text id flags frame.len body
 
 -- what one body turns into
-pub record Turned (direction : Direction) (kinds : List WriterKind) (source : GuidPrefix) (start begun new : List ℕ)
+pub record Turned (way : Way) (kinds : List WriterKind) (source : GuidPrefix) (start begun new : List ℕ)
     (fits : Bool) : Type 0 where
   pub pieces : List Piece
   pub left : List ℕ
   pub stands : StandsIn start pieces left
-  pub puts : Puts begun new (turned_texts direction kinds source pieces ++ left) fits
+  pub puts : Puts begun new (turned_texts way kinds source pieces ++ left) fits
 
 -- the next submessage has no place
-pub goes_no_further : (direction : Direction) (kinds : List WriterKind) (source : GuidPrefix)
+pub goes_no_further : (way : Way) (kinds : List WriterKind) (source : GuidPrefix)
     (start left begun old new : List ℕ) (id flags : ℕ) (body rest : List ℕ) (fits : Bool)
-    → Goes direction kinds source start left begun old
+    → Goes way kinds source start left begun old
     → IsFrame left id flags body rest
-    → Puts old new ((turned direction kinds source (piece_at left id flags body rest)).text) fits → fits ≡ false
-    → Turned direction kinds source start begun new false
-goes_no_further direction kinds source start left begun old new id flags body rest fits g frame put has =
+    → Puts old new ((becomes way kinds source (piece_at left id flags body rest)).text) fits → fits ≡ false
+    → Turned way kinds source start begun new false
+goes_no_further way kinds source start left begun old new id flags body rest fits g frame put has =
     let past =
-    puts_false old new ((turned direction kinds source (piece_at left id flags body rest)).text) fits has put in
+    puts_false old new ((becomes way kinds source (piece_at left id flags body rest)).text) fits has put in
     let p : Piece = piece_at left id flags body rest in
     let more : Standing rest =
     standing rest (octets_after left (frame_text id flags frame.len body) rest frame.text g.octets) in
-    let early = turned_texts direction kinds source g.before in
-    let one = (turned direction kinds source (piece_at left id flags body rest)).text in
-    let late = turned_texts direction kinds source more.pieces in
+    let early = turned_texts way kinds source g.before in
+    let one = (becomes way kinds source (piece_at left id flags body rest)).text in
+    let late = turned_texts way kinds source more.pieces in
     record {
       pieces = g.before ++ (piece_at left id flags body rest ∷ more.pieces);
       left = more.left;
@@ -202,24 +207,24 @@ goes_no_further direction kinds source start left begun old new id flags body re
         past,
         ap length g.text,
         length-append begun early,
-        ap length (texts_more direction kinds source g.before (piece_at left id flags body rest ∷ more.pieces)),
+        ap length (texts_more way kinds source g.before (piece_at left id flags body rest ∷ more.pieces)),
         length-append early (one ++ late),
         length-append one late,
-        length-append (turned_texts direction kinds source (g.before ++ (piece_at left id flags body rest ∷ more.pieces)))
+        length-append (turned_texts way kinds source (g.before ++ (piece_at left id flags body rest ∷ more.pieces)))
             more.left,
       );
     }
 
 -- all of it was gone over, and what is left has a place or not
-pub goes_to_end : (direction : Direction) (kinds : List WriterKind) (source : GuidPrefix)
-    (start left begun old new : List ℕ) (fits : Bool) → Goes direction kinds source start left begun old → IsEnd left
-    → Puts old new left fits → Turned direction kinds source start begun new fits
-goes_to_end direction kinds source start left begun old new fits g end p =
+pub goes_to_end : (way : Way) (kinds : List WriterKind) (source : GuidPrefix)
+    (start left begun old new : List ℕ) (fits : Bool) → Goes way kinds source start left begun old → IsEnd left
+    → Puts old new left fits → Turned way kinds source start begun new fits
+goes_to_end way kinds source start left begun old new fits g end p =
     let all : StandsIn start g.before left = rw (← append-nil g.before) (g.on [] left (end, refl)) in
     record { pieces = g.before; left = left; stands = all; puts = moved fits p }
   where
     early : List ℕ
-    early = turned_texts direction kinds source g.before
+    early = turned_texts way kinds source g.before
 
     moved : (fits : Bool) → Puts old new left fits → Puts begun new (early ++ left) fits
     moved true p = (p.0 ∙ ap (λ (z : List ℕ). z ++ left) g.text ∙ append_assoc begun early left, p.1)
@@ -249,13 +254,21 @@ neither : (a b : Bool) → (a || b) ≡ false → (a ≡ false) × (b ≡ false)
 neither true b e = absurd cc
 neither false b e = (refl, e)
 
-pub all_same : (direction : Direction) (kinds : List WriterKind) (source : GuidPrefix) (ps : List Piece)
-    → list_any (is_foreign kinds source) ps ≡ false → map (turned direction kinds source) ps ≡ ps
-all_same direction kinds source [] e = refl
-all_same direction kinds source (p ∷ ps) e =
-    let both = neither (is_foreign kinds source p) (list_any (is_foreign kinds source) ps) e in
-    let first = turned_same direction kinds source p both.0 in
-    let rest = all_same direction kinds source ps both.1 in
+becomes_same : (way : Way) (kinds : List WriterKind) (source : GuidPrefix) (p : Piece)
+    → is_touched way kinds source p ≡ false → becomes way kinds source p ≡ p
+becomes_same (Turning direction) kinds source p e = turned_same direction kinds source p e
+becomes_same Filling kinds source p e =
+    let both = neither (is_foreign kinds source p) (is_some (lost kinds source p.id p.flags p.body)) e in
+    let none = stays_none (lost kinds source p.id p.flags p.body) both.1 in
+    rw none (turned_same Inward kinds source p both.0)
+
+pub all_same : (way : Way) (kinds : List WriterKind) (source : GuidPrefix) (ps : List Piece)
+    → list_any (is_touched way kinds source) ps ≡ false → map (becomes way kinds source) ps ≡ ps
+all_same way kinds source [] e = refl
+all_same way kinds source (p ∷ ps) e =
+    let both = neither (is_touched way kinds source p) (list_any (is_touched way kinds source) ps) e in
+    let first = becomes_same way kinds source p both.0 in
+    let rest = all_same way kinds source ps both.1 in
     cc
 
 abbrev pub message_of : (bytes : List ℕ) (source : GuidPrefix) (body : List ℕ) (ps : List Piece) (left : List ℕ)
@@ -269,11 +282,11 @@ message_of bytes source body ps left h s = record {
 }
 
 -- a message turns into this
-pub turns_into : (direction : Direction) (kinds : List WriterKind) (bytes : List ℕ) (source : GuidPrefix) (body : List ℕ)
+pub turns_into : (way : Way) (kinds : List WriterKind) (bytes : List ℕ) (source : GuidPrefix) (body : List ℕ)
     (ps : List Piece) (left : List ℕ) → HasHeader bytes source body → StandsIn body ps left
-    → Adapts direction kinds bytes
-    (take (length bytes - length body) bytes ++ (turned_texts direction kinds source ps ++ left))
-turns_into direction kinds bytes source body ps left h s =
+    → Makes way kinds bytes
+    (take (length bytes - length body) bytes ++ (turned_texts way kinds source ps ++ left))
+turns_into way kinds bytes source body ps left h s =
     inl (record {
       source = source;
       pieces = ps;
@@ -283,52 +296,52 @@ turns_into direction kinds bytes source body ps left h s =
     })
 
 -- where none has to be turned the message stays
-pub stays_as_it_is : (direction : Direction) (kinds : List WriterKind) (bytes : List ℕ) (source : GuidPrefix)
+pub stays_as_it_is : (way : Way) (kinds : List WriterKind) (bytes : List ℕ) (source : GuidPrefix)
     (body : List ℕ) (ps : List Piece) (left : List ℕ) → HasHeader bytes source body → StandsIn body ps left
-    → list_any (is_foreign kinds source) ps ≡ false → Adapts direction kinds bytes bytes
-stays_as_it_is direction kinds bytes source body ps left h s none =
+    → list_any (is_touched way kinds source) ps ≡ false → Makes way kinds bytes bytes
+stays_as_it_is way kinds bytes source body ps left h s none =
     let parts = front_of bytes (header_text h.minor h.vendor source) body h.header in
-    let same = all_same direction kinds source ps none in
-    let whole : bytes ≡ take (length bytes - length body) bytes ++ (turned_texts direction kinds source ps ++ left) =
+    let same = all_same way kinds source ps none in
+    let whole : bytes ≡ take (length bytes - length body) bytes ++ (turned_texts way kinds source ps ++ left) =
     parts ∙ ap (λ (z : List ℕ). take (length bytes - length body) bytes ++ z)
     (texts_whole body ps left s ∙ ap (λ (qs : List Piece). texts_of qs ++ left) (sym same)) in
-    subst (λ (z : List ℕ). Adapts direction kinds bytes z) (sym whole)
-    (turns_into direction kinds bytes source body ps left h s)
+    subst (λ (z : List ℕ). Makes way kinds bytes z) (sym whole)
+    (turns_into way kinds bytes source body ps left h s)
 
 -- something has to be turned
-pub needs_it : (kinds : List WriterKind) (bytes : List ℕ) (source : GuidPrefix) (body : List ℕ) (ps : List Piece)
+pub needs_it : (way : Way) (kinds : List WriterKind) (bytes : List ℕ) (source : GuidPrefix) (body : List ℕ) (ps : List Piece)
     (left : List ℕ) (has : Bool) → HasHeader bytes source body → StandsIn body ps left
-    → has ≡ list_any (is_foreign kinds source) ps → has ≡ true → NeedsNothing kinds bytes → ⊥
-needs_it kinds bytes source body ps left has h s is one none =
+    → has ≡ list_any (is_touched way kinds source) ps → has ≡ true → Stays way kinds bytes → ⊥
+needs_it way kinds bytes source body ps left has h s is one none =
     let no = none source ps left (message_of bytes source body ps left h s) in
     let both : true ≡ false = sym one ∙ is ∙ no in
     absurd cc
 
 -- what was appended to the header
-pub rewritten : (direction : Direction) (kinds : List WriterKind) (bytes : List ℕ) (source : GuidPrefix) (body : List ℕ)
+pub rewritten : (way : Way) (kinds : List WriterKind) (bytes : List ℕ) (source : GuidPrefix) (body : List ℕ)
     (ps : List Piece) (left begun new : List ℕ) (fits : Bool) → HasHeader bytes source body → StandsIn body ps left
     → begun ≡ take (length bytes - length body) bytes
-    → Puts begun new (turned_texts direction kinds source ps ++ left) fits → fits ≡ true
-    → Adapts direction kinds bytes new × (length new ≤ max_message)
-rewritten direction kinds bytes source body ps left begun new fits h s is put has =
-    let p = puts_true begun new (turned_texts direction kinds source ps ++ left) fits has put in
-    let whole : new ≡ take (length bytes - length body) bytes ++ (turned_texts direction kinds source ps ++ left) =
-    p.0 ∙ ap (λ (z : List ℕ). z ++ (turned_texts direction kinds source ps ++ left)) is in (
-      subst (λ (z : List ℕ). Adapts direction kinds bytes z) (sym whole)
-          (turns_into direction kinds bytes source body ps left h s),
+    → Puts begun new (turned_texts way kinds source ps ++ left) fits → fits ≡ true
+    → Makes way kinds bytes new × (length new ≤ max_message)
+rewritten way kinds bytes source body ps left begun new fits h s is put has =
+    let p = puts_true begun new (turned_texts way kinds source ps ++ left) fits has put in
+    let whole : new ≡ take (length bytes - length body) bytes ++ (turned_texts way kinds source ps ++ left) =
+    p.0 ∙ ap (λ (z : List ℕ). z ++ (turned_texts way kinds source ps ++ left)) is in (
+      subst (λ (z : List ℕ). Makes way kinds bytes z) (sym whole)
+          (turns_into way kinds bytes source body ps left h s),
       p.1,
     )
 
 -- what had no place behind the header
-pub too_long : (direction : Direction) (kinds : List WriterKind) (bytes : List ℕ) (source : GuidPrefix) (body : List ℕ)
+pub too_long : (way : Way) (kinds : List WriterKind) (bytes : List ℕ) (source : GuidPrefix) (body : List ℕ)
     (ps : List Piece) (left begun new : List ℕ) (fits : Bool) → HasHeader bytes source body → StandsIn body ps left
     → begun ≡ take (length bytes - length body) bytes
-    → Puts begun new (turned_texts direction kinds source ps ++ left) fits → fits ≡ false
-    → (out : List ℕ) × Adapts direction kinds bytes out × (max_message < length out)
-too_long direction kinds bytes source body ps left begun new fits h s is put has =
-    let texts = turned_texts direction kinds source ps ++ left in
-    let past = puts_false begun new (turned_texts direction kinds source ps ++ left) fits has put in (
-      take (length bytes - length body) bytes ++ (turned_texts direction kinds source ps ++ left),
-      turns_into direction kinds bytes source body ps left h s,
+    → Puts begun new (turned_texts way kinds source ps ++ left) fits → fits ≡ false
+    → (out : List ℕ) × Makes way kinds bytes out × (max_message < length out)
+too_long way kinds bytes source body ps left begun new fits h s is put has =
+    let texts = turned_texts way kinds source ps ++ left in
+    let past = puts_false begun new (turned_texts way kinds source ps ++ left) fits has put in (
+      take (length bytes - length body) bytes ++ (turned_texts way kinds source ps ++ left),
+      turns_into way kinds bytes source body ps left h s,
       omega (arith, past, ap length is, length-append (take (length bytes - length body) bytes) texts),
     )

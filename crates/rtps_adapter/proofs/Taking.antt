@@ -31,7 +31,7 @@ use Rattle.rtps_adapter.specs.Kinds.{kind_of, rule_of}
 use Rattle.rtps_adapter.specs.Keys.{key_by, key_alone}
 use Rattle.rtps_adapter.specs.Opened.{after_first, after_parameters, after_inline, payload_at}
 use Rattle.rtps_adapter.specs.Payloads.{value_at}
-use Rattle.rtps_adapter.specs.Adapting.{Piece, piece_of, has_payload, turned_payload, aligned, changed, turned}
+use Rattle.rtps_adapter.specs.Turning.{Piece, piece_of, has_payload, turned_payload, aligned, changed, turned}
 use Rattle.rtps_adapter.specs.Taken.{Carries, SaysEnd, ValuesAreRead, KeysAreRead}
 use Rattle.rtps_adapter.proofs.Returning.{sn_length, changed_is, write_back, key_back}
 use Rattle.rtps_adapter.proofs.KeyForms.{key_is_long}

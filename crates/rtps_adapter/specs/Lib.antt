@@ -4,8 +4,11 @@ pub mod KeyOctets
 pub mod Payloads
 pub mod PayloadText
 pub mod Opened
+pub mod Turning
+pub mod Filling
 pub mod Adapting
 pub mod ComesBack
 pub mod Leaving
 pub mod Same
 pub mod Taken
+pub mod Passed

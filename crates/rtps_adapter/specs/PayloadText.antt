@@ -5,7 +5,7 @@ use Rattle.std.specs.Prelude.{◌≡◌, ℕ, ◌+◌, ◌≤◌, ◌<◌, Bool,
 use Rattle.dds_base.specs.DatumText.{spelling_of_datum, spelling_of_key}
 use Rattle.rtps_wire.specs.Names.{max_message}
 use Rattle.rtps_wire.specs.Submessages.{padding}
-use Rattle.rtps_adapter.specs.Adapting.{Piece}
+use Rattle.rtps_adapter.specs.Turning.{Piece}
 use Rattle.rtps_adapter.specs.declared.payload.NewPayload.{NewPayload}
 use Rattle.rtps_adapter.specs.declared.payload.NewPayload.TheVariants.{Datum, KeyForm, Own}
 

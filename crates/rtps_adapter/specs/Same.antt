@@ -11,7 +11,8 @@ use Rattle.rtps_adapter.specs.declared.kinds.Kind.TheVariants.{Datum}
 use Rattle.rtps_adapter.specs.declared.kinds.WriterKind.{WriterKind}
 use Rattle.rtps_adapter.specs.Kinds.{kind_of}
 use Rattle.rtps_adapter.specs.Opened.{payload_at}
-use Rattle.rtps_adapter.specs.Adapting.{Piece, Payload, IsMessage, Turns, foreign_payload, turned_payload, turned}
+use Rattle.rtps_adapter.specs.Turning.{Piece, Payload, foreign_payload, turned_payload, turned}
+use Rattle.rtps_adapter.specs.Adapting.{IsMessage, Turns}
 
 -- extraFlags, octetsToInlineQos, readerId, writerId and writerSN of a DATA
 abbrev pub len_data_head : ℕ

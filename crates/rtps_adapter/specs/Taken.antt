@@ -21,7 +21,7 @@ use Rattle.rtps_adapter.specs.declared.kinds.WriterKind.{WriterKind}
 use Rattle.rtps_adapter.specs.Kinds.{kind_of}
 use Rattle.rtps_adapter.specs.Keys.{key_by, key_alone}
 use Rattle.rtps_adapter.specs.Payloads.{value_at}
-use Rattle.rtps_adapter.specs.Adapting.{Piece, turned}
+use Rattle.rtps_adapter.specs.Turning.{Piece, turned}
 
 -- A submessage is a DATA with these flags D and K, and its body is a head, octets that are skipped, parameters where flag
 -- Q is set, and a payload.

@@ -4,7 +4,7 @@
 
 ghost use Rattle.std.specs.Prelude.{◌≡◌, ◌≤◌, ◌<◌, ◌++◌, length, is_some, IfSome, IfNone, IfErr, OnOk};
 ghost use Rattle.std.specs.Option.{option_map};
-ghost use Rattle.rtps_adapter.specs.Adapting.{has_payload, foreign_payload, turned_payload, changed};
+ghost use Rattle.rtps_adapter.specs.Turning.{has_payload, foreign_payload, turned_payload, changed};
 ghost use Rattle.rtps_adapter.specs.PayloadText.{new_text};
 
 use crate::data::{FLAG_NON_STANDARD, has_flag, payload_of};
@@ -18,17 +18,17 @@ use rtps_wire::{Frame, MAX_MESSAGE};
 use std::marker::Model;
 
 /// DATA, as its id says.
-const ID_DATA: u8 = 0x15;
+pub const ID_DATA: u8 = 0x15;
 
 /// D: the payload is a value.
-const FLAG_DATA: u8 = 0x04;
+pub const FLAG_DATA: u8 = 0x04;
 
 /// K: the payload is a key.
-const FLAG_KEY: u8 = 0x08;
+pub const FLAG_KEY: u8 = 0x08;
 
 /// A payload of another type than the datum, and what stands before it.
 #[derive(Clone, Copy)]
-struct Foreign<'k, 'a> {
+pub struct Foreign<'k, 'a> {
     rule: KeyRule<'k>,
     is_key: bool,
     front: &'a [u8],
@@ -65,8 +65,8 @@ fn has_payload(flags: u8) -> bool
 }
 
 /// The payload that has to be turned, where there is one.
-#[tactic(auto, unfolding(crate::specs::Adapting::foreign_payload))]
-fn foreign_payload<'k, 'a>(
+#[tactic(auto, unfolding(crate::specs::Turning::foreign_payload))]
+pub fn foreign_payload<'k, 'a>(
     kinds: &[WriterKind<'k>],
     source: &GuidPrefix,
     frame: &Frame<'a>,
@@ -102,8 +102,8 @@ pub fn is_foreign(kinds: &[WriterKind], source: &GuidPrefix, frame: &Frame) -> b
 }
 
 /// What a payload turns into. `None` where it can't be turned.
-#[tactic(auto, unfolding(crate::specs::Adapting::turned_payload))]
-fn turned_payload<'a>(direction: Direction, found: &Foreign<'_, 'a>) -> Option<NewPayload<'a>>
+#[tactic(auto, unfolding(crate::specs::Turning::turned_payload))]
+pub fn turned_payload<'a>(direction: Direction, found: &Foreign<'_, 'a>) -> Option<NewPayload<'a>>
     ensures { option_map new_text result ≡ turned_payload direction (record {
       rule = found.now.rule;
       is_key = found.now.is_key;
@@ -118,7 +118,7 @@ fn turned_payload<'a>(direction: Direction, found: &Foreign<'_, 'a>) -> Option<N
 }
 
 /// What a DATA that has to be turned turns into. `None` of any other submessage.
-#[tactic(auto, unfolding(crate::specs::Adapting::changed))]
+#[tactic(auto, unfolding(crate::specs::Turning::changed))]
 pub fn change_of<'a>(
     direction: Direction,
     kinds: &[WriterKind],

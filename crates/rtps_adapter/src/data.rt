@@ -48,7 +48,7 @@ pub fn order_of(flags: u8) -> Endianness
 
 /// An entity id, and the bytes after it.
 #[tactic(auto, unfolding(rtps_wire::specs::FieldAt::entity_id_at))]
-fn take_entity_id(bytes: &[u8]) -> Option<(EntityId, &[u8])>
+pub fn take_entity_id(bytes: &[u8]) -> Option<(EntityId, &[u8])>
     ensures value { option_map (λ x. (x.0, x.1.now)) result ≡ entity_id_at bytes.now }
     ensures rest { IfSome result (λ x. length x.1.now ≤ length bytes.now) }
 {

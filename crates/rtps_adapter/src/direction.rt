@@ -1,4 +1,4 @@
-//! The two ways of a datagram.
+//! The two ways of a datagram, and what is done with it.
 
 /// Which way a datagram goes.
 #[derive(Clone, Copy)]
@@ -7,4 +7,13 @@ pub enum Direction {
     Inward,
     /// From a peer to the network.
     Outward,
+}
+
+/// What is done with a datagram.
+#[derive(Clone, Copy)]
+pub enum Way {
+    /// What of it has to be turned is turned.
+    Turning(Direction),
+    /// It is turned for a peer, and each number of it that the peer could not read stands in a GAP.
+    Filling,
 }

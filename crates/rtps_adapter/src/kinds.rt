@@ -2,7 +2,7 @@
 //!
 //! RTPS 2.5, 8.2 (GUID_t) and clause 10 (SerializedPayload).
 
-ghost use Rattle.std.specs.Prelude.{◌≡◌, find};
+ghost use Rattle.std.specs.Prelude.{◌≡◌, find, is_some};
 ghost use Rattle.std.specs.Option.{option_copied};
 ghost use Rattle.rtps_adapter.specs.Kinds.{is_of, kind_of, rule_of};
 
@@ -89,6 +89,13 @@ fn row_of<'r, 'a>(
     ensures { option_copied result ≡ find (is_of prefix.now entity.now) kinds.now }
 {
     kinds.iter().find(|row| is_of(prefix, entity, row))
+}
+
+/// Whether the table names a writer.
+pub fn is_named(kinds: &[WriterKind], prefix: &GuidPrefix, entity: &EntityId) -> bool
+    ensures { result ≡ is_some (find (is_of prefix.now entity.now) kinds.now) }
+{
+    row_of(kinds, prefix, entity).is_some()
 }
 
 /// What the topic of a writer carries: a datum, where the table does not say.

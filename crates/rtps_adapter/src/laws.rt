@@ -5,6 +5,7 @@
 ghost use Rattle.rtps_adapter.specs.ComesBack.{ComesBack};
 ghost use Rattle.rtps_adapter.specs.Leaving.{WhatGoesOutFits};
 ghost use Rattle.rtps_adapter.specs.Taken.{KeysAreRead, ValuesAreRead};
+ghost use Rattle.rtps_adapter.specs.Passed.{NumbersArePassed};
 ghost use Rattle.rtps_adapter.specs.Same.{Same, StrangersStay, NoneIsRead};
 
 /// What a peer wrote goes to the network and comes back as it was, octet for octet, where each change is one of the
@@ -53,4 +54,11 @@ pub fn keys_are_read()
 pub fn what_goes_out_is_of_its_type()
     // So it is of the datum that the payload was, or the key form.
     ensures fits { WhatGoesOutFits }
+{}
+
+/// With `inward_with_gaps` the number of a submessage that a peer could not read is read as a GAP of this number and no
+/// other: for the same reader, of the same writer.
+pub fn numbers_are_passed()
+    // So it is of each number from 1 to 2^62 - 1.
+    ensures passed { NumbersArePassed }
 {}

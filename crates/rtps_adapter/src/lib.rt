@@ -12,12 +12,13 @@ mod adapt;
 mod change;
 mod data;
 mod direction;
+mod filling;
 mod key;
 mod kinds;
 pub mod laws;
 mod payload;
 
-pub use adapt::{Adapted, inward, outward};
-pub use direction::Direction;
+pub use adapt::{Adapted, inward, inward_with_gaps, outward};
+pub use direction::{Direction, Way};
 pub use kinds::{Encoding, FieldSize, KeyField, KeyRule, Kind, WriterKind};
 pub use payload::fits;
