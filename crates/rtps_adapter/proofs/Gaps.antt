@@ -1,5 +1,5 @@
 -- The GAP of one number.
-use Rattle.std.proofs.Common.{◌≡◌, ℕ, ◌+◌, ◌≤◌, ◌<◌, ◌^◌, true, false, ltb, List, [], ◌∷◌, ◌++◌, length, Some, refl, sym, ap, subst, ◌∙◌, append_assoc, arith}
+use Rattle.std.proofs.Common.{◌≡◌, ℕ, ◌+◌, ◌≤◌, ◌<◌, ◌^◌, Bool, true, false, cond, ◌||◌, ltb, List, [], ◌∷◌, ◌++◌, length, None, Some, refl, sym, ap, subst, ◌∙◌, append_assoc, arith}
 use Rattle.std.specs.Int.{w16}
 use Rattle.std.proofs.lemmas.Bool.{le-ltb}
 use Rattle.std.proofs.lemmas.List.{append-nil, length-append}
@@ -17,7 +17,7 @@ use Rattle.rtps_wire.proofs.WireFields.{len_16, field_entity_id, field_sn}
 use Rattle.rtps_sets.specs.NumberSet.{empty_from}
 use Rattle.dds_base.specs.declared.guid.GuidPrefix.{GuidPrefix}
 use Rattle.dds_base.specs.Fields.{number}
-use Rattle.dds_base.proofs.FieldLaws.{field_octets}
+use Rattle.dds_base.proofs.FieldLaws.{some_is, field_octets}
 use Rattle.rtps_adapter.specs.declared.kinds.WriterKind.{WriterKind}
 use Rattle.rtps_adapter.specs.Turning.{Piece}
 use Rattle.rtps_adapter.specs.Filling.{named_at, is_lost, lost, gap_of, gap_piece, filled}
@@ -102,30 +102,48 @@ gap_read reader writer sn r w first small =
 
 -- ---- what a head names
 
-named_again : (flags extra way : ℕ) (reader writer : EntityId) (sn : ℕ) (rest : List ℕ) → length reader.0 ≡ 4
-    → length writer.0 ≡ 4 → 1 ≤ sn → sn < 2 ^ 62
-    → named_at flags (data_head (order_of flags) extra way reader writer sn ++ rest) ≡ Some (reader, writer, sn)
+named_is : (flags extra way : ℕ) (reader writer : EntityId) (sn : ℕ) (rest : List ℕ) → length reader.0 ≡ 4
+    → length writer.0 ≡ 4 → sn ≤ 2 ^ 62
+    → named_at flags (data_head (order_of flags) extra way reader writer sn ++ rest)
+    ≡ cond (ltb sn 1 || ltb (2 ^ 62) (sn + 1)) None (Some (reader, writer, sn))
 unfolding named_at
-named_again flags extra way reader writer sn rest r w first small =
+named_is flags extra way reader writer sn rest r w small =
     let order = order_of flags in
     let front : List ℕ = number (order_of flags) w16 extra ++ number (order_of flags) w16 way in
     let four : length (number (order_of flags) w16 extra ++ number (order_of flags) w16 way) ≡ 4 =
     omega (arith, length-append (number order w16 extra) (number order w16 way), len_16 order extra, len_16 order way) in
-    let low : ltb sn 1 ≡ false = le-ltb sn 1 first in
-    let high : ltb (2 ^ 62) (sn + 1) ≡ false = le-ltb (2 ^ 62) (sn + 1) (omega (arith, small)) in
     ap (named_at flags) (regroup front reader.0 writer.0 (sn_text (order_of flags) sn) rest)
     ∙ rw (
       (field_octets 4).again (number (order_of flags) w16 extra ++ number (order_of flags) w16 way)
           (reader.0 ++ (writer.0 ++ (sn_text (order_of flags) sn ++ rest))) four,
       field_entity_id.again reader (writer.0 ++ (sn_text (order_of flags) sn ++ rest)) r,
       field_entity_id.again writer (sn_text (order_of flags) sn ++ rest) w,
-      (field_sn (order_of flags)).again sn rest (omega (arith, small)),
-      low,
-      high,
+      (field_sn (order_of flags)).again sn rest small,
     ) refl
   where
     regroup : (a b c d e : List ℕ) → (a ++ b ++ c ++ d) ++ e ≡ a ++ (b ++ (c ++ (d ++ e)))
     regroup a b c d e = simp append_assoc
+
+named_again : (flags extra way : ℕ) (reader writer : EntityId) (sn : ℕ) (rest : List ℕ) → length reader.0 ≡ 4
+    → length writer.0 ≡ 4 → 1 ≤ sn → sn < 2 ^ 62
+    → named_at flags (data_head (order_of flags) extra way reader writer sn ++ rest) ≡ Some (reader, writer, sn)
+named_again flags extra way reader writer sn rest r w first small =
+    let low : ltb sn 1 ≡ false = le-ltb sn 1 first in
+    let high : ltb (2 ^ 62) (sn + 1) ≡ false = le-ltb (2 ^ 62) (sn + 1) (omega (arith, small)) in
+    named_is flags extra way reader writer sn rest r w (omega (arith, small)) ∙ rw (low, high) refl
+
+-- whose number it is
+pub named_writer : (flags extra way : ℕ) (reader writer : EntityId) (sn : ℕ) (rest : List ℕ)
+    (x : EntityId × EntityId × ℕ) → length reader.0 ≡ 4 → length writer.0 ≡ 4 → sn ≤ 2 ^ 62
+    → named_at flags (data_head (order_of flags) extra way reader writer sn ++ rest) ≡ Some x → x.1 ≡ writer
+named_writer flags extra way reader writer sn rest x r w small e =
+    by_test (ltb sn 1 || ltb (2 ^ 62) (sn + 1)) (sym (named_is flags extra way reader writer sn rest r w small) ∙ e)
+  where
+    by_test : (b : Bool) → cond b None (Some (reader, writer, sn)) ≡ Some x → x.1 ≡ writer
+    by_test true e = absurd cc
+    by_test false e =
+        let made : EntityId × EntityId × ℕ = (reader, writer, sn) in
+        ap (λ (z : EntityId × EntityId × ℕ). z.1) (sym (some_is made x e))
 
 lost_is : (kinds : List WriterKind) (source : GuidPrefix) (id flags : ℕ) (body : List ℕ) (reader writer : EntityId) (sn : ℕ)
     → named_at flags body ≡ Some (reader, writer, sn) → is_lost kinds source writer id flags body ≡ true

@@ -9,19 +9,22 @@ use Rattle.dds_base.proofs.FieldLaws.{some_is}
 use Rattle.rtps_wire.specs.declared.submessage.Submessage.{Submessage}
 use Rattle.rtps_wire.specs.Fields.{order_of}
 use Rattle.rtps_wire.specs.Frames.{runs_to_end, frame_text}
-use Rattle.rtps_wire.specs.Messages.{header_text, spelling_of}
+use Rattle.rtps_wire.specs.Messages.{header_text, IsWritable, spelling_of}
 use Rattle.rtps_wire.specs.Submessages.{IsSpellable, spelling_of_submessage}
 use Rattle.rtps_wire.proofs.FrameLaws.{frame_only, frame_apart}
 use Rattle.rtps_wire.proofs.MessageLaws.{header_again}
 use Rattle.rtps_wire.proofs.WireFields.{len_16}
 use Rattle.rtps_wire.proofs.TestLaws.{match_false}
-use Rattle.rtps_adapter.specs.declared.direction.Direction.{Direction}
+use Rattle.rtps_adapter.specs.declared.direction.Way.{Way}
+use Rattle.rtps_adapter.specs.declared.direction.Way.TheVariants.{Turning, Filling}
+use Rattle.rtps_adapter.specs.Filling.{filled}
+use Rattle.rtps_wire.specs.declared.message.Message.{Message}
 use Rattle.rtps_adapter.specs.declared.direction.Direction.TheVariants.{Inward, Outward}
 use Rattle.rtps_adapter.specs.declared.kinds.WriterKind.{WriterKind}
 use Rattle.rtps_adapter.specs.Turning.{Piece, piece_of, turned}
-use Rattle.rtps_adapter.specs.Adapting.{StandsIn, IsMessage, Turns, Adapts, texts_of}
-use Rattle.rtps_adapter.specs.ComesBack.{Fits, ComesBack}
-use Rattle.rtps_adapter.proofs.Rounds.{Round, round, spelled}
+use Rattle.rtps_adapter.specs.Adapting.{StandsIn, IsMessage, Becomes, becomes, Makes, Adapts, texts_of}
+use Rattle.rtps_adapter.specs.ComesBack.{Fits, ComesBack, ComesBackWithGaps}
+use Rattle.rtps_adapter.proofs.Rounds.{Round, round, spelled, filled_back}
 
 -- ---- bytes have one reading
 
@@ -55,16 +58,16 @@ stands_one bytes (p ∷ ps) (q ∷ qs) l m a b =
     two : (p q : Piece) (ps qs : List Piece) → p ≡ q → ps ≡ qs → p ∷ ps ≡ q ∷ qs
     two p q ps qs a b = cc
 
--- what a message turns into
-abbrev assembled : Direction → List WriterKind → GuidPrefix → List ℕ → List Piece → List ℕ → List ℕ
-assembled direction kinds source header pieces left =
-    header ++ (texts_of (map (turned direction kinds source) pieces) ++ left)
+-- what a message becomes
+abbrev assembled : Way → List WriterKind → GuidPrefix → List ℕ → List Piece → List ℕ → List ℕ
+assembled way kinds source header pieces left =
+    header ++ (texts_of (map (becomes way kinds source) pieces) ++ left)
 
--- a message turns into one
-turns_one : (direction : Direction) (kinds : List WriterKind) (bytes out : List ℕ) (source : GuidPrefix)
-    (pieces : List Piece) (left : List ℕ) (m : IsMessage bytes source pieces left) → Turns direction kinds bytes out
-    → out ≡ assembled direction kinds source m.header pieces left
-turns_one direction kinds bytes out source pieces left m t =
+-- a message becomes one
+turns_one : (way : Way) (kinds : List WriterKind) (bytes out : List ℕ) (source : GuidPrefix)
+    (pieces : List Piece) (left : List ℕ) (m : IsMessage bytes source pieces left) → Becomes way kinds bytes out
+    → out ≡ assembled way kinds source m.header pieces left
+turns_one way kinds bytes out source pieces left m t =
     let n = t.message in
     let same =
     some_is (t.source, n.body) (source, m.body)
@@ -77,10 +80,10 @@ turns_one direction kinds bytes out source pieces left m t =
     let all =
     stands_one m.body t.pieces pieces t.left left (subst (λ (z : List ℕ). StandsIn z t.pieces t.left) body n.stands)
     m.stands in
-    t.text ∙ ap (λ (z : GuidPrefix). assembled direction kinds z n.header t.pieces t.left) whose
-    ∙ ap (λ (z : List ℕ). assembled direction kinds source z t.pieces t.left) header
-    ∙ ap (λ (z : List Piece). assembled direction kinds source m.header z t.left) all.0
-    ∙ ap (λ (z : List ℕ). assembled direction kinds source m.header pieces z) all.1
+    t.text ∙ ap (λ (z : GuidPrefix). assembled way kinds z n.header t.pieces t.left) whose
+    ∙ ap (λ (z : List ℕ). assembled way kinds source z t.pieces t.left) header
+    ∙ ap (λ (z : List Piece). assembled way kinds source m.header z t.left) all.0
+    ∙ ap (λ (z : List ℕ). assembled way kinds source m.header pieces z) all.1
 
 -- ---- submessages that were written
 
@@ -117,6 +120,7 @@ record Rounds (kinds : List WriterKind) (source : GuidPrefix) (ss : List Submess
   outs : List Piece
   out_is : map (turned Outward kinds source) (map spelled ss) ≡ outs
   back_is : map (turned Inward kinds source) outs ≡ map spelled ss
+  filled_is : map (filled kinds source) outs ≡ map spelled ss
   shorter : length (texts_of outs) ≤ length (texts_of (map spelled ss))
   stands : length (texts_of outs) ≤ 65535 → StandsIn (texts_of outs) outs []
   stood : length (texts_of (map spelled ss)) ≤ 65535 → StandsIn (texts_of (map spelled ss)) (map spelled ss) []
@@ -127,6 +131,7 @@ rounds kinds source [] valid fits = record {
   outs = [];
   out_is = refl;
   back_is = refl;
+  filled_is = refl;
   shorter = omega arith;
   stands = λ short. (inl (omega arith), refl);
   stood = λ short. (inl (omega arith), refl);
@@ -141,6 +146,8 @@ rounds kinds source (s ∷ ss) valid fits =
           (map (turned Outward kinds source) (map spelled ss)) more.outs r.out_is more.out_is;
       back_is = two (turned Inward kinds source out) (spelled s) (map (turned Inward kinds source) more.outs)
           (map spelled ss) r.back_is more.back_is;
+      filled_is = two (filled kinds source out) (spelled s) (map (filled kinds source) more.outs) (map spelled ss)
+          (filled_back kinds source (spelled s) r) more.filled_is;
       shorter = omega (
         arith,
         r.shorter,
@@ -183,38 +190,48 @@ texts_le : (prefix : GuidPrefix) (bytes texts : List ℕ) → bytes ≡ header_t
 texts_le prefix bytes texts parts short =
     omega (arith, short, ap length parts, length-append (header_text 5 (0 ∷ 0 ∷ []) prefix) texts)
 
--- what a message turns into, where what it is turned into is known
-adapts_to : (direction : Direction) (kinds : List WriterKind) (prefix : GuidPrefix) (bytes out : List ℕ)
-    (ps qs : List Piece) (m : IsMessage bytes prefix ps []) → Adapts direction kinds bytes out
-    → map (turned direction kinds prefix) ps ≡ qs → out ≡ m.header ++ texts_of qs
-adapts_to direction kinds prefix bytes out ps qs m (inl t) same =
-    turns_one direction kinds bytes out prefix ps [] m t
+-- what a message becomes, where what its submessages become is known
+adapts_to : (way : Way) (kinds : List WriterKind) (prefix : GuidPrefix) (bytes out : List ℕ)
+    (ps qs : List Piece) (m : IsMessage bytes prefix ps []) → Makes way kinds bytes out
+    → map (becomes way kinds prefix) ps ≡ qs → out ≡ m.header ++ texts_of qs
+adapts_to way kinds prefix bytes out ps qs m (inl t) same =
+    turns_one way kinds bytes out prefix ps [] m t
     ∙ ap (λ (z : List Piece). m.header ++ (texts_of z ++ [])) same
     ∙ ap (λ (z : List ℕ). m.header ++ z) (append-nil (texts_of qs))
-adapts_to direction kinds prefix bytes out ps qs m (inr none) same = absurd (none.0 prefix m.body m.begins)
+adapts_to way kinds prefix bytes out ps qs m (inr none) same = absurd (none.0 prefix m.body m.begins)
 
-pub comes_back : ComesBack
-comes_back kinds m out back w fits there here =
-    let r : Rounds kinds m.prefix m.submessages = rounds kinds m.prefix m.submessages w.submessages fits in
+-- what went out, and what it becomes on its way back
+returned : (kinds : List WriterKind) (m : Message) (out : List ℕ) → IsWritable m
+    → (r : Rounds kinds m.prefix m.submessages) → Adapts Outward kinds (spelling_of m) out
+    → (length out ≤ length (spelling_of m)) × ((way : Way) (back : List ℕ)
+    → map (becomes way kinds m.prefix) r.outs ≡ map spelled m.submessages → Makes way kinds out back
+    → back ≡ spelling_of m)
+returned kinds m out w r there =
     let header = header_text 5 (0 ∷ 0 ∷ []) m.prefix in
     let parts : spelling_of m ≡ header_text 5 (0 ∷ 0 ∷ []) m.prefix ++ texts_of (map spelled m.submessages) =
     ap (λ (z : List ℕ). header_text 5 (0 ∷ 0 ∷ []) m.prefix ++ z) (sym (texts_spelled m.submessages)) in
-    let wrote : IsMessage (spelling_of m) m.prefix (map spelled m.submessages) [] =
-    message_of m.prefix (spelling_of m) (map spelled m.submessages) w.prefix parts w.short
-    (r.stood (texts_le m.prefix (spelling_of m) (texts_of (map spelled m.submessages)) parts w.short)) in
     let out_is : out ≡ header_text 5 (0 ∷ 0 ∷ []) m.prefix ++ texts_of r.outs =
-    adapts_to Outward kinds m.prefix (spelling_of m) out (map spelled m.submessages) r.outs
+    adapts_to (Turning Outward) kinds m.prefix (spelling_of m) out (map spelled m.submessages) r.outs
     (message_of m.prefix (spelling_of m) (map spelled m.submessages) w.prefix parts w.short
     (r.stood (texts_le m.prefix (spelling_of m) (texts_of (map spelled m.submessages)) parts w.short))) there r.out_is in
     let len = length-append (header_text 5 (0 ∷ 0 ∷ []) m.prefix) (texts_of r.outs) in
     let long = length-append (header_text 5 (0 ∷ 0 ∷ []) m.prefix) (texts_of (map spelled m.submessages)) in
     let short : length out ≤ 65535 =
-    omega (arith, len, long, ap length out_is, ap length parts, r.shorter, w.short) in
-    let sent : IsMessage out m.prefix r.outs [] =
-    message_of m.prefix out r.outs w.prefix out_is short (r.stands (texts_le m.prefix out (texts_of r.outs) out_is short)) in (
+    omega (arith, len, long, ap length out_is, ap length parts, r.shorter, w.short) in (
       omega (arith, len, long, ap length out_is, ap length parts, r.shorter),
-      adapts_to Inward kinds m.prefix out back r.outs (map spelled m.submessages)
+      λ way back same here.
+          adapts_to way kinds m.prefix out back r.outs (map spelled m.submessages)
           (message_of m.prefix out r.outs w.prefix out_is short (r.stands (texts_le m.prefix out (texts_of r.outs) out_is short)))
-          here r.back_is
+          here same
           ∙ sym parts,
     )
+
+pub comes_back : ComesBack
+comes_back kinds m out back w fits there here =
+    let r : Rounds kinds m.prefix m.submessages = rounds kinds m.prefix m.submessages w.submessages fits in
+    let known = returned kinds m out w r there in (known.0, known.1 (Turning Inward) back r.back_is here)
+
+pub comes_back_filled : ComesBackWithGaps
+comes_back_filled kinds m out back w fits there here =
+    let r : Rounds kinds m.prefix m.submessages = rounds kinds m.prefix m.submessages w.submessages fits in
+    (returned kinds m out w r there).1 Filling back r.filled_is here

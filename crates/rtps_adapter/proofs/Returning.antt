@@ -166,7 +166,7 @@ standard (Dispose k) strength = refl
 standard (Unregister k) strength = refl
 standard (DisposeUnregister k) strength = refl
 
-is_little : (b : ChangeBody) (strength : Option ℤ) → order_of (flags_with b strength) ≡ Little
+pub is_little : (b : ChangeBody) (strength : Option ℤ) → order_of (flags_with b strength) ≡ Little
 is_little (Write d) None = refl
 is_little (Write d) (Some z) = refl
 is_little (Dispose k) strength = refl
@@ -245,7 +245,7 @@ front_taken front q =
     let many : length (front ++ q) - length q ≡ length front = omega (arith, length-append front q) in
     rw many (take_at front q (length front) refl)
 
-foreign_is : (kinds : List WriterKind) (source : GuidPrefix) (flags : ℕ) (w : EntityId) (front q : List ℕ) (rule : KeyRule)
+pub foreign_is : (kinds : List WriterKind) (source : GuidPrefix) (flags : ℕ) (w : EntityId) (front q : List ℕ) (rule : KeyRule)
     → has_payload flags ≡ true → payload_at flags (front ++ q) ≡ Some (w, q)
     → rule_of (kind_of kinds source w) ≡ Some rule
     → foreign_payload kinds source 21 flags (front ++ q)

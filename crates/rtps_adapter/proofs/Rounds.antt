@@ -1,8 +1,10 @@
 -- Each submessage that a peer wrote comes back as it was.
-use Rattle.std.proofs.Common.{◌≡◌, ℕ, ◌%◌, ◌<◌, ◌≤◌, Bool, true, false, eqb, ◌&&◌, List, [], ◌∷◌, ◌++◌, length, Option, Some, None, refl, sym, ap, subst, ◌∙◌, append_assoc, arith, ℤ}
-use Rattle.std.proofs.lemmas.Bool.{ne_eqb}
+use Rattle.std.proofs.Common.{◌≡◌, ℕ, ◌%◌, ◌<◌, ◌≤◌, Bool, true, false, eqb, ltb, ◌&&◌, List, [], ◌∷◌, ◌++◌, length, Option, Some, None, refl, sym, ap, subst, ◌∙◌, append_assoc, arith, ℤ}
+use Rattle.std.proofs.lemmas.Bool.{ne_eqb, le-ltb}
 use Rattle.std.proofs.lemmas.List.{length-append}
 use Rattle.dds_base.specs.declared.endianness.Endianness.TheVariants.{Little}
+use Rattle.dds_base.specs.declared.endianness.Endianness.{Endianness}
+use Rattle.dds_base.specs.declared.guid.EntityId.{EntityId}
 use Rattle.dds_base.specs.declared.guid.GuidPrefix.{GuidPrefix}
 use Rattle.dds_base.specs.declared.key.Key.{Key}
 use Rattle.rtps_wire.specs.declared.data.ChangeBody.{ChangeBody}
@@ -27,10 +29,12 @@ use Rattle.rtps_adapter.specs.declared.kinds.KeyRule.{KeyRule}
 use Rattle.rtps_adapter.specs.declared.kinds.WriterKind.{WriterKind}
 use Rattle.rtps_adapter.specs.Kinds.{kind_of, rule_of}
 use Rattle.rtps_adapter.specs.Opened.{payload_at}
-use Rattle.rtps_adapter.specs.Turning.{Piece, piece_of, aligned, foreign_payload, changed, turned}
+use Rattle.rtps_adapter.specs.Turning.{Piece, piece_of, aligned, has_payload, foreign_payload, turned_payload, changed, turned}
 use Rattle.rtps_adapter.specs.Payloads.{inward_payload, outward_payload}
+use Rattle.rtps_adapter.specs.Filling.{named_at, is_lost, lost, filled}
+use Rattle.rtps_adapter.proofs.Gaps.{named_writer}
 use Rattle.rtps_adapter.specs.ComesBack.{IsKey, FitsRule, FitsKind, Fits}
-use Rattle.rtps_adapter.proofs.Returning.{written_parameters, written_payload, written_whole, says_key, carries_payload, key_flag, head_of_data, data_opens, data_returns, write_there, write_back, payload_back, payload_less, key_returns, key_there, foreign_not}
+use Rattle.rtps_adapter.proofs.Returning.{written_parameters, written_payload, written_whole, says_key, carries_payload, key_flag, head_of_data, data_opens, data_returns, write_there, write_back, payload_back, payload_less, key_returns, key_there, foreign_not, foreign_is, is_little}
 
 -- a submessage as it is written
 abbrev pub spelled : Submessage → Piece
@@ -45,6 +49,21 @@ pub record Round (kinds : List WriterKind) (source : GuidPrefix) (p : Piece) : T
   pub within : runs_to_end p.id (length body) ≡ false
   pub shorter : length body ≤ length p.body
   pub was_within : runs_to_end p.id (length p.body) ≡ false
+  pub kept : lost kinds source p.id flags body ≡ None
+
+-- it comes back too where numbers that can't be read stand in GAPs
+pub filled_back : (kinds : List WriterKind) (source : GuidPrefix) (p : Piece) (r : Round kinds source p)
+    → filled kinds source (piece_of p.id r.flags r.body) ≡ p
+filled_back kinds source p r = rw r.kept r.back_is
+
+-- a number that can be read
+not_lost : (kinds : List WriterKind) (source : GuidPrefix) (id flags : ℕ) (body : List ℕ)
+    (o : Option (EntityId × EntityId × ℕ)) → named_at flags body ≡ o
+    → ((x : EntityId × EntityId × ℕ) → o ≡ Some x → is_lost kinds source x.1 id flags body ≡ false)
+    → lost kinds source id flags body ≡ None
+unfolding lost
+not_lost kinds source id flags body None e is = rw e refl
+not_lost kinds source id flags body (Some x) e is = rw (e, is x refl) refl
 
 -- ---- where a submessage ends
 
@@ -71,17 +90,81 @@ aligned_positive text lt = omega (arith, lt, length-append text (padding (length
 -- what has no payload to be turned stays both ways
 stays : (kinds : List WriterKind) (source : GuidPrefix) (id flags : ℕ) (body : List ℕ)
     → foreign_payload kinds source id flags body ≡ None → runs_to_end id (length body) ≡ false
-    → Round kinds source (piece_of id flags body)
+    → lost kinds source id flags body ≡ None → Round kinds source (piece_of id flags body)
 unfolding changed
-stays kinds source id flags body none within =
-    record { flags = flags; body = body; out_is = rw none refl; back_is = rw none refl; within = within; shorter = omega arith; was_within = within }
+stays kinds source id flags body none within kept = record {
+  flags = flags;
+  body = body;
+  out_is = rw none refl;
+  back_is = rw none refl;
+  within = within;
+  shorter = omega arith;
+  was_within = within;
+  kept = kept;
+}
+
+other_kept : (kinds : List WriterKind) (source : GuidPrefix) (id flags : ℕ) (body : List ℕ) → eqb id 21 ≡ false
+    → eqb id 22 ≡ false → lost kinds source id flags body ≡ None
+other_kept kinds source id flags body other fragment =
+    not_lost kinds source id flags body (named_at flags body) refl (λ x e. rw (other, fragment) refl)
 
 other_id : (kinds : List WriterKind) (source : GuidPrefix) (id flags : ℕ) (body : List ℕ) → eqb id 21 ≡ false
     → foreign_payload kinds source id flags body ≡ None
 unfolding foreign_payload
 other_id kinds source id flags body other = rw other refl
 
+-- a submessage of another kind
+passed_on : (kinds : List WriterKind) (source : GuidPrefix) (id flags : ℕ) (body : List ℕ) → eqb id 21 ≡ false
+    → eqb id 22 ≡ false → runs_to_end id (length body) ≡ false → Round kinds source (piece_of id flags body)
+passed_on kinds source id flags body other fragment within =
+    stays kinds source id flags body (other_id kinds source id flags body other) within
+    (other_kept kinds source id flags body other fragment)
+
 -- ---- DATA
+
+-- the number of a DATA that can be turned back
+read_kept : (kinds : List WriterKind) (source : GuidPrefix) (flags : ℕ) (w : EntityId) (front q written : List ℕ)
+    (rule : KeyRule) → has_payload flags ≡ true → payload_at flags (front ++ q) ≡ Some (w, q)
+    → rule_of (kind_of kinds source w) ≡ Some rule → inward_payload rule (has_flag flags 8) q ≡ Some written
+    → length written ≤ 1048 → is_lost kinds source w 21 flags (front ++ q) ≡ false
+unfolding turned_payload
+read_kept kinds source flags w front q written rule has opens is back short =
+    let few : ltb 1048 (length written) ≡ false = le-ltb 1048 (length written) short in
+    rw (is, foreign_is kinds source flags w front q rule has opens is, back, few) refl
+
+written_short : (b : ChangeBody) → IsBody b → length (written_payload b) ≤ 1048
+written_short (Write d) valid = simp length-append (omega (arith, valid.key, valid.value))
+written_short (Dispose k) valid = omega (arith, valid)
+written_short (Unregister k) valid = omega (arith, valid)
+written_short (DisposeUnregister k) valid = omega (arith, valid)
+
+-- it names its writer
+data_names : (d : Data) (q : List ℕ) (x : EntityId × EntityId × ℕ) → IsData d
+    → named_at (content_flags d.content)
+    (head_of_data d.reader_id d.writer_id d.writer_sn d.content.body d.content.strength ++ q) ≡ Some x
+    → x.1 ≡ d.writer_id
+data_names d q x valid e =
+    let flags = content_flags d.content in
+    let rest : List ℕ = written_parameters d.content.body d.content.strength ++ q in
+    named_writer (content_flags d.content) 0 16 d.reader_id d.writer_id d.writer_sn rest x valid.reader valid.writer
+    valid.small
+    (ap (λ (order : Endianness). named_at flags (data_head order 0 16 d.reader_id d.writer_id d.writer_sn ++ rest))
+    (is_little d.content.body d.content.strength)
+    ∙ ap (named_at flags) (sym (append_assoc (data_head Little 0 16 d.reader_id d.writer_id d.writer_sn)
+    (written_parameters d.content.body d.content.strength) q))
+    ∙ e)
+
+-- its number is kept, where that is so of its writer
+data_kept : (kinds : List WriterKind) (source : GuidPrefix) (d : Data) (q : List ℕ) → IsData d
+    → is_lost kinds source d.writer_id 21 (content_flags d.content)
+    (head_of_data d.reader_id d.writer_id d.writer_sn d.content.body d.content.strength ++ q) ≡ false
+    → lost kinds source 21 (content_flags d.content)
+    (head_of_data d.reader_id d.writer_id d.writer_sn d.content.body d.content.strength ++ q) ≡ None
+data_kept kinds source d q valid is =
+    let body = head_of_data d.reader_id d.writer_id d.writer_sn d.content.body d.content.strength ++ q in
+    not_lost kinds source 21 (content_flags d.content) body (named_at (content_flags d.content) body) refl (λ x e.
+    subst (λ (w : EntityId). is_lost kinds source w 21 (content_flags d.content) body ≡ false)
+    (sym (data_names d q x valid e)) is)
 
 data_whole : (d : Data) → body_of (submessages.Data d)
     ≡ aligned (head_of_data d.reader_id d.writer_id d.writer_sn d.content.body d.content.strength
@@ -192,6 +275,13 @@ data_turned kinds source d rule valid content is fits =
         length-append front (written_payload d.content.body),
       );
       was_within = positive_within 21 (length (aligned (front ++ written_payload d.content.body))) (omega arith);
+      kept = data_kept kinds source d t.new valid
+          (read_kept kinds source (content_flags d.content) d.writer_id
+          (head_of_data d.reader_id d.writer_id d.writer_sn d.content.body d.content.strength) t.new
+          (written_payload d.content.body) rule (carries_payload d.content.body d.content.strength)
+          (data_opens d.reader_id d.writer_id d.writer_sn d.content.body d.content.strength t.new valid.reader
+          valid.writer content.body)
+          is t.back (written_short d.content.body content.body));
     })
 
 data_stays : (kinds : List WriterKind) (source : GuidPrefix) (d : Data) → IsData d → IsContent d.content
@@ -213,6 +303,8 @@ data_stays kinds source d valid content is =
     (written_payload d.content.body ++ padding (length (front ++ written_payload d.content.body)))
     (carries_payload d.content.body d.content.strength) opens is)
     (positive_within 21 (length (body_of (submessages.Data d))) (omega arith))
+    (ap (lost kinds source 21 (content_flags d.content)) parts
+    ∙ data_kept kinds source d (written_payload d.content.body ++ zeros) valid (rw is refl))
 
 data_round : (kinds : List WriterKind) (source : GuidPrefix) (d : Data) (kind : Kind) → IsData d → IsContent d.content
     → kind_of kinds source d.writer_id ≡ kind → FitsKind kind d.content.body
@@ -227,22 +319,18 @@ data_round kinds source d (kinds_of.Opaque rule) valid content is fits =
 pub round : (kinds : List WriterKind) (source : GuidPrefix) (s : Submessage) → IsSpellable s → Fits kinds source s
     → Round kinds source (spelled s)
 round kinds source submessages.Pad valid fits =
-    stays kinds source 1 (flags_of submessages.Pad) (body_of submessages.Pad)
-    (other_id kinds source 1 (flags_of submessages.Pad) (body_of submessages.Pad) refl)
+    passed_on kinds source 1 (flags_of submessages.Pad) (body_of submessages.Pad) refl refl
     (pad_within (length (body_of submessages.Pad)))
 round kinds source (submessages.InfoDst prefix) valid fits =
-    stays kinds source 14 1 (body_of (submessages.InfoDst prefix))
-    (other_id kinds source 14 1 (body_of (submessages.InfoDst prefix)) refl)
+    passed_on kinds source 14 1 (body_of (submessages.InfoDst prefix)) refl refl
     (positive_within 14 (length (body_of (submessages.InfoDst prefix)))
     (aligned_positive prefix.0 (omega (arith, valid))))
 round kinds source (submessages.InfoTs stamp) valid fits =
-    stays kinds source 9 (flags_of (submessages.InfoTs stamp)) (body_of (submessages.InfoTs stamp))
-    (other_id kinds source 9 (flags_of (submessages.InfoTs stamp)) (body_of (submessages.InfoTs stamp)) refl)
+    passed_on kinds source 9 (flags_of (submessages.InfoTs stamp)) (body_of (submessages.InfoTs stamp)) refl refl
     (stamp_within (length (body_of (submessages.InfoTs stamp))))
 round kinds source (submessages.Heartbeat h) valid fits =
     let s = submessages.Heartbeat h in
-    stays kinds source 7 (flags_of (submessages.Heartbeat h)) (body_of (submessages.Heartbeat h))
-    (other_id kinds source 7 (flags_of (submessages.Heartbeat h)) (body_of (submessages.Heartbeat h)) refl)
+    passed_on kinds source 7 (flags_of (submessages.Heartbeat h)) (body_of (submessages.Heartbeat h)) refl refl
     (positive_within 7 (length (body_of (submessages.Heartbeat h)))
     (aligned_positive (heartbeat_text Little h) (omega (
       arith,
@@ -253,8 +341,7 @@ round kinds source (submessages.Heartbeat h) valid fits =
 round kinds source (submessages.Data d) valid fits =
     data_round kinds source d (kind_of kinds source d.writer_id) valid.0 valid.1 refl fits
 round kinds source (submessages.AckNack a) valid fits =
-    stays kinds source 6 (flags_of (submessages.AckNack a)) (body_of (submessages.AckNack a))
-    (other_id kinds source 6 (flags_of (submessages.AckNack a)) (body_of (submessages.AckNack a)) refl)
+    passed_on kinds source 6 (flags_of (submessages.AckNack a)) (body_of (submessages.AckNack a)) refl refl
     (positive_within 6 (length (body_of (submessages.AckNack a)))
     (aligned_positive (text_of_acknack a) (omega (
       arith,
@@ -263,8 +350,7 @@ round kinds source (submessages.AckNack a) valid fits =
       length-append a.reader_id.0 a.writer_id.0,
     ))))
 round kinds source (submessages.Gap g) valid fits =
-    stays kinds source 8 (flags_of (submessages.Gap g)) (body_of (submessages.Gap g))
-    (other_id kinds source 8 (flags_of (submessages.Gap g)) (body_of (submessages.Gap g)) refl)
+    passed_on kinds source 8 (flags_of (submessages.Gap g)) (body_of (submessages.Gap g)) refl refl
     (positive_within 8 (length (body_of (submessages.Gap g)))
     (aligned_positive (gap_head Little g ++ text_of_set g.gap_list) (omega (
       arith,

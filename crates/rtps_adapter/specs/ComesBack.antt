@@ -10,6 +10,7 @@ use Rattle.rtps_wire.specs.declared.submessage.Submessage.{Submessage}
 use Rattle.rtps_wire.specs.declared.submessage.Submessage.TheVariants.{Data}
 use Rattle.rtps_wire.specs.Messages.{IsWritable, spelling_of}
 use Rattle.rtps_adapter.specs.declared.direction.Direction.TheVariants.{Inward, Outward}
+use Rattle.rtps_adapter.specs.declared.direction.Way.TheVariants.{Filling}
 use Rattle.rtps_adapter.specs.declared.kinds.Kind.{Kind}
 use Rattle.rtps_adapter.specs.declared.kinds.Kind.TheVariants.{Datum, Opaque}
 use Rattle.rtps_adapter.specs.declared.kinds.KeyRule.{KeyRule}
@@ -18,7 +19,7 @@ use Rattle.rtps_adapter.specs.declared.kinds.WriterKind.{WriterKind}
 use Rattle.rtps_adapter.specs.Kinds.{kind_of, no_key}
 use Rattle.rtps_adapter.specs.Keys.{key_alone, key_by, representation_of}
 use Rattle.rtps_adapter.specs.Payloads.{payload_of}
-use Rattle.rtps_adapter.specs.Adapting.{Adapts}
+use Rattle.rtps_adapter.specs.Adapting.{Adapts, Makes}
 
 -- a value that a payload can carry
 abbrev pub IsValue : List ℕ → Type 0
@@ -55,3 +56,9 @@ ComesBack = (kinds : List WriterKind) (m : Message) (out back : List ℕ) → Is
     → AllByRecursion (Fits kinds m.prefix) m.submessages
     → Adapts Outward kinds (spelling_of m) out → Adapts Inward kinds out back
     → (length out ≤ length (spelling_of m)) × (back ≡ spelling_of m)
+
+-- It comes back so too where the numbers that a peer could not read stand in GAPs: none of them is one that a peer wrote.
+abbrev pub ComesBackWithGaps : Type 0
+ComesBackWithGaps = (kinds : List WriterKind) (m : Message) (out back : List ℕ) → IsWritable m
+    → AllByRecursion (Fits kinds m.prefix) m.submessages
+    → Adapts Outward kinds (spelling_of m) out → Makes Filling kinds out back → back ≡ spelling_of m

@@ -2,7 +2,7 @@
 //!
 //! RTPS 2.5, 8.3 (messages) and clause 10 (SerializedPayload).
 
-ghost use Rattle.rtps_adapter.specs.ComesBack.{ComesBack};
+ghost use Rattle.rtps_adapter.specs.ComesBack.{ComesBack, ComesBackWithGaps};
 ghost use Rattle.rtps_adapter.specs.Leaving.{WhatGoesOutFits};
 ghost use Rattle.rtps_adapter.specs.Taken.{KeysAreRead, ValuesAreRead};
 ghost use Rattle.rtps_adapter.specs.Passed.{NumbersArePassed};
@@ -13,6 +13,8 @@ ghost use Rattle.rtps_adapter.specs.Same.{Same, StrangersStay, NoneIsRead};
 pub fn what_was_written_comes_back()
     // Each message that can be written comes back.
     ensures back { ComesBack }
+    // It does so where numbers that can't be read stand in GAPs.
+    ensures filled { ComesBackWithGaps }
 {}
 
 /// What a message turns into is a message of the same sender, with as many submessages, each in its place with its id
