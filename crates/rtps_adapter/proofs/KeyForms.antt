@@ -1,5 +1,7 @@
 -- Key fields that stand in a key, big-endian.
-use Rattle.std.proofs.Common.{◌≡◌, ℕ, ◌-◌, ◌%◌, ◌≤◌, Bool, true, false, cond, ltb, List, [], ◌∷◌, ◌++◌, length, take, drop, replicate, Option, None, Some, refl, sym, ap, ◌∙◌, append_assoc, arith}
+use Rattle.std.proofs.Common.{◌≡◌, ℕ, ◌-◌, ◌%◌, ◌≤◌, Bool, true, false, cond, ltb, List, [], ◌∷◌, ◌++◌, length, take, drop, replicate, Option, None, Some, IsTrue, ◌↔◌, refl, sym, ap, ◌∙◌, append_assoc, arith}
+use Rattle.std.specs.Prelude.{is_some}
+use Rattle.std.specs.Option.{option_map}
 use Rattle.std.proofs.lemmas.Bool.{ltb-false, le-ltb}
 use Rattle.std.proofs.lemmas.List.{append-nil, length-append, length-replicate, length-take-le, take-append-drop, take_at}
 use Rattle.dds_base.specs.declared.endianness.Endianness.TheVariants.{Big}
@@ -209,6 +211,19 @@ pub own_none : (encoding : Encoding) (fs : List KeyField) (k : Key) (octets : Li
     → own_octets encoding fs k ≡ None
 unfolding own_octets
 own_none encoding fs k octets e other = rw (e, other) refl
+
+-- whether a key says itself, by how many octets its fields take
+pub says_it : (encoding : Encoding) (fs : List KeyField) (k : Key) (o : Option ℕ) (has : Bool)
+    → option_map (λ (n : ℕ). take n k.0) o ≡ own_octets encoding fs k → has ≡ is_some o
+    → IsTrue has ↔ (key_by_fields true encoding fs (0 ∷ representation_of encoding ∷ 0 ∷ 0 ∷ k.0) ≡ Some k)
+says_it encoding fs k None has e is =
+    (λ t. absurd cc, λ alone. let s = alone_says encoding fs k alone in let own = s.own in absurd cc)
+says_it encoding fs k (Some n) has e is = (
+  λ t.
+      let s = own_says encoding fs k (take n k.0) (sym e) in
+      key_form_is encoding fs k.0 s.octets s.found ∙ ap Some s.is,
+  λ alone. is,
+)
 
 -- ---- how long a key is
 

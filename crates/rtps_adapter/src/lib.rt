@@ -21,4 +21,4 @@ mod payload;
 pub use adapt::{Adapted, inward, inward_with_gaps, outward};
 pub use direction::{Direction, Way};
 pub use kinds::{Encoding, FieldSize, KeyField, KeyRule, Kind, WriterKind};
-pub use payload::fits;
+pub use payload::{fits, fits_key};

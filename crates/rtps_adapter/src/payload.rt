@@ -11,8 +11,8 @@ ghost use Rattle.dds_base.specs.DatumText.{spelling_of_datum, spelling_of_key};
 ghost use Rattle.rtps_wire.specs.Submessages.{padding};
 ghost use Rattle.rtps_adapter.specs.Payloads.{value_at, payload_of, key_payload_of, inward_payload, outward_payload, has_own_key};
 ghost use Rattle.rtps_adapter.specs.Keys.{key_in, key_by, representation_of};
-ghost use Rattle.rtps_wire.specs.declared.data.ChangeBody.TheVariants.{Write};
-ghost use Rattle.rtps_adapter.specs.ComesBack.{IsValue, FitsKind};
+ghost use Rattle.rtps_wire.specs.declared.data.ChangeBody.TheVariants.{Write, Dispose};
+ghost use Rattle.rtps_adapter.specs.ComesBack.{IsValue, IsKey, FitsKind};
 ghost use Rattle.rtps_adapter.specs.PayloadText.{new_text};
 
 use crate::key::{key_by_fields, own_len, representation_of};
@@ -268,6 +268,31 @@ pub fn fits(kind: Kind, key: &Key, value: &[u8]) -> bool
         None => true,
         Some(rule) => is_value(value) && has_own_key(rule, key, value),
     }
+}
+
+/// Whether a type of the rule has a key, so that it can be said alone.
+fn is_key(rule: KeyRule, key: &Key) -> bool
+    ensures { IsTrue result ↔ IsKey rule.entry key.now }
+{
+    match rule {
+        KeyRule::Keyless => is_same_key(key, &NO_KEY),
+        KeyRule::Fields(encoding, fields) => own_len(encoding, fields, key).is_some(),
+    }
+}
+
+/// Whether a key is one that can be said alone on a topic of this kind, so that a dispose or an unregister by it comes
+/// back as it was: whoever does so asks before. A key that is the MD5 of its fields is none; of a dispose by it nobody
+/// reads anything.
+///
+/// RTPS 2.5, clause 10 (SerializedPayload).
+pub fn fits_key(kind: Kind, key: &Key) -> bool
+    // It is so exactly where a type of the rule has the key; of the datum it is.
+    ensures fits { IsTrue result ↔ FitsKind kind.entry (Dispose key.now) }
+{
+    let Some(rule) = rule_of(kind) else {
+        return true;
+    };
+    is_key(rule, key)
 }
 
 /// What a datum or a key form turns into. `None` where it can't be turned.
