@@ -57,7 +57,7 @@ pub filled_back : (kinds : List WriterKind) (source : GuidPrefix) (p : Piece) (r
 filled_back kinds source p r = rw r.kept r.back_is
 
 -- a number that can be read
-not_lost : (kinds : List WriterKind) (source : GuidPrefix) (id flags : ℕ) (body : List ℕ)
+pub not_lost : (kinds : List WriterKind) (source : GuidPrefix) (id flags : ℕ) (body : List ℕ)
     (o : Option (EntityId × EntityId × ℕ)) → named_at flags body ≡ o
     → ((x : EntityId × EntityId × ℕ) → o ≡ Some x → is_lost kinds source x.1 id flags body ≡ false)
     → lost kinds source id flags body ≡ None
@@ -123,7 +123,7 @@ passed_on kinds source id flags body other fragment within =
 -- ---- DATA
 
 -- the number of a DATA that can be turned back
-read_kept : (kinds : List WriterKind) (source : GuidPrefix) (flags : ℕ) (w : EntityId) (front q written : List ℕ)
+pub read_kept : (kinds : List WriterKind) (source : GuidPrefix) (flags : ℕ) (w : EntityId) (front q written : List ℕ)
     (rule : KeyRule) → has_payload flags ≡ true → payload_at flags (front ++ q) ≡ Some (w, q)
     → rule_of (kind_of kinds source w) ≡ Some rule → inward_payload rule (has_flag flags 8) q ≡ Some written
     → length written ≤ 1048 → is_lost kinds source w 21 flags (front ++ q) ≡ false

@@ -1,5 +1,5 @@
 -- A write of another type is read as a write of its value.
-use Rattle.std.proofs.Common.{◌≡◌, ℕ, zero, suc, ◌+◌, ◌^◌, ◌<◌, ◌≤◌, Bool, true, false, eqb, ltb, List, [], ◌∷◌, ◌++◌, length, Some, refl, sym, ap, subst, ◌∙◌, append_assoc, arith}
+use Rattle.std.proofs.Common.{◌≡◌, ℕ, zero, suc, ◌+◌, ◌^◌, ◌<◌, ◌≤◌, Bool, true, false, eqb, ltb, List, [], ◌∷◌, ◌++◌, length, None, Some, refl, sym, ap, subst, ◌∙◌, append_assoc, arith}
 use Rattle.std.specs.Prelude.{MatchBool}
 use Rattle.std.specs.Int.{w16}
 use Rattle.std.proofs.lemmas.Bool.{ne_eqb, le-ltb}
@@ -10,14 +10,14 @@ use Rattle.dds_base.specs.declared.key.Key.{Key}
 use Rattle.dds_base.specs.declared.endianness.Endianness.{Endianness}
 use Rattle.dds_base.specs.declared.endianness.Endianness.TheVariants.{Little}
 use Rattle.dds_base.specs.declared.guid.EntityId.{EntityId}
-use Rattle.dds_base.specs.DatumText.{ReadsDatum, ReadsKey, spelling_of_datum, spelling_of_key}
+use Rattle.dds_base.specs.DatumText.{IsDatum, ReadsDatum, ReadsKey, spelling_of_datum, spelling_of_key}
 use Rattle.dds_base.specs.Fields.{number, octets_at}
 use Rattle.dds_base.proofs.FieldLaws.{field_u16, field_octets}
 use Rattle.rtps_wire.specs.declared.data.ChangeBody.{ChangeBody}
 use Rattle.rtps_wire.specs.declared.data.ChangeBody.TheVariants.{Write, Dispose, Unregister, DisposeUnregister}
 use Rattle.rtps_wire.specs.declared.data.Data.{Data}
 use Rattle.rtps_wire.specs.declared.submessage.Submessage.TheVariants as submessages
-use Rattle.rtps_wire.specs.Data.{data_head, SaysBody, SaysContent, ReadsData, IsData}
+use Rattle.rtps_wire.specs.Data.{data_head, HasStatus, HasStrength, SaysBody, SaysContent, ReadsData, IsData}
 use Rattle.rtps_wire.specs.Fields.{has_flag, order_of, sn_text}
 use Rattle.rtps_wire.specs.Parameters.{Parameter, IsParameter, parameter_text, ReadsParameters}
 use Rattle.rtps_wire.specs.ParametersAt.{parameter_at}
@@ -32,9 +32,12 @@ use Rattle.rtps_adapter.specs.Keys.{key_by, key_alone}
 use Rattle.rtps_adapter.specs.Opened.{after_first, after_parameters, after_inline, payload_at}
 use Rattle.rtps_adapter.specs.Payloads.{value_at}
 use Rattle.rtps_adapter.specs.Turning.{Piece, piece_of, has_payload, turned_payload, aligned, changed, turned}
-use Rattle.rtps_adapter.specs.Taken.{Carries, SaysEnd, ValuesAreRead, KeysAreRead}
+use Rattle.rtps_adapter.specs.Taken.{Carries, SaysEnd, ValuesAreRead, ValuesAreReadWithGaps, KeysAreRead, KeysAreReadWithGaps}
 use Rattle.rtps_adapter.proofs.Returning.{sn_length, changed_is, write_back, key_back}
 use Rattle.rtps_adapter.proofs.KeyForms.{key_is_long}
+use Rattle.rtps_adapter.specs.Filling.{named_at, is_lost, lost, filled}
+use Rattle.rtps_adapter.proofs.Gaps.{named_writer}
+use Rattle.rtps_adapter.proofs.Rounds.{not_lost, read_kept}
 
 -- ---- parameters
 
@@ -203,7 +206,14 @@ inward_key : (rule : KeyRule) (is_key : Bool) (front payload value : List ℕ) (
 unfolding turned_payload
 inward_key rule is_key front payload value k set opens key = rw set (key_back rule k payload value opens key)
 
--- what a DATA of another type is turned into is read, where that says what it does
+-- What a DATA of another type is turned into is read, where that says what it does and is no longer than a datum may be;
+-- so it is with GAPs.
+abbrev AreRead : List WriterKind → GuidPrefix → Piece → Data → Type 0
+AreRead kinds source p d =
+    Reads (turned Inward kinds source p).id (turned Inward kinds source p).flags (turned Inward kinds source p).body
+    (submessages.Data d)
+    × Reads (filled kinds source p).id (filled kinds source p).flags (filled kinds source p).body (submessages.Data d)
+
 is_read : (has_value has_key : Bool) (kinds : List WriterKind) (source : GuidPrefix) (p : Piece) (ps : List Parameter)
     (payload new : List ℕ) (rule : KeyRule) (d : Data)
     → Carries has_value has_key p d.reader_id d.writer_id d.writer_sn ps payload → has_payload p.flags ≡ true
@@ -214,11 +224,10 @@ is_read : (has_value has_key : Bool) (kinds : List WriterKind) (source : GuidPre
       front = front;
       octets = payload;
     }) ≡ Some new)
-    → ((zeros : List ℕ) → SaysContent p.flags ps (new ++ zeros) d.content) → IsData d
-    → Reads (turned Inward kinds source p).id (turned Inward kinds source p).flags (turned Inward kinds source p).body
-    (submessages.Data d)
-unfolding changed
-is_read has_value has_key kinds source p ps payload new rule d w has kind turns says is_data =
+    → ((zeros : List ℕ) → SaysContent p.flags ps (new ++ zeros) d.content) → length new ≤ 1048 → IsData d
+    → AreRead kinds source p d
+unfolding changed turned_payload
+is_read has_value has_key kinds source p ps payload new rule d w has kind turns says short is_data =
     let s = swaps_inline (has_flag p.flags 2) (order_of p.flags) w.from_parameters ps payload w.inline in
     let head = data_head (order_of p.flags) w.extra (16 + length w.skipped) d.reader_id d.writer_id d.writer_sn in
     let front : List ℕ = head ++ (w.skipped ++ s.front) in
@@ -255,21 +264,48 @@ is_read has_value has_key kinds source p ps payload new rule d w has kind turns 
       inline = s.again (new ++ zeros);
       says = says zeros;
     } in
+    let read : Reads (turned Inward kinds source p).id (turned Inward kinds source p).flags
+    (turned Inward kinds source p).body (submessages.Data d) =
     subst (λ (q : Piece). Reads q.id q.flags q.body (submessages.Data d)) (sym is)
-    (record { kind = w.kind; flags_are = w.standard; body_is = known; valid = is_data })
+    (record { kind = w.kind; flags_are = w.standard; body_is = known; valid = is_data }) in
+    let body : List ℕ = (head ++ (w.skipped ++ s.front)) ++ payload in
+    let kept : lost kinds source 21 p.flags ((head ++ (w.skipped ++ s.front)) ++ payload) ≡ None =
+    not_lost kinds source 21 p.flags body (named_at p.flags body) refl (λ x e.
+    subst (λ (writer : EntityId). is_lost kinds source writer 21 p.flags body ≡ false)
+    (sym (named_writer p.flags w.extra (16 + length w.skipped) d.reader_id d.writer_id d.writer_sn
+    (w.skipped ++ (s.front ++ payload)) x is_data.reader is_data.writer is_data.small
+    (ap (named_at p.flags) (sym (behind payload)) ∙ e)))
+    (read_kept kinds source p.flags d.writer_id front payload new rule has opens (ap rule_of kind) (turns front) short)) in
+    let same : filled kinds source p ≡ turned Inward kinds source p = rw (w.kind, was, kept) refl in
+    (read, subst (λ (q : Piece). Reads q.id q.flags q.body (submessages.Data d)) (sym same) read)
   where
     regroup : (a b c d : List ℕ) → (a ++ (b ++ c)) ++ d ≡ a ++ (b ++ (c ++ d))
     regroup a b c d = simp append_assoc
 
-pub values_are_read : ValuesAreRead
-values_are_read kinds source p ps payload rule datum d w status strength kind value key valid body is_data =
-    is_read true false kinds source p ps payload (spelling_of_datum datum) rule d w (rw (w.value_flag, w.key_flag) refl) kind
+both_read : (kinds : List WriterKind) (source : GuidPrefix) (p : Piece) (ps : List Parameter) (payload : List ℕ)
+    (rule : KeyRule) (datum : Datum) (d : Data) → Carries true false p d.reader_id d.writer_id d.writer_sn ps payload
+    → HasStatus ps false false → HasStrength (order_of p.flags) ps d.content.strength
+    → kind_of kinds source d.writer_id ≡ Opaque rule
+    → value_at payload ≡ Some datum.value → key_by rule datum.value ≡ Some datum.key → IsDatum datum
+    → d.content.body ≡ Write datum → IsData d → AreRead kinds source p d
+both_read kinds source p ps payload rule datum d w status strength kind value key valid body is_data =
+    is_read true false kinds source p ps payload (spelling_of_datum datum) rule d w (rw (w.value_flag, w.key_flag) refl)
+    kind
     (λ front. inward_is rule (has_flag p.flags 8) front payload datum w.key_flag value key)
     (λ zeros.
     let reads : ReadsDatum (spelling_of_datum datum ++ zeros) datum =
     record { order = Little; options = 0 ∷ 0 ∷ []; rest = zeros; two = refl; text = refl; valid = valid } in
     record { body = rw body (status, w.value_flag, w.key_flag, reads); strength = strength })
+    (simp length-append (omega (arith, valid.key, valid.value)))
     is_data
+
+pub values_are_read : ValuesAreRead
+values_are_read kinds source p ps payload rule datum d w status strength kind value key valid body is_data =
+    (both_read kinds source p ps payload rule datum d w status strength kind value key valid body is_data).0
+
+pub values_are_read_filled : ValuesAreReadWithGaps
+values_are_read_filled kinds source p ps payload rule datum d w status strength kind value key valid body is_data =
+    (both_read kinds source p ps payload rule datum d w status strength kind value key valid body is_data).1
 
 -- the key form of an instance that is ended
 says_end : (flags : ℕ) (ps : List Parameter) (k : Key) (zeros : List ℕ) (body : ChangeBody) → has_flag flags 4 ≡ false
@@ -286,12 +322,27 @@ says_end flags ps k zeros body no_value key len ends = by_body body ends
     by_body (Unregister own) ends = (ends.0, rw (no_value, key) (reads own ends.1))
     by_body (DisposeUnregister own) ends = (ends.0, rw (no_value, key) (reads own ends.1))
 
-pub keys_are_read : KeysAreRead
-keys_are_read kinds source p ps payload value rule k d w ends strength kind opens key is_data =
+both_keys_read : (kinds : List WriterKind) (source : GuidPrefix) (p : Piece) (ps : List Parameter)
+    (payload value : List ℕ) (rule : KeyRule) (k : Key) (d : Data)
+    → Carries false true p d.reader_id d.writer_id d.writer_sn ps payload
+    → SaysEnd ps k d.content.body → HasStrength (order_of p.flags) ps d.content.strength
+    → kind_of kinds source d.writer_id ≡ Opaque rule
+    → value_at payload ≡ Some value → key_alone rule value ≡ Some k → IsData d → AreRead kinds source p d
+both_keys_read kinds source p ps payload value rule k d w ends strength kind opens key is_data =
+    let len = key_is_long true rule value k key in
     is_read false true kinds source p ps payload (spelling_of_key k) rule d w (rw (w.value_flag, w.key_flag) refl) kind
     (λ front. inward_key rule (has_flag p.flags 8) front payload value k w.key_flag opens key)
     (λ zeros. record {
-      body = says_end p.flags ps k zeros d.content.body w.value_flag w.key_flag (key_is_long true rule value k key) ends;
+      body = says_end p.flags ps k zeros d.content.body w.value_flag w.key_flag len ends;
       strength = strength;
     })
+    (omega (arith, len))
     is_data
+
+pub keys_are_read : KeysAreRead
+keys_are_read kinds source p ps payload value rule k d w ends strength kind opens key is_data =
+    (both_keys_read kinds source p ps payload value rule k d w ends strength kind opens key is_data).0
+
+pub keys_are_read_filled : KeysAreReadWithGaps
+keys_are_read_filled kinds source p ps payload value rule k d w ends strength kind opens key is_data =
+    (both_keys_read kinds source p ps payload value rule k d w ends strength kind opens key is_data).1

@@ -22,6 +22,7 @@ use Rattle.rtps_adapter.specs.Kinds.{kind_of}
 use Rattle.rtps_adapter.specs.Keys.{key_by, key_alone}
 use Rattle.rtps_adapter.specs.Payloads.{value_at}
 use Rattle.rtps_adapter.specs.Turning.{Piece, turned}
+use Rattle.rtps_adapter.specs.Filling.{filled}
 
 -- A submessage is a DATA with these flags D and K, and its body is a head, octets that are skipped, parameters where flag
 -- Q is set, and a payload.
@@ -44,17 +45,24 @@ pub record Carries (has_value has_key : Bool) (p : Piece) (reader writer : Entit
       ((ps ≡ []) × (payload ≡ from_parameters))
 
 -- A write of another type is read by a peer as a write of its value, with the key that the rule finds, for the same
--- reader, of the same writer, with the same number and strength.
-abbrev pub ValuesAreRead : Type 0
-ValuesAreRead = (kinds : List WriterKind) (source : GuidPrefix) (p : Piece) (ps : List Parameter) (payload : List ℕ)
+-- reader, of the same writer, with the same number and strength, where this is what submessages become.
+abbrev pub WritesAreRead : (List WriterKind → GuidPrefix → Piece → Piece) → Type 0
+WritesAreRead becomes = (kinds : List WriterKind) (source : GuidPrefix) (p : Piece) (ps : List Parameter) (payload : List ℕ)
     (rule : KeyRule) (datum : DatumOf) (d : DataOf)
     → Carries true false p d.reader_id d.writer_id d.writer_sn ps payload
     → HasStatus ps false false → HasStrength (order_of p.flags) ps d.content.strength
     → kind_of kinds source d.writer_id ≡ Opaque rule
     → value_at payload ≡ Some datum.value → key_by rule datum.value ≡ Some datum.key → IsDatum datum
     → d.content.body ≡ Write datum → IsData d
-    → Reads (turned Inward kinds source p).id (turned Inward kinds source p).flags (turned Inward kinds source p).body
-    (Data d)
+    → Reads (becomes kinds source p).id (becomes kinds source p).flags (becomes kinds source p).body (Data d)
+
+-- Of what writes turn into it is so.
+abbrev pub ValuesAreRead : Type 0
+ValuesAreRead = WritesAreRead (turned Inward)
+
+-- It is so too where numbers that can't be read stand in GAPs.
+abbrev pub ValuesAreReadWithGaps : Type 0
+ValuesAreReadWithGaps = WritesAreRead filled
 
 -- The parameters say that the change ends the instance of the key, and how.
 abbrev pub SaysEnd : List Parameter → Key → ChangeBody → Type 0
@@ -64,12 +72,19 @@ SaysEnd ps k (Unregister key) = HasStatus ps false true × (key ≡ k)
 SaysEnd ps k (DisposeUnregister key) = HasStatus ps true true × (key ≡ k)
 
 -- A dispose or an unregister of another type is read by a peer as one of the key that the rule finds in its payload, for
--- the same reader, of the same writer, with the same number and strength.
-abbrev pub KeysAreRead : Type 0
-KeysAreRead = (kinds : List WriterKind) (source : GuidPrefix) (p : Piece) (ps : List Parameter) (payload value : List ℕ)
+-- the same reader, of the same writer, with the same number and strength, where this is what submessages become.
+abbrev pub EndsAreRead : (List WriterKind → GuidPrefix → Piece → Piece) → Type 0
+EndsAreRead becomes = (kinds : List WriterKind) (source : GuidPrefix) (p : Piece) (ps : List Parameter) (payload value : List ℕ)
     (rule : KeyRule) (k : Key) (d : DataOf) → Carries false true p d.reader_id d.writer_id d.writer_sn ps payload
     → SaysEnd ps k d.content.body → HasStrength (order_of p.flags) ps d.content.strength
     → kind_of kinds source d.writer_id ≡ Opaque rule
     → value_at payload ≡ Some value → key_alone rule value ≡ Some k → IsData d
-    → Reads (turned Inward kinds source p).id (turned Inward kinds source p).flags (turned Inward kinds source p).body
-    (Data d)
+    → Reads (becomes kinds source p).id (becomes kinds source p).flags (becomes kinds source p).body (Data d)
+
+-- Of what these turn into it is so.
+abbrev pub KeysAreRead : Type 0
+KeysAreRead = EndsAreRead (turned Inward)
+
+-- It is so too where numbers that can't be read stand in GAPs.
+abbrev pub KeysAreReadWithGaps : Type 0
+KeysAreReadWithGaps = EndsAreRead filled

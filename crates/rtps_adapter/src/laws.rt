@@ -4,7 +4,7 @@
 
 ghost use Rattle.rtps_adapter.specs.ComesBack.{ComesBack, ComesBackWithGaps};
 ghost use Rattle.rtps_adapter.specs.Leaving.{WhatGoesOutFits};
-ghost use Rattle.rtps_adapter.specs.Taken.{KeysAreRead, ValuesAreRead};
+ghost use Rattle.rtps_adapter.specs.Taken.{KeysAreRead, KeysAreReadWithGaps, ValuesAreRead, ValuesAreReadWithGaps};
 ghost use Rattle.rtps_adapter.specs.Passed.{NumbersArePassed};
 ghost use Rattle.rtps_adapter.specs.Same.{Same, StrangersStay, NoneIsRead};
 
@@ -43,6 +43,8 @@ pub fn what_cant_be_turned_is_not_read()
 pub fn values_are_read()
     // So it is of each that has a value of at most 1,024 octets.
     ensures read { ValuesAreRead }
+    // So it is where numbers that can't be read stand in GAPs.
+    ensures filled { ValuesAreReadWithGaps }
 {}
 
 /// A dispose or an unregister of another type is read by a peer as one of the key that the rule finds in its payload:
@@ -50,6 +52,8 @@ pub fn values_are_read()
 pub fn keys_are_read()
     // So it is of each whose payload says a key alone.
     ensures read { KeysAreRead }
+    // So it is where numbers that can't be read stand in GAPs.
+    ensures filled { KeysAreReadWithGaps }
 {}
 
 /// What goes out is of its topic's type: a value with the key that the rule finds in it, or a key that the type has.
