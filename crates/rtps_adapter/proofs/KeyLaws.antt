@@ -1,7 +1,7 @@
 -- The octets of key fields, while they are put together.
-use Rattle.std.proofs.Common.{◌≡◌, ◌≤◌, ◌<◌, ℕ, ◌-◌, min, Bool, true, false, ltb, List, [], ◌∷◌, ◌++◌, length, take, replicate, Option, None, Some, refl, sym, ap, ◌∙◌, append_assoc, arith}
-use Rattle.std.proofs.lemmas.Bool.{lt-ltb, le-ltb}
-use Rattle.std.proofs.lemmas.List.{same_lists, places, take-append-le}
+use Rattle.std.proofs.Common.{◌≡◌, ◌≤◌, ◌<◌, ℕ, ◌+◌, ◌-◌, ◌%◌, min, Bool, true, false, ltb, List, [], ◌∷◌, ◌++◌, length, take, drop, replicate, Option, None, Some, refl, sym, ap, ◌∙◌, append_assoc, arith}
+use Rattle.std.proofs.lemmas.Bool.{lt-ltb, le-ltb, ltb-false}
+use Rattle.std.proofs.lemmas.List.{same_lists, places, take-append-le, length-append, length-drop}
 use borrow.Rule.Slice.PartMut.{put_mid}
 use Rattle.md5.specs.Md5.{md5}
 use Rattle.dds_base.specs.declared.endianness.Endianness.{Endianness}
@@ -9,8 +9,12 @@ use Rattle.dds_base.specs.Fields.{octets_at}
 use Rattle.rtps_adapter.specs.declared.key.KeyOctets.{KeyOctets}
 use Rattle.rtps_adapter.specs.declared.kinds.Encoding.{Encoding}
 use Rattle.rtps_adapter.specs.declared.kinds.KeyField.{KeyField}
-use Rattle.rtps_adapter.specs.KeyOctets.{AreSoFar, Continues}
-use Rattle.rtps_adapter.specs.Keys.{size_of, alignment_of, aligned_to, number_in, place_of, fields_in, key_of_octets}
+use Rattle.rtps_adapter.specs.KeyOctets.{AreSoFar, Continues, next_in}
+use Rattle.rtps_adapter.specs.Keys.{size_of, alignment_of, aligned_to, number_in, fields_in, key_of_octets, order_in, key_by_fields}
+use Rattle.rtps_adapter.specs.declared.kinds.KeyRule.{KeyRule}
+use Rattle.rtps_adapter.specs.declared.kinds.KeyRule.TheVariants.{Keyless, Fields}
+use Rattle.rtps_adapter.specs.Payloads.{inward_payload, value_at}
+use Rattle.rtps_adapter.specs.Refused.{ShortCantBeTurned, PaddingCantBeTurned, FieldsHaveToBeThere}
 
 -- no octet more has a place
 pub kept_full : (most : ℕ) (s o : List ℕ) → most ≤ length s
@@ -39,11 +43,18 @@ key_short octets few =
 pub key_long : (octets : List ℕ) → 16 < length octets → record { 0 = md5 octets } ≡ key_of_octets octets
 key_long octets many = rw (lt-ltb 16 (length octets) many) refl
 
--- a number behind more octets than there are
-pub number_past : (order : Endianness) (place size : ℕ) (body : List ℕ) → length body < place
+-- a number that ends behind the body
+pub number_beyond : (order : Endianness) (place size : ℕ) (body : List ℕ) → length body < place + size
     → number_in order place size body ≡ None
 unfolding number_in octets_at
-number_past order place size body past = rw (lt-ltb (length body) place past) refl
+number_beyond order place size body past = by_test (ltb (length body) place) refl
+  where
+    by_test : (b : Bool) → ltb (length body) place ≡ b → number_in order place size body ≡ None
+    by_test true e = rw e refl
+    by_test false e =
+        let short : ltb (length (drop place body)) size ≡ true =
+        lt-ltb (length (drop place body)) size (omega (arith, past, length-drop place body, ltb-false (length body) place e)) in
+        rw (e, short) refl
 
 -- ---- one field after the other
 
@@ -53,11 +64,6 @@ pub record GoesOn (is_key : Bool) (encoding : Encoding) (order : Endianness) (bo
   pub octets : List ℕ
   pub are : AreSoFar k octets
   pub same : fields_in is_key encoding order body octets left ≡ fields_in is_key encoding order body [] all
-
--- the field, aligned
-abbrev next_in : Bool → Encoding → Endianness → List ℕ → KeyField → List ℕ → Option (List ℕ)
-next_in is_key encoding order body f octets =
-    number_in order (place_of is_key f (aligned_to (alignment_of encoding f.size) octets)) (size_of f.size) body
 
 step : (is_key : Bool) (encoding : Encoding) (order : Endianness) (body : List ℕ) (f : KeyField)
     (octets x : List ℕ) (left : List KeyField) → next_in is_key encoding order body f octets ≡ Some x
@@ -91,3 +97,64 @@ pub goes_to_end : (is_key : Bool) (encoding : Encoding) (order : Endianness) (bo
     → (octets : List ℕ) × (fields_in is_key encoding order body [] all ≡ Some octets) × AreSoFar k octets
 unfolding fields_in
 goes_to_end is_key encoding order body all k g = (g.octets, sym g.same, g.are)
+
+-- ---- what is not there
+
+fields_beyond : (before after : List KeyField) (f : KeyField) (encoding : Encoding) (order : Endianness)
+    (body octets : List ℕ) → length body < f.place + size_of f.size
+    → fields_in false encoding order body octets (before ++ f ∷ after) ≡ None
+unfolding fields_in
+fields_beyond [] after f encoding order body octets past =
+    rw (number_beyond order f.place (size_of f.size) body past) refl
+fields_beyond (g ∷ before) after f encoding order body octets past =
+    by_number (number_in order g.place (size_of g.size) body) refl (λ x.
+    fields_beyond before after f encoding order body (aligned_to (alignment_of encoding g.size) octets ++ x) past)
+  where
+    by_number : (o : Option (List ℕ)) → number_in order g.place (size_of g.size) body ≡ o
+        → ((x : List ℕ) → fields_in false encoding order body
+        (aligned_to (alignment_of encoding g.size) octets ++ x) (before ++ f ∷ after) ≡ None)
+        → fields_in false encoding order body octets (g ∷ before ++ f ∷ after) ≡ None
+    by_number None e none = rw e refl
+    by_number (Some x) e none = rw e (none x)
+
+no_key_beyond : (encoding : Encoding) (before after : List KeyField) (f : KeyField) (a b c d : ℕ) (body : List ℕ)
+    → length body < f.place + size_of f.size
+    → key_by_fields false encoding (before ++ f ∷ after) (a ∷ b ∷ c ∷ d ∷ body) ≡ None
+unfolding key_by_fields
+no_key_beyond encoding before after f a b c d body past = by_order (order_in encoding a b) refl
+  where
+    by_order : (o : Option Endianness) → order_in encoding a b ≡ o
+        → key_by_fields false encoding (before ++ f ∷ after) (a ∷ b ∷ c ∷ d ∷ body) ≡ None
+    by_order None e = rw e refl
+    by_order (Some order) e = rw (e, fields_beyond before after f encoding order body [] past) refl
+
+pub fields_stay : FieldsHaveToBeThere
+unfolding inward_payload
+fields_stay Keyless before after f payload a b c d body parts value past =
+    absurd (omega (arith, ap length parts, length-append before (f ∷ after)))
+fields_stay (Fields encoding fields) before after f payload a b c d body parts value past =
+    rw (value, parts, no_key_beyond encoding before after f a b c d body past) refl
+
+-- ---- what has no value
+
+no_value : (rule : KeyRule) (is_key : Bool) (payload : List ℕ) → value_at payload ≡ None
+    → inward_payload rule is_key payload ≡ None
+unfolding inward_payload
+no_value rule true payload e = rw e refl
+no_value rule false payload e = rw e refl
+
+pub short_stays : ShortCantBeTurned
+unfolding value_at
+short_stays rule is_key payload short = no_value rule is_key payload (none payload short)
+  where
+    none : (payload : List ℕ) → length payload < 4 → value_at payload ≡ None
+    none [] short = refl
+    none (a ∷ []) short = refl
+    none (a ∷ b ∷ []) short = refl
+    none (a ∷ b ∷ c ∷ []) short = refl
+    none (a ∷ b ∷ c ∷ d ∷ body) short = absurd (omega (arith, short))
+
+pub padding_stays : PaddingCantBeTurned
+unfolding value_at
+padding_stays rule is_key a b c d body short =
+    no_value rule is_key (a ∷ b ∷ c ∷ d ∷ body) (rw (lt-ltb (length body) (d % 4) short) refl)

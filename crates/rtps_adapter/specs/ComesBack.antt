@@ -57,7 +57,8 @@ ComesBack = (kinds : List WriterKind) (m : Message) (out back : List ℕ) → Is
     → Adapts Outward kinds (spelling_of m) out → Adapts Inward kinds out back
     → (length out ≤ length (spelling_of m)) × (back ≡ spelling_of m)
 
--- It comes back so too where the numbers that a peer could not read stand in GAPs: none of them is one that a peer wrote.
+-- It comes back so too where the numbers that a peer could not read stand in GAPs: none of them is one that a peer
+-- wrote.
 abbrev pub ComesBackWithGaps : Type 0
 ComesBackWithGaps = (kinds : List WriterKind) (m : Message) (out back : List ℕ) → IsWritable m
     → AllByRecursion (Fits kinds m.prefix) m.submessages

@@ -53,14 +53,15 @@ is_unread (Some octets) = nat_lt longest_datum (length octets)
 abbrev pub shows_payload : ℕ → Bool
 shows_payload flags = has_flag flags flag_data || has_flag flags flag_key || has_flag flags flag_non_standard
 
--- A peer could not read the number: that of a DATA of another type than the datum, whose payload can't be found or can't
--- be turned, or makes a datum that is too long, and that of a DATA_FRAG of a writer that the table names.
+-- A peer could not read the number: that of a DATA of another type than the datum, whose payload can't be found or
+-- can't be turned, or makes a datum that is too long, and that of a DATA_FRAG of a writer that the table names.
 abbrev pub is_lost : List WriterKind → GuidPrefix → EntityId → ℕ → ℕ → List ℕ → Bool
 is_lost kinds source writer id flags body =
     if id == id_data then is_some (rule_of (kind_of kinds source writer))
     && option_map_or (λ (x : Payload). is_unread (turned_payload Inward x)) (foreign_payload kinds source id flags body)
     (shows_payload flags)
-    else id == id_data_frag && (is_some (find (is_of source writer) kinds) && not (nat_lt (length body) len_data_frag_head))
+    else id == id_data_frag
+    && (is_some (find (is_of source writer) kinds) && not (nat_lt (length body) len_data_frag_head))
 
 -- the GAP of one number
 abbrev pub gap_of : EntityId → EntityId → ℕ → Gap

@@ -1,8 +1,8 @@
 -- The key of a value of another type (RTPS 2.5, 9.6.4.8: KeyHash, and clause 10: SerializedPayload; XTypes 1.3, 7.4:
 -- alignment).
 --
--- The key fields alone in CDR, big-endian, are the key, with zeros behind them up to sixteen octets. Where they take more
--- octets, the key is the MD5 of these.
+-- The key fields alone in CDR, big-endian, are the key, with zeros behind them up to sixteen octets. Where they take
+-- more octets, the key is the MD5 of these.
 use Rattle.std.specs.Prelude.{ℕ, ◌+◌, ◌-◌, ◌%◌, ◌==◌, ◌&&◌, Bool, true, false, List, [], ◌∷◌, ◌++◌, length, replicate, reverse, nat_lt, Option, None, Some, if◌then◌else◌}
 use Rattle.md5.specs.Md5.{md5}
 use Rattle.dds_base.specs.declared.endianness.Endianness.{Endianness}

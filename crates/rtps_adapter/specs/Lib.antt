@@ -12,3 +12,4 @@ pub mod Leaving
 pub mod Same
 pub mod Taken
 pub mod Passed
+pub mod Refused

@@ -23,8 +23,8 @@ pub record Names (p : Piece) (reader writer : EntityId) (sn : ℕ) : Type 0 wher
   pub first : 1 ≤ sn
   pub small : sn < max_sn
 
--- A number that a peer could not read is read as a GAP from it to the next one, and of no other, for the same reader, of
--- the same writer.
+-- A number that a peer could not read is read as a GAP from it to the next one, and of no other, for the same reader,
+-- of the same writer.
 abbrev pub NumbersArePassed : Type 0
 NumbersArePassed = (kinds : List WriterKind) (source : GuidPrefix) (p : Piece) (reader writer : EntityId) (sn : ℕ)
     → Names p reader writer sn → is_lost kinds source writer p.id p.flags p.body ≡ true

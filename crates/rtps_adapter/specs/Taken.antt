@@ -24,8 +24,8 @@ use Rattle.rtps_adapter.specs.Payloads.{value_at}
 use Rattle.rtps_adapter.specs.Turning.{Piece, turned}
 use Rattle.rtps_adapter.specs.Filling.{filled}
 
--- A submessage is a DATA with these flags D and K, and its body is a head, octets that are skipped, parameters where flag
--- Q is set, and a payload.
+-- A submessage is a DATA with these flags D and K, and its body is a head, octets that are skipped, parameters where
+-- flag Q is set, and a payload.
 pub record Carries (has_value has_key : Bool) (p : Piece) (reader writer : EntityId) (sn : ℕ) (ps : List Parameter)
     (payload : List ℕ)
     : Type 0 where
@@ -47,8 +47,8 @@ pub record Carries (has_value has_key : Bool) (p : Piece) (reader writer : Entit
 -- A write of another type is read by a peer as a write of its value, with the key that the rule finds, for the same
 -- reader, of the same writer, with the same number and strength, where this is what submessages become.
 abbrev pub WritesAreRead : (List WriterKind → GuidPrefix → Piece → Piece) → Type 0
-WritesAreRead becomes = (kinds : List WriterKind) (source : GuidPrefix) (p : Piece) (ps : List Parameter) (payload : List ℕ)
-    (rule : KeyRule) (datum : DatumOf) (d : DataOf)
+WritesAreRead becomes = (kinds : List WriterKind) (source : GuidPrefix) (p : Piece) (ps : List Parameter)
+    (payload : List ℕ) (rule : KeyRule) (datum : DatumOf) (d : DataOf)
     → Carries true false p d.reader_id d.writer_id d.writer_sn ps payload
     → HasStatus ps false false → HasStrength (order_of p.flags) ps d.content.strength
     → kind_of kinds source d.writer_id ≡ Opaque rule
@@ -71,11 +71,11 @@ SaysEnd ps k (Dispose key) = HasStatus ps true false × (key ≡ k)
 SaysEnd ps k (Unregister key) = HasStatus ps false true × (key ≡ k)
 SaysEnd ps k (DisposeUnregister key) = HasStatus ps true true × (key ≡ k)
 
--- A dispose or an unregister of another type is read by a peer as one of the key that the rule finds in its payload, for
--- the same reader, of the same writer, with the same number and strength, where this is what submessages become.
+-- A dispose or an unregister of another type is read by a peer as one of the key that the rule finds in its payload,
+-- for the same reader, of the same writer, with the same number and strength, where this is what submessages become.
 abbrev pub EndsAreRead : (List WriterKind → GuidPrefix → Piece → Piece) → Type 0
-EndsAreRead becomes = (kinds : List WriterKind) (source : GuidPrefix) (p : Piece) (ps : List Parameter) (payload value : List ℕ)
-    (rule : KeyRule) (k : Key) (d : DataOf) → Carries false true p d.reader_id d.writer_id d.writer_sn ps payload
+EndsAreRead becomes = (kinds : List WriterKind) (source : GuidPrefix) (p : Piece) (ps : List Parameter)
+    (payload value : List ℕ) (rule : KeyRule) (k : Key) (d : DataOf) → Carries false true p d.reader_id d.writer_id d.writer_sn ps payload
     → SaysEnd ps k d.content.body → HasStrength (order_of p.flags) ps d.content.strength
     → kind_of kinds source d.writer_id ≡ Opaque rule
     → value_at payload ≡ Some value → key_alone rule value ≡ Some k → IsData d

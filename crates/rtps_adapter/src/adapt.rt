@@ -15,9 +15,9 @@ ghost use Rattle.rtps_adapter.specs.Adapting.{StandsIn, texts_of, becomes, is_to
 ghost use Rattle.rtps_adapter.specs.PayloadText.{Puts, piece_in};
 
 use crate::change::{Change, change_of, is_foreign};
-use crate::data::order_of;
+use crate::data::{FLAG_ENDIANNESS, order_of};
 use crate::direction::{Direction, Way};
-use crate::filling::{FLAG_ENDIANNESS, ID_GAP, LEN_GAP, Named, lost_number, put_gap_body};
+use crate::filling::{ID_GAP, LEN_GAP, Named, lost_number, put_gap_body};
 use crate::kinds::WriterKind;
 use dds_base::{Code, Endianness, GuidPrefix, Octets};
 use rtps_wire::{Frame, MAX_MESSAGE, MAX_SN, begin_message, next_frame};
@@ -258,9 +258,9 @@ pub fn inward(alloc: Global, kinds: &[WriterKind], bytes: &[u8]) -> Result<Adapt
     adapt(alloc, Way::Turning(Direction::Inward), kinds, bytes)
 }
 
-/// What a datagram of the network turns into before a peer reads it, as `inward` says, but for the numbers that the peer
-/// could not read: each stands in a GAP, for the same reader, of the same writer. So a reliable reader goes on, and does
-/// not ask for them again and again. They are
+/// What a datagram of the network turns into before a peer reads it, as `inward` says, but for the numbers that the
+/// peer could not read: each stands in a GAP, for the same reader, of the same writer. So a reliable reader goes on, and
+/// does not ask for them again and again. They are
 ///
 /// - that of a DATA of another type than the datum, whose payload can't be turned, or is not one of those that can be,
 ///   or has a value of more than 1,024 octets;

@@ -14,7 +14,7 @@ ghost use Rattle.rtps_adapter.specs.Opened.{after_parameters, after_inline, payl
 use dds_base::{Endianness, EntityId, take_octets, take_u16};
 
 /// E: numbers are little-endian.
-const FLAG_ENDIANNESS: u8 = 0x01;
+pub const FLAG_ENDIANNESS: u8 = 0x01;
 
 /// Q: parameters follow.
 const FLAG_INLINE_QOS: u8 = 0x02;

@@ -27,9 +27,6 @@ const ID_DATA_FRAG: u8 = 0x16;
 /// GAP, as its id says.
 pub const ID_GAP: u8 = 0x08;
 
-/// E: numbers are little-endian.
-pub const FLAG_ENDIANNESS: u8 = 0x01;
-
 /// The body of a GAP without a list: readerId, writerId, gapStart, and a list of base and number of bits.
 pub const LEN_GAP: usize = 28;
 

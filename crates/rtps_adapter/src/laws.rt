@@ -6,6 +6,7 @@ ghost use Rattle.rtps_adapter.specs.ComesBack.{ComesBack, ComesBackWithGaps};
 ghost use Rattle.rtps_adapter.specs.Leaving.{WhatGoesOutFits};
 ghost use Rattle.rtps_adapter.specs.Taken.{KeysAreRead, KeysAreReadWithGaps, ValuesAreRead, ValuesAreReadWithGaps};
 ghost use Rattle.rtps_adapter.specs.Passed.{NumbersArePassed};
+ghost use Rattle.rtps_adapter.specs.Refused.{FieldsHaveToBeThere, PaddingCantBeTurned, ShortCantBeTurned};
 ghost use Rattle.rtps_adapter.specs.Same.{Same, StrangersStay, NoneIsRead};
 
 /// What a peer wrote goes to the network and comes back as it was, octet for octet, where each change is one of the
@@ -67,4 +68,14 @@ pub fn what_goes_out_is_of_its_type()
 pub fn numbers_are_passed()
     // So it is of each number from 1 to 2^62 - 1.
     ensures passed { NumbersArePassed }
+{}
+
+/// Which payloads of another type can't be turned for a peer, which then reads none of them.
+pub fn bad_payloads_cant_be_turned()
+    // One of fewer than four octets.
+    ensures short { ShortCantBeTurned }
+    // One whose options count more octets of padding than follow them.
+    ensures padding { PaddingCantBeTurned }
+    // One of a type with key fields whose body ends before one of them does.
+    ensures fields { FieldsHaveToBeThere }
 {}

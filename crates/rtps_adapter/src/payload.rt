@@ -271,7 +271,7 @@ pub fn fits(kind: Kind, key: &Key, value: &[u8]) -> bool
 }
 
 /// Whether a type of the rule has a key, so that it can be said alone.
-fn is_key(rule: KeyRule, key: &Key) -> bool
+fn has_key(rule: KeyRule, key: &Key) -> bool
     ensures { IsTrue result ↔ IsKey rule.entry key.now }
 {
     match rule {
@@ -292,7 +292,7 @@ pub fn fits_key(kind: Kind, key: &Key) -> bool
     let Some(rule) = rule_of(kind) else {
         return true;
     };
-    is_key(rule, key)
+    has_key(rule, key)
 }
 
 /// What a datum or a key form turns into. `None` where it can't be turned.

@@ -2,7 +2,7 @@ use Rattle.std.proofs.Common.{IsTrue, ◌↔◌, sym, subst}
 use Rattle.rtps_adapter.specs.declared.kinds.KeyRule.{KeyRule}
 use Rattle.rtps_adapter.specs.ComesBack.{IsKey}
 use Rattle.rtps_adapter.proofs.KeyForms.{says_it}
-use Rattle.rtps_adapter.proofs.payload.is_key.Goals as goal
+use Rattle.rtps_adapter.proofs.payload.has_key.Goals as goal
 
 pub returns-in-Fields : goal.returns-in-Fields
 returns-in-Fields c =
