@@ -182,7 +182,7 @@ impl<N: Named<F, L>, F: Filter, L: Listener, T: Keeping, P: Handing> Shared<N, F
     ///
     /// `Memory` where a growth of what is recorded was refused, or 2^64 - 1 events were done, or nearly: then nothing
     /// happened. What the peer itself refuses is an answer.
-    // It wakes those who wait, where somebody does, unless it is a look: that changes no condition.
+    // It wakes those who wait, where somebody does; a look only where it ends the wait: whoever waits in it has to see that.
     #[inline(always)]
     pub fn event<R: Wait>(
         &self,
@@ -201,10 +201,10 @@ impl<N: Named<F, L>, F: Filter, L: Listener, T: Keeping, P: Handing> Shared<N, F
     {
         let is_look = matches!(event, Event::Call(Call::WaitLook { .. }));
         let mut locked = self.locked.lock(rt);
-        let wakes = !is_look && locked.is_awaited();
+        let is_awaited = locked.is_awaited();
         let did = locked.event(&self.word, pass, event)?;
         drop(locked);
-        if wakes {
+        if is_awaited && !(is_look && did.said.waiting) {
             self.changed.notify_all();
         }
         Ok(did.answer)
