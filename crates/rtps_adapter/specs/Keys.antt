@@ -1,7 +1,7 @@
--- The key of a value of another type (RTPS 2.5, 9.6.4.8: KeyHash, and clause 10: SerializedPayload; XTypes 1.3, 7.4:
--- alignment).
+-- The key of a value of another type (RTPS 2.5, 9.6.4.8: KeyHash; XTypes 1.3, 7.4: PLAIN_CDR and PLAIN_CDR2, and
+-- 7.6.3.1.2: their identifiers).
 --
--- The key fields alone in CDR, big-endian, are the key, with zeros behind them up to sixteen octets. Where they take
+-- The key fields alone in their encoding, big-endian, are the key, with zeros behind them up to sixteen octets. Where they take
 -- more octets, the key is the MD5 of these.
 use Rattle.std.specs.Prelude.{ℕ, ◌+◌, ◌-◌, ◌%◌, ◌==◌, ◌&&◌, Bool, true, false, List, [], ◌∷◌, ◌++◌, length, replicate, reverse, nat_lt, Option, None, Some, if◌then◌else◌}
 use Rattle.md5.specs.Md5.{md5}

@@ -258,15 +258,16 @@ pub fn inward(alloc: Global, kinds: &[WriterKind], bytes: &[u8]) -> Result<Adapt
     adapt(alloc, Way::Turning(Direction::Inward), kinds, bytes)
 }
 
-/// What a datagram of the network turns into before a peer reads it, as `inward` says, but for the numbers that the
-/// peer could not read: each stands in a GAP, for the same reader, of the same writer. So a reliable reader goes on, and
-/// does not ask for them again and again. They are
+/// What a datagram of the network turns into before a peer reads it, as `inward` says, but for numbers whose payload the
+/// peer could not read: each of these stands in a GAP, for the same reader, of the same writer, so that a reliable
+/// reader does not ask for it again and again. They are
 ///
-/// - that of a DATA of another type than the datum, whose payload can't be turned, or is not one of those that can be,
-///   or has a value of more than 1,024 octets;
+/// - that of a DATA of another type than the datum whose payload can't be found (cut, octetsToInlineQos below 16, no
+///   sentinel, N, or D and K), can't be turned, or has a value of more than 1,024 octets;
 /// - that of a DATA_FRAG of a writer that the table names.
 ///
-/// Where the head of such a submessage is cut, or its number is none from 1 to 2^62 - 1, it stays as `inward` has it.
+/// A number that is not read for its parameters or its status stands in none. Where the head of such a submessage is
+/// cut, or its number is none from 1 to 2^62 - 1, it stays as `inward` has it.
 ///
 /// Where nothing has to be turned, and no number stands in a GAP, no memory is needed, and the datagram is to be handed
 /// on as it stands.

@@ -1,4 +1,4 @@
-//! The two ways of a datagram, and what is done with it.
+//! Which way a datagram goes, and what is done with it.
 
 /// Which way a datagram goes.
 #[derive(Clone, Copy)]
@@ -14,6 +14,6 @@ pub enum Direction {
 pub enum Way {
     /// What of it has to be turned is turned.
     Turning(Direction),
-    /// It is turned for a peer, and each number of it that the peer could not read stands in a GAP.
+    /// It is turned for a peer, and each number of it whose payload the peer could not read stands in a GAP.
     Filling,
 }

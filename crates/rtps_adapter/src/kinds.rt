@@ -10,7 +10,7 @@ use dds_base::{EntityId, Guid, GuidPrefix, Key};
 
 /// By which rules of CDR the values of a type are encoded.
 ///
-/// XTypes 1.3, 7.4: PLAIN_CDR and PLAIN_CDR2.
+/// XTypes 1.3, 7.4 (PLAIN_CDR, PLAIN_CDR2) and 7.6.3.1.2 (their identifiers).
 #[derive(Clone, Copy)]
 pub enum Encoding {
     /// Representations 0 and 1, CDR_BE and CDR_LE: a number of eight octets begins at a multiple of 8.
@@ -47,7 +47,7 @@ pub enum KeyRule<'a> {
     /// The type has no key, so there is one instance: its key is sixteen zeros.
     Keyless,
     /// The type has these key fields, in this order: each stands at one place in every value. The key is the fields
-    /// alone in CDR, big-endian, with zeros behind them up to sixteen octets; of more octets it is their MD5.
+    /// alone in this encoding, big-endian, with zeros behind them up to sixteen octets; of more octets it is their MD5.
     ///
     /// Where the fields stand in a payload that says a key alone follows from their sizes.
     ///

@@ -63,14 +63,14 @@ pub fn what_goes_out_is_of_its_type()
     ensures fits { WhatGoesOutFits }
 {}
 
-/// With `inward_with_gaps` the number of a submessage that a peer could not read is read as a GAP of this number and no
-/// other: for the same reader, of the same writer.
+/// With `inward_with_gaps` a number whose payload a peer could not read is read as a GAP of this number and no other: for
+/// the same reader, of the same writer.
 pub fn numbers_are_passed()
     // So it is of each number from 1 to 2^62 - 1.
     ensures passed { NumbersArePassed }
 {}
 
-/// Which payloads of another type can't be turned for a peer, which then reads none of them.
+/// Some payloads of another type that can't be turned for a peer, which then reads none of them.
 pub fn bad_payloads_cant_be_turned()
     // One of fewer than four octets.
     ensures short { ShortCantBeTurned }

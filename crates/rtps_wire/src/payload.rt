@@ -9,7 +9,6 @@ use crate::names::{CDR_LE, NO_OPTIONS};
 use dds_base::{Code, DatumRef, Key, MAX_VALUE};
 
 /// Appends the key form.
-// As a call of its own it asks for room that its caller has already: a write takes 29 instructions more.
 #[inline(always)]
 pub fn put_key_form(out: &mut Vec<u8>, key: &Key) -> Result<(), Code>
     ensures ok { OnOk result (out.new.items ≡ out.old.items ++ spelling_of_key key.now) }

@@ -15,7 +15,7 @@ use std::marker::Model;
 #[derive(Drop)]
 pub struct RegisteredInstances {
     set: IndexSet<Key>,
-    /// The place of the instance of the last change: its key is compared before a key is hashed.
+    /// A place at which the instance of the last write or dispose stood: its key is compared before one is hashed.
     latest: usize,
 }
 
@@ -55,7 +55,7 @@ impl RegisteredInstances {
         self.set.contains(&key)
     }
 
-    /// Whether it is the instance of the last change, and registered.
+    /// Whether this key stands at the remembered place; then it is registered.
     fn is_latest(&self, key: Key) -> bool
         ensures { result ≡ true → is_among self.now.keys key ≡ true }
     {
