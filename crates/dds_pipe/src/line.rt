@@ -1,5 +1,6 @@
 //! The lines that a peer is given.
 
+use crate::kinds::{KindLine, kind_line};
 use dds_base::{Moment, Octets};
 use dds_protocol::Event;
 use dds_script::{
@@ -13,6 +14,8 @@ use std::alloc::{AllocError, Global};
 pub enum Line {
     /// A peer of the configuration, or a writer or a reader of the last one.
     Setup(SetupLine),
+    /// What the topic of a writer carries.
+    Kind(KindLine),
     /// The peer opens as the one of this number.
     Open(u8),
     /// The peer has a filter more, by the octets with which a value begins.
@@ -106,11 +109,19 @@ fn filter(alloc: Global, words: &[&str]) -> Result<Option<Line>, AllocError> {
     }
 }
 
+fn kind(alloc: Global, words: &[&str]) -> Result<Option<Line>, AllocError> {
+    match kind_line(alloc, words)? {
+        Some(kind) => Ok(Some(Line::Kind(kind))),
+        None => Ok(None),
+    }
+}
+
 fn line_of_words(alloc: Global, words: &[&str]) -> Result<Option<Line>, AllocError> {
     match words {
         ["call", operands @ ..] => call(alloc, operands),
         ["deliver", operands @ ..] => delivery(alloc, operands),
         ["filter", operands @ ..] => filter(alloc, operands),
+        ["kind", operands @ ..] => kind(alloc, operands),
         ["listener" | "unlisten", ..] => Ok(listener(words)),
         [name, operands @ ..] => Ok(short_line(name, operands)),
         [] => Ok(None),

@@ -1,7 +1,8 @@
 //! A peer, asked line by line.
 
+use crate::kinds::{KindLine, Kinds, Tables};
 use crate::line::{Line, line_of};
-use dds_base::{Code, Octets};
+use dds_base::{Code, Octets, Sequence};
 use dds_core::Core as CoreOf;
 use dds_machine::Reply;
 use dds_notices::Recorder;
@@ -34,11 +35,12 @@ enum Stage {
 struct Session {
     alloc: Global,
     stage: Stage,
+    kinds: Kinds,
 }
 
-fn packet_line(alloc: Global, packet: &Packet) -> Result<String, AllocError> {
+fn packet_line(alloc: Global, to: u8, bytes: &[u8]) -> Result<String, AllocError> {
     let mut text = TranscriptLine::new(alloc);
-    text.push_packet(u64::from(packet.to), Some(packet.bytes.as_slice()));
+    text.push_packet(u64::from(to), Some(bytes));
     text.finish()
 }
 
@@ -74,15 +76,51 @@ fn set_listener(
     }
 }
 
-/// Prints a line for each packet that is sent, and then the one of the reply.
-fn print_output(alloc: Global, given: &Output, output: &mut impl Write) -> Result<(), Fault> {
-    for packet in given.packets.as_slice() {
-        print(output, packet_line(alloc, packet)?.as_str())?;
+/// What the peer is given of an event: of a datagram that comes what it turns into.
+fn given_event(tables: &Tables, event: Event) -> Result<Event, Code> {
+    match event {
+        Event::Deliver(bytes) => Ok(Event::Deliver(tables.inward(bytes)?)),
+        event => Ok(event),
     }
-    print(
-        output,
-        reply_line(alloc, &given.reply, given.unsent)?.as_str(),
-    )
+}
+
+/// The answer where nothing happened at the peer.
+fn refusal(alloc: Global, code: Code) -> Output {
+    Output {
+        reply: Reply::Refused(code),
+        packets: Sequence::from_vec(Vec::new(alloc)),
+        unsent: 0,
+    }
+}
+
+/// An event at a peer, which is told of no datagram that can't be turned for it.
+fn step(alloc: Global, core: &mut Core, tables: &Tables, event: Event) -> Output {
+    match given_event(tables, event) {
+        Ok(event) => core.step(event),
+        Err(code) => refusal(alloc, code),
+    }
+}
+
+/// Prints a line for each packet that is sent, as it goes to the network, and then the one of the reply. A packet that
+/// can't be turned is not sent.
+fn print_output(
+    alloc: Global,
+    tables: &Tables,
+    given: Output,
+    output: &mut impl Write,
+) -> Result<(), Fault> {
+    let Output {
+        reply,
+        packets,
+        mut unsent,
+    } = given;
+    for Packet { to, bytes } in packets.into_vec() {
+        match tables.outward(bytes) {
+            Ok(bytes) => print(output, packet_line(alloc, to, bytes.as_slice())?.as_str())?,
+            Err(_) => unsent = unsent.saturating_add(1),
+        }
+    }
+    print(output, reply_line(alloc, &reply, unsent)?.as_str())
 }
 
 impl Session {
@@ -90,6 +128,7 @@ impl Session {
         Session {
             alloc,
             stage: Stage::Naming(Setup::new(alloc)),
+            kinds: Kinds::new(alloc),
         }
     }
 
@@ -121,11 +160,28 @@ impl Session {
         Ok(reply)
     }
 
-    /// An event at the peer, which needs to be open.
-    fn step(&mut self, event: Event, line: u64) -> Result<Output, Fault> {
-        match &mut self.stage {
-            Stage::Open(core) => Ok(core.step(event)),
-            _ => Err(Fault::NotACommand { line }),
+    /// Takes up what the topic of a writer carries, unless the peer was refused.
+    fn set_kind(&mut self, kind: KindLine, line: u64) -> Result<(), Fault> {
+        match &self.stage {
+            Stage::Refused => Err(Fault::NotACommand { line }),
+            _ => Ok(self.kinds.take(kind)?),
+        }
+    }
+
+    /// An event at the peer, which needs to be open. Prints what answers it.
+    fn happen(&mut self, event: Event, line: u64, output: &mut impl Write) -> Result<(), Fault> {
+        let Stage::Open(core) = &mut self.stage else {
+            return Err(Fault::NotACommand { line });
+        };
+        match self.kinds.tables() {
+            Ok(tables) => {
+                let given = step(self.alloc, core, &tables, event);
+                print_output(self.alloc, &tables, given, output)
+            }
+            Err(AllocError) => {
+                let reply = Reply::Refused(Code::Memory);
+                print(output, reply_line(self.alloc, &reply, 0)?.as_str())
+            }
         }
     }
 
@@ -154,6 +210,7 @@ impl Session {
     fn answer(&mut self, line: Line, number: u64, output: &mut impl Write) -> Result<(), Fault> {
         match line {
             Line::Setup(part) => self.set_up(part, number),
+            Line::Kind(kind) => self.set_kind(kind, number),
             Line::Open(peer) => {
                 let reply = self.open(peer, number)?;
                 print(output, reply_line(self.alloc, &reply, 0)?.as_str())
@@ -166,10 +223,7 @@ impl Session {
                 let text = self.set_listener(asked, number)?;
                 print(output, text.as_str())
             }
-            Line::Event(event) => {
-                let given = self.step(event, number)?;
-                print_output(self.alloc, &given, output)
-            }
+            Line::Event(event) => self.happen(event, number, output),
         }
     }
 }
