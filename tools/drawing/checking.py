@@ -61,7 +61,7 @@ class Checker(Follower):
     def compare_acknack(self, event: Event, number: int) -> None:
         """What an ACKNACK asks for is what its reader misses."""
         packet = self.run.packet(number)
-        for said in wire.said_by(packet.octets):
+        for said in wire.said_by(packet.read):
             reader = self.entity(event.peer, "r", said.reader)
             writer = self.entity(packet.to, "w", said.writer)
             if said.kind == "acknack" and reader and writer and (reader.path, writer.path) in self.proxies:
@@ -70,7 +70,7 @@ class Checker(Follower):
 
     def last_said(self, event: Event, writer: bytes) -> int:
         """The lastSN of the HEARTBEAT that an event brought."""
-        octets = self.run.packet(event.brought or 0).octets
+        octets = self.run.packet(event.brought or 0).read
         said = dg.statements(octets, self.config.prefixes[event.peer - 1])[1]
         return max((it.last for it in said if it.kind == "heartbeat" and it.writer == writer), default=0)
 

@@ -14,6 +14,7 @@ class Packet:
     sender: int  # the number of a peer; 0 for one that the configuration does not have
     to: int  # likewise
     octets: bytes
+    read: bytes  # the same as a peer reads them: with payloads of other types turned (tools/kinds.py)
     sent: int | None = None  # the event that sent it, counted from 0
     deliveries: list[int] = dataclasses.field(default_factory=list)
     is_watched: bool = True  # whether it would be seen where it came
@@ -56,7 +57,7 @@ class Run:
     def packet(self, number: int) -> Packet:
         return self.packets[number - 1]
 
-    def send(self, at: int, sender: int, to: int, octets: bytes, is_watched: bool = True) -> int:
+    def send(self, at: int, sender: int, to: int, octets: bytes, is_watched: bool = True, read: bytes | None = None) -> int:
         """A packet more, which event `at` sends."""
-        self.packets.append(Packet(len(self.packets) + 1, sender, to, octets, at, [], is_watched))
+        self.packets.append(Packet(len(self.packets) + 1, sender, to, octets, octets if read is None else read, at, [], is_watched))
         return len(self.packets)

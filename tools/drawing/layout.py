@@ -117,7 +117,7 @@ class Layout:
         self.columns = {path: Columns(it) for path, it in self.bands.items()}
         self.lanes, self.width = lanes_of(run.config, self.columns)
         self.rows: list[Row] = []
-        self.labels = [wire.label_of(it.octets) for it in run.packets]
+        self.labels = [wire.label_of(it.read) for it in run.packets]
 
     def lane(self, peer: int) -> Lane | None:
         return self.lanes[peer - 1] if peer in self.run.config.peers else None
@@ -188,7 +188,7 @@ class Layout:
 
     def ends_of(self, packet: Packet) -> tuple[bytes, bytes, str]:
         """The entities of the reader and of the writer that a packet names first, and what it says first."""
-        said = wire.said_by(packet.octets)
+        said = wire.said_by(packet.read)
         return (said[0].reader, said[0].writer, said[0].kind) if said else (b"", b"", "other")
 
     def departure(self, packet: Packet) -> int | None:
@@ -225,7 +225,7 @@ class Layout:
         return [arrow for packet in self.run.packets for arrow in self.arrows_of(packet, packet.number in crossing)]
 
     def arrows_of(self, packet: Packet, is_crossing: bool) -> list[Arrow]:
-        kind, label = wire.kind_of(packet.octets), self.labels[packet.number - 1]
+        kind, label = wire.kind_of(packet.read), self.labels[packet.number - 1]
         start = self.departure(packet)
         if packet.sent is None:
             return [self.from_outside(packet, it, kind, label if number == 0 else "", number > 0) for number, it in enumerate(packet.deliveries)]

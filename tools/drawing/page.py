@@ -32,7 +32,7 @@ def lane_of(picture: Picture, lane: Lane) -> dict:
 def records(picture: Picture) -> Iterator[str]:
     """The lines of a page: its head, then all else."""
     forms: dict[tuple[wire.Field, ...], int] = {}
-    packets = [[forms.setdefault(tuple(wire.fields_of(it.octets)), len(forms)), it.octets.hex()] for it in picture.run.packets]
+    packets = [[forms.setdefault(tuple(wire.fields_of(it.octets, it.read)), len(forms)), it.octets.hex()] for it in picture.run.packets]
     run = picture.run
     yield line_of({"width": picture.width, "height": picture.height, "title": run.title.split("\n")[0], "intro": picture.intro,
                    "lanes": [lane_of(picture, it) for it in picture.lanes], "hidden": picture.hidden, "fault": run.fault})

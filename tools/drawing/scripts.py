@@ -119,7 +119,7 @@ class Replies:
     def says(self, number: int, to: int, kind: str, writer: bytes, reader: bytes | None = None) -> bool:
         """Whether a packet goes to this peer with such a submessage."""
         packet = self.run.packet(number)
-        said = wire.said_by(packet.octets)
+        said = wire.said_by(packet.read)
         return packet.to == to and any(it.kind == kind and it.writer == writer and reader in (None, it.reader) for it in said)
 
 

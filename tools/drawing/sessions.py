@@ -7,6 +7,8 @@ import dataclasses
 import re
 from collections.abc import Sequence
 
+from kinds import Kinds, kind_of, turned
+
 from . import wire
 from .config import Config, Fault, Setup
 from .events import Event, Run
@@ -29,6 +31,7 @@ class Entry:
 
     line: int
     text: str
+    kinds: Kinds = dataclasses.field(default_factory=dict)  # what the topics of writers carry then
     packets: list[tuple[int, bytes]] = dataclasses.field(default_factory=list)
     reply: str = ""
 
@@ -67,10 +70,13 @@ class Reader:
     def __init__(self, name: str):
         self.name, self.setup = name, Setup()
         self.session: Session | None = None
+        self.kinds: Kinds = {}
         self.is_answered = True
 
     def take(self, number: int, line: str) -> bool:
         """Whether a line is one of a recording at this place; it is then taken up."""
+        if self.is_answered and self.take_kind(line):
+            return True
         if self.session is None:
             return self.setup.take(line.split(" ")) or self.open(line)
         if line.startswith("reply ") and REPLY.fullmatch(line, 6) and not self.is_answered:
@@ -85,10 +91,17 @@ class Reader:
             self.session.entries[-1].packets.append((int(packet[1]), bytes.fromhex(packet[2])))
             return True
         if EVENTS.match(line) and self.is_answered and self.session.own:
-            self.session.entries.append(Entry(number, line))
+            self.session.entries.append(Entry(number, line, self.kinds))
             self.is_answered = False
             return True
         return False
+
+    def take_kind(self, line: str) -> bool:
+        """Whether a line says what the topic of a writer carries, unless the peer was refused; nothing answers it."""
+        found = kind_of(line) if self.session is None or self.session.own else None
+        if found:
+            self.kinds = {**self.kinds, found[0]: found[1]}
+        return found is not None
 
     def open(self, line: str) -> bool:
         found = re.fullmatch(r"open (\d+)", line)
@@ -130,7 +143,7 @@ def ask_session(name: str, text: bytes, ask: Ask) -> Session:
     for number, line in enumerate(lines, 1):
         if not reader.take(number, line):
             break
-        if reader.session is None:
+        if reader.session is None or line.startswith("kind "):
             continue
         for answer in answers:
             reader.take(number, answer)
@@ -191,26 +204,29 @@ class Weaving:
         words = [plain(it) for it in entry.text.split(" ")]
         octets, brought = entry.datagram, None
         if octets is not None:
-            brought = self.bring(octets, session.own, at)
+            brought = self.bring(octets, session.own, at, turned(entry.kinds, octets))
             words = ["deliver"]
         event = Event(entry.line, words[1:] if words[0] == "call" else words, session.own, entry.reply, [], brought)
         event.source = entry.text
         for to, sent in entry.packets:
-            number = self.run.send(at, session.own, to, sent, to in self.owns and len(self.owns) > 1 or to == session.own)
+            is_watched = to in self.owns and len(self.owns) > 1 or to == session.own
+            number = self.run.send(at, session.own, to, sent, is_watched, turned(entry.kinds, sent))
             event.sent.append(number)
             self.known.setdefault((session.own, sent), []).append(number)
         self.run.events.append(event)
 
-    def bring(self, octets: bytes, to: int, at: int) -> int:
-        """The packet that a delivery brings: the last of these octets that has not come, or else the last one."""
+    def bring(self, octets: bytes, to: int, at: int, read: bytes) -> int:
+        """The packet that a delivery brings: the last of these octets that has not come, or else the last one that was read so."""
         same = self.known.setdefault((self.sender(octets), octets), [])
-        number = next((it for it in same[::-1] if not self.run.packet(it).deliveries), same[-1] if same else 0)
-        if not number:
-            number = self.run.send(at, self.sender(octets), to, octets)
-            self.run.packet(number).sent = None
-            same.append(number)
-        self.run.packet(number).deliveries.append(at)
-        return number
+        known = [it for it in same if not self.run.packet(it).deliveries] or [it for it in same if self.run.packet(it).read == read]
+        if not known:
+            known = [self.run.send(at, self.sender(octets), to, octets)]
+            self.run.packet(known[0]).sent = None
+            same.append(known[0])
+        packet = self.run.packet(known[-1])
+        packet.read = read
+        packet.deliveries.append(at)
+        return packet.number
 
 
 def run_of_sessions(sessions: Sequence[Session]) -> Run:

@@ -164,8 +164,8 @@ class Follower:
     def take_up(self, peer: int, packet: Packet, moves: list[tuple[str, str]], told: Told) -> None:
         """Each submessage in turn, with the moves that it makes, which are taken off the list."""
         own = self.config.prefixes[peer - 1]
-        is_own = wire.destination(packet.octets) in (None, own)
-        sender, said = packet.octets[8:20], wire.said_by(packet.octets) if is_own else dg.statements(packet.octets, own)[1]
+        is_own = wire.destination(packet.read) in (None, own)
+        sender, said = packet.read[8:20], wire.said_by(packet.read) if is_own else dg.statements(packet.read, own)[1]
         source = self.config.peer_of(sender)
         touched: dict[tuple[str, str], str] = {}
         for it in said:

@@ -66,7 +66,7 @@ def set_fields(order: str, body: bytes, at: int, name: str) -> list[Field]:
     return [Field(8, f"{name}.base", "n" + order), Field(4 + 4 * ((min(bits, dg.MOST_BITS) + 31) // 32), f"{name}.bits", "b" + order)]
 
 
-def fields_of_data(frame: Frame) -> Iterator[Field]:
+def fields_of_data(frame: Frame, is_turned: bool = False) -> Iterator[Field]:
     order, body = frame.order, frame.body
     yield from [Field(2, "extraFlags"), Field(2, "octetsToInlineQos", "u" + order), Field(4, "readerId"), Field(4, "writerId")]
     yield Field(8, "writerSN", "n" + order)
@@ -78,7 +78,9 @@ def fields_of_data(frame: Frame) -> Iterator[Field]:
         for field in fields_of_parameters(order, body, at):
             at += field.length
             yield field
-    if frame.flags & 12:
+    if is_turned:
+        yield Field(len(body) - at, "payload of another type")
+    elif frame.flags & 12:
         yield from fields_of_payload(body[at:], bool(frame.flags & 4))
 
 
@@ -106,16 +108,18 @@ def fields_of_payload(payload: bytes, has_value: bool) -> Iterator[Field]:
             yield Field(length, "value")
 
 
-def fields_of_body(frame: Frame) -> Iterator[Field]:
-    """The fields of a body, by its id; struct.error, KeyError or ValueError where it is not valid."""
+def fields_of_body(frame: Frame, is_turned: bool = False) -> Iterator[Field]:
+    """The fields of a body, by its id; struct.error, KeyError or ValueError where it is not valid. That of a DATA which is
+    turned for a peer is valid if what it turns into is."""
     order, body = frame.order, frame.body
     if frame.id == dg.INFO_DST:
         yield Field(12, "GUID prefix")
     elif frame.id == dg.INFO_TS and not frame.flags & 2:
         yield Field(8, "moment", "t" + order)
     elif frame.id == dg.DATA:
-        dg.read_data(order, frame.flags, body, 0)
-        yield from fields_of_data(frame)
+        if not is_turned:
+            dg.read_data(order, frame.flags, body, 0)
+        yield from fields_of_data(frame, is_turned)
     elif frame.id in (dg.HEARTBEAT, dg.ACKNACK, dg.GAP):
         dg.read_other(order, frame.id, frame.flags, body)
         yield from [Field(4, "readerId"), Field(4, "writerId")]
@@ -133,10 +137,15 @@ def flags_named(frame: Frame) -> str:
     return "".join(it for place, it in enumerate(letters) if frame.flags >> place & 1) or "none"
 
 
-def fields_of_frame(frame: Frame) -> list[Field]:
+def turns(frame: Frame, read: Frame) -> bool:
+    """Whether a submessage is a DATA whose payload is turned for a peer."""
+    return frame.id == read.id == dg.DATA and frame.flags == read.flags and frame.body != read.body
+
+
+def fields_of_frame(frame: Frame, read: Frame) -> list[Field]:
     """The header of a submessage, and its body, or all of it skipped where it is not valid or of another id."""
     try:
-        body, name = list(fields_of_body(frame)), NAMES.get(frame.id, f"Other 0x{frame.id:02x}")
+        body, name = list(fields_of_body(frame, turns(frame, read))), NAMES.get(frame.id, f"Other 0x{frame.id:02x}")
         left = len(frame.body) - sum(it.length for it in body)
     except (struct.error, KeyError, ValueError):
         body, name, left = [], f"Other 0x{frame.id:02x}", len(frame.body)
@@ -145,15 +154,15 @@ def fields_of_frame(frame: Frame) -> list[Field]:
     return [*head, *body, *([Field(left, rest, "skip")] if left else [])]
 
 
-def fields_of(octets: bytes) -> list[Field]:
-    """The fields of a datagram, whose lengths are in all those of its octets."""
+def fields_of(octets: bytes, read: bytes | None = None) -> list[Field]:
+    """The fields of a datagram, whose lengths are in all those of its octets. What a peer reads of it may be something else."""
     if not is_message(octets):
         return [Field(len(octets), "no message", "skip")] if octets else []
     found = [Field(4, "header", "text"), Field(1, "major", "u>"), Field(1, "minor", "u>"), Field(2, "vendor id")]
     found.append(Field(12, "GUID prefix of the sender"))
     end = 20
-    for frame in frames(octets):
-        found += fields_of_frame(frame)
+    for frame, other in zip(frames(octets), frames(octets if read is None else read)):
+        found += fields_of_frame(frame, other)
         end = frame.at + 4 + len(frame.body)
     return [*found, *([Field(len(octets) - end, "not looked at", "skip")] if end < len(octets) else [])]
 
