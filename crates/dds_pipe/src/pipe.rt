@@ -260,7 +260,7 @@ fn answer_lines<R: Read + Drop>(
 /// Answers lines: each is read, done and answered before the next one is looked at.
 ///
 /// Nothing ends it early but a line that says nothing or may not stand where it does, one of more than 131,080 octets,
-/// a stream that fails, or want of memory for reading, for the configuration or for printing.
+/// a stream that fails, or want of memory for reading, for the configuration, for what topics carry or for printing.
 pub fn answer_all<R: Read + Drop, W: Write + Drop>(
     alloc: Global,
     input: R,
