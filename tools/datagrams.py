@@ -264,6 +264,12 @@ class Ran(NamedTuple):
     status: int
 
 
+def fault_and_cause(errors: bytes) -> Tuple[bytes, bytes]:
+    """The line of a fault, with its line feed, and the one behind it that says its cause."""
+    fault, feed, cause = errors.partition(b"\n")
+    return fault + feed, cause
+
+
 def run(program: pathlib.Path, lines: List[bytes]) -> Ran:
     """What the program prints, given all these lines at once."""
     text, pipe = b"".join(it + b"\n" for it in lines), subprocess.PIPE

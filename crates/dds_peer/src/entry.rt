@@ -1,6 +1,6 @@
 //! What the program does with its words and its streams.
 
-use crate::simulation::sim;
+use crate::simulation::{Echo, sim};
 use crate::words::{Task, read_words};
 use clap::error::ErrorKind;
 use dds_pair::pair;
@@ -12,7 +12,8 @@ use std::thread::Threads;
 use std::time::Clock;
 
 /// What is printed where the words name no task.
-pub const USAGE: &str = "usage: dds_peer sim | dds_peer pair [--count N]";
+pub const USAGE: &str =
+    "usage: dds_peer sim | dds_peer pair [--count N]\n`dds_peer sim --echo` prints each command before what it answers";
 
 /// Prints a line, and does nothing more about a stream that takes none.
 fn tell(errors: &mut impl Write, text: &str) {
@@ -24,11 +25,12 @@ fn tell(errors: &mut impl Write, text: &str) {
 /// Runs a script, and answers the exit status.
 fn simulate<R: Read + Drop, W: Write + Drop>(
     alloc: Global,
+    echo: Echo,
     input: R,
     output: W,
     errors: &mut impl Write,
 ) -> u8 {
-    sim(alloc, input, output).tell(errors)
+    sim(alloc, echo, input, output).tell(errors)
 }
 
 /// Does what the words ask for, prints a fault on `errors`, and answers the exit status: 0 where all went well, 1 after
@@ -42,7 +44,7 @@ pub fn program<I: Read + Drop, W: Write + Drop, R: Threads + Wait + Net + Clock 
     errors: &mut impl Write,
 ) -> u8 {
     match read_words(alloc, words) {
-        Ok(Task::Simulate) => simulate(alloc, input, output, errors),
+        Ok(Task::Simulate { echo }) => simulate(alloc, echo, input, output, errors),
         Ok(Task::Pair { count }) => pair(rt, alloc, count, output).tell(errors),
         Err(error) if error.kind() == ErrorKind::OutOfMemory => {
             tell(errors, "memory");

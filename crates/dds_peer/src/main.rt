@@ -5,6 +5,7 @@
 //! Not here: one peer on its own (`dds_pipe`).
 #![tactic(auto)]
 
+mod cause;
 mod entry;
 mod script;
 mod setup;

@@ -5,7 +5,7 @@ use dds_base::{Moment, Octets};
 use dds_machine::{Endpoint, WorldEvent};
 use dds_script::{
     ListenerLine, call_of, decimal, decimal_u8, listener_line, reader_number, reader_options,
-    value, words_of, writer_number, writer_options,
+    units, value, words_of, writer_number, writer_options,
 };
 use std::alloc::{AllocError, Global};
 
@@ -31,7 +31,7 @@ fn tick(peer: u8, words: &[&str]) -> Option<Line> {
     let [now] = words else {
         return None;
     };
-    let now = Moment::new(decimal(now)?);
+    let now = Moment::new(units(now)?);
     Some(Line::Event(WorldEvent::Tick { peer, now }))
 }
 

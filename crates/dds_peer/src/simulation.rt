@@ -3,10 +3,12 @@
 use crate::script::Line;
 use crate::setup::{NumberedSetup, SetupPart};
 use crate::stream::Script;
-use dds_base::{Code, Octets};
+use dds_base::{Code, Config, Octets};
 use dds_machine::{Endpoint, Reply, WorldEvent};
 use dds_notices::Recorder;
-use dds_script::{Fault, ListenerLine, Prefix, Status, Traffic, TranscriptLine, print};
+use dds_script::{
+    Fault, ListenerLine, Prefix, SetupRefusal, Status, Traffic, TranscriptLine, print,
+};
 use dds_world::World as WorldOf;
 use std::alloc::{AllocError, Global};
 use std::io::{Read, Write};
@@ -18,17 +20,28 @@ type World = WorldOf<Prefix, Recorder>;
 #[derive(Drop)]
 struct Network {
     alloc: Global,
+    echo: Echo,
     setup: NumberedSetup,
     world: Option<World>,
 }
 
-/// Why a set-up is refused, at this line.
-fn refusal(code: Code, line: u64) -> Fault {
+/// Whether each command is printed before what it answers.
+#[derive(Clone, Copy)]
+pub enum Echo {
+    None,
+    Commands,
+}
+
+/// Why the set-up of this configuration is refused, at this line.
+fn refusal(code: Code, config: &Config, line: u64) -> Fault {
     match code {
         Code::Memory => Fault::Memory,
         code => Fault::Refused {
             line,
-            number: code.number(),
+            refusal: SetupRefusal {
+                code,
+                fault: config.fault(),
+            },
         },
     }
 }
@@ -36,7 +49,7 @@ fn refusal(code: Code, line: u64) -> Fault {
 /// Opens the network of a set-up, at this line.
 fn opened(alloc: Global, setup: &mut NumberedSetup, line: u64) -> Result<World, Fault> {
     let config = setup.config()?;
-    World::open(alloc, &config).map_err(|code| refusal(code, line))
+    World::open(alloc, &config).map_err(|code| refusal(code, &config, line))
 }
 
 fn push_event(text: &mut TranscriptLine, world: &mut World, event: WorldEvent) {
@@ -112,10 +125,21 @@ fn transcript_of(alloc: Global, world: &mut World, line: Line) -> Result<String,
     text.finish()
 }
 
+/// A command as it is echoed.
+fn echo_of(alloc: Global, command: &[u8]) -> Result<String, AllocError> {
+    let mut text = TranscriptLine::new(alloc);
+    text.push_word("> ");
+    if let Ok(command) = str::from_utf8(command) {
+        text.push_word(command);
+    }
+    text.finish()
+}
+
 impl Network {
-    fn new(alloc: Global) -> Self {
+    fn new(alloc: Global, echo: Echo) -> Self {
         Network {
             alloc,
+            echo,
             setup: NumberedSetup::new(alloc),
             world: None,
         }
@@ -123,10 +147,15 @@ impl Network {
 
     /// Takes up a line of the set-up, which may not follow another line, nor name a writer or a reader before any peer.
     fn set_up(&mut self, part: SetupPart, line: u64) -> Result<(), Fault> {
-        if self.world.is_none() && self.setup.take(part)? {
+        if self.world.is_some() {
+            let cause = "the set-up ended with the first command";
+            return Err(Fault::not_a_command(self.alloc, line, cause));
+        }
+        if self.setup.take(part)? {
             Ok(())
         } else {
-            Err(Fault::NotACommand { line })
+            let cause = "a writer or a reader follows a peer";
+            Err(Fault::not_a_command(self.alloc, line, cause))
         }
     }
 
@@ -138,6 +167,14 @@ impl Network {
         Ok(())
     }
 
+    /// Prints a command, where commands are echoed.
+    fn print_echo(&self, command: &[u8], output: &mut impl Write) -> Result<(), Fault> {
+        match self.echo {
+            Echo::None => Ok(()),
+            Echo::Commands => print(output, echo_of(self.alloc, command)?.as_str()),
+        }
+    }
+
     /// Runs a line on the open network, and prints what it answers.
     fn answer(&mut self, line: Line, output: &mut impl Write) -> Result<(), Fault> {
         match &mut self.world {
@@ -146,13 +183,19 @@ impl Network {
         }
     }
 
-    /// Runs the line of this number.
-    fn run_line(&mut self, line: Line, number: u64, output: &mut impl Write) -> Result<(), Fault> {
+    /// Runs the line that a script read last.
+    fn run_line<R: Read + Drop>(
+        &mut self,
+        line: Line,
+        script: &Script<R>,
+        output: &mut impl Write,
+    ) -> Result<(), Fault> {
         match line {
             Line::Skipped => Ok(()),
-            Line::Setup(part) => self.set_up(part, number),
+            Line::Setup(part) => self.set_up(part, script.number()),
             line => {
-                self.open(number)?;
+                self.open(script.number())?;
+                self.print_echo(script.line(), output)?;
                 self.answer(line, output)
             }
         }
@@ -165,7 +208,7 @@ impl Network {
     ) -> Result<(), Fault> {
         for _ in 0..u64::MAX {
             match script.next()? {
-                Some(line) => self.run_line(line, script.number(), output)?,
+                Some(line) => self.run_line(line, script, output)?,
                 None => break,
             }
         }
@@ -175,10 +218,11 @@ impl Network {
 
 fn run_script<R: Read + Drop>(
     alloc: Global,
+    echo: Echo,
     script: &mut Script<R>,
     output: &mut impl Write,
 ) -> Result<(), Fault> {
-    let mut network = Network::new(alloc);
+    let mut network = Network::new(alloc, echo);
     network.run(script, output)
 }
 
@@ -186,9 +230,14 @@ fn run_script<R: Read + Drop>(
 ///
 /// Nothing ends it early but a line that is no command, a set-up that is refused, a stream that fails, more than
 /// 1,048,576 octets of input, or want of memory for reading, for opening the network or for printing.
-pub fn sim<R: Read + Drop, W: Write + Drop>(alloc: Global, input: R, mut output: W) -> Status {
+pub fn sim<R: Read + Drop, W: Write + Drop>(
+    alloc: Global,
+    echo: Echo,
+    input: R,
+    mut output: W,
+) -> Status {
     match Script::open(alloc, input) {
-        Ok(mut script) => Status::of(run_script(alloc, &mut script, &mut output)),
+        Ok(mut script) => Status::of(run_script(alloc, echo, &mut script, &mut output)),
         Err(fault) => Status::failed(fault),
     }
 }

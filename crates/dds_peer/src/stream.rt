@@ -1,5 +1,6 @@
 //! The input of a simulation, line by line.
 
+use crate::cause::cause_of;
 use crate::script::{Line, line_of};
 use dds_script::{Fault, Lines};
 use std::alloc::Global;
@@ -27,6 +28,11 @@ impl<R: Read + Drop> Script<R> {
         self.lines.number()
     }
 
+    /// The line that was read last, without its line feed.
+    pub fn line(&self) -> &[u8] {
+        self.lines.line()
+    }
+
     /// Reads a line, and tells what it says; none at the end of the input.
     ///
     /// # Errors
@@ -39,9 +45,10 @@ impl<R: Read + Drop> Script<R> {
         }
         match line_of(self.alloc, self.lines.line())? {
             Some(line) => Ok(Some(line)),
-            None => Err(Fault::NotACommand {
-                line: self.lines.number(),
-            }),
+            None => Err(Fault::of_cause(
+                self.lines.number(),
+                cause_of(self.alloc, self.lines.line()),
+            )),
         }
     }
 }

@@ -1,6 +1,7 @@
 //! The words of the command line.
 
-use clap::{Arg, ArgMatches, Command, Error, value_parser};
+use crate::simulation::Echo;
+use clap::{Arg, ArgAction, ArgMatches, Command, Error, value_parser};
 use std::alloc::{AllocError, Global};
 
 /// How many samples a pair exchanges where the words do not say it.
@@ -10,11 +11,18 @@ const USUAL_COUNT: u64 = 100;
 #[derive(Clone, Copy)]
 pub enum Task {
     /// Run a script.
-    Simulate,
+    Simulate { echo: Echo },
     /// Run a pair of peers over the loopback, which exchange so many samples.
     Pair { count: u64 },
     /// Nothing that it knows.
     Unknown,
+}
+
+fn sim_command<'a>(alloc: Global) -> Result<Command<'a>, AllocError> {
+    let echo = Arg::new(alloc, "echo")
+        .long("echo")
+        .action(ArgAction::SetTrue);
+    Command::new(alloc, "sim").arg(echo)
 }
 
 fn pair_command<'a>(alloc: Global) -> Result<Command<'a>, AllocError> {
@@ -26,13 +34,16 @@ fn pair_command<'a>(alloc: Global) -> Result<Command<'a>, AllocError> {
 
 fn command<'a>(alloc: Global) -> Result<Command<'a>, AllocError> {
     Command::new(alloc, "dds_peer")
-        .subcommand(Command::new(alloc, "sim"))?
+        .subcommand(sim_command(alloc)?)?
         .subcommand(pair_command(alloc)?)
 }
 
 fn task_of(matches: &ArgMatches<'_>) -> Task {
     match matches.subcommand() {
-        Some(("sim", _)) => Task::Simulate,
+        Some(("sim", words)) if words.get_flag("echo") => Task::Simulate {
+            echo: Echo::Commands,
+        },
+        Some(("sim", _)) => Task::Simulate { echo: Echo::None },
         Some(("pair", words)) => Task::Pair {
             count: words.get_one::<u64>("count").unwrap_or(USUAL_COUNT),
         },

@@ -4,8 +4,8 @@ use crate::kinds::{KindLine, kind_line};
 use dds_base::{Moment, Octets};
 use dds_protocol::Event;
 use dds_script::{
-    ListenerLine, SetupLine, call_of, decimal, decimal_u8, entity_id, guid_prefix, listener_line,
-    reader_options, value, words_of, writer_options,
+    ListenerLine, SetupLine, call_of, decimal_u8, entity_id, guid_prefix, listener_line,
+    reader_options, units, value, words_of, writer_options,
 };
 use std::alloc::{AllocError, Global};
 
@@ -62,7 +62,7 @@ fn tick(words: &[&str]) -> Option<Line> {
     let [now] = words else {
         return None;
     };
-    let now = Moment::new(decimal(now)?);
+    let now = Moment::new(units(now)?);
     Some(Line::Event(Event::Tick(now)))
 }
 

@@ -4,6 +4,7 @@
 //! Not here: a network (`dds_peer`).
 #![tactic(auto)]
 
+mod cause;
 mod kinds;
 mod line;
 mod pipe;

@@ -1,5 +1,6 @@
 //! A peer, asked line by line.
 
+use crate::cause::cause_of;
 use crate::kinds::{KindLine, Kinds, Tables};
 use crate::line::{Line, line_of};
 use dds_base::{Code, Octets, Sequence};
@@ -8,7 +9,8 @@ use dds_machine::Reply;
 use dds_notices::Recorder;
 use dds_protocol::{Event, Output, Packet};
 use dds_script::{
-    Fault, Lines, ListenerLine, Prefix, Setup, SetupLine, Status, TranscriptLine, print,
+    Fault, Lines, ListenerLine, Prefix, Setup, SetupLine, SetupRefusal, Status, TranscriptLine,
+    print,
 };
 use std::alloc::{AllocError, Global};
 use std::io::{Read, Write};
@@ -24,8 +26,8 @@ type Core = CoreOf<Prefix, Recorder>;
 enum Stage {
     /// Peers, writers and readers are being named.
     Naming(Setup),
-    /// The peer was refused: no line is taken any more.
-    Refused,
+    /// The peer was refused, for this cause: no line is taken any more.
+    Refused(SetupRefusal),
     /// The peer is there.
     Open(Core),
 }
@@ -132,29 +134,54 @@ impl Session {
         }
     }
 
+    /// The fault of a line that may not stand where the session is, for this cause, or as the peer was refused.
+    fn misplaced(&self, line: u64, cause: &str) -> Fault {
+        match &self.stage {
+            Stage::Refused(refusal) => {
+                let cause = format!(in self.alloc; "the peer was refused with {refusal}");
+                Fault::of_cause(line, cause)
+            }
+            _ => Fault::not_a_command(self.alloc, line, cause),
+        }
+    }
+
+    /// The fault of a line that may only stand before the opening.
+    fn too_late(&self, line: u64) -> Fault {
+        self.misplaced(line, "it may stand before `open N` alone")
+    }
+
+    /// The fault of a line that needs the peer to be open.
+    fn not_open(&self, line: u64) -> Fault {
+        self.misplaced(line, "no peer is open; `open N` opens one")
+    }
+
     /// Takes up a line of the configuration, which may not follow the opening, nor name a writer or a reader before any
     /// peer.
     fn set_up(&mut self, part: SetupLine, line: u64) -> Result<(), Fault> {
-        let is_taken = match &mut self.stage {
-            Stage::Naming(setup) => setup.take(part)?,
-            _ => false,
+        let Stage::Naming(setup) = &mut self.stage else {
+            return Err(self.too_late(line));
         };
-        if is_taken {
+        if setup.take(part)? {
             Ok(())
         } else {
-            Err(Fault::NotACommand { line })
+            let cause = "a writer or a reader follows a peer";
+            Err(Fault::not_a_command(self.alloc, line, cause))
         }
     }
 
     /// Opens the peer of a number, once.
     fn open(&mut self, peer: u8, line: u64) -> Result<Reply, Fault> {
         let Stage::Naming(setup) = &mut self.stage else {
-            return Err(Fault::NotACommand { line });
+            return Err(self.too_late(line));
         };
         let config = setup.config()?;
         let (stage, reply) = match Core::open(self.alloc, &config, peer) {
             Ok(core) => (Stage::Open(core), Reply::Done),
-            Err(code) => (Stage::Refused, Reply::Refused(code)),
+            Err(code) => {
+                let fault = config.fault();
+                let refusal = SetupRefusal { code, fault };
+                (Stage::Refused(refusal), Reply::Refused(code))
+            }
         };
         self.stage = stage;
         Ok(reply)
@@ -163,7 +190,7 @@ impl Session {
     /// Takes up what the topic of a writer carries, unless the peer was refused.
     fn set_kind(&mut self, kind: KindLine, line: u64) -> Result<(), Fault> {
         match &self.stage {
-            Stage::Refused => Err(Fault::NotACommand { line }),
+            Stage::Refused(_) => Err(self.too_late(line)),
             _ => Ok(self.kinds.take(kind)?),
         }
     }
@@ -171,7 +198,7 @@ impl Session {
     /// An event at the peer, which needs to be open. Prints what answers it.
     fn happen(&mut self, event: Event, line: u64, output: &mut impl Write) -> Result<(), Fault> {
         let Stage::Open(core) = &mut self.stage else {
-            return Err(Fault::NotACommand { line });
+            return Err(self.not_open(line));
         };
         match self.kinds.tables() {
             Ok(tables) => {
@@ -188,7 +215,7 @@ impl Session {
     /// A filter more at the peer, which needs to be open.
     fn add_filter(&mut self, octets: Octets, line: u64) -> Result<Reply, Fault> {
         let Stage::Open(core) = &mut self.stage else {
-            return Err(Fault::NotACommand { line });
+            return Err(self.not_open(line));
         };
         match core.add_filter(Prefix::new(octets)) {
             Ok(number) => Ok(Reply::Created(number)),
@@ -200,7 +227,7 @@ impl Session {
     /// open. Gives the line that is printed.
     fn set_listener(&mut self, asked: ListenerLine, line: u64) -> Result<String, Fault> {
         let Stage::Open(core) = &mut self.stage else {
-            return Err(Fault::NotACommand { line });
+            return Err(self.not_open(line));
         };
         let set = set_listener(self.alloc, core, asked);
         Ok(listener_text(self.alloc, &set)?)
@@ -236,9 +263,7 @@ fn next_line<R: Read + Drop>(alloc: Global, lines: &mut Lines<R>) -> Result<Opti
     }
     match line_of(alloc, lines.line())? {
         Some(line) => Ok(Some(line)),
-        None => Err(Fault::NotACommand {
-            line: lines.number(),
-        }),
+        None => Err(Fault::of_cause(lines.number(), cause_of(alloc, lines.line()))),
     }
 }
 

@@ -1,18 +1,39 @@
 //! What ends a program early.
 
-use std::alloc::AllocError;
+use dds_base::{Code, ConfigFault};
+use std::alloc::{AllocError, Global};
+use std::fmt;
 use std::io::{self, ErrorKind, Write};
 use thiserror::Error;
+
+/// The code with which a set-up is refused, and the rule that it breaks, where it breaks one.
+///
+/// Printed it is `BAD_PARAMETER: reader 1 of peer 2: its depth is 0`.
+#[derive(Clone, Copy, Debug)]
+pub struct SetupRefusal {
+    pub code: Code,
+    pub fault: Option<ConfigFault>,
+}
+
+impl fmt::Display for SetupRefusal {
+    fn fmt<W: fmt::Write>(&self, f: &mut fmt::Formatter<W>) -> fmt::Result {
+        let code = self.code;
+        match self.fault {
+            Some(fault) => write!(f, "{code}: {fault}"),
+            None => write!(f, "{code}"),
+        }
+    }
+}
 
 /// A fault of the lines that are read, of the streams, of memory, or of a pair of peers. Lines are counted from 1.
 #[derive(Debug, Drop, Error)]
 pub enum Fault {
-    /// The line is no command of the language.
-    #[error("line {line}: not a command")]
-    NotACommand { line: u64 },
+    /// The line is no command of the language, for this cause.
+    #[error("line {line}: not a command\n{cause}")]
+    NotACommand { line: u64, cause: String },
     /// The set-up was refused; the line is the first after it, or one past the last.
-    #[error("line {line}: code {number}")]
-    Refused { line: u64, number: u8 },
+    #[error("line {line}: code {}\n{refusal}", .refusal.code.number())]
+    Refused { line: u64, refusal: SetupRefusal },
     /// The input is longer than a program takes.
     #[error("input too long")]
     InputTooLong,
@@ -40,6 +61,19 @@ impl From<AllocError> for Fault {
 }
 
 impl Fault {
+    /// The line of this number is no command, for this cause; `Memory` where there is none for its words.
+    pub fn not_a_command(alloc: Global, line: u64, cause: &str) -> Self {
+        Fault::of_cause(line, String::from_str(alloc, cause))
+    }
+
+    /// The line of this number is no command, for a cause that was looked for; `Memory` where there was none for it.
+    pub fn of_cause(line: u64, cause: Result<String, AllocError>) -> Self {
+        match cause {
+            Ok(cause) => Fault::NotACommand { line, cause },
+            Err(AllocError) => Fault::Memory,
+        }
+    }
+
     /// The fault of an input whose reading failed with this error: `Memory` for want of it, `InputFailed` for all else.
     pub fn of_input(error: io::Error) -> Self {
         if error.kind() == ErrorKind::OutOfMemory {

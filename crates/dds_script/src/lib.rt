@@ -6,7 +6,9 @@
 #![tactic(auto)]
 
 mod call;
+mod cause;
 mod fault;
+mod forms;
 mod lines;
 mod listening;
 mod notice_text;
@@ -20,10 +22,15 @@ mod setup;
 mod watching;
 
 pub use call::{call_of, words_of};
-pub use fault::{Fault, Status};
+pub use cause::{
+    call_cause, event_cause, form_cause, reader_options_cause, setup_cause, unknown_cause,
+    words_or_cause, writer_options_cause,
+};
+pub use fault::{Fault, SetupRefusal, Status};
+pub use forms::{Form, Operand, peer_form};
 pub use lines::Lines;
 pub use listening::{ListenerLine, listener_line};
-pub use number::{decimal, decimal_u8, entity_id, guid_prefix, value};
+pub use number::{decimal, decimal_u8, entity_id, guid_prefix, units, value};
 pub use operand::{reader_number, writer_number};
 pub use options::{Options, reader_options, writer_options};
 pub use prefix::Prefix;

@@ -42,6 +42,30 @@ pub fn decimal_i32(word: &str) -> Option<i32> {
     i32::try_from(number).ok()
 }
 
+/// One second, in units of 2^-32 second.
+const SECOND: u64 = 1 << 32;
+
+/// So many of the parts of a second, of which there are so many, in units of 2^-32 second, rounded down.
+fn parts_of_second(number: u64, parts: u64) -> Option<u64> {
+    let seconds = number.checked_div(parts)?.checked_mul(SECOND)?;
+    let rest = number.checked_rem(parts)?.checked_mul(SECOND)?;
+    seconds.checked_add(rest.checked_div(parts)?)
+}
+
+/// A time in units of 2^-32 second: a number of them, or of seconds, milliseconds or microseconds, as `5s`, `500ms` and
+/// `20us`, rounded down.
+pub fn units(word: &str) -> Option<u64> {
+    if let Some(milliseconds) = word.strip_suffix("ms") {
+        parts_of_second(decimal(milliseconds)?, 1_000)
+    } else if let Some(microseconds) = word.strip_suffix("us") {
+        parts_of_second(decimal(microseconds)?, 1_000_000)
+    } else if let Some(seconds) = word.strip_suffix('s') {
+        decimal(seconds)?.checked_mul(SECOND)
+    } else {
+        decimal(word)
+    }
+}
+
 fn hexadecimal_digit(digit: u8) -> Option<u8> {
     match digit {
         b'0'..=b'9' => Some(digit - b'0'),
@@ -76,6 +100,17 @@ pub fn guid_prefix(word: &str) -> Option<GuidPrefix> {
 /// An entity id of 8 hexadecimal digits.
 pub fn entity_id(word: &str) -> Option<EntityId> {
     Some(EntityId(<[u8; 4] as FromHex>::from_hex(word).ok()?))
+}
+
+/// Whether `value` reads a word.
+pub fn is_value(word: &str) -> bool {
+    let digits = word.as_bytes();
+    word == "-"
+        || !digits.is_empty()
+            && digits.len() % 2 == 0
+            && digits
+                .iter()
+                .all(|digit| hexadecimal_digit(*digit).is_some())
 }
 
 /// A value in an even number of hexadecimal digits, or `-` for the empty one; none where it is neither.

@@ -1,6 +1,6 @@
 //! The options of a writer or a reader.
 
-use crate::number::{decimal, decimal_i32, decimal_u32};
+use crate::number::{decimal, decimal_i32, decimal_u32, units};
 use dds_base::{EntityId, HistoryQos, OwnershipQos, ReaderConfig, ReliabilityQos, WriterConfig};
 
 /// What the options of a writer or a reader say.
@@ -62,7 +62,7 @@ impl Options {
         match name {
             "last" => self.history = HistoryQos::KeepLast(decimal_u32(number)?),
             "max" => self.max_samples = decimal_i32(number)?,
-            "lease" => self.lease = Some(decimal(number)?),
+            "lease" => self.lease = Some(units(number)?),
             "topic" => self.topic = decimal_u32(number)?,
             _ => return None,
         }
@@ -112,6 +112,24 @@ pub fn reader_options(words: &[&str]) -> Option<Options> {
         options.take_reader(word)?;
     }
     Some(options)
+}
+
+/// The options of a writer, as forms name them.
+pub const WRITER_OPTIONS: &str =
+    "shared, exclusive, all, last=N, max=N, topic=N, lease=UNITS, strength=N, noauto";
+
+/// The options of a reader, as forms name them.
+pub const READER_OPTIONS: &str =
+    "shared, exclusive, all, last=N, max=N, topic=N, lease=UNITS, instances=N, arrivals=N, besteffort";
+
+/// Whether a word is an option of a writer.
+pub fn is_writer_option(word: &str) -> bool {
+    Options::new().take_writer(word).is_some()
+}
+
+/// Whether a word is an option of a reader.
+pub fn is_reader_option(word: &str) -> bool {
+    Options::new().take_reader(word).is_some()
 }
 
 /// A writer of this name and these options.

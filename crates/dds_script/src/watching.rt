@@ -1,6 +1,6 @@
 //! The calls of a script that speak of conditions, WaitSets and statuses.
 
-use crate::number::{decimal, decimal_i32, decimal_u32};
+use crate::number::{decimal_i32, decimal_u32, units};
 use crate::operand::{condition, entity, handle, masks, reader_number, status_mask};
 use dds_base::{Moment, Scope};
 use dds_machine::Call;
@@ -115,7 +115,7 @@ fn wait_call(words: &[&str]) -> Option<Call> {
     match words {
         ["begin", number, moment] => Some(Call::WaitBegin {
             wait_set: decimal_u32(number)?,
-            deadline: Moment::new(decimal(moment)?),
+            deadline: Moment::new(units(moment)?),
         }),
         ["look", number] => Some(Call::WaitLook {
             wait_set: decimal_u32(number)?,
