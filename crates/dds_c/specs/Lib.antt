@@ -1,7 +1,9 @@
 pub mod Answering
 pub mod Asking
+pub mod Faults
 pub mod Fetching
 pub mod Held
 pub mod Meaning
 pub mod Opening
+pub mod Sums
 pub mod Watching

@@ -9,6 +9,7 @@
 pub mod answers;
 mod config;
 pub mod events;
+pub mod fault;
 mod held;
 pub mod lines;
 pub mod opening;
@@ -17,5 +18,6 @@ mod parts;
 mod peer;
 pub mod reading;
 mod session;
+pub mod sum;
 pub mod watching;
 pub mod writing;

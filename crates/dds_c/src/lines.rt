@@ -5,7 +5,8 @@
 ghost use Rattle.std.specs.Prelude.{◌≡◌, ◌⊎◌, IfErr};
 ghost use Rattle.dds_base.specs.declared.code.Code.TheVariants as Code;
 ghost use Rattle.dds_c.specs.Answering.{HappensSomething};
-ghost use Rattle.dds_c.specs.Fetching.{TextFetched, TextWritten};
+ghost use Rattle.dds_c.specs.Faults.{CauseWritten};
+ghost use Rattle.dds_c.specs.Fetching.{Copies, CopiesNothing, TextFetched, TextWritten};
 
 use crate::events::{NOT_OPEN, step};
 use crate::out::copy_out;
@@ -14,8 +15,8 @@ use crate::session::Session;
 use dds_base::{Code, Config, Moment};
 use dds_protocol::Event;
 use dds_script::{
-    Setup, SetupLine, TranscriptLine, call_of, decimal, entity_id, guid_prefix, reader_options,
-    value, words_of, writer_options,
+    Setup, SetupLine, TranscriptLine, call_of, entity_id, event_cause, guid_prefix, reader_options,
+    setup_cause, units, value, words_of, words_or_cause, writer_options,
 };
 use std::alloc::{AllocError, Global};
 
@@ -65,7 +66,7 @@ fn event_of_words(alloc: Global, words: &[&str]) -> Result<Option<Event>, AllocE
             Some(call) => Ok(Some(Event::Call(call))),
             None => Ok(None),
         },
-        ["tick", now] => match decimal(now) {
+        ["tick", now] => match units(now) {
             Some(now) => Ok(Some(Event::Tick(Moment::new(now)))),
             None => Ok(None),
         },
@@ -81,6 +82,111 @@ fn event_of(alloc: Global, line: &[u8]) -> Result<Option<Event>, AllocError> {
     match str::from_utf8(line) {
         Ok(line) => event_of_words(alloc, &words_of(alloc, line)?),
         Err(_) => Ok(None),
+    }
+}
+
+/// Copies a cause, wherever there is one.
+fn cause_out(cause: Option<String>, buffer: &mut [u8], needed: &mut usize) -> u8
+    ensures written { CauseWritten buffer.old buffer.new needed.old needed.new result }
+{
+    match cause {
+        Some(cause) => copy_out(cause.as_bytes(), buffer, needed),
+        None => Code::NoData.number(),
+    }
+}
+
+/// Why a line is no event; none where it is one.
+fn line_cause(alloc: Global, line: &[u8]) -> Result<Option<String>, AllocError> {
+    if event_of(alloc, line)?.is_some() {
+        return Ok(None);
+    }
+    match words_or_cause(alloc, line)? {
+        Ok(words) => Ok(Some(event_cause(alloc, &words)?)),
+        Err(cause) => Ok(Some(cause)),
+    }
+}
+
+/// Why a line is none of a configuration that may stand here; none where it is one, which is taken up.
+fn setup_fault(alloc: Global, setup: &mut Setup, line: &str) -> Result<Option<String>, AllocError> {
+    let words = match words_or_cause(alloc, line.as_bytes())? {
+        Ok(words) => words,
+        Err(cause) => return Ok(Some(cause)),
+    };
+    match setup_line(&words) {
+        None => Ok(Some(setup_cause(alloc, &words)?)),
+        Some(part) => {
+            if setup.take(part)? {
+                Ok(None)
+            } else {
+                let cause = "a writer or a reader follows a peer";
+                Ok(Some(String::from_str(alloc, cause)?))
+            }
+        }
+    }
+}
+
+/// Why a configuration in lines is refused; none where it is taken.
+fn text_cause(alloc: Global, text: &str) -> Result<Option<String>, AllocError> {
+    let mut setup = Setup::new(alloc);
+    for (at, line) in text.lines().enumerate() {
+        if let Some(cause) = setup_fault(alloc, &mut setup, line)? {
+            let number = at.saturating_add(1);
+            return Ok(Some(format!(in alloc; "line {number}: {cause}")?));
+        }
+    }
+    match setup.config()?.fault() {
+        Some(fault) => Ok(Some(format!(in alloc; "{fault}")?)),
+        None => Ok(None),
+    }
+}
+
+/// Why a line is none that `cw_line` takes, in words, which are copied to the start of the buffer; `needed` is how many
+/// octets they have.
+///
+/// # Errors
+///
+/// NO_DATA where it is one, MEMORY: then nothing is written. OUT_OF_RESOURCES where the buffer is too short: then
+/// nothing is copied, and `needed` says how long it has to be.
+#[unsafe(no_mangle)]
+pub extern "C" fn cw_line_fault(
+    alloc: Global,
+    line: &[u8],
+    buffer: &mut [u8],
+    needed: &mut usize,
+) -> u8
+    // Some text is copied as far as it fits, which no clause spells, or nothing for its cause.
+    ensures text { CauseWritten buffer.old buffer.new needed.old needed.new result }
+{
+    match line_cause(alloc, line) {
+        Ok(cause) => cause_out(cause, buffer, needed),
+        Err(AllocError) => Code::Memory.number(),
+    }
+}
+
+/// Why `cw_open_text` refuses a configuration in lines, whichever peer of it is asked for: in words, with the number of the
+/// line, or the peer, writer or reader that breaks a rule. They are copied to the start of the buffer; `needed` is how
+/// many octets they have.
+///
+/// # Errors
+///
+/// NO_DATA where it is taken, MEMORY: then nothing is written. OUT_OF_RESOURCES where the buffer is too short: then
+/// nothing is copied, and `needed` says how long it has to be.
+#[unsafe(no_mangle)]
+pub extern "C" fn cw_text_fault(
+    alloc: Global,
+    text: &[u8],
+    buffer: &mut [u8],
+    needed: &mut usize,
+) -> u8
+    // Some text is copied as far as it fits, which no clause spells, or nothing for its cause.
+    ensures text { CauseWritten buffer.old buffer.new needed.old needed.new result }
+{
+    let Ok(text) = str::from_utf8(text) else {
+        return copy_out(b"it is no text in UTF-8", buffer, needed);
+    };
+    match text_cause(alloc, text) {
+        Ok(cause) => cause_out(cause, buffer, needed),
+        Err(AllocError) => Code::Memory.number(),
     }
 }
 
