@@ -4,14 +4,17 @@
  * fetched from it.
  *
  * What a caller owes; nothing checks it.
- *  - A cw_peer is as CW_PEER_NONE or as a call left it. It may be moved, but is no copy of one that is still used.
- *  - One call at a time for each cw_peer; it may go from thread to thread, as C orders that.
- *  - Pointers are valid, aligned, not NULL (also for length 0), and what they point to is initialized for the whole
- *    length, also where it is only written to. No two pointers of a call overlap. A bool is 0 or 1.
+ *  - A cw_peer is as CW_PEER_NONE or as a call left it. It may be moved between calls, but is no copy of one that is still
+ *    used. It may go from thread to thread.
+ *  - Pointers are valid, aligned and not NULL, but for one that goes with a length of 0. What they point to is initialized
+ *    for the whole length, also where it is only written to. No two pointers of a call overlap. A bool is 0 or 1.
  *  - malloc, realloc and free are of one allocator, which aligns as usual. No call comes from a signal handler, or from
  *    the forked child of a process with threads.
- * All else is answered by a code: a peer that is not open, or closed twice; a number, an index, a length, a mask or
- * octets of any value; memory that is refused. */
+ *  - No prefix is used again. A peer that is opened under the prefix of an earlier one begins to count at 1, and the others
+ *    take its changes for ones that they had: as many as the earlier one wrote are lost, with no code and no status. So a
+ *    process that starts anew takes a new prefix, and all that list it open anew: examples/c/restart.c.
+ * All else is answered by a code: a peer that is not open, or closed twice; a call while another thread's is under way; NULL
+ * with a length above 0; a number, an index, a length, a mask or octets of any value; memory that is refused. */
 #ifndef CINCHWALNUT_H
 #define CINCHWALNUT_H
 
@@ -23,17 +26,29 @@
 extern "C" {
 #endif
 
+/* Asked of a compiler: which parameters are not NULL, by their numbers from 1. */
+#if defined(__GNUC__)
+#define CW_NONNULL(...) __attribute__((nonnull(__VA_ARGS__)))
+#else
+#define CW_NONNULL(...)
+#endif
+
 /* A peer that is open, or none, in the memory of the caller: CW_PEER_NONE at first, and from then on only its address is
  * handed on. */
 typedef struct cw_peer {
     bool is_open;
     void *held;
+    uint8_t is_busy; /* whether a call is under way; the library does not know of it, but this header */
 } cw_peer;
 
-#define CW_PEER_NONE {false, NULL}
+#define CW_PEER_NONE {false, NULL, 0}
 
-/* Return codes: those of DDS 1.4, 2.3.3, and CW_MEMORY. A call that answers another one than CW_OK has changed nothing,
- * but for what docs/C.md says of CW_NO_DATA and of CW_TIMEOUT. */
+/* Times and leases are in units of 2^-32 second. CW_MS takes a number of milliseconds below 2^35, which is a year. */
+#define CW_SECOND ((uint64_t)1 << 32)
+#define CW_MS(n) (((uint64_t)(n) << 29) / 125)
+
+/* Return codes: those of DDS 1.4, 2.3.3, CW_MEMORY and CW_BUSY. A call that answers another one than CW_OK has changed
+ * nothing, but for what docs/C.md says of CW_NO_DATA and of CW_TIMEOUT. */
 enum {
     CW_OK = 0,
     CW_BAD_PARAMETER = 3,
@@ -42,8 +57,25 @@ enum {
     CW_INCONSISTENT_POLICY = 8,
     CW_TIMEOUT = 10,
     CW_NO_DATA = 11,             /* of a fetch: the last answer has nothing of the kind */
-    CW_MEMORY = 100
+    CW_MEMORY = 100,
+    CW_BUSY = 102                /* another call of this peer is under way, in another thread; try again */
 };
+
+/* A code as it is spelt here. */
+static inline const char *cw_code_name(uint8_t code) {
+    switch (code) {
+    case CW_OK: return "CW_OK";
+    case CW_BAD_PARAMETER: return "CW_BAD_PARAMETER";
+    case CW_PRECONDITION_NOT_MET: return "CW_PRECONDITION_NOT_MET";
+    case CW_OUT_OF_RESOURCES: return "CW_OUT_OF_RESOURCES";
+    case CW_INCONSISTENT_POLICY: return "CW_INCONSISTENT_POLICY";
+    case CW_TIMEOUT: return "CW_TIMEOUT";
+    case CW_NO_DATA: return "CW_NO_DATA";
+    case CW_MEMORY: return "CW_MEMORY";
+    case CW_BUSY: return "CW_BUSY";
+    default: return "no code of cinchwalnut.h";
+    }
+}
 
 /* The states of samples (DDS 1.4, 2.3.3). */
 enum {
@@ -156,7 +188,7 @@ uint8_t cw_open(cw_peer *peer, const cw_peer_config *peers, size_t peers_len, co
                 size_t writers_len, const cw_reader_config *readers, size_t readers_len, uint8_t number);
 /* The same of a configuration in lines "peer ..", "writer ..", "reader .." of docs/PIPE.md. */
 uint8_t cw_open_text(cw_peer *peer, const uint8_t *text, size_t text_len, uint8_t number);
-/* Frees what the peer holds: none is open then. Where none was, it does nothing. */
+/* Frees what the peer holds: none is open then. Where none was, or another call is under way, it does nothing. */
 void cw_close(cw_peer *peer);
 
 /* Events. Each makes the last answer anew: its packets, its samples, its values and its text. Where there was none, for
@@ -224,9 +256,179 @@ uint8_t cw_handle(cw_peer *peer, uint64_t *handle);             /* of cw_lookup_
 uint8_t cw_number(cw_peer *peer, uint32_t *number);             /* of what a line made: a condition, a WaitSet */
 uint8_t cw_total(cw_peer *peer, cw_total_status *total);        /* of a look at SAMPLE_LOST or LIVELINESS_LOST */
 uint8_t cw_changed(cw_peer *peer, cw_changed_status *changed);  /* of a look at LIVELINESS_CHANGED */
-uint64_t cw_unsent(cw_peer *peer);                              /* how many packets found no memory, as if they were lost */
+/* How many packets found no memory, as if they were lost; 0 where another call is under way. */
+uint64_t cw_unsent(cw_peer *peer);
 /* The reply in words, and a line feed: what docs/PIPE.md has behind "reply". */
 uint8_t cw_text(cw_peer *peer, uint8_t *buffer, size_t buffer_len, size_t *needed);
+
+/* The mark: each call above, but cw_code_name, goes by a function of this header, which answers CW_BUSY where another thread
+ * is in a call of the same peer. It takes NULL with a length of 0, and answers CW_BAD_PARAMETER to NULL with another one. */
+static inline bool cw_enters(cw_peer *peer) {
+    return __atomic_exchange_n(&peer->is_busy, (uint8_t)1, __ATOMIC_ACQUIRE) == 0;
+}
+
+static inline void cw_leaves(cw_peer *peer) {
+    __atomic_store_n(&peer->is_busy, (uint8_t)0, __ATOMIC_RELEASE);
+}
+
+static inline bool cw_is_array(const void *start, size_t len) {
+    return start != NULL || len == 0;
+}
+
+/* What the library is given for NULL. */
+static inline void *cw_array(const void *start) {
+    static uint64_t nothing;
+    return start != NULL ? (void *)(uintptr_t)start : &nothing;
+}
+
+#define CW_MARKED_IF(is_valid, call, nonnull, parameters, arguments) \
+    static inline nonnull uint8_t cw_marked_##call parameters {      \
+        if (!(is_valid))                                             \
+            return CW_BAD_PARAMETER;                                 \
+        if (!cw_enters(peer))                                        \
+            return CW_BUSY;                                          \
+        uint8_t code = cw_##call arguments;                          \
+        cw_leaves(peer);                                             \
+        return code;                                                 \
+    }
+#define CW_MARKED(call, parameters, arguments) CW_MARKED_IF(true, call, CW_NONNULL(), parameters, arguments)
+
+CW_MARKED_IF(cw_is_array(peers, peers_len) && cw_is_array(writers, writers_len) && cw_is_array(readers, readers_len),
+             open, CW_NONNULL(1),
+             (cw_peer *peer, const cw_peer_config *peers, size_t peers_len, const cw_writer_config *writers,
+              size_t writers_len, const cw_reader_config *readers, size_t readers_len, uint8_t number),
+             (peer, (const cw_peer_config *)cw_array(peers), peers_len, (const cw_writer_config *)cw_array(writers),
+              writers_len, (const cw_reader_config *)cw_array(readers), readers_len, number))
+CW_MARKED_IF(cw_is_array(text, text_len), open_text, CW_NONNULL(1),
+             (cw_peer *peer, const uint8_t *text, size_t text_len, uint8_t number),
+             (peer, (const uint8_t *)cw_array(text), text_len, number))
+CW_MARKED_IF(cw_is_array(datagram, datagram_len), deliver, CW_NONNULL(1),
+             (cw_peer *peer, const uint8_t *datagram, size_t datagram_len),
+             (peer, (const uint8_t *)cw_array(datagram), datagram_len))
+CW_MARKED(tick, (cw_peer *peer, uint64_t now), (peer, now))
+CW_MARKED(register, (cw_peer *peer, uint8_t writer, const uint8_t key[16]), (peer, writer, key))
+CW_MARKED_IF(cw_is_array(value, value_len), write, CW_NONNULL(1, 3),
+             (cw_peer *peer, uint8_t writer, const uint8_t key[16], const uint8_t *value, size_t value_len),
+             (peer, writer, key, (const uint8_t *)cw_array(value), value_len))
+CW_MARKED(dispose, (cw_peer *peer, uint8_t writer, const uint8_t key[16]), (peer, writer, key))
+CW_MARKED(unregister, (cw_peer *peer, uint8_t writer, const uint8_t key[16]), (peer, writer, key))
+CW_MARKED(assert_liveliness, (cw_peer *peer, uint8_t writer), (peer, writer))
+CW_MARKED(set_strength, (cw_peer *peer, uint8_t writer, int32_t strength), (peer, writer, strength))
+CW_MARKED(get_liveliness_lost_status, (cw_peer *peer, uint8_t writer), (peer, writer))
+CW_MARKED(read, (cw_peer *peer, uint8_t reader, int32_t max, uint32_t samples, uint32_t views, uint32_t instances),
+          (peer, reader, max, samples, views, instances))
+CW_MARKED(take, (cw_peer *peer, uint8_t reader, int32_t max, uint32_t samples, uint32_t views, uint32_t instances),
+          (peer, reader, max, samples, views, instances))
+CW_MARKED(read_instance, (cw_peer *peer, uint8_t reader, int32_t max, uint64_t handle, uint32_t samples, uint32_t views,
+           uint32_t instances),
+          (peer, reader, max, handle, samples, views, instances))
+CW_MARKED(take_instance, (cw_peer *peer, uint8_t reader, int32_t max, uint64_t handle, uint32_t samples, uint32_t views,
+           uint32_t instances),
+          (peer, reader, max, handle, samples, views, instances))
+CW_MARKED(read_next_instance, (cw_peer *peer, uint8_t reader, int32_t max, uint64_t previous, uint32_t samples, uint32_t views,
+           uint32_t instances),
+          (peer, reader, max, previous, samples, views, instances))
+CW_MARKED(take_next_instance, (cw_peer *peer, uint8_t reader, int32_t max, uint64_t previous, uint32_t samples, uint32_t views,
+           uint32_t instances),
+          (peer, reader, max, previous, samples, views, instances))
+CW_MARKED(read_next_sample, (cw_peer *peer, uint8_t reader), (peer, reader))
+CW_MARKED(take_next_sample, (cw_peer *peer, uint8_t reader), (peer, reader))
+CW_MARKED(read_w_condition, (cw_peer *peer, uint8_t reader, int32_t max, uint32_t condition),
+          (peer, reader, max, condition))
+CW_MARKED(take_w_condition, (cw_peer *peer, uint8_t reader, int32_t max, uint32_t condition),
+          (peer, reader, max, condition))
+CW_MARKED(read_next_instance_w_condition, (cw_peer *peer, uint8_t reader, int32_t max, uint64_t previous,
+           uint32_t condition),
+          (peer, reader, max, previous, condition))
+CW_MARKED(take_next_instance_w_condition, (cw_peer *peer, uint8_t reader, int32_t max, uint64_t previous,
+           uint32_t condition),
+          (peer, reader, max, previous, condition))
+CW_MARKED(get_key_value, (cw_peer *peer, uint8_t reader, uint64_t handle), (peer, reader, handle))
+CW_MARKED(lookup_instance, (cw_peer *peer, uint8_t reader, const uint8_t key[16]), (peer, reader, key))
+CW_MARKED(get_sample_lost_status, (cw_peer *peer, uint8_t reader), (peer, reader))
+CW_MARKED(get_liveliness_changed_status, (cw_peer *peer, uint8_t reader), (peer, reader))
+CW_MARKED_IF(cw_is_array(line, line_len), line, CW_NONNULL(1),
+             (cw_peer *peer, const uint8_t *line, size_t line_len),
+             (peer, (const uint8_t *)cw_array(line), line_len))
+CW_MARKED_IF(cw_is_array(octets, octets_len), add_filter, CW_NONNULL(1, 4),
+             (cw_peer *peer, const uint8_t *octets, size_t octets_len, uint32_t *number),
+             (peer, (const uint8_t *)cw_array(octets), octets_len, number))
+CW_MARKED(set_recorder, (cw_peer *peer, uint8_t kind, uint8_t number, uint32_t mask, size_t room),
+          (peer, kind, number, mask, room))
+CW_MARKED(clear_recorder, (cw_peer *peer, uint8_t kind, uint8_t number), (peer, kind, number))
+CW_MARKED(notice, (cw_peer *peer, size_t at, cw_notice_info *notice), (peer, at, notice))
+CW_MARKED_IF(cw_is_array(buffer, buffer_len), packet, CW_NONNULL(1, 3, 6),
+             (cw_peer *peer, size_t at, uint8_t *to, uint8_t *buffer, size_t buffer_len, size_t *needed),
+             (peer, at, to, (uint8_t *)cw_array(buffer), buffer_len, needed))
+CW_MARKED_IF(cw_is_array(buffer, buffer_len), sample, CW_NONNULL(1, 3, 6),
+             (cw_peer *peer, size_t at, cw_sample_info *info, uint8_t *buffer, size_t buffer_len, size_t *needed),
+             (peer, at, info, (uint8_t *)cw_array(buffer), buffer_len, needed))
+CW_MARKED(key, (cw_peer *peer, uint8_t key[16]), (peer, key))
+CW_MARKED(handle, (cw_peer *peer, uint64_t *handle), (peer, handle))
+CW_MARKED(number, (cw_peer *peer, uint32_t *number), (peer, number))
+CW_MARKED(total, (cw_peer *peer, cw_total_status *total), (peer, total))
+CW_MARKED(changed, (cw_peer *peer, cw_changed_status *changed), (peer, changed))
+CW_MARKED_IF(cw_is_array(buffer, buffer_len), text, CW_NONNULL(1, 4),
+             (cw_peer *peer, uint8_t *buffer, size_t buffer_len, size_t *needed),
+             (peer, (uint8_t *)cw_array(buffer), buffer_len, needed))
+
+static inline CW_NONNULL() void cw_marked_close(cw_peer *peer) {
+    if (!cw_enters(peer))
+        return;
+    cw_close(peer);
+    cw_leaves(peer);
+}
+
+static inline CW_NONNULL() uint64_t cw_marked_unsent(cw_peer *peer) {
+    if (!cw_enters(peer))
+        return 0;
+    uint64_t unsent = cw_unsent(peer);
+    cw_leaves(peer);
+    return unsent;
+}
+
+#define cw_open cw_marked_open
+#define cw_open_text cw_marked_open_text
+#define cw_close cw_marked_close
+#define cw_deliver cw_marked_deliver
+#define cw_tick cw_marked_tick
+#define cw_register cw_marked_register
+#define cw_write cw_marked_write
+#define cw_dispose cw_marked_dispose
+#define cw_unregister cw_marked_unregister
+#define cw_assert_liveliness cw_marked_assert_liveliness
+#define cw_set_strength cw_marked_set_strength
+#define cw_get_liveliness_lost_status cw_marked_get_liveliness_lost_status
+#define cw_read cw_marked_read
+#define cw_take cw_marked_take
+#define cw_read_instance cw_marked_read_instance
+#define cw_take_instance cw_marked_take_instance
+#define cw_read_next_instance cw_marked_read_next_instance
+#define cw_take_next_instance cw_marked_take_next_instance
+#define cw_read_next_sample cw_marked_read_next_sample
+#define cw_take_next_sample cw_marked_take_next_sample
+#define cw_read_w_condition cw_marked_read_w_condition
+#define cw_take_w_condition cw_marked_take_w_condition
+#define cw_read_next_instance_w_condition cw_marked_read_next_instance_w_condition
+#define cw_take_next_instance_w_condition cw_marked_take_next_instance_w_condition
+#define cw_get_key_value cw_marked_get_key_value
+#define cw_lookup_instance cw_marked_lookup_instance
+#define cw_get_sample_lost_status cw_marked_get_sample_lost_status
+#define cw_get_liveliness_changed_status cw_marked_get_liveliness_changed_status
+#define cw_line cw_marked_line
+#define cw_add_filter cw_marked_add_filter
+#define cw_set_recorder cw_marked_set_recorder
+#define cw_clear_recorder cw_marked_clear_recorder
+#define cw_notice cw_marked_notice
+#define cw_packet cw_marked_packet
+#define cw_sample cw_marked_sample
+#define cw_key cw_marked_key
+#define cw_handle cw_marked_handle
+#define cw_number cw_marked_number
+#define cw_total cw_marked_total
+#define cw_changed cw_marked_changed
+#define cw_unsent cw_marked_unsent
+#define cw_text cw_marked_text
 
 #ifdef __cplusplus
 }

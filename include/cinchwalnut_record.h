@@ -2,11 +2,11 @@
  * it, as dds_pipe gives them. So a run of the field is played again at the desk, by dds_pipe, and looked at, by tools/draw.
  *
  * It is a layer over cinchwalnut.h, and nothing of it is proved. A cw_recording is as CW_RECORDING_NONE or as a call here
- * left it. Its events are the calls below, and no others of its peer; its fetches are those of cinchwalnut.h, of its peer:
- * cw_packet(&recording.peer, ..).
+ * left it. Its events are the calls below, one at a time, and no others of its peer; its fetches are those of cinchwalnut.h,
+ * of its peer: cw_packet(&recording.peer, ..).
  *
  * Not recorded is what changed nothing and may have been no event: an opening that is refused, a call that answers
- * CW_MEMORY, a line that answers CW_BAD_PARAMETER, and a call while no peer is open. Where a report or a reply says that
+ * CW_MEMORY or CW_BUSY, a line that answers CW_BAD_PARAMETER, NULL with a length, and a call while no peer is open. Where a report or a reply says that
  * memory was wanting (nomem, unsent), dds_pipe answers otherwise, if it has enough. */
 #ifndef CINCHWALNUT_RECORD_H
 #define CINCHWALNUT_RECORD_H
@@ -76,7 +76,7 @@ static inline uint8_t cw_recorded_answer(cw_recording *run, uint8_t code) {
 }
 
 static inline bool cw_recorded_is_event(const cw_recording *run, uint8_t code) {
-    return run->peer.is_open && run->to != NULL && code != CW_MEMORY;
+    return run->peer.is_open && run->to != NULL && code != CW_MEMORY && code != CW_BUSY;
 }
 
 /* Whether all lines so far were handed on. */
@@ -112,6 +112,8 @@ static inline void cw_recorded_reader(cw_recording *run, const cw_reader_config 
     fprintf(run->to, " instances=%" PRId32, it->max_instances);
     if (it->has_lease)
         fprintf(run->to, " lease=%" PRIu64, it->lease);
+    if (it->has_max_arrivals)
+        fprintf(run->to, " arrivals=%" PRIu64, it->max_arrivals);
     fputs(it->is_best_effort ? " besteffort\n" : "\n", run->to);
 }
 
@@ -164,7 +166,7 @@ static inline void cw_recorded_close(cw_recording *run) {
 
 static inline uint8_t cw_recorded_deliver(cw_recording *run, const uint8_t *datagram, size_t datagram_len) {
     uint8_t code = cw_deliver(&run->peer, datagram, datagram_len);
-    if (!cw_recorded_is_event(run, code))
+    if (!cw_recorded_is_event(run, code) || !cw_is_array(datagram, datagram_len))
         return code;
     fputs("deliver ", run->to);
     cw_recorded_octets(run, datagram, datagram_len > CW_RECORDED_DATAGRAM ? 0 : datagram_len, "\n");
@@ -215,7 +217,7 @@ static inline uint8_t cw_recorded_register(cw_recording *run, uint8_t writer, co
 
 static inline uint8_t cw_recorded_write(cw_recording *run, uint8_t writer, const uint8_t key[16], const uint8_t *value, size_t value_len) {
     uint8_t code = cw_write(&run->peer, writer, key, value, value_len);
-    if (!cw_recorded_call(run, code, "write", 'w', writer))
+    if (!cw_is_array(value, value_len) || !cw_recorded_call(run, code, "write", 'w', writer))
         return code;
     fputc(' ', run->to);
     cw_recorded_octets(run, key, 16, " ");

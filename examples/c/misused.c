@@ -15,7 +15,7 @@ static const cw_reader_config readers[] = {
      .has_max_arrivals = true, .max_arrivals = (changes)}
 static const cw_reader_config lives[] = {LIFE(0), LIFE(((uint64_t)1 << 63) + 1), LIFE((uint64_t)1 << 63)};
 
-static void say(const char *what, uint8_t code) { printf("%s: %u\n", what, code); }
+static void say(const char *what, uint8_t code) { printf("%s: %u, %s\n", what, code, cw_code_name(code)); }
 
 static uint8_t open_with(cw_peer *peer, size_t writers_len, size_t readers_len, uint8_t number) {
     return cw_open(peer, peers, 1, writers, writers_len, readers, readers_len, number);
@@ -53,8 +53,23 @@ int main(void) {
     say("no octets", cw_deliver(&peer, value, 0));
     say("a buffer that is too short", cw_text(&peer, buffer, 3, &needed));
     printf("it has to have %zu octets\n", needed);
+    say("no buffer", cw_text(&peer, NULL, 0, &needed));
+    printf("it has to have %zu octets\n", needed);
+    say("NULL, and no octets", cw_deliver(&peer, NULL, 0));
+    say("NULL, and some octets", cw_deliver(&peer, NULL, 1));
+    say("a buffer of 8 octets at NULL", cw_text(&peer, NULL, 8, &needed));
+    say("a value at NULL without octets", cw_write(&peer, 1, key, NULL, 0));
+    peer.is_busy = 1; /* as if another thread were in a call */
+    say("a write while another call is under way", cw_write(&peer, 1, key, value, 1));
+    say("a packet meanwhile", cw_packet(&peer, 0, &to, buffer, sizeof buffer, &needed));
+    printf("unsent packets meanwhile: %llu\n", (unsigned long long)cw_unsent(&peer));
+    cw_close(&peer); /* does nothing: that call would go on in what was freed */
+    peer.is_busy = 0;
+    say("a write after it", cw_write(&peer, 1, key, value, 1));
     cw_close(&peer);
     cw_close(&peer);
     say("a write once it is closed, twice", cw_write(&peer, 1, key, value, 1));
+    say("a configuration at NULL", cw_open(&peer, NULL, 0, NULL, 0, NULL, 0, 1));
+    say("a code that there isn't", 99);
     return 0;
 }

@@ -4,7 +4,6 @@
 #include <string.h>
 
 #define CHECK(c) do { if (!(c)) { printf("line %d: not %s\n", __LINE__, #c); exit(1); } } while (0)
-#define SECOND ((uint64_t)1 << 32)
 
 static const cw_peer_config peers[] = {{{1, 1, 1, 1, 1, 1, 1, 1, 1, 1, 1, 1}}, {{2, 2, 2, 2, 2, 2, 2, 2, 2, 2, 2, 2}}};
 static const cw_writer_config writers[] = {
@@ -50,7 +49,7 @@ int main(void) {
         if (i != 1)
             carry(&writer, &reader);
     }
-    CHECK(cw_recorded_tick(&writer, SECOND) == CW_OK);
+    CHECK(cw_recorded_tick(&writer, CW_SECOND) == CW_OK);
     carry(&writer, &reader); /* a HEARTBEAT */
     carry(&reader, &writer); /* an ACKNACK */
     carry(&writer, &reader); /* the repair */

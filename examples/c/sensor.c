@@ -6,7 +6,6 @@
 #include <string.h>
 
 #define CHECK(c) do { if (!(c)) { printf("line %d: not %s\n", __LINE__, #c); exit(1); } } while (0)
-#define SECOND ((uint64_t)1 << 32)
 
 static const cw_peer_config peers[] = {{{1, 1, 1, 1, 1, 1, 1, 1, 1, 1, 1, 1}}, {{2, 2, 2, 2, 2, 2, 2, 2, 2, 2, 2, 2}}};
 static const cw_writer_config writers[] = {{.peer = 1, .entity = {0, 0, 1, 2}, .max_samples = 1}};
@@ -39,7 +38,7 @@ int main(void) {
         CHECK(cw_write(&sensor, 1, key, (const uint8_t *)values[i], strlen(values[i])) == CW_OK);
         CHECK(carry(&sensor, &reader, i == 1) == 1);
     }
-    CHECK(cw_tick(&sensor, SECOND) == CW_OK);
+    CHECK(cw_tick(&sensor, CW_SECOND) == CW_OK);
     printf("HEARTBEATs at the tick: %zu\n", carry(&sensor, &reader, false));
     CHECK(cw_take(&reader, 1, -1, CW_ANY, CW_ANY, CW_ANY) == CW_OK);
     for (size_t at = 0; cw_sample(&reader, at, &info, value, sizeof value, &len) == CW_OK; at++)

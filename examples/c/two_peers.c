@@ -6,7 +6,6 @@
 #include <string.h>
 
 #define CHECK(c) do { if (!(c)) { printf("line %d: not %s\n", __LINE__, #c); exit(1); } } while (0)
-#define SECOND ((uint64_t)1 << 32)
 
 static const cw_peer_config peers[] = {{{1, 1, 1, 1, 1, 1, 1, 1, 1, 1, 1, 1}}, {{2, 2, 2, 2, 2, 2, 2, 2, 2, 2, 2, 2}}};
 static const cw_writer_config writers[] = {
@@ -59,7 +58,7 @@ int main(void) {
         carry(&writer, &reader, i == 1);
     }
     print_answer(&reader, "the reader after change 3");
-    CHECK(cw_tick(&writer, SECOND) == CW_OK);
+    CHECK(cw_tick(&writer, CW_SECOND) == CW_OK);
     carry(&writer, &reader, false); /* a HEARTBEAT */
     carry(&reader, &writer, false); /* an ACKNACK */
     carry(&writer, &reader, false); /* the repair */
