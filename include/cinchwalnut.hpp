@@ -6,7 +6,6 @@
 #include <array>
 #include <cstddef>
 #include <cstdint>
-#include <tuple>
 #include <utility>
 #include <vector>
 
@@ -33,29 +32,38 @@ struct Config {
     std::vector<cw_reader_config> readers;
 };
 
+/// A peer, and a buffer into which its fetches copy: it is made at the first fetch, and grows where that is asked for.
 class Peer {
 public:
     Peer() = default;
     Peer(const Peer &) = delete;
     Peer &operator=(const Peer &) = delete;
-    Peer(Peer &&other) noexcept : peer_(std::exchange(other.peer_, cw_peer CW_PEER_NONE)) {}
+    Peer(Peer &&other) noexcept
+        : peer_(std::exchange(other.peer_, cw_peer CW_PEER_NONE)), buffer_(std::move(other.buffer_)) {}
     Peer &operator=(Peer &&other) noexcept {
         std::swap(peer_, other.peer_);
+        std::swap(buffer_, other.buffer_);
         return *this;
     }
     ~Peer() { cw_close(&peer_); }
 
     /// Each of these answers a code, CW_OK where it was done.
     std::uint8_t open(const Config &config, std::uint8_t number) {
-        return cw_open(&peer_, start(config.peers), config.peers.size(), start(config.writers), config.writers.size(),
-                       start(config.readers), config.readers.size(), number);
+        return cw_open(&peer_, config.peers.data(), config.peers.size(), config.writers.data(), config.writers.size(),
+                       config.readers.data(), config.readers.size(), number);
+    }
+    std::uint8_t write(std::uint8_t writer, const Key &key, const std::uint8_t *value, std::size_t value_len) {
+        return cw_write(&peer_, writer, key.data(), value, value_len);
     }
     std::uint8_t write(std::uint8_t writer, const Key &key, const Octets &value) {
-        return cw_write(&peer_, writer, key.data(), start(value), value.size());
+        return write(writer, key, value.data(), value.size());
     }
     std::uint8_t dispose(std::uint8_t writer, const Key &key) { return cw_dispose(&peer_, writer, key.data()); }
     std::uint8_t unregister(std::uint8_t writer, const Key &key) { return cw_unregister(&peer_, writer, key.data()); }
-    std::uint8_t deliver(const Octets &datagram) { return cw_deliver(&peer_, start(datagram), datagram.size()); }
+    std::uint8_t deliver(const std::uint8_t *datagram, std::size_t datagram_len) {
+        return cw_deliver(&peer_, datagram, datagram_len);
+    }
+    std::uint8_t deliver(const Octets &datagram) { return deliver(datagram.data(), datagram.size()); }
     std::uint8_t tick(std::uint64_t now) { return cw_tick(&peer_, now); }
     std::uint8_t read(std::uint8_t reader, std::int32_t max = -1) {
         return cw_read(&peer_, reader, max, CW_ANY, CW_ANY, CW_ANY);
@@ -67,46 +75,62 @@ public:
     /// For all other calls of cinchwalnut.h.
     cw_peer *get() { return &peer_; }
 
-    /// The packets of the last answer.
-    std::vector<Packet> packets() {
-        return each<Packet>([this](std::size_t at, Packet &packet, Octets &buffer, std::size_t &needed) {
-            return std::pair{cw_packet(&peer_, at, &packet.to, buffer.data(), buffer.size(), &needed), &packet.octets};
+    /// Hands each packet of the last answer to f(to, octets, len), without a copy: the octets stand there until f returns, and
+    /// f makes no call of this peer.
+    template <class F> void for_each_packet(F &&f) {
+        std::uint8_t to = 0;
+        each([&](std::size_t at, std::size_t &needed) {
+            return cw_packet(&peer_, at, &to, buffer_.data(), buffer_.size(), &needed);
+        }, [&](std::size_t len) { f(to, static_cast<const std::uint8_t *>(buffer_.data()), len); });
+    }
+
+    /// Hands each sample of the last answer to f(info, value, len), likewise.
+    template <class F> void for_each_sample(F &&f) {
+        cw_sample_info info{};
+        each([&](std::size_t at, std::size_t &needed) {
+            return cw_sample(&peer_, at, &info, buffer_.data(), buffer_.size(), &needed);
+        }, [&](std::size_t len) {
+            f(static_cast<const cw_sample_info &>(info), static_cast<const std::uint8_t *>(buffer_.data()), len);
         });
     }
 
-    /// The samples of the last answer.
-    std::vector<Sample> samples() {
-        return each<Sample>([this](std::size_t at, Sample &sample, Octets &buffer, std::size_t &needed) {
-            return std::pair{cw_sample(&peer_, at, &sample.info, buffer.data(), buffer.size(), &needed), &sample.value};
+    /// The packets of the last answer, copied.
+    std::vector<Packet> packets() {
+        std::vector<Packet> got;
+        for_each_packet([&](std::uint8_t to, const std::uint8_t *octets, std::size_t len) {
+            got.push_back({to, Octets(octets, octets + len)});
         });
+        return got;
+    }
+
+    /// The samples of the last answer, copied.
+    std::vector<Sample> samples() {
+        std::vector<Sample> got;
+        for_each_sample([&](const cw_sample_info &info, const std::uint8_t *value, std::size_t len) {
+            got.push_back({info, Octets(value, value + len)});
+        });
+        return got;
     }
 
 private:
-    // A pointer that is never null, also where there is nothing.
-    template <class T> static const T *start(const std::vector<T> &all) {
-        static const T none{};
-        return all.empty() ? &none : all.data();
-    }
-
-    template <class T, class Fetch> static std::vector<T> each(Fetch fetch) {
-        std::vector<T> got;
-        Octets buffer(1 << 16);
+    template <class Fetch, class Give> void each(Fetch fetch, Give give) {
+        if (buffer_.empty())
+            buffer_.resize(std::size_t{1} << 16);
         for (std::size_t at = 0;; at++) {
-            T item{};
             std::size_t needed = 0;
-            auto [code, into] = fetch(at, item, buffer, needed);
+            std::uint8_t code = fetch(at, needed);
             if (code == CW_OUT_OF_RESOURCES) {
-                buffer.resize(needed);
-                std::tie(code, into) = fetch(at, item, buffer, needed);
+                buffer_.resize(needed);
+                code = fetch(at, needed);
             }
             if (code != CW_OK)
-                return got;
-            into->assign(buffer.begin(), buffer.begin() + static_cast<std::ptrdiff_t>(needed));
-            got.push_back(std::move(item));
+                return;
+            give(needed);
         }
     }
 
     cw_peer peer_ = CW_PEER_NONE;
+    Octets buffer_;
 };
 
 } // namespace cinchwalnut
