@@ -16,7 +16,7 @@ import struct
 import sys
 import time
 
-sys.path.append(str(pathlib.Path(__file__).resolve().parent.parent / "c"))
+sys.path.append(str(pathlib.Path(__file__).resolve().parents[2] / "python"))
 import messages as m
 from cinchwalnut import Peer, SampleInfo, reader, writer
 from discovery import Discovery, Place, Topic

@@ -1,0 +1,70 @@
+"""What a program in Python does wrong, and what is raised. Where something is raised nothing has changed."""
+from typing import Any, Callable
+
+from cinchwalnut import ANY, EntityKind, Peer, Refused, Status, reader, writer
+
+PREFIXES, KEY = [bytes([1] * 12), bytes([2] * 12)], bytes([7] * 16)
+WRITERS, READERS = [writer(peer=1, key=1)], [reader(peer=2, key=1)]
+
+
+def said(what: str, call: Callable[[], Any]) -> None:
+    try:
+        print(f"{what}: {call()}")
+    except (Refused, ValueError, TypeError) as raised:
+        print(f"{what}: {type(raised).__name__}, {raised}")
+
+
+def opened(prefixes=PREFIXES, writers=WRITERS, readers=READERS, number=1) -> str:
+    with Peer(prefixes, writers, readers, number):
+        return "it opens"
+
+
+def named(end, **fields) -> str:
+    for name, value in fields.items():
+        setattr(end, name, value)
+    return "it is taken"
+
+
+said("a configuration", opened)
+said("a prefix of 11 octets", lambda: opened(prefixes=[bytes(11)]))
+said("a prefix of zeros", lambda: opened(prefixes=[bytes(12)]))
+said("peer 3 of two", lambda: opened(number=3))
+said("peer 257", lambda: opened(number=257))
+said("a writer of peer 256", lambda: writer(peer=256, key=1))
+said("a key of 25 bits", lambda: writer(peer=1, key=1 << 24))
+said("a depth of 2^32", lambda: named(writer(1, 1), depth=1 << 32))
+said("a depth of -1", lambda: named(reader(1, 1), depth=-1))
+said("max_samples of 2^31", lambda: named(reader(1, 1), max_samples=1 << 31))
+said("an entity of 3 octets", lambda: named(reader(1, 1), entity=bytes(3)))
+said("a policy that is no truth", lambda: named(writer(1, 1), is_exclusive=2))
+said("a depth of 0", lambda: opened(readers=[reader(peer=2, key=1, keeps_last=True)]))
+said("a text that is none", lambda: Peer.from_text("nonsense", 1))
+with Peer(PREFIXES, WRITERS, READERS, 1) as first, Peer(PREFIXES, WRITERS, READERS, 2) as second:
+    said("a write", lambda: [(to, len(packet)) for to, packet in first.write(1, KEY, b"a value")])
+    said("writer 2 of one", lambda: first.write(2, KEY, b""))
+    said("writer 257, which is not 1", lambda: first.write(257, KEY, b""))
+    said("a key of 15 octets", lambda: first.write(1, bytes(15), b""))
+    said("a value that is text", lambda: first.write(1, KEY, "text"))
+    said("a value of 1,025 octets", lambda: first.write(1, KEY, bytes(1025)))
+    said("a strength of 2^31", lambda: first.set_strength(1, 1 << 31))
+    said("a moment", lambda: len(first.tick(5)))
+    said("an earlier one", lambda: first.tick(4))
+    said("a moment of -1", lambda: first.tick(-1))
+    said("a line", lambda: second.line("call lost r1"))
+    said("a line that is none", lambda: second.line("call lost r1 again"))
+    said("a line of a reader that there isn't", lambda: second.line("call lost r2"))
+    said("what the last event answered", second.text)
+    said("a mask of 2^32", lambda: second.take(1, views=1 << 32))
+    said("nothing to take", lambda: second.take(1))
+    said("nothing to take, in a line", lambda: second.line("call take r1"))
+    said("an instance that is not known", lambda: second.lookup_instance(1, KEY))
+    said("its key", lambda: second.get_key_value(1, 1))
+    said("a packet that there isn't", lambda: second.packet(0))
+    said("a handle of an answer that has none", second.handle)
+    said("a recorder of an entity that there isn't", lambda: second.set_recorder(EntityKind.READER, 2, Status.SAMPLE_LOST, 1))
+    said("a recorder", lambda: second.set_recorder(EntityKind.READER, 1, ANY, 4))
+    second.close()
+    said("a call once it is closed", lambda: second.take(1))
+    said("a fetch then", second.packets)
+    said("its packets that found no memory", second.unsent)
+    second.close()

@@ -1,0 +1,80 @@
+"""libcinchwalnut.so: where it is, and its calls. It is looked for where the environment says, CINCHWALNUT; beside this file;
+and where the loader looks."""
+from __future__ import annotations
+
+import ctypes as c
+import ctypes.util
+import os
+import pathlib
+
+BESIDE = pathlib.Path(__file__).resolve().parent / "libcinchwalnut.so"
+
+
+class CPeer(c.Structure):
+    _fields_ = [("is_open", c.c_bool), ("held", c.c_void_p)]
+
+
+class CPeerConfig(c.Structure):
+    _fields_ = [("prefix", c.c_uint8 * 12)]
+
+
+class CWriterConfig(c.Structure):
+    _fields_ = [
+        *[("peer", c.c_uint8), ("entity", c.c_uint8 * 4)],
+        *[(name, c.c_bool) for name in ("is_exclusive", "keeps_last", "has_lease", "autodispose")],
+        *[("topic", c.c_uint32), ("depth", c.c_uint32), ("max_samples", c.c_int32), ("strength", c.c_int32)],
+        ("lease", c.c_uint64),
+    ]
+
+
+class CReaderConfig(c.Structure):
+    _fields_ = [
+        *[("peer", c.c_uint8), ("entity", c.c_uint8 * 4)],
+        *[(name, c.c_bool) for name in ("is_exclusive", "keeps_last", "has_lease", "is_best_effort", "has_max_arrivals")],
+        *[("topic", c.c_uint32), ("depth", c.c_uint32), ("max_samples", c.c_int32), ("max_instances", c.c_int32)],
+        *[("lease", c.c_uint64), ("max_arrivals", c.c_uint64)],
+    ]
+
+
+# A pointer to octets that are read, and the address of memory that is written to.
+_OCTETS, _INTO, _SIZE = c.c_char_p, c.c_void_p, c.c_size_t
+_U8, _U32, _U64, _I32 = c.c_uint8, c.c_uint32, c.c_uint64, c.c_int32
+_ARRAYS = [it for kind in (CPeerConfig, CWriterConfig, CReaderConfig) for it in (c.POINTER(kind), _SIZE)]
+_MASKS = [_U32, _U32, _U32]
+# Each has the peer before these.
+_ARGUMENTS = {
+    **{"open": [*_ARRAYS, _U8], "open_text": [_OCTETS, _SIZE, _U8], "close": []},
+    **{"deliver": [_OCTETS, _SIZE], "tick": [_U64], "line": [_OCTETS, _SIZE]},
+    **{it: [_U8, _OCTETS] for it in ("register", "dispose", "unregister", "lookup_instance")},
+    **{"write": [_U8, _OCTETS, _OCTETS, _SIZE], "set_strength": [_U8, _I32], "get_key_value": [_U8, _U64]},
+    **{it: [_U8] for it in ("assert_liveliness", "get_liveliness_lost_status", "get_sample_lost_status")},
+    **{it: [_U8] for it in ("get_liveliness_changed_status", "read_next_sample", "take_next_sample")},
+    **{f"{it}": [_U8, _I32, *_MASKS] for it in ("read", "take")},
+    **{f"{it}_instance": [_U8, _I32, _U64, *_MASKS] for it in ("read", "take", "read_next", "take_next")},
+    **{f"{it}_w_condition": [_U8, _I32, _U32] for it in ("read", "take")},
+    **{f"{it}_next_instance_w_condition": [_U8, _I32, _U64, _U32] for it in ("read", "take")},
+    **{"add_filter": [_OCTETS, _SIZE, _INTO], "set_recorder": [_U8, _U8, _U32, _SIZE], "clear_recorder": [_U8, _U8]},
+    **{it: [_SIZE, _INTO, _INTO, _SIZE, _INTO] for it in ("packet", "sample")},
+    **{it: [_INTO] for it in ("key", "handle", "number", "total", "changed")},
+    **{"notice": [_SIZE, _INTO], "text": [_INTO, _SIZE, _INTO], "unsent": []},
+}
+
+
+def _load() -> c.PyDLL:
+    """The library, as one whose calls hold the interpreter's lock: so no two threads are in a peer at once."""
+    said = os.environ.get("CINCHWALNUT")
+    name = said or (str(BESIDE) if BESIDE.exists() else ctypes.util.find_library("cinchwalnut"))
+    if not name:
+        raise ImportError(f"there is no libcinchwalnut.so: not at {BESIDE}, nor where the loader looks, and CINCHWALNUT says none; tools/library builds it")
+    try:
+        library = c.PyDLL(name)
+    except OSError as error:
+        raise ImportError(f"libcinchwalnut.so does not load: {error}") from error
+    for call, arguments in _ARGUMENTS.items():
+        function = getattr(library, f"cw_{call}")
+        function.argtypes = [c.POINTER(CPeer), *arguments]
+        function.restype = {"close": None, "unsent": _U64}.get(call, _U8)
+    return library
+
+
+LIBRARY = _load()

@@ -1,0 +1,463 @@
+"""A peer: its events, and what they give back."""
+from __future__ import annotations
+
+import ctypes as c
+import struct
+import threading
+from typing import Any, Callable, List, NamedTuple, Optional, Sequence, Tuple, Type, TypeVar
+
+from . import _library
+from ._checks import Octets, i32, key_of, octets, octets_of, u8, u32, u64
+from ._codes import ANY, Code, EntityKind, InstanceState, PreconditionNotMet, SampleState, Status, ViewState, refused
+from ._config import ReaderConfig, WriterConfig
+
+_LIBRARY = _library.LIBRARY
+SECOND = 1 << 32
+_BUFFER = 1 << 16
+_NO_DATA, _OUT_OF_RESOURCES = int(Code.NO_DATA), int(Code.OUT_OF_RESOURCES)
+_Peer, _Item = TypeVar("_Peer", bound="Peer"), TypeVar("_Item")
+
+
+def ms(milliseconds: float) -> int:
+    """Milliseconds in units of 2^-32 second, as ticks and leases have them."""
+    return int(milliseconds * SECOND / 1000)
+
+
+class SampleInfo(NamedTuple):
+    """DDS 1.4, 2.2.2.5 (SampleInfo), with the key of the sample; the timestamp is in units of 2^-32 second."""
+
+    key: bytes
+    source_timestamp: int
+    instance_handle: int
+    publication_handle: int
+    disposed_generation_count: int
+    no_writers_generation_count: int
+    sample_rank: int
+    generation_rank: int
+    absolute_generation_rank: int
+    sample_state: SampleState
+    view_state: ViewState
+    instance_state: InstanceState
+    valid_data: bool
+
+
+class TotalStatus(NamedTuple):
+    """SAMPLE_LOST, LIVELINESS_LOST."""
+
+    total_count: int
+    total_count_change: int
+
+
+class ChangedStatus(NamedTuple):
+    """LIVELINESS_CHANGED; the handle is 0 for none."""
+
+    alive_count: int
+    not_alive_count: int
+    alive_count_change: int
+    not_alive_count_change: int
+    last_publication_handle: int
+
+
+class NoticeInfo(NamedTuple):
+    """That a status of an entity was raised, with its values; those that it does not have are 0."""
+
+    entity_kind: EntityKind
+    entity_number: int
+    status: Status
+    total: TotalStatus
+    changed: ChangedStatus
+
+
+Packet = Tuple[int, bytes]  # the number of the peer that it is for, and its octets
+Sample = Tuple[SampleInfo, bytes]
+
+# As the structs of the header lie in memory.
+_INFO, _NOTICE = struct.Struct("=16s8Q3I?3x"), struct.Struct("=BB2xI2Q4iQ")
+_TOTAL, _CHANGED = struct.Struct("=2Q"), struct.Struct("=4iQ")
+_NUMBER, _HANDLE, _KEY = struct.Struct("=I"), struct.Struct("=Q"), struct.Struct("=16s")
+_SAMPLE_STATES = {int(it): it for it in SampleState}
+_VIEW_STATES = {int(it): it for it in ViewState}
+_INSTANCE_STATES = {int(it): it for it in InstanceState}
+
+
+def _array(kind: Type[Any], items: Sequence[Any]) -> Tuple[Any, int]:
+    """An array, which has an element also where there are none: no pointer is ever null."""
+    return (kind * max(len(items), 1))(*items), len(items)
+
+
+def _struct_of(kind: Type[Any], end: Any) -> Any:
+    fields = {name: getattr(end, name) for name, _ in kind._fields_}
+    return kind(**{**fields, "entity": tuple(end.entity)})
+
+
+class Peer:
+    """A peer of a configuration: the prefixes of its peers, its writers and its readers, and its own number.
+
+    Each event returns what it sends: the packets, each with the number of the peer that it is for. A call that is refused
+    raises `Refused`, by its code. Threads may share a peer: an event and the fetch of what it gave back are one."""
+
+    def __init__(self, prefixes: Sequence[Octets], writers: Sequence[WriterConfig], readers: Sequence[ReaderConfig], number: int):
+        self._begin()
+        peers = [_library.CPeerConfig(prefix=tuple(octets_of(12, it, "a prefix"))) for it in prefixes]
+        lists = [
+            _array(_library.CPeerConfig, peers),
+            _array(_library.CWriterConfig, [_struct_of(_library.CWriterConfig, it) for it in writers]),
+            _array(_library.CReaderConfig, [_struct_of(_library.CReaderConfig, it) for it in readers]),
+        ]
+        self._done(_LIBRARY.cw_open(self._at, *[it for one in lists for it in one], u8(number, "number")))
+
+    @classmethod
+    def from_text(cls: Type[_Peer], text: str, number: int) -> _Peer:
+        """A peer of a configuration in lines of docs/PIPE.md: "peer ..", "writer ..", "reader .."."""
+        self = cls.__new__(cls)
+        self._begin()
+        said = text.encode()
+        self._done(_LIBRARY.cw_open_text(self._at, said, len(said), u8(number, "number")))
+        return self
+
+    def _begin(self) -> None:
+        self._lock, self._peer = threading.RLock(), _library.CPeer(False, None)
+        self._at = c.byref(self._peer)
+        self._make_buffer(_BUFFER)
+        self._needed, self._to, self._value = c.c_size_t(0), c.c_uint8(0), c.create_string_buffer(_INFO.size)
+        self._value_at, self._to_at, self._needed_at = c.addressof(self._value), c.addressof(self._to), c.addressof(self._needed)
+
+    def close(self) -> None:
+        """Frees what the peer holds; each call then raises PreconditionNotMet. Once more, it does nothing."""
+        with self._lock:
+            _LIBRARY.cw_close(self._at)
+
+    def __enter__(self: _Peer) -> _Peer:
+        return self
+
+    def __exit__(self, *_: object) -> None:
+        self.close()
+
+    def __del__(self) -> None:
+        if hasattr(self, "_needed_at"):
+            self.close()
+
+    @property
+    def is_open(self) -> bool:
+        return bool(self._peer.is_open)
+
+    def _done(self, code: int) -> None:
+        if code:
+            raise refused(code)
+
+    def _happens(self, line: Callable[[], str], call: Any, *arguments: Any) -> int:
+        """The code of an event, by its call. What it is in a line of docs/PIPE.md is asked for where it is recorded."""
+        return call(self._at, *arguments)
+
+    def _event(self, line: Callable[[], str], call: Any, *arguments: Any) -> None:
+        if code := self._happens(line, call, *arguments):
+            raise self._refused(code)
+
+    def _refused(self, code: int) -> Exception:
+        if code == Code.PRECONDITION_NOT_MET and not self.is_open:
+            return PreconditionNotMet(code, "the peer is closed")
+        return refused(code)
+
+    def _sent(self, line: Callable[[], str], call: Any, *arguments: Any) -> List[Packet]:
+        with self._lock:
+            if code := self._happens(line, call, *arguments):
+                raise self._refused(code)
+            return self._each(self._packet)
+
+    # Events: a datagram comes, the time goes on.
+
+    def deliver(self, datagram: Octets) -> List[Packet]:
+        came = octets(datagram, "a datagram")
+        return self._sent(lambda: f"deliver {came.hex() if 0 < len(came) < 1 << 16 else '-'}", _LIBRARY.cw_deliver, came, len(came))
+
+    def tick(self, now: int) -> List[Packet]:
+        """The time goes on to this moment, in units of 2^-32 second."""
+        u64(now, "now")
+        return self._sent(lambda: f"tick {now}", _LIBRARY.cw_tick, now)
+
+    # Calls of a writer, by its number.
+
+    def _keyed(self, word: str, call: Any, number: int, key: Octets) -> List[Packet]:
+        u8(number, "number")
+        said = key_of(key)
+        return self._sent(lambda: f"call {word} w{number} {said.hex()}", call, number, said)
+
+    def register(self, number: int, key: Octets) -> List[Packet]:
+        return self._keyed("register", _LIBRARY.cw_register, number, key)
+
+    def write(self, number: int, key: Octets, value: Octets) -> List[Packet]:
+        u8(number, "number")
+        of, said = key_of(key), octets(value, "a value")
+        return self._sent(lambda: f"call write w{number} {of.hex()} {said[:1025].hex() or '-'}", _LIBRARY.cw_write, number, of, said, len(said))
+
+    def dispose(self, number: int, key: Octets) -> List[Packet]:
+        return self._keyed("dispose", _LIBRARY.cw_dispose, number, key)
+
+    def unregister(self, number: int, key: Octets) -> List[Packet]:
+        return self._keyed("unregister", _LIBRARY.cw_unregister, number, key)
+
+    def assert_liveliness(self, number: int) -> List[Packet]:
+        u8(number, "number")
+        return self._sent(lambda: f"call assert w{number}", _LIBRARY.cw_assert_liveliness, number)
+
+    def set_strength(self, number: int, strength: int) -> List[Packet]:
+        u8(number, "number"), i32(strength, "strength")
+        return self._sent(lambda: f"call strength w{number} {strength}", _LIBRARY.cw_set_strength, number, strength)
+
+    def get_liveliness_lost_status(self, number: int) -> TotalStatus:
+        u8(number, "number")
+        with self._lock:
+            self._event(lambda: f"call livelost w{number}", _LIBRARY.cw_get_liveliness_lost_status, number)
+            return self.total()
+
+    # Calls of a reader, by its number. `most` is how many samples at most, -1 for all; the masks are sums of states, or ANY.
+    # Where there is no sample, the list is empty.
+
+    def _accessed(self, line: Callable[[], str], call: Any, *arguments: Any) -> List[Sample]:
+        with self._lock:
+            code = self._happens(line, call, *arguments)
+            if code not in (0, _NO_DATA):
+                raise self._refused(code)
+            return [] if code else self._each(self._sample)
+
+    def _by_masks(self, word: str, number: int, most: int, handle: Optional[int], samples: int, views: int, instances: int) -> List[Sample]:
+        u8(number, "number"), i32(most, "most")
+        masks = u32(samples, "samples"), u32(views, "views"), u32(instances, "instances")
+        of = () if handle is None else (u64(handle, "handle"),)
+        call = getattr(_LIBRARY, f"cw_{word}")
+        return self._accessed(lambda: _line(word, number, of, most, *masks), call, number, most, *of, *masks)
+
+    def read(self, number: int, most: int = -1, samples: int = ANY, views: int = ANY, instances: int = ANY) -> List[Sample]:
+        return self._by_masks("read", number, most, None, samples, views, instances)
+
+    def take(self, number: int, most: int = -1, samples: int = ANY, views: int = ANY, instances: int = ANY) -> List[Sample]:
+        return self._by_masks("take", number, most, None, samples, views, instances)
+
+    def read_instance(self, number: int, handle: int, most: int = -1, samples: int = ANY, views: int = ANY, instances: int = ANY) -> List[Sample]:
+        return self._by_masks("read_instance", number, most, handle, samples, views, instances)
+
+    def take_instance(self, number: int, handle: int, most: int = -1, samples: int = ANY, views: int = ANY, instances: int = ANY) -> List[Sample]:
+        return self._by_masks("take_instance", number, most, handle, samples, views, instances)
+
+    def read_next_instance(self, number: int, previous: int, most: int = -1, samples: int = ANY, views: int = ANY, instances: int = ANY) -> List[Sample]:
+        return self._by_masks("read_next_instance", number, most, previous, samples, views, instances)
+
+    def take_next_instance(self, number: int, previous: int, most: int = -1, samples: int = ANY, views: int = ANY, instances: int = ANY) -> List[Sample]:
+        return self._by_masks("take_next_instance", number, most, previous, samples, views, instances)
+
+    def _next_sample(self, word: str, number: int) -> List[Sample]:
+        u8(number, "number")
+        return self._accessed(lambda: f"call {word} r{number}", getattr(_LIBRARY, f"cw_{word}"), number)
+
+    def read_next_sample(self, number: int) -> List[Sample]:
+        return self._next_sample("read_next_sample", number)
+
+    def take_next_sample(self, number: int) -> List[Sample]:
+        return self._next_sample("take_next_sample", number)
+
+    def _by_condition(self, word: str, number: int, most: int, previous: Optional[int], condition: int) -> List[Sample]:
+        u8(number, "number"), i32(most, "most"), u32(condition, "condition")
+        of = () if previous is None else (u64(previous, "previous"),)
+        call = getattr(_LIBRARY, f"cw_{word}_condition")
+        return self._accessed(lambda: _line(word, number, of, most, condition), call, number, most, *of, condition)
+
+    def read_w_condition(self, number: int, condition: int, most: int = -1) -> List[Sample]:
+        return self._by_condition("read_w", number, most, None, condition)
+
+    def take_w_condition(self, number: int, condition: int, most: int = -1) -> List[Sample]:
+        return self._by_condition("take_w", number, most, None, condition)
+
+    def read_next_instance_w_condition(self, number: int, previous: int, condition: int, most: int = -1) -> List[Sample]:
+        return self._by_condition("read_next_instance_w", number, most, previous, condition)
+
+    def take_next_instance_w_condition(self, number: int, previous: int, condition: int, most: int = -1) -> List[Sample]:
+        return self._by_condition("take_next_instance_w", number, most, previous, condition)
+
+    def get_key_value(self, number: int, handle: int) -> bytes:
+        u8(number, "number"), u64(handle, "handle")
+        with self._lock:
+            self._event(lambda: f"call key r{number} {_handle_in_line(handle)}", _LIBRARY.cw_get_key_value, number, handle)
+            return self.key()
+
+    def lookup_instance(self, number: int, key: Octets) -> int:
+        """The handle of the instance, 0 where it is not known."""
+        u8(number, "number")
+        said = key_of(key)
+        with self._lock:
+            self._event(lambda: f"call lookup r{number} {said.hex()}", _LIBRARY.cw_lookup_instance, number, said)
+            return self.handle()
+
+    def get_sample_lost_status(self, number: int) -> TotalStatus:
+        u8(number, "number")
+        with self._lock:
+            self._event(lambda: f"call lost r{number}", _LIBRARY.cw_get_sample_lost_status, number)
+            return self.total()
+
+    def get_liveliness_changed_status(self, number: int) -> ChangedStatus:
+        u8(number, "number")
+        with self._lock:
+            self._event(lambda: f"call changed r{number}", _LIBRARY.cw_get_liveliness_changed_status, number)
+            return self.changed()
+
+    # Any event in a line, filters and recorders.
+
+    def line(self, line: str) -> str:
+        """Any event in a line of docs/PIPE.md, and its reply in words; `packets` has what it sends. It raises where the line
+        names none, or the event is refused."""
+        said = line.encode()
+        with self._lock:
+            self._event(lambda: line, _LIBRARY.cw_line, said, len(said))
+            return self.text()
+
+    def add_filter(self, begins: Octets) -> int:
+        """A filter, which values pass that begin with these octets, by its number."""
+        said = octets(begins, "a filter")
+        with self._lock:
+            return self._there(self._fetched(_NUMBER, _LIBRARY.cw_add_filter, said, len(said)))[0]
+
+    def set_recorder(self, kind: int, number: int, mask: int, room: int) -> List[NoticeInfo]:
+        """Has an entity record the statuses of this mask, the last ones, as many as there is room for; what the recorder
+        before it kept is handed back."""
+        u8(kind, "kind"), u8(number, "number"), u32(mask, "mask"), u64(room, "room")
+        with self._lock:
+            if code := _LIBRARY.cw_set_recorder(self._at, kind, number, mask, room):
+                raise self._refused(code)
+            return self.notices()
+
+    def clear_recorder(self, kind: int, number: int) -> List[NoticeInfo]:
+        """Has it record none; what was kept is handed back."""
+        u8(kind, "kind"), u8(number, "number")
+        with self._lock:
+            if code := _LIBRARY.cw_clear_recorder(self._at, kind, number):
+                raise self._refused(code)
+            return self.notices()
+
+    # Fetches of the last answer, which change nothing.
+
+    def packets(self) -> List[Packet]:
+        """What the last event sends."""
+        return self._each(self._packet)
+
+    def packet(self, at: int) -> Packet:
+        """One of these, from 0; NoData where there is none."""
+        return self._one(self._packet, at)
+
+    def _packet(self, at: int) -> Optional[Packet]:
+        said = self._copied(_LIBRARY.cw_packet, at, self._to_at)
+        return None if said is None else (self._to.value, said)
+
+    def samples(self) -> List[Sample]:
+        """What the last read or take gave."""
+        return self._each(self._sample)
+
+    def sample(self, at: int) -> Sample:
+        """One of these, from 0; NoData where there is none."""
+        return self._one(self._sample, at)
+
+    def _sample(self, at: int) -> Optional[Sample]:
+        value = self._copied(_LIBRARY.cw_sample, at, self._value_at)
+        if value is None:
+            return None
+        *plain, sample, view, instance, valid = _INFO.unpack_from(self._value)
+        return SampleInfo(*plain, _SAMPLE_STATES[sample], _VIEW_STATES[view], _INSTANCE_STATES[instance], valid), value
+
+    def notices(self) -> List[NoticeInfo]:
+        """What the recorder kept that was set anew or cleared last, the oldest first."""
+        return self._each(self._notice)
+
+    def notice(self, at: int) -> NoticeInfo:
+        """One of these, from 0; NoData where there is none."""
+        return self._one(self._notice, at)
+
+    def _notice(self, at: int) -> Optional[NoticeInfo]:
+        found = self._fetched(_NOTICE, _LIBRARY.cw_notice, at)
+        if found is None:
+            return None
+        kind, number, status, *values = found
+        return NoticeInfo(EntityKind(kind), number, Status(status), TotalStatus(*values[:2]), ChangedStatus(*values[2:]))
+
+    def key(self) -> bytes:
+        """Of get_key_value."""
+        return self._there(self._fetched(_KEY, _LIBRARY.cw_key))[0]
+
+    def handle(self) -> int:
+        """Of lookup_instance."""
+        return self._there(self._fetched(_HANDLE, _LIBRARY.cw_handle))[0]
+
+    def number(self) -> int:
+        """Of what a line made: a condition, a WaitSet."""
+        return self._there(self._fetched(_NUMBER, _LIBRARY.cw_number))[0]
+
+    def total(self) -> TotalStatus:
+        """Of a look at SAMPLE_LOST or LIVELINESS_LOST."""
+        return TotalStatus(*self._there(self._fetched(_TOTAL, _LIBRARY.cw_total)))
+
+    def changed(self) -> ChangedStatus:
+        """Of a look at LIVELINESS_CHANGED."""
+        return ChangedStatus(*self._there(self._fetched(_CHANGED, _LIBRARY.cw_changed)))
+
+    def unsent(self) -> int:
+        """How many packets found no memory, as if they were lost."""
+        with self._lock:
+            if not self._peer.is_open:
+                raise self._refused(Code.PRECONDITION_NOT_MET)
+            return _LIBRARY.cw_unsent(self._at)
+
+    def text(self) -> str:
+        """The reply in words, as docs/PIPE.md has them."""
+        with self._lock:
+            return self._there(self._copied(_LIBRARY.cw_text)).decode().rstrip("\n")
+
+    def _each(self, fetch: Callable[[int], Optional[_Item]]) -> List[_Item]:
+        got: List[_Item] = []
+        with self._lock:
+            while True:
+                item = fetch(len(got))
+                if item is None:
+                    return got
+                got.append(item)
+
+    def _one(self, fetch: Callable[[int], Optional[_Item]], at: int) -> _Item:
+        with self._lock:
+            return self._there(fetch(u64(at, "at")))
+
+    @staticmethod
+    def _there(item: Optional[_Item]) -> _Item:
+        if item is None:
+            raise refused(Code.NO_DATA)
+        return item
+
+    def _copied(self, fetch: Any, *arguments: Any) -> Optional[bytes]:
+        """The octets that a fetch copies into the buffer, which grows where it is too short; none where there are none."""
+        code = fetch(self._at, *arguments, self._buffer_at, self._room, self._needed_at)
+        if code == 0:
+            return c.string_at(self._buffer_at, self._needed.value)
+        if code == _NO_DATA:
+            return None
+        if code != _OUT_OF_RESOURCES:
+            raise self._refused(code)
+        self._make_buffer(self._needed.value)
+        return self._copied(fetch, *arguments)
+
+    def _fetched(self, shape: struct.Struct, fetch: Any, *arguments: Any) -> Optional[Tuple[Any, ...]]:
+        """A value that a fetch writes; none where there is none."""
+        with self._lock:
+            code = fetch(self._at, *arguments, self._value_at)
+            if code == 0:
+                return shape.unpack_from(self._value)
+            if code == _NO_DATA:
+                return None
+            raise self._refused(code)
+
+    def _make_buffer(self, room: int) -> None:
+        self._buffer, self._room = c.create_string_buffer(room), room
+        self._buffer_at = c.addressof(self._buffer)
+
+
+def _handle_in_line(handle: int) -> int:
+    """A handle in a line has 32 bits; no instance is known by a greater one."""
+    return min(handle, (1 << 32) - 1)
+
+
+def _line(word: str, number: int, handles: Sequence[int], *numbers: int) -> str:
+    return f"call {word} r{number} {' '.join(str(int(it)) for it in (*map(_handle_in_line, handles), *numbers))}"
