@@ -191,6 +191,55 @@ uint8_t cw_open_text(cw_peer *peer, const uint8_t *text, size_t text_len, uint8_
 /* Frees what the peer holds: none is open then. Where none was, or another call is under way, it does nothing. */
 void cw_close(cw_peer *peer);
 
+/* Why a configuration is refused: the code, the rule that it breaks and what breaks it. */
+typedef struct cw_fault {
+    uint8_t code;    /* what cw_open answers */
+    uint8_t rule;    /* one of CW_RULE_.. */
+    uint8_t place;   /* one of CW_PLACE_.. */
+    uint64_t peer;   /* its number, 0 for none */
+    uint64_t number; /* that of the writer or the reader, 0 for none */
+} cw_fault;
+
+enum {
+    CW_PLACE_WHOLE = 0,
+    CW_PLACE_PEER = 1,
+    CW_PLACE_WRITER = 2,
+    CW_PLACE_READER = 3
+};
+
+enum {
+    CW_RULE_NAMED_PEER = 0,            /* a writer or a reader names a peer that there is */
+    CW_RULE_PEER_COUNT = 1,            /* there are 1 to 16 peers */
+    CW_RULE_WRITER_COUNT = 2,          /* a peer has at most 16 writers */
+    CW_RULE_READER_COUNT = 3,          /* a peer has at most 16 readers */
+    CW_RULE_KNOWN_PREFIX = 4,          /* a prefix is not twelve zeros */
+    CW_RULE_OWN_PREFIX = 5,            /* no two peers have one prefix */
+    CW_RULE_OWN_ENTITY = 6,            /* no two ends of a peer have one entity */
+    CW_RULE_ENTITY_KIND = 7,           /* a writer's entity ends with 0x02, a reader's with 0x07 */
+    CW_RULE_DEPTH = 8,                 /* a depth is not 0 */
+    CW_RULE_MAX_SAMPLES = 9,           /* max_samples is -1 or positive */
+    CW_RULE_MAX_INSTANCES = 10,        /* max_instances is -1 or positive */
+    CW_RULE_MAX_ARRIVALS = 11,         /* max_arrivals is from 1 to 2^63 */
+    CW_RULE_LEASE = 12,                /* a lease is from 1 to 2^63 - 1 */
+    CW_RULE_DEPTH_WITHIN_MAXIMUM = 13, /* a depth is at most max_samples */
+    CW_RULE_SAME_OWNERSHIP = 14,       /* each matched writer has the reader's ownership */
+    CW_RULE_OFFERED_LEASE = 15         /* no matched writer has a longer lease than the reader asks for */
+};
+
+/* Which rule a configuration breaks first, and where, and a sentence that says it, such as "reader 1 of peer 2: its depth is
+ * 0": copied as a fetch copies it, *fault also where the buffer is too short. CW_NO_DATA where it breaks none. */
+uint8_t cw_config_fault(const cw_peer_config *peers, size_t peers_len, const cw_writer_config *writers,
+                        size_t writers_len, const cw_reader_config *readers, size_t readers_len, cw_fault *fault,
+                        uint8_t *buffer, size_t buffer_len, size_t *needed);
+/* Why cw_open_text refuses a text, whichever peer is asked for, and why cw_line takes a line for none: in words, likewise.
+ * CW_NO_DATA where it is one. */
+uint8_t cw_text_fault(const uint8_t *text, size_t text_len, uint8_t *buffer, size_t buffer_len, size_t *needed);
+uint8_t cw_line_fault(const uint8_t *line, size_t line_len, uint8_t *buffer, size_t buffer_len, size_t *needed);
+/* The sum of a configuration, equal of equal ones: for processes to compare before their peers talk, as no call fails where
+ * their tables differ. CW_BAD_PARAMETER where a writer or a reader names no peer. */
+uint8_t cw_config_sum(const cw_peer_config *peers, size_t peers_len, const cw_writer_config *writers,
+                      size_t writers_len, const cw_reader_config *readers, size_t readers_len, uint64_t *sum);
+
 /* Events. Each makes the last answer anew: its packets, its samples, its values and its text. Where there was none, for
  * want of memory for a copy of its value, or of an open peer, or as a line names none, the answer before stays.
  *
@@ -261,8 +310,8 @@ uint64_t cw_unsent(cw_peer *peer);
 /* The reply in words, and a line feed: what docs/PIPE.md has behind "reply". */
 uint8_t cw_text(cw_peer *peer, uint8_t *buffer, size_t buffer_len, size_t *needed);
 
-/* The mark: each call above, but cw_code_name, goes by a function of this header, which answers CW_BUSY where another thread
- * is in a call of the same peer. It takes NULL with a length of 0, and answers CW_BAD_PARAMETER to NULL with another one. */
+/* The mark: each call above of a peer goes by a function of this header, which answers CW_BUSY where another thread is in a
+ * call of the same peer. It takes NULL with a length of 0, and answers CW_BAD_PARAMETER to NULL with another one. */
 static inline bool cw_enters(cw_peer *peer) {
     return __atomic_exchange_n(&peer->is_busy, (uint8_t)1, __ATOMIC_ACQUIRE) == 0;
 }
@@ -291,6 +340,12 @@ static inline void *cw_array(const void *start) {
         cw_leaves(peer);                                             \
         return code;                                                 \
     }
+#define CW_CHECKED(is_valid, call, nonnull, parameters, arguments)   \
+    static inline nonnull uint8_t cw_marked_##call parameters {      \
+        if (!(is_valid))                                             \
+            return CW_BAD_PARAMETER;                                 \
+        return cw_##call arguments;                                  \
+    }
 #define CW_MARKED(call, parameters, arguments) CW_MARKED_IF(true, call, CW_NONNULL(), parameters, arguments)
 
 CW_MARKED_IF(cw_is_array(peers, peers_len) && cw_is_array(writers, writers_len) && cw_is_array(readers, readers_len),
@@ -302,6 +357,27 @@ CW_MARKED_IF(cw_is_array(peers, peers_len) && cw_is_array(writers, writers_len) 
 CW_MARKED_IF(cw_is_array(text, text_len), open_text, CW_NONNULL(1),
              (cw_peer *peer, const uint8_t *text, size_t text_len, uint8_t number),
              (peer, (const uint8_t *)cw_array(text), text_len, number))
+CW_CHECKED(cw_is_array(peers, peers_len) && cw_is_array(writers, writers_len) && cw_is_array(readers, readers_len) &&
+               cw_is_array(buffer, buffer_len),
+           config_fault, CW_NONNULL(7, 10),
+           (const cw_peer_config *peers, size_t peers_len, const cw_writer_config *writers, size_t writers_len,
+            const cw_reader_config *readers, size_t readers_len, cw_fault *fault, uint8_t *buffer, size_t buffer_len,
+            size_t *needed),
+           ((const cw_peer_config *)cw_array(peers), peers_len, (const cw_writer_config *)cw_array(writers), writers_len,
+            (const cw_reader_config *)cw_array(readers), readers_len, fault, (uint8_t *)cw_array(buffer), buffer_len,
+            needed))
+CW_CHECKED(cw_is_array(text, text_len) && cw_is_array(buffer, buffer_len), text_fault, CW_NONNULL(5),
+           (const uint8_t *text, size_t text_len, uint8_t *buffer, size_t buffer_len, size_t *needed),
+           ((const uint8_t *)cw_array(text), text_len, (uint8_t *)cw_array(buffer), buffer_len, needed))
+CW_CHECKED(cw_is_array(line, line_len) && cw_is_array(buffer, buffer_len), line_fault, CW_NONNULL(5),
+           (const uint8_t *line, size_t line_len, uint8_t *buffer, size_t buffer_len, size_t *needed),
+           ((const uint8_t *)cw_array(line), line_len, (uint8_t *)cw_array(buffer), buffer_len, needed))
+CW_CHECKED(cw_is_array(peers, peers_len) && cw_is_array(writers, writers_len) && cw_is_array(readers, readers_len),
+           config_sum, CW_NONNULL(7),
+           (const cw_peer_config *peers, size_t peers_len, const cw_writer_config *writers, size_t writers_len,
+            const cw_reader_config *readers, size_t readers_len, uint64_t *sum),
+           ((const cw_peer_config *)cw_array(peers), peers_len, (const cw_writer_config *)cw_array(writers), writers_len,
+            (const cw_reader_config *)cw_array(readers), readers_len, sum))
 CW_MARKED_IF(cw_is_array(datagram, datagram_len), deliver, CW_NONNULL(1),
              (cw_peer *peer, const uint8_t *datagram, size_t datagram_len),
              (peer, (const uint8_t *)cw_array(datagram), datagram_len))
@@ -390,6 +466,10 @@ static inline CW_NONNULL() uint64_t cw_marked_unsent(cw_peer *peer) {
 #define cw_open cw_marked_open
 #define cw_open_text cw_marked_open_text
 #define cw_close cw_marked_close
+#define cw_config_fault cw_marked_config_fault
+#define cw_text_fault cw_marked_text_fault
+#define cw_line_fault cw_marked_line_fault
+#define cw_config_sum cw_marked_config_sum
 #define cw_deliver cw_marked_deliver
 #define cw_tick cw_marked_tick
 #define cw_register cw_marked_register

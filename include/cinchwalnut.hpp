@@ -3,9 +3,11 @@
 #define CINCHWALNUT_HPP
 
 #include "cinchwalnut.h"
+#include <algorithm>
 #include <array>
 #include <cstddef>
 #include <cstdint>
+#include <string>
 #include <utility>
 #include <vector>
 
@@ -31,6 +33,22 @@ struct Config {
     std::vector<cw_writer_config> writers;
     std::vector<cw_reader_config> readers;
 };
+
+/// Why a configuration is refused, in words: empty where it is not, or where there is no memory.
+inline std::string fault_of(const Config &config) {
+    cw_fault fault{};
+    std::string sentence(256, 0);
+    std::size_t needed = 0;
+    auto code = static_cast<std::uint8_t>(CW_OUT_OF_RESOURCES);
+    for (int tries = 0; tries < 2 && code == CW_OUT_OF_RESOURCES; tries++) {
+        sentence.resize(std::max(needed, sentence.size()));
+        code = cw_config_fault(config.peers.data(), config.peers.size(), config.writers.data(), config.writers.size(),
+                               config.readers.data(), config.readers.size(), &fault,
+                               reinterpret_cast<std::uint8_t *>(&sentence[0]), sentence.size(), &needed);
+    }
+    sentence.resize(code == CW_OK ? needed : 0);
+    return sentence;
+}
 
 /// A peer, and a buffer into which its fetches copy: it is made at the first fetch, and grows where that is asked for.
 class Peer {

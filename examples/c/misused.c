@@ -21,6 +21,31 @@ static uint8_t open_with(cw_peer *peer, size_t writers_len, size_t readers_len, 
     return cw_open(peer, peers, 1, writers, writers_len, readers, readers_len, number);
 }
 
+/* Which rule a configuration breaks, where, and the sentence that says it. */
+static void say_fault(const char *what, const cw_writer_config *of_writers, size_t writers_len, size_t readers_len) {
+    cw_fault fault = {0};
+    uint8_t sentence[128] = {0};
+    size_t len = 0;
+    uint8_t code = cw_config_fault(peers, 1, of_writers, writers_len, readers, readers_len, &fault, sentence, sizeof sentence, &len);
+    printf("%s: %s, rule %u at place %u, code %u: %.*s\n", what, cw_code_name(code), fault.rule, fault.place, fault.code,
+           code == CW_OK ? (int)len : 0, (const char *)sentence);
+}
+
+/* Why a line, or a text, is none. */
+static void say_words(const char *what, const char *text,
+                      uint8_t (*fault)(const uint8_t *, size_t, uint8_t *, size_t, size_t *)) {
+    uint8_t sentence[128] = {0};
+    size_t len = 0;
+    uint8_t code = fault((const uint8_t *)text, strlen(text), sentence, sizeof sentence, &len);
+    printf("%s: %s, %.*s\n", what, cw_code_name(code), code == CW_OK ? (int)len : 0, (const char *)sentence);
+}
+
+static uint64_t sum_of(size_t readers_len) {
+    uint64_t sum = 0;
+    say("a sum", cw_config_sum(peers, 1, writers, 1, readers, readers_len, &sum));
+    return sum;
+}
+
 int main(void) {
     cw_peer peer = CW_PEER_NONE;
     const uint8_t key[16] = {1}, value[1025] = {0};
@@ -33,17 +58,27 @@ int main(void) {
     say("a peer that there isn't", open_with(&peer, 1, 0, 2));
     say("peer 0", open_with(&peer, 1, 0, 0));
     say("a depth of 0", open_with(&peer, 1, 1, 1));
+    say_fault("why", writers, 1, 1);
+    say_fault("why, of a writer of a peer that there isn't", writers, 2, 0);
+    say_fault("why, of none that is wrong", writers, 1, 0);
+    say_fault("why, of writers at NULL", NULL, 2, 0);
+    printf("configurations that differ have %s sums\n", sum_of(0) == sum_of(1) ? "equal" : "other");
+    say("the sum of one that names no peer", cw_config_sum(peers, 1, writers, 2, readers, 0, &handle));
     say("a reader that takes no change", cw_open(&peer, peers, 1, writers, 1, &lives[0], 1, 1));
     say("a reader that takes more than 2^63", cw_open(&peer, peers, 1, writers, 1, &lives[1], 1, 1));
     say("a reader that takes 2^63", cw_open(&peer, peers, 1, writers, 1, &lives[2], 1, 1));
     cw_close(&peer);
     say("a configuration that is none", cw_open_text(&peer, (const uint8_t *)"nonsense", 8, 1));
+    say_words("why", "nonsense", cw_text_fault);
+    say_words("why, of no text", "", cw_text_fault);
     say("and now one that is", open_with(&peer, 1, 0, 1));
     say("a writer that there isn't", cw_write(&peer, 2, key, value, 1));
     say("a value of 1,025 octets", cw_write(&peer, 1, key, value, sizeof value));
     say("an instance that is not registered", cw_unregister(&peer, 1, key));
     say("a reader that there isn't", cw_take(&peer, 1, -1, CW_ANY, CW_ANY, CW_ANY));
     say("a line that is none", cw_line(&peer, (const uint8_t *)"take", 4));
+    say_words("why", "take", cw_line_fault);
+    say_words("why, of one that is", "tick 5", cw_line_fault);
     say("a moment", cw_tick(&peer, 5));
     say("an earlier one", cw_tick(&peer, 4));
     say("a moment that is too late", cw_tick(&peer, (uint64_t)1 << 63));

@@ -1,7 +1,7 @@
 """What a program in Python does wrong, and what is raised. Where something is raised nothing has changed."""
 from typing import Any, Callable
 
-from cinchwalnut import ANY, EntityKind, Peer, Refused, Status, reader, writer
+from cinchwalnut import ANY, EntityKind, Peer, Refused, Status, config_fault, config_sum, line_fault, reader, text_fault, writer
 
 PREFIXES, KEY = [bytes([1] * 12), bytes([2] * 12)], bytes([7] * 16)
 WRITERS, READERS = [writer(peer=1, key=1)], [reader(peer=2, key=1)]
@@ -27,7 +27,7 @@ def named(end, **fields) -> str:
 
 said("a configuration", opened)
 said("a prefix of 11 octets", lambda: opened(prefixes=[bytes(11)]))
-said("a prefix of zeros", lambda: opened(prefixes=[bytes(12)]))
+said("a prefix of zeros", lambda: opened(prefixes=[bytes([1] * 12), bytes(12)]))
 said("peer 3 of two", lambda: opened(number=3))
 said("peer 257", lambda: opened(number=257))
 said("a writer of peer 256", lambda: writer(peer=256, key=1))
@@ -38,6 +38,13 @@ said("max_samples of 2^31", lambda: named(reader(1, 1), max_samples=1 << 31))
 said("an entity of 3 octets", lambda: named(reader(1, 1), entity=bytes(3)))
 said("a policy that is no truth", lambda: named(writer(1, 1), is_exclusive=2))
 said("a depth of 0", lambda: opened(readers=[reader(peer=2, key=1, keeps_last=True)]))
+said("its fault", lambda: config_fault(PREFIXES, WRITERS, [reader(peer=2, key=1, keeps_last=True)]))
+said("a writer of a peer that there isn't", lambda: config_fault(PREFIXES, [writer(peer=3, key=1)], []))
+said("a configuration without a fault", lambda: config_fault(PREFIXES, WRITERS, READERS))
+said("equal ones have equal sums", lambda: config_sum(PREFIXES, WRITERS, READERS) == config_sum(PREFIXES, list(WRITERS), [reader(2, 1)]))
+said("others have other ones", lambda: config_sum(PREFIXES, WRITERS, READERS) != config_sum(PREFIXES, WRITERS, [reader(2, 1, topic=1)]))
+said("the fault of a text", lambda: text_fault("peer 010101010101010101010101\nwriter 00000102 al"))
+said("that of a line", lambda: line_fault("call take r1 1 2"))
 said("a text that is none", lambda: Peer.from_text("nonsense", 1))
 with Peer(PREFIXES, WRITERS, READERS, 1) as first, Peer(PREFIXES, WRITERS, READERS, 2) as second:
     said("a write", lambda: [(to, len(packet)) for to, packet in first.write(1, KEY, b"a value")])

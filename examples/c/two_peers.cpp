@@ -28,6 +28,9 @@ static void carry(Peer &from, Peer &to) {
 
 int main() {
     const auto config = two_peers();
+    auto wrong = config;
+    wrong.readers[0].keeps_last = true;
+    std::printf("%s\n", cinchwalnut::fault_of(wrong).c_str());
     Peer writer, opened, reader;
     if (opened.open(config, 1) || reader.open(config, 2))
         return 1;

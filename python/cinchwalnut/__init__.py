@@ -11,14 +11,17 @@ from ._codes import (
     NoData,
     OutOfMemory,
     OutOfResources,
+    Place,
     PreconditionNotMet,
     Refused,
+    Rule,
     SampleState,
     Status,
     Timeout,
     ViewState,
 )
 from ._config import ReaderConfig, WriterConfig, reader, writer
+from ._faults import ConfigFault, config_fault, config_sum, line_fault, text_fault
 from ._peer import SECOND, ChangedStatus, NoticeInfo, Packet, Peer, Sample, SampleInfo, TotalStatus, ms
 from ._recorded import RecordedPeer
 
@@ -28,6 +31,7 @@ __all__ = [
     "BadParameter",
     "ChangedStatus",
     "Code",
+    "ConfigFault",
     "EntityKind",
     "InconsistentPolicy",
     "InstanceState",
@@ -37,10 +41,12 @@ __all__ = [
     "OutOfResources",
     "Packet",
     "Peer",
+    "Place",
     "PreconditionNotMet",
     "ReaderConfig",
     "RecordedPeer",
     "Refused",
+    "Rule",
     "Sample",
     "SampleInfo",
     "SampleState",
@@ -49,7 +55,11 @@ __all__ = [
     "TotalStatus",
     "ViewState",
     "WriterConfig",
+    "config_fault",
+    "config_sum",
+    "line_fault",
     "ms",
     "reader",
+    "text_fault",
     "writer",
 ]

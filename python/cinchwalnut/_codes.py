@@ -47,6 +47,36 @@ class Status(enum.IntFlag):
     LIVELINESS_CHANGED = 4096
 
 
+class Place(enum.IntEnum):
+    """What breaks a rule of configurations."""
+
+    WHOLE = 0
+    PEER = 1
+    WRITER = 2
+    READER = 3
+
+
+class Rule(enum.IntEnum):
+    """A rule of configurations, as the header says them."""
+
+    NAMED_PEER = 0
+    PEER_COUNT = 1
+    WRITER_COUNT = 2
+    READER_COUNT = 3
+    KNOWN_PREFIX = 4
+    OWN_PREFIX = 5
+    OWN_ENTITY = 6
+    ENTITY_KIND = 7
+    DEPTH = 8
+    MAX_SAMPLES = 9
+    MAX_INSTANCES = 10
+    MAX_ARRIVALS = 11
+    LEASE = 12
+    DEPTH_WITHIN_MAXIMUM = 13
+    SAME_OWNERSHIP = 14
+    OFFERED_LEASE = 15
+
+
 class Refused(Exception):
     """A call was refused with this code, and has changed nothing, but for what docs/C.md says of NO_DATA and TIMEOUT."""
 

@@ -36,6 +36,13 @@ class CReaderConfig(c.Structure):
     ]
 
 
+class CFault(c.Structure):
+    _fields_ = [
+        *[(name, c.c_uint8) for name in ("code", "rule", "place")],
+        *[(name, c.c_uint64) for name in ("peer", "number")],
+    ]
+
+
 # A pointer to octets that are read, and the address of memory that is written to.
 _OCTETS, _INTO, _SIZE = c.c_char_p, c.c_void_p, c.c_size_t
 _U8, _U32, _U64, _I32 = c.c_uint8, c.c_uint32, c.c_uint64, c.c_int32
@@ -60,6 +67,15 @@ _ARGUMENTS = {
 }
 
 
+_SENTENCE = [_INTO, _SIZE, c.POINTER(_SIZE)]
+# These have none.
+_WITHOUT_PEER = {
+    "config_fault": [*_ARRAYS, c.POINTER(CFault), *_SENTENCE],
+    **{it: [_OCTETS, _SIZE, *_SENTENCE] for it in ("text_fault", "line_fault")},
+    "config_sum": [*_ARRAYS, c.POINTER(_U64)],
+}
+
+
 def _load() -> c.PyDLL:
     """The library, as one whose calls hold the interpreter's lock: so no two threads are in a peer at once."""
     said = os.environ.get("CINCHWALNUT")
@@ -70,9 +86,12 @@ def _load() -> c.PyDLL:
         library = c.PyDLL(name)
     except OSError as error:
         raise ImportError(f"libcinchwalnut.so does not load: {error}") from error
-    for call, arguments in _ARGUMENTS.items():
+    of_peer = {call: [c.POINTER(CPeer), *arguments] for call, arguments in _ARGUMENTS.items()}
+    for call, arguments in {**of_peer, **_WITHOUT_PEER}.items():
+        if not hasattr(library, f"cw_{call}"):
+            raise ImportError(f"{name} is of another version: it has no cw_{call}")
         function = getattr(library, f"cw_{call}")
-        function.argtypes = [c.POINTER(CPeer), *arguments]
+        function.argtypes = arguments
         function.restype = {"close": None, "unsent": _U64}.get(call, _U8)
     return library
 

@@ -7,9 +7,10 @@ import threading
 from typing import Any, Callable, List, NamedTuple, Optional, Sequence, Tuple, Type, TypeVar
 
 from . import _library
-from ._checks import Octets, i32, key_of, octets, octets_of, u8, u32, u64
+from ._checks import Octets, i32, key_of, octets, u8, u32, u64
 from ._codes import ANY, Code, EntityKind, InstanceState, PreconditionNotMet, SampleState, Status, ViewState, refused
 from ._config import ReaderConfig, WriterConfig
+from ._faults import arrays, fault_in, line_fault, text_fault
 
 _LIBRARY = _library.LIBRARY
 SECOND = 1 << 32
@@ -80,16 +81,6 @@ _VIEW_STATES = {int(it): it for it in ViewState}
 _INSTANCE_STATES = {int(it): it for it in InstanceState}
 
 
-def _array(kind: Type[Any], items: Sequence[Any]) -> Tuple[Any, int]:
-    """An array, which has an element also where there are none: no pointer is ever null."""
-    return (kind * max(len(items), 1))(*items), len(items)
-
-
-def _struct_of(kind: Type[Any], end: Any) -> Any:
-    fields = {name: getattr(end, name) for name, _ in kind._fields_}
-    return kind(**{**fields, "entity": tuple(end.entity)})
-
-
 class Peer:
     """A peer of a configuration: the prefixes of its peers, its writers and its readers, and its own number.
 
@@ -98,13 +89,10 @@ class Peer:
 
     def __init__(self, prefixes: Sequence[Octets], writers: Sequence[WriterConfig], readers: Sequence[ReaderConfig], number: int):
         self._begin()
-        peers = [_library.CPeerConfig(prefix=tuple(octets_of(12, it, "a prefix"))) for it in prefixes]
-        lists = [
-            _array(_library.CPeerConfig, peers),
-            _array(_library.CWriterConfig, [_struct_of(_library.CWriterConfig, it) for it in writers]),
-            _array(_library.CReaderConfig, [_struct_of(_library.CReaderConfig, it) for it in readers]),
-        ]
-        self._done(_LIBRARY.cw_open(self._at, *[it for one in lists for it in one], u8(number, "number")))
+        configuration = arrays(prefixes, writers, readers)
+        if code := _LIBRARY.cw_open(self._at, *configuration, u8(number, "number")):
+            fault = fault_in(configuration) if code != Code.MEMORY else None
+            raise refused(code, fault.sentence if fault else f"there is no peer {number}" if code == Code.BAD_PARAMETER else "")
 
     @classmethod
     def from_text(cls: Type[_Peer], text: str, number: int) -> _Peer:
@@ -112,7 +100,8 @@ class Peer:
         self = cls.__new__(cls)
         self._begin()
         said = text.encode()
-        self._done(_LIBRARY.cw_open_text(self._at, said, len(said), u8(number, "number")))
+        if code := _LIBRARY.cw_open_text(self._at, said, len(said), u8(number, "number")):
+            raise refused(code, (text_fault(text) or f"there is no peer {number}") if code != Code.MEMORY else "")
         return self
 
     def _begin(self) -> None:
@@ -140,10 +129,6 @@ class Peer:
     @property
     def is_open(self) -> bool:
         return bool(self._peer.is_open)
-
-    def _done(self, code: int) -> None:
-        if code:
-            raise refused(code)
 
     def _happens(self, line: Callable[[], str], call: Any, *arguments: Any) -> int:
         """The code of an event, by its call. What it is in a line of docs/PIPE.md is asked for where it is recorded."""
@@ -306,7 +291,11 @@ class Peer:
         names none, or the event is refused."""
         said = line.encode()
         with self._lock:
-            self._event(lambda: line, _LIBRARY.cw_line, said, len(said))
+            code = self._happens(lambda: line, _LIBRARY.cw_line, said, len(said))
+            if code == Code.BAD_PARAMETER:
+                raise refused(code, line_fault(line) or "")
+            if code:
+                raise self._refused(code)
             return self.text()
 
     def add_filter(self, begins: Octets) -> int:
