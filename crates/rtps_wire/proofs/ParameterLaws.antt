@@ -170,20 +170,20 @@ noted_valid order found more id value small no_sentinel short e = record {
 
 -- ---- at the front of bytes
 
-record TakesParameter (order : Endianness) (bytes : List ℕ) (x : ℕ × List ℕ × List ℕ) : Type 0 where
-  len : ℕ
-  len_small : len < 2 ^ 16
-  id_small : x.0 < 2 ^ 16
-  text : bytes ≡ number order w16 x.0 ++ (number order w16 len ++ (x.1 ++ x.2))
-  extent : length x.1 ≡ cond (eqb x.0 1) 0 len
-  value : AreOctets x.1
-  octets : AreOctets x.2
+pub record TakesParameter (order : Endianness) (bytes : List ℕ) (x : ℕ × List ℕ × List ℕ) : Type 0 where
+  pub len : ℕ
+  pub len_small : len < 2 ^ 16
+  pub id_small : x.0 < 2 ^ 16
+  pub text : bytes ≡ number order w16 x.0 ++ (number order w16 len ++ (x.1 ++ x.2))
+  pub extent : length x.1 ≡ cond (eqb x.0 1) 0 len
+  pub value : AreOctets x.1
+  pub octets : AreOctets x.2
 
 front_octets : (a b : List ℕ) → AreOctets (a ++ b) → AreOctets a
 front_octets a b h =
     subst (λ (z : List ℕ). AreOctets z) (take_at a b (length a) refl) (AreOctets-take (length a) (a ++ b) h)
 
-parameter_found : (order : Endianness) (bytes : List ℕ) (x : ℕ × List ℕ × List ℕ) → AreOctets bytes
+pub parameter_found : (order : Endianness) (bytes : List ℕ) (x : ℕ × List ℕ × List ℕ) → AreOctets bytes
     → parameter_at order bytes ≡ Some x
     → TakesParameter order bytes x
 unfolding parameter_at
@@ -216,7 +216,7 @@ empty_is : (xs : List ℕ) → length xs ≡ 0 → xs ≡ []
 empty_is [] e = refl
 empty_is (x ∷ xs) e = absurd (omega arith)
 
-sentinel_found : (order : Endianness) (bytes : List ℕ) (x : ℕ × List ℕ × List ℕ) → TakesParameter order bytes x
+pub sentinel_found : (order : Endianness) (bytes : List ℕ) (x : ℕ × List ℕ × List ℕ) → TakesParameter order bytes x
     → x.0 ≡ 1 → ReadsParameters order bytes [] x.2
 sentinel_found order bytes x t is =
     let none : x.1 ≡ [] = empty_is x.1 (t.extent ∙ ap (λ (n : ℕ). cond (eqb n 1) 0 t.len) is) in (
@@ -227,7 +227,7 @@ sentinel_found order bytes x t is =
           ∙ sym (append_assoc (number order w16 1) (number order w16 t.len) x.2),
     )
 
-value_found : (order : Endianness) (bytes : List ℕ) (x : ℕ × List ℕ × List ℕ) → TakesParameter order bytes x
+pub value_found : (order : Endianness) (bytes : List ℕ) (x : ℕ × List ℕ × List ℕ) → TakesParameter order bytes x
     → eqb x.0 1 ≡ false
     → (length x.1 < 2 ^ 16) × (bytes ≡ parameter_text order (record { id = x.0; value = x.1 }) ++ x.2)
 value_found order bytes x t other =
@@ -240,7 +240,7 @@ value_found order bytes x t other =
     regroup : (a b c d : List ℕ) → a ++ (b ++ (c ++ d)) ≡ (a ++ b ++ c) ++ d
     regroup a b c d = simp append_assoc
 
-parameter_again : (order : Endianness) (p : Parameter) (after : List ℕ) → IsParameter p
+pub parameter_again : (order : Endianness) (p : Parameter) (after : List ℕ) → IsParameter p
     → parameter_at order (parameter_text order p ++ after) ≡ Some (p.id, p.value, after)
 unfolding parameter_at
 parameter_again order p after valid =
@@ -256,7 +256,7 @@ parameter_again order p after valid =
     regroup : (a b c d : List ℕ) → (a ++ b ++ c) ++ d ≡ a ++ (b ++ (c ++ d))
     regroup a b c d = simp append_assoc
 
-sentinel_again : (order : Endianness) (len : ℕ) (rest : List ℕ) → len < 2 ^ 16
+pub sentinel_again : (order : Endianness) (len : ℕ) (rest : List ℕ) → len < 2 ^ 16
     → parameter_at order (number order w16 1 ++ number order w16 len ++ rest) ≡ Some (1, [], rest)
 unfolding parameter_at
 sentinel_again order len rest small =

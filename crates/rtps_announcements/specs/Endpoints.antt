@@ -1,0 +1,62 @@
+-- What is read in an announcement of an endpoint (RTPS 2.5, 8.5: SEDP; 9.6: parameters and their defaults; DDS 1.4,
+-- 2.2.3: policies).
+use Rattle.std.specs.Prelude.{◌≡◌, ℕ, List, [], Option, Some, None, FitsSigned, pos, false}
+use Rattle.std.specs.Int.{w32}
+use Rattle.dds_base.specs.declared.endianness.Endianness.{Endianness}
+use Rattle.dds_base.specs.declared.guid.GuidPrefix.{GuidPrefix}
+use Rattle.dds_base.specs.declared.qos.OwnershipQos.TheVariants.{Shared}
+use Rattle.dds_base.specs.Fields.{number}
+use Rattle.rtps_wire.specs.Fields.{count_text}
+use Rattle.rtps_wire.specs.Parameters.{Parameter, parameter_value}
+use Rattle.rtps_announcements.specs.Lists.{ReadsList, IsUnderstood}
+use Rattle.rtps_announcements.specs.Names.{pid_topic_name, pid_type_name, pid_participant_guid, pid_endpoint_guid, pid_reliability, pid_durability, pid_liveliness, pid_ownership, pid_ownership_strength, pid_deadline, pid_latency_budget, pid_destination_order, pid_presentation}
+use Rattle.rtps_announcements.specs.Values.{Says, Always, reliability_code, durability_code, ownership_code, destination_order_code, default_reliability, infinite, no_time, IsDuration, duration_text, liveliness_text, presentation_text, IsName, name_text, guid_text, IsGuidOf, IsOfSender}
+use Rattle.rtps_announcements.specs.declared.endpoint.Endpoint.{Endpoint}
+use Rattle.rtps_announcements.specs.declared.policies.Policies.{Policies}
+use Rattle.rtps_announcements.specs.declared.qos.DestinationOrderQos.TheVariants.{ByReceptionTimestamp}
+use Rattle.rtps_announcements.specs.declared.qos.DurabilityQos.TheVariants.{Volatile}
+use Rattle.rtps_announcements.specs.declared.qos.EndpointKind.{EndpointKind}
+use Rattle.rtps_announcements.specs.declared.qos.LivelinessKind.TheVariants.{Automatic}
+use Rattle.rtps_announcements.specs.declared.qos.LivelinessQos.{LivelinessQos}
+use Rattle.rtps_announcements.specs.declared.qos.PresentationQos.{PresentationQos}
+use Rattle.rtps_announcements.specs.declared.qos.PresentationScope.TheVariants.{Instance}
+
+-- LIVELINESS by default: AUTOMATIC, with no end
+abbrev pub default_liveliness : LivelinessQos
+default_liveliness = record { kind = Automatic; lease = infinite }
+
+-- PRESENTATION by default: within an instance, neither coherent nor ordered
+abbrev pub default_presentation : PresentationQos
+default_presentation = record { scope = Instance; coherent_access = false; ordered_access = false }
+
+-- Each policy is what the first parameter of its id says, or its default.
+pub record SaysPolicies (kind : EndpointKind) (order : Endianness) (ps : List Parameter) (p : Policies) : Type 0 where
+  pub reliability : Says (Some (default_reliability kind)) (λ k. number order w32 (reliability_code k)) Always
+      (parameter_value pid_reliability ps) p.reliability
+  pub durability : Says (Some Volatile) (λ k. number order w32 (durability_code k)) Always
+      (parameter_value pid_durability ps) p.durability
+  pub liveliness : Says (Some default_liveliness) (liveliness_text order) (λ l. IsDuration l.lease)
+      (parameter_value pid_liveliness ps) p.liveliness
+  pub ownership : Says (Some Shared) (λ k. number order w32 (ownership_code k)) Always
+      (parameter_value pid_ownership ps) p.ownership
+  pub strength : Says (Some (pos 0)) (count_text order) (λ z. FitsSigned w32 z)
+      (parameter_value pid_ownership_strength ps) p.strength
+  pub deadline : Says (Some infinite) (duration_text order) IsDuration (parameter_value pid_deadline ps) p.deadline
+  pub latency_budget : Says (Some no_time) (duration_text order) IsDuration
+      (parameter_value pid_latency_budget ps) p.latency_budget
+  pub destination_order : Says (Some ByReceptionTimestamp) (λ k. number order w32 (destination_order_code k)) Always
+      (parameter_value pid_destination_order ps) p.destination_order
+  pub presentation : Says (Some default_presentation) (presentation_text order) Always
+      (parameter_value pid_presentation ps) p.presentation
+
+-- the bytes are an announcement of this endpoint of this kind by this sender
+pub record ReadsEndpoint (source : GuidPrefix) (kind : EndpointKind) (bytes : List ℕ) (e : Endpoint) : Type 0 where
+  pub order : Endianness
+  pub ps : List Parameter
+  pub list : ReadsList bytes order ps
+  pub understood : IsUnderstood [] ps
+  pub guid : Says None guid_text (IsGuidOf source kind) (parameter_value pid_endpoint_guid ps) e.guid
+  pub participant : IsOfSender source (parameter_value pid_participant_guid ps)
+  pub topic_name : Says None (name_text order) IsName (parameter_value pid_topic_name ps) e.topic_name
+  pub type_name : Says None (name_text order) IsName (parameter_value pid_type_name ps) e.type_name
+  pub policies : SaysPolicies kind order ps e.policies

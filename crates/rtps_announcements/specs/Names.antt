@@ -1,0 +1,71 @@
+-- The ids of the parameters that announcements have, and bounds (RTPS 2.5, 9.6: ParameterId values). `src/names.rt`
+-- has the same names for the code.
+use Rattle.std.specs.Prelude.{ℕ, List, [], ◌∷◌}
+
+-- ---- of endpoints
+
+-- the name of a topic
+abbrev pub pid_topic_name : ℕ
+pid_topic_name = 0x0005
+
+-- the strength of a writer
+abbrev pub pid_ownership_strength : ℕ
+pid_ownership_strength = 0x0006
+
+-- the name of a type
+abbrev pub pid_type_name : ℕ
+pid_type_name = 0x0007
+
+-- RELIABILITY
+abbrev pub pid_reliability : ℕ
+pid_reliability = 0x001a
+
+-- LIVELINESS
+abbrev pub pid_liveliness : ℕ
+pid_liveliness = 0x001b
+
+-- DURABILITY
+abbrev pub pid_durability : ℕ
+pid_durability = 0x001d
+
+-- OWNERSHIP
+abbrev pub pid_ownership : ℕ
+pid_ownership = 0x001f
+
+-- PRESENTATION
+abbrev pub pid_presentation : ℕ
+pid_presentation = 0x0021
+
+-- DEADLINE
+abbrev pub pid_deadline : ℕ
+pid_deadline = 0x0023
+
+-- DESTINATION_ORDER
+abbrev pub pid_destination_order : ℕ
+pid_destination_order = 0x0025
+
+-- LATENCY_BUDGET
+abbrev pub pid_latency_budget : ℕ
+pid_latency_budget = 0x0027
+
+-- the GUID of a participant, also in an announcement of one of its endpoints
+abbrev pub pid_participant_guid : ℕ
+pid_participant_guid = 0x0050
+
+-- the GUID of an endpoint
+abbrev pub pid_endpoint_guid : ℕ
+pid_endpoint_guid = 0x005a
+
+-- ---- bounds
+
+-- the longest name of a topic or a type, in octets
+abbrev pub max_name : ℕ
+max_name = 256
+
+-- from this id on a parameter must be understood, up to `vendor_ids`
+abbrev pub must_understand_ids : ℕ
+must_understand_ids = 0x4000
+
+-- from this id on parameters are a vendor's own
+abbrev pub vendor_ids : ℕ
+vendor_ids = 0x8000

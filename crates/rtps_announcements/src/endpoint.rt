@@ -1,0 +1,140 @@
+//! An endpoint, as its announcement says it.
+//!
+//! `specs/Endpoints.antt` is the grammar.
+//!
+//! RTPS 2.5, 8.5 (SEDP) and 9.6 (ParameterId values).
+
+ghost use Rattle.std.specs.Prelude.{◌≡◌, ◌↔◌, [], Some, None, IfSome, IsTrue};
+ghost use Rattle.std.specs.Option.{option_map};
+ghost use Rattle.rtps_announcements.specs.Endpoints.{ReadsEndpoint};
+ghost use Rattle.rtps_announcements.specs.EndpointAt.{EndpointAt};
+ghost use Rattle.rtps_announcements.specs.ListAt.{value_in};
+ghost use Rattle.rtps_announcements.specs.Names.{pid_endpoint_guid, pid_participant_guid};
+ghost use Rattle.rtps_announcements.specs.ValueAt.{said, is_of_kind, guid_at};
+ghost use Rattle.rtps_announcements.specs.Values.{IsOfSender};
+ghost use Rattle.rtps_announcements.specs.declared.endpoint.Endpoint.{Endpoint as EndpointOf};
+
+use crate::list::{first_value, has_parameters, take_representation};
+use crate::name::{Name, name_in};
+use crate::names::{
+    LEN_ENTITY_ID, LEN_PREFIX, PID_ENDPOINT_GUID, PID_PARTICIPANT_GUID, PID_TOPIC_NAME,
+    PID_TYPE_NAME,
+};
+use crate::policies::{Policies, policies_in};
+use crate::qos::EndpointKind;
+use dds_base::{Endianness, EntityId, Guid, GuidPrefix, take_octets};
+
+/// A DataWriter or a DataReader, as its participant announces it. The announcement lends the names.
+///
+/// RTPS 2.5, 8.5 (DiscoveredWriterData, DiscoveredReaderData).
+#[derive(Debug, Drop)]
+pub struct Endpoint<'a> {
+    /// Its name, whose prefix is that of the sender.
+    pub guid: Guid,
+    /// The name of its topic.
+    pub topic_name: Name<'a>,
+    /// The name of its topic's type.
+    pub type_name: Name<'a>,
+    /// Its policies.
+    pub policies: Policies,
+}
+
+/// Whether the last octet of an entity id is of this kind.
+#[tactic(auto, unfolding(crate::specs::ValueAt::is_of_kind))]
+fn is_of_kind(kind: EndpointKind, octet: u8) -> bool
+    ensures { result ≡ is_of_kind kind octet }
+{
+    match kind {
+        EndpointKind::Writer => octet == 0x02 || octet == 0x03,
+        EndpointKind::Reader => octet == 0x07 || octet == 0x04,
+    }
+}
+
+/// The GUID that the bytes begin with, where it is one of this sender and this kind.
+#[tactic(auto, unfolding(crate::specs::ValueAt::guid_at, crate::specs::ValueAt::guid_of))]
+fn guid_of(source: GuidPrefix, kind: EndpointKind, bytes: &[u8]) -> Option<Guid>
+    ensures { result ≡ option_map (λ x. x.0) (guid_at source kind bytes.now) }
+{
+    let (prefix, rest) = take_octets(bytes, LEN_PREFIX)?;
+    let (octets, _) = take_octets(rest, LEN_ENTITY_ID)?;
+    let mut id = [0; LEN_ENTITY_ID];
+    id.copy_from_slice(octets);
+    if prefix != source.as_slice() {
+        return None;
+    }
+    if !is_of_kind(kind, id[3]) {
+        return None;
+    }
+    Some(Guid {
+        prefix: source,
+        entity: EntityId(id),
+    })
+}
+
+/// The GUID that the first parameter of its id says.
+fn guid_in(source: GuidPrefix, kind: EndpointKind, order: Endianness, list: &[u8]) -> Option<Guid>
+    ensures { result ≡ said None (guid_at source kind) (value_in order list.now pid_endpoint_guid) }
+{
+    let value = first_value(order, list, PID_ENDPOINT_GUID)?;
+    let guid = guid_of(source, kind, value)?;
+    Some(guid)
+}
+
+/// Whether the GUID of the participant, where there is one, is of the sender.
+fn is_of_sender(source: GuidPrefix, order: Endianness, list: &[u8]) -> bool
+    ensures { IsTrue result ↔ IsOfSender source (value_in order list.now pid_participant_guid) }
+{
+    let Some(value) = first_value(order, list, PID_PARTICIPANT_GUID) else {
+        return true;
+    };
+    LEN_PREFIX + LEN_ENTITY_ID <= value.len() && &value[..LEN_PREFIX] == source.as_slice()
+}
+
+/// The endpoint that a list of parameters announces.
+fn endpoint_in(
+    source: GuidPrefix,
+    kind: EndpointKind,
+    order: Endianness,
+    list: &[u8],
+) -> Option<Endpoint<'_>>
+    ensures found { IfSome result (λ e. EndpointAt source kind order list.now e) }
+    ensures only { (e : EndpointOf) → EndpointAt source kind order list.now e → result ≡ Some e }
+{
+    let guid = guid_in(source, kind, order, list)?;
+    if !is_of_sender(source, order, list) {
+        return None;
+    }
+    let topic_name = name_in(order, list, PID_TOPIC_NAME)?;
+    let type_name = name_in(order, list, PID_TYPE_NAME)?;
+    let policies = policies_in(kind, order, list)?;
+    Some(Endpoint {
+        guid,
+        topic_name,
+        type_name,
+        policies,
+    })
+}
+
+/// The endpoint that the payload of a DATA of SEDP announces: of a publication a writer, of a subscription a reader, of
+/// the participant with the prefix `source`, which sent it. The payload lends the names. `None` where it announces none:
+/// where the bytes are no list of parameters, a parameter that must be understood is not known, one that must be there is
+/// not, or one has a value that there is not. Takes no memory.
+///
+/// Of a repeated parameter the first counts. What follows the sentinel, and in a value what follows its fields, is not
+/// looked at.
+///
+/// RTPS 2.5, 8.5 (SEDP), 9.4.2 and 9.6; DDS 1.4, 2.2.3.
+pub fn read_endpoint(source: GuidPrefix, kind: EndpointKind, bytes: &[u8]) -> Option<Endpoint<'_>>
+    // What is read is announced so.
+    ensures found { IfSome result (λ e. ReadsEndpoint source kind bytes.now e) }
+    // What is announced so is read, and nothing else.
+    ensures only { (e : EndpointOf) → ReadsEndpoint source kind bytes.now e → result ≡ Some e }
+{
+    // This shows the prover how many octets a prefix has.
+    let _octets = source.as_slice();
+    let (order, list) = take_representation(bytes)?;
+    if !has_parameters(order, &[], list) {
+        return None;
+    }
+    endpoint_in(source, kind, order, list)
+}

@@ -1,0 +1,24 @@
+//! What participants announce of themselves and of their endpoints, and its bytes.
+//!
+//! `read_endpoint` gives the DataWriter or DataReader that an announcement of SEDP is about. The announcement lends the
+//! names, and no memory is taken. The grammar stands in `specs/`, and in words in `docs/WIRE.md`, "Announcements". Not
+//! here: who is matched with whom, and what is sent when.
+//!
+//! RTPS 2.5, 8.5 (discovery), 9.4.2 (ParameterList), 9.6 (ParameterId values), clause 10 (PL_CDR); DDS 1.4, 2.2.3
+//! (policies).
+#![tactic(auto)]
+
+mod endpoint;
+mod list;
+mod name;
+mod names;
+mod policies;
+mod qos;
+
+pub use endpoint::{Endpoint, read_endpoint};
+pub use name::Name;
+pub use policies::Policies;
+pub use qos::{
+    DestinationOrderQos, DurabilityQos, Duration, EndpointKind, LivelinessKind, LivelinessQos,
+    PresentationQos, PresentationScope,
+};
