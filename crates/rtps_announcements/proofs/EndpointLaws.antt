@@ -9,17 +9,19 @@ use Rattle.rtps_wire.specs.Parameters.{Parameter, ReadsParameters, parameter_val
 use Rattle.rtps_wire.proofs.WireFields.{field_count}
 use Rattle.rtps_announcements.specs.EndpointAt.{PoliciesAt, EndpointAt}
 use Rattle.rtps_announcements.specs.Endpoints.{default_liveliness, default_presentation, SaysPolicies, ReadsEndpoint}
-use Rattle.rtps_announcements.specs.ListAt.{list_at, HasParameters, value_in}
+use Rattle.rtps_announcements.specs.ListAt.{list_at, HasParameters, value_in, parameters_in}
 use Rattle.rtps_announcements.specs.Lists.{ReadsList, IsUnderstood}
-use Rattle.rtps_announcements.specs.Names.{pid_topic_name, pid_type_name, pid_participant_guid, pid_endpoint_guid, pid_reliability, pid_durability, pid_liveliness, pid_ownership, pid_ownership_strength, pid_deadline, pid_latency_budget, pid_destination_order, pid_presentation}
+use Rattle.rtps_announcements.specs.Locators.{locators_of}
+use Rattle.rtps_announcements.specs.Names.{pid_unicast_locator, pid_topic_name, pid_type_name, pid_participant_guid, pid_endpoint_guid, pid_reliability, pid_durability, pid_liveliness, pid_ownership, pid_ownership_strength, pid_deadline, pid_latency_budget, pid_destination_order, pid_presentation}
 use Rattle.rtps_announcements.specs.ValueAt.{said}
 use Rattle.rtps_announcements.specs.Values.{Says, default_reliability, infinite, no_time, IsOfSender}
 use Rattle.rtps_announcements.specs.declared.endpoint.Endpoint.{Endpoint}
+use Rattle.rtps_announcements.specs.declared.locator.Locator.{Locator}
 use Rattle.rtps_announcements.specs.declared.policies.Policies.{Policies}
 use Rattle.rtps_announcements.specs.declared.qos.DestinationOrderQos.TheVariants.{ByReceptionTimestamp}
 use Rattle.rtps_announcements.specs.declared.qos.DurabilityQos.TheVariants.{Volatile}
 use Rattle.rtps_announcements.specs.declared.qos.EndpointKind.{EndpointKind}
-use Rattle.rtps_announcements.proofs.ListLaws.{representation_takes, representation_again, value_is, value_octets}
+use Rattle.rtps_announcements.proofs.ListLaws.{representation_takes, representation_again, value_is, value_octets, parameters_are}
 use Rattle.rtps_announcements.proofs.ValueLaws.{said_found, said_only, field_reliability, field_durability, field_ownership, field_destination_order, field_duration, field_liveliness, field_presentation, field_name, field_guid}
 
 -- a list of parameters that stands there
@@ -28,7 +30,7 @@ pub record Listed (order : Endianness) (list : List ℕ) (ps : List Parameter) :
   pub reads : ReadsParameters order list ps rest
   pub octets : AreOctets list
 
-there_found : {X : Type 0} {text : X → List ℕ} {Fits : X → Type 0} {at : List ℕ → Option (X × List ℕ)}
+pub there_found : {X : Type 0} {text : X → List ℕ} {Fits : X → Type 0} {at : List ℕ → Option (X × List ℕ)}
     → IsField text Fits at → (default : Option X) (id : ℕ) (order : Endianness) (list : List ℕ) (ps : List Parameter)
     → Listed order list ps → (x : X) → said default at (value_in order list id) ≡ Some x
     → Says default text Fits (parameter_value id ps) x
@@ -36,13 +38,24 @@ there_found {text = text} {Fits = Fits} field default id order list ps l x e =
     subst (λ (o : Option (List ℕ)). Says default text Fits o x) (value_is order id list l.rest ps l.reads)
     (said_found field default (value_in order list id) x (λ v q. value_octets order id list v l.octets q) e)
 
-there_only : {X : Type 0} {text : X → List ℕ} {Fits : X → Type 0} {at : List ℕ → Option (X × List ℕ)}
+pub there_only : {X : Type 0} {text : X → List ℕ} {Fits : X → Type 0} {at : List ℕ → Option (X × List ℕ)}
     → IsField text Fits at → (default : Option X) (id : ℕ) (order : Endianness) (list : List ℕ) (ps : List Parameter)
     → Listed order list ps → (x : X) → Says default text Fits (parameter_value id ps) x
     → said default at (value_in order list id) ≡ Some x
 there_only {text = text} {Fits = Fits} field default id order list ps l x h =
     said_only field default (value_in order list id) x
     (subst (λ (o : Option (List ℕ)). Says default text Fits o x) (sym (value_is order id list l.rest ps l.reads)) h)
+
+pub there_gathered : (id : ℕ) (order : Endianness) (list : List ℕ) (ps : List Parameter) → Listed order list ps
+    → (found : List Locator) → locators_of order id (parameters_in order list) ≡ found
+    → locators_of order id ps ≡ found
+there_gathered id order list ps l found e =
+    ap (locators_of order id) (sym (parameters_are order list l.rest ps l.reads)) ∙ e
+
+pub there_again : (id : ℕ) (order : Endianness) (list : List ℕ) (ps : List Parameter) → Listed order list ps
+    → (found : List Locator) → locators_of order id ps ≡ found
+    → locators_of order id (parameters_in order list) ≡ found
+there_again id order list ps l found e = ap (locators_of order id) (parameters_are order list l.rest ps l.reads) ∙ e
 
 -- ---- policies
 
@@ -108,11 +121,13 @@ endpoint_found source kind bytes order list e twelve octets front has at =
         list = has.list;
       };
       understood = has.understood;
-      guid = there_found (field_guid source kind twelve) None pid_endpoint_guid order list has.ps l e.guid at.guid;
+      guid = there_found (field_guid source twelve) None pid_endpoint_guid order list has.ps l e.guid at.guid;
+      is_one = at.is_one;
       participant = subst (λ (o : Option (List ℕ)). IsOfSender source o)
           (value_is order pid_participant_guid list has.rest has.ps has.list) at.participant;
       topic_name = there_found (field_name order) None pid_topic_name order list has.ps l e.topic_name at.topic_name;
       type_name = there_found (field_name order) None pid_type_name order list has.ps l e.type_name at.type_name;
+      locators = there_gathered pid_unicast_locator order list has.ps l e.locators at.locators;
       policies = policies_found kind order list has.ps l e.policies at.policies;
     }
 
@@ -141,14 +156,16 @@ endpoint_only source kind bytes order list e twelve octets front r =
     record { rest = r.list.rest; reads = r.list.list; octets = octets_there } in
     let at : EndpointAt source kind r.order r.list.parameters e =
     record {
-      guid = there_only (field_guid source kind twelve) None pid_endpoint_guid r.order r.list.parameters r.ps l e.guid
+      guid = there_only (field_guid source twelve) None pid_endpoint_guid r.order r.list.parameters r.ps l e.guid
           r.guid;
+      is_one = r.is_one;
       participant = subst (λ (o : Option (List ℕ)). IsOfSender source o)
           (sym (value_is r.order pid_participant_guid r.list.parameters r.list.rest r.ps r.list.list)) r.participant;
       topic_name = there_only (field_name r.order) None pid_topic_name r.order r.list.parameters r.ps l e.topic_name
           r.topic_name;
       type_name = there_only (field_name r.order) None pid_type_name r.order r.list.parameters r.ps l e.type_name
           r.type_name;
+      locators = there_again pid_unicast_locator r.order r.list.parameters r.ps l e.locators r.locators;
       policies = policies_only kind r.order r.list.parameters r.ps l e.policies r.policies;
     } in
     subst (λ (x : Endianness × List ℕ). EndpointAt source kind x.0 x.1 e)

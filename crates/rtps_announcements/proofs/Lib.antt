@@ -1,3 +1,5 @@
 pub mod ListLaws
 pub mod ValueLaws
+pub mod LocatorLaws
 pub mod EndpointLaws
+pub mod ParticipantLaws

@@ -13,7 +13,7 @@ use Rattle.rtps_wire.specs.ParametersAt.{parameter_at}
 use Rattle.rtps_wire.proofs.ParameterLaws.{TakesParameter, parameter_found, sentinel_found, value_found, parameter_again, sentinel_again}
 use Rattle.rtps_wire.proofs.WireFields.{len_16}
 use Rattle.rtps_announcements.specs.Lists.{list_representation, MustBeUnderstood, IsUnderstood}
-use Rattle.rtps_announcements.specs.ListAt.{list_at, IsWhole, HasParameters, value_from, value_in}
+use Rattle.rtps_announcements.specs.ListAt.{list_at, IsWhole, HasParameters, value_from, value_in, parameters_from, parameters_in}
 
 -- ---- the representation
 
@@ -297,3 +297,43 @@ pub value_octets : (order : Endianness) (id : ℕ) (bytes v : List ℕ) → AreO
     → value_in order bytes id ≡ Some v → AreOctets v
 unfolding value_in
 value_octets order id bytes v octets e = from_octets (suc (length bytes)) order id bytes v octets e
+
+-- ---- all parameters
+
+pub some_parameters : (fuel : ℕ) (order : Endianness) (bytes : List ℕ) (x : ℕ) (value rest : List ℕ)
+    → parameter_at order bytes ≡ Some (x, value, rest) → x ≢ 1
+    → parameters_from (suc fuel) order bytes ≡ record { id = x; value = value } ∷ parameters_from fuel order rest
+unfolding parameters_from
+some_parameters fuel order bytes x value rest e other =
+    let no : eqb x 1 ≡ false = ne_eqb x 1 other in rw (e, no) refl
+
+pub no_parameters : (fuel : ℕ) (order : Endianness) (bytes : List ℕ) → parameter_at order bytes ≡ None
+    → parameters_from fuel order bytes ≡ []
+unfolding parameters_from
+no_parameters zero order bytes e = refl
+no_parameters (suc fuel) order bytes e = rw e refl
+
+pub no_more_parameters : (fuel : ℕ) (order : Endianness) (bytes : List ℕ) (x : ℕ) (value rest : List ℕ)
+    → parameter_at order bytes ≡ Some (x, value, rest) → x ≡ 1 → parameters_from fuel order bytes ≡ []
+unfolding parameters_from
+no_more_parameters zero order bytes x value rest e is = refl
+no_more_parameters (suc fuel) order bytes x value rest e is =
+    let yes : eqb x 1 ≡ true = eq-eqb x 1 is in rw (e, yes) refl
+
+all_are : (ps : List Parameter) (fuel : ℕ) (order : Endianness) (bytes rest : List ℕ)
+    → ReadsParameters order bytes ps rest → length bytes < fuel → parameters_from fuel order bytes ≡ ps
+all_are [] fuel order bytes rest r lt =
+    no_more_parameters fuel order bytes 1 [] rest
+    (ap (parameter_at order) r.2 ∙ sentinel_again order r.0 rest r.1) refl
+all_are (p ∷ ps) zero order bytes rest r lt = absurd (omega arith)
+all_are (p ∷ ps) (suc fuel) order bytes rest r lt =
+    let less = shorter order p bytes r.0 r.2 in
+    some_parameters fuel order bytes p.id p.value r.0
+    (ap (parameter_at order) r.2 ∙ parameter_again order p r.0 r.1) r.1.no_sentinel
+    ∙ ap (λ (qs : List Parameter). p ∷ qs) (all_are ps fuel order r.0 rest r.3 (omega arith))
+
+-- the parameters that are found are those that stand there
+pub parameters_are : (order : Endianness) (bytes rest : List ℕ) (ps : List Parameter)
+    → ReadsParameters order bytes ps rest → parameters_in order bytes ≡ ps
+unfolding parameters_in
+parameters_are order bytes rest ps r = all_are ps (suc (length bytes)) order bytes rest r (omega arith)

@@ -1,6 +1,6 @@
 -- What a parameter says is read, and what is read is what it says.
 use Rattle.std.proofs.Common.{◌≡◌, ◌≢◌, ℕ, zero, suc, ◌+◌, ◌-◌, ◌<◌, ◌≤◌, ◌^◌, Bool, true, false, cond, eqb, ltb, List, [], ◌∷◌, ◌++◌, length, get_or, take, drop, Option, Some, None, refl, sym, ap, subst, ◌∙◌, append_assoc, arith, Contains, ◌⊎◌, inl, inr, ℤ}
-use Rattle.std.specs.Prelude.{FitsSigned, slice_index, ◌||◌}
+use Rattle.std.specs.Prelude.{FitsSigned, slice_index}
 use Rattle.std.specs.Int.{w32}
 use Rattle.std.specs.Bool.{Decides}
 use Rattle.std.specs.List.{list_any}
@@ -21,15 +21,14 @@ use Rattle.dds_base.specs.Fields.{number, number_at, octets_at, ◌>>=◌}
 use Rattle.dds_base.specs.FieldPairs.{both, mapped}
 use Rattle.dds_base.proofs.FieldLaws.{AreOctets, Takes, IsField, bind_some, guard_some, some_is, cond_is, field_u32, field_octets, field_both, field_mapped}
 use Rattle.rtps_wire.specs.Fields.{BeginsWith}
-use Rattle.rtps_announcements.specs.ValueAt.{said, partly, reliability_of, durability_of, ownership_of, liveliness_of, destination_order_of, scope_of, duration_of, duration_at, liveliness_at, flag_at, presentation_at, zero_at, name_at, is_of_kind, guid_of, guid_at}
-use Rattle.rtps_announcements.specs.Values.{Says, Always, reliability_code, durability_code, ownership_code, liveliness_code, destination_order_code, scope_code, IsDuration, duration_text, liveliness_text, flag_text, presentation_text, IsName, name_text, guid_text, IsOfKind, IsGuidOf}
+use Rattle.rtps_announcements.specs.ValueAt.{said, partly, reliability_of, durability_of, ownership_of, liveliness_of, destination_order_of, scope_of, duration_of, duration_at, liveliness_at, flag_at, presentation_at, zero_at, name_at, guid_of, guid_at, octet_at, vendor_at}
+use Rattle.rtps_announcements.specs.Values.{Says, Always, reliability_code, durability_code, ownership_code, liveliness_code, destination_order_code, scope_code, IsDuration, duration_text, liveliness_text, flag_text, presentation_text, IsName, name_text, guid_text, IsGuidOf}
+use Rattle.rtps_announcements.specs.declared.participant.VendorId.{VendorId}
 use Rattle.rtps_announcements.specs.declared.qos.DestinationOrderQos.{DestinationOrderQos}
 use Rattle.rtps_announcements.specs.declared.qos.DestinationOrderQos.TheVariants.{ByReceptionTimestamp, BySourceTimestamp}
 use Rattle.rtps_announcements.specs.declared.qos.DurabilityQos.{DurabilityQos}
 use Rattle.rtps_announcements.specs.declared.qos.DurabilityQos.TheVariants.{Volatile, TransientLocal, Transient, Persistent}
 use Rattle.rtps_announcements.specs.declared.qos.Duration.{Duration}
-use Rattle.rtps_announcements.specs.declared.qos.EndpointKind.{EndpointKind}
-use Rattle.rtps_announcements.specs.declared.qos.EndpointKind.TheVariants.{Writer, Reader}
 use Rattle.rtps_announcements.specs.declared.qos.LivelinessKind.{LivelinessKind}
 use Rattle.rtps_announcements.specs.declared.qos.LivelinessKind.TheVariants.{Automatic, ManualByParticipant, ManualByTopic}
 use Rattle.rtps_announcements.specs.declared.qos.LivelinessQos.{LivelinessQos}
@@ -344,63 +343,59 @@ name_again order name rest fits =
 pub field_name : (order : Endianness) → IsField (name_text order) IsName (name_at order)
 field_name order = record { takes = name_takes order; again = name_again order }
 
--- ---- GUIDs
+-- ---- GUIDs and vendors
 
-kind_takes : (kind : EndpointKind) (octet : ℕ) → is_of_kind kind octet ≡ true → IsOfKind kind octet
-unfolding is_of_kind
-kind_takes Writer octet e = one (eqb octet 2) (eqb octet 3) refl refl e
-  where
-    one : (a b : Bool) → eqb octet 2 ≡ a → eqb octet 3 ≡ b → (a || b) ≡ true → (octet ≡ 2) ⊎ (octet ≡ 3)
-    one true b p q e = inl (eqb-true _ _ p)
-    one false true p q e = inr (eqb-true _ _ q)
-    one false false p q e = absurd cc
-kind_takes Reader octet e = one (eqb octet 7) (eqb octet 4) refl refl e
-  where
-    one : (a b : Bool) → eqb octet 7 ≡ a → eqb octet 4 ≡ b → (a || b) ≡ true → (octet ≡ 7) ⊎ (octet ≡ 4)
-    one true b p q e = inl (eqb-true _ _ p)
-    one false true p q e = inr (eqb-true _ _ q)
-    one false false p q e = absurd cc
-
-kind_again : (kind : EndpointKind) (octet : ℕ) → IsOfKind kind octet → is_of_kind kind octet ≡ true
-unfolding is_of_kind
-kind_again Writer octet (inl e) = rw e refl
-kind_again Writer octet (inr e) = rw e refl
-kind_again Reader octet (inl e) = rw e refl
-kind_again Reader octet (inr e) = rw e refl
-
-guid_back : (source : GuidPrefix) (kind : EndpointKind) (x : List ℕ × List ℕ) (g : Guid)
-    → (length x.0 ≡ 12) × (length x.1 ≡ 4) → guid_of source kind x ≡ Some g
-    → ((g.prefix.0, g.entity.0) ≡ x) × IsGuidOf source kind g
+guid_back : (source : GuidPrefix) (x : List ℕ × List ℕ) (g : Guid)
+    → (length x.0 ≡ 12) × (length x.1 ≡ 4) → guid_of source x ≡ Some g
+    → ((g.prefix.0, g.entity.0) ≡ x) × IsGuidOf source g
 unfolding guid_of
-guid_back source kind x g len e =
-    let G : Guid → Type 0 = λ (y : Guid). ((y.prefix.0, y.entity.0) ≡ x) × IsGuidOf source kind y in
-    cond_is {P = G g} (bytes_eq x.0 source.0) (cond (is_of_kind kind (slice_index x.1 3))
-    (Some (record { prefix = source; entity = record { 0 = x.1 } })) None) None (Some g) e
-    (λ t s. cond_is {P = G g} (is_of_kind kind (slice_index x.1 3))
-    (Some (record { prefix = source; entity = record { 0 = x.1 } })) None (Some g) s
-    (λ u r. subst G (some_is _ g r) (
+guid_back source x g len e =
+    let G : Guid → Type 0 = λ (y : Guid). ((y.prefix.0, y.entity.0) ≡ x) × IsGuidOf source y in
+    cond_is {P = G g} (bytes_eq x.0 source.0) (Some (record { prefix = source; entity = record { 0 = x.1 } })) None
+    (Some g) e (λ t s. subst G (some_is _ g s) (
       ap (λ (p : List ℕ). (p, x.1)) (sym ((bytes_eq-Decides x.0 source.0).0 t)),
-      record { sender = refl; len = len.1; octet = kind_takes kind (slice_index x.1 3) u },
-    )) (λ u r. absurd cc)) (λ t s. absurd cc)
+      record { sender = refl; len = len.1 },
+    )) (λ t s. absurd cc)
 
-guid_forth : (source : GuidPrefix) (kind : EndpointKind) → length source.0 ≡ 12 → (g : Guid) → IsGuidOf source kind g
-    → (guid_of source kind (g.prefix.0, g.entity.0) ≡ Some g)
-    × ((length g.prefix.0 ≡ 12) × (length g.entity.0 ≡ 4))
+guid_forth : (source : GuidPrefix) → length source.0 ≡ 12 → (g : Guid) → IsGuidOf source g
+    → (guid_of source (g.prefix.0, g.entity.0) ≡ Some g) × ((length g.prefix.0 ≡ 12) × (length g.entity.0 ≡ 4))
 unfolding guid_of
-guid_forth source kind twelve g is =
+guid_forth source twelve g is =
     let same : g.prefix.0 ≡ source.0 = ap (λ (p : GuidPrefix). p.0) is.sender in
-    let t : bytes_eq g.prefix.0 source.0 ≡ true = (bytes_eq-Decides g.prefix.0 source.0).1 same in
-    let u : is_of_kind kind (slice_index g.entity.0 3) ≡ true = kind_again kind _ is.octet in (
-      rw (t, u) (ap (λ (p : GuidPrefix). Some (record { prefix = p; entity = g.entity })) (sym is.sender)),
+    let t : bytes_eq g.prefix.0 source.0 ≡ true = (bytes_eq-Decides g.prefix.0 source.0).1 same in (
+      rw t (ap (λ (p : GuidPrefix). Some (record { prefix = p; entity = g.entity })) (sym is.sender)),
       (ap length same ∙ twelve, is.len),
     )
 
-pub field_guid : (source : GuidPrefix) (kind : EndpointKind) → length source.0 ≡ 12
-    → IsField guid_text (IsGuidOf source kind) (guid_at source kind)
+pub field_guid : (source : GuidPrefix) → length source.0 ≡ 12
+    → IsField guid_text (IsGuidOf source) (guid_at source)
 unfolding guid_at
-field_guid source kind twelve =
-    field_partly (field_both (field_octets 12) (field_octets 4)) (guid_of source kind) (λ g. (g.prefix.0, g.entity.0))
-    (IsGuidOf source kind) (guid_back source kind) (guid_forth source kind twelve)
+field_guid source twelve =
+    field_partly (field_both (field_octets 12) (field_octets 4)) (guid_of source) (λ g. (g.prefix.0, g.entity.0))
+    (IsGuidOf source) (guid_back source) (guid_forth source twelve)
+
+pub field_vendor : IsField (λ (v : VendorId). v.0) (λ v. length v.0 ≡ 2) vendor_at
+unfolding vendor_at
+field_vendor =
+    field_mapped (field_octets 2) (λ x. record { 0 = x }) (λ v. v.0) (λ v. length v.0 ≡ 2) (λ x h. (refl, h))
+    (λ v h. (refl, h))
+
+octet_takes : (bytes : List ℕ) (n : ℕ) (rest : List ℕ) → AreOctets bytes → octet_at bytes ≡ Some (n, rest)
+    → Takes bytes (n ∷ []) rest × Always n
+unfolding octet_at
+octet_takes [] n rest octets e = absurd cc
+octet_takes (x ∷ bytes) n rest octets e = (
+  subst (λ (p : ℕ × List ℕ). Takes (x ∷ bytes) (p.0 ∷ []) p.1) (some_is (x, bytes) (n, rest) e)
+      (record { parts = refl; octets = λ i. octets (suc i) }),
+  tt,
+)
+
+octet_again : (n : ℕ) (rest : List ℕ) → Always n → octet_at ((n ∷ []) ++ rest) ≡ Some (n, rest)
+unfolding octet_at
+octet_again n rest any = refl
+
+pub field_octet : IsField (λ n. n ∷ []) Always octet_at
+field_octet = record { takes = octet_takes; again = octet_again }
 
 -- ---- the participant's GUID
 

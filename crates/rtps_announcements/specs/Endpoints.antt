@@ -1,6 +1,6 @@
 -- What is read in an announcement of an endpoint (RTPS 2.5, 8.5: SEDP; 9.6: parameters and their defaults; DDS 1.4,
 -- 2.2.3: policies).
-use Rattle.std.specs.Prelude.{◌≡◌, ℕ, List, [], Option, Some, None, FitsSigned, pos, false}
+use Rattle.std.specs.Prelude.{◌≡◌, ℕ, List, [], Option, Some, None, FitsSigned, pos, false, slice_index}
 use Rattle.std.specs.Int.{w32}
 use Rattle.dds_base.specs.declared.endianness.Endianness.{Endianness}
 use Rattle.dds_base.specs.declared.guid.GuidPrefix.{GuidPrefix}
@@ -9,8 +9,9 @@ use Rattle.dds_base.specs.Fields.{number}
 use Rattle.rtps_wire.specs.Fields.{count_text}
 use Rattle.rtps_wire.specs.Parameters.{Parameter, parameter_value}
 use Rattle.rtps_announcements.specs.Lists.{ReadsList, IsUnderstood}
-use Rattle.rtps_announcements.specs.Names.{pid_topic_name, pid_type_name, pid_participant_guid, pid_endpoint_guid, pid_reliability, pid_durability, pid_liveliness, pid_ownership, pid_ownership_strength, pid_deadline, pid_latency_budget, pid_destination_order, pid_presentation}
-use Rattle.rtps_announcements.specs.Values.{Says, Always, reliability_code, durability_code, ownership_code, destination_order_code, default_reliability, infinite, no_time, IsDuration, duration_text, liveliness_text, presentation_text, IsName, name_text, guid_text, IsGuidOf, IsOfSender}
+use Rattle.rtps_announcements.specs.Locators.{locators_of}
+use Rattle.rtps_announcements.specs.Names.{pid_unicast_locator, pid_topic_name, pid_type_name, pid_participant_guid, pid_endpoint_guid, pid_reliability, pid_durability, pid_liveliness, pid_ownership, pid_ownership_strength, pid_deadline, pid_latency_budget, pid_destination_order, pid_presentation}
+use Rattle.rtps_announcements.specs.Values.{Says, Always, reliability_code, durability_code, ownership_code, destination_order_code, default_reliability, infinite, no_time, IsDuration, duration_text, liveliness_text, presentation_text, IsName, name_text, guid_text, IsGuidOf, IsOfKind, IsOfSender}
 use Rattle.rtps_announcements.specs.declared.endpoint.Endpoint.{Endpoint}
 use Rattle.rtps_announcements.specs.declared.policies.Policies.{Policies}
 use Rattle.rtps_announcements.specs.declared.qos.DestinationOrderQos.TheVariants.{ByReceptionTimestamp}
@@ -55,8 +56,10 @@ pub record ReadsEndpoint (source : GuidPrefix) (kind : EndpointKind) (bytes : Li
   pub ps : List Parameter
   pub list : ReadsList bytes order ps
   pub understood : IsUnderstood [] ps
-  pub guid : Says None guid_text (IsGuidOf source kind) (parameter_value pid_endpoint_guid ps) e.guid
+  pub guid : Says None guid_text (IsGuidOf source) (parameter_value pid_endpoint_guid ps) e.guid
+  pub is_one : IsOfKind kind (slice_index e.guid.entity.0 3)
   pub participant : IsOfSender source (parameter_value pid_participant_guid ps)
   pub topic_name : Says None (name_text order) IsName (parameter_value pid_topic_name ps) e.topic_name
   pub type_name : Says None (name_text order) IsName (parameter_value pid_type_name ps) e.type_name
+  pub locators : locators_of order pid_unicast_locator ps ≡ e.locators
   pub policies : SaysPolicies kind order ps e.policies

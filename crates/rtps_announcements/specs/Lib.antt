@@ -3,5 +3,8 @@ pub mod Lists
 pub mod ListAt
 pub mod Values
 pub mod ValueAt
+pub mod Locators
 pub mod Endpoints
 pub mod EndpointAt
+pub mod Participants
+pub mod ParticipantAt

@@ -2,7 +2,8 @@
 -- `read_endpoint` and `read_participant` say what they read by `Lists`.
 --
 -- RTPS 2.5, 9.4.2 (ParameterList).
-use Rattle.std.specs.Prelude.{◌≡◌, ℕ, zero, suc, ◌%◌, ◌==◌, List, ◌∷◌, length, Option, Some, None, if◌then◌else◌}
+use Rattle.std.specs.Prelude.{◌≡◌, ℕ, zero, suc, ◌%◌, ◌==◌, List, [], ◌∷◌, length, unwrap_or, Option, Some, None, if◌then◌else◌}
+use Rattle.std.specs.Option.{option_map}
 use Rattle.dds_base.specs.declared.endianness.Endianness.{Endianness}
 use Rattle.dds_base.specs.declared.endianness.Endianness.TheVariants.{Big, Little}
 use Rattle.dds_base.specs.Fields.{◌>>=◌}
@@ -41,3 +42,13 @@ value_from (suc fuel) order id bytes = do
 -- the value of the first parameter of this id
 unfoldable pub value_in : Endianness → List ℕ → ℕ → Option (List ℕ)
 value_in order bytes id = value_from (suc (length bytes)) order id bytes
+
+-- the parameters up to the sentinel, where there are fewer than the first number of them
+unfoldable pub parameters_from : ℕ → Endianness → List ℕ → List Parameter
+parameters_from zero order bytes = []
+parameters_from (suc fuel) order bytes = unwrap_or (option_map (λ p. if p.0 == pid_sentinel then []
+    else record { id = p.0; value = p.1 } ∷ parameters_from fuel order p.2) (parameter_at order bytes)) []
+
+-- the parameters up to the sentinel
+unfoldable pub parameters_in : Endianness → List ℕ → List Parameter
+parameters_in order bytes = parameters_from (suc (length bytes)) order bytes

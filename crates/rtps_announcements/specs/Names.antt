@@ -48,6 +48,44 @@ pid_destination_order = 0x0025
 abbrev pub pid_latency_budget : ℕ
 pid_latency_budget = 0x0027
 
+-- where an endpoint can be reached, in place of its participant's locators
+abbrev pub pid_unicast_locator : ℕ
+pid_unicast_locator = 0x002f
+
+-- ---- of participants, and of both
+
+-- how long a participant is taken to be there after it was last heard
+abbrev pub pid_participant_lease_duration : ℕ
+pid_participant_lease_duration = 0x0002
+
+-- the domain of a participant
+abbrev pub pid_domain_id : ℕ
+pid_domain_id = 0x000f
+
+-- the version of the protocol
+abbrev pub pid_protocol_version : ℕ
+pid_protocol_version = 0x0015
+
+-- the vendor
+abbrev pub pid_vendor_id : ℕ
+pid_vendor_id = 0x0016
+
+-- where the endpoints of a participant can be reached
+abbrev pub pid_default_unicast_locator : ℕ
+pid_default_unicast_locator = 0x0031
+
+-- where the builtin endpoints of a participant can be reached
+abbrev pub pid_metatraffic_unicast_locator : ℕ
+pid_metatraffic_unicast_locator = 0x0032
+
+-- which builtin endpoints a participant has
+abbrev pub pid_builtin_endpoint_set : ℕ
+pid_builtin_endpoint_set = 0x0058
+
+-- the tag of a domain, which must be understood
+abbrev pub pid_domain_tag : ℕ
+pid_domain_tag = 0x4014
+
 -- the GUID of a participant, also in an announcement of one of its endpoints
 abbrev pub pid_participant_guid : ℕ
 pid_participant_guid = 0x0050
@@ -61,6 +99,14 @@ pid_endpoint_guid = 0x005a
 -- the longest name of a topic or a type, in octets
 abbrev pub max_name : ℕ
 max_name = 256
+
+-- so many locators of a kind are read
+abbrev pub max_locators : ℕ
+max_locators = 4
+
+-- LOCATOR_KIND_UDPv4
+abbrev pub locator_kind_udp_v4 : ℕ
+locator_kind_udp_v4 = 1
 
 -- from this id on a parameter must be understood, up to `vendor_ids`
 abbrev pub must_understand_ids : ℕ

@@ -3,7 +3,7 @@
 -- cites.
 --
 -- RTPS 2.5, 9.3.2, 9.4.2 and 9.6.
-use Rattle.std.specs.Prelude.{◌≡◌, ℕ, zero, suc, ◌+◌, ◌-◌, ◌*◌, ◌^◌, ◌==◌, Bool, true, false, ◌||◌, slice_index, List, [], ◌∷◌, length, Option, Some, None, nat_lt, nat_le, if◌then◌else◌}
+use Rattle.std.specs.Prelude.{◌≡◌, ℕ, zero, suc, ◌+◌, ◌-◌, ◌*◌, ◌^◌, ◌==◌, Bool, true, false, List, [], ◌∷◌, length, Option, Some, None, nat_lt, nat_le, if◌then◌else◌}
 use Rattle.std.specs.List.{list_any}
 use Rattle.std.specs.Option.{option_map}
 use Rattle.std.specs.Int.{w32}
@@ -18,13 +18,12 @@ use Rattle.dds_base.specs.declared.qos.ReliabilityQos.TheVariants.{BestEffort, R
 use Rattle.dds_base.specs.Fields.{number_at, octets_at, ◌>>=◌}
 use Rattle.dds_base.specs.FieldPairs.{both, mapped}
 use Rattle.rtps_announcements.specs.Names.{max_name}
+use Rattle.rtps_announcements.specs.declared.participant.VendorId.{VendorId}
 use Rattle.rtps_announcements.specs.declared.qos.DestinationOrderQos.{DestinationOrderQos}
 use Rattle.rtps_announcements.specs.declared.qos.DestinationOrderQos.TheVariants.{ByReceptionTimestamp, BySourceTimestamp}
 use Rattle.rtps_announcements.specs.declared.qos.DurabilityQos.{DurabilityQos}
 use Rattle.rtps_announcements.specs.declared.qos.DurabilityQos.TheVariants.{Volatile, TransientLocal, Transient, Persistent}
 use Rattle.rtps_announcements.specs.declared.qos.Duration.{Duration}
-use Rattle.rtps_announcements.specs.declared.qos.EndpointKind.{EndpointKind}
-use Rattle.rtps_announcements.specs.declared.qos.EndpointKind.TheVariants.{Writer, Reader}
 use Rattle.rtps_announcements.specs.declared.qos.LivelinessKind.{LivelinessKind}
 use Rattle.rtps_announcements.specs.declared.qos.LivelinessKind.TheVariants.{Automatic, ManualByParticipant, ManualByTopic}
 use Rattle.rtps_announcements.specs.declared.qos.LivelinessQos.{LivelinessQos}
@@ -117,16 +116,20 @@ name_at order bytes = do
   rest ← zero_at t.1
   if list_any (λ octet. octet == 0) t.0 then None else Some (t.0, rest)
 
--- whether the last octet of an entity id is of this kind
-unfoldable pub is_of_kind : EndpointKind → ℕ → Bool
-is_of_kind Writer octet = octet == 0x02 || octet == 0x03
-is_of_kind Reader octet = octet == 0x07 || octet == 0x04
+-- the GUID of these octets, where it is one of this sender
+unfoldable pub guid_of : GuidPrefix → List ℕ × List ℕ → Option Guid
+guid_of source x =
+    if bytes_eq x.0 source.0 then Some (record { prefix = source; entity = record { 0 = x.1 } }) else None
 
--- the GUID of these octets, where it is one of this sender and this kind
-unfoldable pub guid_of : GuidPrefix → EndpointKind → List ℕ × List ℕ → Option Guid
-guid_of source kind x = if bytes_eq x.0 source.0 then (if is_of_kind kind (slice_index x.1 3)
-    then Some (record { prefix = source; entity = record { 0 = x.1 } }) else None) else None
+-- a GUID of this sender
+unfoldable pub guid_at : GuidPrefix → List ℕ → Option (Guid × List ℕ)
+guid_at source bytes = partly (guid_of source) (both (octets_at 12) (octets_at 4)) bytes
 
--- a GUID
-unfoldable pub guid_at : GuidPrefix → EndpointKind → List ℕ → Option (Guid × List ℕ)
-guid_at source kind bytes = partly (guid_of source kind) (both (octets_at 12) (octets_at 4)) bytes
+-- an octet
+unfoldable pub octet_at : List ℕ → Option (ℕ × List ℕ)
+octet_at [] = None
+octet_at (octet ∷ rest) = Some (octet, rest)
+
+-- two octets
+unfoldable pub vendor_at : List ℕ → Option (VendorId × List ℕ)
+vendor_at bytes = mapped (λ octets. record { 0 = octets }) (octets_at 2) bytes

@@ -129,11 +129,14 @@ abbrev pub IsOfKind : EndpointKind → ℕ → Type 0
 IsOfKind Writer octet = (octet ≡ 0x02) ⊎ (octet ≡ 0x03)
 IsOfKind Reader octet = (octet ≡ 0x07) ⊎ (octet ≡ 0x04)
 
--- a GUID of this sender and this kind
-pub record IsGuidOf (source : GuidPrefix) (kind : EndpointKind) (guid : Guid) : Type 0 where
+-- a GUID of this sender
+pub record IsGuidOf (source : GuidPrefix) (guid : Guid) : Type 0 where
   pub sender : guid.prefix ≡ source
   pub len : length guid.entity.0 ≡ 4
-  pub octet : IsOfKind kind (slice_index guid.entity.0 3)
+
+-- ENTITYID_PARTICIPANT: the GUID of a participant itself
+abbrev pub participant_guid : GuidPrefix → Guid
+participant_guid source = record { prefix = source; entity = record { 0 = 0x00 ∷ 0x00 ∷ 0x01 ∷ 0xc1 ∷ [] } }
 
 -- A GUID of the participant, where there is one, is of the sender.
 abbrev pub IsOfSender : GuidPrefix → Option (List ℕ) → Type 0

@@ -4,25 +4,25 @@
 //!
 //! RTPS 2.5, 8.5 (SEDP) and 9.6 (ParameterId values).
 
-ghost use Rattle.std.specs.Prelude.{◌≡◌, ◌↔◌, [], Some, None, IfSome, IsTrue};
-ghost use Rattle.std.specs.Option.{option_map};
+ghost use Rattle.std.specs.Prelude.{◌≡◌, ◌↔◌, Some, IfSome, IsTrue};
 ghost use Rattle.rtps_announcements.specs.Endpoints.{ReadsEndpoint};
 ghost use Rattle.rtps_announcements.specs.EndpointAt.{EndpointAt};
 ghost use Rattle.rtps_announcements.specs.ListAt.{value_in};
-ghost use Rattle.rtps_announcements.specs.Names.{pid_endpoint_guid, pid_participant_guid};
-ghost use Rattle.rtps_announcements.specs.ValueAt.{said, is_of_kind, guid_at};
-ghost use Rattle.rtps_announcements.specs.Values.{IsOfSender};
+ghost use Rattle.rtps_announcements.specs.Names.{pid_participant_guid};
+ghost use Rattle.rtps_announcements.specs.Values.{IsOfKind, IsOfSender};
 ghost use Rattle.rtps_announcements.specs.declared.endpoint.Endpoint.{Endpoint as EndpointOf};
 
+use crate::guid::guid_in;
 use crate::list::{first_value, has_parameters, take_representation};
+use crate::locator::{Locators, locators_in};
 use crate::name::{Name, name_in};
 use crate::names::{
     LEN_ENTITY_ID, LEN_PREFIX, PID_ENDPOINT_GUID, PID_PARTICIPANT_GUID, PID_TOPIC_NAME,
-    PID_TYPE_NAME,
+    PID_TYPE_NAME, PID_UNICAST_LOCATOR,
 };
 use crate::policies::{Policies, policies_in};
 use crate::qos::EndpointKind;
-use dds_base::{Endianness, EntityId, Guid, GuidPrefix, take_octets};
+use dds_base::{Endianness, Guid, GuidPrefix};
 
 /// A DataWriter or a DataReader, as its participant announces it. The announcement lends the names.
 ///
@@ -35,49 +35,20 @@ pub struct Endpoint<'a> {
     pub topic_name: Name<'a>,
     /// The name of its topic's type.
     pub type_name: Name<'a>,
+    /// Where it can be reached by UDP over IPv4; none where that is as of its participant.
+    pub locators: Locators,
     /// Its policies.
     pub policies: Policies,
 }
 
 /// Whether the last octet of an entity id is of this kind.
-#[tactic(auto, unfolding(crate::specs::ValueAt::is_of_kind))]
 fn is_of_kind(kind: EndpointKind, octet: u8) -> bool
-    ensures { result ≡ is_of_kind kind octet }
+    ensures { IsTrue result ↔ IsOfKind kind octet }
 {
     match kind {
         EndpointKind::Writer => octet == 0x02 || octet == 0x03,
         EndpointKind::Reader => octet == 0x07 || octet == 0x04,
     }
-}
-
-/// The GUID that the bytes begin with, where it is one of this sender and this kind.
-#[tactic(auto, unfolding(crate::specs::ValueAt::guid_at, crate::specs::ValueAt::guid_of))]
-fn guid_of(source: GuidPrefix, kind: EndpointKind, bytes: &[u8]) -> Option<Guid>
-    ensures { result ≡ option_map (λ x. x.0) (guid_at source kind bytes.now) }
-{
-    let (prefix, rest) = take_octets(bytes, LEN_PREFIX)?;
-    let (octets, _) = take_octets(rest, LEN_ENTITY_ID)?;
-    let mut id = [0; LEN_ENTITY_ID];
-    id.copy_from_slice(octets);
-    if prefix != source.as_slice() {
-        return None;
-    }
-    if !is_of_kind(kind, id[3]) {
-        return None;
-    }
-    Some(Guid {
-        prefix: source,
-        entity: EntityId(id),
-    })
-}
-
-/// The GUID that the first parameter of its id says.
-fn guid_in(source: GuidPrefix, kind: EndpointKind, order: Endianness, list: &[u8]) -> Option<Guid>
-    ensures { result ≡ said None (guid_at source kind) (value_in order list.now pid_endpoint_guid) }
-{
-    let value = first_value(order, list, PID_ENDPOINT_GUID)?;
-    let guid = guid_of(source, kind, value)?;
-    Some(guid)
 }
 
 /// Whether the GUID of the participant, where there is one, is of the sender.
@@ -100,7 +71,10 @@ fn endpoint_in(
     ensures found { IfSome result (λ e. EndpointAt source kind order list.now e) }
     ensures only { (e : EndpointOf) → EndpointAt source kind order list.now e → result ≡ Some e }
 {
-    let guid = guid_in(source, kind, order, list)?;
+    let guid = guid_in(source, order, list, PID_ENDPOINT_GUID)?;
+    if !is_of_kind(kind, guid.entity.kind()) {
+        return None;
+    }
     if !is_of_sender(source, order, list) {
         return None;
     }
@@ -111,6 +85,7 @@ fn endpoint_in(
         guid,
         topic_name,
         type_name,
+        locators: locators_in(order, list, PID_UNICAST_LOCATOR),
         policies,
     })
 }

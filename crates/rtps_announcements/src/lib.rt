@@ -9,14 +9,19 @@
 #![tactic(auto)]
 
 mod endpoint;
+mod guid;
 mod list;
+mod locator;
 mod name;
 mod names;
+mod participant;
 mod policies;
 mod qos;
 
 pub use endpoint::{Endpoint, read_endpoint};
+pub use locator::{Locator, Locators};
 pub use name::Name;
+pub use participant::{Participant, VendorId, read_participant};
 pub use policies::Policies;
 pub use qos::{
     DestinationOrderQos, DurabilityQos, Duration, EndpointKind, LivelinessKind, LivelinessQos,

@@ -18,10 +18,10 @@ use dds_base::{Endianness, take_octets, take_u16};
 
 /// One parameter.
 #[derive(Clone, Copy)]
-struct Parameter<'a> {
-    id: u16,
+pub struct Parameter<'a> {
+    pub id: u16,
     /// Empty for the sentinel.
-    value: &'a [u8],
+    pub value: &'a [u8],
 }
 
 /// The order of bytes that the representation names, and the parameters.
@@ -38,7 +38,7 @@ pub fn take_representation(bytes: &[u8]) -> Option<(Endianness, &[u8])>
 
 /// The parameter at the front, and the bytes after it.
 #[tactic(auto, unfolding(rtps_wire::specs::ParametersAt::parameter_at))]
-fn take_parameter(order: Endianness, bytes: &[u8]) -> Option<(Parameter<'_>, &[u8])>
+pub fn take_parameter(order: Endianness, bytes: &[u8]) -> Option<(Parameter<'_>, &[u8])>
     ensures value { option_map (λ x. (x.0.id, x.0.value.now, x.1.now)) result
         ≡ parameter_at order bytes.now }
     ensures rest { IfSome result (λ x. length x.1.now < length bytes.now) }

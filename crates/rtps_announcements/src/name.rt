@@ -58,7 +58,7 @@ fn take_zero(bytes: &[u8]) -> Option<&[u8]>
 
 /// The name that the bytes begin with.
 #[tactic(auto, unfolding(crate::specs::ValueAt::name_at))]
-fn name_of(order: Endianness, bytes: &[u8]) -> Option<Name<'_>>
+pub fn name_of(order: Endianness, bytes: &[u8]) -> Option<Name<'_>>
     ensures { result ≡ option_map (λ x. x.0) (name_at order bytes.now) }
 {
     let (count, rest) = take_u32(order, bytes)?;

@@ -42,6 +42,33 @@ pub const PID_DESTINATION_ORDER: u16 = 0x0025;
 /// LATENCY_BUDGET.
 pub const PID_LATENCY_BUDGET: u16 = 0x0027;
 
+/// Where an endpoint can be reached, in place of its participant's locators.
+pub const PID_UNICAST_LOCATOR: u16 = 0x002f;
+
+/// How long a participant is taken to be there after it was last heard.
+pub const PID_PARTICIPANT_LEASE_DURATION: u16 = 0x0002;
+
+/// The domain of a participant.
+pub const PID_DOMAIN_ID: u16 = 0x000f;
+
+/// The version of the protocol.
+pub const PID_PROTOCOL_VERSION: u16 = 0x0015;
+
+/// The vendor.
+pub const PID_VENDOR_ID: u16 = 0x0016;
+
+/// Where the endpoints of a participant can be reached.
+pub const PID_DEFAULT_UNICAST_LOCATOR: u16 = 0x0031;
+
+/// Where the builtin endpoints of a participant can be reached.
+pub const PID_METATRAFFIC_UNICAST_LOCATOR: u16 = 0x0032;
+
+/// Which builtin endpoints a participant has.
+pub const PID_BUILTIN_ENDPOINT_SET: u16 = 0x0058;
+
+/// The tag of a domain, which must be understood.
+pub const PID_DOMAIN_TAG: u16 = 0x4014;
+
 /// The GUID of a participant, also in an announcement of one of its endpoints.
 pub const PID_PARTICIPANT_GUID: u16 = 0x0050;
 
@@ -82,3 +109,15 @@ pub const SECONDS_END: u32 = 1 << 31;
 
 /// The longest name of a topic or a type, in octets.
 pub const MAX_NAME: usize = 256;
+
+/// So many locators of a kind are read.
+pub const MAX_LOCATORS: usize = 4;
+
+/// LOCATOR_KIND_UDPv4.
+pub const LOCATOR_KIND_UDP_V4: u32 = 1;
+
+/// What stands before an address of IPv4 in the sixteen octets of an address.
+pub const LEN_BEFORE_ADDRESS: usize = 12;
+
+/// An address of IPv4.
+pub const LEN_ADDRESS: usize = 4;
