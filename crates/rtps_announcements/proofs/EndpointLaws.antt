@@ -1,28 +1,32 @@
 -- An announcement of an endpoint is read as what it says.
-use Rattle.std.proofs.Common.{◌≡◌, ℕ, List, [], ◌++◌, length, Option, Some, None, refl, sym, ap, subst, ◌∙◌, pos}
+use Rattle.std.proofs.Common.{◌≡◌, ℕ, ◌<◌, ◌^◌, List, [], ◌++◌, length, map, arith, Option, Some, None, refl, sym, ap, subst, ◌∙◌, pos}
 use Rattle.std.specs.Prelude.{FitsSigned}
+use Rattle.std.specs.Int.{w16, w32}
+use Rattle.std.specs.Option.{option_map}
+use Rattle.dds_base.specs.Fields.{number, number_at}
 use Rattle.dds_base.specs.declared.endianness.Endianness.{Endianness}
 use Rattle.dds_base.specs.declared.guid.GuidPrefix.{GuidPrefix}
 use Rattle.dds_base.specs.declared.qos.OwnershipQos.TheVariants.{Shared}
-use Rattle.dds_base.proofs.FieldLaws.{AreOctets, IsField, some_is}
+use Rattle.dds_base.proofs.FieldLaws.{AreOctets, IsField, some_is, field_u16}
 use Rattle.rtps_wire.specs.Parameters.{Parameter, ReadsParameters, parameter_value}
 use Rattle.rtps_wire.proofs.WireFields.{field_count}
 use Rattle.rtps_announcements.specs.EndpointAt.{PoliciesAt, EndpointAt}
-use Rattle.rtps_announcements.specs.Endpoints.{default_liveliness, default_presentation, SaysPolicies, ReadsEndpoint}
+use Rattle.rtps_announcements.specs.Endpoints.{default_liveliness, default_presentation, default_representations, SaysPartitions, SaysPolicies, ReadsEndpoint}
 use Rattle.rtps_announcements.specs.ListAt.{list_at, HasParameters, value_in, parameters_in}
 use Rattle.rtps_announcements.specs.Lists.{ReadsList, IsUnderstood}
 use Rattle.rtps_announcements.specs.Locators.{locators_of}
-use Rattle.rtps_announcements.specs.Names.{pid_unicast_locator, pid_topic_name, pid_type_name, pid_participant_guid, pid_endpoint_guid, pid_reliability, pid_durability, pid_liveliness, pid_ownership, pid_ownership_strength, pid_deadline, pid_latency_budget, pid_destination_order, pid_presentation}
-use Rattle.rtps_announcements.specs.ValueAt.{said}
-use Rattle.rtps_announcements.specs.Values.{Says, default_reliability, infinite, no_time, IsOfSender}
+use Rattle.rtps_announcements.specs.Names.{max_partitions, max_representations, pid_partition, pid_data_representation, pid_unicast_locator, pid_topic_name, pid_type_name, pid_participant_guid, pid_endpoint_guid, pid_reliability, pid_durability, pid_liveliness, pid_ownership, pid_ownership_strength, pid_deadline, pid_latency_budget, pid_destination_order, pid_presentation}
+use Rattle.rtps_announcements.specs.ValueAt.{said, listed_at, padded_at, padded_name_at}
+use Rattle.rtps_announcements.specs.Values.{Says, listed_text, AreListed, padded_text, IsPadded, default_reliability, infinite, no_time, IsOfSender}
 use Rattle.rtps_announcements.specs.declared.endpoint.Endpoint.{Endpoint}
 use Rattle.rtps_announcements.specs.declared.locator.Locator.{Locator}
 use Rattle.rtps_announcements.specs.declared.policies.Policies.{Policies}
 use Rattle.rtps_announcements.specs.declared.qos.DestinationOrderQos.TheVariants.{ByReceptionTimestamp}
 use Rattle.rtps_announcements.specs.declared.qos.DurabilityQos.TheVariants.{Volatile}
 use Rattle.rtps_announcements.specs.declared.qos.EndpointKind.{EndpointKind}
+use Rattle.rtps_announcements.proofs.CountLaws.{field_listed, field_padded, listed_mapped}
 use Rattle.rtps_announcements.proofs.ListLaws.{representation_takes, representation_again, value_is, value_octets, parameters_are}
-use Rattle.rtps_announcements.proofs.ValueLaws.{said_found, said_only, field_reliability, field_durability, field_ownership, field_destination_order, field_duration, field_liveliness, field_presentation, field_name, field_guid}
+use Rattle.rtps_announcements.proofs.ValueLaws.{map_some, said_found, said_only, field_reliability, field_durability, field_ownership, field_destination_order, field_duration, field_liveliness, field_presentation, field_name, field_guid}
 
 -- a list of parameters that stands there
 pub record Listed (order : Endianness) (list : List ℕ) (ps : List Parameter) : Type 0 where
@@ -101,6 +105,61 @@ policies_only kind order list ps l p h = record {
       p.presentation h.presentation;
 }
 
+-- ---- lists
+
+field_representations : (order : Endianness)
+    → IsField (listed_text order (number order w16)) (AreListed max_representations (λ id. id < 2 ^ 16))
+    (listed_at max_representations order (number_at order w16))
+field_representations order = field_listed (field_u16 order) max_representations (omega arith) order
+
+-- the names of a list that is read with what stands behind each
+names_of : (default : List (List ℕ × List ℕ)) (order : Endianness) (value : Option (List ℕ))
+    → said (Some (map (λ (x : List ℕ × List ℕ). x.0) default)) (listed_at max_partitions order (padded_name_at order))
+    value ≡ option_map (map (λ (x : List ℕ × List ℕ). x.0))
+    (said (Some default) (listed_at max_partitions order (padded_at order)) value)
+unfolding padded_name_at
+names_of default order None = refl
+names_of default order (Some value) =
+    ap (option_map (λ (y : List (List ℕ) × List ℕ). y.0))
+    (listed_mapped (λ (x : List ℕ × List ℕ). x.0) (padded_at order) max_partitions order value)
+    ∙ first_of_both (listed_at max_partitions order (padded_at order) value)
+  where
+    first_of_both : (o : Option (List (List ℕ × List ℕ) × List ℕ))
+        → option_map (λ (y : List (List ℕ) × List ℕ). y.0)
+        (option_map (λ (y : List (List ℕ × List ℕ) × List ℕ). (map (λ (x : List ℕ × List ℕ). x.0) y.0, y.1)) o)
+        ≡ option_map (map (λ (x : List ℕ × List ℕ). x.0))
+        (option_map (λ (y : List (List ℕ × List ℕ) × List ℕ). y.0) o)
+    first_of_both None = refl
+    first_of_both (Some y) = refl
+
+field_partitions : (order : Endianness)
+    → IsField (listed_text order (padded_text order)) (AreListed max_partitions IsPadded)
+    (listed_at max_partitions order (padded_at order))
+field_partitions order = field_listed (field_padded order) max_partitions (omega arith) order
+
+partitions_found : (order : Endianness) (list : List ℕ) (ps : List Parameter) → Listed order list ps
+    → (names : List (List ℕ))
+    → said (Some []) (listed_at max_partitions order (padded_name_at order)) (value_in order list pid_partition)
+    ≡ Some names → SaysPartitions order (parameter_value pid_partition ps) names
+partitions_found order list ps l names e =
+    let m = map_some (map (λ (x : List ℕ × List ℕ). x.0)) (said (Some [])
+    (listed_at max_partitions order (padded_at order)) (value_in order list pid_partition)) names
+    (sym (names_of [] order (value_in order list pid_partition)) ∙ e) in
+    record {
+      padded = m.0;
+      are = m.2;
+      says = there_found (field_partitions order) (Some []) pid_partition order list ps l m.0 m.1;
+    }
+
+partitions_only : (order : Endianness) (list : List ℕ) (ps : List Parameter) → Listed order list ps
+    → (names : List (List ℕ)) → SaysPartitions order (parameter_value pid_partition ps) names
+    → said (Some []) (listed_at max_partitions order (padded_name_at order)) (value_in order list pid_partition)
+    ≡ Some names
+partitions_only order list ps l names s =
+    names_of [] order (value_in order list pid_partition)
+    ∙ ap (option_map (map (λ (x : List ℕ × List ℕ). x.0)))
+    (there_only (field_partitions order) (Some []) pid_partition order list ps l s.padded s.says) ∙ ap Some s.are
+
 -- ---- endpoints
 
 pub endpoint_found : (source : GuidPrefix) (kind : EndpointKind) (bytes : List ℕ) (order : Endianness) (list : List ℕ)
@@ -128,6 +187,9 @@ endpoint_found source kind bytes order list e twelve octets front has at =
       topic_name = there_found (field_name order) None pid_topic_name order list has.ps l e.topic_name at.topic_name;
       type_name = there_found (field_name order) None pid_type_name order list has.ps l e.type_name at.type_name;
       locators = there_gathered pid_unicast_locator order list has.ps l e.locators at.locators;
+      partitions = partitions_found order list has.ps l e.partitions at.partitions;
+      representations = there_found (field_representations order) (Some default_representations)
+          pid_data_representation order list has.ps l e.representations at.representations;
       policies = policies_found kind order list has.ps l e.policies at.policies;
     }
 
@@ -166,6 +228,9 @@ endpoint_only source kind bytes order list e twelve octets front r =
       type_name = there_only (field_name r.order) None pid_type_name r.order r.list.parameters r.ps l e.type_name
           r.type_name;
       locators = there_again pid_unicast_locator r.order r.list.parameters r.ps l e.locators r.locators;
+      partitions = partitions_only r.order r.list.parameters r.ps l e.partitions r.partitions;
+      representations = there_only (field_representations r.order) (Some default_representations)
+          pid_data_representation r.order r.list.parameters r.ps l e.representations r.representations;
       policies = policies_only kind r.order r.list.parameters r.ps l e.policies r.policies;
     } in
     subst (λ (x : Endianness × List ℕ). EndpointAt source kind x.0 x.1 e)

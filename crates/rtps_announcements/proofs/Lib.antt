@@ -1,5 +1,6 @@
 pub mod ListLaws
 pub mod ValueLaws
 pub mod LocatorLaws
+pub mod CountLaws
 pub mod EndpointLaws
 pub mod ParticipantLaws

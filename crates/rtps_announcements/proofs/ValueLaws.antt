@@ -38,7 +38,7 @@ use Rattle.rtps_announcements.specs.declared.qos.PresentationScope.TheVariants.{
 
 -- ---- the first field of a value
 
-map_some : {A B : Type 0} (f : A → B) (o : Option A) (y : B) → option_map f o ≡ Some y
+pub map_some : {A B : Type 0} (f : A → B) (o : Option A) (y : B) → option_map f o ≡ Some y
     → (x : A) × (o ≡ Some x) × (f x ≡ y)
 map_some f None y e = absurd cc
 map_some f (Some x) y e = (x, refl, some_is (f x) y e)

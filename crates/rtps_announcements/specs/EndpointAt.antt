@@ -2,18 +2,18 @@
 -- `read_endpoint` says what it reads by `Endpoints`.
 --
 -- RTPS 2.5, 8.5 and 9.6.
-use Rattle.std.specs.Prelude.{◌≡◌, ℕ, List, ◌++◌, Option, Some, None, pos, slice_index}
-use Rattle.std.specs.Int.{w32}
+use Rattle.std.specs.Prelude.{◌≡◌, ℕ, List, [], Option, Some, None, pos, slice_index}
+use Rattle.std.specs.Int.{w16, w32}
 use Rattle.dds_base.specs.declared.endianness.Endianness.{Endianness}
 use Rattle.dds_base.specs.declared.guid.GuidPrefix.{GuidPrefix}
 use Rattle.dds_base.specs.declared.qos.OwnershipQos.TheVariants.{Shared}
 use Rattle.dds_base.specs.Fields.{number_at}
 use Rattle.rtps_wire.specs.FieldAt.{count_at}
-use Rattle.rtps_announcements.specs.Endpoints.{default_liveliness, default_presentation}
+use Rattle.rtps_announcements.specs.Endpoints.{default_liveliness, default_presentation, default_representations}
 use Rattle.rtps_announcements.specs.ListAt.{value_in, parameters_in}
 use Rattle.rtps_announcements.specs.Locators.{locators_of}
-use Rattle.rtps_announcements.specs.Names.{pid_unicast_locator, pid_topic_name, pid_type_name, pid_participant_guid, pid_endpoint_guid, pid_reliability, pid_durability, pid_liveliness, pid_ownership, pid_ownership_strength, pid_deadline, pid_latency_budget, pid_destination_order, pid_presentation}
-use Rattle.rtps_announcements.specs.ValueAt.{said, partly, reliability_of, durability_of, ownership_of, destination_order_of, duration_at, liveliness_at, presentation_at, name_at, guid_at}
+use Rattle.rtps_announcements.specs.Names.{max_partitions, max_representations, pid_partition, pid_data_representation, pid_unicast_locator, pid_topic_name, pid_type_name, pid_participant_guid, pid_endpoint_guid, pid_reliability, pid_durability, pid_liveliness, pid_ownership, pid_ownership_strength, pid_deadline, pid_latency_budget, pid_destination_order, pid_presentation}
+use Rattle.rtps_announcements.specs.ValueAt.{said, partly, listed_at, padded_name_at, reliability_of, durability_of, ownership_of, destination_order_of, duration_at, liveliness_at, presentation_at, name_at, guid_at}
 use Rattle.rtps_announcements.specs.Values.{default_reliability, infinite, no_time, IsOfKind, IsOfSender}
 use Rattle.rtps_announcements.specs.declared.endpoint.Endpoint.{Endpoint}
 use Rattle.rtps_announcements.specs.declared.policies.Policies.{Policies}
@@ -49,4 +49,8 @@ pub record EndpointAt (source : GuidPrefix) (kind : EndpointKind) (order : Endia
   pub topic_name : said None (name_at order) (value_in order list pid_topic_name) ≡ Some e.topic_name
   pub type_name : said None (name_at order) (value_in order list pid_type_name) ≡ Some e.type_name
   pub locators : locators_of order pid_unicast_locator (parameters_in order list) ≡ e.locators
+  pub partitions : said (Some []) (listed_at max_partitions order (padded_name_at order))
+      (value_in order list pid_partition) ≡ Some e.partitions
+  pub representations : said (Some default_representations) (listed_at max_representations order (number_at order w16))
+      (value_in order list pid_data_representation) ≡ Some e.representations
   pub policies : PoliciesAt kind order list e.policies

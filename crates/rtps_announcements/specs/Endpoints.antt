@@ -1,7 +1,7 @@
 -- What is read in an announcement of an endpoint (RTPS 2.5, 8.5: SEDP; 9.6: parameters and their defaults; DDS 1.4,
 -- 2.2.3: policies).
-use Rattle.std.specs.Prelude.{◌≡◌, ℕ, List, [], Option, Some, None, FitsSigned, pos, false, slice_index}
-use Rattle.std.specs.Int.{w32}
+use Rattle.std.specs.Prelude.{◌≡◌, ℕ, ◌<◌, ◌^◌, List, [], ◌∷◌, map, Option, Some, None, FitsSigned, pos, false, slice_index}
+use Rattle.std.specs.Int.{w16, w32}
 use Rattle.dds_base.specs.declared.endianness.Endianness.{Endianness}
 use Rattle.dds_base.specs.declared.guid.GuidPrefix.{GuidPrefix}
 use Rattle.dds_base.specs.declared.qos.OwnershipQos.TheVariants.{Shared}
@@ -10,8 +10,8 @@ use Rattle.rtps_wire.specs.Fields.{count_text}
 use Rattle.rtps_wire.specs.Parameters.{Parameter, parameter_value}
 use Rattle.rtps_announcements.specs.Lists.{ReadsList, IsUnderstood}
 use Rattle.rtps_announcements.specs.Locators.{locators_of}
-use Rattle.rtps_announcements.specs.Names.{pid_unicast_locator, pid_topic_name, pid_type_name, pid_participant_guid, pid_endpoint_guid, pid_reliability, pid_durability, pid_liveliness, pid_ownership, pid_ownership_strength, pid_deadline, pid_latency_budget, pid_destination_order, pid_presentation}
-use Rattle.rtps_announcements.specs.Values.{Says, Always, reliability_code, durability_code, ownership_code, destination_order_code, default_reliability, infinite, no_time, IsDuration, duration_text, liveliness_text, presentation_text, IsName, name_text, guid_text, IsGuidOf, IsOfKind, IsOfSender}
+use Rattle.rtps_announcements.specs.Names.{max_partitions, max_representations, pid_partition, pid_data_representation, pid_unicast_locator, pid_topic_name, pid_type_name, pid_participant_guid, pid_endpoint_guid, pid_reliability, pid_durability, pid_liveliness, pid_ownership, pid_ownership_strength, pid_deadline, pid_latency_budget, pid_destination_order, pid_presentation}
+use Rattle.rtps_announcements.specs.Values.{Says, Always, listed_text, AreListed, padded_text, IsPadded, reliability_code, durability_code, ownership_code, destination_order_code, default_reliability, infinite, no_time, IsDuration, duration_text, liveliness_text, presentation_text, IsName, name_text, guid_text, IsGuidOf, IsOfKind, IsOfSender}
 use Rattle.rtps_announcements.specs.declared.endpoint.Endpoint.{Endpoint}
 use Rattle.rtps_announcements.specs.declared.policies.Policies.{Policies}
 use Rattle.rtps_announcements.specs.declared.qos.DestinationOrderQos.TheVariants.{ByReceptionTimestamp}
@@ -50,6 +50,20 @@ pub record SaysPolicies (kind : EndpointKind) (order : Endianness) (ps : List Pa
   pub presentation : Says (Some default_presentation) (presentation_text order) Always
       (parameter_value pid_presentation ps) p.presentation
 
+-- XCDR1
+abbrev pub xcdr1 : ℕ
+xcdr1 = 0
+
+-- DATA_REPRESENTATION by default: XCDR1 alone
+abbrev pub default_representations : List ℕ
+default_representations = xcdr1 ∷ []
+
+-- PARTITION has these names, each before octets that are not looked at. By default there is none.
+pub record SaysPartitions (order : Endianness) (value : Option (List ℕ)) (names : List (List ℕ)) : Type 0 where
+  pub padded : List (List ℕ × List ℕ)
+  pub are : map (λ x. x.0) padded ≡ names
+  pub says : Says (Some []) (listed_text order (padded_text order)) (AreListed max_partitions IsPadded) value padded
+
 -- the bytes are an announcement of this endpoint of this kind by this sender
 pub record ReadsEndpoint (source : GuidPrefix) (kind : EndpointKind) (bytes : List ℕ) (e : Endpoint) : Type 0 where
   pub order : Endianness
@@ -62,4 +76,7 @@ pub record ReadsEndpoint (source : GuidPrefix) (kind : EndpointKind) (bytes : Li
   pub topic_name : Says None (name_text order) IsName (parameter_value pid_topic_name ps) e.topic_name
   pub type_name : Says None (name_text order) IsName (parameter_value pid_type_name ps) e.type_name
   pub locators : locators_of order pid_unicast_locator ps ≡ e.locators
+  pub partitions : SaysPartitions order (parameter_value pid_partition ps) e.partitions
+  pub representations : Says (Some default_representations) (listed_text order (number order w16))
+      (AreListed max_representations (λ id. id < 2 ^ 16)) (parameter_value pid_data_representation ps) e.representations
   pub policies : SaysPolicies kind order ps e.policies

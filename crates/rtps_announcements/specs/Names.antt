@@ -90,6 +90,14 @@ pid_domain_tag = 0x4014
 abbrev pub pid_participant_guid : ℕ
 pid_participant_guid = 0x0050
 
+-- PARTITION
+abbrev pub pid_partition : ℕ
+pid_partition = 0x0029
+
+-- DATA_REPRESENTATION
+abbrev pub pid_data_representation : ℕ
+pid_data_representation = 0x0073
+
 -- the GUID of an endpoint
 abbrev pub pid_endpoint_guid : ℕ
 pid_endpoint_guid = 0x005a
@@ -103,6 +111,14 @@ max_name = 256
 -- so many locators of a kind are read
 abbrev pub max_locators : ℕ
 max_locators = 4
+
+-- so many names a PARTITION has
+abbrev pub max_partitions : ℕ
+max_partitions = 16
+
+-- so many ids a DATA_REPRESENTATION has
+abbrev pub max_representations : ℕ
+max_representations = 8
 
 -- LOCATOR_KIND_UDPv4
 abbrev pub locator_kind_udp_v4 : ℕ

@@ -3,7 +3,7 @@
 -- cites.
 --
 -- RTPS 2.5, 9.3.2, 9.4.2 and 9.6.
-use Rattle.std.specs.Prelude.{◌≡◌, ℕ, zero, suc, ◌+◌, ◌-◌, ◌*◌, ◌^◌, ◌==◌, Bool, true, false, List, [], ◌∷◌, length, Option, Some, None, nat_lt, nat_le, if◌then◌else◌}
+use Rattle.std.specs.Prelude.{◌≡◌, ℕ, zero, suc, ◌+◌, ◌-◌, ◌*◌, ◌%◌, ◌^◌, ◌==◌, Bool, true, false, List, [], ◌∷◌, length, Option, Some, None, nat_lt, nat_le, if◌then◌else◌}
 use Rattle.std.specs.List.{list_any}
 use Rattle.std.specs.Option.{option_map}
 use Rattle.std.specs.Int.{w32}
@@ -133,3 +133,29 @@ octet_at (octet ∷ rest) = Some (octet, rest)
 -- two octets
 unfoldable pub vendor_at : List ℕ → Option (VendorId × List ℕ)
 vendor_at bytes = mapped (λ octets. record { 0 = octets }) (octets_at 2) bytes
+
+-- as many items as are asked for
+unfoldable pub counted : {X : Type 0} → (List ℕ → Option (X × List ℕ)) → ℕ → List ℕ → Option (List X × List ℕ)
+counted field zero bytes = Some ([], bytes)
+counted field (suc n) bytes = do
+  x ← field bytes
+  xs ← counted field n x.1
+  Some (x.0 ∷ xs.0, xs.1)
+
+-- the number of items, which is at most this, and each
+unfoldable pub listed_at : {X : Type 0} → ℕ → Endianness → (List ℕ → Option (X × List ℕ)) → List ℕ
+    → Option (List X × List ℕ)
+listed_at max order field bytes = do
+  n ← number_at order w32 bytes
+  if nat_lt max n.0 then None else counted field n.0 n.1
+
+-- a name, and the octets up to a multiple of 4
+unfoldable pub padded_at : Endianness → List ℕ → Option ((List ℕ × List ℕ) × List ℕ)
+padded_at order bytes = do
+  name ← name_at order bytes
+  octets ← octets_at (3 - length name.0 % 4) name.1
+  Some ((name.0, octets.0), octets.1)
+
+-- a name, before octets up to a multiple of 4
+unfoldable pub padded_name_at : Endianness → List ℕ → Option (List ℕ × List ℕ)
+padded_name_at order bytes = mapped (λ x. x.0) (padded_at order) bytes

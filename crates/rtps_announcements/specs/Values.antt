@@ -1,7 +1,8 @@
 -- What the parameters of an announcement say (RTPS 2.5, 9.3.2: Duration_t; 9.4.2: strings, octets; 9.6: which type a
 -- parameter has, and its default; DDS 1.4, 2.2.3: the policies and their defaults).
-use Rattle.std.specs.Prelude.{◌≡◌, ℕ, ◌+◌, ◌<◌, ◌≤◌, ◌^◌, Bool, true, false, List, [], ◌∷◌, ◌++◌, length, Option, Some, None, Contains, slice_index, ◌⊎◌}
+use Rattle.std.specs.Prelude.{◌≡◌, ℕ, ◌+◌, ◌-◌, ◌%◌, ◌<◌, ◌≤◌, ◌^◌, Bool, true, false, List, [], ◌∷◌, ◌++◌, length, Option, Some, None, Contains, slice_index, ◌⊎◌}
 use Rattle.std.specs.Int.{w32}
+use Rattle.std.specs.List.{AllByRecursion, flat_map}
 use Rattle.dds_base.specs.declared.endianness.Endianness.{Endianness}
 use Rattle.dds_base.specs.declared.guid.Guid.{Guid}
 use Rattle.dds_base.specs.declared.guid.GuidPrefix.{GuidPrefix}
@@ -142,3 +143,23 @@ participant_guid source = record { prefix = source; entity = record { 0 = 0x00 �
 abbrev pub IsOfSender : GuidPrefix → Option (List ℕ) → Type 0
 IsOfSender source None = Unit {0}
 IsOfSender source (Some value) = (entity : List ℕ) × (length entity ≡ 4) × BeginsWith value (source.0 ++ entity)
+
+-- ---- lists
+
+-- the number of items, and each
+abbrev pub listed_text : {X : Type 0} → Endianness → (X → List ℕ) → List X → List ℕ
+listed_text order text xs = number order w32 (length xs) ++ flat_map text xs
+
+-- at most so many items, each of which fits
+pub record AreListed {X : Type 0} (max : ℕ) (Fits : X → Type 0) (xs : List X) : Type 0 where
+  pub few : length xs ≤ max
+  pub each : AllByRecursion Fits xs
+
+-- a name of PARTITION, and octets that are not looked at, up to a multiple of 4
+abbrev pub padded_text : Endianness → List ℕ × List ℕ → List ℕ
+padded_text order x = name_text order x.0 ++ x.1
+
+-- so many octets that the next name begins at a multiple of 4
+pub record IsPadded (x : List ℕ × List ℕ) : Type 0 where
+  pub name : IsName x.0
+  pub octets : length x.1 ≡ 3 - length x.0 % 4

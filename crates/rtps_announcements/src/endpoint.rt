@@ -20,8 +20,10 @@ use crate::names::{
     LEN_ENTITY_ID, LEN_PREFIX, PID_ENDPOINT_GUID, PID_PARTICIPANT_GUID, PID_TOPIC_NAME,
     PID_TYPE_NAME, PID_UNICAST_LOCATOR,
 };
+use crate::partition::{Partitions, partitions_in};
 use crate::policies::{Policies, policies_in};
 use crate::qos::EndpointKind;
+use crate::representation::{Representations, representations_in};
 use dds_base::{Endianness, Guid, GuidPrefix};
 
 /// A DataWriter or a DataReader, as its participant announces it. The announcement lends the names.
@@ -37,7 +39,11 @@ pub struct Endpoint<'a> {
     pub type_name: Name<'a>,
     /// Where it can be reached by UDP over IPv4; none where that is as of its participant.
     pub locators: Locators,
-    /// Its policies.
+    /// PARTITION: the names of its publisher's or subscriber's partitions; none is the one without a name.
+    pub partitions: Partitions<'a>,
+    /// DATA_REPRESENTATION: how its samples may stand in octets.
+    pub representations: Representations,
+    /// Its other policies.
     pub policies: Policies,
 }
 
@@ -80,12 +86,16 @@ fn endpoint_in(
     }
     let topic_name = name_in(order, list, PID_TOPIC_NAME)?;
     let type_name = name_in(order, list, PID_TYPE_NAME)?;
+    let partitions = partitions_in(order, list)?;
+    let representations = representations_in(order, list)?;
     let policies = policies_in(kind, order, list)?;
     Some(Endpoint {
         guid,
         topic_name,
         type_name,
         locators: locators_in(order, list, PID_UNICAST_LOCATOR),
+        partitions,
+        representations,
         policies,
     })
 }

@@ -15,15 +15,19 @@ mod locator;
 mod name;
 mod names;
 mod participant;
+mod partition;
 mod policies;
 mod qos;
+mod representation;
 
 pub use endpoint::{Endpoint, read_endpoint};
 pub use locator::{Locator, Locators};
 pub use name::Name;
 pub use participant::{Participant, VendorId, read_participant};
+pub use partition::Partitions;
 pub use policies::Policies;
 pub use qos::{
     DestinationOrderQos, DurabilityQos, Duration, EndpointKind, LivelinessKind, LivelinessQos,
     PresentationQos, PresentationScope,
 };
+pub use representation::Representations;

@@ -45,6 +45,12 @@ impl<'a> Name<'a> {
     }
 }
 
+impl<'a> Default for Name<'a> {
+    fn default() -> Name<'a> {
+        Name { octets: &[] }
+    }
+}
+
 /// What follows the octet that is zero.
 #[tactic(auto, unfolding(crate::specs::ValueAt::zero_at))]
 fn take_zero(bytes: &[u8]) -> Option<&[u8]>
@@ -56,10 +62,10 @@ fn take_zero(bytes: &[u8]) -> Option<&[u8]>
     }
 }
 
-/// The name that the bytes begin with.
+/// The name that the bytes begin with, and the bytes after it.
 #[tactic(auto, unfolding(crate::specs::ValueAt::name_at))]
-pub fn name_of(order: Endianness, bytes: &[u8]) -> Option<Name<'_>>
-    ensures { result ≡ option_map (λ x. x.0) (name_at order bytes.now) }
+pub fn take_name(order: Endianness, bytes: &[u8]) -> Option<(Name<'_>, &[u8])>
+    ensures { option_map (λ x. (x.0, x.1.now)) result ≡ name_at order bytes.now }
 {
     let (count, rest) = take_u32(order, bytes)?;
     let count = count as usize;
@@ -70,11 +76,11 @@ pub fn name_of(order: Endianness, bytes: &[u8]) -> Option<Name<'_>>
         return None;
     }
     let (octets, rest) = take_octets(rest, count - 1)?;
-    take_zero(rest)?;
+    let rest = take_zero(rest)?;
     if octets.contains(&0) {
         return None;
     }
-    Some(Name::new(octets))
+    Some((Name::new(octets), rest))
 }
 
 /// The name that the first parameter of this id says.
@@ -82,6 +88,6 @@ pub fn name_in(order: Endianness, list: &[u8], id: u16) -> Option<Name<'_>>
     ensures { result ≡ said None (name_at order) (value_in order list.now id) }
 {
     let value = first_value(order, list, id)?;
-    let name = name_of(order, value)?;
+    let (name, _) = take_name(order, value)?;
     Some(name)
 }

@@ -72,6 +72,12 @@ pub const PID_DOMAIN_TAG: u16 = 0x4014;
 /// The GUID of a participant, also in an announcement of one of its endpoints.
 pub const PID_PARTICIPANT_GUID: u16 = 0x0050;
 
+/// PARTITION.
+pub const PID_PARTITION: u16 = 0x0029;
+
+/// DATA_REPRESENTATION.
+pub const PID_DATA_REPRESENTATION: u16 = 0x0073;
+
 /// The GUID of an endpoint.
 pub const PID_ENDPOINT_GUID: u16 = 0x005a;
 
@@ -121,3 +127,9 @@ pub const LEN_BEFORE_ADDRESS: usize = 12;
 
 /// An address of IPv4.
 pub const LEN_ADDRESS: usize = 4;
+
+/// So many names a PARTITION has.
+pub const MAX_PARTITIONS: usize = 16;
+
+/// So many ids a DATA_REPRESENTATION has.
+pub const MAX_REPRESENTATIONS: usize = 8;

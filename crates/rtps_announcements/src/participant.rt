@@ -18,7 +18,7 @@ ghost use Rattle.rtps_announcements.specs.declared.participant.Participant.{Part
 use crate::guid::guid_in;
 use crate::list::{first_value, has_parameters, take_representation};
 use crate::locator::{Locators, locators_in, locators_or_in};
-use crate::name::name_of;
+use crate::name::take_name;
 use crate::names::{
     PID_BUILTIN_ENDPOINT_SET, PID_DEFAULT_UNICAST_LOCATOR, PID_DOMAIN_ID, PID_DOMAIN_TAG,
     PID_METATRAFFIC_UNICAST_LOCATOR, PID_PARTICIPANT_GUID, PID_PARTICIPANT_LEASE_DURATION,
@@ -163,7 +163,7 @@ fn is_untagged(order: Endianness, list: &[u8]) -> bool
     let Some(value) = first_value(order, list, PID_DOMAIN_TAG) else {
         return true;
     };
-    let Some(name) = name_of(order, value) else {
+    let Some((name, _)) = take_name(order, value) else {
         return false;
     };
     name.as_slice().is_empty()
