@@ -1,6 +1,7 @@
 //! The tests, by the crate of which they are.
 
 mod adapter;
+mod announcements;
 mod base;
 mod cache;
 mod conditions;
