@@ -9,8 +9,8 @@ use Rattle.dds_base.specs.declared.endianness.Endianness.{Endianness}
 use Rattle.dds_base.specs.Fields.{number, number_at, octets_at, ◌>>=◌}
 use Rattle.dds_base.specs.FieldPairs.{mapped}
 use Rattle.dds_base.proofs.FieldLaws.{AreOctets, Takes, Takes-then, IsField, bind_some, guard_some, some_is, field_u32, field_octets}
-use Rattle.rtps_announcements.specs.ValueAt.{counted, listed_at, name_at, padded_at, padded_name_at}
-use Rattle.rtps_announcements.specs.Values.{listed_text, AreListed, padded_text, IsPadded, IsName, name_text}
+use Rattle.rtps_announcements.specs.ValueAt.{counted, listed_at, name_at, padded_at}
+use Rattle.rtps_announcements.specs.Values.{listed_text, AreListed, padded_text, IsPadded, name_text}
 use Rattle.rtps_announcements.proofs.ValueLaws.{field_name}
 
 -- ---- the loop

@@ -1,7 +1,6 @@
 -- An announcement of an endpoint is read as what it says.
-use Rattle.std.proofs.Common.{◌≡◌, ℕ, ◌<◌, ◌^◌, List, [], ◌++◌, length, map, arith, Option, Some, None, refl, sym, ap, subst, ◌∙◌, pos}
-use Rattle.std.specs.Prelude.{FitsSigned}
-use Rattle.std.specs.Int.{w16, w32}
+use Rattle.std.proofs.Common.{◌≡◌, ℕ, ◌<◌, ◌^◌, List, [], length, map, arith, Option, Some, None, refl, sym, ap, subst, ◌∙◌, pos}
+use Rattle.std.specs.Int.{w16}
 use Rattle.std.specs.Option.{option_map}
 use Rattle.dds_base.specs.Fields.{number, number_at}
 use Rattle.dds_base.specs.declared.endianness.Endianness.{Endianness}
@@ -181,7 +180,7 @@ endpoint_found source kind bytes order list e twelve octets front has at =
       };
       understood = has.understood;
       guid = there_found (field_guid source twelve) None pid_endpoint_guid order list has.ps l e.guid at.guid;
-      is_one = at.is_one;
+      of_kind = at.of_kind;
       participant = subst (λ (o : Option (List ℕ)). IsOfSender source o)
           (value_is order pid_participant_guid list has.rest has.ps has.list) at.participant;
       topic_name = there_found (field_name order) None pid_topic_name order list has.ps l e.topic_name at.topic_name;
@@ -220,7 +219,7 @@ endpoint_only source kind bytes order list e twelve octets front r =
     record {
       guid = there_only (field_guid source twelve) None pid_endpoint_guid r.order r.list.parameters r.ps l e.guid
           r.guid;
-      is_one = r.is_one;
+      of_kind = r.of_kind;
       participant = subst (λ (o : Option (List ℕ)). IsOfSender source o)
           (sym (value_is r.order pid_participant_guid r.list.parameters r.list.rest r.ps r.list.list)) r.participant;
       topic_name = there_only (field_name r.order) None pid_topic_name r.order r.list.parameters r.ps l e.topic_name

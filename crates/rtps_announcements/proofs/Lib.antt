@@ -4,3 +4,4 @@ pub mod LocatorLaws
 pub mod CountLaws
 pub mod EndpointLaws
 pub mod ParticipantLaws
+pub mod GuidLaws

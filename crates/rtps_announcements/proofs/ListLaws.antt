@@ -1,16 +1,16 @@
 -- A list of parameters that is found stands there, and the value that is found is that of the first parameter.
-use Rattle.std.proofs.Common.{◌≡◌, ◌≢◌, ℕ, zero, suc, ◌<◌, ◌^◌, Bool, true, false, cond, eqb, List, [], ◌∷◌, ◌++◌, length, Option, Some, None, refl, sym, ap, subst, ◌∙◌, arith, Contains}
-use Rattle.std.proofs.lemmas.Bool.{eq-eqb, eqb-true, ne_eqb}
+use Rattle.std.proofs.Common.{◌≡◌, ◌≢◌, ℕ, zero, suc, ◌<◌, true, false, cond, eqb, List, [], ◌∷◌, ◌++◌, length, Some, None, refl, sym, ap, subst, ◌∙◌, arith, Contains}
+use Rattle.std.proofs.lemmas.Bool.{eq-eqb, ne_eqb}
 use Rattle.std.proofs.lemmas.Option.{option_and_then_some}
 use Rattle.std.specs.Int.{w16}
 use Rattle.std.proofs.lemmas.List.{length-append}
 use Rattle.dds_base.specs.declared.endianness.Endianness.{Endianness}
 use Rattle.dds_base.specs.declared.endianness.Endianness.TheVariants.{Big, Little}
-use Rattle.dds_base.specs.Fields.{number, ◌>>=◌}
+use Rattle.dds_base.specs.Fields.{number}
 use Rattle.dds_base.proofs.FieldLaws.{AreOctets, cond_is, some_is}
 use Rattle.rtps_wire.specs.Parameters.{Parameter, parameter_text, IsParameter, ReadsParameters, parameter_value}
 use Rattle.rtps_wire.specs.ParametersAt.{parameter_at}
-use Rattle.rtps_wire.proofs.ParameterLaws.{TakesParameter, parameter_found, sentinel_found, value_found, parameter_again, sentinel_again}
+use Rattle.rtps_wire.proofs.ParameterLaws.{parameter_found, sentinel_found, value_found, parameter_again, sentinel_again}
 use Rattle.rtps_wire.proofs.WireFields.{len_16}
 use Rattle.rtps_announcements.specs.Lists.{list_representation, MustBeUnderstood, IsUnderstood}
 use Rattle.rtps_announcements.specs.ListAt.{list_at, IsWhole, HasParameters, value_from, value_in, parameters_from, parameters_in}

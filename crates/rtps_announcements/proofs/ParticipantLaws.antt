@@ -1,6 +1,5 @@
 -- An announcement of a participant is read as what it says.
-use Rattle.std.proofs.Common.{◌≡◌, ℕ, List, [], ◌∷◌, length, Option, Some, None, sym, ap, subst, ◌∙◌}
-use Rattle.std.specs.Int.{w32}
+use Rattle.std.proofs.Common.{◌≡◌, ℕ, List, [], ◌∷◌, length, Some, None, sym, ap, subst, ◌∙◌}
 use Rattle.dds_base.specs.declared.endianness.Endianness.{Endianness}
 use Rattle.dds_base.specs.declared.guid.GuidPrefix.{GuidPrefix}
 use Rattle.dds_base.proofs.FieldLaws.{AreOctets, field_u32}
@@ -11,7 +10,6 @@ use Rattle.rtps_announcements.specs.Names.{pid_participant_guid, pid_protocol_ve
 use Rattle.rtps_announcements.specs.ParticipantAt.{ParticipantAt}
 use Rattle.rtps_announcements.specs.Participants.{ReadsParticipant, protocol_major, vendor_unknown, default_builtin_endpoints, default_lease}
 use Rattle.rtps_announcements.specs.Values.{participant_guid}
-use Rattle.rtps_announcements.specs.declared.locator.Locator.{Locator}
 use Rattle.rtps_announcements.specs.declared.participant.Participant.{Participant}
 use Rattle.rtps_announcements.proofs.EndpointLaws.{Listed, there_found, there_only, there_gathered, there_again, list_only, list_one, list_has}
 use Rattle.rtps_announcements.proofs.ListLaws.{representation_takes, parameters_are}

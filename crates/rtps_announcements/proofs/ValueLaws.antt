@@ -1,12 +1,10 @@
 -- What a parameter says is read, and what is read is what it says.
-use Rattle.std.proofs.Common.{◌≡◌, ◌≢◌, ℕ, zero, suc, ◌+◌, ◌-◌, ◌<◌, ◌≤◌, ◌^◌, Bool, true, false, cond, eqb, ltb, List, [], ◌∷◌, ◌++◌, length, get_or, take, drop, Option, Some, None, refl, sym, ap, subst, ◌∙◌, append_assoc, arith, Contains, ◌⊎◌, inl, inr, ℤ}
-use Rattle.std.specs.Prelude.{FitsSigned, slice_index}
+use Rattle.std.proofs.Common.{◌≡◌, ℕ, zero, suc, ◌+◌, ◌-◌, ◌<◌, ◌≤◌, ◌^◌, Bool, true, false, cond, eqb, ltb, List, [], ◌∷◌, ◌++◌, length, get_or, take, drop, Option, Some, None, refl, sym, ap, subst, ◌∙◌, append_assoc, arith, Contains}
 use Rattle.std.specs.Int.{w32}
-use Rattle.std.specs.Bool.{Decides}
 use Rattle.std.specs.List.{list_any}
 use Rattle.std.specs.Option.{option_map}
 use Rattle.std.specs.Str.{bytes_eq}
-use Rattle.std.proofs.lemmas.Bool.{eq-eqb, eqb-true, eqb-false, ltb-true, ltb-false, le-ltb, lt-ltb}
+use Rattle.std.proofs.lemmas.Bool.{eq-eqb, eqb-true, ltb-true, ltb-false, le-ltb, lt-ltb}
 use Rattle.std.proofs.lemmas.List.{take_at, take-append-drop, length-append, length-take, length-drop}
 use Rattle.std.proofs.lemmas.List.Folds.{Any-from_list_any, list_any_at}
 use Rattle.std.proofs.lemmas.Slice.Eq.{bytes_eq-Decides}
@@ -18,7 +16,6 @@ use Rattle.dds_base.specs.declared.qos.OwnershipQos.TheVariants.{Shared, Exclusi
 use Rattle.dds_base.specs.declared.qos.ReliabilityQos.{ReliabilityQos}
 use Rattle.dds_base.specs.declared.qos.ReliabilityQos.TheVariants.{BestEffort, Reliable}
 use Rattle.dds_base.specs.Fields.{number, number_at, octets_at, ◌>>=◌}
-use Rattle.dds_base.specs.FieldPairs.{both, mapped}
 use Rattle.dds_base.proofs.FieldLaws.{AreOctets, Takes, IsField, bind_some, guard_some, some_is, cond_is, field_u32, field_octets, field_both, field_mapped}
 use Rattle.rtps_wire.specs.Fields.{BeginsWith}
 use Rattle.rtps_announcements.specs.ValueAt.{said, partly, reliability_of, durability_of, ownership_of, liveliness_of, destination_order_of, scope_of, duration_of, duration_at, liveliness_at, flag_at, presentation_at, zero_at, name_at, guid_of, guid_at, octet_at, vendor_at}
@@ -31,8 +28,6 @@ use Rattle.rtps_announcements.specs.declared.qos.DurabilityQos.TheVariants.{Vola
 use Rattle.rtps_announcements.specs.declared.qos.Duration.{Duration}
 use Rattle.rtps_announcements.specs.declared.qos.LivelinessKind.{LivelinessKind}
 use Rattle.rtps_announcements.specs.declared.qos.LivelinessKind.TheVariants.{Automatic, ManualByParticipant, ManualByTopic}
-use Rattle.rtps_announcements.specs.declared.qos.LivelinessQos.{LivelinessQos}
-use Rattle.rtps_announcements.specs.declared.qos.PresentationQos.{PresentationQos}
 use Rattle.rtps_announcements.specs.declared.qos.PresentationScope.{PresentationScope}
 use Rattle.rtps_announcements.specs.declared.qos.PresentationScope.TheVariants.{Instance, Topic, Group}
 

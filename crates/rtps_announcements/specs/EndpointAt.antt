@@ -2,7 +2,7 @@
 -- `read_endpoint` says what it reads by `Endpoints`.
 --
 -- RTPS 2.5, 8.5 and 9.6.
-use Rattle.std.specs.Prelude.{◌≡◌, ℕ, List, [], Option, Some, None, pos, slice_index}
+use Rattle.std.specs.Prelude.{◌≡◌, ℕ, List, [], Some, None, pos, slice_index}
 use Rattle.std.specs.Int.{w16, w32}
 use Rattle.dds_base.specs.declared.endianness.Endianness.{Endianness}
 use Rattle.dds_base.specs.declared.guid.GuidPrefix.{GuidPrefix}
@@ -44,7 +44,7 @@ pub record PoliciesAt (kind : EndpointKind) (order : Endianness) (list : List �
 pub record EndpointAt (source : GuidPrefix) (kind : EndpointKind) (order : Endianness) (list : List ℕ)
     (e : Endpoint) : Type 0 where
   pub guid : said None (guid_at source) (value_in order list pid_endpoint_guid) ≡ Some e.guid
-  pub is_one : IsOfKind kind (slice_index e.guid.entity.0 3)
+  pub of_kind : IsOfKind kind (slice_index e.guid.entity.0 3)
   pub participant : IsOfSender source (value_in order list pid_participant_guid)
   pub topic_name : said None (name_at order) (value_in order list pid_topic_name) ≡ Some e.topic_name
   pub type_name : said None (name_at order) (value_in order list pid_type_name) ≡ Some e.type_name

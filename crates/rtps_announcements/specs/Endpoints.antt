@@ -71,7 +71,7 @@ pub record ReadsEndpoint (source : GuidPrefix) (kind : EndpointKind) (bytes : Li
   pub list : ReadsList bytes order ps
   pub understood : IsUnderstood [] ps
   pub guid : Says None guid_text (IsGuidOf source) (parameter_value pid_endpoint_guid ps) e.guid
-  pub is_one : IsOfKind kind (slice_index e.guid.entity.0 3)
+  pub of_kind : IsOfKind kind (slice_index e.guid.entity.0 3)
   pub participant : IsOfSender source (parameter_value pid_participant_guid ps)
   pub topic_name : Says None (name_text order) IsName (parameter_value pid_topic_name ps) e.topic_name
   pub type_name : Says None (name_text order) IsName (parameter_value pid_type_name ps) e.type_name

@@ -4,6 +4,7 @@ pub mod ListAt
 pub mod Values
 pub mod ValueAt
 pub mod Locators
+pub mod Guids
 pub mod Endpoints
 pub mod EndpointAt
 pub mod Participants

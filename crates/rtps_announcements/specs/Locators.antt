@@ -5,7 +5,7 @@
 -- |                             port                              |
 -- |                  12 octets, not looked at                     |
 -- |                       address of IPv4                         |
-use Rattle.std.specs.Prelude.{ℕ, ◌==◌, ◌&&◌, ◌||◌, not, Bool, List, [], ◌∷◌, length, take, Option, Some, None, nat_lt, nat_le, if◌then◌else◌, slice_index, filter_map}
+use Rattle.std.specs.Prelude.{ℕ, ◌==◌, ◌&&◌, ◌||◌, Bool, List, [], ◌∷◌, take, Option, Some, None, nat_lt, if◌then◌else◌, slice_index, filter_map}
 use Rattle.std.specs.Int.{w32}
 use Rattle.dds_base.specs.declared.endianness.Endianness.{Endianness}
 use Rattle.dds_base.specs.Fields.{number_at, octets_at, ◌>>=◌}

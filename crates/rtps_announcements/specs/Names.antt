@@ -1,6 +1,6 @@
 -- The ids of the parameters that announcements have, and bounds (RTPS 2.5, 9.6: ParameterId values). `src/names.rt`
 -- has the same names for the code.
-use Rattle.std.specs.Prelude.{ℕ, List, [], ◌∷◌}
+use Rattle.std.specs.Prelude.{ℕ}
 
 -- ---- of endpoints
 

@@ -2,7 +2,7 @@
 -- `read_participant` says what it reads by `Participants`.
 --
 -- RTPS 2.5, 8.5 and 9.6.
-use Rattle.std.specs.Prelude.{◌≡◌, ◌≢◌, ℕ, List, [], Option, Some, None}
+use Rattle.std.specs.Prelude.{◌≡◌, ◌≢◌, ℕ, List, [], Some, None}
 use Rattle.std.specs.Int.{w32}
 use Rattle.dds_base.specs.declared.endianness.Endianness.{Endianness}
 use Rattle.dds_base.specs.declared.guid.GuidPrefix.{GuidPrefix}

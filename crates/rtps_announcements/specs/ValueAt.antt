@@ -1,9 +1,8 @@
 -- Reading what parameters say from left to right: what the code does, on lists. Nothing here has to be believed, since
--- `read_endpoint` and `read_participant` say what they read by `Values`; but for `units_of`, which `Duration::units`
--- cites.
+-- `read_endpoint` and `read_participant` say what they read by `Values`.
 --
 -- RTPS 2.5, 9.3.2, 9.4.2 and 9.6.
-use Rattle.std.specs.Prelude.{◌≡◌, ℕ, zero, suc, ◌+◌, ◌-◌, ◌*◌, ◌%◌, ◌^◌, ◌==◌, Bool, true, false, List, [], ◌∷◌, length, Option, Some, None, nat_lt, nat_le, if◌then◌else◌}
+use Rattle.std.specs.Prelude.{ℕ, zero, suc, ◌-◌, ◌%◌, ◌^◌, ◌==◌, Bool, true, false, List, [], ◌∷◌, length, Option, Some, None, nat_lt, if◌then◌else◌}
 use Rattle.std.specs.List.{list_any}
 use Rattle.std.specs.Option.{option_map}
 use Rattle.std.specs.Int.{w32}
@@ -42,10 +41,6 @@ partly table field bytes = do
   x ← field bytes
   y ← table x.0
   Some (y, x.1)
-
--- the time in units of 2^-32 second, where it has an end: the seconds are not the greatest
-abbrev pub units_of : Duration → Option ℕ
-units_of d = if d.seconds == 0x7fffffff then None else Some (d.seconds * 2 ^ 32 + d.fraction)
 
 -- ---- numbers of policies
 

@@ -1,6 +1,6 @@
 -- What the parameters of an announcement say (RTPS 2.5, 9.3.2: Duration_t; 9.4.2: strings, octets; 9.6: which type a
 -- parameter has, and its default; DDS 1.4, 2.2.3: the policies and their defaults).
-use Rattle.std.specs.Prelude.{◌≡◌, ℕ, ◌+◌, ◌-◌, ◌%◌, ◌<◌, ◌≤◌, ◌^◌, Bool, true, false, List, [], ◌∷◌, ◌++◌, length, Option, Some, None, Contains, slice_index, ◌⊎◌}
+use Rattle.std.specs.Prelude.{◌≡◌, ℕ, ◌+◌, ◌-◌, ◌*◌, ◌%◌, ◌<◌, ◌==◌, if◌then◌else◌, ◌≤◌, ◌^◌, Bool, true, false, List, [], ◌∷◌, ◌++◌, length, Option, Some, None, Contains, ◌⊎◌}
 use Rattle.std.specs.Int.{w32}
 use Rattle.std.specs.List.{AllByRecursion, flat_map}
 use Rattle.dds_base.specs.declared.endianness.Endianness.{Endianness}
@@ -90,6 +90,10 @@ no_time = record { seconds = 0; fraction = 0 }
 pub record IsDuration (d : Duration) : Type 0 where
   pub seconds : d.seconds < 2 ^ 31
   pub fraction : d.fraction < 2 ^ 32
+
+-- the time in units of 2^-32 second, where it has an end: the seconds are not the greatest
+abbrev pub units_of : Duration → Option ℕ
+units_of d = if d.seconds == 0x7fffffff then None else Some (d.seconds * 2 ^ 32 + d.fraction)
 
 -- seconds, and a fraction in units of 2^-32 second
 abbrev pub duration_text : Endianness → Duration → List ℕ

@@ -1,11 +1,23 @@
 //! What participants announce of themselves and of their endpoints, and its bytes.
 //!
-//! `read_endpoint` gives the DataWriter or DataReader that an announcement of SEDP is about. The announcement lends the
-//! names, and no memory is taken. The grammar stands in `specs/`, and in words in `docs/WIRE.md`, "Announcements". Not
-//! here: who is matched with whom, and what is sent when.
+//! `read_participant` gives the participant that an announcement of SPDP is about, and `read_endpoint` the DataWriter or
+//! the DataReader that one of SEDP is about; `read_guid` says who leaves. The announcement lends the names, and no memory
+//! is taken. The grammar stands in `specs/`, and in words in `docs/WIRE.md`, "Announcements". Not here: who is matched
+//! with whom, what is sent when, and how an announcement is written.
 //!
 //! RTPS 2.5, 8.5 (discovery), 9.4.2 (ParameterList), 9.6 (ParameterId values), clause 10 (PL_CDR); DDS 1.4, 2.2.3
 //! (policies).
+//!
+//! A publication, as the DATA of SEDP that `source` sent carries it:
+//!
+//! ```rust
+//! use rtps_announcements::{EndpointKind, read_endpoint};
+//!
+//! if let Some(writer) = read_endpoint(source, EndpointKind::Writer, payload) {
+//!     let topic = writer.topic_name.as_slice(); // the octets of its name, in `payload`
+//!     let lease = writer.policies.liveliness.lease.units(); // None: no end
+//! }
+//! ```
 #![tactic(auto)]
 
 mod endpoint;
@@ -21,6 +33,7 @@ mod qos;
 mod representation;
 
 pub use endpoint::{Endpoint, read_endpoint};
+pub use guid::read_guid;
 pub use locator::{Locator, Locators};
 pub use name::Name;
 pub use participant::{Participant, VendorId, read_participant};

@@ -3,8 +3,8 @@
 //! DDS 1.4, 2.2.3 (supported QoS); RTPS 2.5, 9.3.2 (Duration_t) and 9.6 (their numbers).
 
 ghost use Rattle.std.specs.Prelude.{◌≡◌};
-ghost use Rattle.rtps_announcements.specs.ValueAt.{reliability_of, durability_of, ownership_of, liveliness_of, destination_order_of, scope_of, units_of};
-ghost use Rattle.rtps_announcements.specs.Values.{default_reliability};
+ghost use Rattle.rtps_announcements.specs.ValueAt.{reliability_of, durability_of, ownership_of, liveliness_of, destination_order_of, scope_of};
+ghost use Rattle.rtps_announcements.specs.Values.{default_reliability, units_of};
 
 use dds_base::{OwnershipQos, ReliabilityQos};
 

@@ -5,10 +5,10 @@ mod worked;
 
 use crate::tests::rows::{Subject, expect_rows, octets_of, push_hex};
 use captured::CAPTURED;
-use dds_base::GuidPrefix;
+use dds_base::{Guid, GuidPrefix};
 use rtps_announcements::{
     Duration, Endpoint, EndpointKind, Locator, Name, Participant, Policies, read_endpoint,
-    read_participant,
+    read_guid, read_participant,
 };
 use std::alloc::Global;
 use worked::WORKED;
@@ -62,10 +62,14 @@ fn push_policies(text: &mut String, policies: &Policies) {
     let _ = write!(text, "; {order:?}; {scope:?} {coherent} {ordered}");
 }
 
-fn push_endpoint(text: &mut String, endpoint: &Endpoint) {
+fn push_guid(text: &mut String, guid: &Guid) {
     let _ = text.push_str("guid ");
-    push_hex(text, endpoint.guid.prefix.as_slice());
-    push_hex(text, endpoint.guid.entity.as_slice());
+    push_hex(text, guid.prefix.as_slice());
+    push_hex(text, guid.entity.as_slice());
+}
+
+fn push_endpoint(text: &mut String, endpoint: &Endpoint) {
+    push_guid(text, &endpoint.guid);
     let _ = text.push_str("; topic ");
     push_hex(text, endpoint.topic_name.as_slice());
     let _ = text.push_str("; type ");
@@ -109,6 +113,15 @@ fn push_read_participant(text: &mut String, source: GuidPrefix, octets: &[u8]) {
     }
 }
 
+fn push_read_guid(text: &mut String, source: GuidPrefix, octets: &[u8]) {
+    match read_guid(source, octets) {
+        Some(guid) => push_guid(text, &guid),
+        None => {
+            let _ = text.push_str("none");
+        }
+    }
+}
+
 /// The prefix that hex digits spell, zeros where they spell none.
 fn prefix_of(word: &str) -> GuidPrefix {
     let mut octets = [0; 12];
@@ -126,6 +139,7 @@ impl Subject for Announcements {
         let octets = octets_of(alloc, words);
         match name {
             "participant" => push_read_participant(text, source, &octets),
+            "leaves" => push_read_guid(text, source, &octets),
             "writer" => push_read_endpoint(text, source, EndpointKind::Writer, &octets),
             _ => push_read_endpoint(text, source, EndpointKind::Reader, &octets),
         }

@@ -1,4 +1,4 @@
-use Rattle.std.proofs.Common.{◌≡◌, ◌∙◌, sym, length, arith}
+use Rattle.std.proofs.Common.{sym, length, arith}
 use Rattle.std.proofs.lemmas.Bool.{eqb-true, eqb-false}
 use Rattle.rtps_announcements.proofs.LocatorLaws.{gathers_first, gathers_end, gathers_sentinel, gathers_all, gathers_none, gathers_one}
 use Rattle.rtps_announcements.proofs.locator.locators_in.Goals as goal

@@ -1,4 +1,4 @@
-use Rattle.std.proofs.Common.{◌≡◌, ◌<◌, ◌≤◌, length, sym, arith}
+use Rattle.std.proofs.Common.{sym, arith}
 use Rattle.rtps_announcements.specs.ValueAt.{padded_name_at}
 use Rattle.rtps_announcements.proofs.CountLaws.{counts_on, counts_short, counts_all}
 use Rattle.rtps_announcements.proofs.partition.take_names.Goals as goal

@@ -1,4 +1,4 @@
-use Rattle.std.proofs.Common.{◌≡◌, ◌<◌, ◌≤◌, length, sym, arith}
+use Rattle.std.proofs.Common.{sym, arith}
 use Rattle.std.specs.Int.{w16}
 use Rattle.dds_base.specs.Fields.{number_at}
 use Rattle.rtps_announcements.proofs.CountLaws.{counts_on, counts_short, counts_all}
