@@ -2,7 +2,7 @@
 //!
 //! RTPS 2.5, 9.4.2 (strings).
 
-ghost use Rattle.std.specs.Prelude.{◌≡◌};
+ghost use Rattle.std.specs.Prelude.{◌≡◌, []};
 ghost use Rattle.std.specs.Option.{option_map};
 ghost use Rattle.rtps_announcements.specs.ListAt.{value_in};
 ghost use Rattle.rtps_announcements.specs.ValueAt.{name_at, said, zero_at};
@@ -46,7 +46,10 @@ impl<'a> Name<'a> {
 }
 
 impl<'a> Default for Name<'a> {
-    fn default() -> Name<'a> {
+    /// The name without octets.
+    fn default() -> Name<'a>
+        ensures empty { result ≡ [] }
+    {
         Name { octets: &[] }
     }
 }
