@@ -217,15 +217,15 @@ inline_only flags bytes ps payload i =
 
 -- ---- the head
 
-record HasHead (order : Endianness) (body : List ℕ) (x : ℕ × EntityId × EntityId × ℕ × List ℕ) : Type 0 where
-  extra : ℕ
-  extra_small : extra < 2 ^ 16
-  way_small : x.0 < 2 ^ 16
-  reader : length x.1.0 ≡ 4
-  writer : length x.2.0 ≡ 4
-  small : x.3 ≤ 2 ^ 62
-  text : body ≡ data_head order extra x.0 x.1 x.2 x.3 ++ x.4
-  octets : AreOctets x.4
+pub record HasHead (order : Endianness) (body : List ℕ) (x : ℕ × EntityId × EntityId × ℕ × List ℕ) : Type 0 where
+  pub extra : ℕ
+  pub extra_small : extra < 2 ^ 16
+  pub way_small : x.0 < 2 ^ 16
+  pub reader : length x.1.0 ≡ 4
+  pub writer : length x.2.0 ≡ 4
+  pub small : x.3 ≤ 2 ^ 62
+  pub text : body ≡ data_head order extra x.0 x.1 x.2 x.3 ++ x.4
+  pub octets : AreOctets x.4
 
 abbrev head_fields : Endianness → List ℕ → Option ((((ℕ × ℕ) × (EntityId × EntityId)) × ℕ) × List ℕ)
 head_fields order =
@@ -242,7 +242,7 @@ head_row order extra way reader writer n rest =
     ap (λ (z : List ℕ). z ++ sn_text order n ++ rest)
     (append_assoc (number order w16 extra ++ number order w16 way) reader.0 writer.0)
 
-head_found : (order : Endianness) (body : List ℕ) (x : ℕ × EntityId × EntityId × ℕ × List ℕ)
+pub head_found : (order : Endianness) (body : List ℕ) (x : ℕ × EntityId × EntityId × ℕ × List ℕ)
     → AreOctets body → data_head_at order body ≡ Some x → HasHead order body x
 unfolding data_head_at
 head_found order body x octets e =
@@ -264,7 +264,7 @@ head_found order body x octets e =
       octets = t.0.octets;
     }))
 
-head_only : (order : Endianness) (extra way : ℕ) (reader writer : EntityId) (n : ℕ) (rest : List ℕ)
+pub head_only : (order : Endianness) (extra way : ℕ) (reader writer : EntityId) (n : ℕ) (rest : List ℕ)
     → extra < 2 ^ 16 → way < 2 ^ 16 → length reader.0 ≡ 4 → length writer.0 ≡ 4 → n ≤ 2 ^ 62
     → data_head_at order (data_head order extra way reader writer n ++ rest) ≡ Some (way, reader, writer, n, rest)
 unfolding data_head_at

@@ -117,6 +117,18 @@ pub fn take_parameters(order: Endianness, bytes: &[u8]) -> Option<(Parameters, &
     None
 }
 
+/// What follows parameters and their sentinel. `None` where one is not valid, or there is no sentinel.
+///
+/// RTPS 2.5, 9.4.2 (ParameterList) and 9.6.
+pub fn skip_parameters(order: Endianness, bytes: &[u8]) -> Option<&[u8]>
+    // It is what follows the parameters of the definitions.
+    ensures value { option_map (λ x. x.now) result
+        ≡ option_map (λ x. x.1) (parameters_at order bytes.now) }
+{
+    let (_, rest) = take_parameters(order, bytes)?;
+    Some(rest)
+}
+
 /// Appends a parameter, or the sentinel with an empty value.
 pub fn put_parameter(out: &mut Vec<u8>, id: u16, value: &[u8]) -> Result<(), Code>
     requires { length value.now < 2 ^ 16 }

@@ -1,0 +1,5 @@
+pub mod DataFrag
+pub mod DataFragAt
+pub mod Keeping
+pub mod Telling
+pub mod Hearing

@@ -1,0 +1,35 @@
+-- The message that is told of a payload that became whole: one DATA of its writer (RTPS 2.5, 8.3.4, 9.4.4 and 9.4.5).
+use Rattle.std.specs.Prelude.{ℕ, ◌+◌, List, [], ◌++◌, length, Option, Some, None}
+use Rattle.dds_base.specs.declared.endianness.Endianness.TheVariants.{Little}
+use Rattle.dds_base.specs.declared.guid.GuidPrefix.{GuidPrefix}
+use Rattle.rtps_wire.specs.Data.{data_head}
+use Rattle.rtps_wire.specs.Fields.{order_of}
+use Rattle.rtps_wire.specs.Frames.{frame_text}
+use Rattle.rtps_wire.specs.InfoTs.{moment_text}
+use Rattle.rtps_wire.specs.Messages.{header_text}
+use Rattle.rtps_wire.specs.Names.{extra_flags, flag_endianness, flag_invalidate, id_data, id_info_dst, id_info_ts, least_octets_to_inline_qos, minor_version, vendor_unknown}
+use Rattle.rtps_fragments.specs.declared.telling.InForce.{InForce}
+use Rattle.rtps_fragments.specs.DataFrag.{Fragment}
+use Rattle.rtps_fragments.specs.Keeping.{Kept}
+
+-- an INFO_TS
+abbrev pub info_ts_text : Option ℕ → List ℕ
+info_ts_text None = frame_text id_info_ts (flag_endianness + flag_invalidate) 0 []
+info_ts_text (Some moment) = frame_text id_info_ts flag_endianness 8 (moment_text Little moment)
+
+-- the header of a message, an INFO_DST and an INFO_TS
+abbrev pub front_text : InForce → List ℕ
+front_text c =
+    header_text minor_version vendor_unknown c.source
+    ++ frame_text id_info_dst flag_endianness 12 c.destination.0
+    ++ info_ts_text c.timestamp
+
+-- the body of a DATA with the parameters and the payload
+abbrev pub data_body : Fragment → Kept → List ℕ
+data_body f k =
+    data_head (order_of k.flags) extra_flags least_octets_to_inline_qos f.reader_id f.writer_id f.writer_sn
+    ++ k.parameters ++ k.octets
+
+-- the message with one DATA, of the writer and the number of the DATA_FRAG that made the payload whole
+abbrev pub message_of : InForce → Fragment → Kept → List ℕ
+message_of c f k = front_text c ++ frame_text id_data k.flags (length (data_body f k)) (data_body f k)

@@ -1,0 +1,15 @@
+//! DATA_FRAGs, put together into DATA.
+//!
+//! A product may send a value in fragments. `Fragments` is given each datagram of the network, keeps the fragments of
+//! known writers, and answers a message with one DATA once all fragments of a payload have come. The datagram stays as
+//! it is, to be handed on too. Nothing is ever written in fragments, and none is asked for: what stays incomplete is a
+//! number that is missing. Not here: sockets, and what a peer does with a message. The payload is only cut and put
+//! together: what it means is no matter of this crate.
+//!
+//! RTPS 2.5, 8.3.8.3 and 9.4.5.4 (DataFrag).
+#![tactic(auto)]
+
+mod data_frag;
+mod field;
+mod names;
+mod telling;
