@@ -258,7 +258,6 @@ fragment_found flags body f octets e =
       skipped_small = rw (← way-is) names.way_small;
       small_num = counts.first;
       small_count = counts.count;
-      small_size = counts.size;
       text = whole;
       inline = inline.inline;
       fragments = frag.text;
@@ -270,6 +269,7 @@ fragment_found flags body f octets e =
         first = frag.possible.first;
         some = frag.possible.some;
         sized = frag.possible.sized;
+        small_size = counts.size;
         within = frag.possible.within;
         carried = frag.possible.carried;
         extent = frag.len;
@@ -306,7 +306,7 @@ fragment_only flags body f x =
           (counts_text order f.fragment_starting_num f.fragments_in_submessage f.fragment_size f.sample_size ++ tail)
           x.extra_small x.skipped_small v.reader v.writer v.small_sn,
       counts_only (order_of flags) f.fragment_starting_num f.fragments_in_submessage f.fragment_size f.sample_size tail
-          x.small_num x.small_count x.small_size (omega (arith, v.carried)),
+          x.small_num x.small_count v.small_size (omega (arith, v.carried)),
       way,
       sub,
       (field_octets (length x.skipped)).again x.skipped (f.parameters ++ x.from_fragments) refl,

@@ -1,2 +1,4 @@
 pub mod Parting
 pub mod FragmentLaws
+pub mod Placing
+pub mod Texts

@@ -77,6 +77,7 @@ pub record IsFragment (f : Fragment) : Type 0 where
   pub first : 1 ≤ f.fragment_starting_num
   pub some : 1 ≤ f.fragments_in_submessage
   pub sized : 1 ≤ f.fragment_size
+  pub small_size : f.fragment_size < 2 ^ 16
   pub within : f.fragment_starting_num - 1 + f.fragments_in_submessage ≤ count_of f.sample_size f.fragment_size
   pub carried : length f.parameters + f.sample_size ≤ max_carried
   pub extent : length f.octets ≡ extent_of f
@@ -109,7 +110,6 @@ pub record ReadsFragment (flags : ℕ) (body : List ℕ) (f : Fragment) : Type 0
   pub skipped_small : least_octets_to_inline_qos + length skipped < 2 ^ 16
   pub small_num : f.fragment_starting_num < 2 ^ 32
   pub small_count : f.fragments_in_submessage < 2 ^ 16
-  pub small_size : f.fragment_size < 2 ^ 16
   pub text : body ≡ frag_head (order_of flags) extra (least_octets_to_inline_qos + length skipped) f
       ++ (skipped ++ (f.parameters ++ from_fragments))
   pub inline : MatchBool (has_flag flags flag_inline_qos)

@@ -14,6 +14,18 @@ pub record Kept : Type 0 where
   pub octets : List ℕ
   pub came : List Bool
 
+-- a payload by what is kept of it
+abbrev pub kept_of : ℕ → ℕ → ℕ → ℕ → List ℕ → List ℕ → List Bool → Kept
+kept_of sn size whole flags parameters octets came = record {
+  writer_sn = sn;
+  fragment_size = size;
+  sample_size = whole;
+  flags = flags;
+  parameters = parameters;
+  octets = octets;
+  came = came;
+}
+
 -- It has as many octets as the payload, and is told of each fragment whether it came. A DATA can carry it.
 pub record IsKept (k : Kept) : Type 0 where
   pub octets : length k.octets ≡ k.sample_size
@@ -26,28 +38,26 @@ overlaid xs place ys = take place xs ++ ys ++ drop (place + length ys) xs
 
 -- the payload of a DATA_FRAG's number, before a fragment came
 abbrev pub nothing_of : Fragment → Kept
-nothing_of f = record {
-  writer_sn = f.writer_sn;
-  fragment_size = f.fragment_size;
-  sample_size = f.sample_size;
-  flags = f.flags;
-  parameters = [];
-  octets = replicate f.sample_size 0;
-  came = replicate (count_of f.sample_size f.fragment_size) false;
-}
+nothing_of f =
+    kept_of f.writer_sn f.fragment_size f.sample_size f.flags [] (replicate f.sample_size 0)
+    (replicate (count_of f.sample_size f.fragment_size) false)
 
--- The fragments stand in their places. The flags and the parameters of the DATA are those that came with the first
--- fragment.
+-- The flags and the parameters of the DATA are those that came with the first fragment.
+abbrev pub opened : Kept → Fragment → Kept
+opened k f =
+    kept_of k.writer_sn k.fragment_size k.sample_size (if f.fragment_starting_num == 1 then f.flags else k.flags)
+    (if f.fragment_starting_num == 1 then f.parameters else k.parameters) k.octets k.came
+
+-- The fragments stand in their places, and are marked as come.
+abbrev pub placed : Kept → Fragment → Kept
+placed k f =
+    kept_of k.writer_sn k.fragment_size k.sample_size k.flags k.parameters
+    (overlaid k.octets (place_of f) f.octets)
+    (overlaid k.came (f.fragment_starting_num - 1) (replicate f.fragments_in_submessage true))
+
+-- what is kept once these fragments have come too
 abbrev pub with_fragments : Kept → Fragment → Kept
-with_fragments k f = record {
-  writer_sn = k.writer_sn;
-  fragment_size = k.fragment_size;
-  sample_size = k.sample_size;
-  flags = if f.fragment_starting_num == 1 then f.flags else k.flags;
-  parameters = if f.fragment_starting_num == 1 then f.parameters else k.parameters;
-  octets = overlaid k.octets (place_of f) f.octets;
-  came = overlaid k.came (f.fragment_starting_num - 1) (replicate f.fragments_in_submessage true);
-}
+with_fragments k f = placed (opened k f) f
 
 -- every fragment came
 abbrev pub is_whole : Kept → Bool

@@ -24,12 +24,18 @@ front_text c =
     ++ frame_text id_info_dst flag_endianness 12 c.destination.0
     ++ info_ts_text c.timestamp
 
--- the body of a DATA with the parameters and the payload
-abbrev pub data_body : Fragment → Kept → List ℕ
-data_body f k =
-    data_head (order_of k.flags) extra_flags least_octets_to_inline_qos f.reader_id f.writer_id f.writer_sn
-    ++ k.parameters ++ k.octets
+-- the body of a DATA with these parameters and this payload, of the reader, the writer and the number of a DATA_FRAG
+abbrev pub data_body : Fragment → ℕ → List ℕ → List ℕ → List ℕ
+data_body f flags parameters payload =
+    data_head (order_of flags) extra_flags least_octets_to_inline_qos f.reader_id f.writer_id f.writer_sn
+    ++ parameters ++ payload
 
--- the message with one DATA, of the writer and the number of the DATA_FRAG that made the payload whole
+-- the message with that DATA, as long as its body is
+abbrev pub message_with : InForce → Fragment → ℕ → List ℕ → List ℕ → List ℕ
+message_with c f flags parameters payload =
+    front_text c
+    ++ frame_text id_data flags (length (data_body f flags parameters payload)) (data_body f flags parameters payload)
+
+-- the message of a payload that became whole by a DATA_FRAG
 abbrev pub message_of : InForce → Fragment → Kept → List ℕ
-message_of c f k = front_text c ++ frame_text id_data k.flags (length (data_body f k)) (data_body f k)
+message_of c f k = message_with c f k.flags k.parameters k.octets

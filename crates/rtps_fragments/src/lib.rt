@@ -9,6 +9,7 @@
 //! RTPS 2.5, 8.3.8.3 and 9.4.5.4 (DataFrag).
 #![tactic(auto)]
 
+mod assembly;
 mod data_frag;
 mod field;
 mod names;

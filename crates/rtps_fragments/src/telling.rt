@@ -2,18 +2,28 @@
 //!
 //! RTPS 2.5, 9.4.4 (header) and 9.4.5 (submessages).
 
-ghost use Rattle.std.specs.Prelude.{◌≡◌, ◌≤◌, ◌<◌, ◌^◌, ◌++◌, [], length, IfErr, OnOk};
+ghost use Rattle.std.specs.Prelude.{◌≡◌, ◌+◌, ◌≤◌, ◌<◌, ◌^◌, ◌++◌, [], length, IfOk, IfErr, OnOk};
 ghost use Rattle.dds_base.specs.declared.endianness.Endianness.TheVariants.{Little};
 ghost use Rattle.dds_base.specs.Fields.{number};
 ghost use Rattle.std.specs.Int.{w16, w32};
 ghost use Rattle.rtps_wire.specs.Fields.{sn_text};
 ghost use Rattle.rtps_wire.specs.Frames.{frame_text};
 ghost use Rattle.rtps_wire.specs.Data.{data_head};
-ghost use Rattle.rtps_fragments.specs.Telling.{info_ts_text, front_text};
+ghost use Rattle.rtps_fragments.specs.Telling.{info_ts_text, front_text, message_with};
 
+use crate::data_frag::DataFrag;
 use crate::field::{HALF_RANGE, order_of};
-use crate::names::{FLAG_ENDIANNESS, FLAG_INVALIDATE, ID_INFO_DST, ID_INFO_TS};
-use dds_base::{Code, Endianness, EntityId, GuidPrefix};
+use crate::names::{
+    FLAG_ENDIANNESS, FLAG_INVALIDATE, ID_DATA, ID_INFO_DST, ID_INFO_TS, MAX_CARRIED,
+};
+use dds_base::{Code, Endianness, EntityId, GuidPrefix, Octets};
+use std::alloc::Global;
+
+/// The head of a DATA: extraFlags, octetsToInlineQos, readerId, writerId and writerSN.
+const LEN_DATA_HEAD: usize = 20;
+
+/// What stands in front of it: the header of the message, an INFO_DST, an INFO_TS, and the header of the DATA.
+const LEN_FRONT: usize = 20 + 16 + 12 + 4;
 
 /// What holds of a submessage: the sender of its message, and the INFO_DST and the INFO_TS before it.
 ///
@@ -115,4 +125,53 @@ pub fn put_front(out: &mut Vec<u8>, in_force: &InForce) -> Result<(), Code>
     put_submessage_header(out, ID_INFO_DST, FLAG_ENDIANNESS, 12)?;
     out.extend_from_slice(in_force.destination.as_slice())?;
     put_info_ts(out, in_force.timestamp)
+}
+
+/// A payload in three parts.
+#[derive(Clone, Copy)]
+pub struct Payload<'a> {
+    /// What stands before the fragments that came last.
+    pub front: &'a [u8],
+    /// Those fragments.
+    pub octets: &'a [u8],
+    /// What stands behind them.
+    pub back: &'a [u8],
+}
+
+/// The message with one DATA, of these flags, parameters and payload.
+pub fn put_message(
+    alloc: Global,
+    in_force: &InForce,
+    fragment: &DataFrag,
+    flags: u8,
+    parameters: &[u8],
+    payload: &Payload,
+) -> Result<Octets, Code>
+    requires { length parameters.now
+        + (length payload.now.front.now + length payload.now.octets.now + length payload.now.back.now)
+        ≤ MAX_CARRIED }
+    ensures ok { IfOk result (λ m. m ≡ message_with in_force.now fragment.now flags parameters.now
+        (payload.now.front.now ++ payload.now.octets.now ++ payload.now.back.now)) }
+    ensures memory { IfErr result (λ e. e ≡ Code.Memory) }
+{
+    let len = LEN_DATA_HEAD
+        + parameters.len()
+        + payload.front.len()
+        + payload.octets.len()
+        + payload.back.len();
+    let mut out = Vec::with_capacity(alloc, LEN_FRONT + len)?;
+    put_front(&mut out, in_force)?;
+    put_submessage_header(&mut out, ID_DATA, flags, len as u16)?;
+    put_data_head(
+        &mut out,
+        order_of(flags),
+        &fragment.reader_id,
+        &fragment.writer_id,
+        fragment.writer_sn,
+    )?;
+    out.extend_from_slice(parameters)?;
+    out.extend_from_slice(payload.front)?;
+    out.extend_from_slice(payload.octets)?;
+    out.extend_from_slice(payload.back)?;
+    Ok(Octets::from_vec(out))
 }
