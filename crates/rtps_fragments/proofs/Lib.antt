@@ -2,3 +2,4 @@ pub mod Parting
 pub mod FragmentLaws
 pub mod Placing
 pub mod Texts
+pub mod Finding

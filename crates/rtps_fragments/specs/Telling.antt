@@ -1,5 +1,6 @@
 -- The message that is told of a payload that became whole: one DATA of its writer (RTPS 2.5, 8.3.4, 9.4.4 and 9.4.5).
-use Rattle.std.specs.Prelude.{ℕ, ◌+◌, List, [], ◌++◌, length, Option, Some, None}
+use Rattle.std.specs.Prelude.{◌≡◌, ℕ, ◌+◌, List, [], ◌++◌, length, Option, Some, None}
+use Rattle.std.specs.Option.{option_map}
 use Rattle.dds_base.specs.declared.endianness.Endianness.TheVariants.{Little}
 use Rattle.dds_base.specs.declared.guid.GuidPrefix.{GuidPrefix}
 use Rattle.rtps_wire.specs.Data.{data_head}
@@ -10,7 +11,7 @@ use Rattle.rtps_wire.specs.Messages.{header_text}
 use Rattle.rtps_wire.specs.Names.{extra_flags, flag_endianness, flag_invalidate, id_data, id_info_dst, id_info_ts, least_octets_to_inline_qos, minor_version, vendor_unknown}
 use Rattle.rtps_fragments.specs.declared.telling.InForce.{InForce}
 use Rattle.rtps_fragments.specs.DataFrag.{Fragment}
-use Rattle.rtps_fragments.specs.Keeping.{Kept}
+use Rattle.rtps_fragments.specs.Keeping.{Kept, Heard}
 
 -- an INFO_TS
 abbrev pub info_ts_text : Option ℕ → List ℕ
@@ -39,3 +40,7 @@ message_with c f flags parameters payload =
 -- the message of a payload that became whole by a DATA_FRAG
 abbrev pub message_of : InForce → Fragment → Kept → List ℕ
 message_of c f k = message_with c f k.flags k.parameters k.octets
+
+-- What is kept of a writer is this after a DATA_FRAG, and the message is that of the payload that it made whole.
+abbrev pub Answers : InForce → Fragment → List Kept → Option (List ℕ) → Heard → Type 0
+Answers c f after message h = (after ≡ h.kept) × (message ≡ option_map (message_of c f) h.whole)

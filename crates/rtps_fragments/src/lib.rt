@@ -12,5 +12,6 @@
 mod assembly;
 mod data_frag;
 mod field;
+mod kept;
 mod names;
 mod telling;
