@@ -3,3 +3,4 @@ pub mod FragmentLaws
 pub mod Placing
 pub mod Texts
 pub mod Finding
+pub mod Going

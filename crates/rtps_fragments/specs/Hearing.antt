@@ -1,5 +1,5 @@
 -- What becomes of the payloads of known writers at a datagram (RTPS 2.5, 8.3.4: the message receiver, and 8.3.8.3).
-use Rattle.std.specs.Prelude.{◌≡◌, ℕ, ◌==◌, ◌&&◌, Bool, List, [], ◌∷◌, ◌++◌, Option, Some, None, MatchOption, nat_eq, slice_index_or, slice_set, if◌then◌else◌}
+use Rattle.std.specs.Prelude.{◌≡◌, ◌⊎◌, ℕ, ◌==◌, ◌&&◌, Bool, List, [], ◌∷◌, ◌++◌, Option, Some, None, MatchOption, IfSome, is_some, map, true, nat_eq, slice_index_or, slice_set, if◌then◌else◌}
 use Rattle.std.specs.Cmp.Lexicographic.{pointwise}
 use Rattle.std.specs.Option.{option_map, option_map_or, option_to_list}
 use Rattle.std.specs.List.{position}
@@ -7,23 +7,36 @@ use Rattle.dds_base.specs.declared.guid.EntityId.{EntityId}
 use Rattle.dds_base.specs.declared.guid.Guid.{Guid}
 use Rattle.dds_base.specs.declared.guid.GuidPrefix.{GuidPrefix}
 use Rattle.rtps_wire.specs.declared.submessage.Submessage.{Submessage}
-use Rattle.rtps_wire.specs.declared.submessage.Submessage.TheVariants.{InfoDst, InfoTs}
 use Rattle.rtps_wire.specs.Frames.{IsFrame, IsEnd}
 use Rattle.rtps_wire.specs.Messages.{HasHeader}
 use Rattle.rtps_wire.specs.Submessages.{Reads}
 use Rattle.rtps_fragments.specs.declared.telling.InForce.{InForce}
 use Rattle.rtps_fragments.specs.DataFrag.{Fragment, ReadsFragment, id_data_frag}
 use Rattle.rtps_fragments.specs.Keeping.{Kept, heard}
-use Rattle.rtps_fragments.specs.Telling.{message_of}
+use Rattle.rtps_fragments.specs.Telling.{at_first, in_force_after, message_of}
 
 -- A writer that is known, and what is kept of it.
 pub record Row : Type 0 where
   pub writer : Guid
   pub kept : List Kept
 
+-- the rows of writers of which nothing came
+abbrev pub rows_of : List Guid → List Row
+rows_of writers = map (λ (w : Guid). record { writer = w; kept = [] }) writers
+
 -- it is the row of this writer
 abbrev pub is_row : GuidPrefix → EntityId → Row → Bool
 is_row prefix entity r = pointwise nat_eq r.writer.prefix.0 prefix.0 && pointwise nat_eq r.writer.entity.0 entity.0
+
+-- The row hears a DATA_FRAG, and the message is that of the payload that it made whole.
+abbrev pub RowAnswers : InForce → Fragment → Row → Row → Option (List ℕ) → Type 0
+RowAnswers c f r after message =
+    (after ≡ record { writer = r.writer; kept = (heard r.kept f).kept })
+    × (message ≡ option_map (message_of c f) ((heard r.kept f).whole))
+
+-- a DATA_FRAG is of a writer that is known
+abbrev pub IsKnown : List Row → GuidPrefix → Fragment → Type 0
+IsKnown rows source f = is_some (position (is_row source f.writer_id) rows) ≡ true
 
 -- What is kept after a DATA_FRAG, and the message of the payload that it made whole.
 pub record Told : Type 0 where
@@ -59,18 +72,12 @@ IsFragmentOf id flags body o =
     MatchOption o ((f : Fragment) → id ≡ id_data_frag → ReadsFragment flags body f → ⊥)
     (λ f. (id ≡ id_data_frag) × ReadsFragment flags body f)
 
--- The bytes are these submessages, up to where reading ends, and left is what stands there.
-abbrev pub StandsIn : List ℕ → List Part → List ℕ → Type 0
-StandsIn bytes [] left = IsEnd bytes × (left ≡ bytes)
-StandsIn bytes (p ∷ ps) left =
-    (rest : List ℕ) × IsFrame bytes p.id p.flags p.body rest × Reads p.id p.flags p.body p.read
-    × IsFragmentOf p.id p.flags p.body p.fragment × StandsIn rest ps left
-
--- what is in force after a submessage
-abbrev pub in_force_after : InForce → Submessage → InForce
-in_force_after c (InfoDst prefix) = record { source = c.source; destination = prefix; timestamp = c.timestamp }
-in_force_after c (InfoTs moment) = record { source = c.source; destination = c.destination; timestamp = moment }
-in_force_after c s = c
+-- The bytes begin with these submessages, and rest is what follows them.
+abbrev pub Begins : List ℕ → List Part → List ℕ → Type 0
+Begins bytes [] rest = bytes ≡ rest
+Begins bytes (p ∷ ps) rest =
+    (after : List ℕ) × IsFrame bytes p.id p.flags p.body after × Reads p.id p.flags p.body p.read
+    × IsFragmentOf p.id p.flags p.body p.fragment × Begins after ps rest
 
 -- what a submessage does to what is kept, and the message that it makes
 abbrev pub told_by : InForce → List Row → Option Fragment → Told
@@ -89,21 +96,57 @@ messages_of c rows (p ∷ ps) =
     option_to_list ((told_by c rows p.fragment).message)
     ++ messages_of (in_force_after c p.read) ((told_by c rows p.fragment).rows) ps
 
--- what is in force at the beginning of a message: no timestamp, and every peer
-abbrev pub at_first : GuidPrefix → InForce
-at_first source = record {
-  source = source;
-  destination = record { 0 = 0 ∷ 0 ∷ 0 ∷ 0 ∷ 0 ∷ 0 ∷ 0 ∷ 0 ∷ 0 ∷ 0 ∷ 0 ∷ 0 ∷ [] };
-  timestamp = None;
-}
+-- A DATA_FRAG was heard, or another submessage passed over: this is kept, and these messages were appended.
+pub record HearsOne (c : InForce) (id flags : ℕ) (body : List ℕ) (rows after : List Row) (out all : List (List ℕ))
+    : Type 0 where
+  pub fragment : Option Fragment
+  pub is_fragment : IsFragmentOf id flags body fragment
+  pub rows_are : after ≡ (told_by c rows fragment).rows
+  pub messages_are : all ≡ out ++ option_to_list ((told_by c rows fragment).message)
 
--- The submessages of a message were heard, and these messages appended.
-pub record Hears (bytes : List ℕ) (rows after : List Row) (out all : List (List ℕ)) : Type 0 where
-  pub source : GuidPrefix
-  pub body : List ℕ
+-- The submessage is a DATA_FRAG of a writer that is known.
+pub record IsWanted (rows : List Row) (source : GuidPrefix) (id flags : ℕ) (body : List ℕ) : Type 0 where
+  pub fragment : Fragment
+  pub is_fragment : IsFragmentOf id flags body (Some fragment)
+  pub known : IsKnown rows source fragment
+
+-- These submessages of a body were heard, up to where rest stands, and these messages appended.
+pub record Hears (c : InForce) (body rest : List ℕ) (rows after : List Row) (out all : List (List ℕ)) : Type 0 where
   pub parts : List Part
+  pub begins : Begins body parts rest
+  pub rows_are : after ≡ rows_after c rows parts
+  pub messages_are : all ≡ out ++ messages_of c rows parts
+
+-- All submessages of a body were heard, up to where reading ends.
+pub record HearsAll (c : InForce) (body : List ℕ) (rows after : List Row) (out all : List (List ℕ)) : Type 0 where
   pub left : List ℕ
-  pub header : HasHeader bytes source body
-  pub stands : StandsIn body parts left
-  pub rows_are : after ≡ rows_after (at_first source) rows parts
-  pub messages_are : all ≡ out ++ messages_of (at_first source) rows parts
+  pub heard : Hears c body left rows after out all
+  pub ends : IsEnd left
+
+-- The first submessages of a body were heard, up to a DATA_FRAG of a writer that is known.
+pub record HearsSome (c : InForce) (body : List ℕ) (rows after : List Row) (out all : List (List ℕ)) : Type 0 where
+  pub left : List ℕ
+  pub rest : List ℕ
+  pub id : ℕ
+  pub flags : ℕ
+  pub next : List ℕ
+  pub heard : Hears c body left rows after out all
+  pub frame : IsFrame left id flags next rest
+  pub wanted : IsWanted after c.source id flags next
+
+-- The bytes are no message.
+abbrev pub IsNone : List ℕ → Type 0
+IsNone bytes = (source : GuidPrefix) (body : List ℕ) → HasHeader bytes source body → ⊥
+
+-- The bytes are a message whose submessages were heard, or none, and nothing changed.
+abbrev pub HearsMessage : List ℕ → List Row → List Row → List (List ℕ) → List (List ℕ) → Type 0
+HearsMessage bytes rows after out all =
+    ((source : GuidPrefix) × (body : List ℕ) × HasHeader bytes source body
+    × HearsAll (at_first source) body rows after out all)
+    ⊎ (IsNone bytes × (after ≡ rows) × (all ≡ out))
+
+-- The bytes are a message whose first submessages were heard, up to a DATA_FRAG of a writer that is known.
+abbrev pub HearsFront : List ℕ → List Row → List Row → List (List ℕ) → List (List ℕ) → Type 0
+HearsFront bytes rows after out all =
+    (source : GuidPrefix) × (body : List ℕ) × HasHeader bytes source body
+    × HearsSome (at_first source) body rows after out all

@@ -1,8 +1,10 @@
 -- The message that is told of a payload that became whole: one DATA of its writer (RTPS 2.5, 8.3.4, 9.4.4 and 9.4.5).
-use Rattle.std.specs.Prelude.{◌≡◌, ℕ, ◌+◌, List, [], ◌++◌, length, Option, Some, None}
+use Rattle.std.specs.Prelude.{◌≡◌, ℕ, ◌+◌, List, [], ◌∷◌, ◌++◌, length, Option, Some, None}
 use Rattle.std.specs.Option.{option_map}
 use Rattle.dds_base.specs.declared.endianness.Endianness.TheVariants.{Little}
 use Rattle.dds_base.specs.declared.guid.GuidPrefix.{GuidPrefix}
+use Rattle.rtps_wire.specs.declared.submessage.Submessage.{Submessage}
+use Rattle.rtps_wire.specs.declared.submessage.Submessage.TheVariants.{InfoDst, InfoTs}
 use Rattle.rtps_wire.specs.Data.{data_head}
 use Rattle.rtps_wire.specs.Fields.{order_of}
 use Rattle.rtps_wire.specs.Frames.{frame_text}
@@ -12,6 +14,20 @@ use Rattle.rtps_wire.specs.Names.{extra_flags, flag_endianness, flag_invalidate,
 use Rattle.rtps_fragments.specs.declared.telling.InForce.{InForce}
 use Rattle.rtps_fragments.specs.DataFrag.{Fragment}
 use Rattle.rtps_fragments.specs.Keeping.{Kept, Heard}
+
+-- what is in force at the beginning of a message: it is for every peer, and has no timestamp
+abbrev pub at_first : GuidPrefix → InForce
+at_first source = record {
+  source = source;
+  destination = record { 0 = 0 ∷ 0 ∷ 0 ∷ 0 ∷ 0 ∷ 0 ∷ 0 ∷ 0 ∷ 0 ∷ 0 ∷ 0 ∷ 0 ∷ [] };
+  timestamp = None;
+}
+
+-- what is in force after a submessage
+abbrev pub in_force_after : InForce → Submessage → InForce
+in_force_after c (InfoDst prefix) = record { source = c.source; destination = prefix; timestamp = c.timestamp }
+in_force_after c (InfoTs moment) = record { source = c.source; destination = c.destination; timestamp = moment }
+in_force_after c s = c
 
 -- an INFO_TS
 abbrev pub info_ts_text : Option ℕ → List ℕ

@@ -12,6 +12,10 @@
 mod assembly;
 mod data_frag;
 mod field;
+mod hearing;
 mod kept;
 mod names;
+mod row;
 mod telling;
+
+pub use hearing::Fragments;

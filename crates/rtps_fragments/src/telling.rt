@@ -9,7 +9,7 @@ ghost use Rattle.std.specs.Int.{w16, w32};
 ghost use Rattle.rtps_wire.specs.Fields.{sn_text};
 ghost use Rattle.rtps_wire.specs.Frames.{frame_text};
 ghost use Rattle.rtps_wire.specs.Data.{data_head};
-ghost use Rattle.rtps_fragments.specs.Telling.{info_ts_text, front_text, message_with};
+ghost use Rattle.rtps_fragments.specs.Telling.{at_first, in_force_after, info_ts_text, front_text, message_with};
 
 use crate::data_frag::DataFrag;
 use crate::field::{HALF_RANGE, order_of};
@@ -17,6 +17,7 @@ use crate::names::{
     FLAG_ENDIANNESS, FLAG_INVALIDATE, ID_DATA, ID_INFO_DST, ID_INFO_TS, MAX_CARRIED,
 };
 use dds_base::{Code, Endianness, EntityId, GuidPrefix, Octets};
+use rtps_wire::Submessage;
 use std::alloc::Global;
 
 /// The head of a DATA: extraFlags, octetsToInlineQos, readerId, writerId and writerSN.
@@ -36,6 +37,32 @@ pub struct InForce {
     pub destination: GuidPrefix,
     /// The source timestamp in units of 2^-32 second, where there is one.
     pub timestamp: Option<u64>,
+}
+
+impl InForce {
+    /// What holds at the beginning of a message of this sender.
+    pub fn new(source: GuidPrefix) -> InForce
+        ensures { result ≡ at_first source }
+    {
+        InForce {
+            source,
+            destination: GuidPrefix::UNKNOWN,
+            timestamp: None,
+        }
+    }
+
+    /// What holds after a submessage.
+    pub fn after(&self, submessage: &Submessage) -> InForce
+        ensures { result ≡ in_force_after self.now submessage.now }
+    {
+        let mut next = *self;
+        match submessage {
+            Submessage::InfoDst(prefix) => next.destination = *prefix,
+            Submessage::InfoTs(timestamp) => next.timestamp = *timestamp,
+            _ => (),
+        }
+        next
+    }
 }
 
 /// Appends a number of two octets.
