@@ -9,14 +9,14 @@ same_position : (kept xs : List Kept) (m n : ℕ) (o : Option ℕ) → xs ≡ ke
 same_position kept xs m n o same number e =
     sym (e ∙ ap (λ (z : ℕ). position (is_number z) xs) number ∙ ap (position (is_number n)) same)
 
-pub heard_found : (kept xs : List Kept) (f : Fragment) (sn i : ℕ) → xs ≡ kept → sn ≡ f.writer_sn
-    → Some i ≡ position (is_number sn) xs → heard_at kept i (get_or kept i (nothing_of f)) f ≡ heard kept f
-heard_found kept xs f sn i same number e =
+pub heard_found : (kept xs : List Kept) (f : Fragment) (stamp : Option ℕ) (sn i : ℕ) → xs ≡ kept → sn ≡ f.writer_sn
+    → Some i ≡ position (is_number sn) xs → heard_at kept i (get_or kept i (nothing_of f)) f stamp ≡ heard kept f stamp
+heard_found kept xs f stamp sn i same number e =
     let found = same_position kept xs sn f.writer_sn (Some i) same number e in
     rw found refl
 
-pub heard_none : (kept xs : List Kept) (f : Fragment) (sn : ℕ) → xs ≡ kept → sn ≡ f.writer_sn
-    → None ≡ position (is_number sn) xs → begun kept (with_fragments (nothing_of f) f) ≡ heard kept f
-heard_none kept xs f sn same number e =
+pub heard_none : (kept xs : List Kept) (f : Fragment) (stamp : Option ℕ) (sn : ℕ) → xs ≡ kept → sn ≡ f.writer_sn
+    → None ≡ position (is_number sn) xs → begun kept (with_fragments (nothing_of f) f stamp) ≡ heard kept f stamp
+heard_none kept xs f stamp sn same number e =
     let none = same_position kept xs sn f.writer_sn None same number e in
     rw none refl

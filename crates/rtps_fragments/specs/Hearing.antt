@@ -31,8 +31,8 @@ is_row prefix entity r = pointwise nat_eq r.writer.prefix.0 prefix.0 && pointwis
 -- The row hears a DATA_FRAG, and the message is that of the payload that it made whole.
 abbrev pub RowAnswers : InForce → Fragment → Row → Row → Option (List ℕ) → Type 0
 RowAnswers c f r after message =
-    (after ≡ record { writer = r.writer; kept = (heard r.kept f).kept })
-    × (message ≡ option_map (message_of c f) ((heard r.kept f).whole))
+    (after ≡ record { writer = r.writer; kept = (heard r.kept f c.timestamp).kept })
+    × (message ≡ option_map (message_of c f) ((heard r.kept f c.timestamp).whole))
 
 -- a DATA_FRAG is of a writer that is known
 abbrev pub IsKnown : List Row → GuidPrefix → Fragment → Type 0
@@ -46,8 +46,8 @@ pub record Told : Type 0 where
 -- the row at a place hears a DATA_FRAG
 abbrev pub told_at : InForce → List Row → ℕ → Row → Fragment → Told
 told_at c rows i r f = record {
-  rows = slice_set rows i (record { writer = r.writer; kept = (heard r.kept f).kept });
-  message = option_map (message_of c f) ((heard r.kept f).whole);
+  rows = slice_set rows i (record { writer = r.writer; kept = (heard r.kept f c.timestamp).kept });
+  message = option_map (message_of c f) ((heard r.kept f c.timestamp).whole);
 }
 
 -- The first row of its writer hears a DATA_FRAG. One of another writer changes nothing.

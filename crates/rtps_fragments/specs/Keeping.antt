@@ -10,17 +10,19 @@ pub record Kept : Type 0 where
   pub fragment_size : ℕ
   pub sample_size : ℕ
   pub flags : ℕ
+  pub timestamp : Option ℕ
   pub parameters : List ℕ
   pub octets : List ℕ
   pub came : List Bool
 
 -- a payload by what is kept of it
-abbrev pub kept_of : ℕ → ℕ → ℕ → ℕ → List ℕ → List ℕ → List Bool → Kept
-kept_of sn size whole flags parameters octets came = record {
+abbrev pub kept_of : ℕ → ℕ → ℕ → ℕ → Option ℕ → List ℕ → List ℕ → List Bool → Kept
+kept_of sn size whole flags timestamp parameters octets came = record {
   writer_sn = sn;
   fragment_size = size;
   sample_size = whole;
   flags = flags;
+  timestamp = timestamp;
   parameters = parameters;
   octets = octets;
   came = came;
@@ -39,25 +41,27 @@ overlaid xs place ys = take place xs ++ ys ++ drop (place + length ys) xs
 -- the payload of a DATA_FRAG's number, before a fragment came
 abbrev pub nothing_of : Fragment → Kept
 nothing_of f =
-    kept_of f.writer_sn f.fragment_size f.sample_size f.flags [] (replicate f.sample_size 0)
+    kept_of f.writer_sn f.fragment_size f.sample_size f.flags None [] (replicate f.sample_size 0)
     (replicate (count_of f.sample_size f.fragment_size) false)
 
--- The flags and the parameters of the DATA are those that came with the first fragment.
-abbrev pub opened : Kept → Fragment → Kept
-opened k f =
+-- The flags, the timestamp and the parameters of the DATA are those that came with the first fragment: a product need
+-- not say them with the others.
+abbrev pub opened : Kept → Fragment → Option ℕ → Kept
+opened k f timestamp =
     kept_of k.writer_sn k.fragment_size k.sample_size (if f.fragment_starting_num == 1 then f.flags else k.flags)
+    (if f.fragment_starting_num == 1 then timestamp else k.timestamp)
     (if f.fragment_starting_num == 1 then f.parameters else k.parameters) k.octets k.came
 
 -- The fragments stand in their places, and are marked as come.
 abbrev pub placed : Kept → Fragment → Kept
 placed k f =
-    kept_of k.writer_sn k.fragment_size k.sample_size k.flags k.parameters
+    kept_of k.writer_sn k.fragment_size k.sample_size k.flags k.timestamp k.parameters
     (overlaid k.octets (place_of f) f.octets)
     (overlaid k.came (f.fragment_starting_num - 1) (replicate f.fragments_in_submessage true))
 
--- what is kept once these fragments have come too
-abbrev pub with_fragments : Kept → Fragment → Kept
-with_fragments k f = placed (opened k f) f
+-- what is kept once these fragments have come too, at this timestamp
+abbrev pub with_fragments : Kept → Fragment → Option ℕ → Kept
+with_fragments k f timestamp = placed (opened k f timestamp) f
 
 -- every fragment came
 abbrev pub is_whole : Kept → Bool
@@ -96,12 +100,12 @@ gone_on kept i k =
     if is_whole k then record { kept = remove kept i; whole = Some k } else record { kept = slice_set kept i k; whole = None }
 
 -- what is kept at a place hears a DATA_FRAG of its number, which is taken in if it is alike
-abbrev pub heard_at : List Kept → ℕ → Kept → Fragment → Heard
-heard_at kept i k f =
-    if is_alike k f then gone_on kept i (with_fragments k f) else record { kept = kept; whole = None }
+abbrev pub heard_at : List Kept → ℕ → Kept → Fragment → Option ℕ → Heard
+heard_at kept i k f timestamp =
+    if is_alike k f then gone_on kept i (with_fragments k f timestamp) else record { kept = kept; whole = None }
 
 -- A DATA_FRAG goes to its number where that is kept, and begins it where not.
-abbrev pub heard : List Kept → Fragment → Heard
-heard kept f =
-    option_map_or (λ i. heard_at kept i (slice_index_or kept i (nothing_of f)) f)
-    (position (is_number f.writer_sn) kept) (begun kept (with_fragments (nothing_of f) f))
+abbrev pub heard : List Kept → Fragment → Option ℕ → Heard
+heard kept f timestamp =
+    option_map_or (λ i. heard_at kept i (slice_index_or kept i (nothing_of f)) f timestamp)
+    (position (is_number f.writer_sn) kept) (begun kept (with_fragments (nothing_of f) f timestamp))

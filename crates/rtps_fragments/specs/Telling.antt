@@ -53,9 +53,11 @@ message_with c f flags parameters payload =
     front_text c
     ++ frame_text id_data flags (length (data_body f flags parameters payload)) (data_body f flags parameters payload)
 
--- the message of a payload that became whole by a DATA_FRAG
+-- the message of a payload that became whole by a DATA_FRAG: with its own timestamp
 abbrev pub message_of : InForce → Fragment → Kept → List ℕ
-message_of c f k = message_with c f k.flags k.parameters k.octets
+message_of c f k =
+    message_with (record { source = c.source; destination = c.destination; timestamp = k.timestamp }) f k.flags
+    k.parameters k.octets
 
 -- What is kept of a writer is this after a DATA_FRAG, and the message is that of the payload that it made whole.
 abbrev pub Answers : InForce → Fragment → List Kept → Option (List ℕ) → Heard → Type 0

@@ -22,7 +22,9 @@ pub struct Assembly {
     sample_size: usize,
     /// Those of the DATA, which came with the first fragment.
     flags: u8,
-    /// They came with the first fragment too.
+    /// It came with the first fragment.
+    timestamp: Option<u64>,
+    /// They came with the first fragment.
     parameters: Vec<u8>,
     /// As many as the payload has: zeros where no fragment came.
     octets: Vec<u8>,
@@ -35,9 +37,9 @@ impl Model for Assembly {
 
     ghost Value = { Kept };
 
-    ghost view = { λ a. kept_of a.writer_sn a.fragment_size a.sample_size a.flags a.parameters.items a.octets.items a.came.items };
+    ghost view = { λ a. kept_of a.writer_sn a.fragment_size a.sample_size a.flags a.timestamp a.parameters.items a.octets.items a.came.items };
 
-    ghost invariant = { λ a. IsKept (kept_of a.writer_sn a.fragment_size a.sample_size a.flags a.parameters.items a.octets.items a.came.items) };
+    ghost invariant = { λ a. IsKept (kept_of a.writer_sn a.fragment_size a.sample_size a.flags a.timestamp a.parameters.items a.octets.items a.came.items) };
 }
 
 /// Writes octets in place of as many.
@@ -87,6 +89,7 @@ impl Assembly {
             fragment_size,
             sample_size,
             flags: fragment.flags,
+            timestamp: None,
             parameters: Vec::new(alloc),
             octets,
             came,
@@ -110,7 +113,7 @@ impl Assembly {
     /// Whether these fragments are all that was missing.
     pub fn is_whole_with(&self, fragment: &DataFrag) -> bool
         requires { is_alike self.now fragment.now ≡ true }
-        ensures { result ≡ is_whole (with_fragments self.now fragment.now) }
+        ensures { result ≡ is_whole (placed self.now fragment.now) }
     {
         all_came_with(
             self.came.as_slice(),
@@ -119,16 +122,22 @@ impl Assembly {
         )
     }
 
-    /// Takes the flags and the parameters of the first fragment.
-    fn open(&mut self, alloc: Global, fragment: &DataFrag) -> Result<(), Code>
+    /// Takes what came with the first fragment.
+    fn open(
+        &mut self,
+        alloc: Global,
+        fragment: &DataFrag,
+        timestamp: Option<u64>,
+    ) -> Result<(), Code>
         requires { is_alike self.old fragment.now ≡ true }
-        ensures ok { OnOk result (self.new ≡ opened self.old fragment.now) }
+        ensures ok { OnOk result (self.new ≡ opened self.old fragment.now timestamp) }
         ensures err { OnErr result (self.new ≡ self.old) }
         ensures memory { IfErr result (λ e. e ≡ Code.Memory) }
     {
         if fragment.fragment_starting_num == 1 {
             self.parameters = Vec::from_slice(alloc, fragment.parameters)?;
             self.flags = fragment.flags;
+            self.timestamp = timestamp;
         }
         Ok(())
     }
@@ -145,14 +154,19 @@ impl Assembly {
         mark(self.came.as_mut_slice(), first, count);
     }
 
-    /// Takes fragments in.
-    pub fn add(&mut self, alloc: Global, fragment: &DataFrag) -> Result<(), Code>
+    /// Takes fragments in, at a timestamp.
+    pub fn add(
+        &mut self,
+        alloc: Global,
+        fragment: &DataFrag,
+        timestamp: Option<u64>,
+    ) -> Result<(), Code>
         requires { is_alike self.old fragment.now ≡ true }
-        ensures ok { OnOk result (self.new ≡ with_fragments self.old fragment.now) }
+        ensures ok { OnOk result (self.new ≡ with_fragments self.old fragment.now timestamp) }
         ensures err { OnErr result (self.new ≡ self.old) }
         ensures memory { IfErr result (λ e. e ≡ Code.Memory) }
     {
-        self.open(alloc, fragment)?;
+        self.open(alloc, fragment, timestamp)?;
         self.place(fragment);
         Ok(())
     }
@@ -166,7 +180,8 @@ impl Assembly {
     ) -> Result<Octets, Code>
         requires { is_alike self.now fragment.now ≡ true }
         ensures ok { IfOk result (λ m. m
-            ≡ message_of in_force.now fragment.now (with_fragments self.now fragment.now)) }
+            ≡ message_of in_force.now fragment.now
+            (with_fragments self.now fragment.now in_force.now.timestamp)) }
         ensures memory { IfErr result (λ e. e ≡ Code.Memory) }
     {
         let place = (fragment.fragment_starting_num - 1) * fragment.fragment_size;
@@ -178,22 +193,22 @@ impl Assembly {
             back,
         };
         if fragment.fragment_starting_num == 1 {
+            let parameters = fragment.parameters;
             return put_message(
                 alloc,
                 in_force,
                 fragment,
                 fragment.flags,
-                fragment.parameters,
+                parameters,
                 &payload,
             );
         }
-        put_message(
-            alloc,
-            in_force,
-            fragment,
-            self.flags,
-            self.parameters.as_slice(),
-            &payload,
-        )
+        let in_force = InForce {
+            source: in_force.source,
+            destination: in_force.destination,
+            timestamp: self.timestamp,
+        };
+        let parameters = self.parameters.as_slice();
+        put_message(alloc, &in_force, fragment, self.flags, parameters, &payload)
     }
 }

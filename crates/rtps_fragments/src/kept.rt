@@ -30,7 +30,8 @@ fn begin(
     fragment: &DataFrag,
 ) -> Result<Option<Octets>, Code>
     ensures ok { IfOk result (λ m. Answers in_force.now fragment.now kept.new.items m
-        (begun kept.old.items (with_fragments (nothing_of fragment.now) fragment.now))) }
+        (begun kept.old.items
+        (with_fragments (nothing_of fragment.now) fragment.now in_force.now.timestamp))) }
     ensures err { OnErr result (kept.new.items ≡ kept.old.items) }
     ensures memory { IfErr result (λ e. e ≡ Code.Memory) }
 {
@@ -39,7 +40,7 @@ fn begin(
         let message = fresh.message(alloc, in_force, fragment)?;
         return Ok(Some(message));
     }
-    fresh.add(alloc, fragment)?;
+    fresh.add(alloc, fragment, in_force.timestamp)?;
     kept.push(fresh)?;
     if MAX_NUMBERS < kept.len() {
         let _ = kept.remove(0);
@@ -58,7 +59,8 @@ fn go_on(
     requires { place < length kept.old.items }
     ensures ok { IfOk result (λ m. Answers in_force.now fragment.now kept.new.items m
         (heard_at kept.old.items place
-        (slice_index_or kept.old.items place (nothing_of fragment.now)) fragment.now)) }
+        (slice_index_or kept.old.items place (nothing_of fragment.now)) fragment.now
+        in_force.now.timestamp)) }
     ensures err { OnErr result (kept.new.items ≡ kept.old.items) }
     ensures memory { IfErr result (λ e. e ≡ Code.Memory) }
 {
@@ -67,7 +69,7 @@ fn go_on(
         return Ok(None);
     }
     if !assembly.is_whole_with(fragment) {
-        assembly.add(alloc, fragment)?;
+        assembly.add(alloc, fragment, in_force.timestamp)?;
         return Ok(None);
     }
     let message = assembly.message(alloc, in_force, fragment)?;
@@ -83,7 +85,7 @@ pub fn hear(
     fragment: &DataFrag,
 ) -> Result<Option<Octets>, Code>
     ensures ok { IfOk result (λ m. Answers in_force.now fragment.now kept.new.items m
-        (heard kept.old.items fragment.now)) }
+        (heard kept.old.items fragment.now in_force.now.timestamp)) }
     ensures err { OnErr result (kept.new.items ≡ kept.old.items) }
     ensures memory { IfErr result (λ e. e ≡ Code.Memory) }
 {
