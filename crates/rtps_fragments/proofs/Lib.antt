@@ -4,3 +4,4 @@ pub mod Placing
 pub mod Texts
 pub mod Finding
 pub mod Going
+pub mod Assembling

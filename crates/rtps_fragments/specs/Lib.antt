@@ -3,3 +3,4 @@ pub mod DataFragAt
 pub mod Keeping
 pub mod Telling
 pub mod Hearing
+pub mod Assembled

@@ -14,6 +14,7 @@ mod data_frag;
 mod field;
 mod hearing;
 mod kept;
+pub mod laws;
 mod names;
 mod row;
 mod telling;
