@@ -12,6 +12,7 @@ use Rattle.std.proofs.lemmas.List.Sums.{AllPass-from_list_all}
 use Rattle.rtps_fragments.specs.DataFrag.{Fragment, IsFragment, count_of, extent_of, place_of}
 use Rattle.rtps_fragments.specs.Keeping.{Kept, Heard, IsKept, begun, gone_on, heard, heard_at, is_alike, is_number, is_whole, latest, nothing_of, opened, overlaid, placed, with_fragments}
 use Rattle.rtps_fragments.specs.Assembled.{IsAlike, Brings, Opens, IsOf, IsAssembled, WhatIsToldCame}
+use Rattle.rtps_fragments.proofs.HeardLaws.{heard_leaves}
 use Rattle.rtps_fragments.proofs.Placing.{fits_whole, same_size, same_whole, overlaid-length}
 
 -- ---- a list with others in place of as many of its own
@@ -80,6 +81,7 @@ stays k m g i sn size whole octet b = record {
 pub IsOf-more : (fs : List Fragment) (g : Fragment) (k : Kept) → IsOf fs k → IsOf (fs ++ g ∷ []) k
 IsOf-more fs g k o = record {
   sized = o.sized;
+  some = o.some;
   octets = o.octets;
   came = o.came;
   each = λ i lt mark. let x = o.each i lt mark in (x.0, later fs g x.0 x.1, x.2);
@@ -96,6 +98,7 @@ never n i =
 pub IsOf-nothing : (fs : List Fragment) (f : Fragment) → IsFragment f → IsOf fs (nothing_of f)
 IsOf-nothing fs f v = record {
   sized = v.sized;
+  some = omega (arith, v.some, v.within);
   octets = length-replicate f.sample_size 0;
   came = length-replicate (count_of f.sample_size f.fragment_size) false;
   each = λ i lt mark. absurd (let no-mark = never (count_of f.sample_size f.fragment_size) (i / f.fragment_size) in cc);
@@ -219,6 +222,7 @@ IsOf-added fs g k timestamp v o e sn =
     let n = length-replicate g.fragments_in_submessage true in
     record {
       sized = o.sized;
+      some = o.some;
       octets = overlaid-length k.octets (place_of g) g.octets t.octets ∙ o.octets;
       came = overlaid-length k.came (g.fragment_starting_num - 1) (replicate g.fragments_in_submessage true)
           (omega (arith, n, t.marks)) ∙ o.came;
@@ -231,9 +235,8 @@ IsOf-added fs g k timestamp v o e sn =
 in_all : (whole size i : ℕ) → 1 ≤ size → i < whole → i < (whole + size - 1) / size * size
 in_all whole size i sized lt = omega arith
 
-pub assembled : (fs : List Fragment) (k : Kept) → IsOf fs k → 1 ≤ count_of k.sample_size k.fragment_size
-    → is_whole k ≡ true → IsAssembled fs k
-assembled fs k o some whole =
+pub assembled : (fs : List Fragment) (k : Kept) → IsOf fs k → is_whole k ≡ true → IsAssembled fs k
+assembled fs k o whole =
     let all = AllPass-from_list_all (λ (b : Bool). b) k.came whole in
     record {
       octets = o.octets;
@@ -242,90 +245,18 @@ assembled fs k o some whole =
           below i (count_of k.sample_size k.fragment_size) k.fragment_size o.sized
           (in_all k.sample_size k.fragment_size i o.sized lt) in
           o.each i lt (all (i / k.fragment_size) false (omega (arith, j, o.came)));
-      opening = o.opening (all 0 false (omega (arith, some, o.came)));
+      opening = o.opening (all 0 false (omega (arith, o.some, o.came)));
     }
 
 -- ---- a writer's numbers
 
-All-remove : {A : Type 0} (P : A → Type 0) (xs : List A) (i : ℕ) → All P xs → All P (remove xs i)
-All-remove P xs i all =
-    All-append P (take i xs) (drop (suc i) xs) (All-take P i xs all) (All-drop P (suc i) xs all)
-
-latest-all : (P : Kept → Type 0) (xs : List Kept) → All P xs → All P (latest xs)
-latest-all P xs all = by_room (ltb 16 (length xs))
-  where
-    by_room : (b : Bool) → All P (cond b (drop 1 xs) xs)
-    by_room true = All-drop P 1 xs all
-    by_room false = all
-
--- what is claimed of what was heard
-record Keeps (fs : List Fragment) (h : Heard) : Type 0 where
-  kept : All (IsOf fs) h.kept
-  whole : IfSome h.whole (IsAssembled fs)
-
-begun_keeps : (fs : List Fragment) (kept : List Kept) (k : Kept) → All (IsOf fs) kept → IsOf fs k
-    → 1 ≤ count_of k.sample_size k.fragment_size → Keeps fs (begun kept k)
-begun_keeps fs kept k all o some = by_whole (is_whole k) refl
-  where
-    by_whole : (b : Bool) → is_whole k ≡ b
-        → Keeps fs (cond b (record { kept = kept; whole = Some k })
-        (record { kept = latest (kept ++ k ∷ []); whole = None }))
-    by_whole true e = record { kept = all; whole = assembled fs k o some e }
-    by_whole false e =
-        record { kept = latest-all (IsOf fs) (kept ++ k ∷ []) (All-push (IsOf fs) kept k all o); whole = tt }
-
-gone_on_keeps : (fs : List Fragment) (kept : List Kept) (i : ℕ) (k : Kept) → All (IsOf fs) kept → IsOf fs k
-    → 1 ≤ count_of k.sample_size k.fragment_size → Keeps fs (gone_on kept i k)
-gone_on_keeps fs kept i k all o some = by_whole (is_whole k) refl
-  where
-    by_whole : (b : Bool) → is_whole k ≡ b
-        → Keeps fs (cond b (record { kept = remove kept i; whole = Some k })
-        (record { kept = set kept i k; whole = None }))
-    by_whole true e = record { kept = All-remove (IsOf fs) kept i all; whole = assembled fs k o some e }
-    by_whole false e = record { kept = All-set (IsOf fs) kept i k o all; whole = tt }
-
-heard_at_keeps : (fs : List Fragment) (kept : List Kept) (i : ℕ) (k : Kept) (f : Fragment) (timestamp : Option ℕ)
-    → IsFragment f → All (IsOf fs) kept → IsOf fs k → f.writer_sn ≡ k.writer_sn
-    → Keeps (fs ++ f ∷ []) (heard_at kept i k f timestamp)
-heard_at_keeps fs kept i k f timestamp v all o sn = by_likeness (is_alike k f) refl
-  where
-    more : All (IsOf (fs ++ f ∷ [])) kept
-    more = All-weaker (IsOf fs) (IsOf (fs ++ f ∷ [])) (IsOf-more fs f) kept all
-
-    by_likeness : (b : Bool) → is_alike k f ≡ b
-        → Keeps (fs ++ f ∷ []) (cond b (gone_on kept i (with_fragments k f timestamp))
-        (record { kept = kept; whole = None }))
-    by_likeness true e =
-        let count : count_of k.sample_size k.fragment_size ≡ count_of f.sample_size f.fragment_size =
-        rw (same_size k f e, same_whole k f e) refl in
-        gone_on_keeps (fs ++ f ∷ []) kept i (with_fragments k f timestamp) more (IsOf-added fs f k timestamp v o e sn)
-        (omega (arith, count, v.some, v.within))
-    by_likeness false e = record { kept = more; whole = tt }
-
-heard_keeps : (fs : List Fragment) (kept : List Kept) (f : Fragment) (timestamp : Option ℕ) → IsFragment f
-    → All (IsOf fs) kept → Keeps (fs ++ f ∷ []) (heard kept f timestamp)
-heard_keeps fs kept f timestamp v all = by_place (position (is_number f.writer_sn) kept) refl
-  where
-    new : Kept
-    new = nothing_of f
-
-    same : is_alike (nothing_of f) f ≡ true
-    same = let a = eq-eqb f.fragment_size f.fragment_size refl in let b = eq-eqb f.sample_size f.sample_size refl in
-        rw (a, b) refl
-
-    by_place : (o : Option ℕ) → position (is_number f.writer_sn) kept ≡ o
-        → Keeps (fs ++ f ∷ []) (option_map_or (λ i. heard_at kept i (get_or kept i (nothing_of f)) f timestamp) o
-        (begun kept (with_fragments (nothing_of f) f timestamp)))
-    by_place None e =
-        begun_keeps (fs ++ f ∷ []) kept (with_fragments (nothing_of f) f timestamp)
-        (All-weaker (IsOf fs) (IsOf (fs ++ f ∷ [])) (IsOf-more fs f) kept all)
-        (IsOf-added fs f (nothing_of f) timestamp v (IsOf-nothing fs f v) same refl) (omega (arith, v.some, v.within))
-    by_place (Some i) e =
-        let there = position-Some (is_number f.writer_sn) kept i (nothing_of f) e in
-        heard_at_keeps fs kept i (get_or kept i (nothing_of f)) f timestamp v all (all i (nothing_of f) there.0)
-        (sym (eqb-true _ _ there.1))
+assembled_if : (fs : List Fragment) (o : Option Kept) → IfSome o (λ k. IsOf fs k × (is_whole k ≡ true))
+    → IfSome o (IsAssembled fs)
+assembled_if fs None h = tt
+assembled_if fs (Some k) h = assembled fs k h.0 h.1
 
 pub what_is_told_came : WhatIsToldCame
 what_is_told_came fs kept f timestamp v all =
-    let k = heard_keeps fs kept f timestamp v all in
-    (k.kept, k.whole)
+    let left = heard_leaves (IsOf fs) (IsOf (fs ++ f ∷ [])) kept f timestamp all (IsOf-more fs f)
+    (λ k o e sn. IsOf-added fs f k timestamp v o e sn) (IsOf-nothing fs f v) in
+    (left.kept, assembled_if (fs ++ f ∷ []) ((heard kept f timestamp).whole) left.whole)

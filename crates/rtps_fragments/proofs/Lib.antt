@@ -4,4 +4,7 @@ pub mod Placing
 pub mod Texts
 pub mod Finding
 pub mod Going
+pub mod HeardLaws
 pub mod Assembling
+pub mod Keeping
+pub mod Reading

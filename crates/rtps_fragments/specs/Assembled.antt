@@ -27,21 +27,22 @@ pub record Opens (f : Fragment) (k : Kept) : Type 0 where
 -- Of a payload that is not whole, each octet of a fragment that is marked came in one of these DATA_FRAGs.
 pub record IsOf (fs : List Fragment) (k : Kept) : Type 0 where
   pub sized : 1 ≤ k.fragment_size
+  pub some : 1 ≤ count_of k.sample_size k.fragment_size
   pub octets : length k.octets ≡ k.sample_size
   pub came : length k.came ≡ count_of k.sample_size k.fragment_size
   pub each : (i : ℕ) → i < k.sample_size → slice_index_or k.came (i / k.fragment_size) false ≡ true
       → (f : Fragment) × Contains fs f × Brings f k i
   pub opening : slice_index_or k.came 0 false ≡ true → (f : Fragment) × Contains fs f × Opens f k
 
--- A payload is whole: it has its whole length, and each of its octets, its flags and its parameters came in one of these
--- DATA_FRAGs.
+-- A payload is whole: it has its whole length, and each of its octets came in one of these DATA_FRAGs, as did its flags
+-- and its parameters.
 pub record IsAssembled (fs : List Fragment) (k : Kept) : Type 0 where
   pub octets : length k.octets ≡ k.sample_size
   pub each : (i : ℕ) → i < k.sample_size → (f : Fragment) × Contains fs f × Brings f k i
   pub opening : (f : Fragment) × Contains fs f × Opens f k
 
--- Where what is kept of a writer is of the DATA_FRAGs that came, it is so after one more, and the payload that this made
--- whole is assembled of them.
+-- Where what is kept of a writer is of the DATA_FRAGs that came, it is so after one more, and the payload that this one
+-- made whole is assembled of them. Where nothing is kept, it is so of none.
 abbrev pub WhatIsToldCame : Type 0
 WhatIsToldCame = (fs : List Fragment) (kept : List Kept) (f : Fragment) (timestamp : Option ℕ) → IsFragment f
     → All (IsOf fs) kept

@@ -94,7 +94,8 @@ abbrev pub frag_head : Endianness → ℕ → ℕ → Fragment → List ℕ
 frag_head order extra way f =
     data_head order extra way f.reader_id f.writer_id f.writer_sn
     ++ (number order w32 f.fragment_starting_num
-    ++ (number order w16 f.fragments_in_submessage ++ number order w16 f.fragment_size) ++ number order w32 f.sample_size)
+    ++ (number order w16 f.fragments_in_submessage ++ number order w16 f.fragment_size)
+    ++ number order w32 f.sample_size)
 
 -- Octets may stand between the fields and what follows: octetsToInlineQos says how many. Parameters follow where flag Q
 -- is set, and then the fragments. What stands behind them is not looked at.

@@ -92,12 +92,14 @@ pub record Heard : Type 0 where
 -- a number that was not kept: it comes in behind the others, unless it is whole at once
 abbrev pub begun : List Kept → Kept → Heard
 begun kept k =
-    if is_whole k then record { kept = kept; whole = Some k } else record { kept = latest (kept ++ k ∷ []); whole = None }
+    if is_whole k then record { kept = kept; whole = Some k }
+    else record { kept = latest (kept ++ k ∷ []); whole = None }
 
 -- the number at a place, with more fragments: it stays there until it is whole
 abbrev pub gone_on : List Kept → ℕ → Kept → Heard
 gone_on kept i k =
-    if is_whole k then record { kept = remove kept i; whole = Some k } else record { kept = slice_set kept i k; whole = None }
+    if is_whole k then record { kept = remove kept i; whole = Some k }
+    else record { kept = slice_set kept i k; whole = None }
 
 -- what is kept at a place hears a DATA_FRAG of its number, which is taken in if it is alike
 abbrev pub heard_at : List Kept → ℕ → Kept → Fragment → Option ℕ → Heard

@@ -4,3 +4,5 @@ pub mod Keeping
 pub mod Telling
 pub mod Hearing
 pub mod Assembled
+pub mod Bounded
+pub mod Readable

@@ -37,9 +37,11 @@ impl Model for Assembly {
 
     ghost Value = { Kept };
 
-    ghost view = { λ a. kept_of a.writer_sn a.fragment_size a.sample_size a.flags a.timestamp a.parameters.items a.octets.items a.came.items };
+    ghost view = { λ a. kept_of a.writer_sn a.fragment_size a.sample_size a.flags a.timestamp
+        a.parameters.items a.octets.items a.came.items };
 
-    ghost invariant = { λ a. IsKept (kept_of a.writer_sn a.fragment_size a.sample_size a.flags a.timestamp a.parameters.items a.octets.items a.came.items) };
+    ghost invariant = { λ a. IsKept (kept_of a.writer_sn a.fragment_size a.sample_size a.flags a.timestamp
+        a.parameters.items a.octets.items a.came.items) };
 }
 
 /// Writes octets in place of as many.

@@ -72,9 +72,11 @@ impl<'a> Model for DataFrag<'a> {
 
     ghost Value = { Fragment };
 
-    ghost view = { λ f. said f.flags f.reader_id f.writer_id f.writer_sn f.fragment_starting_num f.fragments_in_submessage f.fragment_size f.sample_size f.parameters.now f.octets.now };
+    ghost view = { λ f. said f.flags f.reader_id f.writer_id f.writer_sn f.fragment_starting_num
+        f.fragments_in_submessage f.fragment_size f.sample_size f.parameters.now f.octets.now };
 
-    ghost invariant = { λ f. IsFragment (said f.flags f.reader_id f.writer_id f.writer_sn f.fragment_starting_num f.fragments_in_submessage f.fragment_size f.sample_size f.parameters.now f.octets.now) };
+    ghost invariant = { λ f. IsFragment (said f.flags f.reader_id f.writer_id f.writer_sn f.fragment_starting_num
+        f.fragments_in_submessage f.fragment_size f.sample_size f.parameters.now f.octets.now) };
 }
 
 /// What it names.

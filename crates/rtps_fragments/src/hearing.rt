@@ -143,8 +143,8 @@ impl Fragments {
     ///
     /// # Errors
     ///
-    /// `Memory` where no memory was found for a payload that begins, for its parameters or for its message. That DATA_FRAG
-    /// and what follows it in the datagram count as lost; what stands before it was heard.
+    /// `Memory` where no memory was found for a payload that begins, for its parameters or for its message. That
+    /// DATA_FRAG and what follows it in the datagram count as lost; what stands before it was heard.
     ///
     /// RTPS 2.5, 8.3.4 and 8.3.8.3.
     pub fn hear(&mut self, alloc: Global, bytes: &[u8], whole: &mut Vec<Octets>) -> Result<(), Code>

@@ -3,11 +3,29 @@
 //! RTPS 2.5, 8.3.8.3 (DataFrag).
 
 ghost use Rattle.rtps_fragments.specs.Assembled.{WhatIsToldCame};
+ghost use Rattle.rtps_fragments.specs.Readable.{DataIsRead, MessagesAreRead};
+ghost use Rattle.rtps_fragments.specs.Bounded.{FewAreKept, FewAreShort};
 
 /// A payload that is told is whole: it has the length that its DATA_FRAGs say, and each of its octets is that of the
-/// fragments of a DATA_FRAG which came, of this writer and number, of the same fragment size and whole length, and which
-/// cover its place. Its flags and its parameters came with the first fragment.
+/// fragments of a DATA_FRAG which came, of this writer and number, of the same fragment size and whole length, and
+/// which cover its place. Its flags and its parameters came with the first fragment.
 pub fn what_is_told_came()
     // So it is after any DATA_FRAGs of a writer, of which nothing was kept at first.
     ensures told { WhatIsToldCame }
+{}
+
+/// Of a writer at most 16 numbers are kept, in less than 2^20 octets of parameters and payload, whatever comes.
+pub fn few_are_kept()
+    // Few stay few, and none is few.
+    ensures kept { FewAreKept }
+    // They have few octets.
+    ensures short { FewAreShort }
+{}
+
+/// A message that is told is read to its end, as one of the sender with an INFO_DST, an INFO_TS and a DATA.
+pub fn what_is_told_is_read()
+    // So it is, whatever is read of the DATA, which is no longer than a datagram carries.
+    ensures message { MessagesAreRead }
+    // Of the DATA is read what its flags, its parameters and its payload say.
+    ensures change { DataIsRead }
 {}
