@@ -1,16 +1,13 @@
 -- What is told of a payload is what came of it.
-use Rattle.std.proofs.Common.{◌≡◌, ◌∙◌, ◌⊎◌, inl, inr, ℕ, suc, ◌+◌, ◌-◌, ◌*◌, ◌/◌, ◌<◌, ◌≤◌, Bool, true, false, cond, eqb, ltb, List, [], ◌∷◌, ◌++◌, length, get_or, take, drop, min, replicate, set, Option, Some, None, refl, sym, ap, subst, arith}
-use Rattle.std.specs.Prelude.{Contains, IfSome, remove}
-use Rattle.std.specs.Option.{option_map_or}
-use Rattle.std.specs.List.{All, list_all, position}
+use Rattle.std.proofs.Common.{◌≡◌, ◌∙◌, inl, inr, ℕ, ◌+◌, ◌-◌, ◌*◌, ◌/◌, ◌<◌, ◌≤◌, Bool, true, false, eqb, List, [], ◌∷◌, ◌++◌, length, get_or, take, drop, min, replicate, Option, Some, None, refl, sym, ap, arith}
+use Rattle.std.specs.Prelude.{Contains, IfSome}
 use Rattle.std.proofs.Math.Nat.{mul-le-mul_left}
 use Rattle.std.proofs.lemmas.Bool.{cases_lt, eqb-true, eq-eqb}
 use Rattle.std.proofs.lemmas.List.{get_or_past, get_or-take, get_or-drop, get_or_append_left, get_or-append_right, get_or-replicate, length-append, length-take, length-replicate}
-use Rattle.std.proofs.lemmas.List.Elements.{All-append, All-take, All-drop, All-push, All-set, All-weaker, Contains-push, Contains-append_left}
-use Rattle.std.proofs.lemmas.List.Quantifiers.{position-Some}
+use Rattle.std.proofs.lemmas.List.Elements.{Contains-push, Contains-append_left}
 use Rattle.std.proofs.lemmas.List.Sums.{AllPass-from_list_all}
-use Rattle.rtps_fragments.specs.DataFrag.{Fragment, IsFragment, count_of, extent_of, place_of}
-use Rattle.rtps_fragments.specs.Keeping.{Kept, Heard, IsKept, begun, gone_on, heard, heard_at, is_alike, is_number, is_whole, latest, nothing_of, opened, overlaid, placed, with_fragments}
+use Rattle.rtps_fragments.specs.DataFrag.{Fragment, IsFragment, count_of, place_of}
+use Rattle.rtps_fragments.specs.Keeping.{Kept, heard, is_alike, is_whole, nothing_of, overlaid, with_fragments}
 use Rattle.rtps_fragments.specs.Assembled.{IsAlike, Brings, Opens, IsOf, IsAssembled, WhatIsToldCame}
 use Rattle.rtps_fragments.proofs.HeardLaws.{heard_leaves}
 use Rattle.rtps_fragments.proofs.Placing.{fits_whole, same_size, same_whole, overlaid-length}

@@ -2,7 +2,7 @@
 use Rattle.std.proofs.Common.{◌≡◌, ◌∙◌, ℕ, List, Option, Some, None, get_or, refl, sym, ap}
 use Rattle.std.specs.List.{position}
 use Rattle.rtps_fragments.specs.DataFrag.{Fragment}
-use Rattle.rtps_fragments.specs.Keeping.{Kept, Heard, nothing_of, with_fragments, is_number, begun, heard_at, heard}
+use Rattle.rtps_fragments.specs.Keeping.{Kept, nothing_of, with_fragments, is_number, begun, heard_at, heard}
 
 same_position : (kept xs : List Kept) (m n : ℕ) (o : Option ℕ) → xs ≡ kept → m ≡ n → o ≡ position (is_number m) xs
     → position (is_number n) kept ≡ o

@@ -1,6 +1,6 @@
 -- What is read of a DATA_FRAG is what it says, and what it says is read.
-use Rattle.std.proofs.Common.{◌≡◌, ℕ, ◌+◌, ◌-◌, ◌*◌, ◌^◌, ◌<◌, ◌≤◌, Bool, true, false, cond, ltb, ◌||◌, List, [], ◌++◌, length, take, Option, Some, None, refl, sym, ap, subst, ◌∙◌, arith, append_assoc}
-use Rattle.std.specs.Prelude.{MatchBool, MatchOption}
+use Rattle.std.proofs.Common.{◌≡◌, ℕ, ◌+◌, ◌-◌, ◌^◌, ◌<◌, ◌≤◌, Bool, true, false, cond, ltb, List, [], ◌++◌, length, take, Option, Some, None, refl, sym, ap, subst, ◌∙◌, arith, append_assoc}
+use Rattle.std.specs.Prelude.{MatchBool}
 use Rattle.std.specs.Int.{w16, w32}
 use Rattle.std.proofs.lemmas.Bool.{ltb-false, le-ltb}
 use Rattle.std.proofs.lemmas.List.{take_at, length-append}
@@ -10,16 +10,15 @@ use Rattle.dds_base.specs.declared.guid.EntityId.{EntityId}
 use Rattle.dds_base.specs.Fields.{number, number_at, octets_at, ◌>>=◌}
 use Rattle.dds_base.specs.FieldPairs.{both}
 use Rattle.dds_base.proofs.FieldLaws.{AreOctets, guard_some, some_is, cond_is, field_u16, field_u32, field_octets, field_both}
-use Rattle.rtps_wire.specs.declared.parameters.Parameters.{Parameters}
 use Rattle.rtps_wire.specs.Data.{data_head}
 use Rattle.rtps_wire.specs.DataAt.{data_head_at}
 use Rattle.rtps_wire.specs.Fields.{has_flag, order_of}
 use Rattle.rtps_wire.specs.Parameters.{Parameter, ReadsParameters}
 use Rattle.rtps_wire.specs.ParametersAt.{parameters_at}
-use Rattle.rtps_wire.proofs.DataLaws.{HasHead, head_found, head_only}
+use Rattle.rtps_wire.proofs.DataLaws.{head_found, head_only}
 use Rattle.rtps_wire.proofs.ParameterLaws.{parameters_found, parameters_only}
 use Rattle.rtps_wire.proofs.TestLaws.{neither, match_true, match_false}
-use Rattle.rtps_fragments.specs.DataFrag.{Fragment, IsFragment, ReadsFragment, count_of, data_flags, extent_of, frag_head}
+use Rattle.rtps_fragments.specs.DataFrag.{Fragment, ReadsFragment, count_of, data_flags, extent_of, frag_head}
 use Rattle.rtps_fragments.specs.DataFragAt.{said, counts_at, inline_at, is_impossible, fragment_with, fragment_at}
 use Rattle.rtps_fragments.proofs.Parting.{EndsWith, parameters_part}
 
@@ -314,3 +313,7 @@ fragment_only flags body f x =
     ) (ap (λ (z : List ℕ). fragment_with bare z) x.fragments ∙ fragments_only bare f.octets x.after can v.extent
     ∙ ap (λ (z : ℕ). Some (said z f.reader_id f.writer_id f.writer_sn f.fragment_starting_num
     f.fragments_in_submessage f.fragment_size f.sample_size f.parameters f.octets)) (sym x.flags_are))
+
+pub one_is_read : (flags : ℕ) (body : List ℕ) (f g : Fragment) → ReadsFragment flags body f → ReadsFragment flags body g
+    → f ≡ g
+one_is_read flags body f g x y = some_is f g (sym (fragment_only flags body f x) ∙ fragment_only flags body g y)

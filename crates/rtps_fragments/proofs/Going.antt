@@ -1,14 +1,12 @@
 -- Submessages are heard one after the other.
-use Rattle.std.proofs.Common.{◌≡◌, ◌∙◌, ℕ, List, [], ◌∷◌, ◌++◌, Option, Some, None, refl, sym, ap, append_assoc}
+use Rattle.std.proofs.Common.{◌≡◌, ◌∙◌, ℕ, List, [], ◌∷◌, ◌++◌, refl, sym, ap, append_assoc}
 use Rattle.std.specs.Option.{option_to_list}
 use Rattle.std.proofs.lemmas.List.{append-nil}
-use Rattle.dds_base.specs.declared.guid.GuidPrefix.{GuidPrefix}
 use Rattle.rtps_wire.specs.declared.submessage.Submessage.{Submessage}
 use Rattle.rtps_wire.specs.declared.submessage.Submessage.TheVariants.{Pad, InfoDst, InfoTs, Data, Heartbeat, AckNack, Gap, Other}
 use Rattle.rtps_wire.specs.Frames.{IsFrame, IsEnd}
 use Rattle.rtps_wire.specs.Submessages.{Reads}
 use Rattle.rtps_fragments.specs.declared.telling.InForce.{InForce}
-use Rattle.rtps_fragments.specs.DataFrag.{Fragment}
 use Rattle.rtps_fragments.specs.Telling.{in_force_after}
 use Rattle.rtps_fragments.specs.Hearing.{Row, Part, Begins, Hears, HearsAll, HearsOne, HearsSome, IsWanted, messages_of, rows_after, told_by}
 

@@ -1,12 +1,11 @@
 -- Few numbers are kept, in few octets.
-use Rattle.std.proofs.Common.{◌≡◌, ◌∙◌, ℕ, ◌+◌, ◌-◌, ◌*◌, ◌≤◌, Bool, true, false, cond, eqb, List, [], ◌∷◌, length, replicate, Option, refl, sym, arith}
-use Rattle.std.specs.List.{All, sum_by}
+use Rattle.std.proofs.Common.{◌≡◌, ◌∙◌, ℕ, ◌+◌, ◌-◌, ◌≤◌, Bool, true, false, cond, eqb, List, length, replicate, Option, arith}
 use Rattle.std.proofs.lemmas.List.{length-replicate}
 use Rattle.std.proofs.lemmas.List.Elements.{All-weaker}
 use Rattle.std.proofs.lemmas.List.Sums.{sum_by-le}
 use Rattle.rtps_fragments.specs.DataFrag.{Fragment, IsFragment, count_of, place_of}
-use Rattle.rtps_fragments.specs.Keeping.{Kept, IsKept, heard, is_alike, nothing_of, with_fragments}
-use Rattle.rtps_fragments.specs.Bounded.{AreFew, FewAreKept, FewAreShort, octets_of}
+use Rattle.rtps_fragments.specs.Keeping.{Kept, IsKept, is_alike, nothing_of, with_fragments}
+use Rattle.rtps_fragments.specs.Bounded.{FewAreKept, FewAreShort, octets_of}
 use Rattle.rtps_fragments.proofs.HeardLaws.{heard_leaves}
 use Rattle.rtps_fragments.proofs.Placing.{octets_fit, marks_fit, same_whole, overlaid-length}
 

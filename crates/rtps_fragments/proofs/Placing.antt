@@ -1,12 +1,12 @@
 -- Fragments have a place in what is kept of their payload.
-use Rattle.std.proofs.Common.{◌≡◌, ℕ, zero, suc, ◌+◌, ◌-◌, ◌*◌, ◌/◌, ◌<◌, ◌≤◌, Bool, true, false, ◌&&◌, eqb, List, [], ◌∷◌, ◌++◌, length, take, drop, replicate, min, refl, sym, ap, ◌∙◌, arith}
+use Rattle.std.proofs.Common.{◌≡◌, ℕ, zero, suc, ◌+◌, ◌-◌, ◌*◌, ◌/◌, ◌≤◌, Bool, true, false, ◌&&◌, eqb, List, ◌++◌, length, take, drop, replicate, refl, sym, ap, ◌∙◌, arith}
 use Rattle.std.specs.List.{list_all}
 use Rattle.std.proofs.Math.Nat.{mul-le-mul_left}
 use Rattle.std.proofs.lemmas.Bool.{eqb-true}
 use Rattle.std.proofs.lemmas.List.{take_all, length-replicate, length-append, length-take, length-drop}
 use Rattle.std.proofs.lemmas.List.Folds.{list_all-append}
 use Rattle.rtps_wire.proofs.TestLaws.{both_hold}
-use Rattle.rtps_fragments.specs.DataFrag.{Fragment, IsFragment, count_of, extent_of, place_of}
+use Rattle.rtps_fragments.specs.DataFrag.{Fragment, IsFragment, count_of, place_of}
 use Rattle.rtps_fragments.specs.Keeping.{Kept, IsKept, is_alike, overlaid}
 
 -- of so many fragments none begins beyond the payload

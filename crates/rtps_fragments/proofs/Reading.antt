@@ -1,29 +1,22 @@
 -- What is read of a message that is told.
-use Rattle.std.proofs.Common.{◌≡◌, ◌≢◌, ◌∙◌, ◌⊎◌, inl, inr, ℕ, ◌+◌, ◌≤◌, ◌<◌, ◌^◌, Bool, true, false, eqb, List, [], ◌∷◌, ◌++◌, length, Option, Some, None, refl, sym, ap, subst, append_assoc, arith}
+use Rattle.std.proofs.Common.{◌≡◌, ◌≢◌, inl, ℕ, ◌+◌, ◌≤◌, ◌<◌, ◌^◌, Bool, true, false, eqb, List, [], ◌∷◌, ◌++◌, length, Option, Some, None, refl, sym, append_assoc, arith}
 use Rattle.std.specs.Prelude.{IfSome, MatchBool}
-use Rattle.std.specs.Int.{w16, w32}
+use Rattle.std.specs.Int.{w16}
 use Rattle.std.proofs.lemmas.Bool.{ne_eqb}
 use Rattle.std.proofs.lemmas.List.{append-nil, length-append}
-use Rattle.dds_base.specs.declared.endianness.Endianness.{Endianness}
 use Rattle.dds_base.specs.declared.endianness.Endianness.TheVariants.{Little}
 use Rattle.dds_base.specs.Fields.{number}
-use Rattle.rtps_wire.specs.declared.data.Data.{Data as DataOf}
-use Rattle.rtps_wire.specs.declared.submessage.Submessage.{Submessage}
-use Rattle.rtps_wire.specs.declared.submessage.Submessage.TheVariants.{InfoDst, InfoTs, Data}
-use Rattle.rtps_wire.specs.Data.{ReadsData, SaysContent, data_head}
+use Rattle.rtps_wire.specs.declared.submessage.Submessage.TheVariants.{InfoTs}
+use Rattle.rtps_wire.specs.Data.{data_head}
 use Rattle.rtps_wire.specs.Fields.{has_flag, order_of}
-use Rattle.rtps_wire.specs.Frames.{IsFrame, IsEnd, frame_text, runs_to_end}
+use Rattle.rtps_wire.specs.Frames.{IsFrame, frame_text, runs_to_end}
 use Rattle.rtps_wire.specs.InfoTs.{moment_text}
-use Rattle.rtps_wire.specs.Messages.{HasHeader, ReadsAll, ReadsFirst, header_text}
-use Rattle.rtps_wire.specs.Parameters.{Parameter, ReadsParameters}
-use Rattle.rtps_wire.specs.Submessages.{Reads}
+use Rattle.rtps_wire.specs.Messages.{ReadsFirst, header_text}
+use Rattle.rtps_wire.specs.Parameters.{ReadsParameters}
 use Rattle.rtps_wire.proofs.TestLaws.{match_false}
-use Rattle.rtps_wire.proofs.WireFields.{len_16, len_32}
-use Rattle.rtps_fragments.specs.declared.telling.InForce.{InForce}
-use Rattle.rtps_fragments.specs.DataFrag.{Fragment, IsFragment}
-use Rattle.rtps_fragments.specs.Keeping.{Kept, IsKept}
-use Rattle.rtps_fragments.specs.Telling.{data_body, front_text, info_ts_text, message_of}
-use Rattle.rtps_fragments.specs.Readable.{CanTell, DataIsRead, MessagesAreRead}
+use Rattle.rtps_wire.proofs.WireFields.{len_16}
+use Rattle.rtps_fragments.specs.Telling.{data_body, info_ts_text, message_of}
+use Rattle.rtps_fragments.specs.Readable.{DataIsRead, MessagesAreRead}
 use Rattle.rtps_fragments.proofs.Texts.{body_len}
 
 frame_len : (id flags n : ℕ) (body : List ℕ) → length (frame_text id flags n body) ≡ 4 + length body

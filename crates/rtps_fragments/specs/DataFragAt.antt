@@ -9,7 +9,6 @@ use Rattle.dds_base.specs.declared.guid.EntityId.{EntityId}
 use Rattle.dds_base.specs.Fields.{number_at, octets_at, ◌>>=◌}
 use Rattle.dds_base.specs.FieldPairs.{both}
 use Rattle.rtps_wire.specs.Fields.{has_flag, order_of}
-use Rattle.rtps_wire.specs.FieldAt.{entity_id_at, sn_at}
 use Rattle.rtps_wire.specs.DataAt.{data_head_at}
 use Rattle.rtps_wire.specs.ParametersAt.{parameters_at}
 use Rattle.rtps_wire.specs.Names.{flag_inline_qos}

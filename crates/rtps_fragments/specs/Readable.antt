@@ -1,5 +1,5 @@
 -- What is read of a message that is told (RTPS 2.5, 8.3.4, 9.4.4 and 9.4.5).
-use Rattle.std.specs.Prelude.{◌≡◌, ℕ, ◌≤◌, ◌<◌, ◌^◌, false, List, [], ◌∷◌, ◌++◌, length, IfSome, MatchBool}
+use Rattle.std.specs.Prelude.{◌≡◌, ℕ, ◌<◌, ◌^◌, false, List, [], ◌∷◌, ◌++◌, length, IfSome, MatchBool}
 use Rattle.rtps_wire.specs.declared.data.Data.{Data as DataOf}
 use Rattle.rtps_wire.specs.declared.submessage.Submessage.{Submessage}
 use Rattle.rtps_wire.specs.declared.submessage.Submessage.TheVariants.{InfoDst, InfoTs, Data}
@@ -10,7 +10,7 @@ use Rattle.rtps_wire.specs.Names.{flag_inline_qos, flag_non_standard, id_data, l
 use Rattle.rtps_wire.specs.Parameters.{Parameter, ReadsParameters}
 use Rattle.rtps_wire.specs.Submessages.{Reads}
 use Rattle.rtps_fragments.specs.declared.telling.InForce.{InForce}
-use Rattle.rtps_fragments.specs.DataFrag.{Fragment, IsFragment}
+use Rattle.rtps_fragments.specs.DataFrag.{Fragment, IsFragment, ReadsFragment}
 use Rattle.rtps_fragments.specs.Keeping.{Kept, IsKept}
 use Rattle.rtps_fragments.specs.Telling.{data_body, message_of}
 
@@ -41,3 +41,7 @@ DataIsRead = (f : Fragment) (k : Kept) (ps : List Parameter) (d : DataOf) → Is
     → SaysContent k.flags ps k.octets d.content
     → d.reader_id ≡ f.reader_id → d.writer_id ≡ f.writer_id → d.writer_sn ≡ f.writer_sn
     → Reads id_data k.flags (data_body f k.flags k.parameters k.octets) (Data d)
+
+-- A body is one DATA_FRAG at most.
+abbrev pub OneIsRead : Type 0
+OneIsRead = (flags : ℕ) (body : List ℕ) (f g : Fragment) → ReadsFragment flags body f → ReadsFragment flags body g → f ≡ g

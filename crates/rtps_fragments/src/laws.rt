@@ -3,7 +3,7 @@
 //! RTPS 2.5, 8.3.8.3 (DataFrag).
 
 ghost use Rattle.rtps_fragments.specs.Assembled.{WhatIsToldCame};
-ghost use Rattle.rtps_fragments.specs.Readable.{DataIsRead, MessagesAreRead};
+ghost use Rattle.rtps_fragments.specs.Readable.{DataIsRead, MessagesAreRead, OneIsRead};
 ghost use Rattle.rtps_fragments.specs.Bounded.{FewAreKept, FewAreShort};
 
 /// A payload that is told is whole: it has the length that its DATA_FRAGs say, and each of its octets is that of the
@@ -28,4 +28,10 @@ pub fn what_is_told_is_read()
     ensures message { MessagesAreRead }
     // Of the DATA is read what its flags, its parameters and its payload say.
     ensures change { DataIsRead }
+{}
+
+/// Of a body at most one DATA_FRAG is read, so what is heard of a datagram is one.
+pub fn one_fragment_is_read()
+    // Two that are read are the same.
+    ensures one { OneIsRead }
 {}

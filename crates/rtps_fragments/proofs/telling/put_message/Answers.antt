@@ -1,4 +1,4 @@
-use Rattle.std.proofs.Common.{◌≡◌, ◌∙◌, ap, sym, refl, arith, ℕ, List, [], ◌++◌}
+use Rattle.std.proofs.Common.{◌∙◌, ap, arith, ℕ, List, ◌++◌}
 use Rattle.rtps_fragments.specs.Telling.{front_text}
 use Rattle.rtps_fragments.proofs.Texts.{made}
 use Rattle.rtps_fragments.proofs.telling.put_message.Goals as goal
