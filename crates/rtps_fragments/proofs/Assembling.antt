@@ -1,6 +1,7 @@
 -- What is told of a payload is what came of it.
 use Rattle.std.proofs.Common.{◌≡◌, ◌∙◌, inl, inr, ℕ, ◌+◌, ◌-◌, ◌*◌, ◌/◌, ◌<◌, ◌≤◌, Bool, true, false, eqb, List, [], ◌∷◌, ◌++◌, length, get_or, take, drop, min, replicate, Option, Some, None, refl, sym, ap, arith}
 use Rattle.std.specs.Prelude.{Contains, IfSome}
+use Rattle.std.specs.List.{All}
 use Rattle.std.proofs.Math.Nat.{mul-le-mul_left}
 use Rattle.std.proofs.lemmas.Bool.{cases_lt, eqb-true, eq-eqb}
 use Rattle.std.proofs.lemmas.List.{get_or_past, get_or-take, get_or-drop, get_or_append_left, get_or-append_right, get_or-replicate, length-append, length-take, length-replicate}
@@ -8,8 +9,8 @@ use Rattle.std.proofs.lemmas.List.Elements.{Contains-push, Contains-append_left}
 use Rattle.std.proofs.lemmas.List.Sums.{AllPass-from_list_all}
 use Rattle.rtps_fragments.specs.DataFrag.{Fragment, IsFragment, count_of, place_of}
 use Rattle.rtps_fragments.specs.Keeping.{Kept, heard, is_alike, is_whole, nothing_of, overlaid, with_fragments}
-use Rattle.rtps_fragments.specs.Assembled.{IsAlike, Brings, Opens, IsOf, IsAssembled, WhatIsToldCame}
-use Rattle.rtps_fragments.proofs.HeardLaws.{heard_leaves}
+use Rattle.rtps_fragments.specs.Assembled.{IsAlike, Brings, Opens, IsOf, IsAssembled}
+use Rattle.rtps_fragments.proofs.HeardLaws.{Leaves, heard_leaves}
 use Rattle.rtps_fragments.proofs.Placing.{fits_whole, same_size, same_whole, overlaid-length}
 
 -- ---- a list with others in place of as many of its own
@@ -58,8 +59,10 @@ above i n s sized le =
 
 -- ---- one more DATA_FRAG
 
-later : (fs : List Fragment) (g f : Fragment) → Contains fs f → Contains (fs ++ g ∷ []) f
-later fs g f has = Contains-append_left fs (g ∷ []) f has
+-- what came before came, and this one did
+pub record Adds (P Q : Fragment → Type 0) (g : Fragment) : Type 0 where
+  pub later : (f : Fragment) → P f → Q f
+  pub itself : Q g
 
 -- an octet that came before stays, where the fragments do not cover it
 stays : (k m : Kept) (g : Fragment) (i : ℕ) → m.writer_sn ≡ k.writer_sn → m.fragment_size ≡ k.fragment_size
@@ -75,14 +78,14 @@ stays k m g i sn size whole octet b = record {
   octet = octet ∙ b.octet;
 }
 
-pub IsOf-more : (fs : List Fragment) (g : Fragment) (k : Kept) → IsOf fs k → IsOf (fs ++ g ∷ []) k
-IsOf-more fs g k o = record {
+pub IsOf-more : (P Q : Fragment → Type 0) → ((f : Fragment) → P f → Q f) → (k : Kept) → IsOf P k → IsOf Q k
+IsOf-more P Q later k o = record {
   sized = o.sized;
   some = o.some;
   octets = o.octets;
   came = o.came;
-  each = λ i lt mark. let x = o.each i lt mark in (x.0, later fs g x.0 x.1, x.2);
-  opening = λ mark. let x = o.opening mark in (x.0, later fs g x.0 x.1, x.2);
+  each = λ i lt mark. let x = o.each i lt mark in (x.0, later x.0 x.1, x.2);
+  opening = λ mark. let x = o.opening mark in (x.0, later x.0 x.1, x.2);
 }
 
 never : (n i : ℕ) → get_or (replicate n false) i false ≡ false
@@ -92,8 +95,8 @@ never n i =
       | inr le ↦ get_or_past (replicate n false) i false (omega (arith, length-replicate n false))
     ]
 
-pub IsOf-nothing : (fs : List Fragment) (f : Fragment) → IsFragment f → IsOf fs (nothing_of f)
-IsOf-nothing fs f v = record {
+pub IsOf-nothing : (P : Fragment → Type 0) (f : Fragment) → IsFragment f → IsOf P (nothing_of f)
+IsOf-nothing P f v = record {
   sized = v.sized;
   some = omega (arith, v.some, v.within);
   octets = length-replicate f.sample_size 0;
@@ -112,9 +115,9 @@ record Suits (g : Fragment) (k : Kept) : Type 0 where
   octets : place_of g + length g.octets ≤ length k.octets
   marks : g.fragment_starting_num - 1 + g.fragments_in_submessage ≤ length k.came
 
-suits : (fs : List Fragment) (g : Fragment) (k : Kept) → IsFragment g → IsOf fs k → is_alike k g ≡ true
+suits : (P : Fragment → Type 0) (g : Fragment) (k : Kept) → IsFragment g → IsOf P k → is_alike k g ≡ true
     → g.writer_sn ≡ k.writer_sn → Suits g k
-suits fs g k v o e sn =
+suits P g k v o e sn =
     let size = same_size k g e in
     let whole = same_whole k g e in
     let count : count_of k.sample_size k.fragment_size ≡ count_of g.sample_size g.fragment_size =
@@ -125,11 +128,12 @@ suits fs g k v o e sn =
       marks = omega (arith, v.within, o.came, count);
     }
 
-each_after : (fs : List Fragment) (g : Fragment) (k : Kept) (timestamp : Option ℕ) → IsFragment g → IsOf fs k
+each_after : (P Q : Fragment → Type 0) (g : Fragment) (k : Kept) (timestamp : Option ℕ) → Adds P Q g → IsFragment g
+    → IsOf P k
     → Suits g k → (i : ℕ) → i < k.sample_size
     → get_or ((with_fragments k g timestamp).came) (i / k.fragment_size) false ≡ true
-    → (f : Fragment) × Contains (fs ++ g ∷ []) f × Brings f (with_fragments k g timestamp) i
-each_after fs g k timestamp v o t i lt mark =
+    → (f : Fragment) × Q f × Brings f (with_fragments k g timestamp) i
+each_after P Q g k timestamp a v o t i lt mark =
     let m : Kept = with_fragments k g timestamp in
     let d : ℕ = g.fragment_starting_num - 1 in
     let marks : List Bool = replicate g.fragments_in_submessage true in
@@ -145,14 +149,14 @@ each_after fs g k timestamp v o t i lt mark =
           let was = sym (before k.came (g.fragment_starting_num - 1) marks (i / k.fragment_size) false low j) ∙ mark in
           let x = o.each i lt was in (
             x.0,
-            later fs g x.0 x.1,
+            a.later x.0 x.1,
             stays k m x.0 i refl refl refl (before k.octets (place_of g) g.octets i 0 place less) x.2,
           )
       | inr from ↦
           elim (cases_lt i (place_of g + length g.octets)) [
             | inl inside ↦ (
               g,
-              Contains-push fs g,
+              a.itself,
               record {
                 alike = record { number = t.alike.number; size = t.alike.size; whole = t.alike.whole };
                 begins = from;
@@ -171,22 +175,23 @@ each_after fs g k timestamp v o t i lt mark =
                 ∙ mark in
                 let x = o.each i lt was in (
                   x.0,
-                  later fs g x.0 x.1,
+                  a.later x.0 x.1,
                   stays k m x.0 i refl refl refl (behind k.octets (place_of g) g.octets i 0 place past) x.2,
                 )
           ]
     ]
 
-opening_after : (fs : List Fragment) (g : Fragment) (k : Kept) (timestamp : Option ℕ) → IsFragment g → IsOf fs k
+opening_after : (P Q : Fragment → Type 0) (g : Fragment) (k : Kept) (timestamp : Option ℕ) → Adds P Q g
+    → IsFragment g → IsOf P k
     → Suits g k → get_or ((with_fragments k g timestamp).came) 0 false ≡ true
-    → (f : Fragment) × Contains (fs ++ g ∷ []) f × Opens f (with_fragments k g timestamp)
-opening_after fs g k timestamp v o t mark = by_first (eqb g.fragment_starting_num 1) refl
+    → (f : Fragment) × Q f × Opens f (with_fragments k g timestamp)
+opening_after P Q g k timestamp a v o t mark = by_first (eqb g.fragment_starting_num 1) refl
   where
     by_first : (b : Bool) → eqb g.fragment_starting_num 1 ≡ b
-        → (f : Fragment) × Contains (fs ++ g ∷ []) f × Opens f (with_fragments k g timestamp)
+        → (f : Fragment) × Q f × Opens f (with_fragments k g timestamp)
     by_first true e = (
       g,
-      Contains-push fs g,
+      a.itself,
       record {
         alike = record { number = t.alike.number; size = t.alike.size; whole = t.alike.whole };
         first = eqb-true g.fragment_starting_num 1 e;
@@ -203,7 +208,7 @@ opening_after fs g k timestamp v o t mark = by_first (eqb g.fragment_starting_nu
         ∙ mark in
         let x = o.opening was in (
           x.0,
-          later fs g x.0 x.1,
+          a.later x.0 x.1,
           record {
             alike = record { number = x.2.alike.number; size = x.2.alike.size; whole = x.2.alike.whole };
             first = x.2.first;
@@ -212,10 +217,11 @@ opening_after fs g k timestamp v o t mark = by_first (eqb g.fragment_starting_nu
           },
         )
 
-pub IsOf-added : (fs : List Fragment) (g : Fragment) (k : Kept) (timestamp : Option ℕ) → IsFragment g → IsOf fs k
-    → is_alike k g ≡ true → g.writer_sn ≡ k.writer_sn → IsOf (fs ++ g ∷ []) (with_fragments k g timestamp)
-IsOf-added fs g k timestamp v o e sn =
-    let t = suits fs g k v o e sn in
+pub IsOf-added : (P Q : Fragment → Type 0) (g : Fragment) (k : Kept) (timestamp : Option ℕ) → Adds P Q g
+    → IsFragment g → IsOf P k
+    → is_alike k g ≡ true → g.writer_sn ≡ k.writer_sn → IsOf Q (with_fragments k g timestamp)
+IsOf-added P Q g k timestamp a v o e sn =
+    let t = suits P g k v o e sn in
     let n = length-replicate g.fragments_in_submessage true in
     record {
       sized = o.sized;
@@ -223,8 +229,8 @@ IsOf-added fs g k timestamp v o e sn =
       octets = overlaid-length k.octets (place_of g) g.octets t.octets ∙ o.octets;
       came = overlaid-length k.came (g.fragment_starting_num - 1) (replicate g.fragments_in_submessage true)
           (omega (arith, n, t.marks)) ∙ o.came;
-      each = each_after fs g k timestamp v o t;
-      opening = opening_after fs g k timestamp v o t;
+      each = each_after P Q g k timestamp a v o t;
+      opening = opening_after P Q g k timestamp a v o t;
     }
 
 -- ---- a payload that is whole
@@ -232,8 +238,8 @@ IsOf-added fs g k timestamp v o e sn =
 in_all : (whole size i : ℕ) → 1 ≤ size → i < whole → i < (whole + size - 1) / size * size
 in_all whole size i sized lt = omega arith
 
-pub assembled : (fs : List Fragment) (k : Kept) → IsOf fs k → is_whole k ≡ true → IsAssembled fs k
-assembled fs k o whole =
+pub assembled : (P : Fragment → Type 0) (k : Kept) → IsOf P k → is_whole k ≡ true → IsAssembled P k
+assembled P k o whole =
     let all = AllPass-from_list_all (λ (b : Bool). b) k.came whole in
     record {
       octets = o.octets;
@@ -247,13 +253,15 @@ assembled fs k o whole =
 
 -- ---- a writer's numbers
 
-assembled_if : (fs : List Fragment) (o : Option Kept) → IfSome o (λ k. IsOf fs k × (is_whole k ≡ true))
-    → IfSome o (IsAssembled fs)
-assembled_if fs None h = tt
-assembled_if fs (Some k) h = assembled fs k h.0 h.1
+-- what came of a writer comes to its row
+pub record Comes (P Q : Fragment → Type 0) (f : Fragment) : Type 0 where
+  pub valid : IsFragment f
+  pub later : (g : Fragment) → P g → Q g
+  pub itself : Q f
 
-pub what_is_told_came : WhatIsToldCame
-what_is_told_came fs kept f timestamp v all =
-    let left = heard_leaves (IsOf fs) (IsOf (fs ++ f ∷ [])) kept f timestamp all (IsOf-more fs f)
-    (λ k o e sn. IsOf-added fs f k timestamp v o e sn) (IsOf-nothing fs f v) in
-    (left.kept, assembled_if (fs ++ f ∷ []) ((heard kept f timestamp).whole) left.whole)
+pub heard_of : (P Q : Fragment → Type 0) (kept : List Kept) (f : Fragment) (timestamp : Option ℕ) → Comes P Q f
+    → All (IsOf P) kept → Leaves (IsOf Q) f.writer_sn kept (heard kept f timestamp)
+heard_of P Q kept f timestamp x all =
+    let a : Adds P Q f = record { later = x.later; itself = x.itself } in
+    heard_leaves (IsOf P) (IsOf Q) kept f timestamp all (IsOf-more P Q x.later)
+    (λ k o e sn. IsOf-added P Q f k timestamp a x.valid o e sn) (IsOf-nothing P f x.valid)

@@ -15,7 +15,7 @@ pub in_force_at : InForce → List Part → InForce
 in_force_at c [] = c
 in_force_at c (p ∷ ps) = in_force_at (in_force_after c p.read) ps
 
-same_source : (c : InForce) (s : Submessage) → (in_force_after c s).source ≡ c.source
+pub same_source : (c : InForce) (s : Submessage) → (in_force_after c s).source ≡ c.source
 same_source c Pad = refl
 same_source c (InfoDst prefix) = refl
 same_source c (InfoTs moment) = refl

@@ -8,3 +8,4 @@ pub mod HeardLaws
 pub mod Assembling
 pub mod Keeping
 pub mod Reading
+pub mod Arriving

@@ -2,7 +2,7 @@
 //!
 //! RTPS 2.5, 8.3.8.3 (DataFrag).
 
-ghost use Rattle.rtps_fragments.specs.Assembled.{WhatIsToldCame};
+ghost use Rattle.rtps_fragments.specs.Assembled.{NothingCame, WhatIsToldCame};
 ghost use Rattle.rtps_fragments.specs.Readable.{DataIsRead, MessagesAreRead, OneIsRead};
 ghost use Rattle.rtps_fragments.specs.Bounded.{FewAreKept, FewAreShort};
 
@@ -10,8 +10,10 @@ ghost use Rattle.rtps_fragments.specs.Bounded.{FewAreKept, FewAreShort};
 /// fragments of a DATA_FRAG which came, of this writer and number, of the same fragment size and whole length, and
 /// which cover its place. Its flags and its parameters came with the first fragment.
 pub fn what_is_told_came()
-    // So it is after any DATA_FRAGs of a writer, of which nothing was kept at first.
+    // So it is of each message of a datagram, whatever came before.
     ensures told { WhatIsToldCame }
+    // Where nothing came, nothing is kept.
+    ensures nothing { NothingCame }
 {}
 
 /// Of a writer at most 16 numbers are kept, in less than 2^20 octets of parameters and payload, whatever comes.

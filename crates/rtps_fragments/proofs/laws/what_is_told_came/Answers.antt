@@ -1,5 +1,5 @@
-use Rattle.rtps_fragments.proofs.Assembling as assembling
+use Rattle.rtps_fragments.proofs.Arriving as arriving
 use Rattle.rtps_fragments.proofs.laws.what_is_told_came.Goals as goal
 
 pub returns : goal.returns
-returns c = record { told = assembling.what_is_told_came }
+returns c = record { told = arriving.what_is_told_came; nothing = arriving.nothing_came }
