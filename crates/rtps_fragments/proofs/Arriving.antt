@@ -1,12 +1,10 @@
 -- What is kept of each writer, and what is told, is of the DATA_FRAGs that came of it.
-use Rattle.std.proofs.Common.{◌≡◌, ◌∙◌, ℕ, Bool, true, false, ◌&&◌, List, [], ◌∷◌, ◌++◌, length, get_or, set, map, Option, Some, None, refl, sym, ap, subst, append_assoc}
-use Rattle.std.specs.Prelude.{Contains, IfSome, nat_eq}
+use Rattle.std.proofs.Common.{◌≡◌, ◌∙◌, ℕ, true, List, [], ◌∷◌, ◌++◌, get_or, Option, Some, None, refl, ap, subst, append_assoc}
+use Rattle.std.specs.Prelude.{IfSome, nat_eq}
 use Rattle.std.specs.Option.{option_map, option_map_or, option_to_list}
 use Rattle.std.specs.List.{All, position}
 use Rattle.std.specs.Cmp.Lexicographic.{pointwise}
-use Rattle.std.specs.Bool.{Decides}
 use Rattle.std.proofs.lemmas.Bool.Decides.{Decides-eqb}
-use Rattle.std.proofs.lemmas.List.{append-nil}
 use Rattle.std.proofs.lemmas.List.Elements.{All-append, All-cons, All-map, All-nil, All-set, All-weaker, Contains-append_left, Contains-push}
 use Rattle.std.proofs.lemmas.List.Quantifiers.{position-Some}
 use Rattle.std.proofs.lemmas.Slice.Eq.{slice_eq-Decides}
@@ -18,9 +16,9 @@ use Rattle.rtps_fragments.specs.declared.telling.InForce.{InForce}
 use Rattle.rtps_fragments.specs.DataFrag.{Fragment, IsFragment}
 use Rattle.rtps_fragments.specs.Keeping.{Kept, heard, is_whole}
 use Rattle.rtps_fragments.specs.Telling.{in_force_after, message_of}
-use Rattle.rtps_fragments.specs.Hearing.{Row, Part, Begins, Hears, Told, IsFragmentOf, is_row, messages_of, rows_after, rows_of, told, told_at, told_by}
+use Rattle.rtps_fragments.specs.Hearing.{Row, Part, Begins, Told, IsFragmentOf, is_row, messages_of, rows_after, told, told_at, told_by}
 use Rattle.rtps_fragments.specs.Assembled.{Arrival, AreOf, CameOf, IsOf, IsToldOf, NothingCame, WhatIsToldCame, arrivals_of}
-use Rattle.rtps_fragments.proofs.Assembling.{Comes, IsOf-more, assembled, heard_of}
+use Rattle.rtps_fragments.proofs.Assembling.{IsOf-more, assembled, heard_of}
 use Rattle.rtps_fragments.proofs.Going.{same_source}
 
 same_octets : (a b : List ℕ) → pointwise nat_eq a b ≡ true → a ≡ b

@@ -1,12 +1,12 @@
 -- What is told of a payload is what came of it (RTPS 2.5, 8.3.8.3).
-use Rattle.std.specs.Prelude.{◌≡◌, ℕ, ◌+◌, ◌-◌, ◌/◌, ◌≤◌, ◌<◌, true, false, List, [], ◌∷◌, ◌++◌, length, Option, Contains, IfSome, slice_index, slice_index_or}
+use Rattle.std.specs.Prelude.{◌≡◌, ℕ, ◌+◌, ◌-◌, ◌/◌, ◌≤◌, ◌<◌, true, false, List, [], ◌∷◌, ◌++◌, length, Contains, slice_index, slice_index_or}
 use Rattle.std.specs.Option.{option_map, option_to_list}
 use Rattle.std.specs.List.{All}
 use Rattle.dds_base.specs.declared.guid.EntityId.{EntityId}
 use Rattle.dds_base.specs.declared.guid.Guid.{Guid}
 use Rattle.dds_base.specs.declared.guid.GuidPrefix.{GuidPrefix}
 use Rattle.rtps_fragments.specs.declared.telling.InForce.{InForce}
-use Rattle.rtps_fragments.specs.DataFrag.{Fragment, IsFragment, count_of, place_of}
+use Rattle.rtps_fragments.specs.DataFrag.{Fragment, count_of, place_of}
 use Rattle.rtps_fragments.specs.Keeping.{Kept}
 use Rattle.rtps_fragments.specs.Telling.{message_of}
 use Rattle.rtps_fragments.specs.Hearing.{Row, Part, Hears, messages_of, rows_of}

@@ -1,8 +1,10 @@
 -- How much is kept of a writer. The bounds are this project's.
-use Rattle.std.specs.Prelude.{ℕ, ◌+◌, ◌≤◌, ◌<◌, ◌^◌, List, length, Option}
+use Rattle.std.specs.Prelude.{ℕ, ◌+◌, ◌≤◌, ◌<◌, ◌^◌, List, length}
 use Rattle.std.specs.List.{All, sum_by}
-use Rattle.rtps_fragments.specs.DataFrag.{Fragment, IsFragment}
-use Rattle.rtps_fragments.specs.Keeping.{Kept, IsKept, heard, max_numbers}
+use Rattle.dds_base.specs.declared.guid.Guid.{Guid}
+use Rattle.rtps_fragments.specs.declared.telling.InForce.{InForce}
+use Rattle.rtps_fragments.specs.Keeping.{Kept, IsKept, max_numbers}
+use Rattle.rtps_fragments.specs.Hearing.{Row, Hears, rows_of}
 
 -- At most so many numbers are kept, each of a payload that a DATA can carry.
 pub record AreFew (kept : List Kept) : Type 0 where
@@ -13,10 +15,18 @@ pub record AreFew (kept : List Kept) : Type 0 where
 abbrev pub octets_of : Kept → ℕ
 octets_of k = length k.parameters + length k.octets
 
--- Where few numbers are kept of a writer, few are kept after one more DATA_FRAG.
+-- Few numbers are kept of each writer.
+abbrev pub AllAreFew : List Row → Type 0
+AllAreFew rows = All (λ (r : Row). AreFew r.kept) rows
+
+-- Where few numbers are kept of each writer, few are kept after a datagram.
 abbrev pub FewAreKept : Type 0
-FewAreKept = (kept : List Kept) (f : Fragment) (timestamp : Option ℕ) → IsFragment f → AreFew kept
-    → AreFew ((heard kept f timestamp).kept)
+FewAreKept = (c : InForce) (body rest : List ℕ) (rows after : List Row) (out all : List (List ℕ)) → AllAreFew rows
+    → Hears c body rest rows after out all → AllAreFew after
+
+-- None are few.
+abbrev pub NoneAreFew : Type 0
+NoneAreFew = (writers : List Guid) → AllAreFew (rows_of writers)
 
 -- Few numbers are kept in less than 2^20 octets.
 abbrev pub FewAreShort : Type 0

@@ -4,7 +4,7 @@
 
 ghost use Rattle.rtps_fragments.specs.Assembled.{NothingCame, WhatIsToldCame};
 ghost use Rattle.rtps_fragments.specs.Readable.{DataIsRead, MessagesAreRead, OneIsRead};
-ghost use Rattle.rtps_fragments.specs.Bounded.{FewAreKept, FewAreShort};
+ghost use Rattle.rtps_fragments.specs.Bounded.{FewAreKept, FewAreShort, NoneAreFew};
 
 /// A payload that is told is whole: it has the length that its DATA_FRAGs say, and each of its octets is that of the
 /// fragments of a DATA_FRAG which came, of this writer and number, of the same fragment size and whole length, and
@@ -18,8 +18,10 @@ pub fn what_is_told_came()
 
 /// Of a writer at most 16 numbers are kept, in less than 2^20 octets of parameters and payload, whatever comes.
 pub fn few_are_kept()
-    // Few stay few, and none is few.
+    // Few stay few at each datagram.
     ensures kept { FewAreKept }
+    // Where nothing came, few are kept.
+    ensures none { NoneAreFew }
     // They have few octets.
     ensures short { FewAreShort }
 {}
