@@ -17,8 +17,9 @@ use Rattle.rtps_fragments.specs.DataFrag.{Fragment, IsFragment}
 use Rattle.rtps_fragments.specs.Keeping.{Kept, heard, is_whole}
 use Rattle.rtps_fragments.specs.Telling.{in_force_after, message_of}
 use Rattle.rtps_fragments.specs.Hearing.{Row, Part, Begins, Told, IsFragmentOf, is_row, messages_of, rows_after, told, told_at, told_by}
-use Rattle.rtps_fragments.specs.Assembled.{Arrival, AreOf, CameOf, IsOf, IsToldOf, NothingCame, WhatIsToldCame, arrivals_of}
+use Rattle.rtps_fragments.specs.Assembled.{Arrival, AreOf, CameOf, IsOf, IsToldOf, KnownCame, NothingCame, WhatIsToldCame, arrivals_of}
 use Rattle.rtps_fragments.proofs.Assembling.{IsOf-more, assembled, heard_of}
+use Rattle.rtps_fragments.proofs.Knowing.{forgotten_all, known_all}
 use Rattle.rtps_fragments.proofs.Going.{same_source}
 
 same_octets : (a b : List ℕ) → pointwise nat_eq a b ≡ true → a ≡ b
@@ -203,3 +204,10 @@ nothing_came writers =
     All-map (λ (r : Row). All (IsOf (CameOf [] r.writer.prefix r.writer.entity)) r.kept)
     (λ (w : Guid). record { writer = w; kept = [] }) writers
     (λ k d lt. All-nil (IsOf (CameOf [] (get_or writers k d).prefix (get_or writers k d).entity)))
+
+pub known_came : KnownCame
+known_came xs rows w all = (
+  known_all (λ (r : Row). All (IsOf (CameOf xs r.writer.prefix r.writer.entity)) r.kept) rows w
+      (All-nil (IsOf (CameOf xs w.prefix w.entity))) all,
+  forgotten_all (λ (r : Row). All (IsOf (CameOf xs r.writer.prefix r.writer.entity)) r.kept) rows w all,
+)

@@ -12,7 +12,8 @@ use Rattle.rtps_fragments.specs.DataFrag.{Fragment, IsFragment, count_of, place_
 use Rattle.rtps_fragments.specs.Keeping.{Kept, IsKept, heard, is_alike, nothing_of, with_fragments}
 use Rattle.rtps_fragments.specs.Telling.{in_force_after}
 use Rattle.rtps_fragments.specs.Hearing.{Row, Part, Begins, IsFragmentOf, is_row, rows_after, told, told_at, told_by}
-use Rattle.rtps_fragments.specs.Bounded.{AllAreFew, AreFew, FewAreKept, FewAreShort, NoneAreFew, octets_of}
+use Rattle.rtps_fragments.specs.Bounded.{AllAreFew, AreFew, FewAreKept, FewAreShort, KnownAreFew, NoneAreFew, octets_of}
+use Rattle.rtps_fragments.proofs.Knowing.{forgotten_all, known_all}
 use Rattle.rtps_fragments.proofs.HeardLaws.{heard_leaves}
 use Rattle.rtps_fragments.proofs.Placing.{octets_fit, marks_fit, same_whole, overlaid-length}
 
@@ -93,3 +94,9 @@ few_are_short kept few =
     let sum =
     sum_by-le octets_of 65463 kept (All-weaker IsKept (λ (k : Kept). octets_of k ≤ 65463) short kept few.payloads) in
     omega (arith, sum, few.numbers)
+
+pub known_are_few : KnownAreFew
+known_are_few rows w all = (
+  known_all (λ (r : Row). AreFew r.kept) rows w (record { numbers = omega arith; payloads = All-nil IsKept }) all,
+  forgotten_all (λ (r : Row). AreFew r.kept) rows w all,
+)

@@ -9,3 +9,4 @@ pub mod Assembling
 pub mod Keeping
 pub mod Reading
 pub mod Arriving
+pub mod Knowing

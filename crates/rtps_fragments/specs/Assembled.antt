@@ -9,7 +9,7 @@ use Rattle.rtps_fragments.specs.declared.telling.InForce.{InForce}
 use Rattle.rtps_fragments.specs.DataFrag.{Fragment, count_of, place_of}
 use Rattle.rtps_fragments.specs.Keeping.{Kept}
 use Rattle.rtps_fragments.specs.Telling.{message_of}
-use Rattle.rtps_fragments.specs.Hearing.{Row, Part, Hears, messages_of, rows_of}
+use Rattle.rtps_fragments.specs.Hearing.{Row, Part, Hears, forgetting, knowing, messages_of, rows_of}
 
 -- A DATA_FRAG is of the payload's number, and of its fragment size and whole length.
 pub record IsAlike (f : Fragment) (k : Kept) : Type 0 where
@@ -89,3 +89,8 @@ WhatIsToldCame = (arrivals : List Arrival) (c : InForce) (body rest : List ℕ) 
 -- Of writers of which nothing is kept, it is so where nothing came.
 abbrev pub NothingCame : Type 0
 NothingCame = (writers : List Guid) → AreOf [] (rows_of writers)
+
+-- It stays so where one more writer is known, and where one is known no more.
+abbrev pub KnownCame : Type 0
+KnownCame = (arrivals : List Arrival) (rows : List Row) (w : Guid) → AreOf arrivals rows
+    → AreOf arrivals (knowing rows w) × AreOf arrivals (forgetting rows w)

@@ -4,7 +4,7 @@ use Rattle.std.specs.List.{All, sum_by}
 use Rattle.dds_base.specs.declared.guid.Guid.{Guid}
 use Rattle.rtps_fragments.specs.declared.telling.InForce.{InForce}
 use Rattle.rtps_fragments.specs.Keeping.{Kept, IsKept, max_numbers}
-use Rattle.rtps_fragments.specs.Hearing.{Row, Hears, rows_of}
+use Rattle.rtps_fragments.specs.Hearing.{Row, Hears, forgetting, knowing, rows_of}
 
 -- At most so many numbers are kept, each of a payload that a DATA can carry.
 pub record AreFew (kept : List Kept) : Type 0 where
@@ -27,6 +27,10 @@ FewAreKept = (c : InForce) (body rest : List ℕ) (rows after : List Row) (out a
 -- None are few.
 abbrev pub NoneAreFew : Type 0
 NoneAreFew = (writers : List Guid) → AllAreFew (rows_of writers)
+
+-- They stay few where one more writer is known, and where one is known no more.
+abbrev pub KnownAreFew : Type 0
+KnownAreFew = (rows : List Row) (w : Guid) → AllAreFew rows → AllAreFew (knowing rows w) × AllAreFew (forgetting rows w)
 
 -- Few numbers are kept in less than 2^20 octets.
 abbrev pub FewAreShort : Type 0

@@ -1,5 +1,5 @@
 -- What becomes of the payloads of known writers at a datagram (RTPS 2.5, 8.3.4: the message receiver, and 8.3.8.3).
-use Rattle.std.specs.Prelude.{◌≡◌, ◌⊎◌, ℕ, ◌&&◌, Bool, List, [], ◌∷◌, ◌++◌, Option, Some, None, MatchOption, is_some, map, true, nat_eq, slice_index_or, slice_set}
+use Rattle.std.specs.Prelude.{◌≡◌, ◌⊎◌, ℕ, ◌&&◌, Bool, List, [], ◌∷◌, ◌++◌, Option, Some, None, MatchOption, is_some, map, true, nat_eq, remove, slice_index_or, slice_set, if◌then◌else◌}
 use Rattle.std.specs.Cmp.Lexicographic.{pointwise}
 use Rattle.std.specs.Option.{option_map, option_map_or, option_to_list}
 use Rattle.std.specs.List.{position}
@@ -27,6 +27,16 @@ rows_of writers = map (λ (w : Guid). record { writer = w; kept = [] }) writers
 -- it is the row of this writer
 abbrev pub is_row : GuidPrefix → EntityId → Row → Bool
 is_row prefix entity r = pointwise nat_eq r.writer.prefix.0 prefix.0 && pointwise nat_eq r.writer.entity.0 entity.0
+
+-- the rows, with one of this writer behind them where there is none
+abbrev pub knowing : List Row → Guid → List Row
+knowing rows w =
+    if is_some (position (is_row w.prefix w.entity) rows) then rows
+    else rows ++ record { writer = w; kept = [] } ∷ []
+
+-- the rows without the first of this writer
+abbrev pub forgetting : List Row → Guid → List Row
+forgetting rows w = option_map_or (λ i. remove rows i) (position (is_row w.prefix w.entity) rows) rows
 
 -- The row hears a DATA_FRAG, and the message is that of the payload that it made whole.
 abbrev pub RowAnswers : InForce → Fragment → Row → Row → Option (List ℕ) → Type 0

@@ -2,10 +2,10 @@
 //!
 //! RTPS 2.5, 8.3.4 (the message receiver) and 8.3.8.3 (DataFrag).
 
-ghost use Rattle.std.specs.Prelude.{◌≡◌, ◌<◌, ◌++◌, length, map, is_some, IfOk, IfErr, OnOk, OnErr};
+ghost use Rattle.std.specs.Prelude.{◌≡◌, ◌<◌, ◌++◌, false, length, map, is_some, IfOk, IfErr, OnOk, OnErr};
 ghost use Rattle.std.specs.Option.{option_to_list};
 ghost use Rattle.std.specs.List.{position};
-ghost use Rattle.rtps_fragments.specs.Hearing.{HearsFront, HearsMessage, HearsOne, HearsAll, HearsSome, IsWanted, is_row, rows_of, told, IsKnown};
+ghost use Rattle.rtps_fragments.specs.Hearing.{HearsFront, HearsMessage, HearsOne, HearsAll, HearsSome, IsWanted, is_row, knowing, forgetting, rows_of, told, IsKnown};
 
 use crate::data_frag::{DataFrag, read_fragment};
 use crate::row::WriterRow;
@@ -59,6 +59,37 @@ impl Fragments {
             rows.push(WriterRow::new(alloc, *writer))?;
         }
         Ok(Fragments { rows })
+    }
+
+    /// Knows one more writer, of which nothing came; one that is known stays as it is.
+    ///
+    /// # Errors
+    ///
+    /// `Memory` where no memory was found for a writer that was not known.
+    pub fn know(&mut self, alloc: Global, writer: Guid) -> Result<(), Code>
+        // It has a row behind the others, unless it had one.
+        ensures ok { OnOk result (self.new ≡ knowing self.old writer) }
+        // A refusal leaves all as it was.
+        ensures err { OnErr result (self.new ≡ self.old) }
+        // Memory is wanted only for a writer that is not known.
+        ensures memory { IfErr result (λ e. (e ≡ Code.Memory)
+            × (is_some (position (is_row writer.prefix writer.entity) self.old) ≡ false)) }
+    {
+        if place_of(self.rows.as_slice(), &writer.prefix, &writer.entity).is_some() {
+            return Ok(());
+        }
+        self.rows.push(WriterRow::new(alloc, writer))?;
+        Ok(())
+    }
+
+    /// Knows a writer no more, with what is kept of it.
+    pub fn forget(&mut self, writer: &Guid)
+        // Its row is gone, and no other.
+        ensures rows { self.new ≡ forgetting self.old writer.now }
+    {
+        if let Some(place) = place_of(self.rows.as_slice(), &writer.prefix, &writer.entity) {
+            let _ = self.rows.remove(place);
+        }
     }
 
     /// A DATA_FRAG is heard, and the message of a payload that it made whole appended.

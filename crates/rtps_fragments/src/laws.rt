@@ -2,9 +2,9 @@
 //!
 //! RTPS 2.5, 8.3.8.3 (DataFrag).
 
-ghost use Rattle.rtps_fragments.specs.Assembled.{NothingCame, WhatIsToldCame};
+ghost use Rattle.rtps_fragments.specs.Assembled.{KnownCame, NothingCame, WhatIsToldCame};
 ghost use Rattle.rtps_fragments.specs.Readable.{DataIsRead, MessagesAreRead, OneIsRead};
-ghost use Rattle.rtps_fragments.specs.Bounded.{FewAreKept, FewAreShort, NoneAreFew};
+ghost use Rattle.rtps_fragments.specs.Bounded.{FewAreKept, FewAreShort, KnownAreFew, NoneAreFew};
 
 /// A payload that is told is whole: it has the length that its DATA_FRAGs say, and each of its octets is that of the
 /// fragments of a DATA_FRAG which came, of this writer and number, of the same fragment size and whole length, and
@@ -14,6 +14,8 @@ pub fn what_is_told_came()
     ensures told { WhatIsToldCame }
     // Where nothing came, nothing is kept.
     ensures nothing { NothingCame }
+    // It stays so where a writer is known, or known no more.
+    ensures known { KnownCame }
 {}
 
 /// Of a writer at most 16 numbers are kept, in less than 2^20 octets of parameters and payload, whatever comes.
@@ -22,6 +24,8 @@ pub fn few_are_kept()
     ensures kept { FewAreKept }
     // Where nothing came, few are kept.
     ensures none { NoneAreFew }
+    // They stay few where a writer is known, or known no more.
+    ensures known { KnownAreFew }
     // They have few octets.
     ensures short { FewAreShort }
 {}

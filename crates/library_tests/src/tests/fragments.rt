@@ -59,6 +59,20 @@ impl Hearing {
         self.fragments = Fragments::new(alloc, writers.as_slice()).ok();
     }
 
+    /// One more writer is known, or one no more.
+    fn change(&mut self, alloc: Global, name: &str, operands: &str) {
+        let Some(guid) = guid_of(octets_of(alloc, operands).as_slice()) else {
+            return;
+        };
+        if let Some(fragments) = &mut self.fragments {
+            if name == "knows" {
+                let _ = fragments.know(alloc, guid);
+            } else {
+                fragments.forget(&guid);
+            }
+        }
+    }
+
     /// The messages that come of a datagram.
     fn hear(&mut self, alloc: Global, operands: &str) -> Vec<Octets> {
         let mut whole = Vec::new(alloc);
@@ -73,6 +87,10 @@ impl Subject for Hearing {
     fn answer(&mut self, alloc: Global, text: &mut String, name: &str, operands: &str) {
         if name == "known" {
             self.know(alloc, text, operands);
+            return;
+        }
+        if name == "knows" || name == "forgets" {
+            self.change(alloc, name, operands);
             return;
         }
         let messages = self.hear(alloc, operands);
