@@ -1,5 +1,5 @@
 -- What is claimed of each row is so where one more writer is known, and where one is known no more.
-use Rattle.std.proofs.Common.{◌≡◌, ℕ, suc, Bool, true, false, cond, List, [], ◌∷◌, ◌++◌, Option, Some, None, take, drop}
+use Rattle.std.proofs.Common.{ℕ, suc, Bool, true, false, cond, List, [], ◌∷◌, ◌++◌, Option, Some, None, take, drop}
 use Rattle.std.specs.Prelude.{is_some, remove}
 use Rattle.std.specs.Option.{option_map_or}
 use Rattle.std.specs.List.{All, position}

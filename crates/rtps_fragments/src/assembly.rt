@@ -2,9 +2,8 @@
 //!
 //! RTPS 2.5, 8.3.8.3 (DataFrag) and 8.4.14.1 (large data).
 
-ghost use Rattle.std.specs.Prelude.{◌≡◌, ◌≤◌, ◌<◌, ◌+◌, ◌-◌, ◌++◌, [], true, false, length, replicate, IfOk, IfErr, OnOk, OnErr};
+ghost use Rattle.std.specs.Prelude.{◌≡◌, ◌≤◌, ◌<◌, ◌+◌, ◌-◌, true, false, length, replicate, IfOk, IfErr, OnOk, OnErr};
 ghost use Rattle.std.specs.List.{list_all};
-ghost use Rattle.rtps_fragments.specs.DataFrag.{count_of};
 ghost use Rattle.rtps_fragments.specs.Keeping.{overlaid, nothing_of, is_number, opened, placed, with_fragments, is_whole, is_alike};
 ghost use Rattle.rtps_fragments.specs.Telling.{message_of};
 

@@ -4,11 +4,11 @@
 //!
 //! RTPS 2.5, 8.3.8.3 and 9.4.5.4 (DataFrag).
 
-ghost use Rattle.std.specs.Prelude.{◌≡◌, ◌≤◌, ◌<◌, ◌^◌, ◌-◌, ℕ, length, take, IfSome, IfNone, Some, None, [], false};
+ghost use Rattle.std.specs.Prelude.{◌≡◌, ◌≤◌, ◌<◌, ◌-◌, IfSome, Some, None, []};
 ghost use Rattle.std.specs.Option.{option_map};
 ghost use Rattle.rtps_wire.specs.Fields.{order_of};
 ghost use Rattle.rtps_wire.specs.DataAt.{data_head_at};
-ghost use Rattle.rtps_fragments.specs.DataFrag.{Fragment, ReadsFragment, IsFragment, count_of, data_flags, extent_of, place_of};
+ghost use Rattle.rtps_fragments.specs.DataFrag.{Fragment, IsFragment, data_flags};
 ghost use Rattle.rtps_fragments.specs.Hearing.{IsFragmentOf};
 ghost use Rattle.rtps_fragments.specs.DataFragAt.{said, counts_at, inline_at, fragment_with, fragment_at};
 

@@ -2,7 +2,7 @@
 //!
 //! RTPS 2.5, 9.3 and 9.4.
 
-ghost use Rattle.std.specs.Prelude.{◌≡◌, ◌≤◌, ◌<◌, ◌^◌, length, IfSome};
+ghost use Rattle.std.specs.Prelude.{◌≡◌, ◌≤◌, ◌<◌, ◌^◌, IfSome};
 ghost use Rattle.std.specs.Option.{option_map};
 ghost use Rattle.rtps_wire.specs.Fields.{has_flag, order_of};
 ghost use Rattle.rtps_wire.specs.FieldAt.{entity_id_at, sn_at};

@@ -2,7 +2,7 @@
 //!
 //! RTPS 2.5, 8.3.4 (the message receiver) and 8.3.8.3 (DataFrag).
 
-ghost use Rattle.std.specs.Prelude.{◌≡◌, ◌<◌, ◌++◌, false, length, map, is_some, IfOk, IfErr, OnOk, OnErr};
+ghost use Rattle.std.specs.Prelude.{◌≡◌, ◌<◌, ◌++◌, false, length, is_some, IfOk, IfErr, OnOk, OnErr};
 ghost use Rattle.std.specs.Option.{option_to_list};
 ghost use Rattle.std.specs.List.{position};
 ghost use Rattle.rtps_fragments.specs.Hearing.{HearsFront, HearsMessage, HearsOne, HearsAll, HearsSome, IsWanted, is_row, knowing, forgetting, rows_of, told, IsKnown};

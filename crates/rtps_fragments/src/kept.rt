@@ -2,7 +2,7 @@
 //!
 //! RTPS 2.5, 8.3.8.3 (DataFrag).
 
-ghost use Rattle.std.specs.Prelude.{◌≡◌, ◌<◌, ◌≤◌, length, slice_index_or, IfOk, IfErr, OnErr};
+ghost use Rattle.std.specs.Prelude.{◌≡◌, ◌<◌, length, slice_index_or, IfOk, IfErr, OnErr};
 ghost use Rattle.std.specs.List.{position};
 ghost use Rattle.rtps_fragments.specs.Keeping.{nothing_of, with_fragments, is_number, begun, heard_at, heard};
 ghost use Rattle.rtps_fragments.specs.Telling.{Answers};

@@ -4,7 +4,19 @@
 //! known writers, and answers a message with one DATA once all fragments of a payload have come. The datagram stays as
 //! it is, to be handed on too. Nothing is ever written in fragments, and none is asked for: what stays incomplete is a
 //! number that is missing. Not here: sockets, and what a peer does with a message. The payload is only cut and put
-//! together: what it means is no matter of this crate.
+//! together: what it means is no matter of this crate. `specs/` has the grammar (`DataFrag`), what is kept (`Keeping`),
+//! what is told (`Telling`, `Hearing`), and what the laws say.
+//!
+//! A datagram of a writer that is known, and what comes of it:
+//!
+//! ```rust
+//! let mut fragments = Fragments::new(alloc, &[writer])?;
+//! let mut whole = Vec::new(alloc);
+//! fragments.hear(alloc, datagram, &mut whole)?;
+//! for message in &whole {
+//!     // a message with one DATA: it goes where the datagram goes
+//! }
+//! ```
 //!
 //! RTPS 2.5, 8.3.8.3 and 9.4.5.4 (DataFrag).
 #![tactic(auto)]

@@ -3,8 +3,6 @@
 //! RTPS 2.5, 8.2 (GUID_t) and 8.3.8.3 (DataFrag).
 
 ghost use Rattle.std.specs.Prelude.{◌≡◌, [], IfOk, IfErr, OnErr};
-ghost use Rattle.std.specs.List.{position};
-ghost use Rattle.rtps_fragments.specs.Keeping.{heard};
 ghost use Rattle.rtps_fragments.specs.Hearing.{is_row, RowAnswers};
 
 use crate::assembly::Assembly;
