@@ -29,7 +29,7 @@ takes_for_receiver old at id flags body s effects left other nobody read leaves 
 }
 
 -- any other one leaves the receiver as it was
-stays : (own : GuidPrefix) (at : Receiver) (id flags : ℕ) (body : List ℕ) (s : Submessage) → Reads id flags body s
+pub stays : (own : GuidPrefix) (at : Receiver) (id flags : ℕ) (body : List ℕ) (s : Submessage) → Reads id flags body s
     → ((prefix : GuidPrefix) → Reads id flags body (InfoDst prefix) → ⊥)
     → ((moment : Option ℕ) → Reads id flags body (InfoTs moment) → ⊥) → at ≡ after_submessage own at s
 stays own at id flags body (InfoDst prefix) read no_dst no_ts = absurd (no_dst prefix read)

@@ -54,3 +54,5 @@ pub mod Marked
 pub mod Results
 pub mod Notified
 pub mod Ended
+pub mod Counted
+pub mod ToNobody

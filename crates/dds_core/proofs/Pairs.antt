@@ -42,7 +42,7 @@ first_row : (b : Bool) (r : ReaderProxy) (rs : List ReaderProxy) (reader : Endpo
 first_row true r rs reader rest = refl
 first_row false r rs reader rest = rest refl
 
-some_row : (rows : List ReaderProxy) (reader : Endpoint) (j : ℕ) → slice_get (map reader_of rows) j ≡ Some reader
+pub some_row : (rows : List ReaderProxy) (reader : Endpoint) (j : ℕ) → slice_get (map reader_of rows) j ≡ Some reader
     → IsSome (acknowledged_of rows reader)
 some_row [] reader j at = absurd cc
 some_row (r ∷ rs) reader zero at =

@@ -28,3 +28,5 @@ pub mod Noticing
 pub mod Listening
 pub mod Twins
 pub mod Moved
+pub mod Observing
+pub mod ObservingKept

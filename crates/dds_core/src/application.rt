@@ -10,6 +10,7 @@ ghost use Rattle.dds_conditions.specs.Watched.{is_used, uses_in};
 ghost use Rattle.dds_notices.specs.Listeners.{ByEntity, at_entity, shown};
 ghost use Rattle.dds_core.specs.Lending.{event_of};
 ghost use Rattle.dds_core.specs.Listening.{Adds, AreKept, RefusesEntity, RefusesFilter, RefusesListener, Sets, StandsFor, Steps, no_listeners};
+ghost use Rattle.dds_core.specs.Observing.{Observes};
 ghost use Rattle.dds_core.specs.Opening.{core_refusal, opening_peer};
 ghost use Rattle.dds_core.specs.Pairs.{IsPair};
 ghost use Rattle.dds_core.specs.Sending.{AreMessages, max_unsent};
@@ -24,6 +25,7 @@ ghost use Rattle.dds_base.specs.declared.config.Config.{Config as ConfigOf};
 use crate::filtered_peer::FilteredPeer;
 use crate::lent_event::LentEvent;
 use crate::marks::Marks;
+use crate::observing::Observed;
 use crate::pairing::Pair;
 use crate::twin::{Twin, pair_of};
 use dds_base::{Code, Config, Entity, Moment, Sn};
@@ -333,5 +335,18 @@ impl<F: Filter, L: Listener> Core<F, L> {
             → result ≡ place_of (own_proxies peer.part reader) writer }
     {
         self.filtered.place(reader, writer)
+    }
+
+    /// What a datagram holds that would be nothing to the peer, as it stands before the datagram is delivered. It changes
+    /// nothing, and takes no memory.
+    ///
+    /// RTPS 2.5, 8.3.4 (the message receiver), 8.4.10 (StatefulReader, WriterProxy).
+    pub fn observe(&self, datagram: &[u8]) -> Observed
+        // So much of it is old, or to nobody, in each state that the peer stands for; of bytes that are no message nothing.
+        ensures observes { (config : ConfigOf) (peer : PeerState)
+            → PeerStandsFor self.now.filtered.peer config peer
+            → Observes config peer datagram.now result }
+    {
+        self.filtered.observe(datagram)
     }
 }

@@ -15,6 +15,7 @@ ghost use Rattle.dds_core.specs.Filtering.{StandsFor};
 ghost use Rattle.dds_core.specs.FilteredSteps.{Adds, RefusesFilter, Steps};
 ghost use Rattle.dds_core.specs.Lending.{event_of};
 ghost use Rattle.dds_core.specs.Noticing.{AreMarksOf, MarksPeer, Tells};
+ghost use Rattle.dds_core.specs.Observing.{Observes};
 ghost use Rattle.dds_core.specs.Opening.{core_refusal, opening_peer};
 ghost use Rattle.dds_core.specs.Pairs.{IsPair};
 ghost use Rattle.dds_core.specs.Sending.{AreMessages, max_unsent};
@@ -24,6 +25,7 @@ ghost use Rattle.dds_core.specs.Twins.{Twins};
 
 use crate::lent_event::LentEvent;
 use crate::marks::Marks;
+use crate::observing::Observed;
 use crate::pairing::Pair;
 use crate::peer::Peer;
 use crate::twin::Twin;
@@ -228,5 +230,18 @@ impl<F: Filter> FilteredPeer<F> {
             → result ≡ place_of (own_proxies peer.part reader) writer }
     {
         self.peer.place(reader, writer)
+    }
+
+    /// What a datagram holds that would be nothing to the peer, as it stands before the datagram is delivered. It changes
+    /// nothing, and takes no memory.
+    ///
+    /// RTPS 2.5, 8.3.4 (the message receiver), 8.4.10 (StatefulReader, WriterProxy).
+    pub fn observe(&self, datagram: &[u8]) -> Observed
+        // So much of it is old, or to nobody, in each state that the peer stands for; of bytes that are no message nothing.
+        ensures observes { (config : ConfigOf) (peer : PeerState)
+            → PeerStandsFor self.now.peer config peer
+            → Observes config peer datagram.now result }
+    {
+        self.peer.observe(datagram)
     }
 }

@@ -53,6 +53,7 @@ mod marks;
 mod matching;
 mod moves;
 mod noticing;
+mod observing;
 mod opening;
 mod output;
 mod pairing;
@@ -69,4 +70,5 @@ mod watching;
 mod writer_end;
 
 pub use application::Core;
+pub use observing::Observed;
 pub use pairing::Pair;

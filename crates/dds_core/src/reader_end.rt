@@ -17,6 +17,8 @@ ghost use Rattle.rtps_reader.specs.Tracked.{Tracked, may_take};
 ghost use Rattle.dds_core.specs.Expiring.{Expires, HasRoomForDeaths, IsPastCounting};
 ghost use Rattle.dds_core.specs.Identity.{reader_identity, reliable_in};
 ghost use Rattle.dds_core.specs.Noticing.{MarksReader, RaisesSo, SeesStatus};
+ghost use Rattle.dds_core.specs.Observing.{is_old};
+ghost use Rattle.dds_core.specs.ObservingKept.{IsOldIn};
 ghost use Rattle.dds_core.specs.OpeningEnds.{OpensReader};
 ghost use Rattle.dds_core.specs.Readiness.{receiver_at, IsFirstName, IsNamedFor, IsRowOf, NamedBy, NamesNobody, IsToldBy, HasMemory, IsPrepared, IsPreparedAt, change_ready, IsAlike, CanTake, MayDo, TakesTold, SameReader, IsPlaceAt};
 ghost use Rattle.dds_core.specs.Looking.{access_reply, TakesOnly, TellsFlags, TellsLost, TellsLiveliness, TellsMatch};
@@ -222,7 +224,7 @@ impl ReaderEnd {
 
     /// The row of the writer that a submessage is from, if it is for this reader of the peer of this prefix, and the
     /// writer is matched.
-    fn row_of(
+    pub fn row_of(
         &self,
         own: &GuidPrefix,
         receiver: &MessageReceiver,
@@ -303,8 +305,8 @@ fn told_by_heartbeat(is_reliable: bool, receiver: &MessageReceiver, body: &Heart
 /// Whom a submessage of a writer names: its readerId and its writerId.
 #[derive(Clone, Copy)]
 pub struct Ids {
-    reader: EntityId,
-    writer: EntityId,
+    pub reader: EntityId,
+    pub writer: EntityId,
 }
 
 /// Whom a submessage names, if it is one of a writer.
@@ -428,6 +430,37 @@ impl ReaderEnd {
             return None;
         }
         Some(row)
+    }
+
+    /// Whether a submessage of the writer of this row is old here: a DATA below the place, or a HEARTBEAT that is not later
+    /// than the last one that was taken.
+    fn is_old_at(&self, row: usize, submessage: &Submessage) -> bool
+        requires { row < length self.now.writers }
+        ensures { (t : Tracked) → Tracks self.now.reader row t → result ≡ is_old t submessage.now }
+    {
+        match submessage {
+            Submessage::Data(body) => body.writer_sn.number() < self.reader.place(row).number(),
+            Submessage::Heartbeat(body) => !self.reader.is_later(row, body.count),
+            _ => false,
+        }
+    }
+
+    /// Whether a submessage, which names these, is for this reader of the peer of this prefix, from a matched writer, and
+    /// old here.
+    pub fn is_old(
+        &self,
+        own: &GuidPrefix,
+        receiver: &MessageReceiver,
+        ids: &Ids,
+        submessage: &Submessage,
+    ) -> bool
+        requires { NamedBy submessage.now ids.now.reader ids.now.writer }
+        ensures { IsOldIn own.now (receiver_at receiver.now) submessage.now self.now result }
+    {
+        match self.row_of(own, receiver, &ids.reader, &ids.writer) {
+            Some(row) => self.is_old_at(row, submessage),
+            None => false,
+        }
     }
 
     /// Makes ready what a submessage tells this reader, from its writer of this row, if it is for the reader: a copy of

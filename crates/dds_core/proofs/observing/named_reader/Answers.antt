@@ -1,0 +1,20 @@
+use Rattle.std.proofs.Common.{◌≡◌, ℕ, Some, slice_get, subst, ◌∙◌, below_more, arith}
+use Rattle.std.proofs.lemmas.Option.{get_or_from_slice_get}
+use Rattle.dds_core.specs.Kept.{ReaderKept}
+use Rattle.dds_core.specs.Readiness.{receiver_at, IsNamedFor}
+use Rattle.dds_core.proofs.Lists.{get-within}
+use Rattle.dds_core.proofs.observing.named_reader.Goals as goal
+
+pub loop-index-preserved : goal.loop-index-preserved
+loop-index-preserved c = λ j k lt at.
+    below_more (λ (n : ℕ). (x : ReaderKept) → slice_get c.args.readers.now n ≡ Some x → (row : ℕ)
+    → IsNamedFor c.args.own.now x (receiver_at c.args.receiver.now) c.args.ids.now.reader c.args.ids.now.writer row → ⊥)
+    c.loop-index.index (λ n before x at_x. c.loop-index.invariant n x before at_x)
+    (λ x at_x. subst (λ (y : ReaderKept). (row : ℕ)
+    → IsNamedFor c.args.own.now y (receiver_at c.args.receiver.now) c.args.ids.now.reader c.args.ids.now.writer row → ⊥)
+    (c.index-readers-index.is ∙ get_or_from_slice_get c.args.readers.now c.loop-index.index x _ at_x)
+    c.in_default.ensures.none) j lt k at
+
+pub returns-clause-none : goal.returns-clause-none
+returns-clause-none c = λ i k at.
+    let within = get-within c.args.readers.now i k at in c.loop-index.invariant i k (omega (arith, within)) at

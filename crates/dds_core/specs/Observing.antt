@@ -1,0 +1,116 @@
+-- What a datagram holds that would be nothing to a peer, as it stands before the datagram is delivered.
+--
+-- RTPS 2.5, 8.3.4 (the message receiver), 8.3.8 (Data: writerSN; Heartbeat: count), 8.4.10 (StatefulReader, WriterProxy).
+use Rattle.std.specs.Prelude.{◌≡◌, ◌⊎◌, ℕ, ◌+◌, Bool, true, false, not, nat_lt, List, [], ◌∷◌, length, IsSome}
+use Rattle.dds_base.specs.declared.config.Config.{Config}
+use Rattle.dds_base.specs.declared.guid.EntityId.{EntityId}
+use Rattle.dds_base.specs.declared.guid.GuidPrefix.{GuidPrefix}
+use Rattle.dds_base.specs.Counts.{is_later}
+use Rattle.dds_base.specs.Kept.{numbers_from}
+use Rattle.rtps_reader.specs.Tracked.{Tracked}
+use Rattle.rtps_wire.specs.declared.message.Message.{Message}
+use Rattle.rtps_wire.specs.declared.submessage.Submessage.{Submessage}
+use Rattle.rtps_wire.specs.declared.submessage.Submessage.TheVariants.{Data, Heartbeat, AckNack, Gap}
+use Rattle.rtps_wire.specs.Messages.{ReadsMessage}
+use Rattle.dds_machine.specs.declared.endpoint.Endpoint.{Endpoint}
+use Rattle.dds_machine.specs.Part.{acknowledged_of, own_writer}
+use Rattle.dds_protocol.specs.Claims.{Receiver, receiver_of, after_submessage, is_for, Concerns, IsToWriter}
+use Rattle.dds_protocol.specs.Peer.{Peer}
+use Rattle.dds_protocol.specs.Protocol.{WhereMatched}
+use Rattle.dds_protocol.specs.Receipt.{prefix_of}
+use Rattle.dds_core.specs.declared.observing.Observed.{Observed}
+
+-- the sum of what each of these says
+abbrev pub Sums : {X : Type 0} → (X → ℕ → Type 0) → List X → ℕ → Type 0
+Sums says [] n = n ≡ 0
+Sums says (x ∷ xs) n = (first : ℕ) × (rest : ℕ) × (n ≡ first + rest) × says x first × Sums says xs rest
+
+-- the sum of what each submessage of a message says, where the receiver is as it is when it comes to it
+abbrev pub SumsInTurn : GuidPrefix → (Receiver → Submessage → ℕ → Type 0) → Receiver → List Submessage → ℕ → Type 0
+SumsInTurn own says at [] n = n ≡ 0
+SumsInTurn own says at (s ∷ ss) n =
+    (first : ℕ) × (rest : ℕ) × (n ≡ first + rest) × says at s first
+    × SumsInTurn own says (after_submessage own at s) ss rest
+
+-- the bytes are a message, and this is the sum of what its submessages say
+pub record SumsIn (own : GuidPrefix) (says : Receiver → Submessage → ℕ → Type 0) (bytes : List ℕ) (n : ℕ) : Type 0 where
+  pub message : Message
+  pub offset : ℕ
+  pub is_read : ReadsMessage bytes message offset
+  pub sums : SumsInTurn own says (receiver_of message.prefix) message.submessages n
+
+-- the same, or the bytes are no message, and it is 0
+abbrev pub Counts : GuidPrefix → (Receiver → Submessage → ℕ → Type 0) → List ℕ → ℕ → Type 0
+Counts own says bytes n =
+    SumsIn own says bytes n
+    ⊎ (((message : Message) (offset : ℕ) → ReadsMessage bytes message offset → ⊥) × (n ≡ 0))
+
+-- 1 where it is so, else 0
+abbrev pub one_where : Bool → ℕ
+one_where true = 1
+one_where false = 0
+
+-- to a reader that knows this of its writer a DATA is old whose number lies below the place, and a HEARTBEAT whose count
+-- is not later than that of the last one that was taken
+abbrev pub is_old : Tracked → Submessage → Bool
+is_old t (Data d) = nat_lt d.writer_sn t.place
+is_old t (Heartbeat h) = not (is_later t.count h.count)
+is_old t submessage = false
+
+-- 1 where the submessage is of a writer that is matched with the peer's reader of this number, for that reader, and old to
+-- it; else 0
+abbrev pub OldAt : Config → GuidPrefix → Peer → Receiver → EntityId → EntityId → Submessage → ℕ → ℕ → Type 0
+OldAt config own peer at reader_id writer_id submessage reader n =
+    WhereMatched config own at reader_id writer_id (record { peer = peer.number; number = reader })
+    (λ writer entity reliable. n ≡ one_where (is_old (peer.known.tracked writer reader) submessage)) (n ≡ 0)
+
+-- to so many of the peer's readers it is old
+abbrev pub OldTo : Config → GuidPrefix → Peer → Receiver → EntityId → EntityId → Submessage → ℕ → Type 0
+OldTo config own peer at reader_id writer_id submessage n =
+    Sums (OldAt config own peer at reader_id writer_id submessage)
+    (numbers_from 1 (length peer.part.rtps.readers)) n
+
+-- to so many of them a DATA is old; any other submessage to none
+abbrev pub OldData : Config → GuidPrefix → Peer → Receiver → Submessage → ℕ → Type 0
+OldData config own peer at (Data d) n = OldTo config own peer at d.reader_id d.writer_id (Data d) n
+OldData config own peer at submessage n = n ≡ 0
+
+-- to so many of them a HEARTBEAT is old; any other submessage to none
+abbrev pub OldHeartbeats : Config → GuidPrefix → Peer → Receiver → Submessage → ℕ → Type 0
+OldHeartbeats config own peer at (Heartbeat h) n =
+    OldTo config own peer at h.reader_id h.writer_id (Heartbeat h) n
+OldHeartbeats config own peer at submessage n = n ≡ 0
+
+-- it speaks to readers, or to a writer
+abbrev pub speaks : Submessage → Bool
+speaks (Data d) = true
+speaks (Gap g) = true
+speaks (Heartbeat h) = true
+speaks (AckNack a) = true
+speaks submessage = false
+
+-- it is a DATA, a GAP or a HEARTBEAT to a reader of the peer, or an ACKNACK to a writer of it from a reader that this one
+-- is matched with
+abbrev pub ConcernsPeer : Config → GuidPrefix → Peer → Receiver → Submessage → Type 0
+ConcernsPeer config own peer at (AckNack a) =
+    (writer : ℕ) × (reader : Endpoint)
+    × IsToWriter config own at a.reader_id a.writer_id (record { peer = peer.number; number = writer }) reader
+    × IsSome (acknowledged_of (own_writer peer.part writer).readers reader)
+ConcernsPeer config own peer at submessage = Concerns config own peer.number at submessage
+
+-- 1 where it speaks to readers or to a writer, in a part of the message that is for the peer, and to none of the peer's;
+-- else 0
+abbrev pub ToNobody : Config → GuidPrefix → Peer → Receiver → Submessage → ℕ → Type 0
+ToNobody config own peer at submessage n =
+    ((n ≡ 1) × (speaks submessage ≡ true) × (is_for at own ≡ true) × (ConcernsPeer config own peer at submessage → ⊥))
+    ⊎ ((n ≡ 0)
+    × ((speaks submessage ≡ false) ⊎ ((is_for at own ≡ false) ⊎ ConcernsPeer config own peer at submessage)))
+
+-- this is what a datagram holds that would be nothing to the peer as it is
+pub record Observes (config : Config) (peer : Peer) (bytes : List ℕ) (seen : Observed) : Type 0 where
+  pub old_data : Counts (prefix_of config peer.number) (OldData config (prefix_of config peer.number) peer) bytes
+      seen.old_data
+  pub old_heartbeats : Counts (prefix_of config peer.number)
+      (OldHeartbeats config (prefix_of config peer.number) peer) bytes seen.old_heartbeats
+  pub to_nobody : Counts (prefix_of config peer.number) (ToNobody config (prefix_of config peer.number) peer) bytes
+      seen.to_nobody
