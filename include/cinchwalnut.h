@@ -240,6 +240,17 @@ uint8_t cw_line_fault(const uint8_t *line, size_t line_len, uint8_t *buffer, siz
 uint8_t cw_config_sum(const cw_peer_config *peers, size_t peers_len, const cw_writer_config *writers,
                       size_t writers_len, const cw_reader_config *readers, size_t readers_len, uint64_t *sum);
 
+/* What a datagram holds that would be nothing to a peer, as it stands before the datagram is delivered. */
+typedef struct cw_observed {
+    uint64_t old_data;       /* DATA whose number a reader is past, one for each such reader */
+    uint64_t old_heartbeats; /* HEARTBEATs whose count is not later than that of the last one that a reader took, likewise */
+    uint64_t to_nobody;      /* DATA, GAPs, HEARTBEATs and ACKNACKs for this peer that concern no reader and no writer of it */
+} cw_observed;
+
+/* Asked before cw_deliver, which changes the answer; it changes nothing itself. A process that opened its peer anew under its
+ * old prefix sends old DATA and HEARTBEATs, as datagrams that come twice are; to nobody is what is sent by another table. */
+uint8_t cw_observe(cw_peer *peer, const uint8_t *datagram, size_t datagram_len, cw_observed *observed);
+
 /* Events. Each makes the last answer anew: its packets, its samples, its values and its text. Where there was none, for
  * want of memory for a copy of its value, or of an open peer, or as a line names none, the answer before stays.
  *
@@ -381,6 +392,9 @@ CW_CHECKED(cw_is_array(peers, peers_len) && cw_is_array(writers, writers_len) &&
 CW_MARKED_IF(cw_is_array(datagram, datagram_len), deliver, CW_NONNULL(1),
              (cw_peer *peer, const uint8_t *datagram, size_t datagram_len),
              (peer, (const uint8_t *)cw_array(datagram), datagram_len))
+CW_MARKED_IF(cw_is_array(datagram, datagram_len), observe, CW_NONNULL(1, 4),
+             (cw_peer *peer, const uint8_t *datagram, size_t datagram_len, cw_observed *observed),
+             (peer, (const uint8_t *)cw_array(datagram), datagram_len, observed))
 CW_MARKED(tick, (cw_peer *peer, uint64_t now), (peer, now))
 CW_MARKED(register, (cw_peer *peer, uint8_t writer, const uint8_t key[16]), (peer, writer, key))
 CW_MARKED_IF(cw_is_array(value, value_len), write, CW_NONNULL(1, 3),
@@ -471,6 +485,7 @@ static inline CW_NONNULL() uint64_t cw_marked_unsent(cw_peer *peer) {
 #define cw_line_fault cw_marked_line_fault
 #define cw_config_sum cw_marked_config_sum
 #define cw_deliver cw_marked_deliver
+#define cw_observe cw_marked_observe
 #define cw_tick cw_marked_tick
 #define cw_register cw_marked_register
 #define cw_write cw_marked_write

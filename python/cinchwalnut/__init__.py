@@ -22,7 +22,7 @@ from ._codes import (
 )
 from ._config import ReaderConfig, WriterConfig, reader, writer
 from ._faults import ConfigFault, config_fault, config_sum, line_fault, text_fault
-from ._peer import SECOND, ChangedStatus, NoticeInfo, Packet, Peer, Sample, SampleInfo, TotalStatus, ms
+from ._peer import SECOND, ChangedStatus, NoticeInfo, Observed, Packet, Peer, Sample, SampleInfo, TotalStatus, ms
 from ._recorded import RecordedPeer
 
 __all__ = [
@@ -37,6 +37,7 @@ __all__ = [
     "InstanceState",
     "NoData",
     "NoticeInfo",
+    "Observed",
     "OutOfMemory",
     "OutOfResources",
     "Packet",

@@ -51,7 +51,7 @@ _MASKS = [_U32, _U32, _U32]
 # Each has the peer before these.
 _ARGUMENTS = {
     **{"open": [*_ARRAYS, _U8], "open_text": [_OCTETS, _SIZE, _U8], "close": []},
-    **{"deliver": [_OCTETS, _SIZE], "tick": [_U64], "line": [_OCTETS, _SIZE]},
+    **{"deliver": [_OCTETS, _SIZE], "observe": [_OCTETS, _SIZE, _INTO], "tick": [_U64], "line": [_OCTETS, _SIZE]},
     **{it: [_U8, _OCTETS] for it in ("register", "dispose", "unregister", "lookup_instance")},
     **{"write": [_U8, _OCTETS, _OCTETS, _SIZE], "set_strength": [_U8, _I32], "get_key_value": [_U8, _U64]},
     **{it: [_U8] for it in ("assert_liveliness", "get_liveliness_lost_status", "get_sample_lost_status")},

@@ -49,6 +49,15 @@ class TotalStatus(NamedTuple):
     total_count_change: int
 
 
+class Observed(NamedTuple):
+    """What a datagram holds that would be nothing to a peer: DATA and HEARTBEATs that are old to a reader, one for each such
+    reader, and what concerns no reader and no writer of the peer."""
+
+    old_data: int
+    old_heartbeats: int
+    to_nobody: int
+
+
 class ChangedStatus(NamedTuple):
     """LIVELINESS_CHANGED; the handle is 0 for none."""
 
@@ -75,6 +84,7 @@ Sample = Tuple[SampleInfo, bytes]
 # As the structs of the header lie in memory.
 _INFO, _NOTICE = struct.Struct("=16s8Q3I?3x"), struct.Struct("=BB2xI2Q4iQ")
 _TOTAL, _CHANGED = struct.Struct("=2Q"), struct.Struct("=4iQ")
+_OBSERVED = struct.Struct("=3Q")
 _NUMBER, _HANDLE, _KEY = struct.Struct("=I"), struct.Struct("=Q"), struct.Struct("=16s")
 _SAMPLE_STATES = {int(it): it for it in SampleState}
 _VIEW_STATES = {int(it): it for it in ViewState}
@@ -154,6 +164,14 @@ class Peer:
     def deliver(self, datagram: Octets) -> List[Packet]:
         came = octets(datagram, "a datagram")
         return self._sent(lambda: f"deliver {came.hex() if 0 < len(came) < 1 << 16 else '-'}", _LIBRARY.cw_deliver, came, len(came))
+
+    def observe(self, datagram: Octets) -> Observed:
+        """What a datagram holds that would be nothing to the peer, as it stands before it is delivered. It changes nothing."""
+        came = octets(datagram, "a datagram")
+        with self._lock:
+            if code := _LIBRARY.cw_observe(self._at, came, len(came), self._value_at):
+                raise self._refused(code)
+            return Observed(*_OBSERVED.unpack_from(self._value))
 
     def tick(self, now: int) -> List[Packet]:
         """The time goes on to this moment, in units of 2^-32 second."""

@@ -4,6 +4,7 @@ pub mod Faults
 pub mod Fetching
 pub mod Held
 pub mod Meaning
+pub mod Observing
 pub mod Opening
 pub mod Sums
 pub mod Watching

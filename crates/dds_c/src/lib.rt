@@ -12,6 +12,7 @@ pub mod events;
 pub mod fault;
 mod held;
 pub mod lines;
+pub mod observing;
 pub mod opening;
 mod out;
 mod parts;

@@ -342,7 +342,7 @@ impl<F: Filter, L: Listener> Core<F, L> {
     ///
     /// RTPS 2.5, 8.3.4 (the message receiver), 8.4.10 (StatefulReader, WriterProxy).
     pub fn observe(&self, datagram: &[u8]) -> Observed
-        // So much of it is old, or to nobody, in each state that the peer stands for; of bytes that are no message nothing.
+        // So much is old, or to nobody, in each state that the peer stands for; of bytes that are no message nothing.
         ensures observes { (config : ConfigOf) (peer : PeerState)
             → PeerStandsFor self.now.filtered.peer config peer
             → Observes config peer datagram.now result }

@@ -36,7 +36,7 @@ pub struct Observed {
     /// it took: one for each such reader.
     pub old_heartbeats: u64,
     /// DATA, GAPs, HEARTBEATs and ACKNACKs, in parts of the message that are for this peer, that concern no reader and no
-    /// writer of it.
+    /// writer of it. An ACKNACK concerns a writer that is matched with its reader, a reliable one.
     pub to_nobody: u64,
 }
 
@@ -284,7 +284,7 @@ impl Peer {
     ///
     /// RTPS 2.5, 8.3.4 (the message receiver), 8.4.10 (StatefulReader, WriterProxy).
     pub fn observe(&self, datagram: &[u8]) -> Observed
-        // So much of it is old, or to nobody, in each state that the peer stands for; of bytes that are no message nothing.
+        // So much is old, or to nobody, in each state that the peer stands for; of bytes that are no message nothing.
         ensures observes { (config : Config) (peer : PeerState) → StandsFor self.now config peer
             → Observes config peer datagram.now result }
     {

@@ -1,0 +1,66 @@
+//! What a datagram holds that would be nothing to a peer.
+//!
+//! RTPS 2.5, 8.3.4 (the message receiver). The interface for C is this project's own.
+
+ghost use Rattle.std.specs.Prelude.{◌≡◌};
+ghost use Rattle.dds_c.specs.Observing.{ObservedBy, flat_observed};
+
+use crate::events::NOT_OPEN;
+use crate::peer::Peer;
+use dds_base::Code;
+use dds_core::Observed;
+use std::alloc::Global;
+
+/// What a datagram holds that would be nothing to a peer, as it stands before the datagram is delivered.
+///
+/// RTPS 2.5, 8.3.4 (the message receiver), 8.4.10 (WriterProxy).
+#[repr(C)]
+#[derive(Clone, Copy)]
+pub struct FlatObserved {
+    /// DATA of matched writers whose number lies below the place of a reader that they are for, one for each reader.
+    pub old_data: u64,
+    /// HEARTBEATs of matched writers whose count is not later than that of the last one that a reader took, likewise.
+    pub old_heartbeats: u64,
+    /// DATA, GAPs, HEARTBEATs and ACKNACKs that are for this peer, and concern no reader and no writer of it.
+    pub to_nobody: u64,
+}
+
+fn flat_observed(observed: Observed) -> FlatObserved
+    ensures { result ≡ flat_observed observed }
+{
+    FlatObserved {
+        old_data: observed.old_data,
+        old_heartbeats: observed.old_heartbeats,
+        to_nobody: observed.to_nobody,
+    }
+}
+
+/// What a datagram holds that would be nothing to the peer, as it stands before `cw_deliver`. A process that opened its
+/// peer anew under its old prefix sends old DATA and old HEARTBEATs; where the tables of two processes differ, what one
+/// sends is to nobody. A datagram that comes twice is old too, as is what is repaired for others.
+///
+/// # Errors
+///
+/// PRECONDITION_NOT_MET where no peer is open: nothing is written then.
+///
+/// RTPS 2.5, 8.3.4 (the message receiver), 8.4.10 (WriterProxy).
+#[unsafe(no_mangle)]
+pub extern "C" fn cw_observe(
+    alloc: Global,
+    peer: &mut Peer,
+    datagram: &[u8],
+    observed: &mut FlatObserved,
+) -> u8
+    // It is what `Core::observe` has of those octets, wherever a peer is open.
+    ensures observed { ObservedBy peer.old.held.session datagram.now
+        observed.old observed.new result }
+    // Nothing happens to the peer.
+    ensures keeps { peer.new.held.session ≡ peer.old.held.session }
+{
+    let Some(session) = peer.take(alloc) else {
+        return NOT_OPEN.number();
+    };
+    *observed = flat_observed(session.core.observe(datagram));
+    peer.put(session);
+    Code::Ok.number()
+}
