@@ -10,17 +10,16 @@ use Rattle.dds_core.specs.declared.observing.Observed.{Observed}
 use Rattle.dds_c.specs.declared.observing.FlatObserved.{FlatObserved}
 use Rattle.dds_c.specs.declared.session.Session.{Session}
 
--- the same in C
-abbrev pub flat_observed : Observed → FlatObserved
-flat_observed o = record { old_data = o.old_data; old_heartbeats = o.old_heartbeats; to_nobody = o.to_nobody }
+-- what C reads
+abbrev pub observed_of : FlatObserved → Observed
+observed_of f = record { old_data = f.old_data; old_heartbeats = f.old_heartbeats; to_nobody = f.to_nobody }
 
 -- so it is in each state that the peer stands for
-abbrev pub IsObserved : Session → List ℕ → Observed → Type 0
-IsObserved s datagram seen =
-    (config : Config) (peer : Peer) → StandsFor s.core.filtered.peer config peer → Observes config peer datagram seen
+pub record IsObserved (s : Session) (datagram : List ℕ) (seen : Observed) : Type 0 where
+  pub observes : (config : Config) (peer : Peer) → StandsFor s.core.filtered.peer config peer
+      → Observes config peer datagram seen
 
 -- it is written where a peer is open; else the code is 4, and nothing is written
 abbrev pub ObservedBy : Option Session → List ℕ → (was now : FlatObserved) → ℕ → Type 0
-ObservedBy (Some s) datagram was now code =
-    (code ≡ 0) × ((seen : Observed) × (now ≡ flat_observed seen) × IsObserved s datagram seen)
+ObservedBy (Some s) datagram was now code = (code ≡ 0) × IsObserved s datagram (observed_of now)
 ObservedBy None datagram was now code = (code ≡ 4) × (now ≡ was)

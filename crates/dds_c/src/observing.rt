@@ -3,10 +3,11 @@
 //! RTPS 2.5, 8.3.4 (the message receiver). The interface for C is this project's own.
 
 ghost use Rattle.std.specs.Prelude.{◌≡◌};
-ghost use Rattle.dds_c.specs.Observing.{ObservedBy, flat_observed};
+ghost use Rattle.dds_c.specs.Observing.{IsObserved, ObservedBy, observed_of};
 
 use crate::events::NOT_OPEN;
 use crate::peer::Peer;
+use crate::session::Session;
 use dds_base::Code;
 use dds_core::Observed;
 use std::alloc::Global;
@@ -26,13 +27,20 @@ pub struct FlatObserved {
 }
 
 fn flat_observed(observed: Observed) -> FlatObserved
-    ensures { result ≡ flat_observed observed }
+    ensures { observed_of result ≡ observed }
 {
     FlatObserved {
         old_data: observed.old_data,
         old_heartbeats: observed.old_heartbeats,
         to_nobody: observed.to_nobody,
     }
+}
+
+/// What a datagram holds that would be nothing to the peer of a session.
+fn observe(session: &Session, datagram: &[u8]) -> FlatObserved
+    ensures { IsObserved session.now datagram.now (observed_of result) }
+{
+    flat_observed(session.core.observe(datagram))
 }
 
 /// What a datagram holds that would be nothing to the peer, as it stands before `cw_deliver`. A process that opened its
@@ -60,7 +68,7 @@ pub extern "C" fn cw_observe(
     let Some(session) = peer.take(alloc) else {
         return NOT_OPEN.number();
     };
-    *observed = flat_observed(session.core.observe(datagram));
+    *observed = observe(&session, datagram);
     peer.put(session);
     Code::Ok.number()
 }
