@@ -6,7 +6,14 @@ import functools
 import re
 
 PREFIX, ENTITY = re.compile("[0-9a-fA-F]{24}"), re.compile("[0-9a-fA-F]{8}")
-OPTION = re.compile(r"shared|exclusive|besteffort|all|noauto|(?:last|max|instances|arrivals|strength|lease|topic)=-?\d+")
+OPTION = re.compile(r"shared|exclusive|besteffort|all|noauto|(?:last|max|instances|arrivals|strength|topic)=-?\d+|lease=\d+(?:s|ms|us)?")
+PARTS = {"s": 1, "ms": 1_000, "us": 1_000_000}  # of a second
+
+
+def units(said: str) -> int:
+    """A time in units of 2^-32 second: so many, or as 5s, 500ms and 20us, rounded down."""
+    number = said.rstrip("smu")
+    return (int(number) << 32) // PARTS[said[len(number) :]] if said != number else int(number)
 
 
 class Fault(Exception):
@@ -55,7 +62,7 @@ class End:
     @property
     def lease(self) -> int | None:
         """In units of 2^-32 second; none where it never ends."""
-        return int(self.values["lease"]) if "lease" in self.values else None
+        return units(self.values["lease"]) if "lease" in self.values else None
 
     def last_of(self, *names: str) -> str | None:
         """Which of these options was said last, or none."""

@@ -9,7 +9,7 @@ from typing import NamedTuple
 import datagrams as dg
 
 from . import wire
-from .config import End, Fault
+from .config import End, Fault, units
 from .events import Event, Packet, Run
 from .instances import BITS, LIVELINESS_LOST, Instances, Sample
 from .proxies import Proxy, shown, text_of_runs
@@ -135,7 +135,7 @@ class Follower:
         """What a call or a tick changes that was done."""
         peer, words = event.peer, event.words
         if event.kind == "tick":
-            self.now[peer] = int(words[1]) if words[1:] else self.now[peer]
+            self.now[peer] = units(words[1]) if words[1:] else self.now[peer]
             for it in self.config.of(peer, "r"):
                 self.instances[it.path].tick(self.now[peer])
         elif event.kind in ("write", "dispose", "unregister", "assert"):
