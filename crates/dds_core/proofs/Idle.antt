@@ -1,14 +1,13 @@
 -- What does nothing at a reader: a change that it had, or that lies outside its window, while it waits at its place.
 use Rattle.std.proofs.Common.{◌≡◌, ℕ, Bool, true, false, ◌&&◌, not, List, [], refl, ap, sym, subst, ◌∙◌, arith}
-use Rattle.std.specs.Prelude.{◌||◌, ◌==◌, nat_le, nat_lt, if◌then◌else◌, None}
+use Rattle.std.specs.Prelude.{◌||◌, ◌==◌, nat_le, if◌then◌else◌, None}
 use Rattle.std.proofs.lemmas.Bool.Decides.{nat_tests}
 use Rattle.dds_base.specs.declared.change.Change.{Change}
 use Rattle.dds_base.specs.declared.happening.Happening.{Happening}
 use Rattle.dds_base.specs.Places.{Match, coming}
 use Rattle.dds_base.specs.Presence.{has_room}
-use Rattle.rtps_reader.specs.declared.step.Step.{Step}
 use Rattle.rtps_reader.specs.Tracked.{Slot, Missing, Held, Irrelevant, Tracked, is_missing, is_open, is_passable_slot, is_waiting, may_take, with_data}
-use Rattle.rtps_reader.specs.Jump.{JumpsIf, comes, jumped_to}
+use Rattle.rtps_reader.specs.Jump.{JumpsIf, jumped_to}
 use Rattle.rtps_reader.specs.Reader.{MovesOn, JumpsOn}
 use Rattle.rtps_reader.proofs.MoveLaws.{same_is}
 

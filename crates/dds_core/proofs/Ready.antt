@@ -26,7 +26,7 @@ use Rattle.dds_core.specs.declared.reader_end.Told.{Told}
 use Rattle.dds_core.specs.declared.reader_end.Told.TheVariants as told
 use Rattle.dds_core.specs.Kept.{ReaderKept, PeerKept}
 use Rattle.dds_core.specs.Identity.{ReaderIdentity, Identity, reader_identity, reliable_in, writer_identity, IsPeerOf}
-use Rattle.dds_core.specs.Readiness.{IsNamedAt, IsFirstName, IsRowOf, IsFirstNamed, IsPrepared, IsReadyFor, IsReadyWith, AreReady, IsAlike, AreAlike, CanTake, TakesTold, SameReader, moves_of, IsBounded, IsToldBounded, IsToldBy, NamedBy, writer_guid}
+use Rattle.dds_core.specs.Readiness.{IsNamedAt, IsFirstName, IsRowOf, IsFirstNamed, IsPrepared, IsReadyFor, IsReadyWith, AreReady, IsAlike, AreAlike, CanTake, TakesTold, SameReader, moves_of, IsBounded, IsToldBounded, IsToldBy, writer_guid}
 use Rattle.dds_core.specs.Receiving.{AllCanTake, TookAt, TakesAll, ReadersTake, StandsAsWell}
 use Rattle.dds_core.proofs.TakenSoFar.{TakesSome}
 use Rattle.dds_core.specs.Standing.{IsFirstRow, ReaderStands}

@@ -1,7 +1,7 @@
 -- What a datagram holds that would be nothing to a peer, as it stands before the datagram is delivered.
 --
 -- RTPS 2.5, 8.3.4 (the message receiver), 8.3.8 (Data: writerSN; Heartbeat: count), 8.4.10 (StatefulReader, WriterProxy).
-use Rattle.std.specs.Prelude.{◌≡◌, ◌⊎◌, ℕ, ◌+◌, Bool, true, false, not, nat_lt, List, [], ◌∷◌, length, IsSome}
+use Rattle.std.specs.Prelude.{◌≡◌, ◌⊎◌, ℕ, ◌+◌, Bool, true, false, not, ◌&&◌, nat_lt, List, [], ◌∷◌, length, Option, Some, None, IsSome}
 use Rattle.dds_base.specs.declared.config.Config.{Config}
 use Rattle.dds_base.specs.declared.guid.EntityId.{EntityId}
 use Rattle.dds_base.specs.declared.guid.GuidPrefix.{GuidPrefix}
@@ -13,7 +13,7 @@ use Rattle.rtps_wire.specs.declared.submessage.Submessage.{Submessage}
 use Rattle.rtps_wire.specs.declared.submessage.Submessage.TheVariants.{Data, Heartbeat, AckNack, Gap}
 use Rattle.rtps_wire.specs.Messages.{ReadsMessage}
 use Rattle.dds_machine.specs.declared.endpoint.Endpoint.{Endpoint}
-use Rattle.dds_machine.specs.Part.{acknowledged_of, own_writer}
+use Rattle.dds_machine.specs.Part.{acknowledged_of, own_writer, same_endpoint}
 use Rattle.dds_protocol.specs.Claims.{Receiver, receiver_of, after_submessage, is_for, Concerns, IsToWriter}
 use Rattle.dds_protocol.specs.Peer.{Peer}
 use Rattle.dds_protocol.specs.Protocol.{WhereMatched}
@@ -57,29 +57,37 @@ is_old t (Data d) = nat_lt d.writer_sn t.place
 is_old t (Heartbeat h) = not (is_later t.count h.count)
 is_old t submessage = false
 
--- 1 where the submessage is of a writer that is matched with the peer's reader of this number, for that reader, and old to
--- it; else 0
-abbrev pub OldAt : Config → GuidPrefix → Peer → Receiver → EntityId → EntityId → Submessage → ℕ → ℕ → Type 0
-OldAt config own peer at reader_id writer_id submessage reader n =
+-- whether what this writer says is counted: where one writer is asked for its own alone, else each one's
+abbrev pub is_counted : Option Endpoint → Endpoint → Bool
+is_counted (Some asked) writer = same_endpoint asked writer
+is_counted None writer = true
+
+-- 1 where the submessage is of a counted writer that is matched with the peer's reader of this number, for that reader, and
+-- old to it; else 0
+abbrev pub OldAt : Config → GuidPrefix → Peer → Option Endpoint → Receiver → EntityId → EntityId → Submessage → ℕ → ℕ
+    → Type 0
+OldAt config own peer of at reader_id writer_id submessage reader n =
     WhereMatched config own at reader_id writer_id (record { peer = peer.number; number = reader })
-    (λ writer entity reliable. n ≡ one_where (is_old (peer.known.tracked writer reader) submessage)) (n ≡ 0)
+    (λ writer entity reliable. n ≡ one_where
+    (is_counted of writer && is_old (peer.known.tracked writer reader) submessage)) (n ≡ 0)
 
 -- to so many of the peer's readers it is old
-abbrev pub OldTo : Config → GuidPrefix → Peer → Receiver → EntityId → EntityId → Submessage → ℕ → Type 0
-OldTo config own peer at reader_id writer_id submessage n =
-    Sums (OldAt config own peer at reader_id writer_id submessage)
+abbrev pub OldTo : Config → GuidPrefix → Peer → Option Endpoint → Receiver → EntityId → EntityId → Submessage → ℕ
+    → Type 0
+OldTo config own peer of at reader_id writer_id submessage n =
+    Sums (OldAt config own peer of at reader_id writer_id submessage)
     (numbers_from 1 (length peer.part.rtps.readers)) n
 
 -- to so many of them a DATA is old; any other submessage to none
-abbrev pub OldData : Config → GuidPrefix → Peer → Receiver → Submessage → ℕ → Type 0
-OldData config own peer at (Data d) n = OldTo config own peer at d.reader_id d.writer_id (Data d) n
-OldData config own peer at submessage n = n ≡ 0
+abbrev pub OldData : Config → GuidPrefix → Peer → Option Endpoint → Receiver → Submessage → ℕ → Type 0
+OldData config own peer of at (Data d) n = OldTo config own peer of at d.reader_id d.writer_id (Data d) n
+OldData config own peer of at submessage n = n ≡ 0
 
 -- to so many of them a HEARTBEAT is old; any other submessage to none
-abbrev pub OldHeartbeats : Config → GuidPrefix → Peer → Receiver → Submessage → ℕ → Type 0
-OldHeartbeats config own peer at (Heartbeat h) n =
-    OldTo config own peer at h.reader_id h.writer_id (Heartbeat h) n
-OldHeartbeats config own peer at submessage n = n ≡ 0
+abbrev pub OldHeartbeats : Config → GuidPrefix → Peer → Option Endpoint → Receiver → Submessage → ℕ → Type 0
+OldHeartbeats config own peer of at (Heartbeat h) n =
+    OldTo config own peer of at h.reader_id h.writer_id (Heartbeat h) n
+OldHeartbeats config own peer of at submessage n = n ≡ 0
 
 -- it speaks to readers, or to a writer
 abbrev pub speaks : Submessage → Bool
@@ -106,11 +114,12 @@ ToNobody config own peer at submessage n =
     ⊎ ((n ≡ 0)
     × ((speaks submessage ≡ false) ⊎ ((is_for at own ≡ false) ⊎ ConcernsPeer config own peer at submessage)))
 
--- this is what a datagram holds that would be nothing to the peer as it is
-pub record Observes (config : Config) (peer : Peer) (bytes : List ℕ) (seen : Observed) : Type 0 where
-  pub old_data : Counts (prefix_of config peer.number) (OldData config (prefix_of config peer.number) peer) bytes
+-- this is what a datagram holds that would be nothing to the peer as it is: of the writer that is asked for, else of all
+pub record Observes (config : Config) (peer : Peer) (of : Option Endpoint) (bytes : List ℕ)
+    (seen : Observed) : Type 0 where
+  pub old_data : Counts (prefix_of config peer.number) (OldData config (prefix_of config peer.number) peer of) bytes
       seen.old_data
   pub old_heartbeats : Counts (prefix_of config peer.number)
-      (OldHeartbeats config (prefix_of config peer.number) peer) bytes seen.old_heartbeats
+      (OldHeartbeats config (prefix_of config peer.number) peer of) bytes seen.old_heartbeats
   pub to_nobody : Counts (prefix_of config peer.number) (ToNobody config (prefix_of config peer.number) peer) bytes
       seen.to_nobody

@@ -2,7 +2,7 @@
 -- here has to be believed.
 --
 -- RTPS 2.5, 8.3.4 (the message receiver), 8.4.10 (StatefulReader, WriterProxy).
-use Rattle.std.specs.Prelude.{◌≡◌, ◌⊎◌, ◌≤◌, ℕ, Bool, false, List, slice_get, Some}
+use Rattle.std.specs.Prelude.{◌≡◌, ◌⊎◌, ◌≤◌, ℕ, Bool, false, ◌&&◌, List, slice_get, Option, Some}
 use Rattle.dds_base.specs.declared.config.Config.{Config}
 use Rattle.dds_base.specs.declared.guid.EntityId.{EntityId}
 use Rattle.dds_base.specs.declared.guid.GuidPrefix.{GuidPrefix}
@@ -12,37 +12,40 @@ use Rattle.rtps_wire.specs.declared.acknack.AckNack.{AckNack as AckNackBody}
 use Rattle.rtps_wire.specs.declared.submessage.Submessage.{Submessage}
 use Rattle.rtps_wire.specs.Messages.{ReadsAll}
 use Rattle.rtps_wire.specs.Submessages.{Reads}
+use Rattle.dds_machine.specs.declared.endpoint.Endpoint.{Endpoint}
 use Rattle.dds_protocol.specs.Claims.{Receiver, receiver_of, after_submessage}
 use Rattle.dds_protocol.specs.Peer.{Peer}
 use Rattle.dds_core.specs.declared.matching.ReaderName.{ReaderName}
+use Rattle.dds_core.specs.declared.matching.WriterName.{WriterName}
 use Rattle.dds_core.specs.declared.observing.Observed.{Observed}
 use Rattle.dds_core.specs.Answering.{IsFrom}
 use Rattle.dds_core.specs.Kept.{ReaderKept, WriterKept, PeerKept}
-use Rattle.dds_core.specs.Observing.{SumsInTurn, OldData, OldHeartbeats, OldTo, ToNobody, is_old, one_where}
+use Rattle.dds_core.specs.Observing.{SumsInTurn, OldData, OldHeartbeats, OldTo, ToNobody, is_counted, is_old, one_where}
 use Rattle.dds_core.specs.Readiness.{IsNamedAt, IsNamedFor, IsUnnamed, NamedBy}
 use Rattle.dds_core.specs.Standing.{StandsFor}
 
--- the submessage names the reader, which has this of its writer of the row: it is old there or not
-pub record IsOldAtRow (own : GuidPrefix) (at : Receiver) (submessage : Submessage) (kept : ReaderKept)
-    (old : Bool) : Type 0 where
+-- the submessage names the reader, which has this of its writer of the row: that is counted and it is old there, or not
+pub record IsOldAtRow (own : GuidPrefix) (of : Option Endpoint) (at : Receiver) (submessage : Submessage)
+    (kept : ReaderKept) (old : Bool) : Type 0 where
   pub row : ℕ
   pub named : IsNamedAt own at submessage kept row
-  pub is : (t : Tracked) → Tracks kept.reader row t → old ≡ is_old t submessage
+  pub is : (name : WriterName) → slice_get kept.writers row ≡ Some name → (t : Tracked) → Tracks kept.reader row t
+      → old ≡ (is_counted of name.writer && is_old t submessage)
 
 -- it is old at the reader, or not; where it does not name the reader it is not
-abbrev pub IsOldIn : GuidPrefix → Receiver → Submessage → ReaderKept → Bool → Type 0
-IsOldIn own at submessage kept old =
-    IsOldAtRow own at submessage kept old ⊎ (IsUnnamed own at submessage kept × (old ≡ false))
+abbrev pub IsOldIn : GuidPrefix → Option Endpoint → Receiver → Submessage → ReaderKept → Bool → Type 0
+IsOldIn own of at submessage kept old =
+    IsOldAtRow own of at submessage kept old ⊎ (IsUnnamed own at submessage kept × (old ≡ false))
 
 -- the same as a number
-abbrev pub CountsOld : GuidPrefix → Receiver → Submessage → ReaderKept → ℕ → Type 0
-CountsOld own at submessage kept n = (old : Bool) × IsOldIn own at submessage kept old × (n ≡ one_where old)
+abbrev pub CountsOld : GuidPrefix → Option Endpoint → Receiver → Submessage → ReaderKept → ℕ → Type 0
+CountsOld own of at submessage kept n = (old : Bool) × IsOldIn own of at submessage kept old × (n ≡ one_where old)
 
 -- for each peer that the values stand for, to so many of its readers the submessage is old, whom it names
-abbrev pub OldToReaders : PeerKept → Receiver → Submessage → ℕ → Type 0
-OldToReaders kept at submessage n =
+abbrev pub OldToReaders : PeerKept → Option Endpoint → Receiver → Submessage → ℕ → Type 0
+OldToReaders kept of at submessage n =
     (config : Config) (peer : Peer) → StandsFor kept config peer → (reader_id writer_id : EntityId)
-    → NamedBy submessage reader_id writer_id → OldTo config kept.prefix peer at reader_id writer_id submessage n
+    → NamedBy submessage reader_id writer_id → OldTo config kept.prefix peer of at reader_id writer_id submessage n
 
 -- a submessage that names these is for the reader of this index
 pub record IsNamedReader (own : GuidPrefix) (at : Receiver) (reader_id writer_id : EntityId) (readers : List ReaderKept)
@@ -90,24 +93,24 @@ ToNobodyOf kept at submessage n =
     → ToNobody config kept.prefix peer at submessage n
 
 -- what one submessage holds, at a peer
-pub record ObservesOne (config : Config) (own : GuidPrefix) (peer : Peer) (at : Receiver) (submessage : Submessage)
-    (seen : Observed) : Type 0 where
-  pub old_data : OldData config own peer at submessage seen.old_data
-  pub old_heartbeats : OldHeartbeats config own peer at submessage seen.old_heartbeats
+pub record ObservesOne (config : Config) (own : GuidPrefix) (peer : Peer) (of : Option Endpoint) (at : Receiver)
+    (submessage : Submessage) (seen : Observed) : Type 0 where
+  pub old_data : OldData config own peer of at submessage seen.old_data
+  pub old_heartbeats : OldHeartbeats config own peer of at submessage seen.old_heartbeats
   pub to_nobody : ToNobody config own peer at submessage seen.to_nobody
 
 -- the same, for each peer that the values stand for
-abbrev pub ObservesSubmessage : PeerKept → Receiver → Submessage → Observed → Type 0
-ObservesSubmessage kept at submessage seen =
+abbrev pub ObservesSubmessage : PeerKept → Option Endpoint → Receiver → Submessage → Observed → Type 0
+ObservesSubmessage kept of at submessage seen =
     (config : Config) (peer : Peer) → StandsFor kept config peer
-    → ObservesOne config kept.prefix peer at submessage seen
+    → ObservesOne config kept.prefix peer of at submessage seen
 
 -- the same of the submessage of this id, these flags and this body, which leaves this receiver
-pub record ObservesFrame (kept : PeerKept) (at : Receiver) (id flags : ℕ) (body : List ℕ) (seen : Observed)
-    (left : Receiver) : Type 0 where
+pub record ObservesFrame (kept : PeerKept) (of : Option Endpoint) (at : Receiver) (id flags : ℕ) (body : List ℕ)
+    (seen : Observed) (left : Receiver) : Type 0 where
   pub submessage : Submessage
   pub is_read : Reads id flags body submessage
-  pub observes : ObservesSubmessage kept at submessage seen
+  pub observes : ObservesSubmessage kept of at submessage seen
   pub leaves : left ≡ after_submessage kept.prefix at submessage
 
 -- these bytes are submessages, and this is the sum of what they say
@@ -119,17 +122,17 @@ pub record SumsBody (own : GuidPrefix) (says : Receiver → Submessage → ℕ �
   pub sums : SumsInTurn own says at submessages n
 
 -- what the submessages that follow the header of a message hold, at a peer
-pub record ObservesAll (config : Config) (own source : GuidPrefix) (peer : Peer) (body : List ℕ)
-    (seen : Observed) : Type 0 where
-  pub old_data : SumsBody own (OldData config own peer) (receiver_of source) body seen.old_data
-  pub old_heartbeats : SumsBody own (OldHeartbeats config own peer) (receiver_of source) body seen.old_heartbeats
+pub record ObservesAll (config : Config) (own source : GuidPrefix) (peer : Peer) (of : Option Endpoint)
+    (body : List ℕ) (seen : Observed) : Type 0 where
+  pub old_data : SumsBody own (OldData config own peer of) (receiver_of source) body seen.old_data
+  pub old_heartbeats : SumsBody own (OldHeartbeats config own peer of) (receiver_of source) body seen.old_heartbeats
   pub to_nobody : SumsBody own (ToNobody config own peer) (receiver_of source) body seen.to_nobody
 
 -- the same, for each peer that the values stand for
-abbrev pub ObservesBody : PeerKept → GuidPrefix → List ℕ → Observed → Type 0
-ObservesBody kept source body seen =
+abbrev pub ObservesBody : PeerKept → Option Endpoint → GuidPrefix → List ℕ → Observed → Type 0
+ObservesBody kept of source body seen =
     (config : Config) (peer : Peer) → StandsFor kept config peer
-    → ObservesAll config kept.prefix source peer body seen
+    → ObservesAll config kept.prefix source peer of body seen
 
 -- each count is at most this
 pub record AtMost (most : ℕ) (seen : Observed) : Type 0 where

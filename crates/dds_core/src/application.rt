@@ -2,7 +2,7 @@
 //!
 //! DDS 1.4, 2.2.2.1 (Entity, set_listener), 2.2.2.5 (QueryCondition), 2.2.4.3 (access through listeners).
 
-ghost use Rattle.std.specs.Prelude.{◌≡◌, ◌<◌, [], None, IfErr, IfOk, OnErr, OnOk};
+ghost use Rattle.std.specs.Prelude.{◌≡◌, ◌<◌, [], None, Some, IfErr, IfOk, OnErr, OnOk};
 ghost use Rattle.dds_base.specs.Refusal.{Refuses};
 ghost use Rattle.dds_conditions.specs.Filtered.{tests_of};
 ghost use Rattle.dds_base.specs.Number.{at_number};
@@ -345,8 +345,20 @@ impl<F: Filter, L: Listener> Core<F, L> {
         // So much is old, or to nobody, in each state that the peer stands for; of bytes that are no message nothing.
         ensures observes { (config : ConfigOf) (peer : PeerState)
             → PeerStandsFor self.now.filtered.peer config peer
-            → Observes config peer datagram.now result }
+            → Observes config peer None datagram.now result }
     {
-        self.filtered.observe(datagram)
+        self.filtered.observe(None, datagram)
+    }
+
+    /// The same, with the old DATA and HEARTBEATs of this writer alone: none where it is matched with no reader of the peer.
+    ///
+    /// RTPS 2.5, 8.3.4 (the message receiver), 8.4.10 (StatefulReader, WriterProxy).
+    pub fn observe_writer(&self, writer: Endpoint, datagram: &[u8]) -> Observed
+        // So much of that writer is old, in each state that the peer stands for; of bytes that are no message nothing.
+        ensures observes { (config : ConfigOf) (peer : PeerState)
+            → PeerStandsFor self.now.filtered.peer config peer
+            → Observes config peer (Some writer) datagram.now result }
+    {
+        self.filtered.observe(Some(writer), datagram)
     }
 }

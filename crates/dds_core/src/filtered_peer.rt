@@ -233,15 +233,15 @@ impl<F: Filter> FilteredPeer<F> {
     }
 
     /// What a datagram holds that would be nothing to the peer, as it stands before the datagram is delivered. It changes
-    /// nothing, and takes no memory.
+    /// nothing, and takes no memory. Where one writer is asked for, old is counted of that one alone.
     ///
     /// RTPS 2.5, 8.3.4 (the message receiver), 8.4.10 (StatefulReader, WriterProxy).
-    pub fn observe(&self, datagram: &[u8]) -> Observed
+    pub fn observe(&self, of: Option<Endpoint>, datagram: &[u8]) -> Observed
         // So much is old, or to nobody, in each state that the peer stands for; of bytes that are no message nothing.
         ensures observes { (config : ConfigOf) (peer : PeerState)
             → PeerStandsFor self.now.peer config peer
-            → Observes config peer datagram.now result }
+            → Observes config peer of datagram.now result }
     {
-        self.peer.observe(datagram)
+        self.peer.observe(of, datagram)
     }
 }

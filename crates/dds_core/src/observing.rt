@@ -21,6 +21,7 @@ use crate::reader_end::{Ids, ReaderEnd, ids_of};
 use crate::receiver::{MessageReceiver, is_for, receiver_for};
 use crate::writer_end::WriterEnd;
 use dds_base::{EntityId, GuidPrefix};
+use dds_machine::Endpoint;
 use rtps_wire::{AckNack, Frame, MAX_MESSAGE, Submessage, begin_message, next_frame};
 
 /// What a datagram holds that would be nothing to a peer.
@@ -64,23 +65,25 @@ impl Observed {
     }
 }
 
-/// To how many of the readers of the peer of this prefix a submessage is old, which names these.
+/// To how many of the readers of the peer of this prefix a submessage is old, which names these, where its writer is the
+/// one that is asked for, or none is.
 fn count_old(
     readers: &[ReaderEnd],
     own: &GuidPrefix,
+    of: Option<Endpoint>,
     receiver: &MessageReceiver,
     ids: &Ids,
     submessage: &Submessage,
 ) -> u64
     requires by { NamedBy submessage.now ids.now.reader ids.now.writer }
     requires few { length readers.now ≤ 16 }
-    ensures sums { Sums (CountsOld own.now (receiver_at receiver.now) submessage.now) readers.now
+    ensures sums { Sums (CountsOld own.now of (receiver_at receiver.now) submessage.now) readers.now
         result }
     ensures few { result ≤ 16 }
 {
     let mut count: u64 = 0;
     for reader in readers {
-        if reader.is_old(own, receiver, ids, submessage) {
+        if reader.is_old(own, of, receiver, ids, submessage) {
             count += 1;
         }
     }
@@ -209,33 +212,43 @@ impl Peer {
         }
     }
 
-    /// To how many of the peer's readers a submessage is old.
-    fn count_old(&self, receiver: &MessageReceiver, submessage: &Submessage) -> u64
-        ensures old { OldToReaders self.now (receiver_at receiver.now) submessage.now result }
+    /// To how many of the peer's readers a submessage is old, where its writer is the one that is asked for, or none is.
+    fn count_old(
+        &self,
+        of: Option<Endpoint>,
+        receiver: &MessageReceiver,
+        submessage: &Submessage,
+    ) -> u64
+        ensures old { OldToReaders self.now of (receiver_at receiver.now) submessage.now result }
         ensures few { result ≤ 16 }
     {
         match ids_of(submessage) {
-            Some(ids) => count_old(&self.readers, &self.prefix, receiver, &ids, submessage),
+            Some(ids) => count_old(&self.readers, &self.prefix, of, receiver, &ids, submessage),
             None => 0,
         }
     }
 
     /// What a submessage holds.
-    fn observe_submessage(&self, receiver: &MessageReceiver, submessage: &Submessage) -> Observed
-        ensures observes { ObservesSubmessage self.now
+    fn observe_submessage(
+        &self,
+        of: Option<Endpoint>,
+        receiver: &MessageReceiver,
+        submessage: &Submessage,
+    ) -> Observed
+        ensures observes { ObservesSubmessage self.now of
             (receiver_at receiver.now) submessage.now result }
         ensures few { AtMost 16 result }
     {
         let to_nobody = self.count_to_nobody(receiver, submessage);
         match submessage {
             Submessage::Data(_) => Observed {
-                old_data: self.count_old(receiver, submessage),
+                old_data: self.count_old(of, receiver, submessage),
                 old_heartbeats: 0,
                 to_nobody,
             },
             Submessage::Heartbeat(_) => Observed {
                 old_data: 0,
-                old_heartbeats: self.count_old(receiver, submessage),
+                old_heartbeats: self.count_old(of, receiver, submessage),
                 to_nobody,
             },
             _ => Observed {
@@ -247,8 +260,13 @@ impl Peer {
     }
 
     /// What a submessage holds whose body is not read yet.
-    fn observe_frame(&self, receiver: &mut MessageReceiver, frame: &Frame) -> Observed
-        ensures observes { ObservesFrame self.now (receiver_at receiver.old)
+    fn observe_frame(
+        &self,
+        of: Option<Endpoint>,
+        receiver: &mut MessageReceiver,
+        frame: &Frame,
+    ) -> Observed
+        ensures observes { ObservesFrame self.now of (receiver_at receiver.old)
             frame.now.id frame.now.flags frame.now.body.now result (receiver_at receiver.new) }
         ensures few { AtMost 16 result }
     {
@@ -260,19 +278,19 @@ impl Peer {
             receiver.note_timestamp(&self.prefix, stamp);
             return Observed::NOTHING;
         }
-        self.observe_submessage(receiver, &frame.submessage())
+        self.observe_submessage(of, receiver, &frame.submessage())
     }
 
     /// What the submessages of a message of this sender hold.
-    fn observe_body(&self, source: GuidPrefix, body: &[u8]) -> Observed
+    fn observe_body(&self, of: Option<Endpoint>, source: GuidPrefix, body: &[u8]) -> Observed
         requires few { length body.now ≤ MAX_MESSAGE }
-        ensures { ObservesBody self.now source body.now result }
+        ensures { ObservesBody self.now of source body.now result }
     {
         let mut receiver = receiver_for(source);
         let mut seen = Observed::NOTHING;
         let mut left = body;
         while let Some((frame, rest)) = next_frame(left) {
-            let more = self.observe_frame(&mut receiver, &frame);
+            let more = self.observe_frame(of, &mut receiver, &frame);
             seen = seen.and(more);
             left = rest;
         }
@@ -280,16 +298,16 @@ impl Peer {
     }
 
     /// What a datagram holds that would be nothing to the peer, as it stands before the datagram is delivered. It changes
-    /// nothing, and takes no memory.
+    /// nothing, and takes no memory. Where one writer is asked for, old is counted of that one alone.
     ///
     /// RTPS 2.5, 8.3.4 (the message receiver), 8.4.10 (StatefulReader, WriterProxy).
-    pub fn observe(&self, datagram: &[u8]) -> Observed
+    pub fn observe(&self, of: Option<Endpoint>, datagram: &[u8]) -> Observed
         // So much is old, or to nobody, in each state that the peer stands for; of bytes that are no message nothing.
         ensures observes { (config : Config) (peer : PeerState) → StandsFor self.now config peer
-            → Observes config peer datagram.now result }
+            → Observes config peer of datagram.now result }
     {
         match begin_message(datagram) {
-            Some((source, body)) => self.observe_body(source, body),
+            Some((source, body)) => self.observe_body(of, source, body),
             None => Observed::NOTHING,
         }
     }

@@ -17,7 +17,8 @@ ghost use Rattle.rtps_reader.specs.Tracked.{Tracked, may_take};
 ghost use Rattle.dds_core.specs.Expiring.{Expires, HasRoomForDeaths, IsPastCounting};
 ghost use Rattle.dds_core.specs.Identity.{reader_identity, reliable_in};
 ghost use Rattle.dds_core.specs.Noticing.{MarksReader, RaisesSo, SeesStatus};
-ghost use Rattle.dds_core.specs.Observing.{is_old};
+ghost use Rattle.dds_core.specs.Observing.{is_counted, is_old};
+ghost use Rattle.dds_core.specs.declared.matching.WriterName.{WriterName as WriterNameOf};
 ghost use Rattle.dds_core.specs.ObservingKept.{IsOldIn};
 ghost use Rattle.dds_core.specs.OpeningEnds.{OpensReader};
 ghost use Rattle.dds_core.specs.Readiness.{receiver_at, IsFirstName, IsNamedFor, IsRowOf, NamedBy, NamesNobody, IsToldBy, HasMemory, IsPrepared, IsPreparedAt, change_ready, IsAlike, CanTake, MayDo, TakesTold, SameReader, IsPlaceAt};
@@ -43,6 +44,7 @@ use dds_base::{
     PeerConfig, ReaderConfig, ReaderQos, Sample, SampleLostStatus, Selection, Sequence, Sn,
 };
 use dds_cache::{AccessKind, Test};
+use dds_machine::Endpoint;
 use dds_notices::{Status, StatusMask};
 use rtps_reader::{HeartbeatSeen, StatefulReader, Step};
 use rtps_sets::SnSet;
@@ -445,20 +447,33 @@ impl ReaderEnd {
         }
     }
 
-    /// Whether a submessage, which names these, is for this reader of the peer of this prefix, from a matched writer, and
-    /// old here.
+    /// Whether the writer of this row is the one that is asked for, or none is.
+    fn is_counted(&self, of: Option<Endpoint>, row: usize) -> bool
+        requires { row < length self.now.writers }
+        ensures { (name : WriterNameOf) → slice_get self.now.writers row ≡ Some name
+            → result ≡ is_counted of name.writer }
+    {
+        match of {
+            Some(asked) => asked == self.writer(row).writer,
+            None => true,
+        }
+    }
+
+    /// Whether a submessage, which names these, is for this reader of the peer of this prefix, from a matched writer, the
+    /// one that is asked for, or any where none is, and old here.
     pub fn is_old(
         &self,
         own: &GuidPrefix,
+        of: Option<Endpoint>,
         receiver: &MessageReceiver,
         ids: &Ids,
         submessage: &Submessage,
     ) -> bool
         requires { NamedBy submessage.now ids.now.reader ids.now.writer }
-        ensures { IsOldIn own.now (receiver_at receiver.now) submessage.now self.now result }
+        ensures { IsOldIn own.now of (receiver_at receiver.now) submessage.now self.now result }
     {
         match self.row_of(own, receiver, &ids.reader, &ids.writer) {
-            Some(row) => self.is_old_at(row, submessage),
+            Some(row) => self.is_counted(of, row) && self.is_old_at(row, submessage),
             None => false,
         }
     }

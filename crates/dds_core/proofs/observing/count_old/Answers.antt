@@ -16,13 +16,13 @@ loop-reader-preserved c =
           let is = v.count-is in
           record {
             sums =
-                subst (λ (n : ℕ). Sums (CountsOld c.args.own.now (receiver_at c.args.receiver.now) c.args.submessage.now)
+                subst (λ (n : ℕ). Sums (CountsOld c.args.own.now c.args.of (receiver_at c.args.receiver.now) c.args.submessage.now)
                 (take (i + 1) c.args.readers.now) n) (sym is)
-                (sums_more (CountsOld c.args.own.now (receiver_at c.args.receiver.now) c.args.submessage.now)
+                (sums_more (CountsOld c.args.own.now c.args.of (receiver_at c.args.receiver.now) c.args.submessage.now)
                 c.args.readers.now i c.reader-item.result c.reader-item.result c.loop-reader.count 1
                 c.loop-reader-test.true c.reader-item.is before.sums (
                   true,
-                  subst (λ (b : Bool). IsOldIn c.args.own.now (receiver_at c.args.receiver.now) c.args.submessage.now
+                  subst (λ (b : Bool). IsOldIn c.args.own.now c.args.of (receiver_at c.args.receiver.now) c.args.submessage.now
                       c.reader-item.result b) v.if-is_old.true c.is_old.ensures,
                   refl,
                 ));
@@ -33,13 +33,13 @@ loop-reader-preserved c =
           let same : c.loop-reader.count + 0 ≡ c.if-is_old.count = omega (arith, is) in
           record {
             sums =
-                subst (λ (n : ℕ). Sums (CountsOld c.args.own.now (receiver_at c.args.receiver.now) c.args.submessage.now)
+                subst (λ (n : ℕ). Sums (CountsOld c.args.own.now c.args.of (receiver_at c.args.receiver.now) c.args.submessage.now)
                 (take (i + 1) c.args.readers.now) n) same
-                (sums_more (CountsOld c.args.own.now (receiver_at c.args.receiver.now) c.args.submessage.now)
+                (sums_more (CountsOld c.args.own.now c.args.of (receiver_at c.args.receiver.now) c.args.submessage.now)
                 c.args.readers.now i c.reader-item.result c.reader-item.result c.loop-reader.count 0
                 c.loop-reader-test.true c.reader-item.is before.sums (
                   false,
-                  subst (λ (b : Bool). IsOldIn c.args.own.now (receiver_at c.args.receiver.now) c.args.submessage.now
+                  subst (λ (b : Bool). IsOldIn c.args.own.now c.args.of (receiver_at c.args.receiver.now) c.args.submessage.now
                       c.reader-item.result b) v.if-is_old.false c.is_old.ensures,
                   refl,
                 ));

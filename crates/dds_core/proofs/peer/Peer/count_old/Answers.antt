@@ -8,8 +8,8 @@ use Rattle.dds_core.proofs.peer.Peer.count_old.Goals as goal
 
 pub returns-in-Some-clause-old : goal.returns-in-Some-clause-old
 returns-in-Some-clause-old c =
-    old_to_readers c.args.self.now (receiver_at c.args.receiver.now) c.args.submessage.now c.count_old.result
-    (subst (λ (k : PeerKept). Sums (CountsOld k.prefix (receiver_at c.args.receiver.now) c.args.submessage.now) k.readers
+    old_to_readers c.args.self.now c.args.of (receiver_at c.args.receiver.now) c.args.submessage.now c.count_old.result
+    (subst (λ (k : PeerKept). Sums (CountsOld k.prefix c.args.of (receiver_at c.args.receiver.now) c.args.submessage.now) k.readers
     c.count_old.result) c.self.view_is
-    (subst (λ (rs : List ReaderKept). Sums (CountsOld c.self.inside.prefix (receiver_at c.args.receiver.now)
+    (subst (λ (rs : List ReaderKept). Sums (CountsOld c.self.inside.prefix c.args.of (receiver_at c.args.receiver.now)
     c.args.submessage.now) rs c.count_old.result) c.deref.ensures.value c.count_old.ensures.sums))

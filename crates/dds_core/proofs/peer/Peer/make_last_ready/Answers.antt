@@ -1,4 +1,4 @@
-use Rattle.std.proofs.Common.{◌≡◌, Some, set, ap, subst}
+use Rattle.std.proofs.Common.{◌≡◌, set, ap, subst}
 use Rattle.dds_core.specs.Kept.{ReaderKept, PeerKept}
 use Rattle.dds_core.specs.Readiness.{receiver_at, IsAlike}
 use Rattle.dds_core.proofs.LastReader.{here_now, last_ready, last_stands}

@@ -15,7 +15,7 @@ loop-frame-preserved c =
     let more = c.observe_frame-more.ensures.few in
     record {
       so_far =
-          observed_more c.args.self.now c.args.source c.args.body.now c.loop-frame.left.now c.in-Some.rest.now
+          observed_more c.args.self.now c.args.of c.args.source c.args.body.now c.loop-frame.left.now c.in-Some.rest.now
           (receiver_at c.loop-frame.receiver) (receiver_at c.observe_frame-more.new.receiver) c.in-Some.frame.id
           c.in-Some.frame.flags c.in-Some.frame.body.now c.loop-frame.seen c.observe_frame-more.result c.and-seen.result
           c.loop-frame.invariant.so_far f first
@@ -27,5 +27,5 @@ loop-frame-preserved c =
 
 pub returns : goal.returns
 returns c =
-    observed_all c.args.self.now c.args.source c.args.body.now c.loop-frame.left.now (receiver_at c.loop-frame.receiver)
+    observed_all c.args.self.now c.args.of c.args.source c.args.body.now c.loop-frame.left.now (receiver_at c.loop-frame.receiver)
     c.loop-frame.seen c.loop-frame.invariant.so_far c.in_default.ensures.end

@@ -1,7 +1,7 @@
 use Rattle.std.proofs.Common.{◌≡◌, ℕ, Bool, true, false, sym, subst, ap, ◌∙◌}
 use Rattle.std.specs.Prelude.{if◌then◌else◌, nat_le}
 use Rattle.rtps_reader.specs.Reader.{Tracks}
-use Rattle.rtps_reader.specs.Tracked.{Tracked, may_take}
+use Rattle.rtps_reader.specs.Tracked.{may_take}
 use Rattle.dds_core.specs.Identity.{reliable_in}
 use Rattle.dds_core.specs.Kept.{ReaderKept}
 use Rattle.dds_core.proofs.reader_end.ReaderEnd.may_take.Goals as goal

@@ -1,6 +1,6 @@
 use Rattle.std.proofs.Common.{subst, inl, inr, sym, ◌∙◌}
 use Rattle.dds_base.specs.declared.guid.EntityId.{EntityId}
-use Rattle.dds_core.specs.Readiness.{receiver_at, IsNamedAt, IsNamedFor}
+use Rattle.dds_core.specs.Readiness.{receiver_at, IsNamedFor}
 use Rattle.dds_core.proofs.Named.{names_one}
 use Rattle.dds_core.proofs.reader_end.ReaderEnd.named_row.Goals as goal
 
