@@ -5,3 +5,8 @@ pub mod CountLaws
 pub mod EndpointLaws
 pub mod ParticipantLaws
 pub mod GuidLaws
+pub mod PutLaws
+pub mod WrittenLaws
+pub mod WrittenAgain
+pub mod EndpointAgain
+pub mod ParticipantAgain

@@ -9,3 +9,6 @@ pub mod Endpoints
 pub mod EndpointAt
 pub mod Participants
 pub mod ParticipantAt
+pub mod Written
+pub mod WrittenEndpoints
+pub mod WrittenParticipants

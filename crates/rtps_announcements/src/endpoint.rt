@@ -48,7 +48,7 @@ pub struct Endpoint<'a> {
 }
 
 /// Whether the last octet of an entity id is of this kind.
-fn is_of_kind(kind: EndpointKind, octet: u8) -> bool
+pub fn is_of_kind(kind: EndpointKind, octet: u8) -> bool
     ensures { IsTrue result ↔ IsOfKind kind octet }
 {
     match kind {

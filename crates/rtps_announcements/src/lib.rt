@@ -22,6 +22,7 @@
 
 mod endpoint;
 mod guid;
+pub mod laws;
 mod list;
 mod locator;
 mod name;
@@ -29,8 +30,11 @@ mod names;
 mod participant;
 mod partition;
 mod policies;
+mod put;
 mod qos;
 mod representation;
+mod writable;
+mod write;
 
 pub use endpoint::{Endpoint, read_endpoint};
 pub use guid::read_guid;
@@ -44,3 +48,5 @@ pub use qos::{
     PresentationQos, PresentationScope,
 };
 pub use representation::Representations;
+pub use writable::{is_writable_endpoint, is_writable_participant};
+pub use write::{write_endpoint, write_guid, write_participant};

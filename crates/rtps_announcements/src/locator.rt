@@ -4,7 +4,8 @@
 //!
 //! RTPS 2.5, 9.3.2 (Locator_t) and 9.6 (the addresses of UDP over IPv4).
 
-ghost use Rattle.std.specs.Prelude.{◌≡◌};
+ghost use Rattle.std.specs.Prelude.{◌≡◌, ◌≤◌, ◌<◌, ◌↔◌, [], ◌∷◌, ◌++◌, length, IsTrue, nat_lt, if◌then◌else◌};
+ghost use Rattle.rtps_announcements.specs.Names.{max_locators};
 ghost use Rattle.rtps_announcements.specs.ListAt.{parameters_in};
 ghost use Rattle.rtps_announcements.specs.Locators.{is_of_host, locator_at, locator_said, locators_of, or_else};
 
@@ -43,16 +44,40 @@ impl Model for Locators {
 }
 
 impl Locators {
+    /// None.
+    pub fn new() -> Locators
+        ensures none { result ≡ [] }
+    {
+        Locators {
+            items: ArrayVec::new(),
+        }
+    }
+
+    /// Appends a locator where fewer than four are there, and says whether there was room.
+    pub fn push(&mut self, locator: Locator) -> bool
+        // It is appended exactly where there is room.
+        ensures room { IsTrue result ↔ (length self.old < MAX_LOCATORS) }
+        ensures pushed { self.new
+            ≡ (if nat_lt (length self.old) max_locators then self.old ++ locator ∷ [] else self.old) }
+    {
+        if self.items.is_full() {
+            return false;
+        }
+        self.items.push(locator);
+        true
+    }
+
     /// The locators, in their order.
     pub fn as_slice(&self) -> &[Locator]
         ensures items { result.now ≡ self.now }
+        ensures few { length result.now ≤ MAX_LOCATORS }
     {
         self.items.as_slice()
     }
 }
 
 /// Whether one host can have an address with this first octet: it is not 0, nor that of a group, nor 255.
-fn is_of_host(first: u8) -> bool
+pub fn is_of_host(first: u8) -> bool
     ensures { result ≡ is_of_host first }
 {
     0 < first && (first < 224 || 239 < first) && first < 255

@@ -31,10 +31,10 @@ use dds_base::{Endianness, EntityId, Guid, GuidPrefix, take_octets, take_u32};
 /// The entity id of a participant itself.
 ///
 /// RTPS 2.5, 9.3 (ENTITYID_PARTICIPANT).
-const PARTICIPANT: EntityId = EntityId([0x00, 0x00, 0x01, 0xc1]);
+pub const PARTICIPANT: EntityId = EntityId([0x00, 0x00, 0x01, 0xc1]);
 
 /// The major version of the protocol.
-const MAJOR_VERSION: u8 = 2;
+pub const MAJOR_VERSION: u8 = 2;
 
 /// Which builtin endpoints a participant has that says none: those of SPDP and SEDP.
 const DEFAULT_BUILTIN_ENDPOINTS: u32 = 0x3f;

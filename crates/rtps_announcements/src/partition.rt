@@ -2,7 +2,7 @@
 //!
 //! DDS 1.4, 2.2.3 (PARTITION); RTPS 2.5, 9.6 (its parameter).
 
-ghost use Rattle.std.specs.Prelude.{◌≡◌, ◌≤◌, [], Some};
+ghost use Rattle.std.specs.Prelude.{◌≡◌, ◌≤◌, ◌<◌, ◌↔◌, [], ◌∷◌, ◌++◌, Some, length, IsTrue, nat_lt, if◌then◌else◌};
 ghost use Rattle.std.specs.Option.{option_map};
 ghost use Rattle.rtps_announcements.specs.ListAt.{value_in};
 ghost use Rattle.rtps_announcements.specs.Names.{max_partitions, pid_partition};
@@ -32,9 +32,33 @@ impl<'a> Model for Partitions<'a> {
 }
 
 impl<'a> Partitions<'a> {
+    /// None.
+    pub fn new() -> Partitions<'a>
+        ensures none { result ≡ [] }
+    {
+        Partitions {
+            items: ArrayVec::new(),
+        }
+    }
+
+    /// Appends a name where fewer than sixteen are there, and says whether there was room.
+    pub fn push(&mut self, name: Name<'a>) -> bool
+        // It is appended exactly where there is room.
+        ensures room { IsTrue result ↔ (length self.old < MAX_PARTITIONS) }
+        ensures pushed { self.new
+            ≡ (if nat_lt (length self.old) max_partitions then self.old ++ name.entry ∷ [] else self.old) }
+    {
+        if self.items.is_full() {
+            return false;
+        }
+        self.items.push(name);
+        true
+    }
+
     /// The names, in their order; none means the partition without a name.
     pub fn as_slice(&self) -> &[Name<'a>]
         ensures items { result.now ≡ self.now }
+        ensures few { length result.now ≤ MAX_PARTITIONS }
     {
         self.items.as_slice()
     }
@@ -78,9 +102,7 @@ pub fn partitions_in(order: Endianness, list: &[u8]) -> Option<Partitions<'_>>
         (value_in order list.now pid_partition) }
 {
     let Some(value) = first_value(order, list, PID_PARTITION) else {
-        return Some(Partitions {
-            items: ArrayVec::new(),
-        });
+        return Some(Partitions::new());
     };
     let (count, rest) = take_u32(order, value)?;
     let count = count as usize;

@@ -4,7 +4,7 @@
 
 ghost use Rattle.std.specs.Prelude.{◌≡◌};
 ghost use Rattle.rtps_announcements.specs.ValueAt.{reliability_of, durability_of, ownership_of, liveliness_of, destination_order_of, scope_of};
-ghost use Rattle.rtps_announcements.specs.Values.{default_reliability, units_of};
+ghost use Rattle.rtps_announcements.specs.Values.{default_reliability, units_of, reliability_code, durability_code, ownership_code, liveliness_code, destination_order_code, scope_code};
 
 use dds_base::{OwnershipQos, ReliabilityQos};
 
@@ -231,5 +231,69 @@ pub fn scope_of(code: u32) -> Option<PresentationScope>
         1 => Some(PresentationScope::Topic),
         2 => Some(PresentationScope::Group),
         _ => None,
+    }
+}
+
+/// The number of a kind of RELIABILITY.
+pub fn reliability_code(kind: ReliabilityQos) -> u32
+    ensures { result ≡ reliability_code kind }
+{
+    match kind {
+        ReliabilityQos::BestEffort => 1,
+        ReliabilityQos::Reliable => 2,
+    }
+}
+
+/// The number of a kind of DURABILITY.
+pub fn durability_code(kind: DurabilityQos) -> u32
+    ensures { result ≡ durability_code kind }
+{
+    match kind {
+        DurabilityQos::Volatile => 0,
+        DurabilityQos::TransientLocal => 1,
+        DurabilityQos::Transient => 2,
+        DurabilityQos::Persistent => 3,
+    }
+}
+
+/// The number of a kind of OWNERSHIP.
+pub fn ownership_code(kind: OwnershipQos) -> u32
+    ensures { result ≡ ownership_code kind }
+{
+    match kind {
+        OwnershipQos::Shared => 0,
+        OwnershipQos::Exclusive => 1,
+    }
+}
+
+/// The number of a kind of LIVELINESS.
+pub fn liveliness_code(kind: LivelinessKind) -> u32
+    ensures { result ≡ liveliness_code kind }
+{
+    match kind {
+        LivelinessKind::Automatic => 0,
+        LivelinessKind::ManualByParticipant => 1,
+        LivelinessKind::ManualByTopic => 2,
+    }
+}
+
+/// The number of a kind of DESTINATION_ORDER.
+pub fn destination_order_code(kind: DestinationOrderQos) -> u32
+    ensures { result ≡ destination_order_code kind }
+{
+    match kind {
+        DestinationOrderQos::ByReceptionTimestamp => 0,
+        DestinationOrderQos::BySourceTimestamp => 1,
+    }
+}
+
+/// The number of an access scope of PRESENTATION.
+pub fn scope_code(scope: PresentationScope) -> u32
+    ensures { result ≡ scope_code scope }
+{
+    match scope {
+        PresentationScope::Instance => 0,
+        PresentationScope::Topic => 1,
+        PresentationScope::Group => 2,
     }
 }

@@ -2,7 +2,7 @@
 //!
 //! DDS-XTypes 1.3, 7.6.3.1.1 (DATA_REPRESENTATION); RTPS 2.5, 9.6 (its parameter).
 
-ghost use Rattle.std.specs.Prelude.{◌≡◌, ◌≤◌, ◌∷◌, [], Some};
+ghost use Rattle.std.specs.Prelude.{◌≡◌, ◌≤◌, ◌<◌, ◌↔◌, ◌∷◌, [], ◌++◌, Some, length, IsTrue, nat_lt, if◌then◌else◌};
 ghost use Rattle.std.specs.Int.{w16};
 ghost use Rattle.std.specs.Option.{option_map};
 ghost use Rattle.dds_base.specs.Fields.{number_at};
@@ -40,9 +40,33 @@ impl Representations {
     /// XCDR2_DATA_REPRESENTATION.
     pub const XCDR2: u16 = 2;
 
+    /// None.
+    pub fn new() -> Representations
+        ensures none { result ≡ [] }
+    {
+        Representations {
+            items: ArrayVec::new(),
+        }
+    }
+
+    /// Appends an id where fewer than eight are there, and says whether there was room.
+    pub fn push(&mut self, id: u16) -> bool
+        // It is appended exactly where there is room.
+        ensures room { IsTrue result ↔ (length self.old < MAX_REPRESENTATIONS) }
+        ensures pushed { self.new
+            ≡ (if nat_lt (length self.old) max_representations then self.old ++ id ∷ [] else self.old) }
+    {
+        if self.items.is_full() {
+            return false;
+        }
+        self.items.push(id);
+        true
+    }
+
     /// The ids, in their order; none means XCDR1 alone.
     pub fn as_slice(&self) -> &[u16]
         ensures items { result.now ≡ self.now }
+        ensures few { length result.now ≤ MAX_REPRESENTATIONS }
     {
         self.items.as_slice()
     }
@@ -76,9 +100,9 @@ pub fn representations_in(order: Endianness, list: &[u8]) -> Option<Representati
         (value_in order list.now pid_data_representation) }
 {
     let Some(value) = first_value(order, list, PID_DATA_REPRESENTATION) else {
-        let mut items = ArrayVec::new();
-        items.push(Representations::XCDR1);
-        return Some(Representations { items });
+        let mut representations = Representations::new();
+        representations.push(Representations::XCDR1);
+        return Some(representations);
     };
     let (count, rest) = take_u32(order, value)?;
     let count = count as usize;
