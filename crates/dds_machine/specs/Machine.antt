@@ -1,19 +1,20 @@
 -- The machine without packets: each writer is a list of changes, and each matched reader has a place in it that goes
--- over changes which come, and passes over those alone that the writer's history had dropped, or, where the reader is a
--- best-effort one, that come before another.
+-- over changes which come, and passes over those alone that the writer's history had dropped, or that the writer does
+-- not owe the reader, where it is a reliable one, or, where it is a best-effort one, that come before another.
 --
 -- No clause has this machine: it is what RTPS 2.5, 8.4.9 (reliable StatefulWriter) and 8.4.12 (reliable
 -- StatefulReader) come to, whatever becomes of packets; HISTORY (DDS 1.4, 2.2.3) says what is dropped.
 use Rattle.std.specs.Prelude.{◌≡◌, ◌⊎◌, ℕ, ◌<◌, ◌≤◌, true, List, Option, Some}
 use Rattle.dds_base.specs.declared.code.Code.TheVariants.{BadParameter}
 use Rattle.dds_base.specs.Kept.{change_at, is_dropped}
+use Rattle.dds_base.specs.Matched.{is_reliable}
 use Rattle.dds_machine.specs.declared.endpoint.Endpoint.{Endpoint}
 use Rattle.dds_machine.specs.declared.event.WorldEvent.{WorldEvent}
 use Rattle.dds_machine.specs.declared.event.WorldEvent.TheVariants as event
 use Rattle.dds_machine.specs.declared.reply.Reply.{Reply}
 use Rattle.dds_machine.specs.declared.reply.Reply.TheVariants.{Refused}
 use Rattle.dds_machine.specs.Numbered.{numbered, with_numbered, HasNumber}
-use Rattle.dds_machine.specs.Part.{Part, Writer, no_part, own_writer, own_proxies, place_of, writer_changes, history_of, is_assertion, IsAtMost}
+use Rattle.dds_machine.specs.Part.{Part, Writer, no_part, own_writer, own_proxies, own_reader, place_of, writer_changes, history_of, is_assertion, owed_from, IsAtMost}
 use Rattle.dds_machine.specs.Moves.{Grounds, DeliveryStep}
 use Rattle.dds_machine.specs.Ticks.{TickStep}
 use Rattle.dds_machine.specs.Calls.{CallStep}
@@ -35,11 +36,20 @@ writer_at m writer = own_writer (part_at m writer.peer) writer.number
 abbrev pub place_at : Machine → Endpoint → Endpoint → Option ℕ
 place_at m reader writer = place_of (own_proxies (part_at m reader.peer) reader.number) writer
 
--- what a delivery at the peer of this number may rest on: the far lists, what they have dropped, and the far places
+-- The reader is a reliable one, and the writer does not owe it the change of this number. Of a best-effort reader this is
+-- never so: a writer has no row for it, and it passes over what comes before another change (DDS 1.4, 2.2.3, RELIABILITY).
+pub record IsNotOwed (m : Machine) (writer reader : Endpoint) (number : ℕ) : Type 0 where
+  pub reliable : is_reliable (own_reader (part_at m reader.peer) reader.number).qos.reliability ≡ true
+  pub from : 1 ≤ number
+  pub below : number < owed_from (writer_at m writer) reader
+
+-- what a delivery at the peer of this number may rest on: the far lists, what they have dropped or don't owe, and the
+-- far places
 abbrev pub grounds_of : Machine → ℕ → Grounds
 grounds_of m peer = record {
   is_change = λ writer reader number change. change_at (writer_changes (writer_at m writer)) number ≡ Some change;
-  may_pass = λ writer reader number. is_dropped (history_of (writer_at m writer)) number ≡ true;
+  may_pass = λ writer reader number. (is_dropped (history_of (writer_at m writer)) number ≡ true)
+      ⊎ IsNotOwed m writer (record { peer = peer; number = reader }) number;
   has_place = λ writer reader base. IsAtMost base (place_at m reader (record { peer = peer; number = writer }));
   may_hear = λ writer reader count. is_assertion (writer_at m writer) count ≡ true;
 }

@@ -2,7 +2,7 @@
 -- each matched pair. What other peers may learn of stands apart from what only its own calls ask for.
 --
 -- RTPS 2.5, 8.4.7 (StatefulWriter, ReaderProxy), 8.4.10 (StatefulReader, WriterProxy).
-use Rattle.std.specs.Prelude.{ℕ, ◌+◌, ◌<◌, ◌≤◌, Bool, true, false, if◌then◌else◌, ◌==◌, nat_le, nat_lt, List, [], ◌∷◌, length, map, Option, Some, None, ℤ, pos, negsuc}
+use Rattle.std.specs.Prelude.{ℕ, ◌+◌, ◌<◌, ◌≤◌, Bool, true, false, if◌then◌else◌, ◌==◌, nat_le, nat_lt, min, ◌⊎◌, List, [], ◌∷◌, length, map, Option, Some, None, ℤ, pos, negsuc}
 use Rattle.std.specs.List.{list_any}
 use Rattle.std.specs.Option.{option_map, option_map_or}
 use Rattle.dds_base.specs.declared.change.Change.{Change}
@@ -197,6 +197,15 @@ abbrev pub with_acknowledged : List ReaderProxy → Endpoint → ℕ → List Re
 with_acknowledged rows reader to =
     with_row (λ (p : ReaderProxy). p.reader) (λ (p : ReaderProxy). record p { acknowledged = to }) rows reader
 
+-- From this number on the writer owes a reliable reader its changes: those that it makes while the two are matched
+-- there. To one that it is not matched with it owes none that it has made.
+abbrev pub owed_from : Writer → Endpoint → ℕ
+owed_from w reader =
+    min
+    (option_map_or (λ (p : ReaderProxy). p.first) (row_of (λ (p : ReaderProxy). p.reader) w.readers reader)
+    (length (writer_changes w) + 1))
+    (length (writer_changes w) + 1)
+
 -- the place in this writer's list, if it is matched
 abbrev pub place_of : List WriterProxy → Endpoint → Option ℕ
 place_of rows writer = option_map (λ (p : WriterProxy). p.place) (row_of (λ (p : WriterProxy). p.writer) rows writer)
@@ -250,6 +259,12 @@ IsAtMost number (Some bound) = number ≤ bound
 abbrev pub NoLess : Option ℕ → Option ℕ → Type 0
 NoLess None second = Unit {0}
 NoLess (Some first) second = IsAtMost first second
+
+-- what is acknowledged, if anything is, ends where the reader begins to be owed, or before that, or no later than its
+-- place, which is there
+abbrev pub IsCovered : Option ℕ → ℕ → Option ℕ → Type 0
+IsCovered None owed place = Unit {0}
+IsCovered (Some acknowledged) owed place = (acknowledged ≤ owed) ⊎ IsAtMost acknowledged place
 
 -- this reader is matched, and has not acknowledged all changes of the writer
 abbrev pub is_reader_behind : Writer → Endpoint → Bool

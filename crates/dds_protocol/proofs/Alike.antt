@@ -9,7 +9,7 @@ use Rattle.dds_machine.specs.Noticing.{at_end, seen_by, told_of}
 use Rattle.dds_machine.specs.Numbered.{numbered, with_numbered}
 use Rattle.dds_machine.specs.Part.{Part, Reader, Rtps, Writer, no_reader, no_writer, own_reader, own_writer}
 use Rattle.dds_protocol.proofs.AtEnds.{end_so}
-use Rattle.dds_protocol.proofs.Growth.{WriterGrows, writer_on, writer_same}
+use Rattle.dds_protocol.proofs.Growth.{WriterGrows, entered-grows, writer_on, writer_same}
 use Rattle.dds_machine.proofs.Tables.{length-with_numbered, numbered-cases}
 
 -- a writer has only been looked at since
@@ -32,7 +32,7 @@ writers_on a b c f g = record {
 
 looked : (w : Writer) → AlikeWriters w (with_written w LookedAt)
 looked w = record {
-  grows = record { policy = refl; matched = refl; more = LookedAt ∷ []; written = refl };
+  grows = entered-grows w LookedAt;
   rest = refl;
   changes = refl;
   counts = λ b. refl;

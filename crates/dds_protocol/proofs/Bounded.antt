@@ -30,6 +30,7 @@ use Rattle.dds_machine.specs.Runs.{Run}
 use Rattle.dds_protocol.specs.Bounds.{IsBounded}
 use Rattle.dds_machine.proofs.Tables.{numbered-cases, place-cases, place-heard}
 use Rattle.dds_protocol.proofs.Growth.{MachineGrows, with_part, with_part-grows, CallStep-grows, TickStep-grows, TickStep-rows, DeliveryStep-grows, writer-changes, change_at-within}
+use Rattle.dds_protocol.proofs.Owing.{owed_within}
 use Rattle.dds_protocol.proofs.Composed.{parts_at}
 use Rattle.dds_machine.specs.Noticing.{machine_ended}
 use Rattle.dds_protocol.proofs.EndsBeside.{ended_bounded}
@@ -89,7 +90,12 @@ speaks_to : (m : Machine) (i : ℕ) (w : Endpoint) (r : ℕ)
     → SpeakTo (as_to (grounds_of m i) w r) (length (writer_changes (writer_at m w)))
 speaks_to m i w r = record {
   change = λ n c h. change_at-within (writer_changes (writer_at m w)) n c h;
-  pass = λ n h. dropped_within (writer_at m w).policy (writer_changes (writer_at m w)) n h;
+  pass = λ n h.
+      ⊎_elim (λ d. dropped_within (writer_at m w).policy (writer_changes (writer_at m w)) n d)
+      (λ o.
+      let below = o.below in
+      let within = owed_within (writer_at m w) (record { peer = i; number = r }) in
+      omega (arith, below, within)) h;
 }
 
 -- the places of this part's readers are not past the ends of the machine's lists

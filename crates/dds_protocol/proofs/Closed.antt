@@ -1,12 +1,14 @@
 -- Where nobody comes or goes nobody has.
 use Rattle.std.proofs.Common.{◌≡◌, ℕ, zero, suc, ◌+◌, ◌==◌, ◌&&◌, ◌≤◌, Bool, true, false, cond, get_or, map, List, [], ◌∷◌, ◌++◌, Option, None, Some, refl, subst, ap, sym, ◌∙◌, inl, inr, ⊎_elim, arith}
+use Rattle.std.specs.Prelude.{IsSome}
 use Rattle.std.specs.Option.{option_map}
 use Rattle.std.proofs.lemmas.Option.{same_Some}
 use Rattle.dds_base.specs.declared.config.Config.{Config}
 use Rattle.dds_base.specs.declared.config.PeerConfig.{PeerConfig}
 use Rattle.dds_base.specs.declared.config.WriterConfig.{WriterConfig}
 use Rattle.dds_base.specs.declared.config.ReaderConfig.{ReaderConfig}
-use Rattle.dds_base.specs.Matched.{is_reliable_reader, same_topic}
+use Rattle.dds_base.specs.declared.qos.ReaderQos.{ReaderQos}
+use Rattle.dds_base.specs.Matched.{is_reliable, is_reliable_reader, same_topic}
 use Rattle.dds_machine.specs.declared.endpoint.Endpoint.{Endpoint}
 use Rattle.dds_machine.specs.declared.event.WorldEvent.{WorldEvent}
 use Rattle.dds_machine.specs.declared.event.WorldEvent.TheVariants as world
@@ -14,20 +16,26 @@ use Rattle.dds_machine.specs.declared.reply.Move.{Move}
 use Rattle.dds_machine.specs.declared.reply.Move.TheVariants.{Place, Acknowledged, Heard}
 use Rattle.dds_machine.specs.declared.reply.Reply.{Reply}
 use Rattle.dds_machine.specs.declared.reply.Reply.TheVariants.{Reported}
-use Rattle.dds_machine.specs.Calls.{Effect, nothing, writes, effect, effect_of}
-use Rattle.dds_machine.specs.Machine.{Machine, AllTests, part_at, grounds_of, Step}
+use Rattle.dds_machine.specs.Calls.{effect_of}
+use Rattle.dds_machine.specs.Machine.{Machine, AllTests, part_at, place_at, writer_at, grounds_of, Step}
 use Rattle.dds_machine.specs.Moves.{Grounds, IsMove, AreMoves, DeliveryStep}
 use Rattle.dds_machine.specs.Noticing.{machine_ended}
 use Rattle.dds_machine.specs.Numbered.{numbered, with_numbered}
 use Rattle.dds_machine.specs.Opening.{matched_writers, reliable_readers, opening_writer, opening_part, opening}
-use Rattle.dds_machine.specs.Part.{Begun, same_endpoint, ReaderProxy, WriterProxy, Writer, Rtps, Part, no_part, no_writer, row_of, with_row, own_proxies, own_writer, with_acknowledged, with_place, with_heard}
+use Rattle.dds_machine.specs.Part.{Begun, same_endpoint, ReaderProxy, WriterProxy, Writer, Rtps, Part, IsAtMost, no_part, no_writer, row_of, with_row, acknowledged_of, own_proxies, own_reader, own_writer, with_acknowledged, with_place, with_heard}
 use Rattle.dds_machine.specs.Runs.{Run}
-use Rattle.dds_machine.proofs.Tables.{numbered-cases, row-cases}
+use Rattle.dds_machine.proofs.Tables.{at_most_on, numbered-cases, row-cases}
 use Rattle.dds_protocol.specs.Closed.{IsClosed}
-use Rattle.dds_protocol.proofs.Alike.{alike_readers}
-use Rattle.dds_protocol.proofs.EndsBeside.{ended_alike}
+use Rattle.dds_protocol.specs.Noticing.{world_ended}
+use Rattle.dds_protocol.specs.Opening.{opening_world}
+use Rattle.dds_protocol.specs.World.{WorldState, machine_of}
+use Rattle.dds_protocol.proofs.Alike.{AlikeParts, alike_readers}
+use Rattle.dds_protocol.proofs.EndsBeside.{ended_alike, machine_ends}
+use Rattle.dds_protocol.proofs.Ends.{EndsStay, alike_ends, effect_proxies, ended_stays}
+use Rattle.dds_protocol.proofs.EndsOpened.{opens_rows, opens_places}
 use Rattle.dds_protocol.proofs.Growth.{CallStep-readers, TickStep-rows, TickStep-acknowledged}
-use Rattle.dds_protocol.proofs.Opened.{writers_in, readers_in}
+use Rattle.dds_protocol.proofs.Opened.{opening_is, writers_in, readers_in}
+use Rattle.dds_protocol.proofs.SameBeside.{SameBeside, parts_alike}
 
 -- ---- rows
 
@@ -88,6 +96,11 @@ same_closed old new proxies readers c = record {
   owed = λ k. subst (λ (rows : List ReaderProxy). RowsOwed rows) (sym (readers k)) (c.owed k);
 }
 
+alike_closed : (old new : Part) → AlikeParts old new → PartClosed old → PartClosed new
+alike_closed old new alike c =
+    same_closed old new (λ r. ap (λ (rows : List (List WriterProxy)). numbered rows r []) alike.rows)
+    (λ k. alike_readers (own_writer old k) (own_writer new k) (alike.writers k)) c
+
 set_begun : (old : Part) (k : ℕ) (rows : List WriterProxy) → PartClosed old → RowsBegun rows → (r : ℕ)
     → RowsBegun (numbered (with_numbered old.rtps.readers k rows) r [])
 set_begun old k rows c h r =
@@ -133,11 +146,6 @@ delivery_closed : (g : Grounds) (old : Part) (reply : Reply) (new : Part) → Pa
 delivery_closed g old (Reported report) new c h = moves_closed g old report.moves new c h
 delivery_closed g old reply new c h = absurd h
 
--- a call enters one thing more at a writer, or nothing
-effect_proxies : (old : Rtps) (e : Effect) → (effect old e).readers ≡ old.readers
-effect_proxies old nothing = refl
-effect_proxies old (writes w entry) = refl
-
 -- ---- the machine
 
 abbrev AllClosed : Machine → Type 0
@@ -149,11 +157,34 @@ parts_of m c i = record {
   owed = λ k r row e. c.owed (record { peer = i; number = k }) r row e;
 }
 
-of_parts : (m : Machine) → AllClosed m → IsClosed m
-of_parts m c = record {
+-- whoever has a place has a row where it is a reliable one, and whoever has a row has a place
+abbrev AreKnown : Machine → Type 0
+AreKnown m =
+    (w r : Endpoint) → IsSome (place_at m r w)
+    → is_reliable (own_reader (part_at m r.peer) r.number).qos.reliability ≡ true
+    → IsSome (acknowledged_of (writer_at m w).readers r)
+
+abbrev ArePlaced : Machine → Type 0
+ArePlaced m = (w r : Endpoint) → IsSome (acknowledged_of (writer_at m w).readers r) → IsAtMost 1 (place_at m r w)
+
+of_parts : (m : Machine) → AllClosed m → AreKnown m → ArePlaced m → IsClosed m
+of_parts m c known placed = record {
   begun = λ r w row e. (c r.peer).begun r.number w row e;
+  known = known;
   owed = λ w r row e. (c w.peer).owed w.number r row e;
+  placed = placed;
 }
+
+known_on : (old new : Machine) → EndsStay old new → AreKnown old → AreKnown new
+known_on old new e h w r placed reliable =
+    (e w.peer).rows w.number r
+    ∙ h w r (sym ((e r.peer).places r.number w) ∙ placed)
+    (ap (λ (q : ReaderQos). is_reliable q.reliability) (sym ((e r.peer).qos r.number)) ∙ reliable)
+
+placed_on : (old new : Machine) → EndsStay old new → ArePlaced old → ArePlaced new
+placed_on old new e h w r has =
+    at_most_on 1 (place_at old r w) (place_at new r w) (h w r (sym ((e w.peer).rows w.number r) ∙ has))
+    ((e r.peer).further r.number w)
 
 with_closed : (m : Machine) (peer : ℕ) (after : Part) (new : Machine)
     → new ≡ record { parts = with_numbered m.parts peer after } → AllClosed m → PartClosed after → AllClosed new
@@ -165,11 +196,7 @@ with_closed m peer after new is c h =
 
 ended_closed : (before : Machine) (e : WorldEvent) (m : Machine) → AllClosed m → AllClosed (machine_ended before e m)
 ended_closed before e m c i =
-    let alike = ended_alike before e m i in
-    same_closed (part_at m i) (part_at (machine_ended before e m) i)
-    (λ r. ap (λ (rows : List (List WriterProxy)). numbered rows r []) alike.rows)
-    (λ k. alike_readers (own_writer (part_at m i) k) (own_writer (part_at (machine_ended before e m) i) k)
-    (alike.writers k)) (c i)
+    alike_closed (part_at m i) (part_at (machine_ended before e m) i) (ended_alike before e m i) (c i)
 
 step_closed : (tests : AllTests) (sent : ℕ) (m : Machine) (ev : WorldEvent) (reply : Reply) (new : Machine)
     → AllClosed m → Step tests sent m ev reply new → AllClosed new
@@ -194,11 +221,31 @@ step_closed tests sent m (world.Deliver peer packet) reply new a (inl h) =
 step_closed tests sent m (world.Deliver peer packet) reply new a (inr h) =
     subst (λ (x : Machine). AllClosed x) (sym h.1.1) a
 
+-- a network that differs in what its calls and listeners see is closed too
+pub closed_beside : (old new : WorldState) → SameBeside old new → IsClosed (machine_of old) → IsClosed (machine_of new)
+closed_beside old new s c =
+    let m : Machine = machine_of old in
+    let m' : Machine = machine_of new in
+    let stay : EndsStay m m' = λ i. alike_ends (part_at m i) (part_at m' i) (parts_alike old new s i) in
+    of_parts m' (λ i. alike_closed (part_at m i) (part_at m' i) (parts_alike old new s i) (parts_of m c i))
+    (known_on m m' stay (λ w r. c.known w r)) (placed_on m m' stay (λ w r. c.placed w r))
+
 pub stays_closed : (tests : AllTests) (sent : ℕ) (m : Machine) (ev : WorldEvent) (reply : Reply) (new : Machine)
     → IsClosed m → Step tests sent m ev reply new → IsClosed (machine_ended m ev new)
 stays_closed tests sent m ev reply new c h =
+    let stay : EndsStay m (machine_ended m ev new) = ended_stays tests sent m ev reply new h in
     of_parts (machine_ended m ev new)
     (ended_closed m ev new (step_closed tests sent m ev reply new (parts_of m c) h))
+    (known_on m (machine_ended m ev new) stay (λ w r. c.known w r))
+    (placed_on m (machine_ended m ev new) stay (λ w r. c.placed w r))
+
+-- so it is of a network at the end of an event
+pub world_closed : (tests : AllTests) (sent : ℕ) (before : WorldState) (e : WorldEvent) (reply : Reply)
+    (world : WorldState) → IsClosed (machine_of before) → Step tests sent (machine_of before) e reply (machine_of world)
+    → IsClosed (machine_of (world_ended before e world))
+world_closed tests sent before e reply world c h =
+    subst (λ (m : Machine). IsClosed m) (sym (machine_ends before e world))
+    (stays_closed tests sent (machine_of before) e reply (machine_of world) c h)
 
 pub runs_closed : (tests : AllTests) (sent : ℕ) (m : Machine) (events : List WorldEvent) (replies : List Reply) (last : ℕ)
     (after : Machine)
@@ -331,8 +378,12 @@ parts_closed peers (p ∷ ps) zero = part_closed peers p
 parts_closed peers (p ∷ ps) (suc i) = parts_closed peers ps i
 
 pub opens_closed : (config : Config) → IsClosed (opening config)
-opens_closed config = of_parts (opening config) all
+opens_closed config = of_parts (opening config) all (opens_rows config) (opens_places config)
   where
     all : (i : ℕ) → PartClosed (part_at (opening config) i)
     all zero = none_closed
     all (suc i) = parts_closed config.peers config.peers i
+
+-- the network's machine is
+pub opened_closed : (config : Config) → IsClosed (machine_of (opening_world config))
+opened_closed config = subst (λ (m : Machine). IsClosed m) (sym (opening_is config)) (opens_closed config)

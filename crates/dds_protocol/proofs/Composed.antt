@@ -1,12 +1,17 @@
 -- Steps of peers, on claims that are true, are steps of the machine, and leave the claims true.
-use Rattle.std.proofs.Common.{◌≡◌, ◌⊎◌, ℕ, ℤ, zero, suc, ◌+◌, ◌-◌, ◌<◌, ◌≤◌, List, [], ◌∷◌, ◌++◌, Option, Some, true, Contains, subst, ap, sym, refl, ◌∙◌, inl, inr, ⊎_elim, arith, length, slice_get}
+use Rattle.std.proofs.Common.{◌≡◌, ◌⊎◌, ℕ, ℤ, zero, suc, ◌+◌, ◌-◌, ◌<◌, ◌≤◌, List, [], ◌∷◌, ◌++◌, Option, None, Some, true, Contains, subst, ap, sym, refl, ◌∙◌, inl, inr, ⊎_elim, arith, length, slice_get}
 use Rattle.std.specs.Prelude.{slice_index_or}
 use Rattle.std.proofs.lemmas.List.{length-map}
 use Rattle.std.proofs.lemmas.Option.{same_Some, slice_get_within}
 use Rattle.std.proofs.lemmas.List.Elements.{Contains-append_cases}
 use Rattle.dds_base.specs.declared.change.Change.{Change}
 use Rattle.dds_base.specs.declared.config.Config.{Config}
+use Rattle.dds_base.specs.declared.config.PeerConfig.{PeerConfig}
+use Rattle.dds_base.specs.declared.config.ReaderConfig.{ReaderConfig}
+use Rattle.dds_base.specs.declared.qos.ReaderQos.{ReaderQos}
+use Rattle.dds_base.specs.declared.qos.ReliabilityQos.{ReliabilityQos}
 use Rattle.dds_base.specs.Kept.{change_at, is_dropped}
+use Rattle.dds_base.specs.Matched.{is_reliable}
 use Rattle.dds_machine.specs.declared.endpoint.Endpoint.{Endpoint}
 use Rattle.dds_protocol.specs.declared.event.Event.{Event}
 use Rattle.dds_protocol.specs.declared.event.Event.TheVariants as event
@@ -18,11 +23,13 @@ use Rattle.dds_machine.specs.declared.reply.Move.{Move}
 use Rattle.dds_machine.specs.declared.reply.Move.TheVariants.{Place, Acknowledged, Heard}
 use Rattle.dds_base.specs.declared.guid.GuidPrefix.{GuidPrefix}
 use Rattle.rtps_wire.specs.declared.submessage.Submessage.{Submessage}
+use Rattle.rtps_wire.specs.declared.submessage.Submessage.TheVariants.{Heartbeat, Gap}
+use Rattle.dds_base.specs.declared.guid.EntityId.{EntityId}
 use Rattle.dds_machine.specs.declared.reply.Report.{Report}
 use Rattle.dds_machine.specs.declared.reply.Reply.{Reply}
 use Rattle.dds_machine.specs.declared.reply.Reply.TheVariants.{Reported}
 use Rattle.dds_machine.specs.Numbered.{with_numbered, HasNumber}
-use Rattle.dds_machine.specs.Part.{ReaderProxy, Writer, Part, no_part, no_writer, own_writer, own_proxies, acknowledged_of, with_acknowledged, place_of, writer_changes, history_of, is_assertion, IsBelow, IsAtMost, NoLess}
+use Rattle.dds_machine.specs.Part.{ReaderProxy, Writer, Part, no_part, no_writer, own_writer, own_proxies, own_reader, acknowledged_of, with_acknowledged, owed_from, place_of, writer_changes, history_of, is_assertion, IsBelow, IsAtMost, IsCovered, NoLess}
 use Rattle.dds_base.proofs.PlaceLaws.{SayAsMuch, goes_on}
 use Rattle.dds_machine.specs.Moves.{Grounds, as_to, match_of, position_at, IsMove, AreMoves, DeliveryStep}
 use Rattle.dds_protocol.specs.Receipt.{HasNoRoom, MovesOver, TakesUp, Receives, prefix_of}
@@ -30,36 +37,72 @@ use Rattle.dds_protocol.specs.Progress.{ReceivesIn, Progresses}
 use Rattle.dds_machine.specs.Ticks.{TickStep}
 use Rattle.dds_machine.specs.Calls.{CallStep}
 use Rattle.dds_machine.specs.Watching.{Tests}
-use Rattle.dds_protocol.specs.Claims.{Receiver, after_submessage, receiver_of, Claim, ChangeIs, MayPass, PlaceReached, Asserts, Claims, Claimed}
+use Rattle.dds_protocol.specs.Claims.{Receiver, after_submessage, receiver_of, IsNumbered, IsToReliable, Says, Claim, ChangeIs, MayPass, PlaceReached, Asserts, Claims, Claimed}
 use Rattle.dds_protocol.specs.Peer.{Peer, Delivery, PeerStep, EventStep, no_peer, claimed, packets_of, IsTrueAt}
-use Rattle.dds_machine.specs.Machine.{Machine, AllTests, part_at, writer_at, place_at, grounds_of, AtPeer, Step, IsRefused}
+use Rattle.dds_machine.specs.Machine.{Machine, AllTests, part_at, writer_at, place_at, IsNotOwed, grounds_of, AtPeer, Step, IsRefused}
 use Rattle.dds_protocol.specs.World.{WorldState, peer_at, machine_of, PeerSteps, IsRefusedIn, WorldStep, Holds, Sound}
-use Rattle.dds_machine.proofs.Tables.{numbered-cases, numbered-map, numbered-same, map-with_numbered, length-with_numbered, acknowledged-cases, no_less_same, no_less_on, below_on}
+use Rattle.dds_machine.proofs.Tables.{numbered-cases, numbered-map, numbered-same, map-with_numbered, length-with_numbered, no_less_same, no_less_on, below_on}
+use Rattle.dds_protocol.proofs.Owing.{Covered, covered_on, covered_same, covered_acknowledged}
+use Rattle.dds_protocol.proofs.Policies.{call_qos, tick_qos, delivery_qos}
 use Rattle.dds_protocol.proofs.Growth.{Grows, IsMove-grows, AreMoves-grows, DeliveryStep-grows, CallStep-grows, CallStep-readers, TickStep-acknowledged, TickStep-grows, MachineGrows, with_part, with_part-grows, Holds-grows}
 
 abbrev pub AllHold : Config → Machine → List (List ℕ) → Type 0
 AllHold config m packets =
     (bytes : List ℕ) (claim : Claim) → Contains packets bytes → Claims config bytes claim → Holds m claim
 
-abbrev at : ℕ → ℕ → Endpoint
+abbrev pub at : ℕ → ℕ → Endpoint
 at peer number = record { peer = peer; number = number }
 
 holds_claimed : (config : Config) (m : Machine) (packets : List (List ℕ)) → AllHold config m packets → (c : Claim)
     → Claimed config packets c → Holds m c
 holds_claimed config m packets all c h = all h.packet c h.among h.claims
 
+-- each reader is as reliable as the configuration says
+abbrev pub KeepsPolicies : Config → Machine → Type 0
+KeepsPolicies config m =
+    (peer number : ℕ) (p : PeerConfig) (r : ReaderConfig) → IsNumbered config.peers peer p
+    → IsNumbered p.readers number r → (own_reader (part_at m peer) number).qos.reliability ≡ r.reliability
+
+-- the reader, of which a packet says what it may pass over, is a reliable one, and is told of a change's number
+abbrev IsTold : Machine → Endpoint → ℕ → Type 0
+IsTold m r n = (is_reliable (own_reader (part_at m r.peer) r.number).qos.reliability ≡ true) × (1 ≤ n)
+
+reliable_one : (config : Config) (m : Machine) → KeepsPolicies config m → (own : GuidPrefix) (receiver : Receiver)
+    (reader_id writer_id : EntityId) (w r : Endpoint)
+    → IsToReliable config own receiver reader_id writer_id w r
+    → is_reliable (own_reader (part_at m r.peer) r.number).qos.reliability ≡ true
+reliable_one config m keeps own receiver reader_id writer_id w r h =
+    let to = h.is_to.to in
+    ap (λ (k : ReliabilityQos). is_reliable k) (keeps r.peer r.number to.peer to.end to.at_peer to.at_reader) ∙ h.reliable
+
+is_told : (config : Config) (m : Machine) → KeepsPolicies config m → (own : GuidPrefix) (receiver : Receiver)
+    (s : Submessage) (w r : Endpoint) (n : ℕ) → Says config own receiver s (MayPass w r n) → IsTold m r n
+is_told config m keeps own receiver (Gap g) w r n h =
+    (reliable_one config m keeps own receiver g.reader_id g.writer_id w r h.0, h.1)
+is_told config m keeps own receiver (Heartbeat g) w r n h =
+    (reliable_one config m keeps own receiver g.reader_id g.writer_id w r h.0, h.1)
+is_told config m keeps own receiver s w r n h = absurd h
+
+told_claimed : (config : Config) (m : Machine) (packets : List (List ℕ)) → KeepsPolicies config m → (w r : Endpoint)
+    (n : ℕ) → Claimed config packets (MayPass w r n) → IsTold m r n
+told_claimed config m packets keeps w r n h =
+    is_told config m keeps h.claims.own h.claims.at h.claims.submessage w r n h.claims.says
+
 -- what a delivery rests on at the peer of this number is true
 record AreTrue (m : Machine) (i : ℕ) (g : Grounds) : Type 0 where
   change : (w : Endpoint) (r n : ℕ) (c : Change) → g.is_change w r n c → Holds m (ChangeIs w (at i r) n c)
   pass : (w : Endpoint) (r n : ℕ) → g.may_pass w r n → Holds m (MayPass w (at i r) n)
+  told : (w : Endpoint) (r n : ℕ) → g.may_pass w r n → IsTold m (at i r) n
   place : (w : ℕ) (r : Endpoint) (base : ℕ) → g.has_place w r base → Holds m (PlaceReached (at i w) r base)
   hear : (w : Endpoint) (r : ℕ) (count : ℤ) → g.may_hear w r count → Holds m (Asserts w (at i r) count)
 
 claimed-true : (config : Config) (m : Machine) (i : ℕ) (before : List Delivery) (packet : List ℕ) (index : ℕ)
-    → AllHold config m (packet ∷ packets_of before) → AreTrue m i (claimed config before packet i index)
-claimed-true config m i before packet index all = record {
+    → KeepsPolicies config m → AllHold config m (packet ∷ packets_of before)
+    → AreTrue m i (claimed config before packet i index)
+claimed-true config m i before packet index keeps all = record {
   change = λ w r n c h. holds_claimed config m (packet ∷ packets_of before) all (ChangeIs w (at i r) n c) h;
   pass = λ w r n h. holds_claimed config m (packet ∷ packets_of before) all (MayPass w (at i r) n) h;
+  told = λ w r n h. told_claimed config m (packet ∷ packets_of before) keeps w (at i r) n h;
   place = λ w r base h. holds_claimed config m (packet ∷ packets_of before) all (PlaceReached (at i w) r base) h;
   hear = λ w r count h. holds_claimed config m (packet ∷ packets_of before) all (Asserts w (at i r) count) h.0;
 }
@@ -73,9 +116,12 @@ says_as_much : (m : Machine) (i : ℕ) (g : Grounds) → AreTrue m i g → (w : 
 says_as_much m i g t w r place low = record {
   is_change = λ n c above h. t.change w r n c h;
   may_pass = λ n above h.
-      ⊎_elim (λ d. d)
+      ⊎_elim (λ d. inl d)
+      (λ o.
+      ⊎_elim
+      (λ below. let told = t.told w r n h in inr (record { reliable = told.0; from = told.1; below = below }))
       (λ past. let under : n < place = below_on n (place_at m (at i r) w)
-      (Some place) past low in absurd (omega (arith, under, above)))
+      (Some place) past low in absurd (omega (arith, under, above))) o)
       (t.pass w r n h);
 }
 
@@ -187,20 +233,9 @@ receives-sound config m i gs t bytes old report new low (inl h) =
 receives-sound config m i gs t bytes old report new low (inr h) =
     (inr h, subst (λ (ms : List Move). AreMoves (grounds_of m i) old ms new) (sym h.moves) h.after)
 
--- no reader has acknowledged more than it has
+-- no reader has acknowledged more than it has or is not owed
 abbrev AckedBelow : Machine → ℕ → Part → Type 0
-AckedBelow m i part =
-    (w : ℕ) (r : Endpoint) → NoLess (acknowledged_of (own_writer part w).readers r) (place_at m r (at i w))
-
-acked_row : (m : Machine) (i : ℕ) (rows : List ReaderProxy) (w : ℕ) (r : Endpoint) (from to : ℕ) (v : Endpoint)
-    → acknowledged_of rows r ≡ Some from → IsAtMost to (place_at m r (at i w))
-    → NoLess (acknowledged_of rows v) (place_at m v (at i w))
-    → NoLess (acknowledged_of (with_acknowledged rows r to) v) (place_at m v (at i w))
-acked_row m i rows w r from to v is has le =
-    ⊎_elim (λ e. subst (λ (o : Option ℕ). NoLess o (place_at m v (at i w))) (sym e) le)
-    (λ s. subst (λ (o : Option ℕ). NoLess o (place_at m v (at i w))) (sym s.1)
-    (subst (λ (x : Endpoint). IsAtMost to (place_at m x (at i w))) (sym s.0) has))
-    (acknowledged-cases rows r from to v is)
+AckedBelow m i part = (w : ℕ) (r : Endpoint) → Covered (own_writer part w) r (place_at m r (at i w))
 
 acked_move : (m : Machine) (i : ℕ) (old : Part) (mv : Move) (new : Part) → IsMove (grounds_of m i) old mv new
     → AckedBelow m i old → AckedBelow m i new
@@ -211,11 +246,12 @@ acked_move m i old (Acknowledged w r to) new h le =
     let after : Writer = record before { readers = with_acknowledged before.readers r to } in
     subst (λ (q : Part). AckedBelow m i q) (sym h.after)
     (λ k v.
-    ⊎_elim (λ e. subst (λ (x : Writer). NoLess (acknowledged_of x.readers v) (place_at m v (at i k))) (sym e) (le k v))
+    ⊎_elim (λ e. subst (λ (x : Writer). Covered x v (place_at m v (at i k))) (sym e) (le k v))
     (λ s.
-    subst (λ (x : Writer). NoLess (acknowledged_of x.readers v) (place_at m v (at i k))) (sym s.1)
-    (subst (λ (j : ℕ). NoLess (acknowledged_of after.readers v) (place_at m v (at i j))) (sym s.0)
-    (acked_row m i before.readers w r h.acknowledged to v h.matched h.has_place (le w v))))
+    subst (λ (x : Writer). Covered x v (place_at m v (at i k))) (sym s.1)
+    (subst (λ (j : ℕ). Covered after v (place_at m v (at i j))) (sym s.0)
+    (covered_acknowledged before r h.acknowledged to v (λ x. place_at m x (at i w)) h.matched h.has_place
+    (no_less_same (place_at m v (at i w))) (le w v))))
     (numbered-cases old.rtps.writers w after k no_writer))
 
 acked_moves : (m : Machine) (i : ℕ) (old : Part) (ms : List Move) (new : Part) → AreMoves (grounds_of m i) old ms new
@@ -247,17 +283,35 @@ acked_delivery m i old (Reported report) new h le = acked_moves m i old report.m
 acked_delivery m i old reply new h le = absurd h
 
 acked_as : (m : Machine) (i : ℕ) (old new : Part) → ((k : ℕ) → (own_writer new k).readers ≡ (own_writer old k).readers)
-    → AckedBelow m i old → AckedBelow m i new
-acked_as m i old new same le w r =
-    subst (λ (rows : List ReaderProxy). NoLess (acknowledged_of rows r) (place_at m r (at i w))) (sym (same w)) (le w r)
+    → Grows old.rtps new.rtps → AckedBelow m i old → AckedBelow m i new
+acked_as m i old new same grows le w r =
+    covered_same (own_writer old w) (own_writer new w) r (place_at m r (at i w)) (same w) ((grows.writers w).owed r)
+    (no_less_same (place_at m r (at i w))) (le w r)
 
 PartStep-acked : (tests : Tests) (m : Machine) (i : ℕ) (ev : Event) (reply : Reply) (after : Part)
     → PartStep tests m i ev reply after → AckedBelow m i (part_at m i) → AckedBelow m i after
 PartStep-acked tests m i (event.Call call) reply after h le =
-    acked_as m i (part_at m i) after (CallStep-readers tests (part_at m i) call reply after h) le
+    acked_as m i (part_at m i) after (CallStep-readers tests (part_at m i) call reply after h)
+    (CallStep-grows tests (part_at m i) call reply after h) le
 PartStep-acked tests m i (event.Tick now) reply after h le =
-    acked_as m i (part_at m i) after (TickStep-acknowledged (part_at m i) now reply after h) le
+    acked_as m i (part_at m i) after (TickStep-acknowledged (part_at m i) now reply after h)
+    (TickStep-grows (part_at m i) now reply after h) le
 PartStep-acked tests m i (event.Deliver packet) reply after h le = acked_delivery m i (part_at m i) reply after h le
+
+-- the policies of its readers stay
+PartStep-qos : (tests : Tests) (m : Machine) (i : ℕ) (ev : Event) (reply : Reply) (after : Part)
+    → PartStep tests m i ev reply after → (r : ℕ) → (own_reader after r).qos ≡ (own_reader (part_at m i) r).qos
+PartStep-qos tests m i (event.Call call) reply after h r = call_qos tests (part_at m i) call reply after h r
+PartStep-qos tests m i (event.Tick now) reply after h r = tick_qos (part_at m i) now reply after h r
+PartStep-qos tests m i (event.Deliver packet) reply after h r =
+    delivery_qos (grounds_of m i) (part_at m i) reply after r h
+
+-- what is acknowledged is not owed, or the reader is past it
+covered_past : (n : ℕ) (a : Option ℕ) (owed : ℕ) (place : Option ℕ) → IsBelow n a → IsCovered a owed place
+    → (n < owed) ⊎ IsBelow n place
+covered_past n None owed place below h = absurd below
+covered_past n (Some a) owed place below h =
+    ⊎_elim (λ q. inl (omega (arith, below, q))) (λ q. inr (below_on n (Some a) place below q)) h
 
 -- what a peer sends is true of the machine
 true_holds : (m : Machine) (i : ℕ) (part : Part) → part_at m i ≡ part → AckedBelow m i part → (c : Claim)
@@ -269,11 +323,15 @@ true_holds m i part is le (ChangeIs w r n c) h =
 true_holds m i part is le (MayPass w r n) h =
     let same : part_at m w.peer ≡ part = ap (λ (j : ℕ). part_at m j) h.0 ∙ is in
     ⊎_elim (λ d. inl (subst (λ (q : Part). is_dropped (history_of (own_writer q w.number)) n ≡ true) (sym same) d))
-    (λ b.
-    inr
-    (subst (λ (j : ℕ). IsBelow n (place_at m r (at j w.number))) (sym h.0)
-    (below_on n (acknowledged_of (own_writer part w.number).readers r) (place_at m r (at i w.number)) b
-    (le w.number r)))) h.1
+    (λ o.
+    let owes : n < owed_from (own_writer part w.number) r → n < owed_from (writer_at m w) r =
+    λ q. subst (λ (p : Part). n < owed_from (own_writer p w.number) r) (sym same) q in
+    let past : IsBelow n (place_at m r (at i w.number)) → IsBelow n (place_at m r w) =
+    λ q. subst (λ (j : ℕ). IsBelow n (place_at m r (at j w.number))) (sym h.0) q in
+    ⊎_elim (λ q. inr (inl (owes q)))
+    (λ b. ⊎_elim (λ q. inr (inl (owes q))) (λ q. inr (inr (past q)))
+    (covered_past n (acknowledged_of (own_writer part w.number).readers r) (owed_from (own_writer part w.number) r)
+    (place_at m r (at i w.number)) b (le w.number r))) o) h.1
 true_holds m i part is le (PlaceReached w r base) h =
     let same : part_at m r.peer ≡ part =
     ap (λ (j : ℕ). part_at m j) h.0 ∙ is in subst
@@ -333,17 +391,18 @@ above_self : (m : Machine) (i : ℕ) → IsAbove m i (part_at m i)
 above_self m i r w = no_less_same (place_at m (at i r) w)
 
 part_delivery : (config : Config) (m : Machine) (i : ℕ) (packet : List ℕ) (before : Peer) (report : Report) (new : Part)
-    → before.number ≡ i → part_at m i ≡ before.part → AllHold config m (packet ∷ packets_of before.delivered)
+    → before.number ≡ i → part_at m i ≡ before.part → KeepsPolicies config m
+    → AllHold config m (packet ∷ packets_of before.delivered)
     → Receives config (claimed config before.delivered packet before.number) before.number packet before.part report new
     → Receives config (λ k. grounds_of m i) i packet (part_at m i) report new
     × AreMoves (grounds_of m i) (part_at m i) report.moves new
-part_delivery config m i packet before report new is at_i hold h =
+part_delivery config m i packet before report new is at_i keeps hold h =
     let here : Receives config (claimed config before.delivered packet i) i packet (part_at m i) report new =
     subst (λ (q : Part). Receives config (claimed config before.delivered packet i) i packet q report new) (sym at_i)
     (subst (λ (j : ℕ). Receives config (claimed config before.delivered packet j) j packet before.part report new) is h)
     in
     receives-sound config m i (claimed config before.delivered packet i)
-    (λ k. claimed-true config m i before.delivered packet k hold) packet (part_at m i) report new
+    (λ k. claimed-true config m i before.delivered packet k keeps hold) packet (part_at m i) report new
     (above_self m i) here
 
 abbrev EventSteps : Config → Tests → Machine → ℕ → Event → Reply → Peer → Type 0
@@ -352,31 +411,31 @@ EventSteps config tests m i ev reply after =
     × DeliveredHold config m after.delivered
 
 part_step : (config : Config) (tests : Tests) (m : Machine) (i : ℕ) (ev : Event) (before : Peer) (reply : Reply)
-    (after : Peer) → before.number ≡ i → part_at m i ≡ before.part
+    (after : Peer) → before.number ≡ i → part_at m i ≡ before.part → KeepsPolicies config m
     → EventHolds config m ev → DeliveredHold config m before.delivered → EventStep config tests before ev reply after
     → EventSteps config tests m i ev reply after
-part_step config tests m i (event.Call call) before reply after is at_i sent all h = (
+part_step config tests m i (event.Call call) before reply after is at_i keeps sent all h = (
   subst (λ (q : Part). CallStep tests q call reply after.part) (sym at_i) h.0,
   tt,
   subst
       (λ (ds : List Delivery). DeliveredHold config m ds) (sym h.1) all,
 )
-part_step config tests m i (event.Tick now) before reply after is at_i sent all h = (
+part_step config tests m i (event.Tick now) before reply after is at_i keeps sent all h = (
   subst (λ (q : Part). TickStep q now reply after.part) (sym at_i) h.0,
   tt,
   subst
       (λ (ds : List Delivery). DeliveredHold config m ds) (sym h.1) all,
 )
-part_step config tests m i (event.Deliver packet) before (Reported report) after is at_i sent all h =
+part_step config tests m i (event.Deliver packet) before (Reported report) after is at_i keeps sent all h =
     let hold : AllHold config m (packet ∷ packets_of before.delivered) =
     with_packet config m packet (packets_of before.delivered) sent (packets_hold config m before.delivered all) in
-    let r = part_delivery config m i packet before report after.part is at_i hold h.0 in (
+    let r = part_delivery config m i packet before report after.part is at_i keeps hold h.0 in (
       r.1,
       (after.part, r.0),
       subst (λ (ds : List Delivery). DeliveredHold config m ds) (sym h.1)
           (with_delivery config m (record { packet = packet; report = report }) before.delivered sent all),
     )
-part_step config tests m i (event.Deliver packet) before reply after is at_i sent all h = absurd h
+part_step config tests m i (event.Deliver packet) before reply after is at_i keeps sent all h = absurd h
 
 pub parts_at : (ws : WorldState) (i : ℕ) → part_at (machine_of ws) i ≡ (peer_at ws i).part
 parts_at ws i = numbered-map (λ (p : Peer). p.part) ws.peers i no_peer
@@ -414,7 +473,7 @@ happens config tests ws i ev output after posted sound within step is_sent of_pa
     let is_m' : machine_of new ≡ m' = machine_after ws i after posted in
     let is_number : (peer_at ws i).number ≡ i = sound.number i within in
     let s : EventSteps config tests m i ev output.reply after =
-    part_step config tests m i ev (peer_at ws i) output.reply after is_number (parts_at ws i) is_sent
+    part_step config tests m i ev (peer_at ws i) output.reply after is_number (parts_at ws i) sound.policies is_sent
     (λ d c o h. sound.delivered i d c o h) step.step in
     let grows : MachineGrows m m' =
     with_part-grows m i after.part (PartStep-grows tests m i ev output.reply after.part s.0) in
@@ -425,8 +484,9 @@ happens config tests ws i ev output after posted sound within step is_sent of_pa
     let mine : AckedBelow m i after.part =
     PartStep-acked tests m i ev output.reply after.part s.0 (λ w r. sound.acknowledged (at i w) r) in
     let mine' : AckedBelow m' i after.part =
-    λ w r. no_less_on (acknowledged_of (own_writer after.part w).readers r) (place_at m r (at i w))
-    (place_at m' r (at i w)) (mine w r) (grows.places r (at i w)) in
+    λ w r. covered_on (acknowledged_of (own_writer after.part w).readers r) (owed_from (own_writer after.part w) r)
+    (owed_from (own_writer after.part w) r) (place_at m r (at i w)) (place_at m' r (at i w)) (omega arith)
+    (grows.places r (at i w)) (mine w r) in
     let same_length : length new.peers ≡ length ws.peers = length-with_numbered ws.peers i after in
     let own_number : after.number ≡ i = step.same_number ∙ is_number in (
       s.0,
@@ -449,17 +509,27 @@ happens config tests ws i ev output after posted sound within step is_sent of_pa
             (λ e. to_new c (still c (s.2 d c (subst (λ (q : Peer). Contains q.delivered d) e.1 o) h)))
             (numbered-cases ws.peers i after j no_peer);
         acknowledged = λ w r.
-            subst (λ (x : Machine). NoLess (acknowledged_of (writer_at x w).readers r) (place_at x r w)) (sym is_m')
+            subst (λ (x : Machine). Covered (writer_at x w) r (place_at x r w)) (sym is_m')
             (⊎_elim
             (λ e.
-            subst (λ (q : Part). NoLess (acknowledged_of (own_writer q w.number).readers r) (place_at m' r w)) (sym e)
-            (no_less_on (acknowledged_of (writer_at m w).readers r) (place_at m r w) (place_at m' r w)
-            (sound.acknowledged w r) (grows.places r w)))
+            subst (λ (q : Part). Covered (own_writer q w.number) r (place_at m' r w)) (sym e)
+            (covered_on (acknowledged_of (writer_at m w).readers r) (owed_from (writer_at m w) r)
+            (owed_from (writer_at m w) r) (place_at m r w) (place_at m' r w) (omega arith) (grows.places r w)
+            (sound.acknowledged w r)))
             (λ o.
-            subst (λ (q : Part). NoLess (acknowledged_of (own_writer q w.number).readers r) (place_at m' r w)) (sym o.1)
-            (subst (λ (j : ℕ). NoLess (acknowledged_of (own_writer after.part w.number).readers r)
-            (place_at m' r (at j w.number))) (sym o.0) (mine' w.number r)))
+            subst (λ (q : Part). Covered (own_writer q w.number) r (place_at m' r w)) (sym o.1)
+            (subst (λ (j : ℕ). Covered (own_writer after.part w.number) r (place_at m' r (at j w.number))) (sym o.0)
+            (mine' w.number r)))
             (numbered-cases m.parts i after.part w.peer no_part));
+        policies = subst (λ (x : Machine). KeepsPolicies config x) (sym is_m')
+            (λ j k p r here there.
+            ⊎_elim (λ e. ap (λ (q : Part). (own_reader q k).qos.reliability) e ∙ sound.policies j k p r here there)
+            (λ o.
+            ap (λ (q : Part). (own_reader q k).qos.reliability) o.1
+            ∙ (ap (λ (q : ReaderQos). q.reliability) (PartStep-qos tests m i ev output.reply after.part s.0 k)
+            ∙ (ap (λ (n : ℕ). (own_reader (part_at m n) k).qos.reliability) (sym o.0)
+            ∙ sound.policies j k p r here there)))
+            (numbered-cases m.parts i after.part j no_part));
       },
     )
 

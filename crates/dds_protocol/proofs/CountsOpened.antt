@@ -73,7 +73,7 @@ writer_opened peers (x ∷ ws) (suc i) w h = writer_opened peers ws i w h
 abbrev names : List ReaderProxy → List Endpoint
 names rows = map (λ (p : ReaderProxy). p.reader) rows
 
-rows_opened : (peers : List PeerConfig) (own : PeerConfig) (number : ℕ) (w : WriterConfig)
+pub rows_opened : (peers : List PeerConfig) (own : PeerConfig) (number : ℕ) (w : WriterConfig)
     → IsNumbered own.writers number w
     → names (own_writer (opening_part peers own) number).readers
     ≡ of_reliable_readers (λ i p k r. record { peer = i; number = k }) w.topic 1 peers

@@ -40,8 +40,9 @@ true_on peer old new g a (ChangeIs w r n c) h =
 true_on peer old new g a (MayPass w r n) h = (
   h.0,
   ⊎_elim (λ d. inl (dropped-grows (own_writer old w.number) (own_writer new w.number) n (g.writers w.number) d))
-      (λ b. inr (below_on n (acknowledged_of (own_writer old w.number).readers r)
-      (acknowledged_of (own_writer new w.number).readers r) b (a w.number r))) h.1,
+      (λ o. ⊎_elim (λ b. let more = (g.writers w.number).owed r in inr (inl (omega (arith, b, more))))
+      (λ b. inr (inr (below_on n (acknowledged_of (own_writer old w.number).readers r)
+      (acknowledged_of (own_writer new w.number).readers r) b (a w.number r)))) o) h.1,
 )
 true_on peer old new g a (PlaceReached w r base) h = (
   h.0,

@@ -40,7 +40,7 @@ row_here p ps r false is (inl e) = let self = ap (λ (x : Endpoint). same_endpoi
 row_here p ps r false is (inr later) = later
 
 -- a reader that is named has a row
-row_found : (rows : List ReaderProxy) (r : Endpoint) → Contains (map (λ (p : ReaderProxy). p.reader) rows) r
+pub row_found : (rows : List ReaderProxy) (r : Endpoint) → Contains (map (λ (p : ReaderProxy). p.reader) rows) r
     → IsAcknowledged rows r
 row_found [] r among = let lt = among.1 in absurd (omega (arith, lt))
 row_found (p ∷ ps) r among =
@@ -85,7 +85,7 @@ in_ends topic peer n (x ∷ xs) (suc k) r at of reliable =
     (named_later (is_reliable_reader x && same_topic x.topic topic) (name_at peer n) (name_at peer (n + 1 + k))
     (names_in topic peer (n + 1) xs) (in_ends topic peer (n + 1) xs k r at of reliable))
 
-in_peers : (topic n : ℕ) (ps : List PeerConfig) (i : ℕ) (p : PeerConfig) (k : ℕ) (r : ReaderConfig)
+pub in_peers : (topic n : ℕ) (ps : List PeerConfig) (i : ℕ) (p : PeerConfig) (k : ℕ) (r : ReaderConfig)
     → slice_get ps i ≡ Some p → slice_get p.readers k ≡ Some r → r.topic ≡ topic → is_reliable_reader r ≡ true
     → Contains (names topic n ps) (name_at (n + i) (1 + k))
 in_peers topic n [] i p k r at within of reliable = cc

@@ -7,7 +7,7 @@ use Rattle.std.proofs.lemmas.Option.{same_Some}
 use Rattle.dds_base.specs.Kept.{WriterHistory, numbers_from, is_kept, is_dropped, first_kept}
 use Rattle.rtps_writer.proofs.AnswerFacts.{unkept-is-dropped}
 use Rattle.dds_machine.specs.declared.endpoint.Endpoint.{Endpoint}
-use Rattle.dds_machine.specs.Part.{ReaderProxy, Writer, same_endpoint, row_of, acknowledged_of, writer_changes, history_of, IsBelow}
+use Rattle.dds_machine.specs.Part.{ReaderProxy, Writer, same_endpoint, row_of, acknowledged_of, owed_from, writer_changes, history_of, IsBelow}
 use Rattle.dds_protocol.proofs.Framing.{number_or_not}
 
 -- the acknowledgements of these rows
@@ -76,9 +76,10 @@ below_first w n low h =
     (subst (λ (m : ℕ). n < unwrap_or (find (λ k. is_kept w k) (numbers_from 1 (length w.changes))) m) count h) in
     let most = found.1 in (found.0, omega (arith, most))
 
--- the reader may pass over the number: it is dropped, or this reader has acknowledged it
+-- the reader may pass over the number: it is dropped, or not owed to this reader, or this one has acknowledged it
 abbrev pub Passes : Writer → Endpoint → ℕ → Type 0
-Passes w r n = (is_dropped (history_of w) n ≡ true) ⊎ IsBelow n (acknowledged_of w.readers r)
+Passes w r n =
+    (is_dropped (history_of w) n ≡ true) ⊎ (n < owed_from w r) ⊎ IsBelow n (acknowledged_of w.readers r)
 
 -- a matched reader may pass over the numbers below the first kept one
 pub below_first_passes : (w : Writer) (r : Endpoint) (a n : ℕ) → acknowledged_of w.readers r ≡ Some a → 1 ≤ n
@@ -86,7 +87,8 @@ pub below_first_passes : (w : Writer) (r : Endpoint) (a n : ℕ) → acknowledge
 below_first_passes w r a n is low h = by (nat_lt n a) refl
   where
     by : (b : Bool) → nat_lt n a ≡ b → Passes w r n
-    by true e = let less : n < a = grind (arith, nat_tests) in inr (subst (λ (o : Option ℕ). IsBelow n o) (sym is) less)
+    by true e = let less : n < a = grind (arith, nat_tests) in
+        inr (inr (subst (λ (o : Option ℕ). IsBelow n o) (sym is) less))
     by false e =
         let most : a ≤ n = grind (arith, nat_tests) in
         let below = below_first (history_of w) n low h in

@@ -19,7 +19,7 @@ use Rattle.dds_machine.specs.declared.reply.Move.TheVariants.{Place, Acknowledge
 use Rattle.dds_machine.specs.declared.reply.Reply.{Reply}
 use Rattle.dds_machine.specs.declared.reply.Reply.TheVariants.{Done, Refused, Reported}
 use Rattle.dds_machine.specs.Numbered.{numbered, with_numbered}
-use Rattle.dds_machine.specs.Part.{WriterProxy, Writer, Rtps, Part, no_writer, no_part, own_writer, own_proxies, place_of, with_place, with_heard, with_acknowledged, writer_changes, history_of, has_readers, is_behind, is_assertion, NoLess}
+use Rattle.dds_machine.specs.Part.{WriterProxy, Writer, Rtps, Part, no_writer, no_part, own_writer, own_proxies, place_of, with_place, with_heard, with_acknowledged, writer_changes, history_of, has_readers, is_behind, is_assertion, owed_from, NoLess}
 use Rattle.dds_machine.specs.Moves.{Grounds, IsMove, AreMoves, DeliveryStep}
 use Rattle.dds_machine.specs.Ticks.{ticked, reader_ticked, TickStep}
 use Rattle.dds_machine.specs.Calls.{Effect, nothing, writes, effect, effect_of, with_written, CallStep}
@@ -27,6 +27,7 @@ use Rattle.dds_machine.specs.Watching.{Tests}
 use Rattle.dds_protocol.specs.Claims.{Claim, ChangeIs, MayPass, PlaceReached, Asserts}
 use Rattle.dds_machine.specs.Machine.{Machine, part_at, writer_at, place_at}
 use Rattle.dds_protocol.specs.World.{Holds}
+use Rattle.dds_protocol.proofs.Owing.{changes-more, no_fewer, owed_same, owed_acknowledged}
 use Rattle.dds_machine.proofs.Tables.{numbered-cases, numbered-map-cases, append_nothing, slice_get-append, place-cases, place-heard, no_less_same, no_less_on, at_most_on, below_on}
 
 pub record WriterGrows (old new : Writer) : Type 0 where
@@ -34,6 +35,7 @@ pub record WriterGrows (old new : Writer) : Type 0 where
   pub matched : new.matched ≡ old.matched
   pub more : List Written
   pub written : new.written ≡ more ++ old.written
+  pub owed : (r : Endpoint) → owed_from old r ≤ owed_from new r
 
 pub record Grows (old new : Rtps) : Type 0 where
   pub writers : (w : ℕ) → WriterGrows (numbered old.writers w no_writer) (numbered new.writers w no_writer)
@@ -41,7 +43,7 @@ pub record Grows (old new : Rtps) : Type 0 where
       → NoLess (place_of (numbered old.readers r []) w) (place_of (numbered new.readers r []) w)
 
 pub writer_same : (w : Writer) → WriterGrows w w
-writer_same w = record { policy = refl; matched = refl; more = []; written = refl }
+writer_same w = record { policy = refl; matched = refl; more = []; written = refl; owed = λ r. omega arith }
 
 pub writer_on : (a b c : Writer) → WriterGrows a b → WriterGrows b c → WriterGrows a c
 writer_on a b c f g = record {
@@ -50,6 +52,7 @@ writer_on a b c f g = record {
   more = g.more ++ f.more;
   written =
       g.written ∙ (ap (λ (xs : List Written). g.more ++ xs) f.written ∙ sym (append_assoc g.more f.more a.written));
+  owed = λ r. let first = f.owed r in let second = g.owed r in omega (arith, first, second);
 }
 
 pub grows_same : (r : Rtps) → Grows r r
@@ -132,6 +135,7 @@ IsMove-grows g old (Acknowledged w r to) new h =
       matched = refl;
       more = [];
       written = refl;
+      owed = λ v. owed_acknowledged before r to v;
     }))
 IsMove-grows g old (Heard w r) new h =
     subst (λ (q : Part). Grows old.rtps q.rtps) (sym h.after)
@@ -150,11 +154,20 @@ DeliveryStep-grows g old (Reported report) new h = AreMoves-grows g old report.m
 DeliveryStep-grows g old reply new h = absurd h
 
 -- what a call does: lists grow by one entry, and no acknowledgement changes
+pub entered-grows : (w : Writer) (entry : Written) → WriterGrows w (with_written w entry)
+entered-grows w entry = record {
+  policy = refl;
+  matched = refl;
+  more = entry ∷ [];
+  written = refl;
+  owed = λ r. owed_same w (with_written w entry) refl (no_fewer entry w.written) r;
+}
+
 pub effect-grows : (old : Rtps) (e : Effect) → Grows old (effect old e)
 effect-grows old nothing = grows_same old
 effect-grows old (writes w entry) =
     set_writer-grows old w (with_written (numbered old.writers w no_writer) entry)
-    (record { policy = refl; matched = refl; more = entry ∷ []; written = refl })
+    (entered-grows (numbered old.writers w no_writer) entry)
 
 readers_set : (writers : List Writer) (w : ℕ) (after : Writer) → after.readers ≡ (numbered writers w no_writer).readers
     → (k : ℕ) → (numbered (with_numbered writers w after) k no_writer).readers ≡ (numbered writers k no_writer).readers
@@ -184,7 +197,7 @@ CallStep-readers tests old call reply new h k =
 -- what a tick does: each writer's list grows by one entry, and readers, places and acknowledgements stay
 
 ticked-grows : (now : ℕ) (w : Writer) → WriterGrows w (ticked now w)
-ticked-grows now w = record { policy = refl; matched = refl; more = Ticked now (is_behind w) ∷ []; written = refl }
+ticked-grows now w = entered-grows w (Ticked now (is_behind w))
 
 all_ticked-grows : (now : ℕ) (old : Rtps) → Grows old (record old { writers = map (ticked now) old.writers })
 all_ticked-grows now old = record {
@@ -234,21 +247,6 @@ TickStep-acknowledged old now (Refused code) new h k = ap (λ (p : Part). (own_w
 TickStep-acknowledged old now reply new h k = absurd h
 
 -- changes grow at their end
-
-pub changes-more : (more written : List Written) → (later : List Change)
-    × (changes_of (more ++ written) ≡ changes_of written ++ later)
-changes-more [] written = ([], sym (append_nothing (changes_of written)))
-changes-more (Registered key ∷ more) written = changes-more more written
-changes-more (Asserted moment ∷ more) written = changes-more more written
-changes-more (LookedAt ∷ more) written = changes-more more written
-changes-more (StrengthSet strength ∷ more) written = changes-more more written
-changes-more (Ticked now behind ∷ more) written = changes-more more written
-changes-more (Changed change ∷ more) written =
-    let r = changes-more more written in (
-      r.0 ++ change ∷ [],
-      ap (λ (cs : List Change). cs ++ change ∷ []) r.1
-          ∙ append_assoc (changes_of written) r.0 (change ∷ []),
-    )
 
 pub writer-changes : (old new : Writer) → WriterGrows old new
     → (later : List Change) × (writer_changes new ≡ writer_changes old ++ later)
@@ -379,6 +377,7 @@ Holds-grows old new g (ChangeIs w r n c) h =
     ∙ change_at-append (writer_changes (writer_at old w)) later.0 n c h
 Holds-grows old new g (MayPass w r n) h =
     ⊎_elim (λ d. inl (dropped-grows (writer_at old w) (writer_at new w) n (g.writers w) d))
-    (λ b. inr (below_on n (place_at old r w) (place_at new r w) b (g.places r w))) h
+    (λ o. ⊎_elim (λ b. let more = (g.writers w).owed r in inr (inl (omega (arith, b, more))))
+    (λ b. inr (inr (below_on n (place_at old r w) (place_at new r w) b (g.places r w)))) o) h
 Holds-grows old new g (PlaceReached w r base) h = at_most_on base (place_at old r w) (place_at new r w) h (g.places r w)
 Holds-grows old new g (Asserts w r count) h = assertion-grows (writer_at old w) (writer_at new w) count (g.writers w) h

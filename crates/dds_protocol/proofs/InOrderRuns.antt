@@ -40,8 +40,11 @@ use Rattle.dds_protocol.specs.Opening.{opening_peers, opening_world}
 use Rattle.dds_protocol.specs.Peer.{Peer}
 use Rattle.dds_machine.proofs.Tables.{numbered-cases, numbered-map-cases, numbered-same, length-with_numbered, place-cases, place-hits, place-heard, same_is}
 use Rattle.dds_protocol.proofs.Growth.{CallStep-grows, TickStep-rows, TickStep-readers, TickStep-grows, DeliveryStep-grows, MachineGrows, with_part-grows, writer-changes}
-use Rattle.dds_protocol.proofs.Policies.{IsReliableAt, still_reliable, delivery_qos}
+use Rattle.dds_protocol.proofs.Policies.{IsReliableAt, still_reliable, Step-qos}
 use Rattle.dds_protocol.proofs.CallChanges.{CallChange, unchanged, reads, takes, looks, watches, changes_of}
+use Rattle.dds_protocol.specs.Closed.{IsClosed, closed_grounds_of}
+use Rattle.dds_protocol.proofs.Closed.{opens_closed, stays_closed}
+use Rattle.dds_protocol.proofs.ClosedSteps.{delivery_closed}
 use Rattle.dds_protocol.proofs.RunLaws.{keeps_all, Step-policy}
 use Rattle.dds_machine.specs.Noticing.{machine_ended}
 use Rattle.dds_protocol.proofs.EndsBeside.{ended_alike, ended_policy, ended_writer}
@@ -249,38 +252,30 @@ lane_delivery changes g old w r reply new f reliable l h = absurd h
 
 -- a call
 
--- the same changes came at the reader of this number, which has the same policies, and there are as many readers
+-- the same changes came at the reader of this number, and there are as many readers
 abbrev pub SameCame : Dds → Dds → ℕ → Type 0
 SameCame old new r =
     (length new.readers ≡ length old.readers)
     × ((p : ℕ) → came_from p (numbered new.readers r no_reader).happened
     ≡ came_from p (numbered old.readers r no_reader).happened)
-    × ((numbered new.readers r no_reader).qos ≡ (numbered old.readers r no_reader).qos)
 
 same_came : (old new : Dds) (r : ℕ) → new ≡ old → SameCame old new r
 same_came old new r e = (
   ap (λ (d : Dds). length d.readers) e,
   λ p. ap (λ (d : Dds). came_from p (numbered d.readers r no_reader).happened) e,
-  ap (λ (d : Dds). (numbered d.readers r no_reader).qos) e,
 )
 
--- the reader of number k has changed, but the same changes came at it, and it has the same policies
+-- the reader of number k has changed, but the same changes came at it
 changed_reader : (old : Part) (new : Dds) (k : ℕ) (reader : Reader) (r : ℕ)
     → ((p : ℕ) → came_from p reader.happened ≡ came_from p (own_reader old k).happened)
-    → reader.qos ≡ (own_reader old k).qos
     → new ≡ record old.dds { readers = with_numbered old.dds.readers k reader } → SameCame old.dds new r
-changed_reader old new k reader r same policies e = (
+changed_reader old new k reader r same e = (
   ap (λ (d : Dds). length d.readers) e ∙ length-with_numbered old.dds.readers k reader,
   λ p.
       ap (λ (d : Dds). came_from p (numbered d.readers r no_reader).happened) e
       ∙ ⊎_elim (λ s. ap (λ (x : Reader). came_from p x.happened) s)
       (λ o. ap (λ (x : Reader). came_from p x.happened) o.1
       ∙ (same p ∙ ap (λ (j : ℕ). came_from p (own_reader old j).happened) (sym o.0)))
-      (numbered-cases old.dds.readers k reader r no_reader),
-  ap (λ (d : Dds). (numbered d.readers r no_reader).qos) e
-      ∙ ⊎_elim (λ s. ap (λ (x : Reader). x.qos) s)
-      (λ o. ap (λ (x : Reader). x.qos) o.1
-      ∙ (policies ∙ ap (λ (j : ℕ). (own_reader old j).qos) (sym o.0)))
       (numbered-cases old.dds.readers k reader r no_reader),
 )
 
@@ -289,16 +284,15 @@ call_came : (old : Part) (new : Dds) (r : ℕ) → CallChange old new → SameCa
 call_came old new r (unchanged is) = same_came old.dds new r is
 call_came old new r (reads k samples is) =
     changed_reader old new k (record (own_reader old k) { happened = HasRead samples ∷ (own_reader old k).happened }) r
-    (λ p. refl) refl is
+    (λ p. refl) is
 call_came old new r (takes k samples is) =
     changed_reader old new k (record (own_reader old k) { happened = Took samples ∷ (own_reader old k).happened }) r
-    (λ p. refl) refl is
+    (λ p. refl) is
 call_came old new r (looks k seen is) =
-    changed_reader old new k (record (own_reader old k) { seen = seen }) r (λ p. refl) refl is
+    changed_reader old new k (record (own_reader old k) { seen = seen }) r (λ p. refl) is
 call_came old new r (watches after filters sets is) = (
   ap (λ (d : Dds). length d.readers) is,
   λ p. ap (λ (d : Dds). came_from p (numbered d.readers r no_reader).happened) is,
-  ap (λ (d : Dds). (numbered d.readers r no_reader).qos) is,
 )
 
 answers_came : (tests : Tests) (old : Part) (c : Call) (reply : Reply) (new : Dds) (r : ℕ)
@@ -345,19 +339,6 @@ ticked_came now rs r p =
     (λ n. ap (λ (x : Reader). came_from p x.happened) (n.0 ∙ sym n.1))
     (numbered-map-cases (reader_ticked now) rs r no_reader)
 
-ticked_qos : (now : ℕ) (rs : List Reader) (r : ℕ)
-    → (numbered (map (reader_ticked now) rs) r no_reader).qos ≡ (numbered rs r no_reader).qos
-ticked_qos now rs r =
-    ⊎_elim (λ e. ap (λ (x : Reader). x.qos) e) (λ n. ap (λ (x : Reader). x.qos) (n.0 ∙ sym n.1))
-    (numbered-map-cases (reader_ticked now) rs r no_reader)
-
-tick_qos : (old : Part) (now : ℕ) (reply : Reply) (new : Part) → TickStep old now reply new → (r : ℕ)
-    → (own_reader new r).qos ≡ (own_reader old r).qos
-tick_qos old now Done new h r =
-    ap (λ (x : Part). (own_reader x r).qos) h.1 ∙ ticked_qos now old.dds.readers r
-tick_qos old now (Refused code) new h r = ap (λ (x : Part). (own_reader x r).qos) h.1
-tick_qos old now reply new h r = absurd h
-
 tick_came : (old : Part) (now : ℕ) (reply : Reply) (new : Part) → TickStep old now reply new → (r p : ℕ)
     → came_from p (own_reader new r).happened ≡ came_from p (own_reader old r).happened
 tick_came old now Done new h r p =
@@ -401,38 +382,8 @@ record InOrder (m : Machine) (w r : Endpoint) : Type 0 where
   lane : Lane (writer_changes (writer_at m w)) (part_at m r.peer) w r.number
 
 rests_on : (m : Machine) (peer : ℕ) (w : Endpoint) (r : ℕ) → (writer_at m w).policy ≡ KeepAll
-    → RestsOn (writer_changes (writer_at m w)) (as_to (grounds_of m peer) w r)
+    → RestsOn (writer_changes (writer_at m w)) (as_to (closed_grounds_of m peer) w r)
 rests_on m peer w r all = (λ n c h. h, λ n h. keeps_all (writer_at m w).policy m w n refl all h)
-
--- the policies of a reader stay
-reader_qos_at : (m : Machine) (peer : ℕ) (after : Part) (new : Machine) (r : Endpoint)
-    → new ≡ record { parts = with_numbered m.parts peer after }
-    → ((k : ℕ) → (own_reader after k).qos ≡ (own_reader (part_at m peer) k).qos)
-    → (own_reader (part_at new r.peer) r.number).qos ≡ (own_reader (part_at m r.peer) r.number).qos
-reader_qos_at m peer after new r changed same =
-    ap (λ (x : Machine). (own_reader (part_at x r.peer) r.number).qos) changed
-    ∙ ⊎_elim (λ s. ap (λ (x : Part). (own_reader x r.number).qos) s)
-    (λ o. ap (λ (x : Part). (own_reader x r.number).qos) o.1
-    ∙ (same r.number ∙ ap (λ (j : ℕ). (own_reader (part_at m j) r.number).qos) (sym o.0)))
-    (numbered-cases m.parts peer after r.peer no_part)
-
-pub Step-qos : (tests : AllTests) (sent : ℕ) (m : Machine) (ev : WorldEvent) (reply : Reply) (new : Machine)
-    (r : Endpoint) → Step tests sent m ev reply new
-    → (own_reader (part_at new r.peer) r.number).qos ≡ (own_reader (part_at m r.peer) r.number).qos
-Step-qos tests sent m (world.Call peer c) reply new r (inl h) =
-    reader_qos_at m peer h.after new r h.changed
-    (λ k. (answers_came (tests peer) (part_at m peer) c reply h.after.dds k h.step.answers).2)
-Step-qos tests sent m (world.Call peer c) reply new r (inr h) =
-    ap (λ (x : Machine). (own_reader (part_at x r.peer) r.number).qos) h.1.1
-Step-qos tests sent m (world.Tick peer now) reply new r (inl h) =
-    reader_qos_at m peer h.after new r h.changed (tick_qos (part_at m peer) now reply h.after h.step)
-Step-qos tests sent m (world.Tick peer now) reply new r (inr h) =
-    ap (λ (x : Machine). (own_reader (part_at x r.peer) r.number).qos) h.1.1
-Step-qos tests sent m (world.Deliver peer packet) reply new r (inl h) =
-    reader_qos_at m peer h.2.after new r h.2.changed
-    (λ k. delivery_qos (grounds_of m peer) (part_at m peer) reply h.2.after k h.2.step)
-Step-qos tests sent m (world.Deliver peer packet) reply new r (inr h) =
-    ap (λ (x : Machine). (own_reader (part_at x r.peer) r.number).qos) h.1.1
 
 -- one part has changed
 at_peer : (m : Machine) (peer : ℕ) (after : Part) (new : Machine) (w r : Endpoint)
@@ -463,32 +414,34 @@ at_peer m peer after new w r changed grows policy qos f o =
     }
 
 step_in_order : (tests : AllTests) (sent : ℕ) (m : Machine) (ev : WorldEvent) (reply : Reply) (new : Machine)
-    (w r : Endpoint) → Step tests sent m ev reply new → InOrder m w r → InOrder new w r
-step_in_order tests sent m (world.Call peer c) reply new w r (inl h) o =
+    (w r : Endpoint) → IsClosed m → Step tests sent m ev reply new → InOrder m w r → InOrder new w r
+step_in_order tests sent m (world.Call peer c) reply new w r closed (inl h) o =
     at_peer m peer h.after new w r h.changed
     (with_part-grows m peer h.after (CallStep-grows (tests peer) (part_at m peer) c reply h.after h.step))
     (Step-policy w tests sent m (world.Call peer c) reply new (inl h))
     (Step-qos tests sent m (world.Call peer c) reply new r (inl h))
     (λ k reliable l. lane_call (writer_changes (writer_at m w)) (tests peer) (part_at m peer) w k c reply h.after l h.step) o
-step_in_order tests sent m (world.Call peer c) reply new w r (inr h) o =
+step_in_order tests sent m (world.Call peer c) reply new w r closed (inr h) o =
     subst (λ (x : Machine). InOrder x w r) (sym h.1.1) o
-step_in_order tests sent m (world.Tick peer now) reply new w r (inl h) o =
+step_in_order tests sent m (world.Tick peer now) reply new w r closed (inl h) o =
     at_peer m peer h.after new w r h.changed
     (with_part-grows m peer h.after (TickStep-grows (part_at m peer) now reply h.after h.step))
     (Step-policy w tests sent m (world.Tick peer now) reply new (inl h))
     (Step-qos tests sent m (world.Tick peer now) reply new r (inl h))
     (λ k reliable l. lane_tick (writer_changes (writer_at m w)) (part_at m peer) w k now reply h.after l h.step) o
-step_in_order tests sent m (world.Tick peer now) reply new w r (inr h) o =
+step_in_order tests sent m (world.Tick peer now) reply new w r closed (inr h) o =
     subst (λ (x : Machine). InOrder x w r) (sym h.1.1) o
-step_in_order tests sent m (world.Deliver peer packet) reply new w r (inl h) o =
+step_in_order tests sent m (world.Deliver peer packet) reply new w r closed (inl h) o =
     at_peer m peer h.2.after new w r h.2.changed
     (with_part-grows m peer h.2.after
     (DeliveryStep-grows (grounds_of m peer) (part_at m peer) reply h.2.after h.2.step))
     (Step-policy w tests sent m (world.Deliver peer packet) reply new (inl h))
     (Step-qos tests sent m (world.Deliver peer packet) reply new r (inl h))
-    (λ k reliable l. lane_delivery (writer_changes (writer_at m w)) (grounds_of m peer) (part_at m peer) w k reply h.2.after
-    (rests_on m peer w k o.all) reliable l h.2.step) o
-step_in_order tests sent m (world.Deliver peer packet) reply new w r (inr h) o =
+    (λ k reliable l.
+    lane_delivery (writer_changes (writer_at m w)) (closed_grounds_of m peer) (part_at m peer) w k reply h.2.after
+    (rests_on m peer w k o.all) reliable l
+    (delivery_closed m peer reply h.2.after closed h.2.step)) o
+step_in_order tests sent m (world.Deliver peer packet) reply new w r closed (inr h) o =
     subst (λ (x : Machine). InOrder x w r) (sym h.1.1) o
 
 -- the end of an event
@@ -513,14 +466,15 @@ ended_in_order before e m w r o =
     }
 
 run_in_order : (tests : AllTests) (m after : Machine) (events : List WorldEvent)
-    (replies : List Reply) (sent last : ℕ) (w r : Endpoint) → Run tests sent m events replies last after
+    (replies : List Reply) (sent last : ℕ) (w r : Endpoint) → IsClosed m → Run tests sent m events replies last after
     → InOrder m w r → InOrder after w r
-run_in_order tests m after [] [] sent last w r run o = subst (λ (x : Machine). InOrder x w r) (sym run.0) o
-run_in_order tests m after (e ∷ es) (p ∷ ps) sent last w r run o =
-    run_in_order tests (machine_ended m e run.0) after es ps run.1 last w r run.4
-    (ended_in_order m e run.0 w r (step_in_order tests sent m e p run.0 w r run.2 o))
-run_in_order tests m after [] (p ∷ ps) sent last w r run o = absurd run
-run_in_order tests m after (e ∷ es) [] sent last w r run o = absurd run
+run_in_order tests m after [] [] sent last w r closed run o = subst (λ (x : Machine). InOrder x w r) (sym run.0) o
+run_in_order tests m after (e ∷ es) (p ∷ ps) sent last w r closed run o =
+    run_in_order tests (machine_ended m e run.0) after es ps run.1 last w r
+    (stays_closed tests sent m e p run.0 closed run.2) run.4
+    (ended_in_order m e run.0 w r (step_in_order tests sent m e p run.0 w r closed run.2 o))
+run_in_order tests m after [] (p ∷ ps) sent last w r closed run o = absurd run
+run_in_order tests m after (e ∷ es) [] sent last w r closed run o = absurd run
 
 -- the opening: a reader's place in a writer's list is 1 where they are matched, and nothing has happened
 
@@ -658,7 +612,7 @@ pub changes_come_in_order : (config : Config) (tests : AllTests) (w r : Endpoint
 changes_come_in_order config tests w r events replies last after all reliable placed run =
     let lane = lane_opens config w (writer_changes (writer_at (opening config) w)) r.peer r.number placed in
     let o =
-    run_in_order tests (opening config) after events replies 0 last w r run
+    run_in_order tests (opening config) after events replies 0 last w r (opens_closed config) run
     (record { all = all; reliable = reliable; lane = lane }) in
     let l = o.lane in
     record {

@@ -1,3 +1,4 @@
+pub mod Owing
 pub mod Growth
 pub mod Composed
 pub mod RunLaws
@@ -68,4 +69,7 @@ pub mod SameBeside
 pub mod EndsBeside
 pub mod PairEnded
 pub mod WorkedSent
+pub mod Ends
+pub mod EndsOpened
 pub mod Closed
+pub mod ClosedSteps

@@ -1,20 +1,23 @@
 -- All claims are true at the opening: a matched writer and reader have rows on both sides.
 use Rattle.std.specs.Option.{option_map}
-use Rattle.std.proofs.Common.{◌≡◌, ℕ, Option, Some, None, zero, suc, ◌+◌, ◌<◌, ◌≤◌, ◌==◌, ◌⊎◌, ◌&&◌, Bool, true, false, cond, List, [], ◌∷◌, ◌++◌, refl, subst, ap, sym, ◌∙◌, inl, inr, ⊎_elim, arith, length, get_or, map, eq-eqb, eqb-true, Contains}
+use Rattle.std.proofs.Common.{◌≡◌, ℕ, Option, Some, None, zero, suc, ◌+◌, ◌<◌, ◌≤◌, ◌==◌, ◌⊎◌, ◌&&◌, Bool, true, false, cond, List, [], ◌∷◌, ◌++◌, refl, subst, ap, sym, ◌∙◌, inl, inr, ⊎_elim, arith, length, get_or, map, slice_get, eq-eqb, eqb-true, Contains, ◌-◌}
+use Rattle.std.proofs.lemmas.Option.{same_Some}
 use Rattle.dds_base.specs.declared.config.Config.{Config}
 use Rattle.dds_base.specs.declared.config.PeerConfig.{PeerConfig}
 use Rattle.dds_base.specs.declared.config.WriterConfig.{WriterConfig}
 use Rattle.dds_base.specs.declared.config.ReaderConfig.{ReaderConfig}
 use Rattle.dds_machine.specs.declared.endpoint.Endpoint.{Endpoint}
 use Rattle.dds_machine.specs.Numbered.{numbered, HasNumber}
-use Rattle.dds_machine.specs.Part.{Begun, row_of, NoLess, IsAtMost, same_endpoint, ReaderProxy, WriterProxy, Part, no_part, no_writer, own_writer, own_proxies, acknowledged_of, place_of}
+use Rattle.dds_machine.specs.Part.{Begun, row_of, NoLess, IsAtMost, same_endpoint, ReaderProxy, WriterProxy, Part, Reader, no_part, no_reader, no_writer, own_reader, own_writer, own_proxies, acknowledged_of, owed_from, place_of}
 use Rattle.dds_protocol.specs.Peer.{Peer, Delivery, no_peer}
-use Rattle.dds_machine.specs.Machine.{Machine, part_at, place_at}
+use Rattle.dds_machine.specs.Machine.{Machine, part_at, place_at, writer_at}
 use Rattle.dds_protocol.specs.World.{machine_of, Sound}
 use Rattle.dds_base.specs.Matched.{same_topic, is_reliable_reader}
 use Rattle.dds_base.specs.MatchedAt.{of_readers_in, of_writers_in}
+use Rattle.dds_protocol.proofs.Composed.{KeepsPolicies}
+use Rattle.dds_protocol.proofs.Owing.{covered_below}
 use Rattle.dds_protocol.proofs.Ways.{both_true}
-use Rattle.dds_machine.specs.Opening.{reliable_readers, matched_writers, opening, opening_part, opening_writer}
+use Rattle.dds_machine.specs.Opening.{reliable_readers, matched_writers, opening, opening_part, opening_reader, opening_writer}
 use Rattle.dds_protocol.specs.Opening.{opening_peers, opening_world}
 use Rattle.dds_machine.proofs.Tables.{same_is}
 
@@ -294,7 +297,7 @@ below peers i k r =
     (acknowledged_found h.0 1 peers r))
     (writer_rows peers 1 peers i k)
 
-opening_acknowledged : (peers : List PeerConfig) (peer number : ℕ) (r : Endpoint)
+pub opening_acknowledged : (peers : List PeerConfig) (peer number : ℕ) (r : Endpoint)
     → NoLess (acknowledged_of (own_writer (part_at (opened peers) peer) number).readers r)
     (place_at (opened peers) r (record { peer = peer; number = number }))
 opening_acknowledged peers zero zero r = tt
@@ -314,10 +317,33 @@ opening_numbers peers zero h = absurd (omega (arith, h.0))
 opening_numbers peers (suc i) h =
     let high = h.1 in let e = opening_number peers 1 peers i (omega (arith, high)) in omega (arith, e)
 
+-- the policies of readers are those of the configuration
+
+pub mapped_is : {X Y : Type 0} (f : X → Y) (xs : List X) (n : ℕ) (x : X) (d : Y) → 1 ≤ n → slice_get xs (n - 1) ≡ Some x
+    → numbered (map f xs) n d ≡ f x
+mapped_is f xs zero x d low h = absurd (omega (arith, low))
+mapped_is {X = X} {Y = Y} f xs (suc i) x d low h = get_is xs i (ap (λ (k : ℕ). slice_get xs k) (omega arith) ∙ h)
+  where
+    get_is : (ys : List X) (k : ℕ) → slice_get ys k ≡ Some x → get_or (map f ys) k d ≡ f x
+    get_is [] k h = cc
+    get_is (y ∷ ys) zero h = ap f (same_Some y x h)
+    get_is (y ∷ ys) (suc k) h = get_is ys k h
+
+opening_policies : (config : Config) → KeepsPolicies config (opening config)
+opening_policies config i k p r here there =
+    ap (λ (q : Part). (own_reader q k).qos.reliability)
+    (mapped_is (opening_part config.peers) config.peers i p no_part here.0 here.1)
+    ∙ ap (λ (x : Reader). x.qos.reliability)
+    (mapped_is (opening_reader config.peers) p.readers k r no_reader there.0 there.1)
+
 pub opens_sound : (config : Config) → Sound config (opening_world config)
 opens_sound config = record {
   number = opening_numbers config.peers;
   sent = λ p c d h. absurd (omega (arith, d.1));
   delivered = λ i d c o h. absurd (no_deliveries config.peers i d o);
-  acknowledged = λ w r. opening_acknowledged config.peers w.peer w.number r;
+  acknowledged = λ w r.
+      let m : Machine = machine_of (opening_world config) in
+      covered_below (acknowledged_of (writer_at m w).readers r) (place_at m r w) (owed_from (writer_at m w) r)
+      (opening_acknowledged config.peers w.peer w.number r);
+  policies = subst (λ (m : Machine). KeepsPolicies config m) (sym (opening_is config)) (opening_policies config);
 }

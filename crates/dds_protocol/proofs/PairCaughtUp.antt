@@ -20,7 +20,7 @@ use Rattle.dds_machine.specs.declared.endpoint.Endpoint.{Endpoint}
 use Rattle.dds_protocol.specs.declared.event.Packet.{Packet}
 use Rattle.dds_machine.specs.declared.event.WorldEvent.TheVariants as world
 use Rattle.dds_machine.specs.declared.reply.Reply.TheVariants.{Reported}
-use Rattle.dds_machine.specs.Part.{Writer, own_reader, acknowledged_of, writer_changes, history_of, NoLess, ReaderProxy}
+use Rattle.dds_machine.specs.Part.{Writer, own_reader, acknowledged_of, writer_changes, history_of, ReaderProxy}
 use Rattle.dds_machine.specs.Moves.{match_of, position_at}
 use Rattle.dds_machine.specs.Machine.{AllTests, writer_at}
 use Rattle.dds_protocol.specs.Peer.{Peer, state_of}
@@ -141,17 +141,12 @@ took c =
 abbrev known_to_writer : AskedRound → ℕ
 known_to_writer c = max (took c).takes.acknowledged (asked c).x.missing.base
 
--- it had no more than the reader's place, and has the base of the ACKNACK then
-had_less : (c : AskedRound) → (took c).takes.acknowledged ≤ c.first.place
-had_less c =
+-- where it had no more than the reader's place, it has the base of the ACKNACK then
+had_less : (c : AskedRound) → c.first.acknowledged ≤ c.first.place → (took c).takes.acknowledged ≤ c.first.place
+had_less c no_more =
     let same : (took c).takes.acknowledged ≡ c.first.acknowledged =
     same_Some (took c).takes.acknowledged c.first.acknowledged (sym (took c).takes.matched ∙ row_heard c.first) in
-    let low : NoLess (Some c.first.acknowledged) (Some c.first.place) =
-    subst (λ (o : Option ℕ). NoLess o (Some c.first.place)) c.first.stands.acknowledged_is
-    (subst (λ (o : Option ℕ). NoLess
-    (acknowledged_of (writer_at (machine_of c.first.old) c.first.writer).readers c.first.reader) o)
-    c.first.stands.place_is (c.first.sound.acknowledged c.first.writer c.first.reader)) in
-    omega (arith, same, low)
+    omega (arith, same, no_more)
 
 -- the writer's changes are those of before
 abbrev there_after : AskedRound → Writer
@@ -235,6 +230,7 @@ the_answers c = answers_of (asks c) (heard_writer c.first) (asked_writer c) c.an
 -- a round
 record Round : Type 0 where
   given : AskedRound
+  no_more : given.first.acknowledged ≤ given.first.place
   new : WorldState
   repairs : DeliversAll given.first.config given.first.tests
       (noted_ask given) given.first.reader.peer given.answers.step.packets new
@@ -296,9 +292,9 @@ window c = record {
   takes = takes_all c;
 }
 
-low : (c : AskedRound) → known_to_writer c ≤ (asked c).x.base
-low c =
-    let had = had_less c in
+low : (c : AskedRound) → c.first.acknowledged ≤ c.first.place → known_to_writer c ≤ (asked c).x.base
+low c no_more =
+    let had = had_less c no_more in
     let on = forward c.first in
     let base = (tells c).base in
     let set = (tells c).set_base in
@@ -311,7 +307,7 @@ unfolding window
 caught c =
     (window_catches_up (match c.given.first) (the_last c.given.first) (known_to_writer c.given)
     (standing_of (ticked_reader c.given.first) c.given.first.writer c.given.first.reader.number)
-    (standing_of (new_reader c) c.given.first.writer c.given.first.reader.number) (window c) (low c.given)).0
+    (standing_of (new_reader c) c.given.first.writer c.given.first.reader.number) (window c) (low c.given c.no_more)).0
 
 -- ---- what holds after the round
 
@@ -404,14 +400,16 @@ the_asked config tests writer reader place acknowledged old after checked sound 
 pub pair_catches_up : (config : Config) (tests : AllTests) (writer reader : Endpoint) (place acknowledged : ℕ)
     (old new : WorldState) → check_refusal config.peers ≡ None → Sound config old → HasUsedCounts config old
     → IsBounded (machine_of old) → IsPair config writer reader → StandsAt old writer reader place acknowledged
-    → IsRepairRound config tests writer reader old new
+    → acknowledged ≤ place → IsRepairRound config tests writer reader old new
     → HasCaughtUp new writer reader place (length (writer_changes (writer_at (machine_of old) writer)))
 unfolding the_asked
-pair_catches_up config tests writer reader place acknowledged old new checked sound used bounded pair stands round =
+pair_catches_up config tests writer reader place acknowledged old new checked sound used bounded pair stands no_more
+    round =
     round_catches_up (record {
       given =
           the_asked config tests writer reader place acknowledged old round.asked checked sound used bounded pair stands
           round.asks;
+      no_more = no_more;
       new = new;
       repairs = round.repairs;
     })

@@ -1,16 +1,26 @@
 -- What a delivery does changes no reader's policies.
-use Rattle.std.proofs.Common.{◌≡◌, ℕ, true, List, [], ◌∷◌, ap, sym, ◌∙◌, ⊎_elim}
+use Rattle.std.proofs.Common.{◌≡◌, ℕ, true, List, [], ◌∷◌, map, refl, ap, sym, ◌∙◌, inl, inr, ⊎_elim}
 use Rattle.dds_base.specs.declared.happening.Happening.{Happening}
-use Rattle.dds_base.specs.declared.happening.Happening.TheVariants.{Heard as WasHeard}
+use Rattle.dds_base.specs.declared.happening.Happening.TheVariants.{Read as HasRead, Took, Heard as WasHeard}
 use Rattle.dds_base.specs.declared.qos.ReaderQos.{ReaderQos}
 use Rattle.dds_base.specs.Matched.{is_reliable}
+use Rattle.dds_machine.specs.declared.call.Call.{Call}
+use Rattle.dds_machine.specs.declared.endpoint.Endpoint.{Endpoint}
+use Rattle.dds_machine.specs.declared.event.WorldEvent.{WorldEvent}
+use Rattle.dds_machine.specs.declared.event.WorldEvent.TheVariants as world
 use Rattle.dds_machine.specs.declared.reply.Move.{Move}
 use Rattle.dds_machine.specs.declared.reply.Move.TheVariants.{Place, Acknowledged, Heard}
 use Rattle.dds_machine.specs.declared.reply.Reply.{Reply}
-use Rattle.dds_machine.specs.declared.reply.Reply.TheVariants.{Reported}
-use Rattle.dds_machine.specs.Part.{WriterProxy, Reader, Part, no_reader, own_proxies, own_reader, at_reader, with_place, with_heard}
+use Rattle.dds_machine.specs.declared.reply.Reply.TheVariants.{Done, Refused, Reported}
+use Rattle.dds_machine.specs.Calls.{CallStep}
+use Rattle.dds_machine.specs.Machine.{Machine, AllTests, part_at, grounds_of, Step}
+use Rattle.dds_machine.specs.Numbered.{numbered, with_numbered}
+use Rattle.dds_machine.specs.Part.{WriterProxy, Reader, Dds, Part, no_reader, no_part, own_proxies, own_reader, at_reader, with_place, with_heard}
 use Rattle.dds_machine.specs.Moves.{Grounds, IsMove, AreMoves, DeliveryStep}
-use Rattle.dds_machine.proofs.Tables.{numbered-cases}
+use Rattle.dds_machine.specs.Ticks.{TickStep, reader_ticked}
+use Rattle.dds_machine.specs.Watching.{Tests}
+use Rattle.dds_machine.proofs.Tables.{numbered-cases, numbered-map-cases}
+use Rattle.dds_protocol.proofs.CallChanges.{CallChange, unchanged, reads, takes, looks, watches, changes_of}
 
 -- the peer's reader of this number is a reliable one
 abbrev pub IsReliableAt : Part → ℕ → Type 0
@@ -46,3 +56,77 @@ pub delivery_qos : (g : Grounds) (old : Part) (reply : Reply) (new : Part) (r : 
     → (own_reader new r).qos ≡ (own_reader old r).qos
 delivery_qos g old (Reported report) new r h = moves_qos g old report.moves new r h
 delivery_qos g old reply new r h = absurd h
+
+-- ---- calls
+
+-- the reader of number k has changed, and has the same policies
+changed_qos : (old : Part) (new : Dds) (k : ℕ) (reader : Reader) (r : ℕ) → reader.qos ≡ (own_reader old k).qos
+    → new ≡ record old.dds { readers = with_numbered old.dds.readers k reader }
+    → (numbered new.readers r no_reader).qos ≡ (own_reader old r).qos
+changed_qos old new k reader r same e =
+    ap (λ (d : Dds). (numbered d.readers r no_reader).qos) e
+    ∙ ⊎_elim (λ s. ap (λ (x : Reader). x.qos) s)
+    (λ o. ap (λ (x : Reader). x.qos) o.1 ∙ (same ∙ ap (λ (j : ℕ). (own_reader old j).qos) (sym o.0)))
+    (numbered-cases old.dds.readers k reader r no_reader)
+
+change_qos : (old : Part) (new : Dds) (r : ℕ) → CallChange old new
+    → (numbered new.readers r no_reader).qos ≡ (own_reader old r).qos
+change_qos old new r (unchanged is) = ap (λ (d : Dds). (numbered d.readers r no_reader).qos) is
+change_qos old new r (reads k samples is) =
+    changed_qos old new k (record (own_reader old k) { happened = HasRead samples ∷ (own_reader old k).happened }) r refl is
+change_qos old new r (takes k samples is) =
+    changed_qos old new k (record (own_reader old k) { happened = Took samples ∷ (own_reader old k).happened }) r refl is
+change_qos old new r (looks k seen is) =
+    changed_qos old new k (record (own_reader old k) { seen = seen }) r refl is
+change_qos old new r (watches after filters sets is) = ap (λ (d : Dds). (numbered d.readers r no_reader).qos) is
+
+pub call_qos : (tests : Tests) (old : Part) (c : Call) (reply : Reply) (new : Part) → CallStep tests old c reply new
+    → (r : ℕ) → (own_reader new r).qos ≡ (own_reader old r).qos
+call_qos tests old c reply new h r = change_qos old new.dds r (changes_of tests old c reply new.dds h.answers)
+
+-- ---- ticks
+
+ticked_qos : (now : ℕ) (rs : List Reader) (r : ℕ)
+    → (numbered (map (reader_ticked now) rs) r no_reader).qos ≡ (numbered rs r no_reader).qos
+ticked_qos now rs r =
+    ⊎_elim (λ e. ap (λ (x : Reader). x.qos) e) (λ n. ap (λ (x : Reader). x.qos) (n.0 ∙ sym n.1))
+    (numbered-map-cases (reader_ticked now) rs r no_reader)
+
+pub tick_qos : (old : Part) (now : ℕ) (reply : Reply) (new : Part) → TickStep old now reply new → (r : ℕ)
+    → (own_reader new r).qos ≡ (own_reader old r).qos
+tick_qos old now Done new h r =
+    ap (λ (x : Part). (own_reader x r).qos) h.1 ∙ ticked_qos now old.dds.readers r
+tick_qos old now (Refused code) new h r = ap (λ (x : Part). (own_reader x r).qos) h.1
+tick_qos old now reply new h r = absurd h
+
+-- ---- the machine
+
+-- the policies of a reader stay
+reader_qos_at : (m : Machine) (peer : ℕ) (after : Part) (new : Machine) (r : Endpoint)
+    → new ≡ record { parts = with_numbered m.parts peer after }
+    → ((k : ℕ) → (own_reader after k).qos ≡ (own_reader (part_at m peer) k).qos)
+    → (own_reader (part_at new r.peer) r.number).qos ≡ (own_reader (part_at m r.peer) r.number).qos
+reader_qos_at m peer after new r changed same =
+    ap (λ (x : Machine). (own_reader (part_at x r.peer) r.number).qos) changed
+    ∙ ⊎_elim (λ s. ap (λ (x : Part). (own_reader x r.number).qos) s)
+    (λ o. ap (λ (x : Part). (own_reader x r.number).qos) o.1
+    ∙ (same r.number ∙ ap (λ (j : ℕ). (own_reader (part_at m j) r.number).qos) (sym o.0)))
+    (numbered-cases m.parts peer after r.peer no_part)
+
+pub Step-qos : (tests : AllTests) (sent : ℕ) (m : Machine) (ev : WorldEvent) (reply : Reply) (new : Machine)
+    (r : Endpoint) → Step tests sent m ev reply new
+    → (own_reader (part_at new r.peer) r.number).qos ≡ (own_reader (part_at m r.peer) r.number).qos
+Step-qos tests sent m (world.Call peer c) reply new r (inl h) =
+    reader_qos_at m peer h.after new r h.changed
+    (call_qos (tests peer) (part_at m peer) c reply h.after h.step)
+Step-qos tests sent m (world.Call peer c) reply new r (inr h) =
+    ap (λ (x : Machine). (own_reader (part_at x r.peer) r.number).qos) h.1.1
+Step-qos tests sent m (world.Tick peer now) reply new r (inl h) =
+    reader_qos_at m peer h.after new r h.changed (tick_qos (part_at m peer) now reply h.after h.step)
+Step-qos tests sent m (world.Tick peer now) reply new r (inr h) =
+    ap (λ (x : Machine). (own_reader (part_at x r.peer) r.number).qos) h.1.1
+Step-qos tests sent m (world.Deliver peer packet) reply new r (inl h) =
+    reader_qos_at m peer h.2.after new r h.2.changed
+    (λ k. delivery_qos (grounds_of m peer) (part_at m peer) reply h.2.after k h.2.step)
+Step-qos tests sent m (world.Deliver peer packet) reply new r (inr h) =
+    ap (λ (x : Machine). (own_reader (part_at x r.peer) r.number).qos) h.1.1

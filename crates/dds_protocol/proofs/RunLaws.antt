@@ -1,4 +1,5 @@
--- Runs of peers are runs of the machine; what a writer that keeps all has dropped, and that its policy stays.
+-- Runs of peers are runs of the machine; what a writer that keeps all has dropped, and that its policy stays; that lists
+-- and places grow, and what is owed never goes back.
 use Rattle.std.proofs.Common.{◌≡◌, ℕ, true, false, List, [], ◌∷◌, length, subst, ap, sym, ◌∙◌, inl, inr, arith, ◌≤◌, length-append}
 use Rattle.dds_base.specs.declared.config.Config.{Config}
 use Rattle.dds_base.specs.declared.qos.HistoryQos.{HistoryQos}
@@ -8,15 +9,17 @@ use Rattle.dds_machine.specs.declared.endpoint.Endpoint.{Endpoint}
 use Rattle.dds_machine.specs.declared.event.WorldEvent.{WorldEvent}
 use Rattle.dds_machine.specs.declared.event.WorldEvent.TheVariants as world
 use Rattle.dds_machine.specs.declared.reply.Reply.{Reply}
-use Rattle.dds_machine.specs.Part.{writer_changes, history_of}
-use Rattle.dds_machine.specs.Machine.{Machine, AllTests, part_at, writer_at, grounds_of, Step}
+use Rattle.dds_machine.specs.Part.{owed_from, writer_changes, history_of}
+use Rattle.dds_machine.specs.Machine.{Machine, AllTests, part_at, place_at, writer_at, grounds_of, Step}
+use Rattle.dds_machine.specs.Noticing.{machine_ended}
 use Rattle.dds_protocol.specs.World.{WorldState, WorldStep, machine_of, Sound}
 use Rattle.dds_machine.specs.Runs.{Run}
 use Rattle.dds_protocol.specs.Rules.{RuledRun}
 use Rattle.dds_protocol.specs.Laws.{WorldRun}
-use Rattle.dds_protocol.proofs.Growth.{CallStep-grows, TickStep-grows, DeliveryStep-grows, with_part-grows}
+use Rattle.dds_protocol.proofs.Growth.{MachineGrows, writer_same, CallStep-grows, TickStep-grows, DeliveryStep-grows, with_part-grows}
 use Rattle.dds_protocol.specs.Noticing.{world_ended}
-use Rattle.dds_protocol.proofs.EndsBeside.{ended_sound, machine_ends}
+use Rattle.dds_protocol.proofs.EndsBeside.{ended_sound, ended_writer, machine_ends}
+use Rattle.dds_machine.proofs.Tables.{no_less_same}
 use Rattle.dds_protocol.proofs.Composed.{composes}
 
 -- no packet that was sent is forgotten
@@ -88,20 +91,43 @@ keeps_all policy m w n is all h =
     let none : is_dropped (history_of (writer_at m w)) n ≡ false =
     ap (λ (p : HistoryQos). is_dropped_by p (writer_changes (writer_at m w)) n) (is ∙ all) in cc
 
+-- lists and places grow, and what a writer owes begins no lower later
+
+same_grows : (m : Machine) → MachineGrows m m
+same_grows m = record { writers = λ w. writer_same (writer_at m w); places = λ r w. no_less_same (place_at m r w) }
+
+pub Step-grows : (tests : AllTests) (sent : ℕ) (m : Machine) (ev : WorldEvent) (reply : Reply) (new : Machine)
+    → Step tests sent m ev reply new → MachineGrows m new
+Step-grows tests sent m (world.Call peer call) reply new (inl h) =
+    subst (λ (x : Machine). MachineGrows m x) (sym h.changed)
+    (with_part-grows m peer h.after (CallStep-grows (tests peer) (part_at m peer) call reply h.after h.step))
+Step-grows tests sent m (world.Call peer call) reply new (inr h) =
+    subst (λ (x : Machine). MachineGrows m x) (sym h.1.1) (same_grows m)
+Step-grows tests sent m (world.Tick peer now) reply new (inl h) =
+    subst (λ (x : Machine). MachineGrows m x) (sym h.changed)
+    (with_part-grows m peer h.after (TickStep-grows (part_at m peer) now reply h.after h.step))
+Step-grows tests sent m (world.Tick peer now) reply new (inr h) =
+    subst (λ (x : Machine). MachineGrows m x) (sym h.1.1) (same_grows m)
+Step-grows tests sent m (world.Deliver peer packet) reply new (inl h) =
+    subst (λ (x : Machine). MachineGrows m x) (sym h.2.changed)
+    (with_part-grows m peer h.2.after
+    (DeliveryStep-grows (grounds_of m peer) (part_at m peer) reply h.2.after h.2.step))
+Step-grows tests sent m (world.Deliver peer packet) reply new (inr h) =
+    subst (λ (x : Machine). MachineGrows m x) (sym h.1.1) (same_grows m)
+
 pub Step-policy : (w : Endpoint) (tests : AllTests) (sent : ℕ) (m : Machine) (ev : WorldEvent) (reply : Reply)
     (new : Machine) → Step tests sent m ev reply new → (writer_at new w).policy ≡ (writer_at m w).policy
-Step-policy w tests sent m (world.Call peer call) reply new (inl h) =
-    ap (λ (x : Machine). (writer_at x w).policy) h.changed
-    ∙ ((with_part-grows m peer h.after
-    (CallStep-grows (tests peer) (part_at m peer) call reply h.after h.step)).writers w).policy
-Step-policy w tests sent m (world.Call peer call) reply new (inr h) = ap (λ (x : Machine). (writer_at x w).policy) h.1.1
-Step-policy w tests sent m (world.Tick peer now) reply new (inl h) =
-    ap (λ (x : Machine). (writer_at x w).policy) h.changed
-    ∙ ((with_part-grows m peer h.after (TickStep-grows (part_at m peer) now reply h.after h.step)).writers w).policy
-Step-policy w tests sent m (world.Tick peer now) reply new (inr h) = ap (λ (x : Machine). (writer_at x w).policy) h.1.1
-Step-policy w tests sent m (world.Deliver peer packet) reply new (inl h) =
-    ap (λ (x : Machine). (writer_at x w).policy) h.2.changed
-    ∙ ((with_part-grows m peer h.2.after
-    (DeliveryStep-grows (grounds_of m peer) (part_at m peer) reply h.2.after h.2.step)).writers w).policy
-Step-policy w tests sent m (world.Deliver peer packet) reply new (inr h) =
-    ap (λ (x : Machine). (writer_at x w).policy) h.1.1
+Step-policy w tests sent m ev reply new h = ((Step-grows tests sent m ev reply new h).writers w).policy
+
+pub run_owed : (tests : AllTests) (m after : Machine) (events : List WorldEvent) (replies : List Reply) (sent last : ℕ)
+    (w r : Endpoint) → Run tests sent m events replies last after
+    → owed_from (writer_at m w) r ≤ owed_from (writer_at after w) r
+run_owed tests m after [] [] sent last w r run =
+    let same = ap (λ (x : Machine). owed_from (writer_at x w) r) run.0 in omega (arith, same)
+run_owed tests m after (e ∷ es) (p ∷ ps) sent last w r run =
+    let step = ((Step-grows tests sent m e p run.0 run.2).writers w).owed r in
+    let end = (ended_writer m e run.0 w).grows.owed r in
+    let rest = run_owed tests (machine_ended m e run.0) after es ps run.1 last w r run.4 in
+    omega (arith, step, end, rest)
+run_owed tests m after [] (p ∷ ps) sent last w r run = absurd run
+run_owed tests m after (e ∷ es) [] sent last w r run = absurd run

@@ -6,11 +6,12 @@ use Rattle.dds_base.specs.declared.change.Change.{Change}
 use Rattle.dds_base.specs.Written.{counts_of}
 use Rattle.dds_base.specs.declared.config.Config.{Config}
 use Rattle.dds_base.specs.declared.entity.Entity.{Entity}
+use Rattle.dds_base.specs.declared.qos.ReaderQos.{ReaderQos}
 use Rattle.dds_notices.specs.Listeners.{Place}
 use Rattle.dds_machine.specs.declared.endpoint.Endpoint.{Endpoint}
 use Rattle.dds_protocol.specs.declared.event.Packet.{Packet}
 use Rattle.dds_machine.specs.Numbered.{numbered, with_numbered, HasNumber}
-use Rattle.dds_machine.specs.Part.{Part, Writer, ReaderProxy, WriterProxy, acknowledged_of, has_readers, heartbeats_used, own_writer, place_of, NoLess}
+use Rattle.dds_machine.specs.Part.{Part, Writer, ReaderProxy, WriterProxy, has_readers, heartbeats_used, own_writer, place_of, NoLess}
 use Rattle.dds_protocol.specs.Protocol.{Known}
 use Rattle.dds_protocol.specs.Peer.{Peer, Delivery, no_peer}
 use Rattle.dds_protocol.specs.Bounds.{IsBounded}
@@ -25,6 +26,7 @@ use Rattle.dds_protocol.specs.World.{WorldState, Holds, Sound, machine_of, peer_
 use Rattle.dds_protocol.proofs.Alike.{AlikeParts, AlikeWriters, alike_by, alike_readers, parts_same}
 use Rattle.dds_protocol.proofs.Composed.{parts_at}
 use Rattle.dds_protocol.proofs.Growth.{MachineGrows, Holds-grows}
+use Rattle.dds_protocol.proofs.Owing.{Covered, covered_same}
 use Rattle.dds_machine.proofs.Tables.{length-with_numbered, map-with_numbered, no_less_same, numbered-cases}
 
 -- the machine with one filter more at the peer of this number
@@ -39,7 +41,7 @@ pub record SameBeside (old new : WorldState) : Type 0 where
   pub delivered : (p : ℕ) → (peer_at new p).delivered ≡ (peer_at old p).delivered
   pub sent : new.sent ≡ old.sent
 
-parts_alike : (old new : WorldState) → SameBeside old new → (p : ℕ)
+pub parts_alike : (old new : WorldState) → SameBeside old new → (p : ℕ)
     → AlikeParts (part_at (machine_of old) p) (part_at (machine_of new) p)
 parts_alike old new s p =
     subst (λ (x : Part). AlikeParts x (part_at (machine_of new) p)) (sym (parts_at old p))
@@ -80,10 +82,14 @@ sound_beside config old new s sound =
           λ j d c o h. still c
           (sound.delivered j d c (subst (λ (ds : List Delivery). Contains ds d) (s.delivered j) o) h);
       acknowledged = λ w r.
-          subst (λ (rows : List ReaderProxy). NoLess (acknowledged_of rows r) (place_at (machine_of new) r w))
-          (sym (alike_readers (writer_at (machine_of old) w) (writer_at (machine_of new) w) (writer_alike old new s w)))
-          (subst (λ (o : Option ℕ). NoLess (acknowledged_of (writer_at (machine_of old) w).readers r) o)
-          (sym (place_is old new s r w)) (sound.acknowledged w r));
+          let before : Writer = writer_at (machine_of old) w in
+          let after : Writer = writer_at (machine_of new) w in
+          let alike : AlikeWriters before after = writer_alike old new s w in
+          subst (λ (o : Option ℕ). Covered after r o) (sym (place_is old new s r w))
+          (covered_same before after r (place_at (machine_of old) r w) (alike_readers before after alike)
+          (alike.grows.owed r) (no_less_same (place_at (machine_of old) r w)) (sound.acknowledged w r));
+      policies = λ j k p r here there.
+          ap (λ (q : ReaderQos). q.reliability) ((parts_alike old new s j).qos k) ∙ sound.policies j k p r here there;
     }
 
 pub bounded_beside : (old new : WorldState) → SameBeside old new → IsBounded (machine_of old)

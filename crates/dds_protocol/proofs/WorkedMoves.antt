@@ -1,6 +1,6 @@
 -- Which moves a place makes, computed at two peers: over changes that come and over runs that are passed over. Peer 1
 -- has a writer w1, peer 2 a matched reader r1.
-use Rattle.std.proofs.Common.{◌≡◌, ℕ, zero, suc, ◌+◌, ◌<◌, ◌≤◌, true, Option, None, List, [], ◌∷◌, refl, ap, subst, inl, ⊎_elim, arith}
+use Rattle.std.proofs.Common.{◌≡◌, ℕ, zero, suc, ◌+◌, ◌<◌, ◌≤◌, true, Option, None, List, [], ◌∷◌, refl, ap, subst, inl, inr, ⊎_elim, arith}
 use Rattle.std.specs.Prelude.{ℤ, slice_index}
 use Rattle.dds_base.specs.declared.change.Change.{Change}
 use Rattle.dds_base.specs.declared.config.Config.{Config}
@@ -18,7 +18,8 @@ use Rattle.dds_notices.specs.Listeners.{nobody}
 use Rattle.dds_machine.specs.declared.reply.Move.{Move}
 use Rattle.dds_machine.specs.declared.reply.Move.TheVariants.{Place}
 use Rattle.dds_machine.specs.declared.reply.Reply.TheVariants.{Reported}
-use Rattle.dds_machine.specs.Part.{Begun, opened_with, Part, Writer, nothing_seen}
+use Rattle.dds_machine.specs.Part.{Begun, opened_with, Part, Writer, no_reader, nothing_seen, owed_from}
+use Rattle.dds_base.specs.declared.qos.ReliabilityQos.TheVariants.{BestEffort}
 use Rattle.dds_machine.specs.Moves.{Grounds, as_to, AreMoves, match_of, Places, DeliveryStep}
 use Rattle.dds_machine.specs.Machine.{Machine, grounds_of}
 use Rattle.dds_machine.specs.Opening.{opening, reader_qos}
@@ -216,7 +217,8 @@ place-passes_2 =
         begins = refl;
         ordered = omega arith;
         may_pass = each_of_one
-            (Dropped one_dropped) 2 (inl refl);
+            (λ number. MayPassOver (as_to (grounds_of (machine one_dropped (part_2 2 None came_1)) 2) w1 1) the_match.qos
+            number) 2 (inl (inl refl));
         after = refl;
       },
       tt,
@@ -235,7 +237,7 @@ passes-2_and_3 =
       begins = refl;
       ordered = omega arith;
       may_pass = each_of_2_and_3
-          (Dropped two_dropped) (inl refl) (inl refl);
+          (Dropped two_dropped) (inl (inl refl)) (inl (inl refl));
       after = refl;
     }
 
@@ -243,7 +245,8 @@ passes-2_and_3 =
 passes-not_4 : (old new : PlaceWith) (first : ℕ) → first ≤ 4
     → Passes (as_to (grounds_at_2 two_dropped) w1 1) the_match old (run first 4) new → ⊥
 passes-not_4 old new first low h =
-    ⊎_elim (λ dropped. absurd cc) (λ jumps. let other = jumps.0 in absurd cc) (h.may_pass 4 low (omega arith))
+    ⊎_elim (λ o. ⊎_elim (λ dropped. absurd cc) (λ owed. let below = owed.below in absurd (omega (arith, below))) o)
+    (λ jumps. let other = jumps.0 in absurd cc) (h.may_pass 4 low (omega arith))
 
 passes-not_from_3 : (happened : List Happening) (new : PlaceWith)
     → Passes (as_to (grounds_at_2 two_dropped) w1 1) the_match (position 2 happened) (run 3 3) new → ⊥
@@ -253,7 +256,8 @@ passes-not_from_3 happened new h = let begins = h.begins in absurd (omega arith)
 passes-none_of_keep_all : (old new : PlaceWith) (first last : ℕ)
     → Passes (as_to (grounds_at_2 kept) w1 1) the_match old (run first last) new → ⊥
 passes-none_of_keep_all old new first last h =
-    ⊎_elim (λ dropped. absurd cc) (λ jumps. let other = jumps.0 in absurd cc) (h.may_pass first (omega arith) h.ordered)
+    ⊎_elim (λ o. ⊎_elim (λ dropped. absurd cc) (λ owed. let below = owed.below in absurd (omega (arith, below))) o)
+    (λ jumps. let other = jumps.0 in absurd cc) (h.may_pass first (omega arith) h.ordered)
 
 -- ---- runs that are apart
 
@@ -272,7 +276,7 @@ goes-over_two_runs = (
   position 1 [],
   position 2 (Passed 1 1 1 ∷ []),
   ([], refl, refl),
-  record { begins = refl; ordered = omega arith; may_pass = each_of_one (Dropped apart) 1 (inl refl); after = refl },
+  record { begins = refl; ordered = omega arith; may_pass = each_of_one (Dropped apart) 1 (inl (inl refl)); after = refl },
   omega arith,
   (
     position 3 (came 2 (write_of 2 2) ∷ Passed 1 1 1 ∷ []),
@@ -286,7 +290,7 @@ goes-over_two_runs = (
       ),
       refl,
     ),
-    record { begins = refl; ordered = omega arith; may_pass = each_of_one (Dropped apart) 3 (inl refl); after = refl },
+    record { begins = refl; ordered = omega arith; may_pass = each_of_one (Dropped apart) 3 (inl (inl refl)); after = refl },
     tt,
     (write_of 1 4 ∷ [], (position 5 lost_1_and_3, record { is_change = refl; room = refl; after = refl }, refl), refl),
   ),
@@ -316,3 +320,41 @@ goes-behind_the_run grounds match old new to h =
     let rest = come-forward grounds match h.1 h.5.0 new h.5.1 in
     let end = h.5.2 in
     omega arith
+
+-- ---- what is not owed
+
+-- w1 keeps its three changes, and owes r1 those from 3 on
+abbrev pub owing_3 : Writer
+owing_3 = record kept { readers = record { reader = r1; first = 3; acknowledged = 1 } ∷ [] }
+
+owed-from_3 : owed_from owing_3 r1 ≡ 3
+owed-from_3 = refl
+
+-- to one that it is not matched with it owes no change that it has made
+owed-from_the_next : owed_from (record kept { matched = []; readers = [] }) r1 ≡ 4
+owed-from_the_next = refl
+
+-- nor does what is owed begin past the next one, whatever the row says
+owed-no_later : owed_from (record kept { readers = record { reader = r1; first = 9; acknowledged = 1 } ∷ [] }) r1 ≡ 4
+owed-no_later = refl
+
+-- so r1 may pass over 1 and 2, and over no other number
+owed-passes_2 : (grounds_at_2 owing_3).may_pass w1 1 2
+owed-passes_2 = inr (record { reliable = refl; from = omega arith; below = omega arith })
+
+owed-not_3 : (grounds_at_2 owing_3).may_pass w1 1 3 → ⊥
+owed-not_3 h = ⊎_elim (λ dropped. absurd cc) (λ owed. let below = owed.below in absurd (omega (arith, below))) h
+
+owed-not_0 : (grounds_at_2 owing_3).may_pass w1 1 0 → ⊥
+owed-not_0 h = ⊎_elim (λ dropped. absurd cc) (λ owed. let from = owed.from in absurd (omega (arith, from))) h
+
+-- a best-effort reader there may pass over none of them
+abbrev best_effort_2 : Part
+best_effort_2 = record (part_2 1 None []) {
+  dds = record (part_2 1 None []).dds {
+    readers = record no_reader { qos = record no_reader.qos { reliability = BestEffort } } ∷ [];
+  };
+}
+
+owed-not_best_effort : (number : ℕ) → (grounds_of (machine owing_3 best_effort_2) 2).may_pass w1 1 number → ⊥
+owed-not_best_effort number h = ⊎_elim (λ dropped. absurd cc) (λ owed. let is = owed.reliable in absurd cc) h

@@ -18,7 +18,7 @@ use Rattle.dds_protocol.specs.Claims.{ChangeIs, MayPass, PlaceReached, Asserts}
 use Rattle.dds_protocol.specs.Peer.{IsTrueAt}
 use Rattle.dds_protocol.proofs.WorkedReceivers.{w1, r1, some_is}
 use Rattle.dds_protocol.proofs.WorkedExamples.{key}
-use Rattle.dds_protocol.proofs.WorkedMoves.{writing, part_1, part_2, machine, write_of, kept, came_1, one_dropped, Delivers}
+use Rattle.dds_protocol.proofs.WorkedMoves.{owing_3, writing, part_1, part_2, machine, write_of, kept, came_1, one_dropped, Delivers}
 
 -- ---- acknowledgements
 
@@ -143,13 +143,26 @@ true-dropped_2 : IsTrueAt 1 (part_1 one_dropped) (MayPass w1 r1 2)
 true-dropped_2 = (refl, inl refl)
 
 true-not_3 : IsTrueAt 1 (part_1 one_dropped) (MayPass w1 r1 3) → ⊥
-true-not_3 h = ⊎_elim (λ dropped. absurd cc) (λ below. absurd (omega (arith, below))) h.1
+true-not_3 h =
+    ⊎_elim (λ dropped. absurd cc)
+    (λ o. ⊎_elim (λ owed. absurd (omega (arith, owed))) (λ below. absurd (omega (arith, below))) o) h.1
 
 true-acknowledged_1 : IsTrueAt 1 (part_1 (acknowledged 2)) (MayPass w1 r1 1)
-true-acknowledged_1 = (refl, inr (omega arith))
+true-acknowledged_1 = (refl, inr (inr (omega arith)))
 
 true-not_2 : IsTrueAt 1 (part_1 (acknowledged 2)) (MayPass w1 r1 2) → ⊥
-true-not_2 h = ⊎_elim (λ dropped. absurd cc) (λ below. absurd (omega (arith, below))) h.1
+true-not_2 h =
+    ⊎_elim (λ dropped. absurd cc)
+    (λ o. ⊎_elim (λ owed. absurd (omega (arith, owed))) (λ below. absurd (omega (arith, below))) o) h.1
+
+-- and one that is not owed, whatever the reader has acknowledged
+true-not_owed_2 : IsTrueAt 1 (part_1 owing_3) (MayPass w1 r1 2)
+true-not_owed_2 = (refl, inr (inl (omega arith)))
+
+true-owed_3 : IsTrueAt 1 (part_1 owing_3) (MayPass w1 r1 3) → ⊥
+true-owed_3 h =
+    ⊎_elim (λ dropped. absurd cc)
+    (λ o. ⊎_elim (λ owed. absurd (omega (arith, owed))) (λ below. absurd (omega (arith, below))) o) h.1
 
 -- of another peer's writer a peer may say nothing
 true-not_of_another : IsTrueAt 2 (part_1 one_dropped) (MayPass w1 r1 2) → ⊥

@@ -25,7 +25,7 @@ use Rattle.dds_machine.specs.declared.endpoint.Endpoint.{Endpoint}
 pub data Claim : Type 0 where
   -- the writer's change of this number, which is for the reader, is this
   ChangeIs : (writer reader : Endpoint) (number : ℕ) (change : Change) → Claim
-  -- the change of this number is dropped, or the reader is past it
+  -- the change of this number is dropped, or not owed to the reader, or the reader is past it
   MayPass : (writer reader : Endpoint) (number : ℕ) → Claim
   -- the reader's place in the writer's list is at least this
   PlaceReached : (writer reader : Endpoint) (base : ℕ) → Claim

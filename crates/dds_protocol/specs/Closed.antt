@@ -1,25 +1,41 @@
--- Networks in which nobody comes or goes: each place has begun, and each matched reliable reader is owed all changes.
+-- Networks in which nobody comes or goes: each place has begun, each matched reliable reader is owed all changes, and the
+-- machine passes over those alone that a writer's history had dropped.
 --
 -- A notion of this project, of RTPS 2.5, 8.4.7 (ReaderProxy), 8.4.10 (WriterProxy).
-use Rattle.std.specs.Prelude.{◌≡◌, ℕ, ◌≤◌, Some, List}
+use Rattle.std.specs.Prelude.{◌≡◌, ◌↔◌, ◌⊎◌, ℕ, ◌<◌, ◌≤◌, true, Some, IsSome, List, [], ◌∷◌}
 use Rattle.dds_base.specs.declared.config.Config.{Config}
+use Rattle.dds_base.specs.declared.qos.HistoryQos.TheVariants.{KeepAll}
+use Rattle.dds_base.specs.Kept.{is_dropped}
+use Rattle.dds_base.specs.Matched.{is_reliable}
 use Rattle.dds_machine.specs.declared.endpoint.Endpoint.{Endpoint}
 use Rattle.dds_machine.specs.declared.event.WorldEvent.{WorldEvent}
+use Rattle.dds_machine.specs.declared.event.WorldEvent.TheVariants as event
 use Rattle.dds_machine.specs.declared.reply.Reply.{Reply}
-use Rattle.dds_machine.specs.Machine.{Machine, AllTests, part_at, writer_at, Step}
+use Rattle.dds_machine.specs.Machine.{Machine, AllTests, AtPeer, IsRefused, Step, grounds_of, part_at, place_at, writer_at}
+use Rattle.dds_machine.specs.Moves.{Grounds, DeliveryStep}
 use Rattle.dds_machine.specs.Noticing.{machine_ended}
+use Rattle.dds_machine.specs.Numbered.{HasNumber}
 use Rattle.dds_machine.specs.Opening.{opening}
 use Rattle.dds_machine.specs.Runs.{Run}
-use Rattle.dds_machine.specs.Part.{ReaderProxy, WriterProxy, Begun, row_of, own_proxies}
+use Rattle.dds_machine.specs.Part.{ReaderProxy, WriterProxy, Begun, NoLess, IsAtMost, IsBelow, acknowledged_of, history_of, own_proxies, own_reader, row_of}
+use Rattle.dds_protocol.specs.Claims.{MayPass}
+use Rattle.dds_protocol.specs.Laws.{LosesNone}
+use Rattle.dds_protocol.specs.World.{WorldState, Holds, Sound, machine_of}
 
--- Nobody has come or left: the place of each reader has begun at each writer that it knows, and each writer owes each of
--- its matched reliable readers its changes from the first on.
+-- Nobody has come or left: the place of each reader has begun at each writer that it knows, and that writer has a row
+-- for it where it is a reliable one; each writer owes each reader of its rows its changes from the first on, and that
+-- reader has a place there, from 1 on.
 pub record IsClosed (m : Machine) : Type 0 where
   pub begun : (reader writer : Endpoint) (row : WriterProxy)
       → row_of (λ (p : WriterProxy). p.writer) (own_proxies (part_at m reader.peer) reader.number) writer ≡ Some row
       → row.how ≡ Begun
+  pub known : (writer reader : Endpoint) → IsSome (place_at m reader writer)
+      → is_reliable (own_reader (part_at m reader.peer) reader.number).qos.reliability ≡ true
+      → IsSome (acknowledged_of (writer_at m writer).readers reader)
   pub owed : (writer reader : Endpoint) (row : ReaderProxy)
       → row_of (λ (p : ReaderProxy). p.reader) (writer_at m writer).readers reader ≡ Some row → row.first ≤ 1
+  pub placed : (writer reader : Endpoint) → IsSome (acknowledged_of (writer_at m writer).readers reader)
+      → IsAtMost 1 (place_at m reader writer)
 
 -- so it is at the opening of every configuration
 abbrev pub OpensClosed : Type 0
@@ -34,3 +50,57 @@ StaysClosed = (tests : AllTests) (sent : ℕ) (old : Machine) (event : WorldEven
 abbrev pub RunsClosed : Type 0
 RunsClosed = (tests : AllTests) (sent : ℕ) (old : Machine) (events : List WorldEvent) (replies : List Reply) (last : ℕ)
     (new : Machine) → IsClosed old → Run tests sent old events replies last new → IsClosed new
+
+-- ---- what may be passed over there
+
+-- what a delivery at the peer of this number may rest on where nobody comes or goes: what may be passed over is what the
+-- writer's history has dropped
+abbrev pub closed_grounds_of : Machine → ℕ → Grounds
+closed_grounds_of m peer = record (grounds_of m peer) {
+  may_pass = λ writer reader number. is_dropped (history_of (writer_at m writer)) number ≡ true;
+}
+
+-- a step that rests on nothing else
+abbrev pub ClosedStep : AllTests → ℕ → Machine → WorldEvent → Reply → Machine → Type 0
+ClosedStep tests sent old (event.Deliver peer packet) reply new =
+    ((1 ≤ packet) × (packet ≤ sent)
+    × AtPeer old peer (λ after. DeliveryStep (closed_grounds_of old peer) (part_at old peer) reply after) new)
+    ⊎ (((packet ≡ 0) ⊎ (sent < packet) ⊎ (HasNumber old.parts peer → ⊥)) × IsRefused old reply new)
+ClosedStep tests sent old other reply new = Step tests sent old other reply new
+
+-- a run of such steps
+abbrev pub ClosedRun : AllTests → ℕ → Machine → List WorldEvent → List Reply → ℕ → Machine → Type 0
+ClosedRun tests sent old [] [] last new = (new ≡ old) × (last ≡ sent)
+ClosedRun tests sent old (event ∷ events) (reply ∷ replies) last new =
+    (mid : Machine) × (next : ℕ) × ClosedStep tests sent old event reply mid × (sent ≤ next)
+    × ClosedRun tests next (machine_ended old event mid) events replies last new
+ClosedRun tests sent old [] (reply ∷ replies) last new = ⊥
+ClosedRun tests sent old (event ∷ events) [] last new = ⊥
+
+-- the runs are one where nobody has come or left: what is not owed lets nothing more be passed over
+abbrev pub RunsAlike : Type 0
+RunsAlike = (tests : AllTests) (sent : ℕ) (old : Machine) (events : List WorldEvent) (replies : List Reply) (last : ℕ)
+    (new : Machine) → IsClosed old
+    → Run tests sent old events replies last new ↔ ClosedRun tests sent old events replies last new
+
+-- no run passes over a change of a KEEP_ALL writer at a reliable reader there
+abbrev pub ClosedLosesNone : Type 0
+ClosedLosesNone = (tests : AllTests) (writer reader : Endpoint) (m after : Machine) (events : List WorldEvent)
+    (replies : List Reply) (sent last : ℕ) → IsClosed m
+    → (writer_at m writer).policy ≡ KeepAll
+    → is_reliable (own_reader (part_at m reader.peer) reader.number).qos.reliability ≡ true
+    → Run tests sent m events replies last after → LosesNone writer reader events replies
+
+-- what packets claim there of a change that a reader of the writer's rows may pass over: it is dropped, or that reader is
+-- past it
+abbrev pub ClosedClaims : Type 0
+ClosedClaims = (m : Machine) (writer reader : Endpoint) (number : ℕ) → IsClosed m
+    → IsSome (acknowledged_of (writer_at m writer).readers reader) → 1 ≤ number → Holds m (MayPass writer reader number)
+    → (is_dropped (history_of (writer_at m writer)) number ≡ true) ⊎ IsBelow number (place_at m reader writer)
+
+-- and no reader has acknowledged more than it has
+abbrev pub ClosedAcknowledges : Type 0
+ClosedAcknowledges = (config : Config) (world : WorldState) (writer reader : Endpoint) → Sound config world
+    → IsClosed (machine_of world)
+    → NoLess (acknowledged_of (writer_at (machine_of world) writer).readers reader)
+    (place_at (machine_of world) reader writer)

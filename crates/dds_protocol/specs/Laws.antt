@@ -2,12 +2,13 @@
 --
 -- The laws are this project's own; what they speak of is in RTPS 2.5, 8.3.8 and 8.4 (behaviour), and DDS 1.4,
 -- 2.2.3 (HISTORY: KEEP_ALL; OWNERSHIP).
-use Rattle.std.specs.Prelude.{◌≡◌, ◌≢◌, ℕ, ◌≤◌, true, Some, None, IsSome, List, [], ◌∷◌, length, Contains}
+use Rattle.std.specs.Prelude.{◌≡◌, ◌≢◌, ℕ, ◌<◌, ◌≤◌, true, Some, None, IsSome, List, [], ◌∷◌, length, Contains}
 use Rattle.std.specs.List.{All}
 use Rattle.dds_base.specs.declared.config.Config.{Config}
 use Rattle.dds_base.specs.declared.config.PeerConfig.{PeerConfig}
 use Rattle.dds_base.specs.declared.config.ReaderConfig.{ReaderConfig}
 use Rattle.dds_base.specs.declared.happening.Happening.{Happening}
+use Rattle.dds_base.specs.declared.happening.PassedRun.{PassedRun}
 use Rattle.dds_base.specs.declared.key.Key.{Key}
 use Rattle.dds_base.specs.declared.qos.HistoryQos.TheVariants.{KeepAll}
 use Rattle.dds_base.specs.Checked.{check_refusal}
@@ -37,7 +38,7 @@ use Rattle.dds_machine.specs.Machine.{Machine, AllTests, part_at, writer_at, Ste
 use Rattle.dds_protocol.specs.World.{WorldState, WorldStep, machine_of, Sound}
 use Rattle.dds_protocol.specs.Progress.{Progresses}
 use Rattle.dds_machine.specs.Runs.{Run}
-use Rattle.dds_machine.specs.Part.{Part, own_writer, own_reader, publication_among}
+use Rattle.dds_machine.specs.Part.{Part, own_writer, own_reader, owed_from, publication_among}
 use Rattle.dds_machine.specs.Opening.{matched_writers, reader_qos}
 use Rattle.dds_protocol.specs.Opening.{opening_world}
 
@@ -83,13 +84,34 @@ LosesNone writer reader (Deliver peer packet ∷ events) (Reported report ∷ re
 LosesNone writer reader (event ∷ events) (reply ∷ replies) = LosesNone writer reader events replies
 LosesNone writer reader events replies = Unit {0}
 
--- in no run is a change of a KEEP_ALL writer passed over by a reliable reader
+-- each of these runs ends below the number
+abbrev pub EndBelow : ℕ → List PassedRun → Type 0
+EndBelow bound [] = Unit {0}
+EndBelow bound (run ∷ runs) = (run.last < bound) × EndBelow bound runs
+
+-- the peer's reader of this number passes over no change of this writer from the bound on
+abbrev pub PassesNoneFrom : ℕ → Endpoint → ℕ → List Move → Type 0
+PassesNoneFrom bound writer reader [] = Unit {0}
+PassesNoneFrom bound writer reader (Place w r to passed ∷ moves) =
+    (w ≡ writer → r ≡ reader → EndBelow bound passed) × PassesNoneFrom bound writer reader moves
+PassesNoneFrom bound writer reader (m ∷ moves) = PassesNoneFrom bound writer reader moves
+
+-- no reply reports that a change of this writer from the bound on was passed over by this reader
+abbrev pub LosesNoneFrom : ℕ → Endpoint → Endpoint → List WorldEvent → List Reply → Type 0
+LosesNoneFrom bound writer reader (Deliver peer packet ∷ events) (Reported report ∷ replies) =
+    (peer ≡ reader.peer → PassesNoneFrom bound writer reader.number report.moves)
+    × LosesNoneFrom bound writer reader events replies
+LosesNoneFrom bound writer reader (event ∷ events) (reply ∷ replies) = LosesNoneFrom bound writer reader events replies
+LosesNoneFrom bound writer reader events replies = Unit {0}
+
+-- in no run is a change passed over by a reliable reader that a KEEP_ALL writer owes it at the end of the run
 abbrev pub KeepAllIsKept : Type 0
 KeepAllIsKept = (tests : AllTests) (writer reader : Endpoint) (m after : Machine) (events : List WorldEvent)
     (replies : List Reply) (sent last : ℕ)
     → (writer_at m writer).policy ≡ KeepAll
     → is_reliable (own_reader (part_at m reader.peer) reader.number).qos.reliability ≡ true
-    → Run tests sent m events replies last after → LosesNone writer reader events replies
+    → Run tests sent m events replies last after
+    → LosesNoneFrom (owed_from (writer_at after writer) reader) writer reader events replies
 
 -- A reader of these peers tells its matched writers apart: no two have one GUID, and each publication handle, from 1
 -- on, is that of one.

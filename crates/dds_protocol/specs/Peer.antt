@@ -17,7 +17,7 @@ use Rattle.dds_protocol.specs.declared.event.Packet.{Packet}
 use Rattle.dds_machine.specs.declared.reply.Reply.{Reply}
 use Rattle.dds_machine.specs.declared.reply.Reply.TheVariants.{Reported}
 use Rattle.dds_machine.specs.declared.reply.Report.{Report}
-use Rattle.dds_machine.specs.Part.{Part, no_part, own_writer, own_proxies, acknowledged_of, place_of, writer_changes, history_of, is_assertion, IsBelow, IsAtMost}
+use Rattle.dds_machine.specs.Part.{Part, no_part, own_writer, own_proxies, acknowledged_of, place_of, writer_changes, history_of, is_assertion, owed_from, IsBelow, IsAtMost}
 use Rattle.dds_machine.specs.Moves.{Grounds}
 use Rattle.dds_machine.specs.Ticks.{TickStep}
 use Rattle.dds_machine.specs.Calls.{CallStep}
@@ -98,6 +98,7 @@ IsTrueAt peer part (ChangeIs writer reader number change) =
     (writer.peer ≡ peer) × (change_at (writer_changes (own_writer part writer.number)) number ≡ Some change)
 IsTrueAt peer part (MayPass writer reader number) =
     (writer.peer ≡ peer) × ((is_dropped (history_of (own_writer part writer.number)) number ≡ true)
+    ⊎ (number < owed_from (own_writer part writer.number) reader)
     ⊎ IsBelow number (acknowledged_of (own_writer part writer.number).readers reader))
 IsTrueAt peer part (PlaceReached writer reader base) =
     (reader.peer ≡ peer) × IsAtMost base (place_of (own_proxies part reader.number) writer)

@@ -5,6 +5,8 @@
 use Rattle.std.specs.Prelude.{◌≡◌, ◌⊎◌, ℕ, ◌-◌, ◌<◌, ◌≤◌, true, Some, List, ◌++◌, length, slice_get, map, Contains}
 use Rattle.dds_base.specs.declared.code.Code.TheVariants.{BadParameter}
 use Rattle.dds_base.specs.declared.config.Config.{Config}
+use Rattle.dds_base.specs.declared.config.PeerConfig.{PeerConfig}
+use Rattle.dds_base.specs.declared.config.ReaderConfig.{ReaderConfig}
 use Rattle.dds_base.specs.Kept.{change_at, is_dropped}
 use Rattle.dds_machine.specs.declared.endpoint.Endpoint.{Endpoint}
 use Rattle.dds_protocol.specs.declared.event.Event.{Event}
@@ -16,11 +18,11 @@ use Rattle.dds_protocol.specs.declared.event.Packet.{Packet}
 use Rattle.dds_machine.specs.declared.reply.Reply.{Reply}
 use Rattle.dds_machine.specs.declared.reply.Reply.TheVariants.{Refused}
 use Rattle.dds_machine.specs.Numbered.{numbered, with_numbered, HasNumber}
-use Rattle.dds_machine.specs.Part.{acknowledged_of, writer_changes, history_of, is_assertion, IsBelow, IsAtMost, NoLess}
+use Rattle.dds_machine.specs.Part.{own_reader, acknowledged_of, writer_changes, history_of, is_assertion, owed_from, IsBelow, IsAtMost, IsCovered}
 use Rattle.dds_machine.specs.Watching.{Tests}
-use Rattle.dds_protocol.specs.Claims.{Claim, ChangeIs, MayPass, PlaceReached, Asserts, Claims}
+use Rattle.dds_protocol.specs.Claims.{IsNumbered, Claim, ChangeIs, MayPass, PlaceReached, Asserts, Claims}
 use Rattle.dds_protocol.specs.Peer.{Peer, Delivery, PeerStep, no_peer}
-use Rattle.dds_machine.specs.Machine.{Machine, AllTests, writer_at, place_at}
+use Rattle.dds_machine.specs.Machine.{Machine, AllTests, part_at, writer_at, place_at}
 
 -- the peers, which are numbered from 1, and the packets in the order in which they were sent
 pub record WorldState : Type 0 where
@@ -69,11 +71,13 @@ WorldStep config tests old (world.Deliver peer number) reply new =
 abbrev pub Holds : Machine → Claim → Type 0
 Holds m (ChangeIs writer reader number change) = change_at (writer_changes (writer_at m writer)) number ≡ Some change
 Holds m (MayPass writer reader number) =
-    (is_dropped (history_of (writer_at m writer)) number ≡ true) ⊎ IsBelow number (place_at m reader writer)
+    (is_dropped (history_of (writer_at m writer)) number ≡ true)
+    ⊎ (number < owed_from (writer_at m writer) reader) ⊎ IsBelow number (place_at m reader writer)
 Holds m (PlaceReached writer reader base) = IsAtMost base (place_at m reader writer)
 Holds m (Asserts writer reader count) = is_assertion (writer_at m writer) count ≡ true
 
--- all packets that were sent or delivered claim the truth, and no reader has acknowledged more than it has
+-- all packets that were sent or delivered claim the truth, no reader has acknowledged more than it has or is not owed,
+-- and each reader is as reliable as the configuration says
 pub record Sound (config : Config) (world : WorldState) : Type 0 where
   pub number : (peer : ℕ) → HasNumber world.peers peer → (peer_at world peer).number ≡ peer
   pub sent : (packet : Packet) (claim : Claim) → Contains world.sent packet → Claims config packet.bytes claim
@@ -81,5 +85,8 @@ pub record Sound (config : Config) (world : WorldState) : Type 0 where
   pub delivered : (peer : ℕ) (delivery : Delivery) (claim : Claim) → Contains (peer_at world peer).delivered delivery
       → Claims config delivery.packet claim → Holds (machine_of world) claim
   pub acknowledged : (writer reader : Endpoint)
-      → NoLess (acknowledged_of (writer_at (machine_of world) writer).readers reader)
-      (place_at (machine_of world) reader writer)
+      → IsCovered (acknowledged_of (writer_at (machine_of world) writer).readers reader)
+      (owed_from (writer_at (machine_of world) writer) reader) (place_at (machine_of world) reader writer)
+  pub policies : (peer number : ℕ) (p : PeerConfig) (r : ReaderConfig) → IsNumbered config.peers peer p
+      → IsNumbered p.readers number r
+      → (own_reader (part_at (machine_of world) peer) number).qos.reliability ≡ r.reliability

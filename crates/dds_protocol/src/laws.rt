@@ -6,7 +6,7 @@
 ghost use Rattle.std.specs.Prelude.{◌≡◌, ◌↔◌, ◌⊎◌, ◌+◌, ◌∷◌, [], IsTrue, List, length, ℕ};
 ghost use Rattle.dds_protocol.specs.Bounds.{OpensBounded, RunsBounded, StepsBounded};
 ghost use Rattle.dds_protocol.specs.CatchUp.{WindowCatchesUp};
-ghost use Rattle.dds_protocol.specs.Closed.{OpensClosed, RunsClosed, StaysClosed};
+ghost use Rattle.dds_protocol.specs.Closed.{ClosedAcknowledges, ClosedClaims, ClosedLosesNone, OpensClosed, RunsAlike, RunsClosed, StaysClosed};
 ghost use Rattle.dds_protocol.specs.DueMessages.{AreSent, Due, packet_of};
 ghost use Rattle.dds_protocol.specs.Fresh.{OpensUsed, StepsUsed};
 ghost use Rattle.dds_protocol.specs.InOrder.{ChangesComeInOrder};
@@ -32,12 +32,17 @@ pub fn composes_runs()
     ensures run { ComposesRuns }
 {}
 
-/// No run passes over a change of a writer that keeps all.
+/// No run passes over a change that a writer that keeps all owes a reliable reader; where nobody comes or goes, over
+/// none of its changes.
 pub fn keep_all_is_kept()
+    // What is owed at the end of a run was passed over nowhere in it.
     ensures kept { KeepAllIsKept }
+    // Where nobody has come or left, nothing is passed over.
+    ensures closed { ClosedLosesNone }
 {}
 
-/// Nobody comes or goes: each place has begun, and each matched reliable reader is owed all changes.
+/// Nobody comes or goes: each place has begun, and each matched reliable reader is owed all changes. So what is not owed
+/// adds nothing to what may be passed over, and to what packets claim.
 pub fn nobody_comes_or_goes()
     // at the opening,
     ensures opening { OpensClosed }
@@ -45,6 +50,12 @@ pub fn nobody_comes_or_goes()
     ensures step { StaysClosed }
     // and after every run.
     ensures run { RunsClosed }
+    // There the runs are those in which a change is passed over only if it was dropped.
+    ensures dropped { RunsAlike }
+    // Packets claim there that a change is dropped, or that its reader is past it,
+    ensures claims { ClosedClaims }
+    // and no reader has acknowledged more than it has.
+    ensures acknowledged { ClosedAcknowledges }
 {}
 
 /// After every run, the changes of a writer that keeps all that came at a matched reader are the first ones of its

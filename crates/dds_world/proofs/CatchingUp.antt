@@ -31,6 +31,7 @@ use Rattle.dds_protocol.specs.Protocol.{Known}
 use Rattle.dds_protocol.specs.Repair.{AsksInRound, BeginsRound, Delivers, DeliversAll, HasCaughtUp, IsRepairRound, StandsAt}
 use Rattle.dds_protocol.specs.Rules.{RuledStep, RuledRun}
 use Rattle.dds_protocol.specs.World.{WorldState, peer_at, machine_of}
+use Rattle.dds_protocol.proofs.ClosedSteps.{acknowledges_no_more}
 use Rattle.dds_protocol.proofs.PairAsked.{has_writer}
 use Rattle.dds_protocol.proofs.PairAsks.{asks_found}
 use Rattle.dds_protocol.proofs.PairBeats.{beats_are_sent}
@@ -265,6 +266,14 @@ EndsSo tests config network old m place events replies new =
 abbrev Ends : {hearing : Hearing} → Tick hearing → List WorldEvent → List RoundReply → WorldKept hearing → Type 0
 Ends t events replies new = EndsSo t.tests t.config t.network t.old t.m t.place events replies new
 
+-- the writer has no more of the reader than its place
+no_more_than_place : {hearing : Hearing} → (t : Tick hearing) → acknowledged t ≤ t.place
+no_more_than_place t =
+    subst (λ (o : Option ℕ). NoLess o (Some t.place)) (row t)
+    (subst (λ (o : Option ℕ). NoLess
+    (acknowledged_of (writer_at (machine_of t.network) t.m.writer).readers t.m.reader) o) t.at
+    (acknowledges_no_more t.config t.network t.m.writer t.m.reader t.s.sound t.s.closed))
+
 -- ---- no HEARTBEAT was sent
 
 -- where the reader is not behind, it has caught up already
@@ -302,11 +311,7 @@ not_behind t past =
     numbered_rows rows = numbered rows t.m.reader.number []
 
     low : acknowledged t ≤ t.place
-    low =
-        subst (λ (o : Option ℕ). NoLess o (Some t.place)) (row t)
-        (subst (λ (o : Option ℕ). NoLess
-        (acknowledged_of (writer_at (machine_of t.network) t.m.writer).readers t.m.reader) o) t.at
-        (t.s.sound.acknowledged t.m.writer t.m.reader))
+    low = no_more_than_place t
 
     high : t.place ≤ the_last t + 1
     high = t.s.bounded t.m.reader t.m.writer t.place t.at
@@ -552,7 +557,8 @@ answered {hearing} a later rest new whole next = (
   ),
   all.stands,
   inr (pair_catches_up c.config a.h.t.tests c.m.writer c.m.reader c.place (acknowledged c) c.network all.after
-      (core c).stands.is_peer.checked c.s.sound c.s.used c.s.bounded (pair c).pair (stands c) round),
+      (core c).stands.is_peer.checked c.s.sound c.s.used c.s.bounded (pair c).pair (stands c) (no_more_than_place c)
+      round),
 )
   where
     c : Tick hearing

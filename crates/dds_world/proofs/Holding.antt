@@ -36,6 +36,7 @@ use Rattle.dds_machine.specs.Watching.{Tests}
 use Rattle.dds_protocol.specs.World.{WorldState, machine_of, peer_at}
 use Rattle.dds_machine.proofs.Tables.{map-with_numbered, numbered-map}
 use Rattle.dds_protocol.proofs.Composed.{parts_at}
+use Rattle.dds_protocol.proofs.Closed.{closed_beside}
 use Rattle.dds_protocol.proofs.SameBeside.{SameBeside, bounded_beside, filter_beside, place_beside, sound_beside, used_beside}
 use Rattle.dds_core.specs.Kept.{PeerKept}
 use Rattle.dds_core.specs.Listening.{Adds as CoreAdds, CoreKept, RefusesFilter as CoreRefuses, RefusesListener as CoreRefusesListener, Sets as CoreSets, StandsFor as CoreStands, Steps as CoreSteps}
@@ -257,6 +258,7 @@ module _ {F L : Type 0} (notices : L → List Notice) (capacity : L → ℕ) (be
       (sound_beside config network (with_peer network i p network.sent) beside s.sound)
       (used_beside config network (with_peer network i p network.sent) beside s.used)
       (bounded_beside network (with_peer network i p network.sent) beside s.bounded)
+      (closed_beside network (with_peer network i p network.sent) beside s.closed)
 
   -- a filter more
   adds_at : (old : Held F L) (i peer : ℕ) (filter : F) (number : ℕ) (core after : CoreKept F L) (new : Held F L)

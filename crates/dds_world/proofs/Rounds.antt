@@ -21,6 +21,7 @@ use Rattle.dds_machine.specs.Part.{NoLess, Part, own_proxies, own_writer, acknow
 use Rattle.dds_protocol.specs.Peer.{Peer, no_peer}
 use Rattle.dds_protocol.specs.DueMessages.{writer_entity}
 use Rattle.dds_protocol.specs.World.{WorldState, WorldStep, machine_of}
+use Rattle.dds_protocol.proofs.ClosedSteps.{acknowledges_no_more}
 use Rattle.dds_machine.proofs.Tables.{numbered-map, slice_get-append}
 use Rattle.dds_core.specs.declared.pairing.Pair.{Pair}
 use Rattle.dds_core.specs.Kept.{PeerKept}
@@ -431,7 +432,7 @@ pub not_placed : {hearing : Hearing} → (kept : WorldKept hearing) (writer read
     → NotMatched kept writer reader
 not_placed kept writer reader none config network s =
     nothing_less (acknowledged_of (writer_at (machine_of network) writer).readers reader)
-    (place_at (machine_of network) reader writer) (s.sound.acknowledged writer reader)
+    (place_at (machine_of network) reader writer) (acknowledges_no_more config network writer reader s.sound s.closed)
     (none config network s)
 
 -- ---- the first such packet

@@ -12,6 +12,8 @@ use Rattle.dds_protocol.specs.Bounds.{IsBounded}
 use Rattle.dds_protocol.specs.Fresh.{HasUsedCounts}
 use Rattle.dds_machine.specs.Noticing.{peer_of}
 use Rattle.dds_protocol.specs.Noticing.{peer_at_end, world_ended}
+use Rattle.dds_protocol.specs.Closed.{IsClosed}
+use Rattle.dds_protocol.proofs.Closed.{world_closed}
 use Rattle.dds_protocol.proofs.EndsBeside.{ended_same, ended_sound, ended_used, world_bounded}
 use Rattle.dds_machine.specs.declared.call.Call.{Call}
 use Rattle.dds_protocol.specs.declared.event.Event.{Event}
@@ -221,7 +223,9 @@ acts_ruled {hearing} {tests} kept new i ev whole reply its into acts sends confi
     (omega (arith, unsent))
     (subst (λ (w : WorldState). Sound config w) ends (ended_sound config network whole next c.2))
     (subst (λ (w : WorldState). HasUsedCounts config w) ends (ended_used config network whole next used))
-    (subst (λ (w : WorldState). IsBounded (machine_of w)) ends (world_bounded network whole next bounded)) in (
+    (subst (λ (w : WorldState). IsBounded (machine_of w)) ends (world_bounded network whole next bounded))
+    (subst (λ (w : WorldState). IsClosed (machine_of w)) ends
+    (world_closed tests (length network.sent) network whole reply next s.closed c.0)) in (
       next,
       lost,
       ruled,

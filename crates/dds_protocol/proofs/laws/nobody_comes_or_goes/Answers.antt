@@ -1,5 +1,13 @@
 use Rattle.dds_protocol.proofs.Closed.{opens_closed, runs_closed, stays_closed}
+use Rattle.dds_protocol.proofs.ClosedSteps.{acknowledges_no_more, claims_dropped, runs_alike}
 use Rattle.dds_protocol.proofs.laws.nobody_comes_or_goes.Goals as goal
 
 pub returns : goal.returns
-returns c = record { opening = opens_closed; step = stays_closed; run = runs_closed }
+returns c = record {
+  opening = opens_closed;
+  step = stays_closed;
+  run = runs_closed;
+  dropped = runs_alike;
+  claims = claims_dropped;
+  acknowledged = acknowledges_no_more;
+}
