@@ -2,8 +2,9 @@
 //!
 //! `read_participant` gives the participant that an announcement of SPDP is about, and `read_endpoint` the DataWriter or
 //! the DataReader that one of SEDP is about; `read_guid` says who leaves. The announcement lends the names, and no memory
-//! is taken. The grammar stands in `specs/`, and in words in `docs/WIRE.md`, "Announcements". Not here: who is matched
-//! with whom, what is sent when, and how an announcement is written.
+//! is taken. `write_participant`, `write_endpoint` and `write_guid` give the one written form of each. The grammar stands
+//! in `specs/`, and in words in `docs/WIRE.md`, "Announcements". Not here: who is matched with whom, and what is sent
+//! when.
 //!
 //! RTPS 2.5, 8.5 (discovery), 9.4.2 (ParameterList), 9.6 (ParameterId values), clause 10 (PL_CDR); DDS 1.4, 2.2.3
 //! (policies).
@@ -45,7 +46,8 @@ pub use partition::Partitions;
 pub use policies::Policies;
 pub use qos::{
     DestinationOrderQos, DurabilityQos, Duration, EndpointKind, LivelinessKind, LivelinessQos,
-    PresentationQos, PresentationScope,
+    PresentationQos, PresentationScope, destination_order_code, durability_code, liveliness_code,
+    ownership_code, reliability_code, scope_code,
 };
 pub use representation::Representations;
 pub use writable::{is_writable_endpoint, is_writable_participant};

@@ -234,9 +234,11 @@ pub fn scope_of(code: u32) -> Option<PresentationScope>
     }
 }
 
-/// The number of a kind of RELIABILITY.
+/// The number of a kind of RELIABILITY: what offers more has a greater one.
+///
+/// RTPS 2.5, 9.6 (ParameterId values).
 pub fn reliability_code(kind: ReliabilityQos) -> u32
-    ensures { result ≡ reliability_code kind }
+    ensures code { result ≡ reliability_code kind }
 {
     match kind {
         ReliabilityQos::BestEffort => 1,
@@ -244,9 +246,11 @@ pub fn reliability_code(kind: ReliabilityQos) -> u32
     }
 }
 
-/// The number of a kind of DURABILITY.
+/// The number of a kind of DURABILITY: what offers more has a greater one.
+///
+/// RTPS 2.5, 9.6 (ParameterId values).
 pub fn durability_code(kind: DurabilityQos) -> u32
-    ensures { result ≡ durability_code kind }
+    ensures code { result ≡ durability_code kind }
 {
     match kind {
         DurabilityQos::Volatile => 0,
@@ -257,8 +261,10 @@ pub fn durability_code(kind: DurabilityQos) -> u32
 }
 
 /// The number of a kind of OWNERSHIP.
+///
+/// RTPS 2.5, 9.6 (ParameterId values).
 pub fn ownership_code(kind: OwnershipQos) -> u32
-    ensures { result ≡ ownership_code kind }
+    ensures code { result ≡ ownership_code kind }
 {
     match kind {
         OwnershipQos::Shared => 0,
@@ -266,9 +272,11 @@ pub fn ownership_code(kind: OwnershipQos) -> u32
     }
 }
 
-/// The number of a kind of LIVELINESS.
+/// The number of a kind of LIVELINESS: what offers more has a greater one.
+///
+/// RTPS 2.5, 9.6 (ParameterId values).
 pub fn liveliness_code(kind: LivelinessKind) -> u32
-    ensures { result ≡ liveliness_code kind }
+    ensures code { result ≡ liveliness_code kind }
 {
     match kind {
         LivelinessKind::Automatic => 0,
@@ -277,9 +285,11 @@ pub fn liveliness_code(kind: LivelinessKind) -> u32
     }
 }
 
-/// The number of a kind of DESTINATION_ORDER.
+/// The number of a kind of DESTINATION_ORDER: what offers more has a greater one.
+///
+/// RTPS 2.5, 9.6 (ParameterId values).
 pub fn destination_order_code(kind: DestinationOrderQos) -> u32
-    ensures { result ≡ destination_order_code kind }
+    ensures code { result ≡ destination_order_code kind }
 {
     match kind {
         DestinationOrderQos::ByReceptionTimestamp => 0,
@@ -287,9 +297,11 @@ pub fn destination_order_code(kind: DestinationOrderQos) -> u32
     }
 }
 
-/// The number of an access scope of PRESENTATION.
+/// The number of an access scope of PRESENTATION: a wider one has a greater one.
+///
+/// RTPS 2.5, 9.6 (ParameterId values).
 pub fn scope_code(scope: PresentationScope) -> u32
-    ensures { result ≡ scope_code scope }
+    ensures code { result ≡ scope_code scope }
 {
     match scope {
         PresentationScope::Instance => 0,
