@@ -1,17 +1,23 @@
 //! Announcements of participants and endpoints.
 
 mod captured;
+mod fitting;
 mod worked;
+mod written;
 
-use crate::tests::rows::{Subject, expect_rows, octets_of, push_hex};
+use crate::tests::rows::{Subject, expect_rows, number_of, octets_of, push_hex, words_of};
 use captured::CAPTURED;
-use dds_base::{Guid, GuidPrefix};
+use dds_base::{Code, Guid, GuidPrefix};
+use fitting::FITTING;
 use rtps_announcements::{
-    Duration, Endpoint, EndpointKind, Locator, Name, Participant, Policies, read_endpoint,
-    read_guid, read_participant,
+    Duration, Endpoint, EndpointKind, Locator, Name, Participant, Policies, is_writable_endpoint,
+    is_writable_participant, read_endpoint, read_guid, read_participant, write_endpoint,
+    write_guid, write_participant,
 };
+use rtps_discovery::{fits, misfit, taken_lease};
 use std::alloc::Global;
 use worked::WORKED;
+use written::WRITTEN;
 
 fn push_locators(text: &mut String, locators: &[Locator]) {
     for locator in locators {
@@ -122,6 +128,76 @@ fn push_read_guid(text: &mut String, source: GuidPrefix, octets: &[u8]) {
     }
 }
 
+fn push_written(text: &mut String, written: Result<Vec<u8>, Code>) {
+    if let Ok(octets) = written {
+        push_hex(text, &octets);
+    }
+}
+
+/// Appends an endpoint as it is written, after it was read.
+fn push_written_endpoint(
+    alloc: Global,
+    text: &mut String,
+    source: GuidPrefix,
+    kind: EndpointKind,
+    octets: &[u8],
+) {
+    if let Some(endpoint) = read_endpoint(source, kind, octets) {
+        if is_writable_endpoint(kind, &endpoint) {
+            push_written(text, write_endpoint(alloc, kind, &endpoint));
+        }
+    }
+}
+
+fn push_written_participant(alloc: Global, text: &mut String, source: GuidPrefix, octets: &[u8]) {
+    if let Some(participant) = read_participant(source, 0, octets) {
+        if is_writable_participant(&participant) {
+            push_written(text, write_participant(alloc, 0, &participant));
+        }
+    }
+}
+
+fn push_written_guid(alloc: Global, text: &mut String, source: GuidPrefix, octets: &[u8]) {
+    if let Some(guid) = read_guid(source, octets) {
+        push_written(text, write_guid(alloc, &guid));
+    }
+}
+
+/// An endpoint with this entity id, of the topic "a" and the type "b", and with these parameters in little-endian.
+fn announced(alloc: Global, id: &str, parameters: &str) -> Vec<u8> {
+    let mut text = String::new(alloc);
+    let _ = text.push_str("000300005a001000000000000000000000000001");
+    let _ = text.push_str(id);
+    let _ = text.push_str("0500080002000000610000000700080002000000 62000000 ");
+    let _ = text.push_str(parameters);
+    let _ = text.push_str(" 01000000");
+    octets_of(alloc, &text)
+}
+
+/// Appends by which policy a writer and a reader do not fit, and whether they are matched.
+fn push_fit(alloc: Global, text: &mut String, operands: &str) {
+    let (offered, requested) = operands.split_once('/').unwrap_or((operands, ""));
+    let source = prefix_of("000000000000000000000001");
+    let writer = announced(alloc, "00000102", offered);
+    let reader = announced(alloc, "00000104", requested);
+    let writer = read_endpoint(source, EndpointKind::Writer, &writer);
+    let reader = read_endpoint(source, EndpointKind::Reader, &reader);
+    if let (Some(writer), Some(reader)) = (writer, reader) {
+        let policy = misfit(&writer, &reader);
+        let fits = fits(&writer, &reader);
+        let _ = write!(text, "{policy:?} {fits}");
+    }
+}
+
+/// Appends for how long a participant is taken to be there.
+fn push_lease(text: &mut String, operands: &str) {
+    let words = words_of(operands);
+    let seconds = number_of(words.first) as u32;
+    let fraction = number_of(words.second) as u32;
+    let units = taken_lease(Duration { seconds, fraction });
+    let _ = write!(text, "{units}");
+}
+
 /// The prefix that hex digits spell, zeros where they spell none.
 fn prefix_of(word: &str) -> GuidPrefix {
     let mut octets = [0; 12];
@@ -138,8 +214,18 @@ impl Subject for Announcements {
         let source = prefix_of(source);
         let octets = octets_of(alloc, words);
         match name {
+            "fits" => push_fit(alloc, text, operands),
+            "lease" => push_lease(text, operands),
             "participant" => push_read_participant(text, source, &octets),
             "leaves" => push_read_guid(text, source, &octets),
+            "write-participant" => push_written_participant(alloc, text, source, &octets),
+            "write-leaves" => push_written_guid(alloc, text, source, &octets),
+            "write-writer" => {
+                push_written_endpoint(alloc, text, source, EndpointKind::Writer, &octets)
+            }
+            "write-reader" => {
+                push_written_endpoint(alloc, text, source, EndpointKind::Reader, &octets)
+            }
             "writer" => push_read_endpoint(text, source, EndpointKind::Writer, &octets),
             _ => push_read_endpoint(text, source, EndpointKind::Reader, &octets),
         }
@@ -150,4 +236,6 @@ impl Subject for Announcements {
 fn announcements_are_read(rt: HostRuntime) {
     expect_rows(&rt, rt.alloc(), &mut Announcements, WORKED);
     expect_rows(&rt, rt.alloc(), &mut Announcements, CAPTURED);
+    expect_rows(&rt, rt.alloc(), &mut Announcements, WRITTEN);
+    expect_rows(&rt, rt.alloc(), &mut Announcements, FITTING);
 }
