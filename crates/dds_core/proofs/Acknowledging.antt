@@ -2,6 +2,7 @@
 use Rattle.std.proofs.Common.{◌≡◌, ℕ, zero, suc, ◌+◌, ◌<◌, ◌≤◌, Bool, true, false, cond, ◌&&◌, List, [], ◌∷◌, Option, Some, None, map, set, max, length, get_or, slice_get, refl, ap, sym, ◌∙◌, subst, arith, nat_lt}
 use Rattle.std.specs.Prelude.{ℤ, if◌then◌else◌, nat_le, slice_index, All}
 use Rattle.std.specs.List.{AllByRecursion}
+use Rattle.std.proofs.Math.Nat.{min-le_left}
 use Rattle.std.proofs.lemmas.Bool.Decides.{nat_tests}
 use Rattle.std.proofs.lemmas.List.{length-map}
 use Rattle.std.proofs.lemmas.List.Elements.{All-from_recursion, recursion_from_All}
@@ -12,12 +13,13 @@ use Rattle.dds_machine.specs.declared.endpoint.Endpoint.{Endpoint}
 use Rattle.std.specs.Option.{option_map}
 use Rattle.dds_base.specs.Counts.{is_later}
 use Rattle.dds_machine.specs.declared.reply.Move.TheVariants.{Acknowledged}
-use Rattle.dds_machine.specs.Part.{ReaderProxy, Writer, same_endpoint, row_of, acknowledged_of, with_acknowledged, writer_changes}
+use Rattle.dds_machine.specs.Part.{ReaderProxy, Writer, same_endpoint, row_of, acknowledged_of, with_acknowledged, owed_from, writer_changes}
 use Rattle.dds_core.specs.Answering.{acknowledged_moves}
 use Rattle.dds_protocol.specs.Protocol.{acknowledging}
 use Rattle.dds_protocol.proofs.InOrder.{same_self}
+use Rattle.dds_protocol.proofs.Owing.{first_or}
 use Rattle.dds_machine.proofs.Tables.{same_is}
-use Rattle.dds_core.specs.Standing.{state_of}
+use Rattle.dds_core.specs.Standing.{CountsFrom1, state_of}
 
 -- none of these rows is the reader's
 abbrev pub IsNone : List ReaderProxy → Endpoint → Type 0
@@ -146,22 +148,22 @@ only_within (q ∷ qs) e zero p h = omega arith
 only_within (q ∷ qs) e (suc n) p h = let lt = only_within qs e n p h.1 in omega (arith, lt)
 
 begun_on : (rows : List ReaderProxy) (e : Endpoint) (to : ℕ) → 1 ≤ to
-    → AllByRecursion (λ (x : ReaderProxy). 1 ≤ x.acknowledged) rows
-    → AllByRecursion (λ (x : ReaderProxy). 1 ≤ x.acknowledged) (with_acknowledged rows e to)
+    → AllByRecursion CountsFrom1 rows
+    → AllByRecursion CountsFrom1 (with_acknowledged rows e to)
 begun_on [] e to low h = tt
 begun_on (q ∷ qs) e to low h = by (same_endpoint q.reader e) (begun_on qs e to low h.1)
   where
-    by : (b : Bool) → AllByRecursion (λ (x : ReaderProxy). 1 ≤ x.acknowledged) (with_acknowledged qs e to)
-        → AllByRecursion (λ (x : ReaderProxy). 1 ≤ x.acknowledged) (set_row q qs e to b)
-    by true k = (low, h.1)
+    by : (b : Bool) → AllByRecursion CountsFrom1 (with_acknowledged qs e to)
+        → AllByRecursion CountsFrom1 (set_row q qs e to b)
+    by true k = ((low, h.0.1), h.1)
     by false k = (h.0, k)
 
 pub still_begun : (rows : List ReaderProxy) (e : Endpoint) (to : ℕ) → 1 ≤ to
-    → All (λ (x : ReaderProxy). 1 ≤ x.acknowledged) rows
-    → All (λ (x : ReaderProxy). 1 ≤ x.acknowledged) (with_acknowledged rows e to)
+    → All CountsFrom1 rows
+    → All CountsFrom1 (with_acknowledged rows e to)
 still_begun rows e to low h =
-    All-from_recursion (λ (x : ReaderProxy). 1 ≤ x.acknowledged) (with_acknowledged rows e to)
-    (begun_on rows e to low (recursion_from_All (λ (x : ReaderProxy). 1 ≤ x.acknowledged) rows h))
+    All-from_recursion CountsFrom1 (with_acknowledged rows e to)
+    (begun_on rows e to low (recursion_from_All CountsFrom1 rows h))
 
 -- ---- the state
 
@@ -245,14 +247,37 @@ moves_then w answered e n p base count writer only =
 
 -- what was acknowledged, or more, is from 1 on
 pub low_of : (rows : List ReaderProxy) (e : Endpoint) (n : ℕ) (p : ReaderProxy) (base : ℕ) → IsOnly rows e n p
-    → All (λ (x : ReaderProxy). 1 ≤ x.acknowledged) rows → 1 ≤ max p.acknowledged base
+    → All CountsFrom1 rows → 1 ≤ max p.acknowledged base
 low_of rows e n p base only begun =
     let low =
-    lowest rows n p (recursion_from_All (λ (x : ReaderProxy). 1 ≤ x.acknowledged) rows begun) only in
+    lowest rows n p (recursion_from_All CountsFrom1 rows begun) only in
     omega (arith, low)
   where
     lowest : (rows : List ReaderProxy) (n : ℕ) (p : ReaderProxy)
-        → AllByRecursion (λ (x : ReaderProxy). 1 ≤ x.acknowledged) rows → IsOnly rows e n p → 1 ≤ p.acknowledged
+        → AllByRecursion CountsFrom1 rows → IsOnly rows e n p → 1 ≤ p.acknowledged
     lowest [] n p h k = absurd k
-    lowest (q ∷ qs) zero p h k = subst (λ (x : ReaderProxy). 1 ≤ x.acknowledged) k.0 h.0
+    lowest (q ∷ qs) zero p h k = subst (λ (x : ReaderProxy). 1 ≤ x.acknowledged) k.0 h.0.0
     lowest (q ∷ qs) (suc n) p h k = lowest qs n p h.1 k.1
+
+-- a reader of the rows is owed all
+pub owed_all : (w : Writer) (e : Endpoint) (a : ℕ) → acknowledged_of w.readers e ≡ Some a → All CountsFrom1 w.readers
+    → owed_from w e ≤ 1
+owed_all w e a row begun =
+    let n = length (writer_changes w) in
+    let first = least w.readers (n + 1) (recursion_from_All CountsFrom1 w.readers begun) row in
+    let most = min-le_left (first_or (row_of (λ (x : ReaderProxy). x.reader) w.readers e) (n + 1)) (n + 1) in
+    omega (arith, first, most)
+  where
+    by : (q : ReaderProxy) (rest : Option ReaderProxy) (none : ℕ) (b : Bool) → CountsFrom1 q
+        → option_map (λ (x : ReaderProxy). x.acknowledged) (cond b (Some q) rest) ≡ Some a
+        → (option_map (λ (x : ReaderProxy). x.acknowledged) rest ≡ Some a → first_or rest none ≤ 1)
+        → first_or (cond b (Some q) rest) none ≤ 1
+    by q rest none true h k later = h.1
+    by q rest none false h k later = later k
+
+    least : (rows : List ReaderProxy) (none : ℕ) → AllByRecursion CountsFrom1 rows → acknowledged_of rows e ≡ Some a
+        → first_or (row_of (λ (x : ReaderProxy). x.reader) rows e) none ≤ 1
+    least [] none h k = cc
+    least (q ∷ qs) none h k =
+        by q (row_of (λ (x : ReaderProxy). x.reader) qs e) none (same_endpoint q.reader e) h.0 k
+        (λ j. least qs none h.1 j)

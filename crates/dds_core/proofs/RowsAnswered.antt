@@ -22,10 +22,12 @@ use Rattle.dds_machine.specs.declared.endpoint.Endpoint.{Endpoint}
 use Rattle.dds_machine.specs.declared.reply.Move.{Move}
 use Rattle.dds_machine.specs.declared.reply.Move.TheVariants.{Acknowledged}
 use Rattle.dds_protocol.specs.Claims.{Receiver, IsWriter, IsToWriter, Names}
-use Rattle.dds_machine.specs.Part.{Part, ReaderProxy, Writer, no_writer, same_endpoint, history_of, at_writer, writer_changes}
+use Rattle.dds_machine.specs.Part.{Part, ReaderProxy, Writer, no_writer, same_endpoint, history_of, at_writer, owed_from, writer_changes}
 use Rattle.dds_protocol.specs.Peer.{Peer, state_of as network_of}
 use Rattle.dds_protocol.specs.DueMessages.{Due, answer_message}
-use Rattle.dds_protocol.specs.Protocol.{State, Known, WriterTakes, AreGrouped, TakesAckNack as TakesByRules, acknowledging, is_taken_up, with_answered}
+use Rattle.dds_protocol.specs.Protocol.{State, Known, WriterTakes, AreGrouped, TakesAckNack as TakesByRules, acknowledging, answered_from, has_for, is_taken_up, with_answered}
+use Rattle.dds_machine.proofs.Tables.{acknowledged-hits}
+use Rattle.dds_protocol.proofs.DuesAnswers.{answers_owed_all}
 use Rattle.dds_protocol.proofs.Framing.{with_same}
 use Rattle.dds_protocol.proofs.InOrder.{same_self}
 use Rattle.dds_core.specs.declared.answering.Answering.{Answering}
@@ -38,7 +40,7 @@ use Rattle.dds_core.specs.Identity.{WriterIdentity}
 use Rattle.dds_core.specs.EndNames.{reader_name, reader_names}
 use Rattle.dds_core.specs.Receiving.{with_state, NeedsMemory}
 use Rattle.dds_core.specs.Standing.{StandsFor, WriterStands, state_of}
-use Rattle.dds_core.proofs.Acknowledging.{IsOnly, IsCounted, only_row, acknowledged_is, acknowledged_then, applied_is, low_of, moves_then, not_same, readers_same, state_applied, still_begun}
+use Rattle.dds_core.proofs.Acknowledging.{IsOnly, IsCounted, only_row, acknowledged_is, acknowledged_then, applied_is, low_of, owed_all, moves_then, not_same, readers_same, state_applied, still_begun}
 use Rattle.dds_core.proofs.Beating.{adds_none}
 use Rattle.dds_core.proofs.Ends.{with_writer, writer_put}
 use Rattle.dds_core.proofs.Lists.{get-map, map-get}
@@ -370,14 +372,23 @@ row_applied turn from is = record {
             low_of (writer_of turn.c).readers turn.c.name.reader turn.c.row (row_of turn).proxy (base_of turn)
             (row_of turn).only (stood turn.c).begun
 
+    owed : owed_from there turn.c.name.reader ≤ 1
+    owed =
+        owed_all there turn.c.name.reader (max (row_of turn).proxy.acknowledged (base_of turn))
+        (acknowledged-hits (writer_of turn.c).readers turn.c.name.reader (row_of turn).proxy.acknowledged
+        (max (row_of turn).proxy.acknowledged (base_of turn))
+        (acknowledged_is (writer_of turn.c).readers turn.c.name.reader turn.c.row (row_of turn).proxy
+        (row_of turn).only)) stands.begun
+
     taken : is_taken_up (network_of turn.c.peer) (suc turn.c.i) turn.c.name.reader turn.a ≡ true
     taken =
         sym (applied_is (writer_of turn.c) (answered_of turn.c) turn.c.name.reader turn.c.row (row_of turn).proxy
         (base_of turn) turn.a.count (row_of turn).only) ∙ is
 
     answers_are : acknack_answers (before turn) turn.c.row (base_of turn) turn.a.reader_sn_state turn.a.count
-        ≡ answers_to (is_kept (history_of there))
-        (requested turn.a.reader_sn_state (max (row_of turn).proxy.acknowledged (base_of turn))
+        ≡ answers_to (has_for there turn.c.name.reader)
+        (requested turn.a.reader_sn_state
+        (answered_from (owed_from there turn.c.name.reader) (row_of turn).proxy.acknowledged (base_of turn))
         (length (writer_changes there)))
     answers_are =
         ap (λ (b : Bool). if b then answers_after
@@ -387,7 +398,9 @@ row_applied turn from is = record {
         (requested turn.a.reader_sn_state n (length (writer_changes there))))
         (ap (λ (x : WriterState). acknowledged_by x turn.c.row) state_is
         ∙ acknowledged_then (writer_of turn.c) (answered_of turn.c) turn.c.name.reader turn.c.row
-        (row_of turn).proxy (base_of turn) turn.a.count (row_of turn).only))
+        (row_of turn).proxy (base_of turn) turn.a.count (row_of turn).only)
+        ∙ answers_owed_all there turn.c.name.reader turn.a.reader_sn_state (row_of turn).proxy.acknowledged (base_of turn)
+        owed)
 
     takes : TakesByRules turn.c.kept.prefix turn.at (network_of turn.c.peer)
         (suc turn.c.i) turn.c.name.reader turn.c.name.guid.entity turn.a

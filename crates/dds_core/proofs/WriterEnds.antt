@@ -27,7 +27,7 @@ use Rattle.dds_core.specs.Identity.{WriterIdentity, writer_identity}
 use Rattle.dds_core.specs.Matching.{destinations}
 use Rattle.dds_core.specs.EndNames.{reader_name, reader_names}
 use Rattle.dds_core.specs.OpeningEnds.{OpensWriter}
-use Rattle.dds_core.specs.Standing.{AreShort, IsWhole, WriterStands, state_of}
+use Rattle.dds_core.specs.Standing.{AreShort, CountsFrom1, IsWhole, WriterStands, state_of}
 use Rattle.dds_core.specs.Stepping.{Enters, Ticks}
 use Rattle.dds_core.proofs.Acknowledging.{state_as}
 use Rattle.dds_core.proofs.Tables.{map-reliable_readers, told_alike}
@@ -41,17 +41,20 @@ identity_as entity autodispose a b c d e f = cc
 
 -- what looks alike of each row is of one value
 rows_begun : (rows : List ReaderProxy) (count : ℕ) → map (λ (p : ReaderProxy). p.acknowledged) rows ≡ replicate count 1
-    → AllByRecursion (λ (p : ReaderProxy). 1 ≤ p.acknowledged) rows
-rows_begun [] count same = tt
-rows_begun (p ∷ ps) zero same = absurd cc
-rows_begun (p ∷ ps) (suc count) same = (
-  first p.acknowledged (map (λ (q : ReaderProxy). q.acknowledged) ps) (replicate count 1) same,
-  rows_begun ps count
-      (rest p.acknowledged _ _ same),
-)
+    → map (λ (p : ReaderProxy). p.first) rows ≡ replicate count 1 → AllByRecursion CountsFrom1 rows
+rows_begun [] count same owed = tt
+rows_begun (p ∷ ps) zero same owed = absurd cc
+rows_begun (p ∷ ps) (suc count) same owed =
+    let acknowledged : p.acknowledged ≡ 1 =
+    first p.acknowledged (map (λ (q : ReaderProxy). q.acknowledged) ps) (replicate count 1) same in
+    let from : p.first ≡ 1 = first p.first (map (λ (q : ReaderProxy). q.first) ps) (replicate count 1) owed in (
+      (omega (arith, acknowledged), omega (arith, from)),
+      rows_begun ps count (rest p.acknowledged _ _ same)
+          (rest p.first _ _ owed),
+    )
   where
-    first : (a : ℕ) (xs ys : List ℕ) → a ∷ xs ≡ 1 ∷ ys → 1 ≤ a
-    first a xs ys e = let one = ap (λ (ns : List ℕ). get_or ns 0 0) e in omega (arith, one)
+    first : (a : ℕ) (xs ys : List ℕ) → a ∷ xs ≡ 1 ∷ ys → a ≡ 1
+    first a xs ys e = ap (λ (ns : List ℕ). get_or ns 0 0) e
 
     rest : (a : ℕ) (xs ys : List ℕ) → a ∷ xs ≡ 1 ∷ ys → xs ≡ ys
     rest a xs ys e = cc
@@ -69,6 +72,9 @@ opens_writer peers w ds names limit strength kept count counted sent matched lim
     sym (counted ∙ ap (λ (ns : List ReaderName). length ns) matched) in
     let acknowledged : map (λ (p : ReaderProxy). p.acknowledged) rows ≡ replicate count 1 =
     map-reliable_readers (λ (p : ReaderProxy). p.acknowledged) _ w.topic 1 peers
+    ∙ (told_alike 1 reader_name w.topic 1 peers ∙ ap (λ (n : ℕ). replicate n 1) many) in
+    let owed : map (λ (p : ReaderProxy). p.first) rows ≡ replicate count 1 =
+    map-reliable_readers (λ (p : ReaderProxy). p.first) _ w.topic 1 peers
     ∙ (told_alike 1 reader_name w.topic 1 peers ∙ ap (λ (n : ℕ). replicate n 1) many) in
     let is_matched : Bool = nat_lt 0 (length (matched_readers w.topic 1 peers)) in
     let told : nat_lt 0 (length ds) ≡ is_matched =
@@ -94,7 +100,7 @@ opens_writer peers w ds names limit strength kept count counted sent matched lim
             (opening w.history (limit_of w.max_samples) w.lease z (nat_lt 0 (length ds)) count)) carries
             (subst (λ (o : Option ℕ). RtpsStandsFor kept
             (opening w.history o w.lease strength (nat_lt 0 (length ds)) count)) limited stands)));
-        begun = All-from_recursion (λ (p : ReaderProxy). 1 ≤ p.acknowledged) rows (rows_begun rows count acknowledged);
+        begun = All-from_recursion CountsFrom1 rows (rows_begun rows count acknowledged owed);
       };
     }
 

@@ -45,12 +45,16 @@ state_of w answered = record {
   counts = map (λ (p : ReaderProxy). answered p.reader) w.readers;
 }
 
+-- the reader of a row has acknowledged all below a number from 1 on, and is owed all changes
+abbrev pub CountsFrom1 : ReaderProxy → Type 0
+CountsFrom1 p = (1 ≤ p.acknowledged) × (p.first ≤ 1)
+
 -- a writer of the machine for which what is kept stands, with those counts
 pub record WriterStands (kept : WriterKept) (w : Writer) (answered : Endpoint → Option ℤ) : Type 0 where
   pub autodispose : w.autodispose ≡ kept.autodispose
   pub readers : map (λ (p : ReaderProxy). p.reader) w.readers ≡ map (λ (r : ReaderName). r.reader) kept.readers
   pub writer : RtpsStandsFor kept.writer (state_of w answered)
-  pub begun : All (λ (p : ReaderProxy). 1 ≤ p.acknowledged) w.readers
+  pub begun : All CountsFrom1 w.readers
 
 -- the value of each of these changes has at most 1,024 octets
 abbrev pub AreShort : List Change → Type 0

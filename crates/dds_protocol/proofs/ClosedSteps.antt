@@ -1,11 +1,12 @@
 -- Where nobody comes or goes a change is passed over only if it was dropped, and packets claim no less.
-use Rattle.std.proofs.Common.{◌≡◌, ◌⊎◌, ℕ, ◌+◌, ◌<◌, ◌≤◌, ℤ, true, List, [], ◌∷◌, Option, None, Some, length, refl, subst, ap, sym, ◌∙◌, inl, inr, ⊎_elim, arith}
+use Rattle.std.proofs.Common.{◌≡◌, ◌⊎◌, ℕ, ◌+◌, ◌<◌, ◌≤◌, ℤ, true, false, List, [], ◌∷◌, Option, None, Some, length, refl, subst, ap, sym, ◌∙◌, inl, inr, ⊎_elim, arith}
 use Rattle.std.specs.Prelude.{◌↔◌, IsSome, is_some, min}
 use Rattle.std.specs.Option.{option_map}
 use Rattle.std.proofs.Math.Nat.{min-le_left}
 use Rattle.dds_base.specs.declared.change.Change.{Change}
 use Rattle.dds_base.specs.declared.config.Config.{Config}
 use Rattle.dds_base.specs.Kept.{is_dropped}
+use Rattle.dds_base.specs.Matched.{is_reliable}
 use Rattle.dds_base.proofs.PlaceLaws.{SayAsMuch, goes_on}
 use Rattle.dds_machine.specs.declared.endpoint.Endpoint.{Endpoint}
 use Rattle.dds_machine.specs.declared.event.WorldEvent.{WorldEvent}
@@ -17,7 +18,7 @@ use Rattle.dds_machine.specs.declared.reply.Reply.TheVariants.{Reported}
 use Rattle.dds_machine.specs.Machine.{Machine, AllTests, Step, grounds_of, part_at, place_at, writer_at}
 use Rattle.dds_machine.specs.Moves.{Grounds, AreMoves, DeliveryStep, IsMove, as_to, match_of, position_at}
 use Rattle.dds_machine.specs.Noticing.{machine_ended}
-use Rattle.dds_machine.specs.Part.{IsAtMost, IsBelow, IsCovered, NoLess, Part, ReaderProxy, acknowledged_of, history_of, owed_from, own_proxies, place_of, row_of, writer_changes}
+use Rattle.dds_machine.specs.Part.{IsAtMost, IsBelow, IsCovered, NoLess, Part, ReaderProxy, acknowledged_of, history_of, owed_from, own_proxies, own_reader, place_of, row_of, writer_changes}
 use Rattle.dds_machine.specs.Runs.{Run}
 use Rattle.dds_protocol.specs.Claims.{MayPass}
 use Rattle.dds_protocol.specs.Closed.{ClosedRun, ClosedStep, IsClosed, closed_grounds_of}
@@ -55,6 +56,12 @@ passes_dropped m c i r w n placed h =
     let from = o.from in
     let below = o.below in
     absurd (omega (arith, all, from, below))) h
+
+-- a best-effort reader is told of none that is not owed
+pub best_effort_dropped : (m : Machine) (i : ℕ) (w : Endpoint) (r n : ℕ)
+    → is_reliable (own_reader (part_at m i) r).qos.reliability ≡ false → (grounds_of m i).may_pass w r n
+    → is_dropped (history_of (writer_at m w)) n ≡ true
+best_effort_dropped m i w r n best h = ⊎_elim (λ d. d) (λ o. let is = o.reliable in absurd cc) h
 
 -- ---- moves on other grounds
 

@@ -30,7 +30,7 @@ use Rattle.dds_protocol.proofs.OwnGuids.{prefix-Decides, one_writer, one_reader,
 use Rattle.dds_protocol.proofs.RuledReaders.{Coming}
 use Rattle.dds_machine.proofs.Tables.{numbered-same, place-hits}
 
-first_of : (a b : Bool) → (a || b) ≡ true → b ≡ false → a ≡ true
+pub first_of : (a b : Bool) → (a || b) ≡ true → b ≡ false → a ≡ true
 first_of true b h none = refl
 first_of false b h none = cc
 

@@ -1,16 +1,17 @@
--- What a writer answers to an ACKNACK is true: a DATA tells a change of its list, and a GAP names what it has dropped.
-use Rattle.std.proofs.Common.{◌≡◌, ℕ, zero, suc, ◌+◌, ◌^◌, ◌<◌, ◌≤◌, max, Bool, true, false, List, [], ◌∷◌, ◌++◌, Option, Some, None, length, get_or, map, nat_lt, refl, subst, ap, sym, ◌∙◌, inl, inr, ⊎_elim, arith}
-use Rattle.std.specs.Prelude.{if◌then◌else◌, nat_le, ◌&&◌}
+-- What a writer answers to an ACKNACK is true: a DATA tells a change of its list, and a GAP names what the reader that
+-- asked may pass over.
+use Rattle.std.proofs.Common.{◌≡◌, ◌⊎◌, ℕ, zero, suc, ◌+◌, ◌^◌, ◌<◌, ◌≤◌, max, Bool, true, false, List, [], ◌∷◌, ◌++◌, Option, Some, None, length, get_or, map, nat_lt, refl, subst, ap, sym, ◌∙◌, inl, inr, ⊎_elim, arith}
+use Rattle.std.specs.Prelude.{if◌then◌else◌, nat_le, ◌&&◌, ◌||◌}
 use Rattle.std.specs.List.{All, flat_map}
-use Rattle.std.proofs.lemmas.Bool.{and_parts, leb-true}
+use Rattle.std.proofs.lemmas.Bool.{and_parts, cases_lt, leb-true}
 use Rattle.std.proofs.lemmas.Bool.Decides.{nat_tests}
 use Rattle.std.proofs.lemmas.List.Elements.{All-cons, All-head, All-map, All-nil, All-tail, All-weaker, filter_passes}
 use Rattle.dds_base.specs.declared.change.Change.{Change}
 use Rattle.dds_base.specs.declared.config.Config.{Config}
 use Rattle.dds_base.specs.declared.guid.EntityId.{EntityId}
 use Rattle.dds_base.specs.declared.guid.GuidPrefix.{GuidPrefix}
-use Rattle.dds_base.specs.Checked.{check_refusal}
-use Rattle.dds_base.specs.Kept.{change_at, is_dropped, is_kept, numbers_from}
+use Rattle.dds_base.specs.Checked.{check_refusal, same_prefix}
+use Rattle.dds_base.specs.Kept.{WriterHistory, change_at, is_kept, numbers_from}
 use Rattle.rtps_sets.specs.NumberSet.{NumberSet, has_number, empty_from}
 use Rattle.rtps_sets.proofs.MemberLaws.{empty_has_none}
 use Rattle.rtps_wire.specs.declared.acknack.AckNack.{AckNack as AckNackBody}
@@ -20,21 +21,21 @@ use Rattle.rtps_wire.specs.Content.{content_of, change_in}
 use Rattle.rtps_wire.proofs.ContentLaws.{change_in-content_of}
 use Rattle.rtps_writer.specs.declared.answer.Answer.{Answer}
 use Rattle.rtps_writer.specs.declared.answer.Answer.TheVariants.{Data as AnswersData, Gap as AnswersGap}
-use Rattle.rtps_writer.specs.Answers.{GapsAre, IsRight, answers_to, is_requested, requested}
+use Rattle.rtps_writer.specs.Answers.{GapsAre, IsRight, answer_before, answers_to, is_requested, requested}
 use Rattle.rtps_writer.proofs.AnswerFacts.{answers-right}
 use Rattle.dds_machine.specs.declared.endpoint.Endpoint.{Endpoint}
 use Rattle.dds_machine.specs.declared.reply.Move.{Move}
 use Rattle.dds_machine.specs.Numbered.{HasNumber}
-use Rattle.dds_machine.specs.Part.{Part, Writer, no_writer, own_writer, acknowledged_of, writer_changes, history_of, at_writer}
-use Rattle.dds_protocol.specs.Claims.{Receiver, is_for, stamp_of, after_submessage, StandsAt, IsWriter, IsToWriter, Claim, ChangeIs, MayPass, PlaceReached, Asserts, Says}
+use Rattle.dds_machine.specs.Part.{IsBelow, Part, Writer, no_writer, own_writer, acknowledged_of, owed_from, writer_changes, history_of, at_writer}
+use Rattle.dds_protocol.specs.Claims.{Receiver, Names, is_for, every_peer, stamp_of, after_submessage, StandsAt, IsReader, IsWriter, IsToReader, IsToWriter, Claim, ChangeIs, MayPass, PlaceReached, Asserts, Says}
 use Rattle.dds_protocol.specs.Peer.{IsTrueAt}
 use Rattle.dds_protocol.specs.DueMessages.{Due, answer_message, data_of, submessages_of}
-use Rattle.dds_protocol.specs.Protocol.{State, TakesAckNack, WriterTakes, AreGrouped}
+use Rattle.dds_protocol.specs.Protocol.{State, TakesAckNack, WriterTakes, AreGrouped, answered_from, has_for}
 use Rattle.dds_protocol.specs.Dues.{IsTellable, AreTellable, IsTruthful, AreTruthful}
 use Rattle.dds_protocol.proofs.Dues.{addressed, told_to, ts_says}
-use Rattle.dds_protocol.proofs.DuesAcknacks.{none_due}
-use Rattle.dds_protocol.proofs.DuesUnkept.{unkept_dropped}
-use Rattle.dds_protocol.proofs.OwnGuids.{one_writer}
+use Rattle.dds_protocol.proofs.DuesAcknacks.{first_of, none_due}
+use Rattle.dds_protocol.proofs.DuesUnkept.{Passes, unkept_dropped}
+use Rattle.dds_protocol.proofs.OwnGuids.{not_every_peer_of, not_every_reader, one_reader, one_writer, prefix-Decides}
 use Rattle.dds_protocol.proofs.RuledReaders.{Coming}
 use Rattle.dds_machine.proofs.Tables.{numbered-same, acknowledged-hits}
 
@@ -51,6 +52,37 @@ pub record Answering : Type 0 where
   pub writer : Writer
   pub is : own_writer part number ≡ writer
   pub tellable : (n : ℕ) (c : Change) → change_at (writer_changes writer) n ≡ Some c → IsTellable c
+  -- the reader that asked, with its prefix and its entity id
+  pub reader : Endpoint
+  pub to : GuidPrefix
+  pub reader_entity : EntityId
+  pub asks : IsReader config to reader_entity reader
+
+-- the message is from the writer's peer, and this part of it for the reader's
+abbrev IsBetweenPeers : Answering → Receiver → Type 0
+IsBetweenPeers x r = (r.source_guid_prefix ≡ x.own) × (r.dest_guid_prefix ≡ x.to)
+
+-- the reader that a GAP names is the one that asked
+asked_by : (x : Answering) (far : GuidPrefix) (at : Receiver) → at.dest_guid_prefix ≡ x.to → (w r : Endpoint)
+    → IsToReader x.config far at x.reader_entity x.entity w r → r ≡ x.reader
+asked_by x far at dest w r h = by h.entity h.named h.to
+  where
+    unknown : same_prefix x.to every_peer ≡ false
+    unknown = not_every_peer_of x.config x.to x.reader_entity x.reader x.checked x.asks
+
+    same : x.to ≡ far
+    same =
+        (prefix-Decides x.to far).0
+        (first_of (same_prefix x.to far) (same_prefix x.to every_peer)
+        (ap (λ (p : GuidPrefix). same_prefix p far || same_prefix p every_peer) (sym dest) ∙ h.is_for) unknown)
+
+    by : (entity : EntityId) → Names x.reader_entity entity → IsReader x.config far entity r → r ≡ x.reader
+    by entity (inl e) named =
+        one_reader x.config x.to x.reader_entity r x.reader x.checked
+        (subst (λ (p : GuidPrefix). IsReader x.config p x.reader_entity r) (sym same)
+        (subst (λ (i : EntityId). IsReader x.config far i r) (sym e) named)) x.asks
+    by entity (inr every) named =
+        absurd (not_every_reader x.config x.to x.reader_entity x.reader x.checked x.asks every)
 
 -- the name in a submessage is that of the writer
 named : (x : Answering) (prefix : GuidPrefix) → prefix ≡ x.own → (w : Endpoint) → IsWriter x.config prefix x.entity w
@@ -94,21 +126,22 @@ data_says x reader far at n c source time there (ChangeIs w r k d) h =
     )
 
 -- a GAP from one number to another names no others
-gap_says : (x : Answering) (reader : EntityId) (far : GuidPrefix) (at : Receiver) (first last : ℕ)
-    → at.source_guid_prefix ≡ x.own
-    → ((n : ℕ) → first ≤ n → n ≤ last → is_dropped (history_of x.writer) n ≡ true) → (claim : Claim)
-    → Says x.config far at (gap_with x reader first last) claim → IsTrueAt x.peer x.part claim
-gap_says x reader far at first last source dropped (ChangeIs w r n c) h = absurd h
-gap_says x reader far at first last source dropped (PlaceReached w r b) h = absurd h
-gap_says x reader far at first last source dropped (Asserts w r k) h = absurd h
-gap_says x reader far at first last source dropped (MayPass w r n) h =
-    let same = named x at.source_guid_prefix source w h.0.is_to.from in
-    let within : is_dropped (history_of x.writer) n ≡ true =
+gap_says : (x : Answering) (far : GuidPrefix) (at : Receiver) (first last : ℕ) → IsBetweenPeers x at
+    → ((n : ℕ) → first ≤ n → n ≤ last → Passes x.writer x.reader n) → (claim : Claim)
+    → Says x.config far at (gap_with x x.reader_entity first last) claim → IsTrueAt x.peer x.part claim
+gap_says x far at first last between passes (ChangeIs w r n c) h = absurd h
+gap_says x far at first last between passes (PlaceReached w r b) h = absurd h
+gap_says x far at first last between passes (Asserts w r k) h = absurd h
+gap_says x far at first last between passes (MayPass w r n) h =
+    let same = named x at.source_guid_prefix between.0 w h.0.is_to.from in
+    let asked = asked_by x far at between.1 w r h.0.is_to in
+    let within : Passes x.writer x.reader n =
     ⊎_elim
-    (λ (i : (first ≤ n) × (n < last + 1)). let high = i.1 in dropped n i.0 (omega (arith, high)))
+    (λ (i : (first ≤ n) × (n < last + 1)). let high = i.1 in passes n i.0 (omega (arith, high)))
     (λ member. let none = empty_has_none (last + 1) n in absurd cc) h.2 in (
       ap (λ (e : Endpoint). e.peer) same,
-      inl (ap (λ (y : Writer). is_dropped (history_of y) n) (written_there x w same) ∙ within),
+      subst (λ (y : Writer). Passes y r n) (sym (written_there x w same))
+          (subst (λ (e : Endpoint). Passes x.writer e n) (sym asked) within),
     )
 
 -- ---- the submessages for the answers
@@ -118,6 +151,12 @@ sourced : (b : Bool) (r : Receiver) (stamp : ℕ)
     → (if b then record r { timestamp = stamp } else r).source_guid_prefix ≡ r.source_guid_prefix
 sourced true r stamp = refl
 sourced false r stamp = refl
+
+-- and whom it is for
+destined : (b : Bool) (r : Receiver) (stamp : ℕ)
+    → (if b then record r { timestamp = stamp } else r).dest_guid_prefix ≡ r.dest_guid_prefix
+destined true r stamp = refl
+destined false r stamp = refl
 
 stamped : (b : Bool) (far : GuidPrefix) (r : Receiver) (stamp : ℕ) → is_for r far ≡ b
     → is_for (if b then record r { timestamp = stamp } else r) far ≡ true
@@ -129,8 +168,8 @@ early_is : (moment : ℕ) → moment < 2 ^ 63 → stamp_of (Some moment) ≡ mom
 early_is moment early =
     let is : nat_lt moment (2 ^ 63) ≡ true = grind (arith, nat_tests) in ap (λ (b : Bool). if b then moment else 0) is
 
-abbrev IsDropped : Answering → Answer → Type 0
-IsDropped x a = GapsAre (λ n. is_dropped (history_of x.writer) n ≡ true) a
+abbrev ArePassed : Answering → Answer → Type 0
+ArePassed x a = GapsAre (λ n. Passes x.writer x.reader n) a
 
 abbrev told_of : Answering → EntityId → List Answer → List Submessage
 told_of x reader answers = flat_map (submessages_of (writer_changes x.writer) reader x.entity) answers
@@ -143,18 +182,18 @@ SayTrue x far r ss =
 
 -- the submessages for a change, and what follows
 data_first : (x : Answering) (reader : EntityId) (far : GuidPrefix) (r : Receiver) (n : ℕ) (o : Option Change)
-    (rest : List Submessage) → r.source_guid_prefix ≡ x.own → change_at (writer_changes x.writer) n ≡ o
-    → ((after : Receiver) → after.source_guid_prefix ≡ x.own → SayTrue x far after rest)
+    (rest : List Submessage) → IsBetweenPeers x r → change_at (writer_changes x.writer) n ≡ o
+    → ((after : Receiver) → IsBetweenPeers x after → SayTrue x far after rest)
     → SayTrue x far r (data_of reader x.entity n o ++ rest)
-data_first x reader far r n None rest source there later index at s stands claim h =
-    later r source index at s stands claim h
-data_first x reader far r n (Some c) rest source there later zero at s stands claim h =
+data_first x reader far r n None rest between there later index at s stands claim h =
+    later r between index at s stands claim h
+data_first x reader far r n (Some c) rest between there later zero at s stands claim h =
     absurd (ts_says x.config far at (Some c.source_timestamp) claim
     (subst (λ (y : Submessage). Says x.config far at y claim) stands.1 h))
-data_first x reader far r n (Some c) rest source there later (suc zero) at s stands claim h =
+data_first x reader far r n (Some c) rest between there later (suc zero) at s stands claim h =
     let after : Receiver = after_submessage far r (InfoTs (Some c.source_timestamp)) in
     let from : after.source_guid_prefix ≡ x.own =
-    sourced (is_for r far) r (stamp_of (Some c.source_timestamp)) ∙ source in
+    sourced (is_for r far) r (stamp_of (Some c.source_timestamp)) ∙ between.0 in
     let time : is_for at far ≡ true → at.timestamp ≡ c.source_timestamp = λ for.
     ap (λ (y : Receiver). y.timestamp) stands.0
     ∙ (stamped (is_for r far) far r (stamp_of (Some c.source_timestamp)) refl
@@ -162,45 +201,49 @@ data_first x reader far r n (Some c) rest source there later (suc zero) at s sta
     ∙ early_is c.source_timestamp (x.tellable n c there).early) in
     data_says x reader far at n c (ap (λ (y : Receiver). y.source_guid_prefix) stands.0 ∙ from) time there claim
     (subst (λ (y : Submessage). Says x.config far at y claim) stands.1 h)
-data_first x reader far r n (Some c) rest source there later (suc (suc index)) at s stands claim h =
-    later (after_submessage far r (InfoTs (Some c.source_timestamp)))
-    (sourced (is_for r far) r (stamp_of (Some c.source_timestamp)) ∙ source) index at s stands claim h
+data_first x reader far r n (Some c) rest between there later (suc (suc index)) at s stands claim h =
+    later (after_submessage far r (InfoTs (Some c.source_timestamp))) (
+      sourced (is_for r far) r (stamp_of (Some c.source_timestamp)) ∙ between.0,
+      destined (is_for r far) r (stamp_of (Some c.source_timestamp)) ∙ between.1,
+    ) index at s stands claim h
 
-gap_first : (x : Answering) (reader : EntityId) (far : GuidPrefix) (r : Receiver) (first last : ℕ)
-    (rest : List Submessage) → r.source_guid_prefix ≡ x.own
-    → ((n : ℕ) → first ≤ n → n ≤ last → is_dropped (history_of x.writer) n ≡ true) → SayTrue x far r rest
-    → SayTrue x far r (gap_with x reader first last ∷ rest)
-gap_first x reader far r first last rest source dropped later zero at s stands claim h =
-    gap_says x reader far at first last (ap (λ (y : Receiver). y.source_guid_prefix) stands.0 ∙ source) dropped claim
-    (subst (λ (y : Submessage). Says x.config far at y claim) stands.1 h)
-gap_first x reader far r first last rest source dropped later (suc index) at s stands claim h =
+gap_first : (x : Answering) (far : GuidPrefix) (r : Receiver) (first last : ℕ) (rest : List Submessage)
+    → IsBetweenPeers x r → ((n : ℕ) → first ≤ n → n ≤ last → Passes x.writer x.reader n) → SayTrue x far r rest
+    → SayTrue x far r (gap_with x x.reader_entity first last ∷ rest)
+gap_first x far r first last rest between passes later zero at s stands claim h =
+    gap_says x far at first last (
+      ap (λ (y : Receiver). y.source_guid_prefix) stands.0 ∙ between.0,
+      ap (λ (y : Receiver). y.dest_guid_prefix) stands.0 ∙ between.1,
+    ) passes claim (subst (λ (y : Submessage). Says x.config far at y claim) stands.1 h)
+gap_first x far r first last rest between passes later (suc index) at s stands claim h =
     later index at s stands claim h
 
-answers_say : (x : Answering) (reader : EntityId) (far : GuidPrefix) (answers : List Answer)
-    → All (IsDropped x) answers → (r : Receiver) → r.source_guid_prefix ≡ x.own
-    → SayTrue x far r (told_of x reader answers)
-answers_say x reader far [] dropped r source index at s stands claim h = absurd stands
-answers_say x reader far (AnswersData n ∷ rest) dropped r source index at s stands claim h =
-    data_first x reader far r n (change_at (writer_changes x.writer) n) (told_of x reader rest) source refl
-    (λ after from. answers_say x reader far rest (All-tail (IsDropped x) (AnswersData n) rest dropped) after from)
+answers_say : (x : Answering) (far : GuidPrefix) (answers : List Answer)
+    → All (ArePassed x) answers → (r : Receiver) → IsBetweenPeers x r
+    → SayTrue x far r (told_of x x.reader_entity answers)
+answers_say x far [] passed r between index at s stands claim h = absurd stands
+answers_say x far (AnswersData n ∷ rest) passed r between index at s stands claim h =
+    data_first x x.reader_entity far r n (change_at (writer_changes x.writer) n) (told_of x x.reader_entity rest)
+    between refl
+    (λ after next. answers_say x far rest (All-tail (ArePassed x) (AnswersData n) rest passed) after next)
     index at s stands claim h
-answers_say x reader far (AnswersGap first last ∷ rest) dropped r source index at s stands claim h =
-    gap_first x reader far r first last (told_of x reader rest) source
-    (All-head (IsDropped x) (AnswersGap first last) rest dropped)
-    (answers_say x reader far rest (All-tail (IsDropped x) (AnswersGap first last) rest dropped) r source)
+answers_say x far (AnswersGap first last ∷ rest) passed r between index at s stands claim h =
+    gap_first x far r first last (told_of x x.reader_entity rest) between
+    (All-head (ArePassed x) (AnswersGap first last) rest passed)
+    (answers_say x far rest (All-tail (ArePassed x) (AnswersGap first last) rest passed) r between)
     index at s stands claim h
 
--- the message with them, to the peer of this number and prefix
-abbrev answers_due : Answering → GuidPrefix → ℕ → EntityId → List Answer → Due
-answers_due x to peer reader answers =
-    record { to = peer; message = answer_message x.own to reader x.entity (writer_changes x.writer) answers }
+-- the message with them, to the peer of this number
+abbrev answers_due : Answering → ℕ → List Answer → Due
+answers_due x peer answers =
+    record { to = peer; message = answer_message x.own x.to x.reader_entity x.entity (writer_changes x.writer) answers }
 
 -- That message is true.
-answers_truthful : (x : Answering) (to : GuidPrefix) (peer : ℕ) (reader : EntityId) (answers : List Answer)
-    → All (IsDropped x) answers → IsTruthful x.config x.peer x.part (answers_due x to peer reader answers)
-answers_truthful x to peer reader answers dropped claim writable says =
-    let t = told_to x.config x.own to (told_of x reader answers) claim writable says in
-    answers_say x reader t.far answers dropped (addressed x.own to) refl t.index t.at t.submessage t.stands claim t.says
+answers_truthful : (x : Answering) (peer : ℕ) (answers : List Answer)
+    → All (ArePassed x) answers → IsTruthful x.config x.peer x.part (answers_due x peer answers)
+answers_truthful x peer answers passed claim writable says =
+    let t = told_to x.config x.own x.to (told_of x x.reader_entity answers) claim writable says in
+    answers_say x t.far answers passed (addressed x.own x.to) (refl, refl) t.index t.at t.submessage t.stands claim t.says
 
 -- ---- the answers to an ACKNACK
 
@@ -235,36 +278,80 @@ asked_of w set from n h =
       leb-true n (length (writer_changes w)) range.1,
     )
 
--- the answers of a writer to what is requested of it
-abbrev pub answers_of : Writer → NumberSet → ℕ → List Answer
-answers_of w set from = answers_to (is_kept (history_of w)) (requested set from (length (writer_changes w)))
+-- the answers of a writer to what is requested of it, for this reader
+abbrev pub answers_of : Writer → Endpoint → NumberSet → ℕ → List Answer
+answers_of w r set from = answers_to (has_for w r) (requested set from (length (writer_changes w)))
 
 -- they are right
-pub answers_of-right : (w : Writer) (set : NumberSet) (from : ℕ)
-    → All (IsRight (λ n. is_kept (history_of w) n) (IsAskedOf w set from)) (answers_of w set from)
-answers_of-right w set from =
+pub answers_of-right : (w : Writer) (r : Endpoint) (set : NumberSet) (from : ℕ)
+    → All (IsRight (λ n. has_for w r n) (IsAskedOf w set from)) (answers_of w r set from)
+answers_of-right w r set from =
     let ns : List ℕ = requested set from (length (writer_changes w)) in
-    answers-right (λ n. is_kept (history_of w) n) (IsAskedOf w set from) ns
+    answers-right (λ n. has_for w r n) (IsAskedOf w set from) ns
     (All-weaker (λ n. is_requested set from (length (writer_changes w)) n ≡ true) (IsAskedOf w set from)
     (λ n h. asked_of w set from n h) ns
     (filter_passes (is_requested set from (length (writer_changes w))) (numbers_from set.base 256)))
 
--- what is asked of a writer, and not kept, is dropped, where a reader has acknowledged what goes before
-gap_dropped : (w : Writer) (r : Endpoint) (set : NumberSet) (from : ℕ) → acknowledged_of w.readers r ≡ Some from
-    → 1 ≤ set.base → (a : Answer) → IsRight (λ n. is_kept (history_of w) n) (IsAskedOf w set from) a
-    → GapsAre (λ n. is_dropped (history_of w) n ≡ true) a
-gap_dropped w r set from is low (AnswersData n) right = tt
-gap_dropped w r set from is low (AnswersGap first last) right = λ n least most.
+-- where all is owed, the answers are those to what is kept, from what is acknowledged on
+
+none_kept : (h : WriterHistory) → is_kept h 0 ≡ false
+none_kept h = refl
+
+and_true : (b : Bool) → (b && true) ≡ b
+and_true true = refl
+and_true false = refl
+
+all_has : (w : Writer) (r : Endpoint) (n : ℕ) → owed_from w r ≤ 1 → is_kept (history_of w) n ≡ has_for w r n
+all_has w r zero all =
+    none_kept (history_of w)
+    ∙ sym (ap (λ (b : Bool). b && nat_le (owed_from w r) zero) (none_kept (history_of w)))
+all_has w r (suc n) all =
+    let low : nat_le (owed_from w r) (suc n) ≡ true = grind (arith, nat_tests) in
+    sym (ap (λ (b : Bool). is_kept (history_of w) (suc n) && b) low ∙ and_true (is_kept (history_of w) (suc n)))
+
+alike : (p q : ℕ → Bool) → ((n : ℕ) → p n ≡ q n) → (ns : List ℕ) → answers_to p ns ≡ answers_to q ns
+alike p q same [] = refl
+alike p q same (n ∷ ns) =
+    ap (λ (b : Bool). answer_before b n (answers_to p ns)) (same n)
+    ∙ ap (λ (rest : List Answer). answer_before (q n) n rest) (alike p q same ns)
+
+pub answers_owed_all : (w : Writer) (r : Endpoint) (set : NumberSet) (acked base : ℕ) → owed_from w r ≤ 1
+    → answers_to (is_kept (history_of w)) (requested set (max acked base) (length (writer_changes w)))
+    ≡ answers_to (has_for w r) (requested set (answered_from (owed_from w r) acked base) (length (writer_changes w)))
+answers_owed_all w r set acked base all =
+    let none : nat_lt 1 (owed_from w r) ≡ false = grind (arith, nat_tests) in
+    let from : max acked base ≡ answered_from (owed_from w r) acked base =
+    sym (ap (λ (b : Bool). if b && nat_lt base (owed_from w r) then base else max acked base) none) in
+    let last : ℕ = length (writer_changes w) in
+    ap (λ (k : ℕ). answers_to (is_kept (history_of w)) (requested set k last)) from
+    ∙ alike (is_kept (history_of w)) (has_for w r) (λ n. all_has w r n all)
+    (requested set (answered_from (owed_from w r) acked base) last)
+
+-- what a writer has not for a reader is not kept, or not owed
+not_for : (kept : Bool) (owed n : ℕ) → (kept && nat_le owed n) ≡ false → (kept ≡ false) ⊎ (n < owed)
+not_for true owed n h = inr (grind (arith, nat_tests, h))
+not_for false owed n h = inl refl
+
+-- the reader may pass over what is asked of the writer, which has it not for that one
+gap_passes : (w : Writer) (r : Endpoint) (set : NumberSet) (from acked : ℕ) → acknowledged_of w.readers r ≡ Some acked
+    → 1 ≤ set.base → (a : Answer) → IsRight (λ n. has_for w r n) (IsAskedOf w set from) a
+    → GapsAre (λ n. Passes w r n) a
+gap_passes w r set from acked is low (AnswersData n) right = tt
+gap_passes w r set from acked is low (AnswersGap first last) right = λ n least most.
     let one = right.1 n least most in
     let base = one.1.0 in
-    unkept_dropped w r from n is one.1.1 (omega (arith, low, base)) one.1.2 one.0
+    ⊎_elim
+    (λ unkept.
+    ⊎_elim (λ less. inr (inr (subst (λ (o : Option ℕ). IsBelow n o) (sym is) less)))
+    (λ more. inl (unkept_dropped w r acked n is more (omega (arith, low, base)) one.1.2 unkept)) (cases_lt n acked))
+    (λ below. inr (inl below)) (not_for (is_kept (history_of w) n) (owed_from w r) n one.0)
 
-gaps_dropped : (w : Writer) (r : Endpoint) (set : NumberSet) (from : ℕ) → acknowledged_of w.readers r ≡ Some from
-    → 1 ≤ set.base → All (GapsAre (λ n. is_dropped (history_of w) n ≡ true)) (answers_of w set from)
-gaps_dropped w r set from is low =
-    All-weaker (IsRight (λ n. is_kept (history_of w) n) (IsAskedOf w set from))
-    (GapsAre (λ n. is_dropped (history_of w) n ≡ true)) (λ a right. gap_dropped w r set from is low a right)
-    (answers_of w set from) (answers_of-right w set from)
+gaps_pass : (w : Writer) (r : Endpoint) (set : NumberSet) (from acked : ℕ) → acknowledged_of w.readers r ≡ Some acked
+    → 1 ≤ set.base → All (GapsAre (λ n. Passes w r n)) (answers_of w r set from)
+gaps_pass w r set from acked is low =
+    All-weaker (IsRight (λ n. has_for w r n) (IsAskedOf w set from))
+    (GapsAre (λ n. Passes w r n)) (λ a right. gap_passes w r set from acked is low a right)
+    (answers_of w r set from) (answers_of-right w r set from)
 
 -- a writer with a matched reader is there
 has_writer : (part : Part) (w a : ℕ) (r : Endpoint) → acknowledged_of (own_writer part w).readers r ≡ Some a
@@ -285,7 +372,7 @@ acknack_answered : (c : Coming) (a : AckNackBody) (w : ℕ) (r : Endpoint)
     → TakesAckNack c.own c.at old w r is.entity a made dues new → AreTruthful c.config c.peer new.part dues
 acknack_answered c a w r is low old made dues new tellable k =
     let before : Writer = own_writer old.part w in
-    let from : ℕ = max k.acknowledged a.reader_sn_state.base in
+    let acked : ℕ = max k.acknowledged a.reader_sn_state.base in
     let part : Part = at_writer old.part w k.there in
     let here : own_writer part w ≡ k.there =
     numbered-same old.part.rtps.writers w k.there no_writer (has_writer old.part w k.acknowledged r k.matched) in
@@ -302,12 +389,18 @@ acknack_answered c a w r is low old made dues new tellable k =
       is = here;
       tellable = λ n change at. tellable w n change
           (ap (λ (y : Writer). change_at (writer_changes y) n) (sym k.there_is) ∙ at);
+      reader = r;
+      to = c.at.source_guid_prefix;
+      reader_entity = is.entity;
+      asks = is.from;
     } in
-    let row : acknowledged_of k.there.readers r ≡ Some from =
+    let row : acknowledged_of k.there.readers r ≡ Some acked =
     ap (λ (y : Writer). acknowledged_of y.readers r) k.there_is
-    ∙ acknowledged-hits before.readers r k.acknowledged from k.matched in
-    let dropped =
-    all_grouped (IsDropped x) _ k.groups k.grouped (gaps_dropped k.there r a.reader_sn_state from row low) in
+    ∙ acknowledged-hits before.readers r k.acknowledged acked k.matched in
+    let passed =
+    all_grouped (ArePassed x) _ k.groups k.grouped
+    (gaps_pass k.there r a.reader_sn_state
+    (answered_from (owed_from k.there r) k.acknowledged a.reader_sn_state.base) acked row low) in
     let message : List Answer → Due =
     λ group. record {
       to = r.peer;
@@ -316,8 +409,8 @@ acknack_answered c a w r is low old made dues new tellable k =
     } in
     let sent : AreTruthful c.config c.peer part (map message k.groups) =
     All-map (IsTruthful c.config c.peer part) message k.groups
-    (All-weaker (All (IsDropped x)) (λ (group : List Answer). IsTruthful c.config c.peer part (message group))
-    (λ group all. answers_truthful x c.at.source_guid_prefix r.peer is.entity group all) k.groups dropped) in
+    (All-weaker (All (ArePassed x)) (λ (group : List Answer). IsTruthful c.config c.peer part (message group))
+    (λ group all. answers_truthful x r.peer group all) k.groups passed) in
     subst (λ (ds : List Due). AreTruthful c.config c.peer new.part ds) (sym k.dues_are)
     (subst (λ (s : State). AreTruthful c.config c.peer s.part (map message k.groups)) (sym k.after) sent)
 

@@ -6,7 +6,7 @@ use Rattle.dds_base.specs.declared.change.Change.{Change}
 use Rattle.dds_base.specs.declared.config.Config.{Config}
 use Rattle.dds_base.specs.declared.guid.EntityId.{EntityId}
 use Rattle.dds_base.specs.declared.guid.GuidPrefix.{GuidPrefix}
-use Rattle.dds_base.specs.Kept.{change_at, is_kept}
+use Rattle.dds_base.specs.Kept.{change_at}
 use Rattle.rtps_reader.specs.declared.step.AckNackDue.{AckNackDue}
 use Rattle.rtps_reader.specs.Answer.{AnswersHeartbeat}
 use Rattle.rtps_reader.specs.Tracked.{Tracked, with_heartbeat}
@@ -23,12 +23,12 @@ use Rattle.rtps_writer.specs.declared.answer.Answer.TheVariants.{Data as Answers
 use Rattle.rtps_writer.specs.Answers.{IsRight}
 use Rattle.dds_machine.specs.declared.endpoint.Endpoint.{Endpoint}
 use Rattle.dds_machine.specs.declared.reply.Move.{Move}
-use Rattle.dds_machine.specs.Part.{Writer, own_writer, writer_changes, history_of}
+use Rattle.dds_machine.specs.Part.{Writer, own_writer, owed_from, writer_changes}
 use Rattle.dds_protocol.specs.Claims.{IsReader, IsWriter, IsToReader, IsToWriter}
 use Rattle.dds_protocol.specs.DueMessages.{Due, answer_message, acknack_message, acknacks_due}
 use Rattle.dds_base.specs.Matched.{is_reliable_reader}
 use Rattle.dds_protocol.proofs.Ways.{Went, goes_went}
-use Rattle.dds_protocol.specs.Protocol.{State, heard_as, TakesHeartbeat, TakesOrNot, TakesAckNack, ReaderTakes, WriterTakes, AreGrouped}
+use Rattle.dds_protocol.specs.Protocol.{State, heard_as, TakesHeartbeat, TakesOrNot, TakesAckNack, ReaderTakes, WriterTakes, AreGrouped, answered_from, has_for}
 use Rattle.dds_protocol.specs.Backed.{reader_at}
 use Rattle.dds_protocol.specs.Dues.{IsTellable, AreTellable, IsSized, AreSmall, HasSmallChanges, CanBeWritten}
 use Rattle.dds_protocol.proofs.DuesAnswers.{IsAskedOf, answers_of, answers_of-right, all_grouped}
@@ -129,20 +129,20 @@ reader_written c (Other x) r old made dues new sized b h = none_written dues h.1
 -- ---- answers
 
 -- the numbers of a GAP are those of changes
-gap_small : (w : Writer) (set : NumberSet) (from : ℕ) → 1 ≤ set.base → length (writer_changes w) < 2 ^ 62
-    → (a : Answer) → IsRight (λ n. is_kept (history_of w) n) (IsAskedOf w set from) a → HasSmallGap a
-gap_small w set from low few (AnswersData n) right = tt
-gap_small w set from low few (AnswersGap first last) right =
+gap_small : (w : Writer) (r : Endpoint) (set : NumberSet) (from : ℕ) → 1 ≤ set.base → length (writer_changes w) < 2 ^ 62
+    → (a : Answer) → IsRight (λ n. has_for w r n) (IsAskedOf w set from) a → HasSmallGap a
+gap_small w r set from low few (AnswersData n) right = tt
+gap_small w r set from low few (AnswersGap first last) right =
     let order = right.0 in
     let least = (right.1 first (omega arith) order).1.0 in
     let most = (right.1 last order (omega arith)).1.2 in
     (omega (arith, low, least), order, omega (arith, most, few))
 
-gaps_small : (w : Writer) (set : NumberSet) (from : ℕ) → 1 ≤ set.base → length (writer_changes w) < 2 ^ 62
-    → All HasSmallGap (answers_of w set from)
-gaps_small w set from low few =
-    All-weaker (IsRight (λ n. is_kept (history_of w) n) (IsAskedOf w set from)) HasSmallGap
-    (λ a right. gap_small w set from low few a right) (answers_of w set from) (answers_of-right w set from)
+gaps_small : (w : Writer) (r : Endpoint) (set : NumberSet) (from : ℕ) → 1 ≤ set.base → length (writer_changes w) < 2 ^ 62
+    → All HasSmallGap (answers_of w r set from)
+gaps_small w r set from low few =
+    All-weaker (IsRight (λ n. has_for w r n) (IsAskedOf w set from)) HasSmallGap
+    (λ a right. gap_small w r set from low few a right) (answers_of w r set from) (answers_of-right w r set from)
 
 -- no group has more than eight answers
 eight_grouped : (answers : List Answer) (groups : List (List Answer)) → AreGrouped answers groups
@@ -173,7 +173,7 @@ acknack_answers_written : (c : Coming) (a : AckNackBody) (w : ℕ) (r : Endpoint
     → (old : State) (made : List Move) (dues : List Due) (new : State) → IsSized c.config → AreTellable old.part
     → HasSmallChanges old.part → TakesAckNack c.own c.at old w r is.entity a made dues new → All CanBeWritten dues
 acknack_answers_written c a w r is low old made dues new sized tellable small k =
-    let from : ℕ = max k.acknowledged a.reader_sn_state.base in
+    let from : ℕ = answered_from (owed_from k.there r) k.acknowledged a.reader_sn_state.base in
     let of_reader = reader_octets c.config sized c.at.source_guid_prefix is.entity r is.from in
     let of_writer = writer_octets c.config sized c.own a.writer_id (record { peer = c.peer; number = w }) is.to in
     let ends : Ends c.own c.at.source_guid_prefix is.entity a.writer_id =
@@ -189,7 +189,7 @@ acknack_answers_written c a w r is low old made dues new sized tellable small k 
     let told : (n : ℕ) (x : Change) → change_at (writer_changes k.there) n ≡ Some x → IsDatable x =
     datable k.there changes (λ n x at. tellable w n x (ap (λ (cs : List Change). change_at cs n) (sym same) ∙ at)) in
     let gaps =
-    all_grouped HasSmallGap _ k.groups k.grouped (gaps_small k.there a.reader_sn_state from low changes.few) in
+    all_grouped HasSmallGap _ k.groups k.grouped (gaps_small k.there r a.reader_sn_state from low changes.few) in
     let each =
     both_all (All HasSmallGap) (λ (group : List Answer). length group ≤ 8) k.groups gaps
     (eight_grouped _ k.groups k.grouped) in

@@ -428,3 +428,11 @@ not_every_peer config prefix entity a fits x =
     let good = checked config.peers fits in
     ap (λ (p : GuidPrefix). same_prefix p unknown_prefix) (sym x.same_prefix)
     ∙ good.known (a.peer - 1) x.peer x.at_peer.1
+
+-- nor is any reader's
+pub not_every_peer_of : (config : Config) (prefix : GuidPrefix) (entity : EntityId) (a : Endpoint)
+    → check_refusal config.peers ≡ None → IsReader config prefix entity a → same_prefix prefix every_peer ≡ false
+not_every_peer_of config prefix entity a fits x =
+    let good = checked config.peers fits in
+    ap (λ (p : GuidPrefix). same_prefix p unknown_prefix) (sym x.same_prefix)
+    ∙ good.known (a.peer - 1) x.peer x.at_peer.1

@@ -7,7 +7,8 @@ use Rattle.std.proofs.lemmas.List.Elements.{All-contains, All-from_recursion, Al
 use Rattle.dds_base.specs.declared.change.Change.{Change}
 use Rattle.dds_base.specs.declared.config.ReaderConfig.{ReaderConfig}
 use Rattle.dds_base.specs.declared.guid.EntityId.{EntityId}
-use Rattle.dds_base.specs.Kept.{WriterHistory, change_at, is_kept}
+use Rattle.std.proofs.lemmas.Bool.{and_parts}
+use Rattle.dds_base.specs.Kept.{change_at, is_kept}
 use Rattle.dds_base.specs.Places.{Match}
 use Rattle.rtps_reader.specs.declared.step.AckNackDue.{AckNackDue}
 use Rattle.rtps_sets.specs.NumberSet.{NumberSet, has_number}
@@ -15,22 +16,20 @@ use Rattle.rtps_wire.specs.Messages.{IsWritable, spelling_of}
 use Rattle.rtps_writer.specs.declared.answer.Answer.{Answer}
 use Rattle.rtps_writer.specs.declared.answer.Answer.TheVariants.{Data as AnswersData, Gap as AnswersGap}
 use Rattle.rtps_writer.specs.Answers.{IsRight, is_answer_to, answers_to, is_requested, requested}
-use Rattle.rtps_writer.specs.WriterState.{WriterState}
-use Rattle.rtps_writer.proofs.AnswerFacts.{answers-right, answers_after-complete}
+use Rattle.rtps_writer.proofs.AnswerFacts.{answers-complete, answers-right}
 use Rattle.dds_machine.specs.declared.endpoint.Endpoint.{Endpoint}
 use Rattle.dds_protocol.specs.declared.event.Packet.{Packet}
-use Rattle.dds_machine.specs.Part.{ReaderProxy, Writer, no_writer, own_writer, acknowledged_of, has_readers, writer_changes, history_of}
+use Rattle.dds_machine.specs.Part.{Writer, no_writer, own_writer, acknowledged_of, owed_from, writer_changes, history_of}
 use Rattle.dds_protocol.specs.Claims.{IsToReader}
 use Rattle.dds_machine.specs.Machine.{AllTests}
 use Rattle.dds_protocol.specs.Peer.{Peer, state_of}
 use Rattle.dds_protocol.specs.DueMessages.{Due, AreSent, answer_message}
-use Rattle.dds_protocol.specs.Protocol.{State, AreGrouped}
+use Rattle.dds_protocol.specs.Protocol.{State, AreGrouped, answered_from, has_for}
 use Rattle.dds_protocol.specs.World.{WorldState, peer_at}
 use Rattle.dds_protocol.specs.Backed.{reader_at}
 use Rattle.dds_protocol.specs.CatchUp.{Standing, TakesAnswers}
 use Rattle.dds_protocol.specs.Repair.{Delivers, DeliversAll}
 use Rattle.dds_protocol.proofs.DuesAcknacks.{ask_body, answer_names}
-use Rattle.dds_protocol.proofs.DuesUnkept.{row_index}
 use Rattle.dds_protocol.proofs.Framing.{number_or_not}
 use Rattle.dds_protocol.proofs.PairAsked.{Asking, Took, has_writer}
 use Rattle.dds_protocol.proofs.PairHeard.{Pairing, writer_prefix, reader_prefix, writer_id, reader_host, writer_host, there, back, for_itself, topic_is, to_reader, delivered_takes, delivered_others}
@@ -100,8 +99,9 @@ took_standing c old new dues t w r = ap (λ (x : State). standing_of x w r) t.ta
 
 abbrev pub answers_of : (c : Asking) (old new : State) (dues : List Due) → Took c old dues new → List Answer
 answers_of c old new dues t =
-    answers_to (is_kept (history_of t.takes.there))
-    (requested c.body.reader_sn_state (max t.takes.acknowledged c.body.reader_sn_state.base)
+    answers_to (has_for t.takes.there c.reader)
+    (requested c.body.reader_sn_state
+    (answered_from (owed_from t.takes.there c.reader) t.takes.acknowledged c.body.reader_sn_state.base)
     (length (writer_changes t.takes.there)))
 
 -- each is of a change that is there
@@ -109,15 +109,19 @@ some_change : (o : Option Change) (b c : Bool) → (is_some o && b && c) ≡ tru
 some_change (Some x) b c h = (x, refl)
 some_change None b c h = cc
 
-right_has : (h : WriterHistory) (a : Answer) → IsRight (is_kept h) (λ n. Unit {0}) a → HasChange h.changes a
-right_has h (AnswersData n) r = some_change (change_at h.changes n) _ _ r.0
-right_has h (AnswersGap first last) r = tt
+right_has : (w : Writer) (r : Endpoint) (a : Answer) → IsRight (has_for w r) (λ n. Unit {0}) a
+    → HasChange (writer_changes w) a
+right_has w r (AnswersData n) h =
+    some_change (change_at (writer_changes w) n) _ _
+    (and_parts (is_kept (history_of w) n) (nat_le (owed_from w r) n) h.0).0
+right_has w r (AnswersGap first last) h = tt
 
-pub have_changes : (h : WriterHistory) (ns : List ℕ) → All (HasChange h.changes) (answers_to (is_kept h) ns)
-have_changes h ns =
-    All-weaker (IsRight (is_kept h) (λ n. Unit {0})) (HasChange h.changes) (λ a r. right_has h a r)
-    (answers_to (is_kept h) ns)
-    (answers-right (is_kept h) (λ n. Unit {0}) ns (λ i d lt. tt))
+pub have_changes : (w : Writer) (r : Endpoint) (ns : List ℕ)
+    → All (HasChange (writer_changes w)) (answers_to (has_for w r) ns)
+have_changes w r ns =
+    All-weaker (IsRight (has_for w r) (λ n. Unit {0})) (HasChange (writer_changes w)) (λ a h. right_has w r a h)
+    (answers_to (has_for w r) ns)
+    (answers-right (has_for w r) (λ n. Unit {0}) ns (λ i d lt. tt))
 
 -- each number that is asked for, and is not acknowledged, is answered
 requested_true : (set : NumberSet) (from to n : ℕ) → has_number set n ≡ true → from ≤ n → n ≤ to
@@ -128,28 +132,11 @@ requested_true set from to n has low high =
     within : (nat_le from n && nat_le n to) ≡ true
     within = grind (arith, nat_tests)
 
-pub all_answered : (w : Writer) (r : Endpoint) (from : ℕ) (set : NumberSet) → acknowledged_of w.readers r ≡ Some from
-    → length set.members ≡ 256
+pub all_answered : (w : Writer) (r : Endpoint) (from : ℕ) (set : NumberSet) → length set.members ≡ 256
     → (n : ℕ) → has_number set n ≡ true → from ≤ n → n ≤ length (writer_changes w)
-    → list_any (is_answer_to n) (answers_to (is_kept (history_of w)) (requested set from (length (writer_changes w))))
-    ≡ true
-all_answered w r from set is places n has low high =
-    let row = row_index w.readers r from is in
-    let state : WriterState =
-    record {
-      policy = w.policy;
-      max_samples = w.max_samples;
-      lease = w.lease;
-      strength = w.strength;
-      matched = has_readers w;
-      written = w.written;
-      acknowledged = map (λ (p : ReaderProxy). p.acknowledged) w.readers;
-      counts = [];
-    } in
-    let complete = answers_after-complete state row.0 set n (omega (arith, places)) in
-    subst (λ (f : ℕ). list_any (is_answer_to n)
-    (answers_to (is_kept (history_of w)) (requested set f (length (writer_changes w))))
-    ≡ is_requested set f (length (writer_changes w)) n) row.2 complete
+    → list_any (is_answer_to n) (answers_to (has_for w r) (requested set from (length (writer_changes w)))) ≡ true
+all_answered w r from set places n has low high =
+    answers-complete (has_for w r) set from (length (writer_changes w)) n (omega (arith, places))
     ∙ requested_true set from (length (writer_changes w)) n has low high
 
 -- ---- what is sent

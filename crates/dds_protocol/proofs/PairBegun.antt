@@ -269,15 +269,15 @@ same_answered c =
 abbrev pub writer_heard : Begun → Writer
 writer_heard c = own_writer (heard_writer c).part c.writer.number
 
+pub rows_heard : (c : Begun) → (writer_heard c).readers ≡ (the_writer c).readers
+rows_heard c =
+    rows_ended (noted_tick c) (world.Deliver c.reader.peer c.begins.hears.number) c.heard c.writer.peer
+    c.writer.number
+    ∙ (ap (λ (ws : List Writer). (numbered ws c.writer.number no_writer).readers) (same_writers c)
+    ∙ (left c c.writer.peer).acknowledged c.writer.number)
+
 pub row_heard : (c : Begun) → HasRow (writer_heard c) c.reader c.acknowledged
-row_heard c =
-    ap (λ (rows : List ReaderProxy). acknowledged_of rows c.reader)
-    (rows_ended (noted_tick c) (world.Deliver c.reader.peer c.begins.hears.number) c.heard c.writer.peer
-    c.writer.number)
-    ∙ (ap (λ (ws : List Writer). acknowledged_of (numbered ws c.writer.number no_writer).readers c.reader)
-    (same_writers c)
-    ∙ (ap (λ (rows : List ReaderProxy). acknowledged_of rows c.reader)
-    ((left c c.writer.peer).acknowledged c.writer.number) ∙ row_old c))
+row_heard c = ap (λ (rows : List ReaderProxy). acknowledged_of rows c.reader) (rows_heard c) ∙ row_old c
 
 pub changes_heard : (c : Begun) → writer_changes (writer_heard c) ≡ writer_changes (the_writer c)
 changes_heard c =

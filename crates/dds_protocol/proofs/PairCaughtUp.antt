@@ -1,5 +1,6 @@
 -- After a round of repair of a writer and a reader the reader has caught up.
-use Rattle.std.proofs.Common.{◌≡◌, ℕ, ℤ, ◌+◌, ◌≤◌, ◌&&◌, max, Bool, true, false, nat_le, List, Option, Some, None, Contains, length, map, refl, subst, ap, sym, ◌∙◌, inl, inr, ⊎_elim, arith}
+use Rattle.std.specs.Prelude.{nat_lt, if◌then◌else◌}
+use Rattle.std.proofs.Common.{◌≡◌, ◌⊎◌, ℕ, ℤ, ◌+◌, ◌≤◌, ◌&&◌, max, Bool, true, false, nat_le, List, Option, Some, None, Contains, length, map, refl, subst, ap, sym, ◌∙◌, inl, inr, ⊎_elim, arith}
 use Rattle.std.specs.List.{AllByRecursion}
 use Rattle.std.proofs.lemmas.Bool.Decides.{nat_tests}
 use Rattle.std.proofs.lemmas.Int.{ints}
@@ -20,12 +21,12 @@ use Rattle.dds_machine.specs.declared.endpoint.Endpoint.{Endpoint}
 use Rattle.dds_protocol.specs.declared.event.Packet.{Packet}
 use Rattle.dds_machine.specs.declared.event.WorldEvent.TheVariants as world
 use Rattle.dds_machine.specs.declared.reply.Reply.TheVariants.{Reported}
-use Rattle.dds_machine.specs.Part.{Writer, own_reader, acknowledged_of, writer_changes, history_of, ReaderProxy}
+use Rattle.dds_machine.specs.Part.{IsCovered, Writer, own_reader, acknowledged_of, owed_from, writer_changes, ReaderProxy}
 use Rattle.dds_machine.specs.Moves.{match_of, position_at}
 use Rattle.dds_machine.specs.Machine.{AllTests, writer_at}
 use Rattle.dds_protocol.specs.Peer.{Peer, state_of}
 use Rattle.dds_protocol.specs.DueMessages.{Due}
-use Rattle.dds_protocol.specs.Protocol.{State, is_taken_up, TakesPacket}
+use Rattle.dds_protocol.specs.Protocol.{State, answered_from, has_for, is_taken_up, TakesPacket}
 use Rattle.dds_protocol.specs.World.{WorldState, peer_at, machine_of, Sound}
 use Rattle.dds_protocol.specs.Bounds.{IsBounded}
 use Rattle.dds_protocol.specs.CatchUp.{Standing, TakesAnswers, IsRepaired, IsFull, HasGoneOn}
@@ -37,7 +38,7 @@ use Rattle.dds_protocol.proofs.Framing.{number_or_not}
 use Rattle.dds_protocol.proofs.FreshCounts.{sent_written}
 use Rattle.dds_protocol.proofs.PairAnswered.{asking, took_acknowledged, took_seat, took_standing, answers_of, have_changes, all_answered, post, all_sent, each_writable, ungrouped, group_due, Repaired, answers_delivered}
 use Rattle.dds_protocol.proofs.PairFew.{few_groups}
-use Rattle.dds_base.specs.Kept.{is_kept}
+use Rattle.dds_protocol.proofs.Owing.{owed_acknowledged, owed_same}
 use Rattle.dds_base.specs.Counts.{is_later}
 use Rattle.std.proofs.lemmas.List.{length-map}
 use Rattle.dds_protocol.proofs.PairAsked.{Asking, Took}
@@ -49,7 +50,7 @@ use Rattle.dds_machine.proofs.Tables.{acknowledged-hits}
 use Rattle.dds_machine.specs.declared.event.WorldEvent.{WorldEvent}
 use Rattle.dds_protocol.specs.Noticing.{world_ended}
 use Rattle.dds_protocol.proofs.PairEnded.{rows_ended, seat_ended, standing_ended}
-use Rattle.dds_protocol.proofs.PairBegun.{noted_beat, noted_tick, seat_noted, standing_noted, Begun, the_begun, HasRow, writer_is, place_is, pairing, body, ticked_reader, match, knows_place, heard_reader, hears, heard_of, the_last, goes, forward, acknacks, heard_writer, same_answered, writer_heard, row_heard, changes_heard, place_heard, packet}
+use Rattle.dds_protocol.proofs.PairBegun.{rows_heard, the_writer, noted_beat, noted_tick, seat_noted, standing_noted, Begun, the_begun, HasRow, writer_is, place_is, pairing, body, ticked_reader, match, knows_place, heard_reader, hears, heard_of, the_last, goes, forward, acknacks, heard_writer, same_answered, writer_heard, row_heard, changes_heard, place_heard, packet}
 
 -- a round, but for its answers
 record AskedRound : Type 0 where
@@ -141,13 +142,6 @@ took c =
 abbrev known_to_writer : AskedRound → ℕ
 known_to_writer c = max (took c).takes.acknowledged (asked c).x.missing.base
 
--- where it had no more than the reader's place, it has the base of the ACKNACK then
-had_less : (c : AskedRound) → c.first.acknowledged ≤ c.first.place → (took c).takes.acknowledged ≤ c.first.place
-had_less c no_more =
-    let same : (took c).takes.acknowledged ≡ c.first.acknowledged =
-    same_Some (took c).takes.acknowledged c.first.acknowledged (sym (took c).takes.matched ∙ row_heard c.first) in
-    omega (arith, same, no_more)
-
 -- the writer's changes are those of before
 abbrev there_after : AskedRound → Writer
 there_after c = (took c).takes.there
@@ -162,6 +156,58 @@ row_there c =
     ap (λ (w : Writer). acknowledged_of w.readers c.first.reader) (took c).takes.there_is
     ∙ acknowledged-hits (writer_heard c.first).readers c.first.reader (took c).takes.acknowledged (known_to_writer c)
     (took c).takes.matched
+
+-- ---- from where on the ACKNACK is answered
+
+-- what the reader is owed then
+abbrev owed_there : AskedRound → ℕ
+owed_there c = owed_from (there_after c) c.first.reader
+
+abbrev asked_from : AskedRound → ℕ
+asked_from c = answered_from (owed_there c) (took c).takes.acknowledged (asked c).x.missing.base
+
+abbrev old_writer : AskedRound → Writer
+old_writer c = writer_at (machine_of c.first.old) c.first.writer
+
+-- that is no less than before the round
+owed_more : (c : AskedRound) → owed_from (old_writer c) c.first.reader ≤ owed_there c
+owed_more c =
+    let same = ap (λ (w : Writer). owed_from w c.first.reader) (writer_is c.first.old c.first.writer) in
+    let count = ap (λ (cs : List Change). length cs) (changes_heard c.first) in
+    let heard =
+    owed_same (the_writer c.first) (writer_heard c.first) (rows_heard c.first) (omega (arith, count)) c.first.reader in
+    let next = owed_acknowledged (writer_heard c.first) c.first.reader (known_to_writer c) c.first.reader in
+    let there = ap (λ (w : Writer). owed_from w c.first.reader) (took c).takes.there_is in
+    omega (arith, same, heard, next, there)
+
+-- the writer had no more of the reader than its place, or than it is not owed
+had_covered : (c : AskedRound) → ((took c).takes.acknowledged ≤ owed_there c)
+    ⊎ ((took c).takes.acknowledged ≤ c.first.place)
+had_covered c =
+    let same : (took c).takes.acknowledged ≡ c.first.acknowledged =
+    same_Some (took c).takes.acknowledged c.first.acknowledged (sym (took c).takes.matched ∙ row_heard c.first) in
+    let more = owed_more c in
+    let covered : IsCovered (Some c.first.acknowledged) (owed_from (old_writer c) c.first.reader) (Some c.first.place) =
+    subst (λ (o : Option ℕ). IsCovered o (owed_from (old_writer c) c.first.reader) (Some c.first.place))
+    c.first.stands.acknowledged_is
+    (subst (λ (o : Option ℕ). IsCovered (acknowledged_of (old_writer c).readers c.first.reader)
+    (owed_from (old_writer c) c.first.reader) o)
+    c.first.stands.place_is (c.first.sound.acknowledged c.first.writer c.first.reader)) in
+    ⊎_elim (λ q. inl (omega (arith, same, more, q))) (λ p. inr (omega (arith, same, p))) covered
+
+-- it is answered from no number above its base on
+from_base : (owed acknowledged base : ℕ) → 1 ≤ base → (acknowledged ≤ owed) ⊎ (acknowledged ≤ base)
+    → answered_from owed acknowledged base ≤ base
+from_base owed acknowledged base least h = by (nat_lt 1 owed) (nat_lt base owed) refl refl
+  where
+    most : owed ≤ base → max acknowledged base ≤ base
+    most above = ⊎_elim (λ q. omega (arith, above, q)) (λ q. omega (arith, q)) h
+
+    by : (b c : Bool) → nat_lt 1 owed ≡ b → nat_lt base owed ≡ c
+        → (if b && c then base else max acknowledged base) ≤ base
+    by true true d e = omega arith
+    by true false d e = most (grind (arith, nat_tests))
+    by false c d e = let one : owed ≤ 1 = grind (arith, nat_tests) in most (omega (arith, one, least))
 
 -- ---- the answers
 
@@ -230,7 +276,6 @@ the_answers c = answers_of (asks c) (heard_writer c.first) (asked_writer c) c.an
 -- a round
 record Round : Type 0 where
   given : AskedRound
-  no_more : given.first.acknowledged ≤ given.first.place
   new : WorldState
   repairs : DeliversAll given.first.config given.first.tests
       (noted_ask given) given.first.reader.peer given.answers.step.packets new
@@ -246,8 +291,8 @@ repaired c =
     (writer_changes (there_after c.given)) (took c.given).takes.groups (all_writable c.given)
     (all_grouped (HasChange (writer_changes (there_after c.given))) (the_answers c.given) (took c.given).takes.groups
     (took c.given).takes.grouped
-    (have_changes (history_of (there_after c.given))
-    (requested (asked c.given).x.missing (known_to_writer c.given)
+    (have_changes (there_after c.given) c.given.first.reader
+    (requested (asked c.given).x.missing (asked_from c.given)
     (length (writer_changes (there_after c.given)))))) (noted_ask c.given) c.new
     (seat_ended (noted_beat c.given.first) (ask_event c.given) c.given.after_ask c.given.first.reader.peer
     (match c.given.first) c.given.first.writer c.given.first.reader.number (seat_asked c.given))
@@ -274,7 +319,7 @@ takes_all c =
     c.given.first.reader.number) (standing_of (new_reader c) c.given.first.writer c.given.first.reader.number)
     (took c.given).takes.grouped (repaired c).takes)
 
-window : (c : Round) → IsRepaired (match c.given.first) (the_last c.given.first) (known_to_writer c.given)
+window : (c : Round) → IsRepaired (match c.given.first) (the_last c.given.first) (asked_from c.given)
     (standing_of (ticked_reader c.given.first) c.given.first.writer c.given.first.reader.number)
     (standing_of (new_reader c) c.given.first.writer c.given.first.reader.number)
 window c = record {
@@ -287,27 +332,30 @@ window c = record {
   answers = the_answers c.given;
   complete = λ n has low high.
       let last = changes_there c.given in
-      all_answered (there_after c.given) c.given.first.reader (known_to_writer c.given) (asked c.given).x.missing
-      (row_there c.given) (asked c.given).writable.submessages.1.0.1.places n has low (omega (arith, last, high));
+      all_answered (there_after c.given) c.given.first.reader (asked_from c.given) (asked c.given).x.missing
+      (asked c.given).writable.submessages.1.0.1.places n has low (omega (arith, last, high));
   takes = takes_all c;
 }
 
-low : (c : AskedRound) → c.first.acknowledged ≤ c.first.place → known_to_writer c ≤ (asked c).x.base
-low c no_more =
-    let had = had_less c no_more in
+low : (c : AskedRound) → asked_from c ≤ (asked c).x.base
+low c =
     let on = forward c.first in
     let base = (tells c).base in
     let set = (tells c).set_base in
-    omega (arith, had, on, base, set)
+    let least =
+    from_base (owed_there c) (took c).takes.acknowledged (asked c).x.missing.base
+    (asked c).writable.submessages.1.0.1.first
+    (⊎_elim (λ q. inl q) (λ p. inr (omega (arith, p, on, set, base))) (had_covered c)) in
+    omega (arith, least, on, base, set)
 
 caught : (c : Round) → HasGoneOn (match c.given.first) (the_last c.given.first)
     ((ticked_reader c.given.first).known.tracked c.given.first.writer c.given.first.reader.number).place
     (standing_of (new_reader c) c.given.first.writer c.given.first.reader.number)
 unfolding window
 caught c =
-    (window_catches_up (match c.given.first) (the_last c.given.first) (known_to_writer c.given)
+    (window_catches_up (match c.given.first) (the_last c.given.first) (asked_from c.given)
     (standing_of (ticked_reader c.given.first) c.given.first.writer c.given.first.reader.number)
-    (standing_of (new_reader c) c.given.first.writer c.given.first.reader.number) (window c) (low c.given c.no_more)).0
+    (standing_of (new_reader c) c.given.first.writer c.given.first.reader.number) (window c) (low c.given)).0
 
 -- ---- what holds after the round
 
@@ -372,7 +420,7 @@ round_catches_up c = record {
 few_packets : (c : AskedRound) → length c.answers.step.packets ≤ 32
 few_packets c =
     let few =
-    few_groups (is_kept (history_of (there_after c))) (asked c).x.missing (known_to_writer c)
+    few_groups (has_for (there_after c) c.first.reader) (asked c).x.missing (asked_from c)
     (length (writer_changes (there_after c))) (took c).takes.groups (took c).takes.grouped in
     let sent = ap (λ (ps : List Packet). length ps) (sent_all c) in
     let posts = length-map (dues_of c) post in
@@ -400,16 +448,14 @@ the_asked config tests writer reader place acknowledged old after checked sound 
 pub pair_catches_up : (config : Config) (tests : AllTests) (writer reader : Endpoint) (place acknowledged : ℕ)
     (old new : WorldState) → check_refusal config.peers ≡ None → Sound config old → HasUsedCounts config old
     → IsBounded (machine_of old) → IsPair config writer reader → StandsAt old writer reader place acknowledged
-    → acknowledged ≤ place → IsRepairRound config tests writer reader old new
+    → IsRepairRound config tests writer reader old new
     → HasCaughtUp new writer reader place (length (writer_changes (writer_at (machine_of old) writer)))
 unfolding the_asked
-pair_catches_up config tests writer reader place acknowledged old new checked sound used bounded pair stands no_more
-    round =
+pair_catches_up config tests writer reader place acknowledged old new checked sound used bounded pair stands round =
     round_catches_up (record {
       given =
           the_asked config tests writer reader place acknowledged old round.asked checked sound used bounded pair stands
           round.asks;
-      no_more = no_more;
       new = new;
       repairs = round.repairs;
     })

@@ -2,7 +2,7 @@
 -- machine passes over those alone that a writer's history had dropped.
 --
 -- A notion of this project, of RTPS 2.5, 8.4.7 (ReaderProxy), 8.4.10 (WriterProxy).
-use Rattle.std.specs.Prelude.{◌≡◌, ◌↔◌, ◌⊎◌, ℕ, ◌<◌, ◌≤◌, true, Some, IsSome, List, [], ◌∷◌}
+use Rattle.std.specs.Prelude.{◌≡◌, ◌↔◌, ◌⊎◌, ℕ, ◌<◌, ◌≤◌, true, false, Some, IsSome, List, [], ◌∷◌}
 use Rattle.dds_base.specs.declared.config.Config.{Config}
 use Rattle.dds_base.specs.declared.qos.HistoryQos.TheVariants.{KeepAll}
 use Rattle.dds_base.specs.Kept.{is_dropped}
@@ -36,6 +36,12 @@ pub record IsClosed (m : Machine) : Type 0 where
       → row_of (λ (p : ReaderProxy). p.reader) (writer_at m writer).readers reader ≡ Some row → row.first ≤ 1
   pub placed : (writer reader : Endpoint) → IsSome (acknowledged_of (writer_at m writer).readers reader)
       → IsAtMost 1 (place_at m reader writer)
+
+-- of a best-effort reader what it may pass over is in every machine what was dropped, or comes before another change
+abbrev pub BestEffortAsDropped : Type 0
+BestEffortAsDropped = (m : Machine) (peer : ℕ) (writer : Endpoint) (reader number : ℕ)
+    → is_reliable (own_reader (part_at m peer) reader).qos.reliability ≡ false
+    → (grounds_of m peer).may_pass writer reader number → is_dropped (history_of (writer_at m writer)) number ≡ true
 
 -- so it is at the opening of every configuration
 abbrev pub OpensClosed : Type 0

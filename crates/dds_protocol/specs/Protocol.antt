@@ -32,7 +32,7 @@ use Rattle.dds_machine.specs.declared.endpoint.Endpoint.{Endpoint}
 use Rattle.dds_machine.specs.declared.reply.Report.{Report}
 use Rattle.dds_machine.specs.declared.reply.Move.{Move}
 use Rattle.dds_machine.specs.declared.reply.Move.TheVariants.{Place, Acknowledged, Heard}
-use Rattle.dds_machine.specs.Part.{is_attached, how_of, Part, ReaderProxy, Writer, same_endpoint, own_writer, own_proxies, own_reader, acknowledged_of, with_acknowledged, with_place, with_heard, publication_among, at_reader, at_writer, writer_changes, history_of}
+use Rattle.dds_machine.specs.Part.{is_attached, how_of, Part, ReaderProxy, Writer, same_endpoint, own_writer, own_proxies, own_reader, acknowledged_of, with_acknowledged, with_place, with_heard, publication_among, at_reader, at_writer, writer_changes, history_of, owed_from}
 use Rattle.dds_machine.specs.Moves.{IsMatchedAt, match_of}
 use Rattle.dds_protocol.specs.Claims.{Receiver, receiver_of, after_submessage, IsToReader, IsToWriter}
 use Rattle.dds_protocol.specs.Receipt.{prefix_of, IsNotTaken}
@@ -203,9 +203,20 @@ AreGrouped answers (group ∷ groups) =
 abbrev pub acknowledging : Writer → Endpoint → ℕ → Writer
 acknowledging w reader to = record w { readers = with_acknowledged w.readers reader to }
 
+-- The number from which on an ACKNACK of this base is answered. What is acknowledged is not answered again; but where the
+-- reader is not owed all, and the base lies below what it is owed, it is answered from the base on: so one whose place is
+-- too low is told so, and goes on.
+abbrev pub answered_from : (owed acknowledged base : ℕ) → ℕ
+answered_from owed acknowledged base =
+    if nat_lt 1 owed && nat_lt base owed then base else max acknowledged base
+
+-- the writer still has the change of this number for the reader: it is kept, and owed to that one
+abbrev pub has_for : Writer → Endpoint → ℕ → Bool
+has_for w reader number = is_kept (history_of w) number && nat_le (owed_from w reader) number
+
 -- An ACKNACK whose count is greater than that of the last one that the writer took of the reader, and whose base is not
 -- past the next number, is taken: the reader has acknowledged all below the base, and gets each change that it asks
--- for, or a GAP where the change is not kept.
+-- for, or a GAP where the change is not kept, or not owed to it.
 pub record TakesAckNack (own : GuidPrefix) (at : Receiver) (old : State) (writer : ℕ) (reader : Endpoint)
     (entity : EntityId) (a : AckNackBody) (moves : List Move) (dues : List Due) (new : State) : Type 0 where
   pub acknowledged : ℕ
@@ -216,8 +227,9 @@ pub record TakesAckNack (own : GuidPrefix) (at : Receiver) (old : State) (writer
   pub there_is : there ≡ acknowledging (own_writer old.part writer) reader (max acknowledged a.reader_sn_state.base)
   pub groups : List (List Answer)
   pub grouped : AreGrouped
-      (answers_to (is_kept (history_of there))
-      (requested a.reader_sn_state (max acknowledged a.reader_sn_state.base) (length (writer_changes there)))) groups
+      (answers_to (has_for there reader)
+      (requested a.reader_sn_state (answered_from (owed_from there reader) acknowledged a.reader_sn_state.base)
+      (length (writer_changes there)))) groups
   pub dues_are : dues ≡ map
       (λ group. record {
         to = reader.peer;

@@ -134,13 +134,12 @@ pub record HasCaughtUp (world : WorldState) (writer reader : Endpoint) (before l
   pub reached : (min (before + window_width) (last + 1) ≤ place) ⊎ HoldsWithoutRoom world writer reader place
   pub told : before ≤ acknowledged
 
--- so it is after each round, in a network in which claims are true, counts are used, and places are within the lists,
--- where the writer has no more of the reader than that one's place
+-- so it is after each round, in a network in which claims are true, counts are used, and places are within the lists
 abbrev pub PairCatchesUp : Type 0
 PairCatchesUp = (config : Config) (tests : AllTests) (writer reader : Endpoint) (place acknowledged : ℕ)
     (old new : WorldState) → check_refusal config.peers ≡ None → Sound config old → HasUsedCounts config old
     → IsBounded (machine_of old) → IsPair config writer reader → StandsAt old writer reader place acknowledged
-    → acknowledged ≤ place → IsRepairRound config tests writer reader old new
+    → IsRepairRound config tests writer reader old new
     → HasCaughtUp new writer reader place (length (writer_changes (writer_at (machine_of old) writer)))
 
 -- one of these packets goes to this peer, and has a HEARTBEAT of the writer

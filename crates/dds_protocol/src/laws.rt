@@ -6,7 +6,7 @@
 ghost use Rattle.std.specs.Prelude.{◌≡◌, ◌↔◌, ◌⊎◌, ◌+◌, ◌∷◌, [], IsTrue, List, length, ℕ};
 ghost use Rattle.dds_protocol.specs.Bounds.{OpensBounded, RunsBounded, StepsBounded};
 ghost use Rattle.dds_protocol.specs.CatchUp.{WindowCatchesUp};
-ghost use Rattle.dds_protocol.specs.Closed.{ClosedAcknowledges, ClosedClaims, ClosedLosesNone, OpensClosed, RunsAlike, RunsClosed, StaysClosed};
+ghost use Rattle.dds_protocol.specs.Closed.{BestEffortAsDropped, ClosedAcknowledges, ClosedClaims, ClosedLosesNone, OpensClosed, RunsAlike, RunsClosed, StaysClosed};
 ghost use Rattle.dds_protocol.specs.DueMessages.{AreSent, Due, packet_of};
 ghost use Rattle.dds_protocol.specs.Fresh.{OpensUsed, StepsUsed};
 ghost use Rattle.dds_protocol.specs.InOrder.{ChangesComeInOrder};
@@ -56,6 +56,8 @@ pub fn nobody_comes_or_goes()
     ensures claims { ClosedClaims }
     // and no reader has acknowledged more than it has.
     ensures acknowledged { ClosedAcknowledges }
+    // What is not owed is nothing to a best-effort reader, whoever came or left.
+    ensures best_effort { BestEffortAsDropped }
 {}
 
 /// After every run, the changes of a writer that keeps all that came at a matched reader are the first ones of its

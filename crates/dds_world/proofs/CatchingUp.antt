@@ -557,8 +557,7 @@ answered {hearing} a later rest new whole next = (
   ),
   all.stands,
   inr (pair_catches_up c.config a.h.t.tests c.m.writer c.m.reader c.place (acknowledged c) c.network all.after
-      (core c).stands.is_peer.checked c.s.sound c.s.used c.s.bounded (pair c).pair (stands c) (no_more_than_place c)
-      round),
+      (core c).stands.is_peer.checked c.s.sound c.s.used c.s.bounded (pair c).pair (stands c) round),
 )
   where
     c : Tick hearing

@@ -270,14 +270,19 @@ in_places set from to n true is few =
     (lt-ltb n (set.base + 256) (omega (arith, base, lt, few)))
 in_places set from to n false is few = refl
 
--- a number is answered exactly if it is a member of the set that lies from what the reader has acknowledged to the last
--- number
+-- a number is answered exactly if it is a member of the set that lies from one number to another
+pub answers-complete : (kept : ℕ → Bool) (set : NumberSet) (from to n : ℕ) → length set.members ≤ 256
+    → list_any (is_answer_to n) (answers_to kept (requested set from to)) ≡ is_requested set from to n
+answers-complete kept set from to n few =
+    let p : ℕ → Bool = is_requested set from to in
+    answered-members kept n (requested set from to)
+    ∙ (members-numbers p set.base 256 n ∙ in_places set from to n (p n) refl few)
+
+-- so it is from what the reader has acknowledged to the last number
 pub answers_after-complete : (s : WriterState) (reader : ℕ) (set : NumberSet) (n : ℕ) → length set.members ≤ 256
     → list_any (is_answer_to n) (answers_after s reader set) ≡ is_requested set (acknowledged_by s reader) (last_of s) n
 answers_after-complete s reader set n few =
-    let p : ℕ → Bool = is_requested set (acknowledged_by s reader) (last_of s) in
-    answered-members (λ k. is_kept (history_of s) k) n (requested set (acknowledged_by s reader) (last_of s))
-    ∙ (members-numbers p set.base 256 n ∙ in_places set (acknowledged_by s reader) (last_of s) n (p n) refl few)
+    answers-complete (λ k. is_kept (history_of s) k) set (acknowledged_by s reader) (last_of s) n few
 
 -- ---- acknowledgements count from 1
 

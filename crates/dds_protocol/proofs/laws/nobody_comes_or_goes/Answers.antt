@@ -1,5 +1,5 @@
 use Rattle.dds_protocol.proofs.Closed.{opens_closed, runs_closed, stays_closed}
-use Rattle.dds_protocol.proofs.ClosedSteps.{acknowledges_no_more, claims_dropped, runs_alike}
+use Rattle.dds_protocol.proofs.ClosedSteps.{acknowledges_no_more, best_effort_dropped, claims_dropped, runs_alike}
 use Rattle.dds_protocol.proofs.laws.nobody_comes_or_goes.Goals as goal
 
 pub returns : goal.returns
@@ -10,4 +10,5 @@ returns c = record {
   dropped = runs_alike;
   claims = claims_dropped;
   acknowledged = acknowledges_no_more;
+  best_effort = best_effort_dropped;
 }
