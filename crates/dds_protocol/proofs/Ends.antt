@@ -1,8 +1,7 @@
 -- Who is matched with whom stays, in every step.
-use Rattle.std.proofs.Common.{◌≡◌, ℕ, Bool, List, [], ◌∷◌, Option, None, Some, refl, subst, ap, sym, ◌∙◌, inl, inr, ⊎_elim, arith}
+use Rattle.std.proofs.Common.{◌≡◌, ℕ, List, [], ◌∷◌, Option, None, Some, refl, subst, ap, sym, ◌∙◌, inl, inr, ⊎_elim, arith}
 use Rattle.std.specs.Prelude.{is_some}
 use Rattle.std.specs.Option.{option_map}
-use Rattle.dds_base.specs.declared.qos.ReaderQos.{ReaderQos}
 use Rattle.dds_machine.specs.declared.call.Call.{Call}
 use Rattle.dds_machine.specs.declared.endpoint.Endpoint.{Endpoint}
 use Rattle.dds_machine.specs.declared.event.WorldEvent.{WorldEvent}
@@ -22,7 +21,7 @@ use Rattle.dds_machine.specs.Watching.{Tests}
 use Rattle.dds_machine.proofs.Tables.{no_less_on, no_less_same, numbered-cases, row-cases}
 use Rattle.dds_protocol.proofs.Alike.{AlikeParts, alike_readers}
 use Rattle.dds_protocol.proofs.EndsBeside.{ended_alike}
-use Rattle.dds_protocol.proofs.Growth.{CallStep-grows, CallStep-readers, IsMove-grows, TickStep-acknowledged, TickStep-grows, TickStep-rows}
+use Rattle.dds_protocol.proofs.Growth.{CallStep-readers, IsMove-grows, TickStep-acknowledged, TickStep-rows}
 use Rattle.dds_protocol.proofs.Policies.{call_qos, move_qos, tick_qos}
 
 -- ---- rows
