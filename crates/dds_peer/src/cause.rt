@@ -23,7 +23,7 @@ fn command_cause(alloc: Global, name: &str, words: &[&str]) -> Result<String, Al
         None => match name {
             "writer" => writer_options_cause(alloc, words),
             "reader" => reader_options_cause(alloc, words),
-            _ => unknown_cause(alloc, name),
+            _ => unknown_cause(alloc, "P", name),
         },
     }
 }

@@ -16,7 +16,7 @@ fn other_cause(alloc: Global, name: &str, words: &[&str]) -> Result<String, Allo
         None => match name {
             "open" => form_cause(alloc, name, Form::of(&[Operand::Peer]), words),
             "kind" => String::from_str(alloc, KIND),
-            _ => unknown_cause(alloc, name),
+            _ => unknown_cause(alloc, "call", name),
         },
     }
 }

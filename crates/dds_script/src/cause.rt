@@ -1,7 +1,7 @@
 //! Why a line says nothing, in words.
 
 use crate::call::words_of;
-use crate::forms::{Explained, Form, Operand, call_form};
+use crate::forms::{Explained, Form, Operand, call_form, peer_form};
 use crate::options::{READER_OPTIONS, WRITER_OPTIONS, is_reader_option, is_writer_option};
 use std::alloc::{AllocError, Global};
 use std::fmt::{self, Write};
@@ -36,6 +36,15 @@ fn spacing(line: &str) -> Option<&'static str> {
     if line.is_empty() {
         return Some("it is empty");
     }
+    if line.starts_with('\u{feff}') {
+        return Some("it begins with a byte order mark; a line is text in UTF-8 without one");
+    }
+    if line.contains('\n') {
+        return Some("it has a line feed; a line stands here without it");
+    }
+    if line.contains('\u{a0}') {
+        return Some("it has a no-break space; words stand apart by one space");
+    }
     if line.starts_with(' ') || line.ends_with(' ') || line.contains("  ") {
         return Some("it has a space too many; words stand apart by one space");
     }
@@ -57,16 +66,16 @@ pub fn words_or_cause(alloc: Global, line: &[u8]) -> Result<Result<Vec<&str>, St
     }
 }
 
-/// Why no command begins with a word.
+/// Why no command begins with a word, where this stands before what a peer is told.
 ///
 /// # Errors
 ///
 /// Want of memory.
-pub fn unknown_cause(alloc: Global, word: &str) -> Result<String, AllocError> {
+pub fn unknown_cause(alloc: Global, before: &str, word: &str) -> Result<String, AllocError> {
     let shown = Shown(word);
-    match call_form(word) {
+    match call_form(word).or(peer_form(word)) {
         Some(form) => format!(in alloc;
-            "`{shown}` is a call, which a peer is asked for: `{shown}{form}`"
+            "`{before}` is missing before `{shown}`: its form is `{before} {shown}{form}`"
         ),
         None => format!(in alloc; "there is no command `{shown}`"),
     }
@@ -161,6 +170,16 @@ impl End {
     }
 }
 
+/// What an option with a number takes.
+fn number_meaning(name: &str) -> &'static str {
+    match name {
+        "lease" => "units of 2^-32 second, in 64 bits, or a time as 5s, 500ms and 20us",
+        "arrivals" => "a number in 64 bits",
+        "max" | "instances" | "strength" => "a number in 32 bits, with a minus in front or without",
+        _ => "a number in 32 bits",
+    }
+}
+
 /// The name and what follows it, of a word that names an option with a number.
 fn number_option(alloc: Global, end: End, word: &str) -> Result<Option<(&str, &str)>, AllocError> {
     let Some((name, number)) = word.split_once('=') else {
@@ -178,8 +197,8 @@ fn number_option(alloc: Global, end: End, word: &str) -> Result<Option<(&str, &s
 fn option_cause(alloc: Global, end: End, word: &str) -> Result<String, AllocError> {
     let (shown, kind, other) = (Shown(word), end.name(), end.other().name());
     if let Some((name, number)) = number_option(alloc, end, word)? {
-        let number = Shown(number);
-        return format!(in alloc; "`{number}` is no number that `{name}=` takes");
+        let (number, taken) = (Shown(number), number_meaning(name));
+        return format!(in alloc; "`{number}` is no number that `{name}=` takes: it takes {taken}");
     }
     if end.other().takes(word) {
         return format!(in alloc; "`{shown}` is an option of a {other}, and of no {kind}");

@@ -20,6 +20,9 @@ impl fmt::Display for SetupRefusal {
         let code = self.code;
         match self.fault {
             Some(fault) => write!(f, "{code}: {fault}"),
+            None if code == Code::BadParameter => {
+                write!(f, "{code}: the configuration has no peer of this number")
+            }
             None => write!(f, "{code}"),
         }
     }
