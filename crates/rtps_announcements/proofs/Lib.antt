@@ -10,3 +10,4 @@ pub mod WrittenLaws
 pub mod WrittenAgain
 pub mod EndpointAgain
 pub mod ParticipantAgain
+pub mod WritableLaws

@@ -32,7 +32,7 @@ use Rattle.rtps_announcements.proofs.WrittenLaws.{IsValue, IsRow, parameters_of,
 
 -- ---- rows
 
-both_true : (a b : Bool) → (a && b) ≡ true → (a ≡ true) × (b ≡ true)
+pub both_true : (a b : Bool) → (a && b) ≡ true → (a ≡ true) × (b ≡ true)
 both_true true true e = (refl, refl)
 both_true true false e = absurd cc
 both_true false b e = absurd cc

@@ -2,8 +2,9 @@
 //!
 //! RTPS 2.5, 8.5 (SPDP, SEDP) and 9.6 (ParameterId values).
 
-ghost use Rattle.std.specs.Prelude.{ℕ, ◌<◌, ◌^◌};
+ghost use Rattle.std.specs.Prelude.{◌≡◌, ℕ, ◌<◌, ◌^◌, List, length};
 ghost use Rattle.dds_base.specs.declared.guid.Guid.{Guid};
+ghost use Rattle.dds_base.specs.declared.guid.GuidPrefix.{GuidPrefix};
 ghost use Rattle.rtps_announcements.specs.Endpoints.{ReadsEndpoint};
 ghost use Rattle.rtps_announcements.specs.Guids.{ReadsGuid};
 ghost use Rattle.rtps_announcements.specs.Participants.{ReadsParticipant};
@@ -25,4 +26,15 @@ pub fn what_was_written_is_read()
         → ReadsParticipant p.prefix domain (text_of_participant domain p) p }
     // Who leaves.
     ensures guid { (guid : Guid) → IsGuid guid → ReadsGuid guid.prefix (text_of_guid guid) guid }
+{}
+
+/// All that is read can be written: whatever a product announces has a written form here too.
+pub fn what_is_read_can_be_written()
+    // An endpoint of a sender.
+    ensures endpoint { (source : GuidPrefix) (kind : EndpointKind) (bytes : List ℕ) (e : Endpoint)
+        → length source.0 ≡ 12 → ReadsEndpoint source kind bytes e → IsWritableEndpoint kind e }
+    // A participant.
+    ensures participant { (source : GuidPrefix) (domain : ℕ) (bytes : List ℕ) (p : Participant)
+        → length source.0 ≡ 12 → ReadsParticipant source domain bytes p
+        → IsWritableParticipant p }
 {}
