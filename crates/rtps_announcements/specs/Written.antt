@@ -1,6 +1,6 @@
 -- How an announcement is written (RTPS 2.5, clause 10: PL_CDR_LE; 9.4.2: ParameterList, strings; 9.3.2: Locator_t;
 -- DDS-XTypes 1.3, 7.6.3.1.1): as parameters in little-endian.
-use Rattle.std.specs.Prelude.{◌≡◌, ℕ, ◌-◌, ◌*◌, ◌%◌, ◌<◌, Bool, true, false, List, [], ◌∷◌, ◌++◌, length, replicate, slice_index}
+use Rattle.std.specs.Prelude.{◌≡◌, ℕ, ◌-◌, ◌*◌, ◌%◌, ◌<◌, Bool, true, false, List, [], ◌∷◌, ◌++◌, length, replicate, slice_index, nat_lt, if◌then◌else◌}
 use Rattle.std.specs.Int.{w16, w32}
 use Rattle.std.specs.List.{flat_map}
 use Rattle.dds_base.specs.declared.endianness.Endianness.TheVariants.{Little}
@@ -12,6 +12,10 @@ use Rattle.rtps_announcements.specs.Locators.{is_of_host}
 use Rattle.rtps_announcements.specs.Names.{locator_kind_udp_v4}
 use Rattle.rtps_announcements.specs.Values.{listed_text, padded_text}
 use Rattle.rtps_announcements.specs.declared.locator.Locator.{Locator}
+
+-- one more behind these, where fewer than so many are there
+abbrev pub pushed : {X : Type 0} → ℕ → List X → X → List X
+pushed max xs x = if nat_lt (length xs) max then xs ++ x ∷ [] else xs
 
 -- an id, and the values of its parameters
 abbrev pub Row : Type 0

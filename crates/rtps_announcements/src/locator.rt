@@ -4,7 +4,8 @@
 //!
 //! RTPS 2.5, 9.3.2 (Locator_t) and 9.6 (the addresses of UDP over IPv4).
 
-ghost use Rattle.std.specs.Prelude.{◌≡◌, ◌≤◌, ◌<◌, ◌↔◌, [], ◌∷◌, ◌++◌, length, IsTrue, nat_lt, if◌then◌else◌};
+ghost use Rattle.std.specs.Prelude.{◌≡◌, ◌≤◌, ◌<◌, ◌↔◌, [], length, IsTrue};
+ghost use Rattle.rtps_announcements.specs.Written.{pushed};
 ghost use Rattle.rtps_announcements.specs.Names.{max_locators};
 ghost use Rattle.rtps_announcements.specs.ListAt.{parameters_in};
 ghost use Rattle.rtps_announcements.specs.Locators.{is_of_host, locator_at, locator_said, locators_of, or_else};
@@ -57,8 +58,7 @@ impl Locators {
     pub fn push(&mut self, locator: Locator) -> bool
         // It is appended exactly where there is room.
         ensures room { IsTrue result ↔ (length self.old < MAX_LOCATORS) }
-        ensures pushed { self.new
-            ≡ (if nat_lt (length self.old) max_locators then self.old ++ locator ∷ [] else self.old) }
+        ensures pushed { self.new ≡ pushed max_locators self.old locator }
     {
         if self.items.is_full() {
             return false;

@@ -2,8 +2,9 @@
 //!
 //! DDS 1.4, 2.2.3 (PARTITION); RTPS 2.5, 9.6 (its parameter).
 
-ghost use Rattle.std.specs.Prelude.{◌≡◌, ◌≤◌, ◌<◌, ◌↔◌, [], ◌∷◌, ◌++◌, Some, length, IsTrue, nat_lt, if◌then◌else◌};
+ghost use Rattle.std.specs.Prelude.{◌≡◌, ◌≤◌, ◌<◌, ◌↔◌, [], ◌∷◌, ◌++◌, Some, length, IsTrue};
 ghost use Rattle.std.specs.Option.{option_map};
+ghost use Rattle.rtps_announcements.specs.Written.{pushed};
 ghost use Rattle.rtps_announcements.specs.ListAt.{value_in};
 ghost use Rattle.rtps_announcements.specs.Names.{max_partitions, pid_partition};
 ghost use Rattle.rtps_announcements.specs.ValueAt.{said, counted, listed_at, padded_name_at};
@@ -45,8 +46,7 @@ impl<'a> Partitions<'a> {
     pub fn push(&mut self, name: Name<'a>) -> bool
         // It is appended exactly where there is room.
         ensures room { IsTrue result ↔ (length self.old < MAX_PARTITIONS) }
-        ensures pushed { self.new
-            ≡ (if nat_lt (length self.old) max_partitions then self.old ++ name.entry ∷ [] else self.old) }
+        ensures pushed { self.new ≡ pushed max_partitions self.old name.entry }
     {
         if self.items.is_full() {
             return false;

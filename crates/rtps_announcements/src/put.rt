@@ -87,7 +87,8 @@ pub fn put_guid(out: &mut Vec<u8>, id: u16, guid: &Guid) -> Result<(), Code>
 /// Appends a time that is not left out.
 pub fn put_time(out: &mut Vec<u8>, is_left_out: bool, id: u16, time: Duration) -> Result<(), Code>
     ensures ok { OnOk result
-        (out.new.items ≡ out.old.items ++ row_text (id, unless is_left_out (duration_text Little time))) }
+        (out.new.items ≡ out.old.items
+        ++ row_text (id, unless is_left_out (duration_text Little time))) }
     ensures memory { IfErr result (λ e. e ≡ Code.Memory) }
 {
     let halves = [time.seconds.to_le_bytes(), time.fraction.to_le_bytes()];

@@ -2,10 +2,11 @@
 //!
 //! DDS-XTypes 1.3, 7.6.3.1.1 (DATA_REPRESENTATION); RTPS 2.5, 9.6 (its parameter).
 
-ghost use Rattle.std.specs.Prelude.{◌≡◌, ◌≤◌, ◌<◌, ◌↔◌, ◌∷◌, [], ◌++◌, Some, length, IsTrue, nat_lt, if◌then◌else◌};
+ghost use Rattle.std.specs.Prelude.{◌≡◌, ◌≤◌, ◌<◌, ◌↔◌, ◌∷◌, [], Some, length, IsTrue};
 ghost use Rattle.std.specs.Int.{w16};
 ghost use Rattle.std.specs.Option.{option_map};
 ghost use Rattle.dds_base.specs.Fields.{number_at};
+ghost use Rattle.rtps_announcements.specs.Written.{pushed};
 ghost use Rattle.rtps_announcements.specs.Endpoints.{default_representations};
 ghost use Rattle.rtps_announcements.specs.ListAt.{value_in};
 ghost use Rattle.rtps_announcements.specs.Names.{max_representations, pid_data_representation};
@@ -53,8 +54,7 @@ impl Representations {
     pub fn push(&mut self, id: u16) -> bool
         // It is appended exactly where there is room.
         ensures room { IsTrue result ↔ (length self.old < MAX_REPRESENTATIONS) }
-        ensures pushed { self.new
-            ≡ (if nat_lt (length self.old) max_representations then self.old ++ id ∷ [] else self.old) }
+        ensures pushed { self.new ≡ pushed max_representations self.old id }
     {
         if self.items.is_full() {
             return false;
