@@ -250,6 +250,51 @@ typedef struct cw_observed {
 /* Asked before cw_deliver, which changes the answer; it changes nothing itself. A process that opened its peer anew under its
  * old prefix sends old DATA and HEARTBEATs, as datagrams that come twice are; to nobody is what is sent by another table. */
 uint8_t cw_observe(cw_peer *peer, const uint8_t *datagram, size_t datagram_len, cw_observed *observed);
+/* The same, with the old DATA and HEARTBEATs of one writer alone, by its peer and its number there; what is to nobody is
+ * counted as before. */
+uint8_t cw_observe_writer(cw_peer *peer, uint8_t writer_peer, uint8_t writer, const uint8_t *datagram, size_t datagram_len,
+                          cw_observed *observed);
+
+/* Adds what one more datagram held: a count for each writer is such a sum. */
+static inline void cw_observed_add(cw_observed *sum, const cw_observed *more) {
+    sum->old_data += more->old_data;
+    sum->old_heartbeats += more->old_heartbeats;
+    sum->to_nobody += more->to_nobody;
+}
+
+/* What the topic of a writer carries: the datum of this project, or another type. */
+enum {
+    CW_DATUM = 0,
+    CW_KEYLESS = 1, /* a type without a key: its key is sixteen zeros */
+    CW_CDR = 2,     /* one with key fields, in CDR; of more than sixteen octets its key is their MD5 */
+    CW_CDR2 = 3     /* likewise in CDR2 */
+};
+
+/* A key field of a type: it stands at one place in every value. */
+typedef struct cw_key_field {
+    uint32_t place; /* how many octets of the body, which follows the four of representation and options, stand before it */
+    uint8_t size;   /* how many octets it takes: 1, 2, 4 or 8 */
+} cw_key_field;
+
+typedef struct cw_writer_kind {
+    uint8_t prefix[12];
+    uint8_t entity[4];
+    uint8_t kind;         /* CW_DATUM, .. */
+    uint32_t first_field; /* of CW_CDR and CW_CDR2: how many fields of the array stand before its own, */
+    uint32_t field_count; /* and how many are its own, at least one */
+} cw_writer_kind;
+
+/* Values of other types, which a peer reads as a datum whose value is the payload: representation, options and body. A
+ * datagram of the network goes through cw_inward before cw_deliver, one of cw_packet through cw_outward before it is sent.
+ * What is to be handed on is copied to the start of the buffer, at most 65,535 octets; it is the datagram itself where the
+ * answer is CW_NO_DATA. With gaps a GAP stands in place of the number of a DATA of another type than the datum whose payload
+ * a peer could not read, and of a DATA_FRAG of any writer of the table: else it is asked for again and again.
+ * CW_BAD_PARAMETER where the arrays are no table; CW_OUT_OF_RESOURCES with *needed = 0 where what is to be handed on would
+ * be longer than a message may be: it is as one that was lost. */
+uint8_t cw_inward(const cw_writer_kind *kinds, size_t kinds_len, const cw_key_field *fields, size_t fields_len, bool with_gaps,
+                  const uint8_t *datagram, size_t datagram_len, uint8_t *buffer, size_t buffer_len, size_t *needed);
+uint8_t cw_outward(const cw_writer_kind *kinds, size_t kinds_len, const cw_key_field *fields, size_t fields_len,
+                   const uint8_t *datagram, size_t datagram_len, uint8_t *buffer, size_t buffer_len, size_t *needed);
 
 /* Events. Each makes the last answer anew: its packets, its samples, its values and its text. Where there was none, for
  * want of memory for a copy of its value, or of an open peer, or as a line names none, the answer before stays.
@@ -389,12 +434,30 @@ CW_CHECKED(cw_is_array(peers, peers_len) && cw_is_array(writers, writers_len) &&
             const cw_reader_config *readers, size_t readers_len, uint64_t *sum),
            ((const cw_peer_config *)cw_array(peers), peers_len, (const cw_writer_config *)cw_array(writers), writers_len,
             (const cw_reader_config *)cw_array(readers), readers_len, sum))
+CW_CHECKED(cw_is_array(kinds, kinds_len) && cw_is_array(fields, fields_len) && cw_is_array(datagram, datagram_len) &&
+               cw_is_array(buffer, buffer_len),
+           inward, CW_NONNULL(10),
+           (const cw_writer_kind *kinds, size_t kinds_len, const cw_key_field *fields, size_t fields_len, bool with_gaps,
+            const uint8_t *datagram, size_t datagram_len, uint8_t *buffer, size_t buffer_len, size_t *needed),
+           ((const cw_writer_kind *)cw_array(kinds), kinds_len, (const cw_key_field *)cw_array(fields), fields_len,
+            with_gaps, (const uint8_t *)cw_array(datagram), datagram_len, (uint8_t *)cw_array(buffer), buffer_len, needed))
+CW_CHECKED(cw_is_array(kinds, kinds_len) && cw_is_array(fields, fields_len) && cw_is_array(datagram, datagram_len) &&
+               cw_is_array(buffer, buffer_len),
+           outward, CW_NONNULL(9),
+           (const cw_writer_kind *kinds, size_t kinds_len, const cw_key_field *fields, size_t fields_len,
+            const uint8_t *datagram, size_t datagram_len, uint8_t *buffer, size_t buffer_len, size_t *needed),
+           ((const cw_writer_kind *)cw_array(kinds), kinds_len, (const cw_key_field *)cw_array(fields), fields_len,
+            (const uint8_t *)cw_array(datagram), datagram_len, (uint8_t *)cw_array(buffer), buffer_len, needed))
 CW_MARKED_IF(cw_is_array(datagram, datagram_len), deliver, CW_NONNULL(1),
              (cw_peer *peer, const uint8_t *datagram, size_t datagram_len),
              (peer, (const uint8_t *)cw_array(datagram), datagram_len))
 CW_MARKED_IF(cw_is_array(datagram, datagram_len), observe, CW_NONNULL(1, 4),
              (cw_peer *peer, const uint8_t *datagram, size_t datagram_len, cw_observed *observed),
              (peer, (const uint8_t *)cw_array(datagram), datagram_len, observed))
+CW_MARKED_IF(cw_is_array(datagram, datagram_len), observe_writer, CW_NONNULL(1, 6),
+             (cw_peer *peer, uint8_t writer_peer, uint8_t writer, const uint8_t *datagram, size_t datagram_len,
+              cw_observed *observed),
+             (peer, writer_peer, writer, (const uint8_t *)cw_array(datagram), datagram_len, observed))
 CW_MARKED(tick, (cw_peer *peer, uint64_t now), (peer, now))
 CW_MARKED(register, (cw_peer *peer, uint8_t writer, const uint8_t key[16]), (peer, writer, key))
 CW_MARKED_IF(cw_is_array(value, value_len), write, CW_NONNULL(1, 3),
@@ -484,8 +547,11 @@ static inline CW_NONNULL() uint64_t cw_marked_unsent(cw_peer *peer) {
 #define cw_text_fault cw_marked_text_fault
 #define cw_line_fault cw_marked_line_fault
 #define cw_config_sum cw_marked_config_sum
+#define cw_inward cw_marked_inward
+#define cw_outward cw_marked_outward
 #define cw_deliver cw_marked_deliver
 #define cw_observe cw_marked_observe
+#define cw_observe_writer cw_marked_observe_writer
 #define cw_tick cw_marked_tick
 #define cw_register cw_marked_register
 #define cw_write cw_marked_write

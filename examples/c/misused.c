@@ -52,8 +52,10 @@ int main(void) {
     uint8_t buffer[8] = {0}, to = 0;
     uint64_t handle = 0;
     size_t needed = 0;
+    cw_observed seen = {0};
     say("a tick at a peer that is not open", cw_tick(&peer, 1));
     say("a packet of one that is not open", cw_packet(&peer, 0, &to, buffer, sizeof buffer, &needed));
+    say("a look at a datagram of one that is not open", cw_observe_writer(&peer, 1, 1, value, 1, &seen));
     say("a writer of a peer that there isn't", open_with(&peer, 2, 0, 1));
     say("a peer that there isn't", open_with(&peer, 1, 0, 2));
     say("peer 0", open_with(&peer, 1, 0, 0));
@@ -93,10 +95,14 @@ int main(void) {
     say("NULL, and no octets", cw_deliver(&peer, NULL, 0));
     say("NULL, and some octets", cw_deliver(&peer, NULL, 1));
     say("a buffer of 8 octets at NULL", cw_text(&peer, NULL, 8, &needed));
+    say("a look at a datagram, for a writer that there isn't", cw_observe_writer(&peer, 9, 9, value, sizeof value, &seen));
+    say("a look at NULL, and no octets", cw_observe_writer(&peer, 1, 1, NULL, 0, &seen));
+    say("a look at NULL, and some octets", cw_observe_writer(&peer, 1, 1, NULL, 1, &seen));
     say("a value at NULL without octets", cw_write(&peer, 1, key, NULL, 0));
     peer.is_busy = 1; /* as if another thread were in a call */
     say("a write while another call is under way", cw_write(&peer, 1, key, value, 1));
     say("a packet meanwhile", cw_packet(&peer, 0, &to, buffer, sizeof buffer, &needed));
+    say("a look meanwhile", cw_observe(&peer, value, 1, &seen));
     printf("unsent packets meanwhile: %llu\n", (unsigned long long)cw_unsent(&peer));
     cw_close(&peer); /* does nothing: that call would go on in what was freed */
     peer.is_busy = 0;

@@ -1,6 +1,6 @@
 /* A process ends, and comes back. Under its old prefix it loses, silently, as many samples as it had written before: the
- * reader takes them for those that it had. cw_observe shows it: what comes is old. So a session has prefixes of its own, and
- * all peers open anew with them.
+ * reader takes them for those that it had. cw_observe shows it, and cw_observe_writer of which writer: what comes is old. So a
+ * session has prefixes of its own, and all peers open anew with them.
  *
  * Here both peers are in one process. Where they are in several, the number of the session comes from whoever starts them: a
  * count in a file, the time, or octets at random; and each takes what its readers hold before it opens anew. */
@@ -14,7 +14,8 @@ static const cw_writer_config writers[] = {{.peer = 1, .entity = {0, 0, 1, 2}, .
 static const cw_reader_config readers[] = {{.peer = 2, .entity = {0, 0, 1, 7}, .max_samples = -1, .max_instances = -1}};
 static cw_peer writer = CW_PEER_NONE, reader = CW_PEER_NONE;
 static uint64_t now;
-static cw_observed old; /* what came that was nothing to the peer that it came to */
+static cw_observed old;           /* what came that was nothing to the peer that it came to */
+static cw_observed old_of_writer; /* that of writer 1 of peer 1 */
 
 /* Opens a peer of a session: its number is in each prefix, so no two sessions have one in common. */
 static void open_in(cw_peer *peer, uint8_t session, uint8_t number) {
@@ -29,9 +30,9 @@ static void carry(cw_peer *from, cw_peer *to) {
     for (size_t at = 0; cw_packet(from, at, &whom, packet, sizeof packet, &len) == CW_OK; at++) {
         cw_observed seen = {0};
         CHECK(cw_observe(to, packet, len, &seen) == CW_OK);
-        old.old_data += seen.old_data;
-        old.old_heartbeats += seen.old_heartbeats;
-        old.to_nobody += seen.to_nobody;
+        cw_observed_add(&old, &seen);
+        CHECK(cw_observe_writer(to, 1, 1, packet, len, &seen) == CW_OK);
+        cw_observed_add(&old_of_writer, &seen);
         CHECK(cw_deliver(to, packet, len) == CW_OK);
     }
 }
@@ -43,7 +44,7 @@ static void exchange(const char *what, int values) {
     cw_total_status lost = {0};
     uint8_t value[16] = {0};
     size_t len = 0, taken = 0;
-    old = (cw_observed){0};
+    old = old_of_writer = (cw_observed){0};
     for (int at = 0; at < values; at++) {
         CHECK(cw_write(&writer, 1, key, value, 1) == CW_OK);
         carry(&writer, &reader);
@@ -57,8 +58,10 @@ static void exchange(const char *what, int values) {
             taken++;
     CHECK(cw_get_sample_lost_status(&reader, 1) == CW_OK && cw_total(&reader, &lost) == CW_OK);
     printf("%s: %zu of %d taken, %llu lost as it says; ", what, taken, values, (unsigned long long)lost.total_count);
-    printf("old DATA: %llu, old HEARTBEATs: %llu, to nobody: %llu\n", (unsigned long long)old.old_data,
+    printf("old DATA: %llu, old HEARTBEATs: %llu, to nobody: %llu; ", (unsigned long long)old.old_data,
            (unsigned long long)old.old_heartbeats, (unsigned long long)old.to_nobody);
+    printf("of the writer: %llu, %llu\n", (unsigned long long)old_of_writer.old_data,
+           (unsigned long long)old_of_writer.old_heartbeats);
 }
 
 int main(void) {

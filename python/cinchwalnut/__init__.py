@@ -1,6 +1,7 @@
 """Peers of the Data Distribution Service, over libcinchwalnut.so: docs/C.md says how it is built, and what is proved of it.
 
-It has the calls of include/cinchwalnut.h, which says what each does, by their names without `cw_`."""
+It has the calls of include/cinchwalnut.h, which says what each does, by their names without `cw_`. `cw_open` is `Peer(..)`,
+`cw_open_text` is `Peer.from_text`, and `cw_observe_writer` is `observe(.., writer=..)`."""
 from ._codes import (
     ANY,
     BadParameter,
@@ -22,19 +23,23 @@ from ._codes import (
 )
 from ._config import ReaderConfig, WriterConfig, reader, writer
 from ._faults import ConfigFault, config_fault, config_sum, line_fault, text_fault
+from ._adapter import Adapter, Carries, KeyField, WriterKind
 from ._peer import SECOND, ChangedStatus, NoticeInfo, Observed, Packet, Peer, Sample, SampleInfo, TotalStatus, ms
 from ._recorded import RecordedPeer
 
 __all__ = [
     "ANY",
     "SECOND",
+    "Adapter",
     "BadParameter",
+    "Carries",
     "ChangedStatus",
     "Code",
     "ConfigFault",
     "EntityKind",
     "InconsistentPolicy",
     "InstanceState",
+    "KeyField",
     "NoData",
     "NoticeInfo",
     "Observed",
@@ -56,6 +61,7 @@ __all__ = [
     "TotalStatus",
     "ViewState",
     "WriterConfig",
+    "WriterKind",
     "config_fault",
     "config_sum",
     "line_fault",

@@ -10,7 +10,10 @@ Check = Callable[[int, str], int]
 
 def _between(low: int, high: int) -> Check:
     def check(number: int, name: str) -> int:
-        number = operator.index(number)
+        try:
+            number = operator.index(number)
+        except TypeError:
+            raise TypeError(f"{name} is no whole number, but {type(number).__name__}") from None
         if not low <= number <= high:
             raise ValueError(f"{name} is {number}, and not from {low} to {high}")
         return number
@@ -18,7 +21,7 @@ def _between(low: int, high: int) -> Check:
     return check
 
 
-u8, u32, u64 = _between(0, (1 << 8) - 1), _between(0, (1 << 32) - 1), _between(0, (1 << 64) - 1)
+u8, u24, u32, u64 = (_between(0, (1 << bits) - 1) for bits in (8, 24, 32, 64))
 i32 = _between(-(1 << 31), (1 << 31) - 1)
 
 

@@ -4,7 +4,7 @@ from __future__ import annotations
 import dataclasses
 from typing import Any, Callable
 
-from ._checks import i32, octets_of, u8, u32, u64
+from ._checks import i32, octets_of, u8, u24, u32, u64
 
 
 def _entity(value: Any, name: str) -> bytes:
@@ -70,9 +70,7 @@ class ReaderConfig(_Checked):
 
 
 def _entity_of(key: int, kind: int) -> bytes:
-    if not 0 <= key < 1 << 24:
-        raise ValueError(f"key is {key}, and not from 0 to {(1 << 24) - 1}")
-    return bytes([*key.to_bytes(3, "big"), kind])
+    return bytes([*u24(key, "key").to_bytes(3, "big"), kind])
 
 
 def writer(peer: int, key: int, topic: int = 0, **policies: Any) -> WriterConfig:

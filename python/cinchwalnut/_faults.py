@@ -2,7 +2,7 @@
 from __future__ import annotations
 
 import ctypes as c
-from typing import Any, List, NamedTuple, Optional, Sequence, Tuple, Type
+from typing import Any, List, NamedTuple, Optional, Sequence, Type
 
 from . import _library
 from ._checks import Octets, octets_of
@@ -23,11 +23,6 @@ class ConfigFault(NamedTuple):
     sentence: str
 
 
-def _array(kind: Type[Any], items: Sequence[Any]) -> Tuple[Any, int]:
-    """An array, which has an element also where there are none: no pointer is ever null."""
-    return (kind * max(len(items), 1))(*items), len(items)
-
-
 def _struct_of(kind: Type[Any], end: Any) -> Any:
     fields = {name: getattr(end, name) for name, _ in kind._fields_}
     return kind(**{**fields, "entity": tuple(end.entity)})
@@ -37,9 +32,9 @@ def arrays(prefixes: Sequence[Octets], writers: Sequence[WriterConfig], readers:
     """The arguments that name a configuration."""
     peers = [_library.CPeerConfig(prefix=tuple(octets_of(12, it, "a prefix"))) for it in prefixes]
     lists = [
-        _array(_library.CPeerConfig, peers),
-        _array(_library.CWriterConfig, [_struct_of(_library.CWriterConfig, it) for it in writers]),
-        _array(_library.CReaderConfig, [_struct_of(_library.CReaderConfig, it) for it in readers]),
+        _library.array_of(_library.CPeerConfig, peers),
+        _library.array_of(_library.CWriterConfig, [_struct_of(_library.CWriterConfig, it) for it in writers]),
+        _library.array_of(_library.CReaderConfig, [_struct_of(_library.CReaderConfig, it) for it in readers]),
     ]
     return [it for one in lists for it in one]
 
@@ -57,11 +52,23 @@ def _sentence(call: Any, *arguments: Any, room: int = 512) -> Optional[str]:
     return c.string_at(buffer, needed.value).decode()
 
 
+def _of_no_peer(configuration: Sequence[Any]) -> str:
+    """Which writer or reader, in the order of the list, names a peer that there isn't."""
+    count = configuration[1]
+    for kind, ends, length in (("writer", *configuration[2:4]), ("reader", *configuration[4:6])):
+        for at, end in enumerate(ends[:length], 1):
+            if not 1 <= end.peer <= count:
+                return f"the configuration: {kind} {at} of all names peer {end.peer}, and there are {count}"
+    return ""
+
+
 def fault_in(configuration: Sequence[Any]) -> Optional[ConfigFault]:
     fault = _library.CFault()
     sentence = _sentence(_LIBRARY.cw_config_fault, *configuration, c.byref(fault))
     if sentence is None:
         return None
+    if fault.rule == Rule.NAMED_PEER:
+        sentence = _of_no_peer(configuration) or sentence
     return ConfigFault(Code(fault.code), Rule(fault.rule), Place(fault.place), fault.peer, fault.number, sentence)
 
 

@@ -1,13 +1,14 @@
-"""libcinchwalnut.so: where it is, and its calls. It is looked for where the environment says, CINCHWALNUT; beside this file;
-and where the loader looks."""
+"""libcinchwalnut.so: where it is, and its calls. It is looked for where the environment says, CINCHWALNUT; beside this file,
+where tools/install puts it; and where the loader looks."""
 from __future__ import annotations
 
 import ctypes as c
-import ctypes.util
 import os
 import pathlib
+from typing import Any, Dict, List, Sequence, Tuple, Type
 
-BESIDE = pathlib.Path(__file__).resolve().parent / "libcinchwalnut.so"
+NAME = "libcinchwalnut.so"
+BESIDE = pathlib.Path(__file__).resolve().parent / NAME
 
 
 class CPeer(c.Structure):
@@ -43,15 +44,32 @@ class CFault(c.Structure):
     ]
 
 
+class CKeyField(c.Structure):
+    _fields_ = [("place", c.c_uint32), ("size", c.c_uint8)]
+
+
+class CWriterKind(c.Structure):
+    _fields_ = [
+        *[("prefix", c.c_uint8 * 12), ("entity", c.c_uint8 * 4), ("kind", c.c_uint8)],
+        *[(name, c.c_uint32) for name in ("first_field", "field_count")],
+    ]
+
+
+def array_of(kind: Type[Any], items: Sequence[Any]) -> Tuple[Any, int]:
+    """An array, which has an element also where there are none: no pointer is ever null."""
+    return (kind * max(len(items), 1))(*items), len(items)
+
+
 # A pointer to octets that are read, and the address of memory that is written to.
 _OCTETS, _INTO, _SIZE = c.c_char_p, c.c_void_p, c.c_size_t
 _U8, _U32, _U64, _I32 = c.c_uint8, c.c_uint32, c.c_uint64, c.c_int32
 _ARRAYS = [it for kind in (CPeerConfig, CWriterConfig, CReaderConfig) for it in (c.POINTER(kind), _SIZE)]
 _MASKS = [_U32, _U32, _U32]
 # Each has the peer before these.
-_ARGUMENTS = {
+_ARGUMENTS: Dict[str, List[Any]] = {
     **{"open": [*_ARRAYS, _U8], "open_text": [_OCTETS, _SIZE, _U8], "close": []},
     **{"deliver": [_OCTETS, _SIZE], "observe": [_OCTETS, _SIZE, _INTO], "tick": [_U64], "line": [_OCTETS, _SIZE]},
+    "observe_writer": [_U8, _U8, _OCTETS, _SIZE, _INTO],
     **{it: [_U8, _OCTETS] for it in ("register", "dispose", "unregister", "lookup_instance")},
     **{"write": [_U8, _OCTETS, _OCTETS, _SIZE], "set_strength": [_U8, _I32], "get_key_value": [_U8, _U64]},
     **{it: [_U8] for it in ("assert_liveliness", "get_liveliness_lost_status", "get_sample_lost_status")},
@@ -68,24 +86,25 @@ _ARGUMENTS = {
 
 
 _SENTENCE = [_INTO, _SIZE, c.POINTER(_SIZE)]
+_TABLE = [c.POINTER(CWriterKind), _SIZE, c.POINTER(CKeyField), _SIZE]
 # These have none.
-_WITHOUT_PEER = {
+_WITHOUT_PEER: Dict[str, List[Any]] = {
     "config_fault": [*_ARRAYS, c.POINTER(CFault), *_SENTENCE],
     **{it: [_OCTETS, _SIZE, *_SENTENCE] for it in ("text_fault", "line_fault")},
     "config_sum": [*_ARRAYS, c.POINTER(_U64)],
+    "inward": [*_TABLE, c.c_bool, _OCTETS, _SIZE, *_SENTENCE],
+    "outward": [*_TABLE, _OCTETS, _SIZE, *_SENTENCE],
 }
 
 
 def _load() -> c.PyDLL:
     """The library, as one whose calls hold the interpreter's lock: so no two threads are in a peer at once."""
-    said = os.environ.get("CINCHWALNUT")
-    name = said or (str(BESIDE) if BESIDE.exists() else ctypes.util.find_library("cinchwalnut"))
-    if not name:
-        raise ImportError(f"there is no libcinchwalnut.so: not at {BESIDE}, nor where the loader looks, and CINCHWALNUT says none; tools/library builds it")
+    name = os.environ.get("CINCHWALNUT") or (str(BESIDE) if BESIDE.exists() else NAME)
     try:
         library = c.PyDLL(name)
     except OSError as error:
-        raise ImportError(f"libcinchwalnut.so does not load: {error}") from error
+        where = f"It is looked for where CINCHWALNUT says, at {BESIDE}, and where the loader looks; tools/library builds it"
+        raise ImportError(f"{NAME} does not load: {error}. {where}") from error
     of_peer = {call: [c.POINTER(CPeer), *arguments] for call, arguments in _ARGUMENTS.items()}
     for call, arguments in {**of_peer, **_WITHOUT_PEER}.items():
         if not hasattr(library, f"cw_{call}"):

@@ -7,6 +7,7 @@ import threading
 from typing import Any, Callable, List, NamedTuple, Optional, Sequence, Tuple, Type, TypeVar
 
 from . import _library
+from ._causes import cause, own_of, own_of_text
 from ._checks import Octets, i32, key_of, octets, u8, u32, u64
 from ._codes import ANY, Code, EntityKind, InstanceState, PreconditionNotMet, SampleState, Status, ViewState, refused
 from ._config import ReaderConfig, WriterConfig
@@ -16,7 +17,8 @@ _LIBRARY = _library.LIBRARY
 SECOND = 1 << 32
 _BUFFER = 1 << 16
 _NO_DATA, _OUT_OF_RESOURCES = int(Code.NO_DATA), int(Code.OUT_OF_RESOURCES)
-_Peer, _Item = TypeVar("_Peer", bound="Peer"), TypeVar("_Item")
+_Peer = TypeVar("_Peer", bound="Peer")
+_Item = TypeVar("_Item")
 
 
 def ms(milliseconds: float) -> int:
@@ -57,6 +59,10 @@ class Observed(NamedTuple):
     old_heartbeats: int
     to_nobody: int
 
+    def plus(self, more: "Observed") -> "Observed":
+        """Both together: a count for each writer is such a sum."""
+        return Observed(*(one + another for one, another in zip(self, more)))
+
 
 class ChangedStatus(NamedTuple):
     """LIVELINESS_CHANGED; the handle is 0 for none."""
@@ -94,12 +100,15 @@ _INSTANCE_STATES = {int(it): it for it in InstanceState}
 class Peer:
     """A peer of a configuration: the prefixes of its peers, its writers and its readers, and its own number.
 
+    Peers are numbered from 1 in their order, and so are the writers of a peer, and its readers. A key has 16 octets, and a value
+    at most 1,024. `most` is how many samples at most, -1 for all; masks are sums of states, or `ANY`.
+
     Each event returns what it sends: the packets, each with the number of the peer that it is for. A call that is refused
-    raises `Refused`, by its code. Threads may share a peer: an event and the fetch of what it gave back are one."""
+    raises `Refused`, by its code, and says the cause. Threads may share a peer: an event and the fetch of what it gave back are one."""
 
     def __init__(self, prefixes: Sequence[Octets], writers: Sequence[WriterConfig], readers: Sequence[ReaderConfig], number: int):
         self._begin()
-        configuration = arrays(prefixes, writers, readers)
+        configuration, self._own = arrays(prefixes, writers, readers), own_of(writers, readers, number)
         if code := _LIBRARY.cw_open(self._at, *configuration, u8(number, "number")):
             fault = fault_in(configuration) if code != Code.MEMORY else None
             raise refused(code, fault.sentence if fault else f"there is no peer {number}" if code == Code.BAD_PARAMETER else "")
@@ -112,6 +121,7 @@ class Peer:
         said = text.encode()
         if code := _LIBRARY.cw_open_text(self._at, said, len(said), u8(number, "number")):
             raise refused(code, (text_fault(text) or f"there is no peer {number}") if code != Code.MEMORY else "")
+        self._own = own_of_text(text, number)
         return self
 
     def _begin(self) -> None:
@@ -142,21 +152,22 @@ class Peer:
 
     def _happens(self, line: Callable[[], str], call: Any, *arguments: Any) -> int:
         """The code of an event, by its call. What it is in a line of docs/PIPE.md is asked for where it is recorded."""
-        return call(self._at, *arguments)
+        code: int = call(self._at, *arguments)
+        return code
 
     def _event(self, line: Callable[[], str], call: Any, *arguments: Any) -> None:
         if code := self._happens(line, call, *arguments):
-            raise self._refused(code)
+            raise self._refused(code, line())
 
-    def _refused(self, code: int) -> Exception:
+    def _refused(self, code: int, line: str = "") -> Exception:
+        """The exception of a code, with which the event of a line was refused, or else a fetch."""
         if code == Code.PRECONDITION_NOT_MET and not self.is_open:
             return PreconditionNotMet(code, "the peer is closed")
-        return refused(code)
+        return refused(code, cause(code, line, self._own) if line else "")
 
     def _sent(self, line: Callable[[], str], call: Any, *arguments: Any) -> List[Packet]:
         with self._lock:
-            if code := self._happens(line, call, *arguments):
-                raise self._refused(code)
+            self._event(line, call, *arguments)
             return self._each(self._packet)
 
     # Events: a datagram comes, the time goes on.
@@ -165,11 +176,14 @@ class Peer:
         came = octets(datagram, "a datagram")
         return self._sent(lambda: f"deliver {came.hex() if 0 < len(came) < 1 << 16 else '-'}", _LIBRARY.cw_deliver, came, len(came))
 
-    def observe(self, datagram: Octets) -> Observed:
-        """What a datagram holds that would be nothing to the peer, as it stands before it is delivered. It changes nothing."""
+    def observe(self, datagram: Octets, writer: Optional[Tuple[int, int]] = None) -> Observed:
+        """What a datagram holds that would be nothing to the peer, as it stands before it is delivered. It changes nothing.
+        Old DATA and HEARTBEATs are those of all writers, or of one, by the number of its peer and its number there."""
         came = octets(datagram, "a datagram")
+        looked = _LIBRARY.cw_observe if writer is None else _LIBRARY.cw_observe_writer
+        whose = () if writer is None else _named(writer)
         with self._lock:
-            if code := _LIBRARY.cw_observe(self._at, came, len(came), self._value_at):
+            if code := looked(self._at, *whose, came, len(came), self._value_at):
                 raise self._refused(code)
             return Observed(*_OBSERVED.unpack_from(self._value))
 
@@ -213,14 +227,13 @@ class Peer:
             self._event(lambda: f"call livelost w{number}", _LIBRARY.cw_get_liveliness_lost_status, number)
             return self.total()
 
-    # Calls of a reader, by its number. `most` is how many samples at most, -1 for all; the masks are sums of states, or ANY.
-    # Where there is no sample, the list is empty.
+    # Calls of a reader, by its number. Where there is no sample, the list is empty.
 
     def _accessed(self, line: Callable[[], str], call: Any, *arguments: Any) -> List[Sample]:
         with self._lock:
             code = self._happens(line, call, *arguments)
             if code not in (0, _NO_DATA):
-                raise self._refused(code)
+                raise self._refused(code, line())
             return [] if code else self._each(self._sample)
 
     def _by_masks(self, word: str, number: int, most: int, handle: Optional[int], samples: int, views: int, instances: int) -> List[Sample]:
@@ -310,17 +323,17 @@ class Peer:
         said = line.encode()
         with self._lock:
             code = self._happens(lambda: line, _LIBRARY.cw_line, said, len(said))
-            if code == Code.BAD_PARAMETER:
-                raise refused(code, line_fault(line) or "")
+            if code == Code.BAD_PARAMETER and (why := line_fault(line)):
+                raise refused(code, why)
             if code:
-                raise self._refused(code)
+                raise self._refused(code, line)
             return self.text()
 
     def add_filter(self, begins: Octets) -> int:
         """A filter, which values pass that begin with these octets, by its number."""
         said = octets(begins, "a filter")
         with self._lock:
-            return self._there(self._fetched(_NUMBER, _LIBRARY.cw_add_filter, said, len(said)))[0]
+            return int(self._there(self._fetched(_NUMBER, _LIBRARY.cw_add_filter, said, len(said)), "filter")[0])
 
     def set_recorder(self, kind: int, number: int, mask: int, room: int) -> List[NoticeInfo]:
         """Has an entity record the statuses of this mask, the last ones, as many as there is room for; what the recorder
@@ -328,7 +341,7 @@ class Peer:
         u8(kind, "kind"), u8(number, "number"), u32(mask, "mask"), u64(room, "room")
         with self._lock:
             if code := _LIBRARY.cw_set_recorder(self._at, kind, number, mask, room):
-                raise self._refused(code)
+                raise self._refused_recorder(code, kind, number, room)
             return self.notices()
 
     def clear_recorder(self, kind: int, number: int) -> List[NoticeInfo]:
@@ -336,8 +349,14 @@ class Peer:
         u8(kind, "kind"), u8(number, "number")
         with self._lock:
             if code := _LIBRARY.cw_clear_recorder(self._at, kind, number):
-                raise self._refused(code)
+                raise self._refused_recorder(code, kind, number)
             return self.notices()
+
+    def _refused_recorder(self, code: int, kind: int, number: int, room: int = 1) -> Exception:
+        if code != Code.BAD_PARAMETER:
+            return self._refused(code)
+        is_room = 1 <= room <= 1 << 16
+        return refused(code, f"there is no entity of kind {int(kind)} and number {number}" if is_room else f"room is {room}, and not from 1 to 65536")
 
     # Fetches of the last answer, which change nothing.
 
@@ -347,7 +366,7 @@ class Peer:
 
     def packet(self, at: int) -> Packet:
         """One of these, from 0; NoData where there is none."""
-        return self._one(self._packet, at)
+        return self._one(self._packet, at, "packet")
 
     def _packet(self, at: int) -> Optional[Packet]:
         said = self._copied(_LIBRARY.cw_packet, at, self._to_at)
@@ -359,14 +378,14 @@ class Peer:
 
     def sample(self, at: int) -> Sample:
         """One of these, from 0; NoData where there is none."""
-        return self._one(self._sample, at)
+        return self._one(self._sample, at, "sample")
 
     def _sample(self, at: int) -> Optional[Sample]:
         value = self._copied(_LIBRARY.cw_sample, at, self._value_at)
         if value is None:
             return None
         *plain, sample, view, instance, valid = _INFO.unpack_from(self._value)
-        return SampleInfo(*plain, _SAMPLE_STATES[sample], _VIEW_STATES[view], _INSTANCE_STATES[instance], valid), value
+        return SampleInfo._make((*plain, _SAMPLE_STATES[sample], _VIEW_STATES[view], _INSTANCE_STATES[instance], valid)), value
 
     def notices(self) -> List[NoticeInfo]:
         """What the recorder kept that was set anew or cleared last, the oldest first."""
@@ -374,7 +393,7 @@ class Peer:
 
     def notice(self, at: int) -> NoticeInfo:
         """One of these, from 0; NoData where there is none."""
-        return self._one(self._notice, at)
+        return self._one(self._notice, at, "notice")
 
     def _notice(self, at: int) -> Optional[NoticeInfo]:
         found = self._fetched(_NOTICE, _LIBRARY.cw_notice, at)
@@ -385,35 +404,35 @@ class Peer:
 
     def key(self) -> bytes:
         """Of get_key_value."""
-        return self._there(self._fetched(_KEY, _LIBRARY.cw_key))[0]
+        return bytes(self._there(self._fetched(_KEY, _LIBRARY.cw_key), "key")[0])
 
     def handle(self) -> int:
         """Of lookup_instance."""
-        return self._there(self._fetched(_HANDLE, _LIBRARY.cw_handle))[0]
+        return int(self._there(self._fetched(_HANDLE, _LIBRARY.cw_handle), "handle")[0])
 
     def number(self) -> int:
         """Of what a line made: a condition, a WaitSet."""
-        return self._there(self._fetched(_NUMBER, _LIBRARY.cw_number))[0]
+        return int(self._there(self._fetched(_NUMBER, _LIBRARY.cw_number), "number")[0])
 
     def total(self) -> TotalStatus:
         """Of a look at SAMPLE_LOST or LIVELINESS_LOST."""
-        return TotalStatus(*self._there(self._fetched(_TOTAL, _LIBRARY.cw_total)))
+        return TotalStatus(*self._there(self._fetched(_TOTAL, _LIBRARY.cw_total), "total"))
 
     def changed(self) -> ChangedStatus:
         """Of a look at LIVELINESS_CHANGED."""
-        return ChangedStatus(*self._there(self._fetched(_CHANGED, _LIBRARY.cw_changed)))
+        return ChangedStatus(*self._there(self._fetched(_CHANGED, _LIBRARY.cw_changed), "counts of LIVELINESS_CHANGED"))
 
     def unsent(self) -> int:
         """How many packets found no memory, as if they were lost."""
         with self._lock:
             if not self._peer.is_open:
                 raise self._refused(Code.PRECONDITION_NOT_MET)
-            return _LIBRARY.cw_unsent(self._at)
+            return int(_LIBRARY.cw_unsent(self._at))
 
     def text(self) -> str:
         """The reply in words, as docs/PIPE.md has them."""
         with self._lock:
-            return self._there(self._copied(_LIBRARY.cw_text)).decode().rstrip("\n")
+            return self._there(self._copied(_LIBRARY.cw_text), "text").decode().rstrip("\n")
 
     def _each(self, fetch: Callable[[int], Optional[_Item]]) -> List[_Item]:
         got: List[_Item] = []
@@ -424,14 +443,14 @@ class Peer:
                     return got
                 got.append(item)
 
-    def _one(self, fetch: Callable[[int], Optional[_Item]], at: int) -> _Item:
+    def _one(self, fetch: Callable[[int], Optional[_Item]], at: int, what: str) -> _Item:
         with self._lock:
-            return self._there(fetch(u64(at, "at")))
+            return self._there(fetch(u64(at, "at")), f"{what} {at}")
 
     @staticmethod
-    def _there(item: Optional[_Item]) -> _Item:
+    def _there(item: Optional[_Item], what: str) -> _Item:
         if item is None:
-            raise refused(Code.NO_DATA)
+            raise refused(Code.NO_DATA, f"there is no {what} to fetch")
         return item
 
     def _copied(self, fetch: Any, *arguments: Any) -> Optional[bytes]:
@@ -459,6 +478,12 @@ class Peer:
     def _make_buffer(self, room: int) -> None:
         self._buffer, self._room = c.create_string_buffer(room), room
         self._buffer_at = c.addressof(self._buffer)
+
+
+def _named(writer: Tuple[int, int]) -> Tuple[int, int]:
+    if not isinstance(writer, tuple) or len(writer) != 2:
+        raise TypeError(f"writer is {writer!r}, and no pair of the number of its peer and its number there")
+    return u8(writer[0], "the writer's peer"), u8(writer[1], "the writer")
 
 
 def _handle_in_line(handle: int) -> int:

@@ -1,13 +1,15 @@
 """A peer that is recorded."""
 from __future__ import annotations
 
-from typing import Any, Callable, List, Sequence, TextIO, Union
+from typing import Any, Callable, Dict, List, Sequence, Set, TextIO, Tuple, Union
 
 from ._checks import Octets, octets
 from ._codes import Code, EntityKind, Status
 from ._config import ReaderConfig, WriterConfig
 from ._library import LIBRARY
 from ._peer import NoticeInfo, Peer
+
+_End = Union[WriterConfig, ReaderConfig]
 
 
 class RecordedPeer(Peer):
@@ -26,22 +28,27 @@ class RecordedPeer(Peer):
         to: TextIO,
     ):
         super().__init__(prefixes, writers, readers, number)
-        self._stream, self._listeners = to, set()
+        self._record(to)
+        ends: List[_End] = [*writers, *readers]
         for at, prefix in enumerate(prefixes, 1):
             to.write(f"peer {bytes(prefix).hex()}\n")
-            to.writelines(f"{_options(it)}\n" for it in [*writers, *readers] if it.peer == at)
+            to.writelines(f"{_options(it)}\n" for it in ends if it.peer == at)
         to.write(f"open {number}\nreply ok\n")
 
     @classmethod
     def from_text(cls, text: str, number: int, to: TextIO) -> RecordedPeer:  # type: ignore[override]
         self = super().from_text(text, number)
-        self._stream, self._listeners = to, set()
+        self._record(to)
         to.write(f"{text}{'' if text.endswith(chr(10)) or not text else chr(10)}open {number}\nreply ok\n")
         return self
 
+    def _record(self, to: TextIO) -> None:
+        self._stream = to
+        self._listeners: Set[Tuple[int, int]] = set()  # who has a recorder
+
     def _happens(self, line: Callable[[], str], call: Any, *arguments: Any) -> int:
         was_open = self.is_open
-        code = call(self._at, *arguments)
+        code: int = call(self._at, *arguments)
         if was_open and code != Code.MEMORY and not (call is LIBRARY.cw_line and code == Code.BAD_PARAMETER):
             packets = [f"packet {to} {said.hex()}\n" for to, said in self.packets()]
             self._stream.writelines([f"{line()}\n", *packets, f"reply {self.text()}\n"])
@@ -79,15 +86,16 @@ def _entity(kind: int, number: int) -> str:
 
 
 def _notice(it: NoticeInfo) -> str:
-    words: List[Any] = {
+    of_status: Dict[Status, List[Any]] = {
         Status.DATA_AVAILABLE: ["data"],
         Status.LIVELINESS_CHANGED: ["changed", *it.changed],
         Status.SAMPLE_LOST: ["lost", *it.total],
-    }.get(it.status, ["livelost", *it.total])
+    }
+    words = of_status.get(it.status, ["livelost", *it.total])
     return f" [{' '.join(map(str, [_entity(it.entity_kind, it.entity_number), *words]))}]"
 
 
-def _options(end: Union[WriterConfig, ReaderConfig]) -> str:
+def _options(end: _End) -> str:
     """A writer or a reader of a configuration, as a line of docs/PIPE.md."""
     words = ["writer" if isinstance(end, WriterConfig) else "reader", end.entity.hex()]
     words += ["exclusive" if end.is_exclusive else "shared", f"last={end.depth}" if end.keeps_last else "all"]

@@ -1,3 +1,4 @@
+pub mod Adapting
 pub mod Answering
 pub mod Asking
 pub mod Faults

@@ -6,6 +6,7 @@
 //! Not here: what a peer answers (`dds_core`), where packets go and how, and what time it is.
 #![tactic(auto)]
 
+pub mod adapting;
 pub mod answers;
 mod config;
 pub mod events;

@@ -2,7 +2,7 @@
 //!
 //! RTPS 2.5, 8.3.4 (the message receiver). The interface for C is this project's own.
 
-ghost use Rattle.std.specs.Prelude.{◌≡◌};
+ghost use Rattle.std.specs.Prelude.{◌≡◌, None, Some};
 ghost use Rattle.dds_c.specs.Observing.{IsObserved, ObservedBy, observed_of};
 
 use crate::events::NOT_OPEN;
@@ -10,6 +10,7 @@ use crate::peer::Peer;
 use crate::session::Session;
 use dds_base::Code;
 use dds_core::Observed;
+use dds_machine::Endpoint;
 use std::alloc::Global;
 
 /// What a datagram holds that would be nothing to a peer, as it stands before the datagram is delivered.
@@ -36,11 +37,35 @@ fn flat_observed(observed: Observed) -> FlatObserved
     }
 }
 
-/// What a datagram holds that would be nothing to the peer of a session.
-fn observe(session: &Session, datagram: &[u8]) -> FlatObserved
-    ensures { IsObserved session.now datagram.now (observed_of result) }
+/// What a datagram holds that would be nothing to the peer of a session: of the writer that is asked for, else of all.
+fn observe(session: &Session, of: Option<Endpoint>, datagram: &[u8]) -> FlatObserved
+    ensures { IsObserved session.now of datagram.now (observed_of result) }
 {
-    flat_observed(session.core.observe(datagram))
+    let observed = match of {
+        Some(writer) => session.core.observe_writer(writer, datagram),
+        None => session.core.observe(datagram),
+    };
+    flat_observed(observed)
+}
+
+/// The same of the peer that is open.
+fn observe_open(
+    alloc: Global,
+    peer: &mut Peer,
+    of: Option<Endpoint>,
+    datagram: &[u8],
+    observed: &mut FlatObserved,
+) -> u8
+    ensures observed { ObservedBy peer.old.held.session of datagram.now
+        observed.old observed.new result }
+    ensures keeps { peer.new.held.session ≡ peer.old.held.session }
+{
+    let Some(session) = peer.take(alloc) else {
+        return NOT_OPEN.number();
+    };
+    *observed = observe(&session, of, datagram);
+    peer.put(session);
+    Code::Ok.number()
 }
 
 /// What a datagram holds that would be nothing to the peer, as it stands before `cw_deliver`. A process that opened its
@@ -60,15 +85,41 @@ pub extern "C" fn cw_observe(
     observed: &mut FlatObserved,
 ) -> u8
     // It is what `Core::observe` has of those octets, wherever a peer is open.
-    ensures observed { ObservedBy peer.old.held.session datagram.now
+    ensures observed { ObservedBy peer.old.held.session None datagram.now
         observed.old observed.new result }
     // Nothing happens to the peer.
     ensures keeps { peer.new.held.session ≡ peer.old.held.session }
 {
-    let Some(session) = peer.take(alloc) else {
-        return NOT_OPEN.number();
+    observe_open(alloc, peer, None, datagram, observed)
+}
+
+/// The same, with the old DATA and HEARTBEATs of one writer alone, by the number of its peer and its number there: none
+/// where it is matched with no reader of the peer that is open. So a caller adds them up by writer.
+///
+/// # Errors
+///
+/// PRECONDITION_NOT_MET where no peer is open: nothing is written then.
+///
+/// RTPS 2.5, 8.3.4 (the message receiver), 8.4.10 (WriterProxy).
+#[unsafe(no_mangle)]
+pub extern "C" fn cw_observe_writer(
+    alloc: Global,
+    peer: &mut Peer,
+    writer_peer: u8,
+    writer: u8,
+    datagram: &[u8],
+    observed: &mut FlatObserved,
+) -> u8
+    // It is what `Core::observe_writer` has of those octets, wherever a peer is open.
+    ensures observed { ObservedBy peer.old.held.session
+        (Some (record { peer = writer_peer; number = writer })) datagram.now
+        observed.old observed.new result }
+    // Nothing happens to the peer.
+    ensures keeps { peer.new.held.session ≡ peer.old.held.session }
+{
+    let of = Endpoint {
+        peer: writer_peer,
+        number: writer,
     };
-    *observed = observe(&session, datagram);
-    peer.put(session);
-    Code::Ok.number()
+    observe_open(alloc, peer, Some(of), datagram, observed)
 }
