@@ -1,9 +1,10 @@
 /* For examples/interop/exchange: a participant of Cyclone DDS with a writer and a reader, each of a topic of its own.
  *
- * Its words are a domain and a file of lines "write KEY VALUE", "dispose KEY" and "unregister KEY", with the key's last
- * octet as a number and the value in hexadecimal digits. Once both are matched it makes these changes, and prints in lines
- * of the same form what it takes, each as it comes, until its standard input ends. */
-#include "Datum.h"
+ * Its words are a domain, a type of Types.idl, "reliable" or "default" for the policies of its reader, and a file of lines
+ * "write KEY VALUE", "dispose KEY" and "unregister KEY". Once both are matched it makes these changes, and prints in lines
+ * of the same form what it takes, each as it comes, until its standard input ends. A key is a number, 0 of a type without
+ * one. A value is a word: of a datum its octets in hexadecimal digits, else NUMBER,WORDS,VALUE,VALUE.. */
+#include "Types.h"
 #include "dds/dds.h"
 #include "dds/version.h"
 #include <stdio.h>
@@ -12,6 +13,23 @@
 
 #define LONGEST 65536
 #define PAUSE DDS_MSECS(2) /* between two changes */
+#define LINGERING DDS_SECS(1) /* for what is on its way to a reader that acknowledges nothing */
+
+typedef union sample {
+    interop_Datum datum;
+    interop_Text text;
+    interop_Reading reading;
+} sample;
+
+typedef struct type {
+    const char *name;
+    const dds_topic_descriptor_t *descriptor;
+    void (*read)(sample *into, unsigned key, char *value);
+    unsigned (*key)(const sample *taken);
+    void (*print)(const sample *taken);
+} type;
+
+static const type *chosen;
 
 static dds_entity_t made(dds_entity_t entity) {
     if (entity < 0) {
@@ -21,13 +39,87 @@ static dds_entity_t made(dds_entity_t entity) {
     return entity;
 }
 
-static void print_taken(const interop_Datum *sample, const dds_sample_info_t *info) {
+static uint32_t octets_of(const char *digits, uint8_t *octets) {
+    uint32_t len = 0;
+    for (unsigned octet; sscanf(digits + 2 * len, "%2x", &octet) == 1; len++)
+        octets[len] = (uint8_t)octet;
+    return len;
+}
+
+static void read_datum(sample *into, unsigned key, char *value) {
+    static uint8_t octets[LONGEST];
+    into->datum.id[15] = (uint8_t)key;
+    into->datum.value._buffer = octets;
+    into->datum.value._length = into->datum.value._maximum = octets_of(value, octets);
+}
+
+static unsigned key_of_datum(const sample *taken) {
+    return taken->datum.id[15];
+}
+
+static void print_datum(const sample *taken) {
+    for (uint32_t at = 0; at < taken->datum.value._length; at++)
+        printf("%02x", taken->datum.value._buffer[at]);
+}
+
+static void read_words(interop_Text *into, char *value) {
+    static double values[LONGEST];
+    into->number = (int32_t)strtol(value, &value, 10);
+    into->words = *value ? ++value : value;
+    into->values._buffer = values;
+    while ((value = strchr(value, ','))) {
+        *value++ = 0;
+        values[into->values._length++] = strtod(value, NULL);
+    }
+    into->values._maximum = into->values._length;
+}
+
+static void print_words(const interop_Text *taken) {
+    printf("%d,%s", taken->number, taken->words);
+    for (uint32_t at = 0; at < taken->values._length; at++)
+        printf(",%.17g", taken->values._buffer[at]);
+}
+
+static void read_text(sample *into, unsigned key, char *value) {
+    (void)key;
+    read_words(&into->text, value);
+}
+
+static unsigned no_key(const sample *taken) {
+    (void)taken;
+    return 0;
+}
+
+static void print_text(const sample *taken) {
+    print_words(&taken->text);
+}
+
+static void read_reading(sample *into, unsigned key, char *value) {
+    into->reading.sensor = (int32_t)key;
+    read_words(&into->reading.said, value);
+}
+
+static unsigned key_of_reading(const sample *taken) {
+    return (unsigned)taken->reading.sensor;
+}
+
+static void print_reading(const sample *taken) {
+    print_words(&taken->reading.said);
+}
+
+static const type types[] = {
+    {"datum", &interop_Datum_desc, read_datum, key_of_datum, print_datum},
+    {"text", &interop_Text_desc, read_text, no_key, print_text},
+    {"reading", &interop_Reading_desc, read_reading, key_of_reading, print_reading},
+};
+
+static void print_taken(const sample *taken, const dds_sample_info_t *info) {
     const char *gone = info->instance_state == DDS_NOT_ALIVE_DISPOSED_INSTANCE_STATE ? "dispose" : "unregister";
-    printf("%s %u", info->valid_data ? "write" : gone, sample->id[15]);
-    if (info->valid_data)
+    printf("%s %u", info->valid_data ? "write" : gone, chosen->key(taken));
+    if (info->valid_data) {
         printf(" ");
-    for (uint32_t at = 0; info->valid_data && at < sample->value._length; at++)
-        printf("%02x", sample->value._buffer[at]);
+        chosen->print(taken);
+    }
     printf("\n");
     fflush(stdout);
 }
@@ -44,44 +136,36 @@ static void take_all(dds_entity_t reader, void *context) {
     }
 }
 
-static uint32_t octets_of(const char *digits, uint8_t *octets) {
-    uint32_t len = 0;
-    for (unsigned octet; sscanf(digits + 2 * len, "%2x", &octet) == 1; len++)
-        octets[len] = (uint8_t)octet;
-    return len;
-}
-
-static void make_change(dds_entity_t writer, const char *kind, interop_Datum *sample) {
+static void make_change(dds_entity_t writer, const char *kind, const sample *of) {
     if (strcmp(kind, "write") == 0)
-        made(dds_write(writer, sample));
+        made(dds_write(writer, of));
     else if (strcmp(kind, "dispose") == 0)
-        made(dds_dispose(writer, sample));
+        made(dds_dispose(writer, of));
     else
-        made(dds_unregister_instance(writer, sample));
+        made(dds_unregister_instance(writer, of));
 }
 
 static void make_changes(dds_entity_t writer, const char *path) {
-    static char line[2 * LONGEST + 64], kind[16], digits[2 * LONGEST + 1];
-    static uint8_t octets[LONGEST];
+    static char line[2 * LONGEST + 64], kind[16], value[2 * LONGEST + 1];
     FILE *changes = fopen(path, "r");
     if (!changes)
         made(DDS_RETCODE_BAD_PARAMETER);
     while (fgets(line, sizeof line, changes)) {
-        interop_Datum sample = {.value = {._buffer = octets}};
+        sample of;
         unsigned key = 0;
-        digits[0] = 0;
-        if (sscanf(line, "%15s %u %131072s", kind, &key, digits) < 2)
+        value[0] = 0;
+        if (sscanf(line, "%15s %u %131072s", kind, &key, value) < 2)
             made(DDS_RETCODE_BAD_PARAMETER);
-        sample.id[15] = (uint8_t)key;
-        sample.value._length = sample.value._maximum = octets_of(digits, octets);
-        make_change(writer, kind, &sample);
+        memset(&of, 0, sizeof of);
+        chosen->read(&of, key, value);
+        make_change(writer, kind, &of);
         dds_sleepfor(PAUSE);
     }
     fclose(changes);
 }
 
-static dds_entity_t made_topic(dds_entity_t peer, const char *name, const dds_qos_t *qos) {
-    return made(dds_create_topic(peer, &interop_Datum_desc, name, qos, NULL));
+static dds_entity_t made_topic(dds_entity_t peer, const char *name) {
+    return made(dds_create_topic(peer, chosen->descriptor, name, NULL, NULL));
 }
 
 static void wait_for_matches(dds_entity_t writer, dds_entity_t reader) {
@@ -94,15 +178,9 @@ static void wait_for_matches(dds_entity_t writer, dds_entity_t reader) {
     }
 }
 
-int main(int count, char **words) {
-    if (count != 3) {
-        fprintf(stderr, "usage: cyclone DOMAIN CHANGES\n");
-        return 2;
-    }
-    printf("version %s\n", DDS_VERSION);
-    fflush(stdout);
+static void exchange(const char *domain, bool is_reliable, const char *changes) {
     const dds_data_representation_id_t representation = DDS_DATA_REPRESENTATION_XCDR1;
-    dds_entity_t peer = made(dds_create_participant((dds_domainid_t)strtoul(words[1], NULL, 10), NULL, NULL));
+    dds_entity_t peer = made(dds_create_participant((dds_domainid_t)strtoul(domain, NULL, 10), NULL, NULL));
     dds_qos_t *qos = dds_create_qos();
     dds_qset_reliability(qos, DDS_RELIABILITY_RELIABLE, DDS_INFINITY);
     dds_qset_history(qos, DDS_HISTORY_KEEP_ALL, 1);
@@ -110,14 +188,30 @@ int main(int count, char **words) {
     dds_qset_data_representation(qos, 1, &representation);
     dds_listener_t *listener = dds_create_listener(NULL);
     dds_lset_data_available(listener, take_all);
-    dds_entity_t writer = made(dds_create_writer(peer, made_topic(peer, "from_product", qos), qos, NULL));
-    dds_entity_t reader = made(dds_create_reader(peer, made_topic(peer, "to_product", qos), qos, listener));
+    dds_entity_t writer = made(dds_create_writer(peer, made_topic(peer, "from_product"), qos, NULL));
+    dds_qos_t *of_reader = is_reliable ? qos : NULL;
+    dds_entity_t reader = made(dds_create_reader(peer, made_topic(peer, "to_product"), of_reader, listener));
     wait_for_matches(writer, reader);
-    make_changes(writer, words[2]);
+    make_changes(writer, changes);
     while (getchar() != EOF) {
     }
+    if (!is_reliable)
+        dds_sleepfor(LINGERING);
     made(dds_delete(peer));
     dds_delete_listener(listener);
     dds_delete_qos(qos);
+}
+
+int main(int count, char **words) {
+    for (size_t at = 0; count == 5 && at < sizeof types / sizeof *types; at++)
+        if (strcmp(types[at].name, words[2]) == 0)
+            chosen = &types[at];
+    if (!chosen) {
+        fprintf(stderr, "usage: cyclone DOMAIN datum|text|reading reliable|default CHANGES\n");
+        return 2;
+    }
+    printf("version %s\n", DDS_VERSION);
+    fflush(stdout);
+    exchange(words[1], strcmp(words[3], "default") != 0, words[4]);
     return 0;
 }

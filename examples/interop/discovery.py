@@ -13,6 +13,7 @@ BUILTIN_ENDPOINTS = 0x3F  # an announcer and a detector of each
 LEASE = struct.pack("<iI", 20, 0)
 ENDLESS = struct.pack("<iI", 0x7FFFFFFF, 0xFFFFFFFF)
 LEASE_DURATION, TOPIC, TYPE, VERSION, VENDOR, RELIABILITY = 0x0002, 0x0005, 0x0007, 0x0015, 0x0016, 0x001A
+BEST_EFFORT, RELIABLE = 1, 2
 LIVELINESS, DURABILITY, OWNERSHIP, DEFAULT_PLACE, BUILTIN_PLACE = 0x001B, 0x001D, 0x001F, 0x0031, 0x0032
 HISTORY, PARTICIPANT_GUID, BUILTIN_SET, ENDPOINT_GUID, REPRESENTATION = 0x0040, 0x0050, 0x0058, 0x005A, 0x0073
 Place = tuple[str, int]
@@ -47,7 +48,7 @@ def endpoint(guid: bytes, topic: Topic) -> bytes:
         (PARTICIPANT_GUID, guid[:12] + b"\0\0\1\xc1"),
         (TOPIC, string(topic.name)),
         (TYPE, string(topic.type_name)),
-        (RELIABILITY, struct.pack("<I", 2) + ENDLESS),
+        (RELIABILITY, struct.pack("<I", RELIABLE) + ENDLESS),
         (DURABILITY, struct.pack("<I", 0)),
         (HISTORY, struct.pack("<II", 1, 0)),
         (OWNERSHIP, struct.pack("<I", 0)),
@@ -56,12 +57,20 @@ def endpoint(guid: bytes, topic: Topic) -> bytes:
     )
 
 
-class Announced:
-    """The writers, or the readers, of the other participant: what the reader of a builtin topic has."""
+class End(NamedTuple):
+    """A writer or a reader of the other participant."""
 
-    def __init__(self, key: bytes):
-        self.key = key
-        self.guids: dict[str, bytes] = {}  # by topic
+    guid: bytes
+    is_best_effort: bool
+
+
+class Announced:
+    """The writers, or the readers, of the other participant: what the reader of a builtin topic has. `reliability` is the
+    policy of those that say none."""
+
+    def __init__(self, key: bytes, reliability: int):
+        self.key, self.reliability = key, struct.pack("<I", reliability)
+        self.ends: dict[str, End] = {}  # by topic
         self.known: set[int] = set()  # the numbers that have come, or never will
         self.last = 0
         self.count = 0
@@ -73,7 +82,8 @@ class Announced:
             if came.payload and not came.status:
                 found = m.read_parameters(came.payload)
                 name = found[TOPIC][4:].split(b"\0")[0].decode()
-                self.guids[name] = found[ENDPOINT_GUID]
+                said_of = found.get(RELIABILITY, self.reliability)
+                self.ends[name] = End(found[ENDPOINT_GUID], struct.unpack_from("<I", said_of)[0] == BEST_EFFORT)
         elif said.kind == m.HEARTBEAT and said.body[4:8] == self.key + WRITER:
             self.known |= set(range(1, min(said.sequence_number(8), 1 << 16)))
             self.last, self.owes_answer = min(said.sequence_number(16), 1 << 16), True
@@ -121,7 +131,7 @@ class Discovery:
         self.other: bytes | None = None  # the prefix of the participant that was found
         self.other_places: tuple[Place, Place] | None = None
         self.has_left = False
-        self.writers, self.readers = Announced(PUBLICATIONS), Announced(SUBSCRIPTIONS)
+        self.writers, self.readers = Announced(PUBLICATIONS, RELIABLE), Announced(SUBSCRIPTIONS, BEST_EFFORT)
         self.own_writers, self.own_readers = Announcing(PUBLICATIONS), Announcing(SUBSCRIPTIONS)
 
     def announce(self) -> bytes:

@@ -3,6 +3,8 @@ import struct
 from typing import Iterator, NamedTuple
 
 PAD, ACKNACK, HEARTBEAT, GAP, INFO_TS, INFO_DST, DATA, DATA_FRAG = 0x01, 0x06, 0x07, 0x08, 0x09, 0x0E, 0x15, 0x16
+# Where the body of a submessage names a reader, and a writer behind it
+ENDS_AT = {ACKNACK: 0, HEARTBEAT: 0, GAP: 0, DATA: 4, DATA_FRAG: 4}
 HAS_PARAMETERS, HAS_DATA, HAS_KEY, IS_FINAL = 2, 4, 8, 2
 SENTINEL, STATUS_INFO = 0x0001, 0x0071
 PARAMETERS_LE = bytes([0, 3, 0, 0])  # the representation of a list of parameters
@@ -82,6 +84,17 @@ def read_parameters(payload: bytes) -> dict[int, bytes]:
     return parameters(Submessage(DATA, payload[1] & 1, payload), 4)[0]
 
 
+def with_kinds(datagram: bytes, kinds: dict[int, int]) -> bytes:
+    """The same, but for the last octets of the entity ids that its submessages name."""
+    octets, at = bytearray(datagram), 20
+    for said in submessages(datagram):
+        if (ends_at := ENDS_AT.get(said.kind)) is not None and len(said.body) >= ends_at + 8:
+            for last in (at + ends_at + 7, at + ends_at + 11):
+                octets[last] = kinds.get(octets[last], octets[last])
+        at += 4 + len(said.body)
+    return bytes(octets)
+
+
 def message(prefix: bytes, to: bytes | None, *said: bytes) -> bytes:
     whom = submessage(INFO_DST, 0, to) if to else b""
     return b"RTPS" + bytes([2, 5, 0, 0]) + prefix + whom + b"".join(said)
@@ -113,12 +126,6 @@ def acknack(reader: bytes, writer: bytes, base: int, missing: list[int], count: 
     bits = struct.pack(f"<I{len(words)}I", max(places, default=-1) + 1, *words)
     flags = 0 if places else IS_FINAL
     return submessage(ACKNACK, flags, reader + writer + sequence_number(base) + bits + struct.pack("<I", count))
-
-
-def gap(reader: bytes, writer: bytes, number: int) -> bytes:
-    """This number will never come."""
-    numbers = sequence_number(number) + sequence_number(number + 1) + struct.pack("<I", 0)
-    return submessage(GAP, 0, reader + writer + numbers)
 
 
 def parameter_list(*items: tuple[int, bytes]) -> bytes:
