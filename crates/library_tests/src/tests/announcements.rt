@@ -192,8 +192,8 @@ fn push_fit(alloc: Global, text: &mut String, operands: &str) {
 /// Appends for how long a participant is taken to be there.
 fn push_lease(text: &mut String, operands: &str) {
     let words = words_of(operands);
-    let seconds = number_of(words.first) as u32;
-    let fraction = number_of(words.second) as u32;
+    let seconds = u32::try_from(number_of(words.first)).unwrap_or(u32::MAX);
+    let fraction = u32::try_from(number_of(words.second)).unwrap_or(u32::MAX);
     let units = taken_lease(Duration { seconds, fraction });
     let _ = write!(text, "{units}");
 }
