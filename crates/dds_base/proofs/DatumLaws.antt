@@ -100,18 +100,18 @@ datum_text_is order options d bytes k n v rest at_bytes at_k at_n at_v =
 pub datum_found : (bytes : List ℕ) (d : Datum) → AreOctets bytes → datum_at bytes ≡ Some d → ReadsDatum bytes d
 unfolding datum_at
 datum_found bytes d octets e =
-    option_and_then_some (λ r. key_at r.1 >>= λ k. number_at r.0 w32 k.1 >>= λ n. cond (ltb 1024 n.0) None
+    option_and_then_some (λ r. key_at r.1 >>= λ k. number_at r.0 w32 k.1 >>= λ n. cond (ltb 65000 n.0) None
     (octets_at n.0 n.1) >>= λ v. Some (record { key = k.0; value = v.0 })) (representation_at bytes) d e (λ r q1 e1.
     let front = representation_takes bytes r.0 r.1 octets q1 in
-    option_and_then_some (λ k. number_at r.0 w32 k.1 >>= λ n. cond (ltb 1024 n.0) None (octets_at n.0 n.1) >>= λ v. Some
+    option_and_then_some (λ k. number_at r.0 w32 k.1 >>= λ n. cond (ltb 65000 n.0) None (octets_at n.0 n.1) >>= λ v. Some
     (record { key = k.0; value = v.0 })) (key_at r.1) d e1 (λ k q2 e2.
     let t0 = key_takes r.1 k.0 k.1 front.octets q2 in
-    option_and_then_some (λ n. cond (ltb 1024 n.0) None (octets_at n.0 n.1) >>= λ v. Some
+    option_and_then_some (λ n. cond (ltb 65000 n.0) None (octets_at n.0 n.1) >>= λ v. Some
     (record { key = k.0; value = v.0 })) (number_at r.0 w32 k.1) d e2 (λ n q3 e3.
     let t1 = (field_u32 r.0).takes k.1 n.0 n.1 t0.0.octets q3 in
     option_and_then_some (λ v. Some (record { key = k.0; value = v.0 }))
-    (cond (ltb 1024 n.0) None (octets_at n.0 n.1)) d e3 (λ v q4 e4.
-    let g = guard_some (ltb 1024 n.0) (octets_at n.0 n.1) v q4 in
+    (cond (ltb 65000 n.0) None (octets_at n.0 n.1)) d e3 (λ v q4 e4.
+    let g = guard_some (ltb 65000 n.0) (octets_at n.0 n.1) v q4 in
     let t2 = (field_octets n.0).takes n.1 v.0 v.1 t1.0.octets g.1 in
     let made : Datum = record { key = k.0; value = v.0 } in
     let len : n.0 ≡ length v.0 = sym t2.1 in
@@ -132,7 +132,7 @@ datum_only bytes d h =
     let regrouped : bytes ≡ representation h.order ++ h.options
     ++ (d.key.0 ++ (number h.order w32 (length d.value) ++ (d.value ++ h.rest))) = h.text
     ∙ regroup (representation h.order ++ h.options) d.key.0 (number h.order w32 (length d.value)) d.value h.rest in
-    let small : ltb 1024 (length d.value) ≡ false = le-ltb _ _ h.valid.value in
+    let small : ltb 65000 (length d.value) ≡ false = le-ltb _ _ h.valid.value in
     let wide : length d.value < 2 ^ 32 = omega (arith, h.valid.value) in
     ap datum_at regrouped
     ∙ rw (

@@ -18,7 +18,7 @@ use Rattle.dds_base.specs.declared.config_fault.ConfigPlace.{ConfigPlace}
 use Rattle.dds_base.specs.declared.config_fault.ConfigPlace.TheVariants.{Whole, Peer, Writer, Reader}
 use Rattle.dds_base.specs.declared.config_fault.ConfigFault.{ConfigFault}
 use Rattle.dds_base.specs.Matched.{matched_writers_of}
-use Rattle.dds_base.specs.Checked.{same_prefix, unknown_prefix, has_kind, prefix_count, entity_count, has_no_depth, is_maximum, is_bad_life, is_bad_lease, is_bad_writer, is_bad_reader, is_bad_peer, has_bad_parameter, exceeds_limit, differ, is_longer, are_incompatible, is_inconsistent_peer, has_inconsistent_policy, check_refusal}
+use Rattle.dds_base.specs.Checked.{same_prefix, unknown_prefix, has_kind, prefix_count, entity_count, has_no_depth, is_maximum, is_bad_life, is_bad_lease, is_bad_value, is_bad_writer, is_bad_reader, is_bad_peer, has_bad_parameter, exceeds_limit, differ, is_longer, are_incompatible, is_inconsistent_peer, has_inconsistent_policy, check_refusal}
 use Rattle.dds_base.specs.Faults.{code_of_rule, breaks_as_peer, breaks_as_writer, breaks_as_reader, passes_at, breaks_at, Breaks}
 use Rattle.dds_base.specs.FaultAt.{first_broken, writer_rules, reader_rules, peer_rules, whole_rules, fault_at, first_at, writer_fault, reader_fault, writers_fault, readers_fault, peer_fault, pass_fault, config_fault}
 use Rattle.dds_base.specs.Life.{or_else}
@@ -86,8 +86,9 @@ bad_writer : (p : PeerConfig) (peer n : ℕ) (w : WriterConfig)
 bad_writer p peer n w =
     some_writer Parameters p peer n w
     ∙ ap (λ (b : Bool). nat_lt 1 (entity_count p w.entity) ||
-    (not (has_kind 2 w.entity) || (has_no_depth w.history || (not (is_maximum w.max_samples) || b))))
-    (or_false (is_bad_lease w.lease))
+    (not (has_kind 2 w.entity) || (has_no_depth w.history || (not (is_maximum w.max_samples)
+    || (is_bad_lease w.lease || b)))))
+    (or_false (is_bad_value w.max_value))
 
 bad_reader : (peers : List PeerConfig) (p : PeerConfig) (peer n : ℕ) (r : ReaderConfig)
     → is_some (reader_fault Parameters peers peer p n r) ≡ (nat_lt 1 (entity_count p r.entity) || is_bad_reader r)
@@ -96,8 +97,8 @@ bad_reader peers p peer n r =
     ∙ ap (λ (b : Bool). nat_lt 1 (entity_count p r.entity) ||
     (not (has_kind 7 r.entity)
     || (has_no_depth r.history || (not (is_maximum r.max_samples)
-    || (not (is_maximum r.max_instances) || (is_bad_life r.max_arrivals || b))))))
-    (or_false (is_bad_lease r.lease))
+    || (not (is_maximum r.max_instances) || (is_bad_life r.max_arrivals || (is_bad_lease r.lease || b)))))))
+    (or_false (is_bad_value r.max_value))
 
 exceeding_writer : (p : PeerConfig) (peer n : ℕ) (w : WriterConfig)
     → is_some (writer_fault Policies peer p n w) ≡ exceeds_limit w.history w.max_samples
@@ -109,11 +110,13 @@ unfit_reader : (peers : List PeerConfig) (p : PeerConfig) (peer n : ℕ) (r : Re
 unfit_reader peers p peer n r =
     let other : WriterConfig → Bool = λ w. differ w.ownership r.ownership in
     let longer : WriterConfig → Bool = λ w. is_longer w.lease r.lease in
+    let greater : WriterConfig → Bool = λ w. nat_lt r.max_value w.max_value in
+    let matched : List WriterConfig = matched_writers_of peers r in
     some_reader Policies peers p peer n r
-    ∙ (ap (λ (b : Bool). exceeds_limit r.history r.max_samples || (list_any other (matched_writers_of peers r) || b))
-    (or_false (list_any longer (matched_writers_of peers r)))
     ∙ ap (λ (b : Bool). exceeds_limit r.history r.max_samples || b)
-    (sym (any_or other longer (matched_writers_of peers r))))
+    (ap (λ (b : Bool). list_any other matched || (list_any longer matched || b)) (or_false (list_any greater matched))
+    ∙ (ap (λ (b : Bool). list_any other matched || b) (sym (any_or longer greater matched))
+    ∙ sym (any_or other (λ w. longer w || greater w) matched)))
 
 some_peer : (pass : Pass) (peers : List PeerConfig) (n : ℕ) (p : PeerConfig)
     → is_some (peer_fault pass peers n p) ≡
@@ -263,7 +266,7 @@ writer_each : (Q : ConfigRule → Type 0) (pass : Pass) (p : PeerConfig) (w : Wr
     → ((rule : ConfigRule) → breaks_as_writer p rule w ≡ true → code_of_rule rule ≡ pass_code pass → Q rule)
     → Each Q (writer_rules pass p w)
 writer_each Q Parameters p w h =
-    (λ e. h _ e refl, (λ e. h _ e refl, (λ e. h _ e refl, (λ e. h _ e refl, (λ e. h _ e refl, tt)))))
+    (λ e. h _ e refl, (λ e. h _ e refl, (λ e. h _ e refl, (λ e. h _ e refl, (λ e. h _ e refl, (λ e. h _ e refl, tt))))))
 writer_each Q Policies p w h = (λ e. h _ e refl, tt)
 
 reader_each : (Q : ConfigRule → Type 0) (pass : Pass) (peers : List PeerConfig) (p : PeerConfig) (r : ReaderConfig)
@@ -273,10 +276,10 @@ reader_each Q Parameters peers p r h = (
   λ e. h _ e refl,
   (
     λ e. h _ e refl,
-    (λ e. h _ e refl, (λ e. h _ e refl, (λ e. h _ e refl, (λ e. h _ e refl, (λ e. h _ e refl, tt))))),
+    (λ e. h _ e refl, (λ e. h _ e refl, (λ e. h _ e refl, (λ e. h _ e refl, (λ e. h _ e refl, (λ e. h _ e refl, tt)))))),
   ),
 )
-reader_each Q Policies peers p r h = (λ e. h _ e refl, (λ e. h _ e refl, (λ e. h _ e refl, tt)))
+reader_each Q Policies peers p r h = (λ e. h _ e refl, (λ e. h _ e refl, (λ e. h _ e refl, (λ e. h _ e refl, tt))))
 
 peer_each : (Q : ConfigRule → Type 0) (pass : Pass) (peers : List PeerConfig) (p : PeerConfig)
     → ((rule : ConfigRule) → breaks_as_peer peers rule p ≡ true → code_of_rule rule ≡ pass_code pass → Q rule)

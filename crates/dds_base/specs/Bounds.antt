@@ -48,7 +48,11 @@ window_width = 256
 abbrev pub key_octets : ℕ
 key_octets = 16
 
--- The longest value, in octets. The topic type bounds it; clause 10 of RTPS 2.5 has a length of 4 octets, and no other
--- bound.
-abbrev pub max_value : ℕ
-max_value = 1024
+-- The longest value, in octets. With a message around it, it stands in a datagram of UDP over IPv4; clause 10 of RTPS 2.5
+-- has a length of 4 octets, and no other bound.
+abbrev pub greatest_value : ℕ
+greatest_value = 65000
+
+-- the longest value of a writer and of a reader, unless its policy says another number
+abbrev pub usual_value : ℕ
+usual_value = 1024

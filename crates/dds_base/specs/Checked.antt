@@ -1,5 +1,5 @@
 -- Why a configuration is refused (DDS 1.4, 2.2.1.1: BAD_PARAMETER, INCONSISTENT_POLICY). The counts, that a
--- lease is below 2^63, and how many changes a reader takes, are limits of this project.
+-- lease is below 2^63, how many changes a reader takes, and how long values are, are limits of this project.
 use Rattle.std.specs.Prelude.{ℕ, zero, suc, ◌+◌, ◌==◌, ◌||◌, Bool, true, false, not, List, length, count_by, replicate, slice_index, nat_eq, nat_lt, nat_le, Option, Some, None, ℤ, pos, negsuc, if◌then◌else◌}
 use Rattle.std.specs.List.{list_any}
 use Rattle.std.specs.Cmp.Lexicographic.{pointwise}
@@ -14,7 +14,7 @@ use Rattle.dds_base.specs.declared.qos.OwnershipQos.TheVariants.{Shared, Exclusi
 use Rattle.dds_base.specs.declared.config.PeerConfig.{PeerConfig}
 use Rattle.dds_base.specs.declared.config.WriterConfig.{WriterConfig}
 use Rattle.dds_base.specs.declared.config.ReaderConfig.{ReaderConfig}
-use Rattle.dds_base.specs.Bounds.{end_of_moments, max_ends, max_peers, most_arrivals}
+use Rattle.dds_base.specs.Bounds.{end_of_moments, greatest_value, max_ends, max_peers, most_arrivals}
 use Rattle.dds_base.specs.Matched.{matched_writers_of}
 
 -- two prefixes are one (RTPS 2.5, 8.2: GuidPrefix_t)
@@ -68,17 +68,23 @@ abbrev pub is_bad_lease : Option ℕ → Bool
 is_bad_lease None = false
 is_bad_lease (Some lease) = (lease == 0) || nat_le end_of_moments lease
 
--- a writer of another kind, without a depth, or with a maximum or a lease that is invalid
+-- values of no octet, or of more than 65,000
+abbrev pub is_bad_value : ℕ → Bool
+is_bad_value most = (most == 0) || nat_lt greatest_value most
+
+-- a writer of another kind, without a depth, or with a maximum, a lease or a length of values that is invalid
 abbrev pub is_bad_writer : WriterConfig → Bool
 is_bad_writer w = not (has_kind 2 w.entity)
-    || (has_no_depth w.history || (not (is_maximum w.max_samples) || is_bad_lease w.lease))
+    || (has_no_depth w.history
+    || (not (is_maximum w.max_samples) || (is_bad_lease w.lease || is_bad_value w.max_value)))
 
--- a reader of another kind, without a depth, or with a maximum, a life or a lease that is invalid
+-- a reader of another kind, without a depth, or with a maximum, a life, a lease or a length of values that is invalid
 abbrev pub is_bad_reader : ReaderConfig → Bool
 is_bad_reader r = not (has_kind 7 r.entity)
     || (has_no_depth r.history
     || (not (is_maximum r.max_samples)
-    || (not (is_maximum r.max_instances) || (is_bad_life r.max_arrivals || is_bad_lease r.lease))))
+    || (not (is_maximum r.max_instances)
+    || (is_bad_life r.max_arrivals || (is_bad_lease r.lease || is_bad_value r.max_value)))))
 
 -- a peer with more than 16 writers or readers, with two equal entities, or with a writer or reader that is invalid
 abbrev pub is_bad_peer : PeerConfig → Bool
@@ -114,10 +120,12 @@ is_longer _ None = false
 is_longer None (Some b) = true
 is_longer (Some a) (Some b) = nat_lt b a
 
--- a matched pair does not fit: their ownership differs, or the lease that the writer offers is longer than the one that
--- the reader asks for (DDS 1.4, 2.2.3, OWNERSHIP, LIVELINESS: offered lease_duration <= requested)
+-- a matched pair does not fit: their ownership differs, the lease that the writer offers is longer than the one that the
+-- reader asks for (DDS 1.4, 2.2.3, OWNERSHIP, LIVELINESS: offered lease_duration <= requested), or its values may be
+-- longer than those that the reader takes
 abbrev pub are_incompatible : ReaderConfig → WriterConfig → Bool
-are_incompatible r w = differ w.ownership r.ownership || is_longer w.lease r.lease
+are_incompatible r w =
+    differ w.ownership r.ownership || (is_longer w.lease r.lease || nat_lt r.max_value w.max_value)
 
 -- a writer or reader that contradicts itself, or a reader with a matched writer that does not fit it
 abbrev pub is_inconsistent_peer : List PeerConfig → PeerConfig → Bool

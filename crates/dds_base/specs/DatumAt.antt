@@ -9,7 +9,7 @@ use Rattle.dds_base.specs.declared.datum.Datum.{Datum}
 use Rattle.dds_base.specs.declared.key.Key.{Key}
 use Rattle.dds_base.specs.declared.endianness.Endianness.{Endianness}
 use Rattle.dds_base.specs.declared.endianness.Endianness.TheVariants.{Big, Little}
-use Rattle.dds_base.specs.Bounds.{key_octets, max_value}
+use Rattle.dds_base.specs.Bounds.{greatest_value, key_octets}
 use Rattle.dds_base.specs.Fields.{number_at, octets_at, ◌>>=◌}
 
 -- the order that the representation names, and what follows the two option octets
@@ -30,7 +30,7 @@ datum_at bytes = do
   r ← representation_at bytes
   k ← key_at r.1
   n ← number_at r.0 w32 k.1
-  v ← (if nat_lt max_value n.0 then None else octets_at n.0 n.1)
+  v ← (if nat_lt greatest_value n.0 then None else octets_at n.0 n.1)
   Some (record { key = k.0; value = v.0 })
 
 -- a key form

@@ -5,7 +5,7 @@ use Rattle.dds_base.specs.declared.datum.Datum.{Datum}
 use Rattle.dds_base.specs.declared.key.Key.{Key}
 use Rattle.dds_base.specs.declared.endianness.Endianness.{Endianness}
 use Rattle.dds_base.specs.declared.endianness.Endianness.TheVariants.{Big, Little}
-use Rattle.dds_base.specs.Bounds.{key_octets, max_value}
+use Rattle.dds_base.specs.Bounds.{greatest_value, key_octets}
 use Rattle.dds_base.specs.Fields.{number}
 
 -- the representation identifier: CDR_BE is 0x0000, CDR_LE is 0x0001
@@ -21,10 +21,10 @@ key_text order options k = representation order ++ options ++ k.0
 abbrev pub datum_text : Endianness → List ℕ → Datum → List ℕ
 datum_text order options d = key_text order options d.key ++ number order w32 (length d.value) ++ d.value
 
--- a key of 16 octets, and a value of at most `max_value`
+-- a key of 16 octets, and a value of at most `greatest_value`
 pub record IsDatum (d : Datum) : Type 0 where
   pub key : length d.key.0 ≡ key_octets
-  pub value : length d.value ≤ max_value
+  pub value : length d.value ≤ greatest_value
 
 -- The bytes begin with the datum, in one of the orders, whatever the two option octets, and whatever follows.
 pub record ReadsDatum (bytes : List ℕ) (d : Datum) : Type 0 where

@@ -12,14 +12,14 @@ use Rattle.dds_base.specs.declared.config_rules.PairPolicy.TheVariants as policy
 use Rattle.dds_base.specs.declared.config_rules.Pass.{Pass}
 use Rattle.dds_base.specs.declared.config_rules.Pass.TheVariants.{Parameters, Policies}
 use Rattle.dds_base.specs.declared.config_fault.ConfigRule.{ConfigRule}
-use Rattle.dds_base.specs.declared.config_fault.ConfigRule.TheVariants.{PeerCount, WriterCount, ReaderCount, KnownPrefix, OwnPrefix, OwnEntity, EntityKind, Depth, MaxSamples, MaxInstances, MaxArrivals, Lease, DepthWithinMaximum, SameOwnership, OfferedLease}
+use Rattle.dds_base.specs.declared.config_fault.ConfigRule.TheVariants.{PeerCount, WriterCount, ReaderCount, KnownPrefix, OwnPrefix, OwnEntity, EntityKind, Depth, MaxSamples, MaxInstances, MaxArrivals, Lease, MaxValue, DepthWithinMaximum, SameOwnership, OfferedLease, OfferedValue}
 use Rattle.dds_base.specs.declared.config_fault.ConfigPlace.{ConfigPlace}
 use Rattle.dds_base.specs.declared.config_fault.ConfigPlace.TheVariants.{Whole, Peer, Writer, Reader}
 use Rattle.dds_base.specs.declared.config_fault.ConfigFault.{ConfigFault}
 use Rattle.dds_base.specs.Bounds.{max_ends, max_peers}
 use Rattle.dds_base.specs.Life.{or_else}
 use Rattle.dds_base.specs.Matched.{matched_writers_of}
-use Rattle.dds_base.specs.Checked.{same_prefix, unknown_prefix, has_kind, prefix_count, entity_count, has_no_depth, is_maximum, is_bad_life, is_bad_lease, exceeds_limit, differ, is_longer}
+use Rattle.dds_base.specs.Checked.{same_prefix, unknown_prefix, has_kind, prefix_count, entity_count, has_no_depth, is_maximum, is_bad_life, is_bad_lease, is_bad_value, exceeds_limit, differ, is_longer}
 
 -- the first of these rules that is broken
 abbrev pub first_broken : List (ConfigRule × Bool) → Option ConfigRule
@@ -31,13 +31,15 @@ abbrev pub writer_rules : Pass → PeerConfig → WriterConfig → List (ConfigR
 writer_rules Parameters p w =
     (OwnEntity, nat_lt 1 (entity_count p w.entity)) ∷ (EntityKind, not (has_kind 2 w.entity)) ∷
     (Depth, has_no_depth w.history)
-    ∷ (MaxSamples, not (is_maximum w.max_samples)) ∷ (Lease, is_bad_lease w.lease) ∷ []
+    ∷ (MaxSamples, not (is_maximum w.max_samples)) ∷ (Lease, is_bad_lease w.lease)
+    ∷ (MaxValue, is_bad_value w.max_value) ∷ []
 writer_rules Policies p w = (DepthWithinMaximum, exceeds_limit w.history w.max_samples) ∷ []
 
 -- a writer does not fit a reader that it is matched with, in this policy
 abbrev pub is_unfit : PairPolicy → WriterConfig → ReaderConfig → Bool
 is_unfit policy.Ownership w r = differ w.ownership r.ownership
 is_unfit policy.Lease w r = is_longer w.lease r.lease
+is_unfit policy.Value w r = nat_lt r.max_value w.max_value
 
 -- the rules of a reader
 abbrev pub reader_rules : Pass → List PeerConfig → PeerConfig → ReaderConfig → List (ConfigRule × Bool)
@@ -45,11 +47,13 @@ reader_rules Parameters peers p r =
     (OwnEntity, nat_lt 1 (entity_count p r.entity)) ∷ (EntityKind, not (has_kind 7 r.entity)) ∷
     (Depth, has_no_depth r.history)
     ∷ (MaxSamples, not (is_maximum r.max_samples)) ∷ (MaxInstances, not (is_maximum r.max_instances))
-    ∷ (MaxArrivals, is_bad_life r.max_arrivals) ∷ (Lease, is_bad_lease r.lease) ∷ []
+    ∷ (MaxArrivals, is_bad_life r.max_arrivals) ∷ (Lease, is_bad_lease r.lease)
+    ∷ (MaxValue, is_bad_value r.max_value) ∷ []
 reader_rules Policies peers p r =
     (DepthWithinMaximum, exceeds_limit r.history r.max_samples)
     ∷ (SameOwnership, list_any (λ (w : WriterConfig). differ w.ownership r.ownership) (matched_writers_of peers r))
-    ∷ (OfferedLease, list_any (λ (w : WriterConfig). is_longer w.lease r.lease) (matched_writers_of peers r)) ∷ []
+    ∷ (OfferedLease, list_any (λ (w : WriterConfig). is_longer w.lease r.lease) (matched_writers_of peers r))
+    ∷ (OfferedValue, list_any (λ (w : WriterConfig). nat_lt r.max_value w.max_value) (matched_writers_of peers r)) ∷ []
 
 -- the rules of a peer
 abbrev pub peer_rules : Pass → List PeerConfig → PeerConfig → List (ConfigRule × Bool)

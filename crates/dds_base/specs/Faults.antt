@@ -8,19 +8,20 @@ use Rattle.dds_base.specs.declared.config.PeerConfig.{PeerConfig}
 use Rattle.dds_base.specs.declared.config.WriterConfig.{WriterConfig}
 use Rattle.dds_base.specs.declared.config.ReaderConfig.{ReaderConfig}
 use Rattle.dds_base.specs.declared.config_fault.ConfigRule.{ConfigRule}
-use Rattle.dds_base.specs.declared.config_fault.ConfigRule.TheVariants.{PeerCount, WriterCount, ReaderCount, KnownPrefix, OwnPrefix, OwnEntity, EntityKind, Depth, MaxSamples, MaxInstances, MaxArrivals, Lease, DepthWithinMaximum, SameOwnership, OfferedLease}
+use Rattle.dds_base.specs.declared.config_fault.ConfigRule.TheVariants.{PeerCount, WriterCount, ReaderCount, KnownPrefix, OwnPrefix, OwnEntity, EntityKind, Depth, MaxSamples, MaxInstances, MaxArrivals, Lease, MaxValue, DepthWithinMaximum, SameOwnership, OfferedLease, OfferedValue}
 use Rattle.dds_base.specs.declared.config_fault.ConfigPlace.{ConfigPlace}
 use Rattle.dds_base.specs.declared.config_fault.ConfigPlace.TheVariants.{Whole, Peer, Writer, Reader}
 use Rattle.dds_base.specs.declared.config_fault.ConfigFault.{ConfigFault}
 use Rattle.dds_base.specs.Bounds.{max_ends, max_peers}
 use Rattle.dds_base.specs.Matched.{matched_writers_of}
-use Rattle.dds_base.specs.Checked.{same_prefix, unknown_prefix, has_kind, prefix_count, entity_count, has_no_depth, is_maximum, is_bad_life, is_bad_lease, exceeds_limit, differ, is_longer}
+use Rattle.dds_base.specs.Checked.{same_prefix, unknown_prefix, has_kind, prefix_count, entity_count, has_no_depth, is_maximum, is_bad_life, is_bad_lease, is_bad_value, exceeds_limit, differ, is_longer}
 
 -- the code of a rule
 abbrev pub code_of_rule : ConfigRule → Code
 code_of_rule DepthWithinMaximum = InconsistentPolicy
 code_of_rule SameOwnership = InconsistentPolicy
 code_of_rule OfferedLease = InconsistentPolicy
+code_of_rule OfferedValue = InconsistentPolicy
 code_of_rule _ = BadParameter
 
 -- the configuration as a whole breaks the rule
@@ -43,6 +44,7 @@ breaks_as_writer p EntityKind w = not (has_kind 2 w.entity)
 breaks_as_writer p Depth w = has_no_depth w.history
 breaks_as_writer p MaxSamples w = not (is_maximum w.max_samples)
 breaks_as_writer p Lease w = is_bad_lease w.lease
+breaks_as_writer p MaxValue w = is_bad_value w.max_value
 breaks_as_writer p DepthWithinMaximum w = exceeds_limit w.history w.max_samples
 breaks_as_writer p _ w = false
 
@@ -55,11 +57,14 @@ breaks_as_reader peers p MaxSamples r = not (is_maximum r.max_samples)
 breaks_as_reader peers p MaxInstances r = not (is_maximum r.max_instances)
 breaks_as_reader peers p MaxArrivals r = is_bad_life r.max_arrivals
 breaks_as_reader peers p Lease r = is_bad_lease r.lease
+breaks_as_reader peers p MaxValue r = is_bad_value r.max_value
 breaks_as_reader peers p DepthWithinMaximum r = exceeds_limit r.history r.max_samples
 breaks_as_reader peers p SameOwnership r =
     list_any (λ (w : WriterConfig). differ w.ownership r.ownership) (matched_writers_of peers r)
 breaks_as_reader peers p OfferedLease r =
     list_any (λ (w : WriterConfig). is_longer w.lease r.lease) (matched_writers_of peers r)
+breaks_as_reader peers p OfferedValue r =
+    list_any (λ (w : WriterConfig). nat_lt r.max_value w.max_value) (matched_writers_of peers r)
 breaks_as_reader peers p _ r = false
 
 -- the element of this number, counted from 1, passes the test

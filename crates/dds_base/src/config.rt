@@ -6,7 +6,7 @@ ghost use Rattle.std.specs.Prelude.{◌≡◌, None, true, pos, negsuc};
 ghost use Rattle.dds_base.specs.declared.qos.OwnershipQos.TheVariants.{Shared};
 ghost use Rattle.dds_base.specs.declared.qos.HistoryQos.TheVariants.{KeepAll};
 ghost use Rattle.dds_base.specs.declared.qos.ReliabilityQos.TheVariants.{Reliable};
-ghost use Rattle.dds_base.specs.Bounds.{usual_arrivals};
+ghost use Rattle.dds_base.specs.Bounds.{usual_arrivals, usual_value};
 ghost use Rattle.dds_base.specs.Ownership.{carried};
 
 use crate::guid::{EntityId, GuidPrefix};
@@ -37,6 +37,9 @@ pub struct WriterConfig {
     pub lease: Option<u64>,
     /// Whether an unregister disposes too (DDS 1.4, 2.2.3, WRITER_DATA_LIFECYCLE).
     pub autodispose: bool,
+    /// How many octets a value has at most, from 1 to `MAX_VALUE`. At most that of each matched reader. It is a limit of
+    /// this project, as a bound of the topic type would be.
+    pub max_value: u32,
 }
 
 /// A reader of a peer. `ReaderConfig::new` has the usual policies.
@@ -64,11 +67,17 @@ pub struct ReaderConfig {
     pub max_arrivals: u64,
     /// The longest lease of a writer that it takes, in units of 2^-32 second; `None` takes all.
     pub lease: Option<u64>,
+    /// The greatest `max_value` of a writer that it takes, from 1 to `MAX_VALUE`. It is a limit of this project.
+    pub max_value: u32,
 }
+
+/// How many octets a value of a writer has at most, and that of a writer which a reader takes, unless the policy says
+/// another number.
+pub const USUAL_VALUE: u32 = 1024;
 
 impl WriterConfig {
     /// A shared writer that keeps all its changes, without a limit or a lease, of strength 0, which disposes what it
-    /// unregisters: the standard's defaults but for HISTORY.
+    /// unregisters, and whose values have at most `USUAL_VALUE` octets: the standard's defaults but for HISTORY.
     ///
     /// DDS 1.4, 2.2.3 (supported QoS).
     pub fn new(entity: EntityId, topic: u32) -> WriterConfig
@@ -81,6 +90,7 @@ impl WriterConfig {
           strength = pos 0;
           lease = None;
           autodispose = true;
+          max_value = usual_value;
         } }
     {
         WriterConfig {
@@ -92,6 +102,7 @@ impl WriterConfig {
             strength: 0,
             lease: None,
             autodispose: true,
+            max_value: USUAL_VALUE,
         }
     }
 
@@ -114,8 +125,8 @@ impl ReaderConfig {
     /// How many changes a reader takes in its life, unless its policy says another number: 2^31 - 2.
     pub const USUAL_ARRIVALS: u64 = (1 << 31) - 2;
 
-    /// A shared, reliable reader that keeps all samples, without a limit but for `USUAL_ARRIVALS`, and takes every lease:
-    /// the standard's defaults but for HISTORY and RELIABILITY.
+    /// A shared, reliable reader that keeps all samples, without a limit but for `USUAL_ARRIVALS`, and takes every lease
+    /// and a `max_value` of `USUAL_VALUE`: the standard's defaults but for HISTORY and RELIABILITY.
     ///
     /// DDS 1.4, 2.2.3 (supported QoS).
     pub fn new(entity: EntityId, topic: u32) -> ReaderConfig
@@ -129,6 +140,7 @@ impl ReaderConfig {
           max_instances = negsuc 0;
           max_arrivals = usual_arrivals;
           lease = None;
+          max_value = usual_value;
         } }
     {
         ReaderConfig {
@@ -141,6 +153,7 @@ impl ReaderConfig {
             max_instances: -1,
             max_arrivals: ReaderConfig::USUAL_ARRIVALS,
             lease: None,
+            max_value: USUAL_VALUE,
         }
     }
 }

@@ -20,8 +20,9 @@ impl Config {
     /// The first of these that holds anywhere. `BadParameter`: not 1 to 16 peers, or more than 16 writers or readers at
     /// one; a prefix of twelve zeros; two equal prefixes, or two equal entities of one peer; an entity kind other than
     /// 0x02 at a writer and 0x07 at a reader; a depth of 0; a maximum that is neither -1 nor positive; a `max_arrivals`
-    /// of 0 or above 2^63; a lease of 0 or of 2^63 and more. `InconsistentPolicy`: a depth above a limited `max_samples`;
-    /// a matched pair whose ownership differs, or whose writer has a longer lease than the reader asks for.
+    /// of 0 or above 2^63; a lease of 0 or of 2^63 and more; a `max_value` of 0 or above `MAX_VALUE`.
+    /// `InconsistentPolicy`: a depth above a limited `max_samples`; a matched pair whose ownership differs, or whose writer
+    /// has a longer lease than the reader asks for, or a greater `max_value` than the reader takes.
     ///
     /// DDS 1.4, 2.2.1.1 (return codes), 2.2.3 (consistent and compatible policies).
     pub fn check(&self) -> Result<(), Code>

@@ -10,8 +10,8 @@ use std::fmt;
 
 /// A rule of configurations that are taken.
 ///
-/// DDS 1.4, 2.2.3 (supported QoS), where a rule is one of a policy; the counts and the bound of a lease are limits of
-/// this project.
+/// DDS 1.4, 2.2.3 (supported QoS), where a rule is one of a policy; the counts, the bound of a lease and those of values are
+/// limits of this project.
 #[derive(Clone, Copy, Debug, PartialEq, Eq)]
 pub enum ConfigRule {
     /// There are 1 to 16 peers.
@@ -38,23 +38,29 @@ pub enum ConfigRule {
     MaxArrivals,
     /// A lease is from 1 to 2^63 - 1 units of 2^-32 second (LIVELINESS).
     Lease,
+    /// `max_value` is from 1 to `MAX_VALUE`.
+    MaxValue,
     /// A depth is at most `max_samples`, where that is a limit (HISTORY, RESOURCE_LIMITS).
     DepthWithinMaximum,
     /// Each matched writer has the reader's kind of ownership (OWNERSHIP).
     SameOwnership,
     /// No matched writer has a longer lease than the reader asks for (LIVELINESS).
     OfferedLease,
+    /// No matched writer has a greater `max_value` than the reader takes.
+    OfferedValue,
 }
 
 impl ConfigRule {
-    /// The code with which a configuration that breaks the rule is refused: `InconsistentPolicy` for the last three
+    /// The code with which a configuration that breaks the rule is refused: `InconsistentPolicy` for the last four
     /// rules, `BadParameter` for all others.
     pub fn code(self) -> Code
         ensures code { result ≡ code_of_rule self }
     {
         match self {
-            ConfigRule::DepthWithinMaximum | ConfigRule::SameOwnership | ConfigRule::OfferedLease =>
-                Code::InconsistentPolicy,
+            ConfigRule::DepthWithinMaximum
+            | ConfigRule::SameOwnership
+            | ConfigRule::OfferedLease
+            | ConfigRule::OfferedValue => Code::InconsistentPolicy,
             _ => Code::BadParameter,
         }
     }
@@ -74,9 +80,11 @@ impl ConfigRule {
             ConfigRule::MaxInstances => "its max_instances is neither -1 nor positive",
             ConfigRule::MaxArrivals => "its max_arrivals is 0 or above 2^63",
             ConfigRule::Lease => "its lease is 0 or too long",
+            ConfigRule::MaxValue => "its max_value is 0 or above 65000",
             ConfigRule::DepthWithinMaximum => "its depth is above its maximum of samples",
             ConfigRule::SameOwnership => "a matched writer has another ownership",
             ConfigRule::OfferedLease => "a matched writer has a longer lease than it asks for",
+            ConfigRule::OfferedValue => "a matched writer has a greater max_value than it takes",
         }
     }
 }

@@ -6,11 +6,12 @@ ghost use Rattle.std.specs.Prelude.{◌≡◌, ◌&&◌, List};
 ghost use Rattle.std.specs.List.{list_any};
 ghost use Rattle.dds_base.specs.declared.config.PeerConfig.{PeerConfig};
 ghost use Rattle.dds_base.specs.Matched.{same_topic, matched_writers_of};
-ghost use Rattle.dds_base.specs.Checked.{prefix_count, entity_count, has_no_depth, is_maximum, is_bad_life, is_bad_lease, exceeds_limit, is_longer};
+ghost use Rattle.dds_base.specs.Checked.{prefix_count, entity_count, has_no_depth, is_maximum, is_bad_life, is_bad_lease, is_bad_value, exceeds_limit, is_longer};
 ghost use Rattle.dds_base.specs.FaultAt.{first_broken, is_unfit, whole_rules, peer_rules, writer_rules, reader_rules};
 
 use crate::config::{PeerConfig, ReaderConfig, WriterConfig};
 use crate::config_fault::ConfigRule;
+use crate::datum::MAX_VALUE;
 use crate::guid::{EntityId, GuidPrefix};
 use crate::moment::MOMENT_END;
 use crate::qos::HistoryQos;
@@ -44,6 +45,8 @@ enum PairPolicy {
     Ownership,
     /// A lease that is no longer than the one that the reader asks for.
     Lease,
+    /// A `max_value` that is no greater than the one that the reader takes.
+    Value,
 }
 
 /// The rule that the peers break as a whole.
@@ -135,6 +138,9 @@ fn writer_parameter(peer: &PeerConfig, writer: &WriterConfig) -> Option<ConfigRu
     if is_bad_lease(writer.lease) {
         return Some(ConfigRule::Lease);
     }
+    if is_bad_value(writer.max_value) {
+        return Some(ConfigRule::MaxValue);
+    }
     None
 }
 
@@ -179,6 +185,9 @@ fn reader_parameter(peer: &PeerConfig, reader: &ReaderConfig) -> Option<ConfigRu
     if is_bad_lease(reader.lease) {
         return Some(ConfigRule::Lease);
     }
+    if is_bad_value(reader.max_value) {
+        return Some(ConfigRule::MaxValue);
+    }
     None
 }
 
@@ -196,17 +205,21 @@ fn reader_policy(peers: &[PeerConfig], reader: &ReaderConfig) -> Option<ConfigRu
     if has_unfit_writer(PairPolicy::Lease, peers, reader) {
         return Some(ConfigRule::OfferedLease);
     }
+    if has_unfit_writer(PairPolicy::Value, peers, reader) {
+        return Some(ConfigRule::OfferedValue);
+    }
     None
 }
 
-/// Whether the writer does not fit the reader in this policy: it has another ownership, or a longer lease than it asks
-/// for.
+/// Whether the writer does not fit the reader in this policy: it has another ownership, a longer lease than it asks for,
+/// or a greater `max_value` than it takes.
 fn is_unfit(policy: PairPolicy, writer: &WriterConfig, reader: &ReaderConfig) -> bool
     ensures { result ≡ is_unfit policy writer.now reader.now }
 {
     match policy {
         PairPolicy::Ownership => writer.ownership != reader.ownership,
         PairPolicy::Lease => is_longer(writer.lease, reader.lease),
+        PairPolicy::Value => reader.max_value < writer.max_value,
     }
 }
 
@@ -260,6 +273,13 @@ fn is_bad_lease(lease: Option<u64>) -> bool
         None => false,
         Some(lease) => lease == 0 || LEASE_END <= lease,
     }
+}
+
+/// Whether values may have no octet, or more than `MAX_VALUE`.
+fn is_bad_value(max_value: u32) -> bool
+    ensures { result ≡ is_bad_value max_value }
+{
+    max_value == 0 || MAX_VALUE < max_value as usize
 }
 
 /// Whether a depth is above a maximum that is a limit.

@@ -19,7 +19,7 @@ use std::alloc::Global;
 use std::marker::Model;
 
 /// The longest value, in octets.
-pub const MAX_VALUE: usize = 1024;
+pub const MAX_VALUE: usize = 65_000;
 
 /// A sample of the topic type: the key of its instance, and a value.
 #[derive(Debug, Drop)]

@@ -63,7 +63,7 @@ mod status;
 
 pub use change::{Change, ChangeKind};
 pub use code::Code;
-pub use config::{Config, PeerConfig, ReaderConfig, WriterConfig};
+pub use config::{Config, PeerConfig, ReaderConfig, USUAL_VALUE, WriterConfig};
 pub use config_fault::{ConfigFault, ConfigPlace, ConfigRule};
 pub use config_rules::MAX_ENDS;
 pub use count::{MAX_COUNT, is_later};

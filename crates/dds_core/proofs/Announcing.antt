@@ -5,7 +5,7 @@ use Rattle.rtps_wire.specs.declared.data.Data.{Data}
 use Rattle.rtps_wire.specs.declared.data.DataContent.{DataContent}
 use Rattle.rtps_wire.specs.Data.{IsContent}
 use Rattle.rtps_wire.specs.Messages.{IsWritable}
-use Rattle.rtps_wire.proofs.LengthLaws.{short_writable}
+use Rattle.rtps_wire.proofs.LengthLaws.{change_octets_le, short_writable}
 use Rattle.dds_protocol.specs.declared.event.Packet.{Packet}
 use Rattle.dds_core.specs.declared.matching.Destination.{Destination}
 use Rattle.dds_core.specs.declared.sending.Sender.{Sender}
@@ -17,10 +17,11 @@ pub writable_so : (sender : Sender) (to : Destination) (change : Data) → lengt
     → sender.moment < 2 ^ 64 → 1 ≤ change.writer_sn → change.writer_sn ≤ 2 ^ 48 → IsContent change.content
     → IsWritable (message_of sender to change)
 writable_so sender to change prefix other reader writer moment first small valid =
+    let octets = change_octets_le change.content.body valid.body in
     short_writable (message_of sender to change) prefix (
       other,
       (moment, ((record { reader = reader; writer = writer; first = first; small = omega (arith, small) }, valid), tt)),
-    ) (omega arith)
+    ) (omega (arith, octets))
 
 -- one more destination, to which a packet went or not
 

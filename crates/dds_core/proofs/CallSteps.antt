@@ -139,10 +139,11 @@ pub no_unregister : (part : Part) (w : ℕ) (key : Key) → has_element part.rtp
 no_unregister part w key none = (bad_first (has_element part.rtps.writers w) _ none, refl)
 
 -- a value that is too long
-pub long_write : (part : Part) (w : ℕ) (key : Key) (value : List ℕ) → 1024 < length value
+long_write : (part : Part) (w : ℕ) (key : Key) (value : List ℕ) → (own_writer part w).max_value < length value
     → Answers no_filters part (call.Write w key value) (Refused BadParameter) part.dds
 long_write part w key value long =
-    (bad_second (not (has_element part.rtps.writers w)) (nat_lt 1024 (length value)) _ (grind (arith, nat_tests)), refl)
+    (bad_second (not (has_element part.rtps.writers w)) (nat_lt (own_writer part w).max_value (length value)) _
+    (grind (arith, nat_tests)), refl)
   where
     bad_second : (a b : Bool) (rest : Option Code) → b ≡ true
         → Refuses (if a || b then Some BadParameter else rest) BadParameter
@@ -262,12 +263,13 @@ both_good true false rest h k = refl
 both_good false b rest h k = absurd cc
 
 pub write_makes : (part : Part) (w : ℕ) (key : Key) (value : List ℕ) → has_element part.rtps.writers w ≡ true
-    → length value ≤ 1024 → MakesChange part (call.Write w key value) w (change_made part w kind.Write key value)
+    → length value ≤ (own_writer part w).max_value → MakesChange part (call.Write w key value) w (change_made part w kind.Write key value)
 write_makes part w key value known short = record {
   answers =
       λ reply dds h. done_as (write_refusal part w key value)
       (change_refusal part w (change_made part w kind.Write key value)) part reply dds
-      (both_good (has_element part.rtps.writers w) (nat_lt 1024 (length value)) _ known (grind (arith, nat_tests))) h;
+      (both_good (has_element part.rtps.writers w) (nat_lt (own_writer part w).max_value (length value)) _ known
+      (grind (arith, nat_tests))) h;
   enters = refl;
 }
 
@@ -529,15 +531,38 @@ unregistered_at kept writer i k key config peer s is lt at none =
     refused_call kept config peer s (call.Unregister writer key) PreconditionNotMet
     (unregistered peer.part writer key (known_writer kept config peer s writer i is lt) unknown)
 
+-- how long the values of the writer of this index may be
+most_at : (kept : PeerKept) (writer i : ℕ) (k : WriterKept) (config : Config) (peer : Peer)
+    → StandsFor kept config peer → writer ≡ i + 1 → slice_get kept.writers i ≡ Some k
+    → (own_writer peer.part writer).max_value ≡ k.max_value
+most_at kept writer i k config peer s is at =
+    ap (λ (n : ℕ). (own_writer peer.part n).max_value) (sym (number_is writer i is)) ∙ (s.writers.each i k at).values
+
+-- a value that is too long for it
+pub long_at : (kept : PeerKept) (writer i : ℕ) (k : WriterKept) (key : Key) (value : List ℕ) (config : Config)
+    (peer : Peer) → StandsFor kept config peer → writer ≡ i + 1 → slice_get kept.writers i ≡ Some k
+    → (k.max_value < length value) ⊎ (65000 < length value)
+    → Follows kept config peer (event.Call (call.Write writer key value)) (silent (Refused BadParameter))
+long_at kept writer i k key value config peer s is at long =
+    let most = most_at kept writer i k config peer s is at in
+    let limited = value_limited config peer.number kept s.is_peer i k at in
+    let over : k.max_value < length value = ⊎_elim (λ h. h) (λ h. omega (arith, h, limited)) long in
+    refused_call kept config peer s (call.Write writer key value) BadParameter
+    (long_write peer.part writer key value (omega (arith, most, over)))
+
 -- what a call of a writer makes, where it is one of the peer's
-pub write_at : (kept : PeerKept) (writer i : ℕ) (key : Key) (value : List ℕ) (config : Config) (peer : Peer)
-    → StandsFor kept config peer → writer ≡ i + 1 → i < length kept.writers → length value ≤ 1024
+pub write_at : (kept : PeerKept) (writer i : ℕ) (k : WriterKept) (key : Key) (value : List ℕ) (config : Config)
+    (peer : Peer) → StandsFor kept config peer → writer ≡ i + 1 → i < length kept.writers
+    → slice_get kept.writers i ≡ Some k → IsShort k.max_value value
     → MakesChange peer.part (call.Write writer key value) (i + 1)
     (change_made peer.part (i + 1) kind.Write key value)
-write_at kept writer i key value config peer s is lt short =
+write_at kept writer i k key value config peer s is lt at short =
+    let most = most_at kept writer i k config peer s is at in
+    let within = short.0 in
     subst (λ (n : ℕ). MakesChange peer.part (call.Write writer key value) n
     (change_made peer.part n kind.Write key value)) is
-    (write_makes peer.part writer key value (known_writer kept config peer s writer i is lt) short)
+    (write_makes peer.part writer key value (known_writer kept config peer s writer i is lt)
+    (omega (arith, most, within)))
 
 pub dispose_at : (kept : PeerKept) (writer i : ℕ) (key : Key) (config : Config) (peer : Peer)
     → StandsFor kept config peer → writer ≡ i + 1 → i < length kept.writers

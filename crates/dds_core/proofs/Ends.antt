@@ -63,6 +63,7 @@ writer_stands_on : (k : WriterKept) (w : Writer) (old new : Endpoint → Option 
     → WriterStands k w old → WriterStands k w new
 writer_stands_on k w old new same s = record {
   autodispose = s.autodispose;
+  values = s.values;
   readers = s.readers;
   writer =
       subst (λ (cs : List (Option ℤ)). RtpsStandsFor k.writer (record (state_of w old) { counts = cs }))

@@ -12,6 +12,7 @@ pub mod ChangesDue
 pub mod Destinations
 pub mod Ends
 pub mod Identities
+pub mod Limited
 pub mod Lists
 pub mod Makes
 pub mod Names

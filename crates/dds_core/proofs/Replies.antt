@@ -1,7 +1,8 @@
 -- The answers of a writer, and the messages with them.
-use Rattle.std.proofs.Common.{◌≡◌, ℕ, zero, suc, ◌+◌, ◌-◌, ◌^◌, ◌<◌, ◌≤◌, Bool, true, false, List, [], ◌∷◌, ◌++◌, Option, Some, None, map, take, length, get_or, slice_get, refl, ap, sym, ◌∙◌, subst, arith, ⊎_elim, length-append, append_assoc, append-nil, nat_lt, ◌==◌, ◌&&◌, not, min}
+use Rattle.std.proofs.Common.{◌≡◌, ℕ, zero, suc, ◌+◌, ◌-◌, ◌*◌, ◌^◌, ◌<◌, ◌≤◌, Bool, true, false, List, [], ◌∷◌, ◌++◌, Option, Some, None, map, take, length, get_or, slice_get, refl, ap, sym, ◌∙◌, subst, arith, ⊎_elim, length-append, append_assoc, append-nil, nat_lt, ◌==◌, ◌&&◌, not, min}
 use Rattle.std.specs.Prelude.{ℤ, if◌then◌else◌, is_some, nat_le, slice_index_or}
 use Rattle.std.specs.List.{All, AllByRecursion, flat_map}
+use Rattle.std.proofs.Math.Nat.{mul-le-mul_left, suc-mul}
 use Rattle.std.proofs.lemmas.Bool.Decides.{nat_tests}
 use Rattle.std.proofs.lemmas.Grind.{flat_map-append}
 use Rattle.std.proofs.lemmas.List.{take_more}
@@ -19,8 +20,8 @@ use Rattle.rtps_wire.specs.declared.submessage.Submessage.{Submessage}
 use Rattle.rtps_wire.specs.declared.submessage.Submessage.TheVariants.{InfoDst}
 use Rattle.rtps_wire.specs.Data.{IsStrength}
 use Rattle.rtps_wire.specs.Messages.{IsWritable}
-use Rattle.rtps_wire.specs.Submessages.{IsSpellable}
-use Rattle.rtps_wire.proofs.ContentLaws.{content_valid}
+use Rattle.rtps_wire.specs.Submessages.{IsSpellable, all_value_octets}
+use Rattle.rtps_wire.proofs.ContentLaws.{content_octets, content_valid}
 use Rattle.rtps_wire.proofs.LengthLaws.{short_writable}
 use Rattle.rtps_writer.specs.declared.answer.Answer.{Answer}
 use Rattle.rtps_writer.specs.declared.answer.Answer.TheVariants.{Data as AnswersData, Gap as AnswersGap}
@@ -31,7 +32,7 @@ use Rattle.rtps_writer.specs.WriterState.{WriterState, acknowledged_by, history_
 use Rattle.rtps_writer.proofs.AnswerFacts.{answers_after-right}
 use Rattle.dds_protocol.specs.Claims.{Receiver}
 use Rattle.dds_protocol.specs.DueMessages.{Due, data_of, submessages_of}
-use Rattle.dds_protocol.specs.Protocol.{AreGrouped}
+use Rattle.dds_protocol.specs.Protocol.{AreGrouped, answers_per}
 use Rattle.dds_protocol.proofs.PairFew.{count_numbers, filter_few}
 use Rattle.dds_core.specs.declared.answering.Answering.{Answering}
 use Rattle.dds_core.specs.declared.answering.Room.{Room}
@@ -40,7 +41,7 @@ use Rattle.dds_core.specs.declared.sending.Announced.{Announced}
 use Rattle.dds_core.specs.Answering.{AreAnswerable, IsAnswerableIn, IsRoom, SendsAnswers, SpellsMore, TakesAckNack, answer_due}
 use Rattle.dds_core.specs.Beating.{AddsTo}
 use Rattle.dds_core.specs.Kept.{WriterKept}
-use Rattle.dds_core.specs.Standing.{AreShort}
+use Rattle.dds_core.specs.Standing.{AreShort, IsShort}
 use Rattle.dds_core.proofs.Beating.{adds_none, adds_on}
 use Rattle.dds_core.proofs.Ready.{last-cases}
 
@@ -72,38 +73,54 @@ more_spells : (old more : List Submessage) → AllByRecursion IsSpellable more �
 more_spells [] more h k = h
 more_spells (x ∷ xs) more h k = (k.0, more_spells xs more h k.1)
 
-spells_more : (old more new : List Submessage) → new ≡ old ++ more → length more ≤ 2 → AllByRecursion IsSpellable more
-    → SpellsMore old new
-spells_more old more new is few h =
+both_octets : (old more : List Submessage) → all_value_octets (old ++ more)
+    ≡ all_value_octets old + all_value_octets more
+both_octets [] more = refl
+both_octets (x ∷ xs) more = let rest = both_octets xs more in omega (arith, rest)
+
+spells_more : (most : ℕ) (old more new : List Submessage) → new ≡ old ++ more → length more ≤ 2
+    → all_value_octets more ≤ most → all_value_octets more ≤ 65000 → AllByRecursion IsSpellable more
+    → SpellsMore most old new
+spells_more most old more new is few light short h =
     let count = length-append old more in
     let size = ap (λ (ss : List Submessage). length ss) is in
+    let octets = both_octets old more in
+    let sum = ap (λ (ss : List Submessage). all_value_octets ss) is in
     record {
       each = λ k. subst (λ (ss : List Submessage). AllByRecursion IsSpellable ss) (sym is) (more_spells old more h k);
       few = omega (arith, count, size, few);
+      light = omega (arith, octets, sum, light);
+      short = omega (arith, octets, sum, short);
     }
 
-pub data_spells : (reader writer : EntityId) (number : ℕ) (change : Change) (old new : List Submessage)
-    → length reader.0 ≡ 4 → length writer.0 ≡ 4 → length change.key.0 ≡ 16 → length change.value ≤ 1024
+pub data_spells : (most : ℕ) (reader writer : EntityId) (number : ℕ) (change : Change) (old new : List Submessage)
+    → length reader.0 ≡ 4 → length writer.0 ≡ 4 → length change.key.0 ≡ 16 → IsShort most change.value
     → IsStrength change.strength → 1 ≤ number → number ≤ 2 ^ 62
-    → change.source_timestamp < 2 ^ 64 → new ≡ old ++ data_of reader writer number (Some change) → SpellsMore old new
-data_spells reader writer number change old new of_reader of_writer of_key short fits first small moment is =
-    spells_more old (data_of reader writer number (Some change)) new is (omega arith) (
+    → change.source_timestamp < 2 ^ 64 → new ≡ old ++ data_of reader writer number (Some change)
+    → SpellsMore most old new
+data_spells most reader writer number change old new of_reader of_writer of_key short fits first small moment is =
+    let octets = content_octets change in
+    let light = short.0 in
+    let limited = short.1 in
+    spells_more most old (data_of reader writer number (Some change)) new is (omega arith) (omega (arith, octets, light))
+    (omega (arith, octets, limited)) (
       moment,
       (
         (
           record { reader = of_reader; writer = of_writer; first = first; small = small },
           content_valid
-              change.kind change.key change.value change.strength of_key short fits,
+              change.kind change.key change.value change.strength of_key limited fits,
         ),
         tt,
       ),
     )
 
-pub gap_spells : (reader writer : EntityId) (first last : ℕ) (old new : List Submessage) → length reader.0 ≡ 4
+pub gap_spells : (most : ℕ) (reader writer : EntityId) (first last : ℕ) (old new : List Submessage) → length reader.0 ≡ 4
     → length writer.0 ≡ 4 → 1 ≤ first → first ≤ last → last < 2 ^ 62
-    → new ≡ old ++ submessages_of [] reader writer (AnswersGap first last) → SpellsMore old new
-gap_spells reader writer first last old new of_reader of_writer from order small is =
-    spells_more old (submessages_of [] reader writer (AnswersGap first last)) new is (omega arith) (
+    → new ≡ old ++ submessages_of [] reader writer (AnswersGap first last) → SpellsMore most old new
+gap_spells most reader writer first last old new of_reader of_writer from order small is =
+    spells_more most old (submessages_of [] reader writer (AnswersGap first last)) new is (omega arith) (omega arith)
+    (omega arith) (
       (
         record { reader = of_reader; writer = of_writer; first = from; small = omega (arith, order, small) },
         record { first = omega arith; small = omega (arith, small); places = refl },
@@ -169,19 +186,37 @@ says_more f to answers i d old new lt before is =
     (sym (flat_one f (take i answers) (get_or answers i d))
     ∙ ap (λ (xs : List Answer). flat_map f xs) (sym (take_more answers i d lt))))
 
-pub answers_writable : (own : GuidPrefix) (submessages : List Submessage) → length own.0 ≡ 12
-    → AllByRecursion IsSpellable submessages → length submessages ≤ 17
-    → IsWritable (record { prefix = own; submessages = submessages })
-answers_writable own submessages of_own each few =
-    short_writable (record { prefix = own; submessages = submessages }) of_own each (omega (arith, few))
+-- the octets of the values after one answer more
+pub light_more : (i most old new : ℕ) → old ≤ i * most → new ≤ old + most → new ≤ (i + 1) * most
+light_more i most old new before more =
+    let next = suc-mul i most in
+    let one : suc i ≡ i + 1 = omega arith in
+    subst (λ (n : ℕ). new ≤ n * most) one (omega (arith, next, before, more))
 
--- ---- eight in a packet
+pub answers_writable : (own : GuidPrefix) (submessages : List Submessage) (count most : ℕ) → length own.0 ≡ 12
+    → AllByRecursion IsSpellable submessages → count ≤ answers_per most → length submessages ≤ 1 + 2 * count
+    → all_value_octets submessages ≤ count * most → all_value_octets submessages ≤ count * 65000
+    → IsWritable (record { prefix = own; submessages = submessages })
+answers_writable own submessages count most of_own each within few light short = by (nat_le most 1024) refl within
+  where
+    by : (b : Bool) → nat_le most 1024 ≡ b → count ≤ (if b then 8 else 1)
+        → IsWritable (record { prefix = own; submessages = submessages })
+    by true usual eight =
+        let low : most ≤ 1024 = grind (arith, nat_tests) in
+        let all : count * most ≤ count * 1024 = mul-le-mul_left count low in
+        short_writable (record { prefix = own; submessages = submessages }) of_own each
+        (omega (arith, few, light, all, eight))
+    by false long one =
+        short_writable (record { prefix = own; submessages = submessages }) of_own each (omega (arith, few, short, one))
+
+-- ---- so many in a packet
 
 -- the answers before these ones were sent
 pub record SentBefore (answering : Answering) (changes : List Change) (answers rest : List Answer)
     (sent gone : Announced) : Type 0 where
   pub groups : List (List Answer)
-  pub on : (later : List (List Answer)) → AreGrouped rest later → AreGrouped answers (groups ++ later)
+  pub on : (later : List (List Answer)) → AreGrouped (answers_per answering.max_value) rest later
+      → AreGrouped (answers_per answering.max_value) answers (groups ++ later)
   pub adds : AddsTo (map (answer_due answering changes) groups) sent gone
 
 pub sent_none : (answering : Answering) (changes : List Change) (answers : List Answer) (sent : Announced)
@@ -196,13 +231,14 @@ map_last f (y ∷ ys) x = ap (λ zs. f y ∷ zs) (map_last f ys x)
 -- one group more was sent
 pub sent_more : (answering : Answering) (changes : List Change) (answers rest group after : List Answer)
     (sent mid gone : Announced) → SentBefore answering changes answers rest sent mid → rest ≡ group ++ after
-    → 1 ≤ length group → length group ≤ 8
-    → ((after ≡ [] → ⊥) → length group ≡ 8) → AddsTo (answer_due answering changes group ∷ []) mid gone
+    → 1 ≤ length group → length group ≤ answers_per answering.max_value
+    → ((after ≡ [] → ⊥) → length group ≡ answers_per answering.max_value) → AddsTo (answer_due answering changes group ∷ []) mid gone
     → SentBefore answering changes answers after sent gone
 sent_more answering changes answers rest group after sent mid gone h is some few full adds = record {
   groups = h.groups ++ group ∷ [];
   on = λ later g.
-      subst (λ (gs : List (List Answer)). AreGrouped answers gs) (sym (append_assoc h.groups (group ∷ []) later))
+      subst (λ (gs : List (List Answer)). AreGrouped (answers_per answering.max_value) answers gs)
+      (sym (append_assoc h.groups (group ∷ []) later))
       (h.on (group ∷ later) (after, is, some, few, full, g));
   adds = subst (λ (ds : List Due). AddsTo ds sent gone) (sym (map_last (answer_due answering changes) h.groups group))
       (adds_on (map (answer_due answering changes) h.groups)
@@ -215,7 +251,8 @@ pub sent_all : (answering : Answering) (changes : List Change) (answers rest : L
     → SentBefore answering changes answers rest sent gone → rest ≡ [] → SendsAnswers answering changes answers sent gone
 sent_all answering changes answers rest sent gone h none = record {
   groups = h.groups;
-  grouped = subst (λ (gs : List (List Answer)). AreGrouped answers gs) (append-nil h.groups) (h.on [] none);
+  grouped = subst (λ (gs : List (List Answer)). AreGrouped (answers_per answering.max_value) answers gs)
+      (append-nil h.groups) (h.on [] none);
   adds = h.adds;
 }
 
@@ -224,15 +261,15 @@ all_after P [] after h = h
 all_after P (x ∷ xs) after h = all_after P xs after (All-tail P x (xs ++ after) h)
 
 -- the answers after others can be given where all can
-pub answerable_after : (kept : Kept) (rest group after : List Answer) → rest ≡ group ++ after → AreAnswerable kept rest
-    → AreAnswerable kept after
-answerable_after kept rest group after is h = record {
+pub answerable_after : (most : ℕ) (kept : Kept) (rest group after : List Answer) → rest ≡ group ++ after → AreAnswerable most kept rest
+    → AreAnswerable most kept after
+answerable_after most kept rest group after is h = record {
   state = h.state;
   stands = h.stands;
   few = h.few;
   each =
-      all_after (IsAnswerableIn h.state) group after
-      (subst (λ (xs : List Answer). All (IsAnswerableIn h.state) xs) is h.each);
+      all_after (IsAnswerableIn most h.state) group after
+      (subst (λ (xs : List Answer). All (IsAnswerableIn most h.state) xs) is h.each);
 }
 
 -- ---- the answers of a writer that took an ACKNACK
@@ -255,10 +292,10 @@ number_from set n is = first (nat_le set.base n) refl is
     first false e h = absurd cc
 
 -- a right answer can be given
-right_answerable : (s : WriterState) (row : ℕ) (set : NumberSet) → AreShort (changes_of s.written) → 1 ≤ set.base
+right_answerable : (most : ℕ) (s : WriterState) (row : ℕ) (set : NumberSet) → AreShort most (changes_of s.written) → 1 ≤ set.base
     → length (changes_of s.written) < 2 ^ 62 → (a : Answer)
-    → IsRight (λ n. is_kept (history_of s) n) (IsBetween set (acknowledged_by s row) (last_of s)) a → IsAnswerableIn s a
-right_answerable s row set short low few (AnswersData n) right = found (change_at (changes_of s.written) n) refl
+    → IsRight (λ n. is_kept (history_of s) n) (IsBetween set (acknowledged_by s row) (last_of s)) a → IsAnswerableIn most s a
+right_answerable most s row set short low few (AnswersData n) right = found (change_at (changes_of s.written) n) refl
   where
     kept_is : kept_change (history_of s) n ≡ change_at (changes_of s.written) n
     kept_is = ap (λ (b : Bool). if b then change_at (changes_of s.written) n else None) right.0
@@ -268,7 +305,7 @@ right_answerable s row set short low few (AnswersData n) right = found (change_a
     some_of None b c h = absurd cc
 
     found : (o : Option Change) → change_at (changes_of s.written) n ≡ o
-        → (change : Change) × (kept_change (history_of s) n ≡ Some change) × (length change.value ≤ 1024)
+        → (change : Change) × (kept_change (history_of s) n ≡ Some change) × IsShort most change.value
     found (Some x) e = (x, kept_is ∙ e, short n x e)
     found None e =
         let some : is_some (change_at (changes_of s.written) n) ≡ true =
@@ -276,33 +313,33 @@ right_answerable s row set short low few (AnswersData n) right = found (change_a
         (is_awaited (history_of s) n) right.0 in
         let none : is_some (change_at (changes_of s.written) n) ≡ false = ap (λ (o : Option Change). is_some o) e in
         absurd cc
-right_answerable s row set short low few (AnswersGap first last) right =
+right_answerable most s row set short low few (AnswersGap first last) right =
     let order = right.0 in
     let least = number_from set first (right.1 first (omega arith) order).1.2 in
     let most = (right.1 last order (omega arith)).1.1 in
     (omega (arith, low, least), order, omega (arith, most, few))
 
-pub answerable : (new : Kept) (s : WriterState) (row base : ℕ) (set : NumberSet) (count : ℤ) (answers : List Answer)
-    → RtpsStandsFor new (after_acknack s row base count) → AreShort (changes_of s.written) → 1 ≤ set.base
-    → answers ≡ acknack_answers s row base set count → AreAnswerable new answers
-answerable new s row base set count answers stands short low is = by (is_applied s row base count) refl
+pub answerable : (most : ℕ) (new : Kept) (s : WriterState) (row base : ℕ) (set : NumberSet) (count : ℤ) (answers : List Answer)
+    → RtpsStandsFor new (after_acknack s row base count) → AreShort most (changes_of s.written) → 1 ≤ set.base
+    → answers ≡ acknack_answers s row base set count → AreAnswerable most new answers
+answerable most new s row base set count answers stands short low is = by (is_applied s row base count) refl
   where
     few : length (changes_of s.written) < 2 ^ 62
     few =
         let size = stands.history.few in let last = stands.history.last in let same =
         ap (λ (cs : List Change). length cs) (after-changes s row base count) in omega (arith, size, last, same)
 
-    by : (b : Bool) → is_applied s row base count ≡ b → AreAnswerable new answers
+    by : (b : Bool) → is_applied s row base count ≡ b → AreAnswerable most new answers
     by true e = record {
       state = applied s row base count;
       stands = subst (λ (b : Bool). RtpsStandsFor new (if b then applied s row base count else s)) e stands;
       few = few;
-      each = subst (λ (xs : List Answer). All (IsAnswerableIn (applied s row base count)) xs)
+      each = subst (λ (xs : List Answer). All (IsAnswerableIn most (applied s row base count)) xs)
           (sym (is ∙ ap (λ (b : Bool). if b then answers_after (applied s row base count) row set else []) e))
           (All-weaker (IsRight (λ n. is_kept (history_of (applied s row base count)) n)
           (IsBetween set (acknowledged_by (applied s row base count) row) (last_of s)))
-          (IsAnswerableIn (applied s row base count))
-          (λ a right. right_answerable (applied s row base count) row set short low few a right)
+          (IsAnswerableIn most (applied s row base count))
+          (λ a right. right_answerable most (applied s row base count) row set short low few a right)
           (answers_after (applied s row base count) row set)
           (answers_after-right (applied s row base count) row set));
     }
@@ -311,9 +348,9 @@ answerable new s row base set count answers stands short low is = by (is_applied
       stands = subst (λ (b : Bool). RtpsStandsFor new (if b then applied s row base count else s)) e stands;
       few = few;
       each =
-          subst (λ (xs : List Answer). All (IsAnswerableIn s) xs)
+          subst (λ (xs : List Answer). All (IsAnswerableIn most s) xs)
           (sym (is ∙ ap (λ (b : Bool). if b then answers_after (applied s row base count) row set else []) e))
-          (All-nil (IsAnswerableIn s));
+          (All-nil (IsAnswerableIn most s));
     }
 
 -- there are 256 answers at most
@@ -386,14 +423,20 @@ acknack_taken old own row a sent new acknowledged gone base count answers answer
           (sends (after_acknack s row base count) now)));
     }
 
--- a group before others is of eight
-pub full_group : (rest group after : List Answer) (size : ℕ) → rest ≡ group ++ after → length group ≡ size
-    → size ≡ min (length rest) 8 → (after ≡ [] → ⊥) → length group ≡ 8
-full_group rest group [] size is count least some = absurd (some refl)
-full_group rest group (x ∷ xs) size is count least some =
+-- a group before others is full
+full_group : (per : ℕ) (rest group after : List Answer) (size : ℕ) → rest ≡ group ++ after → length group ≡ size
+    → size ≡ min (length rest) per → (after ≡ [] → ⊥) → length group ≡ per
+full_group per rest group [] size is count least some = absurd (some refl)
+full_group per rest group (x ∷ xs) size is count least some =
     let all = ap (λ (as' : List Answer). length as') is in
     let both = length-append group (x ∷ xs) in
     omega (arith, all, both, count, least)
+
+pub full_group_as : (most per : ℕ) → per ≡ answers_per most → (rest group after : List Answer) (size : ℕ)
+    → rest ≡ group ++ after → length group ≡ size → size ≡ min (length rest) per → (after ≡ [] → ⊥)
+    → length group ≡ answers_per most
+full_group_as most per same rest group after size is count least some =
+    full_group per rest group after size is count least some ∙ same
 
 pub nothing_left : (rest : List Answer) (size : ℕ) → length rest ≡ 0 → rest ≡ []
 nothing_left [] size none = refl

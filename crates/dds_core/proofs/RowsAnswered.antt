@@ -25,7 +25,7 @@ use Rattle.dds_protocol.specs.Claims.{Receiver, IsWriter, IsToWriter, Names}
 use Rattle.dds_machine.specs.Part.{Part, ReaderProxy, Writer, no_writer, same_endpoint, history_of, at_writer, owed_from, writer_changes}
 use Rattle.dds_protocol.specs.Peer.{Peer, state_of as network_of}
 use Rattle.dds_protocol.specs.DueMessages.{Due, answer_message}
-use Rattle.dds_protocol.specs.Protocol.{State, Known, WriterTakes, AreGrouped, TakesAckNack as TakesByRules, acknowledging, answered_from, has_for, is_taken_up, with_answered}
+use Rattle.dds_protocol.specs.Protocol.{State, Known, WriterTakes, AreGrouped, answers_per, TakesAckNack as TakesByRules, acknowledging, answered_from, has_for, is_taken_up, with_answered}
 use Rattle.dds_machine.proofs.Tables.{acknowledged-hits}
 use Rattle.dds_protocol.proofs.DuesAnswers.{answers_owed_all}
 use Rattle.dds_protocol.proofs.Framing.{with_same}
@@ -247,7 +247,12 @@ row_of : (turn : Turn) → IsRow turn.c
 row_of turn = row_is turn.c turn.own
 
 abbrev answering_of : Turn → Answering
-answering_of turn = record { own = turn.c.kept.prefix; entity = turn.c.k.entity; reader = turn.c.name }
+answering_of turn = record {
+  own = turn.c.kept.prefix;
+  entity = turn.c.k.entity;
+  reader = turn.c.name;
+  max_value = turn.c.k.max_value;
+}
 
 abbrev took : (turn : Turn)
     → TookAckNack turn.c.k turn.c.kept.prefix turn.c.row turn.a turn.sent turn.t.writer turn.t.acknowledged turn.gone
@@ -354,6 +359,7 @@ row_applied turn from is = record {
     stands : WriterStands turn.t.writer there (known.answered (suc turn.c.i))
     stands = record {
       autodispose = (stood turn.c).autodispose ∙ ap (λ (x : WriterIdentity). x.autodispose) (sym turn.t.same);
+      values = (stood turn.c).values ∙ ap (λ (x : WriterIdentity). x.max_value) (sym turn.t.same);
       readers =
           readers_same (writer_of turn.c).readers turn.c.name.reader
           (max (row_of turn).proxy.acknowledged (base_of turn))
@@ -421,7 +427,13 @@ row_applied turn from is = record {
       there = there;
       there_is = refl;
       groups = (sends turn).groups;
-      grouped = subst (λ (xs : List Answer). AreGrouped xs (sends turn).groups) answers_are (sends turn).grouped;
+      grouped =
+          subst (λ (most : ℕ). AreGrouped (answers_per most) (answers_to (has_for there turn.c.name.reader)
+          (requested turn.a.reader_sn_state
+          (answered_from (owed_from there turn.c.name.reader) (row_of turn).proxy.acknowledged (base_of turn))
+          (length (writer_changes there)))) (sends turn).groups) (sym (stood turn.c).values)
+          (subst (λ (xs : List Answer). AreGrouped (answers_per turn.c.k.max_value) xs (sends turn).groups) answers_are
+          (sends turn).grouped);
       dues_are = refl;
       after = refl;
     }
@@ -452,14 +464,14 @@ row_ignored turn is = record {
       (no_groups (sends turn).groups grouped)) (sends turn).adds;
 }
   where
-    grouped : AreGrouped [] (sends turn).groups
+    grouped : AreGrouped (answers_per turn.c.k.max_value) [] (sends turn).groups
     grouped =
-        subst (λ (xs : List Answer). AreGrouped xs (sends turn).groups)
+        subst (λ (xs : List Answer). AreGrouped (answers_per turn.c.k.max_value) xs (sends turn).groups)
         (ap (λ (b : Bool). if b then answers_after
         (applied (before turn) turn.c.row (base_of turn) turn.a.count) turn.c.row turn.a.reader_sn_state else []) is)
         (sends turn).grouped
 
-    no_groups : (groups : List (List Answer)) → AreGrouped [] groups → groups ≡ []
+    no_groups : (groups : List (List Answer)) → AreGrouped (answers_per turn.c.k.max_value) [] groups → groups ≡ []
     no_groups [] g = refl
     no_groups (group ∷ groups) g =
         let some = g.2 in let size = ap (λ (xs : List Answer). length xs) g.1 in let all = length-append group g.0 in
@@ -489,6 +501,7 @@ row_ignored turn is = record {
     stands : WriterStands turn.t.writer (writer_of turn.c) (turn.c.peer.known.answered (suc turn.c.i))
     stands = record {
       autodispose = (stood turn.c).autodispose ∙ ap (λ (x : WriterIdentity). x.autodispose) (sym turn.t.same);
+      values = (stood turn.c).values ∙ ap (λ (x : WriterIdentity). x.max_value) (sym turn.t.same);
       readers =
           (stood turn.c).readers ∙ ap (λ (x : WriterIdentity). map (λ (n : ReaderName). n.reader) x.readers)
           (sym turn.t.same);

@@ -27,17 +27,18 @@ use Rattle.dds_core.specs.Identity.{WriterIdentity, writer_identity}
 use Rattle.dds_core.specs.Matching.{destinations}
 use Rattle.dds_core.specs.EndNames.{reader_name, reader_names}
 use Rattle.dds_core.specs.OpeningEnds.{OpensWriter}
-use Rattle.dds_core.specs.Standing.{AreShort, CountsFrom1, IsWhole, WriterStands, state_of}
+use Rattle.dds_core.specs.Standing.{AreShort, CountsFrom1, IsShort, IsWhole, WriterStands, state_of}
 use Rattle.dds_core.specs.Stepping.{Enters, Ticks}
 use Rattle.dds_core.proofs.Acknowledging.{state_as}
 use Rattle.dds_core.proofs.Tables.{map-reliable_readers, told_alike}
 
 -- a writer at its opening
 
-identity_as : (entity : EntityId) (autodispose : Bool) (a b : List Destination) (c d : List ReaderName) → a ≡ b → c ≡ d
-    → ◌≡◌ {A = WriterIdentity} (record { entity = entity; autodispose = autodispose; destinations = a; readers = c })
-    (record { entity = entity; autodispose = autodispose; destinations = b; readers = d })
-identity_as entity autodispose a b c d e f = cc
+identity_as : (entity : EntityId) (autodispose : Bool) (most : ℕ) (a b : List Destination) (c d : List ReaderName)
+    → a ≡ b → c ≡ d → ◌≡◌ {A = WriterIdentity}
+    (record { entity = entity; autodispose = autodispose; max_value = most; destinations = a; readers = c })
+    (record { entity = entity; autodispose = autodispose; max_value = most; destinations = b; readers = d })
+identity_as entity autodispose most a b c d e f = cc
 
 -- what looks alike of each row is of one value
 rows_begun : (rows : List ReaderProxy) (count : ℕ) → map (λ (p : ReaderProxy). p.acknowledged) rows ≡ replicate count 1
@@ -65,7 +66,14 @@ pub opens_writer : (peers : List PeerConfig) (w : WriterConfig) (ds : List Desti
     → strength ≡ carried w.ownership w.strength
     → RtpsStandsFor kept (opening w.history limit w.lease strength (nat_lt 0 (length ds)) count)
     → OpensWriter peers w
-    (record { entity = w.entity; autodispose = w.autodispose; destinations = ds; readers = names; writer = kept })
+    (record {
+      entity = w.entity;
+      autodispose = w.autodispose;
+      max_value = w.max_value;
+      destinations = ds;
+      readers = names;
+      writer = kept;
+    })
 opens_writer peers w ds names limit strength kept count counted sent matched limited carries stands =
     let rows : List ReaderProxy = reliable_readers w.topic 1 peers in
     let many : length (reader_names w.topic peers) ≡ count =
@@ -84,9 +92,10 @@ opens_writer peers w ds names limit strength kept count counted sent matched lim
     map-reliable_readers (λ (p : ReaderProxy). none) _ w.topic 1 peers
     ∙ (told_alike none reader_name w.topic 1 peers ∙ ap (λ (n : ℕ). replicate n none) many) in
     record {
-      identity = identity_as w.entity w.autodispose ds _ names _ sent matched;
+      identity = identity_as w.entity w.autodispose w.max_value ds _ names _ sent matched;
       stands = record {
         autodispose = refl;
+        values = refl;
         readers = map-reliable_readers (λ (p : ReaderProxy). p.reader) _ w.topic 1 peers
             ∙ sym (ap (λ (ns : List ReaderName). map (λ (n : ReaderName). n.reader) ns) matched
             ∙ map-reliable_readers (λ (n : ReaderName). n.reader) reader_name w.topic 1 peers);
@@ -105,10 +114,11 @@ opens_writer peers w ds names limit strength kept count counted sent matched lim
     }
 
 -- a writer, by what its end has once it is open
-abbrev pub kept_as : EntityId → Bool → List Destination → List ReaderName → Kept → WriterKept
-kept_as entity autodispose destinations readers writer = record {
+abbrev pub kept_as : EntityId → Bool → ℕ → List Destination → List ReaderName → Kept → WriterKept
+kept_as entity autodispose most destinations readers writer = record {
   entity = entity;
   autodispose = autodispose;
+  max_value = most;
   destinations = destinations;
   readers = readers;
   writer = writer;
@@ -129,6 +139,7 @@ enters kept entry after more = record {
   stands =
       λ w answered s. record {
         autodispose = s.autodispose;
+        values = s.values;
         readers = s.readers;
         writer = more
             (state_of w answered) s.writer;
@@ -186,6 +197,7 @@ ticks kept current now after same more = record {
       let state : WriterState = state_of w answered in
       record {
         autodispose = here.autodispose;
+        values = here.values;
         readers = here.readers;
         writer =
             subst (λ (b : Bool). RtpsStandsFor after (entering state (Ticked now b))) (behind_same w answered)
@@ -204,28 +216,29 @@ last_or [] last x (suc k) at = absurd cc
 last_or (y ∷ ys) last x zero at = inl at
 last_or (y ∷ ys) last x (suc k) at = last_or ys last x k at
 
-short_more : (cs : List Change) (c : Change) → AreShort cs → length c.value ≤ 1024 → AreShort (cs ++ c ∷ [])
-short_more cs c short last = λ number x at. one (nat_lt 0 number) (number - 1) x (λ there. short number x there) at
+short_more : (most : ℕ) (cs : List Change) (c : Change) → AreShort most cs → IsShort most c.value
+    → AreShort most (cs ++ c ∷ [])
+short_more most cs c short last = λ number x at. one (nat_lt 0 number) (number - 1) x (λ there. short number x there) at
   where
     one : (b : Bool) (k : ℕ) (x : Change)
-        → ((if b then slice_get cs k else None) ≡ Some x → length x.value ≤ 1024)
-        → (if b then slice_get (cs ++ c ∷ []) k else None) ≡ Some x → length x.value ≤ 1024
+        → ((if b then slice_get cs k else None) ≡ Some x → IsShort most x.value)
+        → (if b then slice_get (cs ++ c ∷ []) k else None) ≡ Some x → IsShort most x.value
     one true k x old at =
-        ⊎_elim (λ there. old there) (λ is. subst (λ (y : Change). length y.value ≤ 1024) is last) (last_or cs c x k at)
+        ⊎_elim (λ there. old there) (λ is. subst (λ (y : Change). IsShort most y.value) is last) (last_or cs c x k at)
     one false k x old at = absurd cc
 
-pub whole_if : (result : Result ℕ Code) (destinations : List Destination) (readers : List ReaderName) (old after : Kept)
-    (change : Change) → IsWhole destinations readers old → length change.value ≤ 1024
+pub whole_if : (result : Result ℕ Code) (most : ℕ) (destinations : List Destination) (readers : List ReaderName)
+    (old after : Kept) (change : Change) → IsWhole most destinations readers old → IsShort most change.value
     → reader_count after ≡ reader_count old
     → ((s : WriterState) → RtpsStandsFor old s → OnOk result (RtpsStandsFor after (entering s (Changed change))))
-    → OnErr result (after ≡ old) → IsWhole destinations readers after
-whole_if (Ok n) destinations readers old after change whole short counted more same = record {
+    → OnErr result (after ≡ old) → IsWhole most destinations readers after
+whole_if (Ok n) most destinations readers old after change whole short counted more same = record {
   few = whole.few;
   many = whole.many;
   count = counted ∙ whole.count;
   state = entering whole.state (Changed change);
   stands = more whole.state whole.stands;
-  short = short_more (changes_of whole.state.written) change whole.short short;
+  short = short_more most (changes_of whole.state.written) change whole.short short;
 }
-whole_if (Err e) destinations readers old after change whole short counted more same =
-    subst (λ (k : Kept). IsWhole destinations readers k) (sym same) whole
+whole_if (Err e) most destinations readers old after change whole short counted more same =
+    subst (λ (k : Kept). IsWhole most destinations readers k) (sym same) whole

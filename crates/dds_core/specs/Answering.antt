@@ -8,13 +8,13 @@ use Rattle.dds_base.specs.declared.change.Change.{Change}
 use Rattle.dds_base.specs.declared.config.Config.{Config}
 use Rattle.dds_base.specs.declared.guid.EntityId.{EntityId}
 use Rattle.dds_base.specs.declared.guid.GuidPrefix.{GuidPrefix}
-use Rattle.dds_base.specs.Bounds.{max_sn, max_value}
+use Rattle.dds_base.specs.Bounds.{greatest_value, max_sn}
 use Rattle.dds_base.specs.Kept.{kept_change}
 use Rattle.dds_base.specs.Written.{changes_of}
 use Rattle.rtps_sets.specs.NumberSet.{NumberSet, span}
 use Rattle.rtps_wire.specs.declared.acknack.AckNack.{AckNack as AckNackBody}
 use Rattle.rtps_wire.specs.declared.submessage.Submessage.{Submessage}
-use Rattle.rtps_wire.specs.Submessages.{IsSpellable}
+use Rattle.rtps_wire.specs.Submessages.{IsSpellable, all_value_octets}
 use Rattle.rtps_writer.specs.declared.answer.Answer.{Answer}
 use Rattle.rtps_writer.specs.declared.answer.Answer.TheVariants.{Data, Gap}
 use Rattle.rtps_writer.specs.Acknack.{acknack_answers, after_acknack, is_applied, newly_acknowledged}
@@ -27,7 +27,7 @@ use Rattle.dds_protocol.specs.Claims.{Receiver, is_for, Names}
 use Rattle.dds_protocol.specs.Peer.{Peer, state_of}
 use Rattle.rtps_wire.specs.declared.message.Message.{Message}
 use Rattle.dds_protocol.specs.DueMessages.{Due, answer_message}
-use Rattle.dds_protocol.specs.Protocol.{State, InTurn, WriterTakes, AreGrouped}
+use Rattle.dds_protocol.specs.Protocol.{State, InTurn, WriterTakes, AreGrouped, answers_per}
 use Rattle.dds_core.specs.declared.answering.Answering.{Answering}
 use Rattle.dds_core.specs.declared.answering.Room.{Room}
 use Rattle.dds_core.specs.declared.effects.Effects.{Effects}
@@ -37,7 +37,7 @@ use Rattle.dds_core.specs.Beating.{AddsTo, due_to}
 use Rattle.dds_core.specs.Kept.{WriterKept, PeerKept}
 use Rattle.dds_core.specs.Identity.{writer_identity}
 use Rattle.dds_core.specs.Receiving.{with_state}
-use Rattle.dds_core.specs.Standing.{StandsFor}
+use Rattle.dds_core.specs.Standing.{IsShort, StandsFor}
 
 -- ---- whom an ACKNACK is from
 
@@ -104,30 +104,32 @@ HaveRoom numbers rooms = (i : ℕ) (room : Room) → slice_get rooms i ≡ Some 
 
 -- ---- the messages with the answers
 
--- the answer can be written: its change is kept, and small; or its numbers are some that the wire has
-abbrev pub IsAnswerableIn : WriterState → Answer → Type 0
-IsAnswerableIn s (Data number) =
-    (change : Change) × (kept_change (history_of s) number ≡ Some change) × (length change.value ≤ max_value)
-IsAnswerableIn s (Gap first last) = (1 ≤ first) × (first ≤ last) × (last < max_sn)
+-- the answer can be written: its change is kept, and short; or its numbers are some that the wire has
+abbrev pub IsAnswerableIn : ℕ → WriterState → Answer → Type 0
+IsAnswerableIn most s (Data number) =
+    (change : Change) × (kept_change (history_of s) number ≡ Some change) × IsShort most change.value
+IsAnswerableIn most s (Gap first last) = (1 ≤ first) × (first ≤ last) × (last < max_sn)
 
 -- the writer that keeps this can give the answer
-pub record CanAnswer (kept : Kept) (answer : Answer) : Type 0 where
+pub record CanAnswer (most : ℕ) (kept : Kept) (answer : Answer) : Type 0 where
   pub state : WriterState
   pub stands : RtpsStandsFor kept state
   pub few : length (changes_of state.written) < max_sn
-  pub is : IsAnswerableIn state answer
+  pub is : IsAnswerableIn most state answer
 
--- two submessages at most were added, which can be written
-pub record SpellsMore (old new : List Submessage) : Type 0 where
+-- two submessages at most were added, which can be written, with a value that is so short
+pub record SpellsMore (most : ℕ) (old new : List Submessage) : Type 0 where
   pub each : AllByRecursion IsSpellable old → AllByRecursion IsSpellable new
   pub few : length new ≤ length old + 2
+  pub light : all_value_octets new ≤ all_value_octets old + most
+  pub short : all_value_octets new ≤ all_value_octets old + greatest_value
 
 -- it can give each of these answers
-pub record AreAnswerable (kept : Kept) (answers : List Answer) : Type 0 where
+pub record AreAnswerable (most : ℕ) (kept : Kept) (answers : List Answer) : Type 0 where
   pub state : WriterState
   pub stands : RtpsStandsFor kept state
   pub few : length (changes_of state.written) < max_sn
-  pub each : All (IsAnswerableIn state) answers
+  pub each : All (IsAnswerableIn most state) answers
 
 -- the message with these answers, by whom they are given
 abbrev pub message_of : Answering → List Change → List Answer → Message
@@ -138,11 +140,11 @@ message_of a changes answers =
 abbrev pub answer_due : Answering → List Change → List Answer → Due
 answer_due a changes answers = due_to a.reader.reader.peer (message_of a changes answers)
 
--- the answers are sent, eight in a packet but in the last one
+-- the answers are sent, as many in a packet as stand there for values of that length, but in the last one
 pub record SendsAnswers (answering : Answering) (changes : List Change) (answers : List Answer)
     (sent gone : Announced) : Type 0 where
   pub groups : List (List Answer)
-  pub grouped : AreGrouped answers groups
+  pub grouped : AreGrouped (answers_per answering.max_value) answers groups
   pub adds : AddsTo (map (answer_due answering changes) groups) sent gone
 
 -- ---- what a writer does
@@ -153,7 +155,8 @@ pub record TookAckNack (old : WriterKept) (own : GuidPrefix) (row : ℕ) (a : Ac
   pub stands : RtpsStandsFor new.writer (after_acknack s row a.reader_sn_state.base a.count)
   pub acknowledged_is : acknowledged ≡ newly_acknowledged s (after_acknack s row a.reader_sn_state.base a.count) row
   pub sends : (name : ReaderName) → slice_get old.readers row ≡ Some name
-      → SendsAnswers (record { own = own; entity = old.entity; reader = name }) (changes_of s.written)
+      → SendsAnswers (record { own = own; entity = old.entity; reader = name; max_value = old.max_value })
+      (changes_of s.written)
       (acknack_answers s row a.reader_sn_state.base a.reader_sn_state a.count) sent gone
 
 -- for each state that a writer's old values stand for, it took the ACKNACK of its reader of this row

@@ -35,11 +35,12 @@ pub record FitsWriters (names : List WriterName) (reader : Proxies) (store : Sto
   pub fits : length names ≤ length (qos_of store.cache).writers
   pub many : length (qos_of store.cache).writers ≤ max_readers
 
--- what never changes of a writer: its name, whether an unregister disposes too, to which peers it sends, and the names
--- of its matched readers
+-- what never changes of a writer: its name, whether an unregister disposes too, how long its values may be, to which
+-- peers it sends, and the names of its matched readers
 pub record WriterIdentity : Type 0 where
   pub entity : EntityId
   pub autodispose : Bool
+  pub max_value : ℕ
   pub destinations : List Destination
   pub readers : List ReaderName
 
@@ -57,8 +58,13 @@ pub record Identity : Type 0 where
 
 -- what never changes of this writer
 abbrev pub writer_identity : WriterKept → WriterIdentity
-writer_identity w = record
-    { entity = w.entity; autodispose = w.autodispose; destinations = w.destinations; readers = w.readers }
+writer_identity w = record {
+  entity = w.entity;
+  autodispose = w.autodispose;
+  max_value = w.max_value;
+  destinations = w.destinations;
+  readers = w.readers;
+}
 
 -- what never changes of this reader
 abbrev pub reader_identity : ReaderKept → ReaderIdentity
@@ -76,6 +82,7 @@ configured_writer peers w =
     record {
       entity = w.entity;
       autodispose = w.autodispose;
+      max_value = w.max_value;
       destinations = destinations w.topic 1 peers;
       readers = reader_names w.topic peers;
     }

@@ -14,10 +14,12 @@ use Rattle.dds_core.specs.declared.matching.Destination.{Destination}
 use Rattle.dds_core.specs.declared.matching.ReaderName.{ReaderName}
 use Rattle.dds_core.specs.declared.matching.WriterName.{WriterName}
 
--- a writer: whom it sends to, its matched readers by their names, and what it keeps of its changes and of those readers
+-- a writer: how long its values may be, whom it sends to, its matched readers by their names, and what it keeps of its
+-- changes and of those readers
 pub record WriterKept : Type 0 where
   pub entity : EntityId
   pub autodispose : Bool
+  pub max_value : ℕ
   pub destinations : List Destination
   pub readers : List ReaderName
   pub writer : Kept

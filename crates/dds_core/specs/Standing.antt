@@ -10,7 +10,7 @@ use Rattle.dds_base.specs.declared.config.Config.{Config}
 use Rattle.dds_base.specs.declared.config.PeerConfig.{PeerConfig}
 use Rattle.dds_base.specs.declared.config.WriterConfig.{WriterConfig}
 use Rattle.dds_base.specs.declared.change.Change.{Change}
-use Rattle.dds_base.specs.Bounds.{end_of_moments, max_peers, max_readers, max_value}
+use Rattle.dds_base.specs.Bounds.{end_of_moments, greatest_value, max_peers, max_readers}
 use Rattle.dds_base.specs.Kept.{change_at}
 use Rattle.dds_base.specs.Written.{changes_of}
 use Rattle.dds_cache.specs.Standing.{qos_of}
@@ -52,24 +52,30 @@ CountsFrom1 p = (1 ≤ p.acknowledged) × (p.first ≤ 1)
 -- a writer of the machine for which what is kept stands, with those counts
 pub record WriterStands (kept : WriterKept) (w : Writer) (answered : Endpoint → Option ℤ) : Type 0 where
   pub autodispose : w.autodispose ≡ kept.autodispose
+  pub values : w.max_value ≡ kept.max_value
   pub readers : map (λ (p : ReaderProxy). p.reader) w.readers ≡ map (λ (r : ReaderName). r.reader) kept.readers
   pub writer : RtpsStandsFor kept.writer (state_of w answered)
   pub begun : All CountsFrom1 w.readers
 
--- the value of each of these changes has at most 1,024 octets
-abbrev pub AreShort : List Change → Type 0
-AreShort changes = (number : ℕ) (change : Change) → change_at changes number ≡ Some change
-    → length change.value ≤ max_value
+-- a value has at most so many octets, and no more than a datagram takes
+abbrev pub IsShort : ℕ → List ℕ → Type 0
+IsShort most value = (length value ≤ most) × (length value ≤ greatest_value)
+
+-- so it is of the value of each of these changes
+abbrev pub AreShort : ℕ → List Change → Type 0
+AreShort most changes = (number : ℕ) (change : Change) → change_at changes number ≡ Some change
+    → IsShort most change.value
 
 -- what is so of each writer: it sends to at most 16 peers with at most 256 readers, its readers are those of what it
--- keeps, and that stands for some state, of short changes
-pub record IsWhole (destinations : List Destination) (readers : List ReaderName) (writer : Kept) : Type 0 where
+-- keeps, and that stands for some state, of changes as short as its values are to be
+pub record IsWhole (most : ℕ) (destinations : List Destination) (readers : List ReaderName) (writer : Kept)
+    : Type 0 where
   pub few : length destinations ≤ max_peers
   pub many : length readers ≤ max_readers
   pub count : reader_count writer ≡ length readers
   pub state : WriterState
   pub stands : RtpsStandsFor writer state
-  pub short : AreShort (changes_of state.written)
+  pub short : AreShort most (changes_of state.written)
 
 -- the reader's writer of this row is this one, and no earlier row is
 pub record IsFirstRow (names : List WriterName) (writer : Endpoint) (k : ℕ) : Type 0 where

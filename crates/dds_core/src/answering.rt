@@ -9,24 +9,27 @@ ghost use Rattle.rtps_wire.specs.declared.message.Message.{Message as MessageOf}
 ghost use Rattle.rtps_writer.specs.declared.answer.Answer.TheVariants as answer;
 ghost use Rattle.rtps_writer.specs.Standing.{StandsFor as RtpsStandsFor};
 ghost use Rattle.rtps_writer.specs.WriterState.{WriterState};
-ghost use Rattle.dds_base.specs.Bounds.{max_value, window_width};
+ghost use Rattle.dds_base.specs.Bounds.{window_width};
 ghost use Rattle.dds_base.specs.Written.{changes_of};
 ghost use Rattle.dds_protocol.specs.DueMessages.{data_of, submessages_of};
+ghost use Rattle.dds_protocol.specs.Protocol.{answers_per};
 ghost use Rattle.dds_core.specs.Answering.{SpellsMore, IsFrom, HasRoom, AreRooms, AreAnswerable, CanAnswer, SendsAnswers, message_of};
 ghost use Rattle.dds_core.specs.Beating.{AddsTo, due_to};
 ghost use Rattle.dds_core.specs.Readiness.{receiver_at};
 ghost use Rattle.dds_core.specs.Sending.{AreMessages, max_unsent};
+ghost use Rattle.dds_core.specs.Standing.{IsShort};
 
 use crate::matching::ReaderName;
 use crate::receiver::{MessageReceiver, is_for};
 use crate::sending::{Announced, send};
-use dds_base::{Change, EntityId, GuidPrefix, Sn};
+use dds_base::{Change, EntityId, GuidPrefix, Sn, USUAL_VALUE};
 use rtps_sets::SnSet;
 use rtps_wire::{AckNack, Data, DataContent, Gap, Message, Submessage, Submessages};
 use rtps_writer::{Answer, StatefulWriter};
 use std::alloc::{AllocError, Global};
 
-/// How many answers stand in a packet at most. `docs/DECISIONS.md`, "Sets, windows and the grammar".
+/// How many answers stand in a packet at most, where values are no longer than usual. `docs/DECISIONS.md`, "Sets, windows
+/// and the grammar".
 const MAX_ANSWERS: usize = 8;
 
 /// Room for the answers to an ACKNACK.
@@ -95,6 +98,16 @@ pub struct Answering {
     /// The writer.
     pub entity: EntityId,
     pub reader: ReaderName,
+    /// How many octets a value of the writer has at most.
+    pub max_value: u32,
+}
+
+/// How many answers stand in a packet at most, where values have at most so many octets.
+fn answers_per(max_value: u32) -> usize
+    ensures per { result ≡ answers_per max_value }
+    ensures some { 1 ≤ result }
+{
+    if max_value <= USUAL_VALUE { MAX_ANSWERS } else { 1 }
 }
 
 /// Adds a change, which lends its value, with its moment.
@@ -104,10 +117,11 @@ fn push_data<'a>(
     number: Sn,
     change: &'a Change,
 ) -> Result<(), AllocError>
-    requires short { length change.now.value ≤ max_value }
+    requires short { IsShort answering.now.max_value change.now.value }
     requires first { 1 ≤ number }
     requires small { number ≤ 2 ^ 62 }
-    ensures spells { OnOk result (SpellsMore submessages.old submessages.new) }
+    ensures spells { OnOk result
+        (SpellsMore answering.now.max_value submessages.old submessages.new) }
     ensures adds { OnOk result
         (submessages.new ≡ submessages.old
         ++ data_of answering.now.reader.guid.entity answering.now.entity number (Some change.now)) }
@@ -140,7 +154,8 @@ fn push_gap(
     requires from { 1 ≤ first }
     requires order { first ≤ last }
     requires small { last < 2 ^ 62 }
-    ensures spells { OnOk result (SpellsMore submessages.old submessages.new) }
+    ensures spells { OnOk result
+        (SpellsMore answering.now.max_value submessages.old submessages.new) }
     ensures adds { OnOk result
         (submessages.new ≡ submessages.old
         ++ submessages_of [] answering.now.reader.guid.entity answering.now.entity
@@ -167,8 +182,9 @@ fn push_answer<'a>(
     writer: &'a StatefulWriter,
     answer: Answer,
 ) -> Result<(), AllocError>
-    requires { CanAnswer writer.now answer }
-    ensures spells { OnOk result (SpellsMore submessages.old submessages.new) }
+    requires { CanAnswer answering.now.max_value writer.now answer }
+    ensures spells { OnOk result
+        (SpellsMore answering.now.max_value submessages.old submessages.new) }
     ensures adds { (s : WriterState) → RtpsStandsFor writer.now s
         → OnOk result (submessages.new
         ≡ submessages.old
@@ -191,8 +207,8 @@ fn message<'a>(
     writer: &'a StatefulWriter,
     answers: &[Answer],
 ) -> Result<Message<'a>, AllocError>
-    requires can { AreAnswerable writer.now answers.now }
-    requires few { length answers.now ≤ 8 }
+    requires can { AreAnswerable answering.now.max_value writer.now answers.now }
+    requires few { length answers.now ≤ answers_per answering.now.max_value }
     ensures says { (s : WriterState) → RtpsStandsFor writer.now s
         → IfOk result
         (λ m. m ≡ message_of answering.now (changes_of s.written) answers.now) }
@@ -233,7 +249,7 @@ fn send_made(alloc: Global, sent: &mut Announced, message: Result<Message<'_>, A
     }
 }
 
-/// Sends answers, eight in a packet but in the last one.
+/// Sends answers, as many in a packet as stand there, but in the last one.
 pub fn send_answers(
     alloc: Global,
     answering: &Answering,
@@ -241,7 +257,7 @@ pub fn send_answers(
     answers: &[Answer],
     sent: &mut Announced,
 )
-    requires can { AreAnswerable writer.now answers.now }
+    requires can { AreAnswerable answering.now.max_value writer.now answers.now }
     requires few { length answers.now ≤ window_width }
     requires room { sent.old.unsent < 2 ^ 60 }
     ensures few { sent.new.unsent ≤ sent.old.unsent + window_width }
@@ -249,9 +265,10 @@ pub fn send_answers(
         → SendsAnswers answering.now (changes_of s.written) answers.now sent.old sent.new }
     ensures messages { AreMessages sent.old.packets.items → AreMessages sent.new.packets.items }
 {
+    let per = answers_per(answering.max_value);
     let mut rest = answers;
     while !rest.is_empty() {
-        let count = usize::min(rest.len(), MAX_ANSWERS);
+        let count = usize::min(rest.len(), per);
         let (group, after) = rest.split_at(count);
         let message = message(alloc, answering, writer, group);
         send_made(alloc, sent, message, answering.reader.reader.peer);

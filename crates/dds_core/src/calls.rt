@@ -2,11 +2,13 @@
 //!
 //! DDS 1.4, 2.2.2.4 (DataWriter).
 
-ghost use Rattle.std.specs.Prelude.{◌≡◌, ◌+◌, ◌^◌, ◌<◌, ◌≤◌, length, []};
-ghost use Rattle.dds_base.specs.Bounds.{max_peers, max_value};
+ghost use Rattle.std.specs.Prelude.{◌≡◌, ◌+◌, ◌^◌, ◌<◌, ◌≤◌, Some, length, slice_get, []};
+ghost use Rattle.dds_base.specs.Bounds.{max_peers};
 ghost use Rattle.dds_machine.specs.declared.reply.Reply.TheVariants.{Done, Refused};
 ghost use Rattle.dds_machine.specs.declared.call.Call.TheVariants as call;
 ghost use Rattle.dds_protocol.specs.declared.event.Event.TheVariants as event;
+ghost use Rattle.dds_core.specs.Kept.{WriterKept};
+ghost use Rattle.dds_core.specs.Standing.{IsShort};
 ghost use Rattle.dds_core.specs.Stepping.{Sends, Steps, StepsBy};
 ghost use Rattle.dds_core.specs.Making.{Makes, IsValueOf};
 ghost use Rattle.dds_core.specs.Sending.{SendsNothing, AreMessages};
@@ -16,7 +18,7 @@ use crate::output::answered;
 use crate::peer::Peer;
 use crate::sending::Announced;
 use crate::twin::Twin;
-use dds_base::{Change, ChangeKind, Code, Key, MAX_VALUE, Octets, Sequence, index_of};
+use dds_base::{Change, ChangeKind, Code, Key, Octets, Sequence, index_of};
 use dds_cache::AccessKind;
 use dds_conditions::Filters;
 use dds_machine::{Call, Reply};
@@ -173,7 +175,7 @@ impl Peer {
         let Some(index) = index_of(writer, self.writers.len()) else {
             return self.refused(Code::BadParameter);
         };
-        if MAX_VALUE < value.as_slice().len() {
+        if self.writers[index].is_too_long(&value) {
             return self.refused(Code::BadParameter);
         }
         self.make(index, ChangeKind::Write, key, value)
@@ -215,7 +217,8 @@ impl Peer {
     /// are there before the history takes the change; where that finds no memory, none of them goes out.
     fn make(&mut self, index: usize, kind: ChangeKind, key: Key, value: Octets) -> Output
         requires within { index < length self.old.writers }
-        requires short { length value ≤ max_value }
+        requires short { (k : WriterKept) → slice_get self.old.writers index ≡ Some k
+            → IsShort k.max_value value }
         requires empty { IsValueOf kind value }
         ensures makes { Makes self.old index kind key value result self.new }
         ensures messages { AreMessages result.packets }

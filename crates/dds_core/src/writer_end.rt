@@ -2,8 +2,8 @@
 //!
 //! RTPS 2.5, 8.4.7 (StatefulWriter); DDS 1.4, 2.2.2.4 (DataWriter).
 
-ghost use Rattle.std.specs.Prelude.{◌≡◌, ◌≢◌, ◌+◌, ◌^◌, ◌<◌, ◌≤◌, ℤ, Option, length, map, nat_le, slice_get, slice_index, Some, None, true, false, IfSome, IfNone, IfOk, IfErr, OnOk, OnErr};
-ghost use Rattle.dds_base.specs.Bounds.{max_changes, max_ends, max_peers, max_readers, max_value, window_width};
+ghost use Rattle.std.specs.Prelude.{◌≡◌, ◌≢◌, ◌+◌, ◌^◌, ◌<◌, ◌≤◌, ◌⊎◌, ℤ, Option, length, map, nat_le, slice_get, slice_index, Some, None, true, false, IfSome, IfNone, IfOk, IfErr, OnOk, OnErr};
+ghost use Rattle.dds_base.specs.Bounds.{greatest_value, max_changes, max_ends, max_peers, max_readers, window_width};
 ghost use Rattle.dds_base.specs.Checked.{check_refusal};
 ghost use Rattle.dds_base.specs.declared.code.Code.TheVariants.{Memory, OutOfResources, PreconditionNotMet};
 ghost use Rattle.dds_base.specs.Kept.{append_refusal};
@@ -23,7 +23,7 @@ ghost use Rattle.dds_core.specs.OpeningEnds.{OpensWriter};
 ghost use Rattle.dds_core.specs.Readiness.{receiver_at};
 ghost use Rattle.dds_core.specs.Sending.{AreMessages};
 ghost use Rattle.dds_core.specs.Announcing.{AreAnnouncements};
-ghost use Rattle.dds_core.specs.Standing.{WriterStands};
+ghost use Rattle.dds_core.specs.Standing.{IsShort, WriterStands};
 ghost use Rattle.dds_core.specs.Stepping.{Enters, Ticks, AllTick};
 
 use crate::answering::{Answering, Room, is_from, rooms, send_answers};
@@ -35,8 +35,8 @@ use crate::sending::{Announced, Sender, announce};
 use crate::status_bits::bit_if;
 use bitflags::Flags;
 use dds_base::{
-    Change, ChangeKind, Code, EntityId, GuidPrefix, Key, LivelinessLostStatus, Moment, PeerConfig,
-    Sn, WriterConfig,
+    Change, ChangeKind, Code, EntityId, GuidPrefix, Key, LivelinessLostStatus, MAX_VALUE, Moment,
+    Octets, PeerConfig, Sn, WriterConfig,
 };
 use dds_machine::Endpoint;
 use dds_notices::StatusMask;
@@ -50,6 +50,7 @@ use std::marker::Model;
 pub struct WriterEnd {
     entity: EntityId,
     autodispose: bool,
+    max_value: u32,
     destinations: Vec<Destination>,
     /// Its matched reliable readers, in the order of their indices in `writer`.
     readers: Vec<ReaderName>,
@@ -66,12 +67,13 @@ impl Model for WriterEnd {
     ghost view = { λ w. record {
       entity = w.entity;
       autodispose = w.autodispose;
+      max_value = w.max_value;
       destinations = w.destinations.items;
       readers = w.readers.items;
       writer = w.writer;
     } };
 
-    ghost invariant = { λ w. IsWhole w.destinations.items w.readers.items w.writer };
+    ghost invariant = { λ w. IsWhole w.max_value w.destinations.items w.readers.items w.writer };
 }
 
 impl WriterEnd {
@@ -99,6 +101,7 @@ impl WriterEnd {
         Ok(WriterEnd {
             entity: config.entity,
             autodispose: config.autodispose,
+            max_value: config.max_value,
             destinations,
             readers,
             writer,
@@ -164,6 +167,16 @@ impl WriterEnd {
         } else {
             ChangeKind::Unregister
         }
+    }
+
+    /// Whether a value has more octets than one may have here.
+    pub fn is_too_long(&self, value: &Octets) -> bool
+        ensures short { result ≡ false → IsShort self.now.max_value value.now }
+        ensures long { result ≡ true
+            → (self.now.max_value < length value.now) ⊎ (greatest_value < length value.now) }
+    {
+        let len = value.as_slice().len();
+        (self.max_value as usize) < len || MAX_VALUE < len
     }
 
     /// The strength that its next change carries (DDS 1.4, 2.2.3, OWNERSHIP_STRENGTH).
@@ -287,7 +300,7 @@ impl WriterEnd {
     ) -> Announced
         requires first { 1 ≤ number }
         requires small { number ≤ max_changes }
-        requires short { length change.now.value ≤ max_value }
+        requires short { length change.now.value ≤ greatest_value }
         ensures counted { length result.packets.items + result.unsent
             ≡ length self.now.destinations }
         ensures few { result.unsent ≤ max_peers }
@@ -321,7 +334,7 @@ impl WriterEnd {
     /// In this order, and each leaves the writer as it was: `OutOfResources` after 2^48 changes, `Timeout` where more
     /// than `max_samples` numbers would be kept, `Memory` where a growth was refused.
     pub fn append(&mut self, change: Change) -> Result<Sn, Code>
-        requires short { length change.value ≤ max_value }
+        requires short { IsShort self.old.max_value change.value }
         ensures ok { OnOk result (Enters self.old (Changed change) self.new) }
         ensures accepted { IfOk result
             (λ number. (w : Writer) (answered : EndpointOf → Option ℤ)
@@ -444,6 +457,7 @@ impl WriterEnd {
             own: prefix,
             entity: self.entity,
             reader: self.readers[row],
+            max_value: self.max_value,
         };
         send_answers(alloc, &answering, &self.writer, answers.as_slice(), sent);
         acknowledged

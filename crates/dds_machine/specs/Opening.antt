@@ -66,6 +66,7 @@ opening_writer peers w =
       lease = w.lease;
       strength = carried w.ownership w.strength;
       autodispose = w.autodispose;
+      max_value = w.max_value;
       written = [];
       matched = matched_readers w.topic 1 peers;
       readers = reliable_readers w.topic 1 peers;

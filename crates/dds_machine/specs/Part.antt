@@ -12,7 +12,7 @@ use Rattle.dds_base.specs.declared.qos.HistoryQos.TheVariants.{KeepAll}
 use Rattle.dds_base.specs.declared.qos.OwnershipQos.TheVariants.{Shared}
 use Rattle.dds_base.specs.declared.qos.ReliabilityQos.TheVariants.{Reliable}
 use Rattle.dds_base.specs.declared.qos.ReaderQos.{ReaderQos}
-use Rattle.dds_base.specs.Bounds.{usual_arrivals}
+use Rattle.dds_base.specs.Bounds.{usual_arrivals, usual_value}
 use Rattle.dds_base.specs.Written.{Written, changes_of, counts_of}
 use Rattle.dds_base.specs.Kept.{WriterHistory}
 use Rattle.dds_conditions.specs.Watched.{Watched, opened as nothing_watched}
@@ -58,14 +58,15 @@ pub record WriterProxy : Type 0 where
   pub how : Attachment
 
 -- a writer: its policy, limit and lease, the strength that it was configured with, none of a writer of shared ownership,
--- whether an unregister disposes too, what happened there, the newest first, its matched readers, what it knows of those
--- that are reliable, and its matches
+-- whether an unregister disposes too, how many octets a value has at most, what happened there, the newest first, its
+-- matched readers, what it knows of those that are reliable, and its matches
 pub record Writer : Type 0 where
   pub policy : HistoryQos
   pub max_samples : Option ℕ
   pub lease : Option ℕ
   pub strength : Option ℤ
   pub autodispose : Bool
+  pub max_value : ℕ
   pub written : List Written
   pub matched : List Endpoint
   pub readers : List ReaderProxy
@@ -120,6 +121,7 @@ no_writer = record {
   lease = None;
   strength = None;
   autodispose = false;
+  max_value = usual_value;
   written = [];
   matched = [];
   readers = [];

@@ -12,7 +12,7 @@ use Rattle.dds_base.specs.declared.change.ChangeKind.TheVariants as kind
 use Rattle.dds_base.specs.declared.code.Code.{Code}
 use Rattle.dds_base.specs.declared.code.Code.TheVariants.{BadParameter, OutOfResources, PreconditionNotMet}
 use Rattle.dds_base.specs.declared.selection.Selection.{Selection}
-use Rattle.dds_base.specs.Bounds.{max_count, max_value}
+use Rattle.dds_base.specs.Bounds.{max_count}
 use Rattle.dds_base.specs.Access.{instance_of}
 use Rattle.dds_base.specs.Kept.{append_refusal}
 use Rattle.dds_base.specs.Selection.{selection_refusal}
@@ -46,10 +46,11 @@ change_refusal part writer change = append_refusal (history_of (own_writer part 
 abbrev pub writer_refusal : Part → ℕ → Option Code
 writer_refusal part writer = if not (has_element part.rtps.writers writer) then Some BadParameter else None
 
--- why a write is refused: no such writer, a value above 1,024 octets, or as its history says
+-- why a write is refused: no such writer, a value of more octets than it may have there, or as its history says
 abbrev pub write_refusal : Part → ℕ → Key → List ℕ → Option Code
 write_refusal part writer key value =
-    if not (has_element part.rtps.writers writer) || nat_lt max_value (length value) then Some BadParameter
+    if not (has_element part.rtps.writers writer) || nat_lt (own_writer part writer).max_value (length value)
+    then Some BadParameter
     else change_refusal part writer (change_made part writer kind.Write key value)
 
 -- why a dispose is refused: no such writer, or as its history says

@@ -256,13 +256,13 @@ all_back P [] ys h = h
 all_back P (x ∷ xs) ys h = all_back P xs ys (All-tail P x (xs ++ ys) h)
 
 -- what is so of all answers is so of those in each group
-pub all_grouped : (P : Answer → Type 0) (answers : List Answer) (groups : List (List Answer))
-    → AreGrouped answers groups
+pub all_grouped : (P : Answer → Type 0) (per : ℕ) (answers : List Answer) (groups : List (List Answer))
+    → AreGrouped per answers groups
     → All P answers → All (All P) groups
-all_grouped P answers [] g h = All-nil (All P)
-all_grouped P answers (group ∷ groups) g h =
+all_grouped P per answers [] g h = All-nil (All P)
+all_grouped P per answers (group ∷ groups) g h =
     let all : All P (group ++ g.0) = subst (λ (all : List Answer). All P all) g.1 h in
-    All-cons (All P) group groups (all_front P group g.0 all) (all_grouped P g.0 groups g.5 (all_back P group g.0 all))
+    All-cons (All P) group groups (all_front P group g.0 all) (all_grouped P per g.0 groups g.5 (all_back P group g.0 all))
 
 -- what a reader asks a writer for: a number from the base of its set on, and from what it has acknowledged to the last
 abbrev pub IsAskedOf : Writer → NumberSet → ℕ → ℕ → Type 0

@@ -215,4 +215,6 @@ tellable_gained old new g h w n c is =
 
 -- and small
 pub small_gained : (old new : Part) → Gains old new → HasSmallChanges old → HasSmallChanges new
-small_gained old new g h w = subst (λ (xs : List Written). AreSmall (changes_of xs)) (sym (g.written w)) (h w)
+small_gained old new g h w =
+    subst (λ (most : ℕ). AreSmall most (writer_changes (own_writer new w))) (sym (g.grows.writers w).values)
+    (subst (λ (xs : List Written). AreSmall (own_writer old w).max_value (changes_of xs)) (sym (g.written w)) (h w))

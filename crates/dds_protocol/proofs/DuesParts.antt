@@ -77,4 +77,7 @@ tick_tellable old now reply new h all w n c at =
 pub tick_small : (old : Part) (now : ℕ) (reply : Reply) (new : Part) → TickStep old now reply new → HasSmallChanges old
     → HasSmallChanges new
 tick_small old now reply new h all w =
-    subst (λ (cs : List Change). AreSmall cs) (sym (tick_changes old now reply new h w)) (all w)
+    subst (λ (most : ℕ). AreSmall most (writer_changes (own_writer new w)))
+    (sym ((TickStep-grows old now reply new h).writers w).values)
+    (subst (λ (cs : List Change). AreSmall (own_writer old w).max_value cs) (sym (tick_changes old now reply new h w))
+    (all w))

@@ -1,6 +1,7 @@
 -- The messages that are due can be written: their numbers are small, and they are short.
 use Rattle.std.proofs.Common.{◌≡◌, ℕ, zero, suc, ◌+◌, ◌-◌, ◌*◌, ◌^◌, ◌<◌, ◌≤◌, Bool, true, false, cond, List, [], ◌∷◌, ◌++◌, Option, Some, None, length, length-append, nat_lt, refl, subst, sym, arith}
-use Rattle.std.specs.Prelude.{FitsSigned, find, if◌then◌else◌, pos, slice_get}
+use Rattle.std.specs.Prelude.{FitsSigned, find, if◌then◌else◌, nat_le, pos, slice_get}
+use Rattle.std.proofs.Math.Nat.{suc-mul}
 use Rattle.std.specs.Int.{w32}
 use Rattle.std.specs.List.{All, AllByRecursion, flat_map}
 use Rattle.std.specs.Option.{unwrap_or}
@@ -21,12 +22,14 @@ use Rattle.rtps_wire.specs.Data.{IsContent, IsData}
 use Rattle.rtps_wire.specs.Fields.{IsEntityId}
 use Rattle.rtps_wire.specs.Messages.{IsWritable}
 use Rattle.rtps_wire.specs.Sets.{IsSet}
-use Rattle.rtps_wire.specs.Submessages.{IsSpellable}
+use Rattle.rtps_wire.specs.Submessages.{IsSpellable, all_value_octets}
+use Rattle.rtps_wire.proofs.ContentLaws.{content_octets}
 use Rattle.rtps_wire.proofs.LengthLaws.{short_writable}
 use Rattle.rtps_writer.specs.declared.answer.Answer.{Answer}
 use Rattle.rtps_writer.specs.declared.answer.Answer.TheVariants.{Data as AnswersData, Gap as AnswersGap}
 use Rattle.dds_machine.specs.Part.{Writer, writer_changes, heartbeats_used, history_of}
 use Rattle.dds_protocol.specs.DueMessages.{acknack_message, answer_message, data_of, submessages_of, heartbeat_with}
+use Rattle.dds_protocol.specs.Protocol.{answers_per}
 use Rattle.dds_protocol.proofs.Growth.{change_at-within}
 
 -- a count from 1 to 2^31 - 1
@@ -120,22 +123,35 @@ abbrev pub HasSmallGap : Answer → Type 0
 HasSmallGap (AnswersData n) = Unit {0}
 HasSmallGap (AnswersGap first last) = (1 ≤ first) × (first ≤ last) × (last < 2 ^ 62)
 
--- these submessages can be written, and are no more than so many
-record AreShort (ss : List Submessage) (most : ℕ) : Type 0 where
+-- these submessages can be written, are no more than so many, and their values have no more than so many octets
+record AreShort (ss : List Submessage) (most octets : ℕ) : Type 0 where
   each : AllByRecursion IsSpellable ss
   few : length ss ≤ most
+  light : all_value_octets ss ≤ octets
 
 both_spellable : (xs ys : List Submessage) → AllByRecursion IsSpellable xs → AllByRecursion IsSpellable ys
     → AllByRecursion IsSpellable (xs ++ ys)
 both_spellable [] ys h k = k
 both_spellable (x ∷ xs) ys h k = (h.0, both_spellable xs ys h.1 k)
 
-both_short : (xs ys : List Submessage) (m n : ℕ) → AreShort xs m → AreShort ys n → AreShort (xs ++ ys) (m + n)
-both_short xs ys m n h k =
+both_octets : (xs ys : List Submessage) → all_value_octets (xs ++ ys) ≡ all_value_octets xs + all_value_octets ys
+both_octets [] ys = refl
+both_octets (x ∷ xs) ys = let rest = both_octets xs ys in omega (arith, rest)
+
+both_short : (xs ys : List Submessage) (m n k l : ℕ) → AreShort xs m k → AreShort ys n l
+    → AreShort (xs ++ ys) (m + n) (k + l)
+both_short xs ys m n k l f g =
     let all = length-append xs ys in
-    let first = h.few in
-    let second = k.few in
-    record { each = both_spellable xs ys h.each k.each; few = omega (arith, all, first, second) }
+    let first = f.few in
+    let second = g.few in
+    let octets = both_octets xs ys in
+    let light = f.light in
+    let more = g.light in
+    record {
+      each = both_spellable xs ys f.each g.each;
+      few = omega (arith, all, first, second);
+      light = omega (arith, octets, light, more);
+    }
 
 -- a number of a change is from 1 on
 positive_number : (changes : List Change) (n : ℕ) (c : Change) → change_at changes n ≡ Some c → 1 ≤ n
@@ -145,13 +161,21 @@ positive_number changes n c h = by (nat_lt 0 n) refl h
     by true e k = grind (arith, nat_tests)
     by false e k = absurd cc
 
+-- the value of no change has more than so many octets
+abbrev HaveValues : List Change → ℕ → Type 0
+HaveValues changes most = (n : ℕ) (c : Change) → change_at changes n ≡ Some c → length c.value ≤ most
+
 data_short : (reader writer : EntityId) (changes : List Change) (n : ℕ) (o : Option Change) → IsEntityId reader
     → IsEntityId writer → length changes < 2 ^ 62 → ((c : Change) → change_at changes n ≡ Some c → IsDatable c)
-    → change_at changes n ≡ o → AreShort (data_of reader writer n o) 2
-data_short reader writer changes n None of_reader of_writer few datable at = record { each = tt; few = omega arith }
-data_short reader writer changes n (Some c) of_reader of_writer few datable at =
+    → (most : ℕ) → HaveValues changes most
+    → change_at changes n ≡ o → AreShort (data_of reader writer n o) 2 most
+data_short reader writer changes n None of_reader of_writer few datable most values at =
+    record { each = tt; few = omega arith; light = omega arith }
+data_short reader writer changes n (Some c) of_reader of_writer few datable most values at =
     let d = datable c at in
     let within = change_at-within changes n c at in
+    let value = values n c at in
+    let octets = content_octets c in
     let body : DataBody = record { reader_id = reader; writer_id = writer; writer_sn = n; content = content_of c } in
     let valid : IsData body = record {
       reader = of_reader;
@@ -162,12 +186,13 @@ data_short reader writer changes n (Some c) of_reader of_writer few datable at =
     record {
       each = (d.moment, ((valid, d.content), tt));
       few = omega arith;
+      light = omega (arith, octets, value);
     }
 
 gap_short : (reader writer : EntityId) (first last : ℕ) → IsEntityId reader → IsEntityId writer
-    → (1 ≤ first) × (first ≤ last) × (last < 2 ^ 62)
-    → AreShort (submessages_of [] reader writer (AnswersGap first last)) 2
-gap_short reader writer first last of_reader of_writer h =
+    → (1 ≤ first) × (first ≤ last) × (last < 2 ^ 62) → (most : ℕ)
+    → AreShort (submessages_of [] reader writer (AnswersGap first last)) 2 most
+gap_short reader writer first last of_reader of_writer h most =
     let low = h.0 in
     let order = h.1 in
     let high = h.2 in
@@ -180,40 +205,69 @@ gap_short reader writer first last of_reader of_writer h =
         tt,
       );
       few = omega arith;
+      light = omega arith;
     }
+
+-- what stands in a message for an answer
+answer_short : (reader writer : EntityId) (changes : List Change) → IsEntityId reader → IsEntityId writer
+    → length changes < 2 ^ 62 → ((n : ℕ) (c : Change) → change_at changes n ≡ Some c → IsDatable c)
+    → (most : ℕ) → HaveValues changes most → (a : Answer) → HasSmallGap a
+    → AreShort (submessages_of changes reader writer a) 2 most
+answer_short reader writer changes of_reader of_writer few datable most values (AnswersData n) small =
+    data_short reader writer changes n (change_at changes n) of_reader of_writer few (λ c at. datable n c at) most values
+    refl
+answer_short reader writer changes of_reader of_writer few datable most values (AnswersGap first last) small =
+    gap_short reader writer first last of_reader of_writer small most
 
 answers_short : (reader writer : EntityId) (changes : List Change) → IsEntityId reader → IsEntityId writer
     → length changes < 2 ^ 62 → ((n : ℕ) (c : Change) → change_at changes n ≡ Some c → IsDatable c)
-    → (answers : List Answer) → All HasSmallGap answers
-    → AreShort (flat_map (submessages_of changes reader writer) answers) (2 * length answers)
-answers_short reader writer changes of_reader of_writer few datable [] small = record { each = tt; few = omega arith }
-answers_short reader writer changes of_reader of_writer few datable (AnswersData n ∷ rest) small =
-    let count : 2 + 2 * length rest ≡ 2 * suc (length rest) = omega arith in
-    subst (λ (m : ℕ). AreShort (data_of reader writer n (change_at changes n) ++ flat_map
-    (submessages_of changes reader writer) rest) m) count
-    (both_short (data_of reader writer n (change_at changes n))
-    (flat_map (submessages_of changes reader writer) rest) 2 (2 * length rest)
-    (data_short reader writer changes n (change_at changes n) of_reader of_writer few (λ c at. datable n c at) refl)
-    (answers_short reader writer changes of_reader of_writer few datable rest
-    (All-tail HasSmallGap (AnswersData n) rest small)))
-answers_short reader writer changes of_reader of_writer few datable (AnswersGap first last ∷ rest) small =
-    let count : 2 + 2 * length rest ≡ 2 * suc (length rest) = omega arith in
-    subst (λ (m : ℕ). AreShort (submessages_of changes reader writer (AnswersGap first last) ++ flat_map
-    (submessages_of changes reader writer) rest) m) count
-    (both_short (submessages_of changes reader writer (AnswersGap first last))
-    (flat_map (submessages_of changes reader writer) rest) 2 (2 * length rest)
-    (gap_short reader writer first last of_reader of_writer (All-head HasSmallGap (AnswersGap first last) rest small))
-    (answers_short reader writer changes of_reader of_writer few datable rest
-    (All-tail HasSmallGap (AnswersGap first last) rest small)))
+    → (most : ℕ) → HaveValues changes most → (answers : List Answer) → All HasSmallGap answers
+    → AreShort (flat_map (submessages_of changes reader writer) answers) (length answers * 2) (length answers * most)
+answers_short reader writer changes of_reader of_writer few datable most values [] small =
+    record { each = tt; few = omega arith; light = omega arith }
+answers_short reader writer changes of_reader of_writer few datable most values (a ∷ rest) small =
+    let count : 2 + length rest * 2 ≡ suc (length rest) * 2 = omega arith in
+    let next = suc-mul (length rest) most in
+    let octets : most + length rest * most ≡ suc (length rest) * most = omega (arith, next) in
+    subst (λ (m : ℕ). AreShort (submessages_of changes reader writer a ++ flat_map
+    (submessages_of changes reader writer) rest) m (suc (length rest) * most)) count
+    (subst (λ (k : ℕ). AreShort (submessages_of changes reader writer a ++ flat_map
+    (submessages_of changes reader writer) rest) (2 + length rest * 2) k) octets
+    (both_short (submessages_of changes reader writer a)
+    (flat_map (submessages_of changes reader writer) rest) 2 (length rest * 2) most (length rest * most)
+    (answer_short reader writer changes of_reader of_writer few datable most values a
+    (All-head HasSmallGap a rest small))
+    (answers_short reader writer changes of_reader of_writer few datable most values rest
+    (All-tail HasSmallGap a rest small))))
 
--- Eight answers or fewer can be written, where the changes can.
+-- As many answers as stand in a message can be written, where the changes can.
 pub answers_writable : (own to : GuidPrefix) (reader writer : EntityId) → Ends own to reader writer
     → (changes : List Change) → length changes < 2 ^ 62
     → ((n : ℕ) (c : Change) → change_at changes n ≡ Some c → IsDatable c)
-    → (answers : List Answer) → All HasSmallGap answers → length answers ≤ 8
+    → (most : ℕ) → most ≤ 65000 → ((n : ℕ) (c : Change) → change_at changes n ≡ Some c → length c.value ≤ most)
+    → (answers : List Answer) → All HasSmallGap answers → length answers ≤ answers_per most
     → IsWritable (answer_message own to reader writer changes answers)
-answers_writable own to reader writer ends changes few datable answers small eight =
-    let short = answers_short reader writer changes ends.reader_octets ends.writer_octets few datable answers small in
-    let count = short.few in
-    short_writable (answer_message own to reader writer changes answers) ends.own_octets (ends.to_octets, short.each)
-    (omega (arith, count, eight))
+answers_writable own to reader writer ends changes few datable most limited values answers small =
+    by (nat_le most 1024) refl
+  where
+    each : (bound : ℕ) → HaveValues changes bound
+        → AreShort (flat_map (submessages_of changes reader writer) answers) (length answers * 2)
+        (length answers * bound)
+    each bound within =
+        answers_short reader writer changes ends.reader_octets ends.writer_octets few datable bound within answers small
+
+    by : (b : Bool) → nat_le most 1024 ≡ b → length answers ≤ (if b then 8 else 1)
+        → IsWritable (answer_message own to reader writer changes answers)
+    by true usual eight =
+        let low : most ≤ 1024 = grind (arith, nat_tests) in
+        let short = each 1024 (λ n c at. let value = values n c at in omega (arith, value, low)) in
+        let count = short.few in
+        let light = short.light in
+        short_writable (answer_message own to reader writer changes answers) ends.own_octets (ends.to_octets, short.each)
+        (omega (arith, count, light, eight))
+    by false long one =
+        let short = each 65000 (λ n c at. let value = values n c at in omega (arith, value, limited)) in
+        let count = short.few in
+        let light = short.light in
+        short_writable (answer_message own to reader writer changes answers) ends.own_octets (ends.to_octets, short.each)
+        (omega (arith, count, light, one))

@@ -28,7 +28,7 @@ use Rattle.dds_protocol.specs.Claims.{IsReader, IsWriter, IsToReader, IsToWriter
 use Rattle.dds_protocol.specs.DueMessages.{Due, answer_message, acknack_message, acknacks_due}
 use Rattle.dds_base.specs.Matched.{is_reliable_reader}
 use Rattle.dds_protocol.proofs.Ways.{Went, goes_went}
-use Rattle.dds_protocol.specs.Protocol.{State, heard_as, TakesHeartbeat, TakesOrNot, TakesAckNack, ReaderTakes, WriterTakes, AreGrouped, answered_from, has_for}
+use Rattle.dds_protocol.specs.Protocol.{State, heard_as, TakesHeartbeat, TakesOrNot, TakesAckNack, ReaderTakes, WriterTakes, AreGrouped, answers_per, answered_from, has_for}
 use Rattle.dds_protocol.specs.Backed.{reader_at}
 use Rattle.dds_protocol.specs.Dues.{IsTellable, AreTellable, IsSized, AreSmall, HasSmallChanges, CanBeWritten}
 use Rattle.dds_protocol.proofs.DuesAnswers.{IsAskedOf, answers_of, answers_of-right, all_grouped}
@@ -144,24 +144,26 @@ gaps_small w r set from low few =
     All-weaker (IsRight (λ n. has_for w r n) (IsAskedOf w set from)) HasSmallGap
     (λ a right. gap_small w r set from low few a right) (answers_of w r set from) (answers_of-right w r set from)
 
--- no group has more than eight answers
-eight_grouped : (answers : List Answer) (groups : List (List Answer)) → AreGrouped answers groups
-    → All (λ (group : List Answer). length group ≤ 8) groups
-eight_grouped answers [] g = All-nil (λ (group : List Answer). length group ≤ 8)
-eight_grouped answers (group ∷ groups) g =
-    All-cons (λ (x : List Answer). length x ≤ 8) group groups g.3 (eight_grouped g.0 groups g.5)
+-- no group has more than so many answers
+few_grouped : (per : ℕ) (answers : List Answer) (groups : List (List Answer)) → AreGrouped per answers groups
+    → All (λ (group : List Answer). length group ≤ per) groups
+few_grouped per answers [] g = All-nil (λ (group : List Answer). length group ≤ per)
+few_grouped per answers (group ∷ groups) g =
+    All-cons (λ (x : List Answer). length x ≤ per) group groups g.3 (few_grouped per g.0 groups g.5)
 
 both_all : {X : Type 0} (P Q : X → Type 0) (xs : List X) → All P xs → All Q xs → All (λ x. P x × Q x) xs
 both_all P Q xs p q = λ i d lt. (p i d lt, q i d lt)
 
 -- a change that can be told, and is small
-datable : (w : Writer) → AreSmall (writer_changes w)
+datable : (w : Writer) → AreSmall w.max_value (writer_changes w)
     → ((n : ℕ) (c : Change) → change_at (writer_changes w) n ≡ Some c → IsTellable c) → (n : ℕ) (c : Change)
     → change_at (writer_changes w) n ≡ Some c → IsDatable c
 datable w small tellable n c at =
     let early = (tellable n c at).early in
+    let value = small.value n c at in
+    let most = small.limited in
     record {
-      content = content_valid c.kind c.key c.value c.strength (small.key n c at) (small.value n c at)
+      content = content_valid c.kind c.key c.value c.strength (small.key n c at) (omega (arith, value, most))
           (small.strength n c at);
       moment = omega
           (arith, early);
@@ -185,14 +187,17 @@ acknack_answers_written c a w r is low old made dues new sized tellable small k 
     } in
     let same : writer_changes k.there ≡ writer_changes (own_writer old.part w) =
     ap (λ (y : Writer). writer_changes y) k.there_is in
-    let changes : AreSmall (writer_changes k.there) = subst (λ (cs : List Change). AreSmall cs) (sym same) (small w) in
+    let values : k.there.max_value ≡ (own_writer old.part w).max_value = ap (λ (y : Writer). y.max_value) k.there_is in
+    let changes : AreSmall k.there.max_value (writer_changes k.there) =
+    subst (λ (most : ℕ). AreSmall most (writer_changes k.there)) (sym values)
+    (subst (λ (cs : List Change). AreSmall (own_writer old.part w).max_value cs) (sym same) (small w)) in
     let told : (n : ℕ) (x : Change) → change_at (writer_changes k.there) n ≡ Some x → IsDatable x =
     datable k.there changes (λ n x at. tellable w n x (ap (λ (cs : List Change). change_at cs n) (sym same) ∙ at)) in
     let gaps =
-    all_grouped HasSmallGap _ k.groups k.grouped (gaps_small k.there r a.reader_sn_state from low changes.few) in
+    all_grouped HasSmallGap _ _ k.groups k.grouped (gaps_small k.there r a.reader_sn_state from low changes.few) in
     let each =
-    both_all (All HasSmallGap) (λ (group : List Answer). length group ≤ 8) k.groups gaps
-    (eight_grouped _ k.groups k.grouped) in
+    both_all (All HasSmallGap) (λ (group : List Answer). length group ≤ answers_per k.there.max_value) k.groups gaps
+    (few_grouped _ _ k.groups k.grouped) in
     let message : List Answer → Due =
     λ group. record {
       to = r.peer;
@@ -201,10 +206,11 @@ acknack_answers_written c a w r is low old made dues new sized tellable small k 
     } in
     subst (λ (ds : List Due). All CanBeWritten ds) (sym k.dues_are)
     (All-map CanBeWritten message k.groups
-    (All-weaker (λ (group : List Answer). All HasSmallGap group × (length group ≤ 8))
+    (All-weaker (λ (group : List Answer). All HasSmallGap group × (length group ≤ answers_per k.there.max_value))
     (λ (group : List Answer). CanBeWritten (message group))
     (λ group h places. answers_writable c.own c.at.source_guid_prefix is.entity a.writer_id ends
-    (writer_changes k.there) changes.few told group h.0 h.1) k.groups each))
+    (writer_changes k.there) changes.few told k.there.max_value changes.limited (λ n x at. changes.value n x at) group h.0
+    h.1) k.groups each))
 
 -- what is due once a writer took an ACKNACK up can be written
 pub writer_written : (c : Coming) (a : AckNackBody) → 1 ≤ a.reader_sn_state.base

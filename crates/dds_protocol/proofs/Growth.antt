@@ -32,6 +32,7 @@ use Rattle.dds_machine.proofs.Tables.{numbered-cases, numbered-map-cases, append
 
 pub record WriterGrows (old new : Writer) : Type 0 where
   pub policy : new.policy ≡ old.policy
+  pub values : new.max_value ≡ old.max_value
   pub matched : new.matched ≡ old.matched
   pub more : List Written
   pub written : new.written ≡ more ++ old.written
@@ -43,11 +44,19 @@ pub record Grows (old new : Rtps) : Type 0 where
       → NoLess (place_of (numbered old.readers r []) w) (place_of (numbered new.readers r []) w)
 
 pub writer_same : (w : Writer) → WriterGrows w w
-writer_same w = record { policy = refl; matched = refl; more = []; written = refl; owed = λ r. omega arith }
+writer_same w = record {
+  policy = refl;
+  values = refl;
+  matched = refl;
+  more = [];
+  written = refl;
+  owed = λ r. omega arith;
+}
 
 pub writer_on : (a b c : Writer) → WriterGrows a b → WriterGrows b c → WriterGrows a c
 writer_on a b c f g = record {
   policy = g.policy ∙ f.policy;
+  values = g.values ∙ f.values;
   matched = g.matched ∙ f.matched;
   more = g.more ++ f.more;
   written =
@@ -132,6 +141,7 @@ IsMove-grows g old (Acknowledged w r to) new h =
     let after : Writer = record before { readers = with_acknowledged before.readers r to } in
     subst (λ (q : Part). Grows old.rtps q.rtps) (sym h.after) (set_writer-grows old.rtps w after (record {
       policy = refl;
+      values = refl;
       matched = refl;
       more = [];
       written = refl;
@@ -157,6 +167,7 @@ DeliveryStep-grows g old reply new h = absurd h
 pub entered-grows : (w : Writer) (entry : Written) → WriterGrows w (with_written w entry)
 entered-grows w entry = record {
   policy = refl;
+  values = refl;
   matched = refl;
   more = entry ∷ [];
   written = refl;

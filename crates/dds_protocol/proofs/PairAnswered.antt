@@ -175,12 +175,12 @@ takes_both : (m : Match) (xs ys : List Answer) (old mid new : Standing) → Take
 takes_both m [] ys old mid new f g = subst (λ (s : Standing). TakesAnswers m ys s new) f g
 takes_both m (x ∷ xs) ys old mid new f g = (f.0, f.1, takes_both m xs ys f.0 mid new f.2 g)
 
-pub ungrouped : (m : Match) (answers : List Answer) (groups : List (List Answer)) (old new : Standing)
-    → AreGrouped answers groups → TakesGroups m groups old new → TakesAnswers m answers old new
-ungrouped m answers [] old new are h = subst (λ (as' : List Answer). TakesAnswers m as' old new) (sym are) h
-ungrouped m answers (g ∷ gs) old new are h =
+pub ungrouped : (m : Match) (per : ℕ) (answers : List Answer) (groups : List (List Answer)) (old new : Standing)
+    → AreGrouped per answers groups → TakesGroups m groups old new → TakesAnswers m answers old new
+ungrouped m per answers [] old new are h = subst (λ (as' : List Answer). TakesAnswers m as' old new) (sym are) h
+ungrouped m per answers (g ∷ gs) old new are h =
     subst (λ (as' : List Answer). TakesAnswers m as' old new) (sym are.1)
-    (takes_both m g are.0 old h.0 new h.1 (ungrouped m are.0 gs h.0 new are.5 h.2))
+    (takes_both m g are.0 old h.0 new h.1 (ungrouped m per are.0 gs h.0 new are.5 h.2))
 
 -- what answers leave, and what they do to the reader
 pub record Repaired (p : Pairing) (m : Match) (groups : List (List Answer)) (old new : WorldState) : Type 0 where

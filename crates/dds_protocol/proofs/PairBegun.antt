@@ -33,7 +33,7 @@ use Rattle.dds_protocol.proofs.PairAsked.{has_writer}
 use Rattle.dds_protocol.proofs.PairHeard.{Pairing, reader_host, there, Heard, hears_beat, delivered_others, stays_sound}
 use Rattle.dds_protocol.proofs.PairReader.{standing_of, Seat, HearsBy}
 use Rattle.dds_protocol.proofs.EndsBeside.{ended_sound, world_bounded}
-use Rattle.dds_protocol.proofs.PairEnded.{changes_ended, known_ended, leaves_ended, rows_ended, seat_ended, standing_ended}
+use Rattle.dds_protocol.proofs.PairEnded.{changes_ended, values_ended, known_ended, leaves_ended, rows_ended, seat_ended, standing_ended}
 use Rattle.dds_protocol.proofs.PairTicked.{ticks_there, new_count, beat_of, beat_message, BeatPacket, beat_packet, TickLeaves, tick_leaves}
 
 -- the beginning of a round, and what it rests on
@@ -285,6 +285,13 @@ changes_heard c =
     c.writer.number
     ∙ (ap (λ (ws : List Writer). writer_changes (numbered ws c.writer.number no_writer)) (same_writers c)
     ∙ (left c c.writer.peer).changes c.writer.number)
+
+pub values_heard : (c : Begun) → (writer_heard c).max_value ≡ (the_writer c).max_value
+values_heard c =
+    values_ended (noted_tick c) (world.Deliver c.reader.peer c.begins.hears.number) c.heard c.writer.peer
+    c.writer.number
+    ∙ (ap (λ (ws : List Writer). (numbered ws c.writer.number no_writer).max_value) (same_writers c)
+    ∙ (left c c.writer.peer).values c.writer.number)
 
 -- the reader at the end of it
 pub seat_noted : (c : Begun) → Seat (match c) c.writer c.reader.number (state_of (peer_at (noted_beat c) c.reader.peer))

@@ -37,6 +37,7 @@ use Rattle.dds_protocol.proofs.DuesAnswers.{all_grouped}
 use Rattle.dds_protocol.proofs.Framing.{number_or_not}
 use Rattle.dds_protocol.proofs.FreshCounts.{sent_written}
 use Rattle.dds_protocol.proofs.PairAnswered.{asking, took_acknowledged, took_seat, took_standing, answers_of, have_changes, all_answered, post, all_sent, each_writable, ungrouped, group_due, Repaired, answers_delivered}
+use Rattle.dds_protocol.specs.Repair.{packets_for}
 use Rattle.dds_protocol.proofs.PairFew.{few_groups}
 use Rattle.dds_protocol.proofs.Owing.{owed_acknowledged, owed_same}
 use Rattle.dds_base.specs.Counts.{is_later}
@@ -50,7 +51,7 @@ use Rattle.dds_machine.proofs.Tables.{acknowledged-hits}
 use Rattle.dds_machine.specs.declared.event.WorldEvent.{WorldEvent}
 use Rattle.dds_protocol.specs.Noticing.{world_ended}
 use Rattle.dds_protocol.proofs.PairEnded.{rows_ended, seat_ended, standing_ended}
-use Rattle.dds_protocol.proofs.PairBegun.{rows_heard, the_writer, noted_beat, noted_tick, seat_noted, standing_noted, Begun, the_begun, HasRow, writer_is, place_is, pairing, body, ticked_reader, match, knows_place, heard_reader, hears, heard_of, the_last, goes, forward, acknacks, heard_writer, same_answered, writer_heard, row_heard, changes_heard, place_heard, packet}
+use Rattle.dds_protocol.proofs.PairBegun.{rows_heard, the_writer, noted_beat, noted_tick, seat_noted, standing_noted, Begun, the_begun, HasRow, writer_is, place_is, pairing, body, ticked_reader, match, knows_place, heard_reader, hears, heard_of, the_last, goes, forward, acknacks, heard_writer, same_answered, writer_heard, row_heard, changes_heard, values_heard, place_heard, packet}
 
 -- a round, but for its answers
 record AskedRound : Type 0 where
@@ -289,7 +290,7 @@ repaired c =
     (entity_of c.given) c.given.first.pair.reader_entity c.given.first.reader
     (took c.given).is.from c.given.first.pair.is_reader)
     (writer_changes (there_after c.given)) (took c.given).takes.groups (all_writable c.given)
-    (all_grouped (HasChange (writer_changes (there_after c.given))) (the_answers c.given) (took c.given).takes.groups
+    (all_grouped (HasChange (writer_changes (there_after c.given))) _ (the_answers c.given) (took c.given).takes.groups
     (took c.given).takes.grouped
     (have_changes (there_after c.given) c.given.first.reader
     (requested (asked c.given).x.missing (asked_from c.given)
@@ -314,7 +315,7 @@ takes_all c =
     (standing_ended (noted_beat c.given.first)
     (ask_event c.given) c.given.after_ask c.given.first.reader.peer c.given.first.writer c.given.first.reader.number
     ∙ (standing_asked c.given ∙ told c.given))
-    (ungrouped (match c.given.first) (the_answers c.given) (took c.given).takes.groups
+    (ungrouped (match c.given.first) _ (the_answers c.given) (took c.given).takes.groups
     (standing_of (state_of (peer_at (noted_ask c.given) c.given.first.reader.peer)) c.given.first.writer
     c.given.first.reader.number) (standing_of (new_reader c) c.given.first.writer c.given.first.reader.number)
     (took c.given).takes.grouped (repaired c).takes)
@@ -416,12 +417,23 @@ round_catches_up c = record {
         ≡ the_last c.given.first
     last_is = ap (λ (w : Writer). length (writer_changes w)) (writer_is c.given.first.old c.given.first.writer)
 
--- the answers go in 32 packets at most
-few_packets : (c : AskedRound) → length c.answers.step.packets ≤ 32
+-- the writer's values may be as long as before
+values_there : (c : AskedRound) → (there_after c).max_value
+    ≡ (writer_at (machine_of c.first.old) c.first.writer).max_value
+values_there c =
+    ap (λ (w : Writer). w.max_value) (took c).takes.there_is
+    ∙ (values_heard c.first ∙ sym (ap (λ (w : Writer). w.max_value) (writer_is c.first.old c.first.writer)))
+
+-- the answers go in so many packets at most
+few_packets : (c : AskedRound)
+    → length c.answers.step.packets ≤ packets_for (writer_at (machine_of c.first.old) c.first.writer).max_value
 few_packets c =
-    let few =
-    few_groups (has_for (there_after c) c.first.reader) (asked c).x.missing (asked_from c)
-    (length (writer_changes (there_after c))) (took c).takes.groups (took c).takes.grouped in
+    let few : length (took c).takes.groups
+    ≤ packets_for (writer_at (machine_of c.first.old) c.first.writer).max_value =
+    subst (λ (most : ℕ). length (took c).takes.groups ≤ packets_for most) (values_there c)
+    (few_groups (there_after c).max_value (has_for (there_after c) c.first.reader) (asked c).x.missing (asked_from c)
+    (length (writer_changes (there_after c))) (took c).takes.groups
+    (took c).takes.grouped) in
     let sent = ap (λ (ps : List Packet). length ps) (sent_all c) in
     let posts = length-map (dues_of c) post in
     let dues =
@@ -463,7 +475,8 @@ pair_catches_up config tests writer reader place acknowledged old new checked so
 pub answers_are_few : (config : Config) (tests : AllTests) (writer reader : Endpoint) (place acknowledged : ℕ)
     (old after : WorldState) → check_refusal config.peers ≡ None → Sound config old → HasUsedCounts config old
     → IsBounded (machine_of old) → IsPair config writer reader → StandsAt old writer reader place acknowledged
-    → (asks : AsksInRound config tests writer reader old after) → length asks.answers.step.packets ≤ 32
+    → (asks : AsksInRound config tests writer reader old after)
+    → length asks.answers.step.packets ≤ packets_for (writer_at (machine_of old) writer).max_value
 unfolding the_asked
 answers_are_few config tests writer reader place acknowledged old after checked sound used bounded pair stands asks =
     few_packets

@@ -33,6 +33,11 @@ module _ (before : WorldState) (e : WorldEvent) (world : WorldState) (p : ℕ) w
       ≡ writer_changes (own_writer (peer_at world p).part k)
   changes_ended k = (alike.writers k).changes
 
+  -- how long its values may be
+  pub values_ended : (k : ℕ) → (own_writer (peer_at (world_ended before e world) p).part k).max_value
+      ≡ (own_writer (peer_at world p).part k).max_value
+  values_ended k = (alike.writers k).grows.values
+
   -- what a tick leaves
   pub leaves_ended : (old : WorldState) → TickLeaves old world p → TickLeaves old (world_ended before e world) p
   leaves_ended old left = record {
@@ -41,6 +46,7 @@ module _ (before : WorldState) (e : WorldEvent) (world : WorldState) (p : ℕ) w
     readers = alike.readers ∙ left.readers;
     changes = λ k. changes_ended k ∙ left.changes k;
     acknowledged = λ k. rows_ended k ∙ left.acknowledged k;
+    values = λ k. values_ended k ∙ left.values k;
   }
 
   -- the reader of a round

@@ -33,7 +33,7 @@ use Rattle.dds_protocol.proofs.DuesHeartbeats.{beat_body, of_all}
 use Rattle.dds_protocol.proofs.DuesMatched.{own_name}
 use Rattle.dds_protocol.proofs.DuesParts.{tick_changes}
 use Rattle.dds_protocol.proofs.FreshCounts.{IsWrittenOf, sent_written, known_of}
-use Rattle.dds_protocol.proofs.Growth.{TickStep-rows, TickStep-readers, TickStep-acknowledged}
+use Rattle.dds_protocol.proofs.Growth.{TickStep-grows, TickStep-rows, TickStep-readers, TickStep-acknowledged}
 use Rattle.dds_protocol.proofs.OwnGuids.{one_writer}
 use Rattle.dds_machine.proofs.Tables.{numbered-cases}
 
@@ -118,6 +118,7 @@ pub record TickLeaves (old new : WorldState) (p : ℕ) : Type 0 where
   pub changes : (k : ℕ) → writer_changes (own_writer (peer_at new p).part k)
       ≡ writer_changes (own_writer (peer_at old p).part k)
   pub acknowledged : (k : ℕ) → (own_writer (peer_at new p).part k).readers ≡ (own_writer (peer_at old p).part k).readers
+  pub values : (k : ℕ) → (own_writer (peer_at new p).part k).max_value ≡ (own_writer (peer_at old p).part k).max_value
 
 leaves_all : (old new : WorldState) (p : ℕ) → peer_at new p ≡ peer_at old p → TickLeaves old new p
 leaves_all old new p same = record {
@@ -126,6 +127,7 @@ leaves_all old new p same = record {
   readers = ap (λ (x : Peer). length x.part.dds.readers) same;
   changes = λ k. ap (λ (x : Peer). writer_changes (own_writer x.part k)) same;
   acknowledged = λ k. ap (λ (x : Peer). (own_writer x.part k).readers) same;
+  values = λ k. ap (λ (x : Peer). (own_writer x.part k).max_value) same;
 }
 
 steps_leave : (config : Config) (tests : AllTests) (old : WorldState) (peer now : ℕ) (new : WorldState)
@@ -148,6 +150,9 @@ steps_leave config tests old peer now new h p (inr s) =
       acknowledged =
           λ k. ap (λ (x : Peer). (own_writer x.part k).readers) s.1
           ∙ TickStep-acknowledged (peer_at old p).part now Done h.after.part step k;
+      values =
+          λ k. ap (λ (x : Peer). (own_writer x.part k).max_value) s.1
+          ∙ ((TickStep-grows (peer_at old p).part now Done h.after.part step).writers k).values;
     }
 
 pub tick_leaves : (config : Config) (tests : AllTests) (old : WorldState) (peer now : ℕ) (new : WorldState)

@@ -5,6 +5,7 @@ use Rattle.std.specs.Prelude.{ℤ, slice_index}
 use Rattle.dds_base.specs.declared.change.Change.{Change}
 use Rattle.dds_base.specs.declared.config.Config.{Config}
 use Rattle.dds_base.specs.declared.config.PeerConfig.{PeerConfig}
+use Rattle.dds_base.specs.Bounds.{usual_value}
 use Rattle.dds_base.specs.declared.happening.Happening.{Happening}
 use Rattle.dds_base.specs.declared.happening.Happening.TheVariants.{Came, Passed}
 use Rattle.dds_base.specs.declared.qos.HistoryQos.{HistoryQos}
@@ -44,6 +45,7 @@ writing policy max_samples happened acknowledged =
       lease = None;
       strength = None;
       autodispose = true;
+      max_value = usual_value;
       written = happened;
       matched = r1 ∷ [];
       readers = record { reader = r1; first = 1; acknowledged = acknowledged } ∷ [];

@@ -12,7 +12,7 @@ use Rattle.dds_base.specs.declared.qos.HistoryQos.{HistoryQos}
 use Rattle.dds_base.specs.declared.qos.HistoryQos.TheVariants.{KeepAll}
 use Rattle.dds_base.specs.declared.qos.OwnershipQos.TheVariants.{Shared}
 use Rattle.dds_base.specs.declared.qos.ReliabilityQos.TheVariants.{Reliable}
-use Rattle.dds_base.specs.Bounds.{usual_arrivals}
+use Rattle.dds_base.specs.Bounds.{usual_arrivals, usual_value}
 use Rattle.rtps_wire.specs.declared.data.Data.{Data as DataBody}
 use Rattle.rtps_wire.specs.declared.submessage.Submessage.TheVariants.{Pad, InfoDst, InfoTs, Data}
 use Rattle.dds_machine.specs.declared.endpoint.Endpoint.{Endpoint}
@@ -47,6 +47,7 @@ writer history =
       strength = pos 0;
       lease = None;
       autodispose = true;
+      max_value = usual_value;
     }
 
 abbrev pub reader : EntityId → ℕ → ReaderConfig
@@ -61,6 +62,7 @@ reader entity topic =
       max_instances = negsuc 0;
       max_arrivals = usual_arrivals;
       lease = None;
+      max_value = usual_value;
     }
 
 abbrev pub peer_1 : PeerConfig

@@ -9,7 +9,7 @@ use Rattle.dds_base.specs.declared.config.Config.{Config}
 use Rattle.dds_base.specs.declared.config.PeerConfig.{PeerConfig}
 use Rattle.dds_base.specs.declared.config.ReaderConfig.{ReaderConfig}
 use Rattle.dds_base.specs.declared.config.WriterConfig.{WriterConfig}
-use Rattle.dds_base.specs.Bounds.{end_of_moments, key_octets, max_sn, max_value, window_width}
+use Rattle.dds_base.specs.Bounds.{end_of_moments, greatest_value, key_octets, max_sn, window_width}
 use Rattle.dds_base.specs.Kept.{change_at}
 use Rattle.dds_base.specs.Matched.{of_reliable_readers}
 use Rattle.rtps_wire.specs.declared.submessage.Submessage.{Submessage}
@@ -64,17 +64,19 @@ pub record IsSized (config : Config) : Type 0 where
   pub reader : (n k : ℕ) (p : PeerConfig) (r : ReaderConfig) → IsNumbered config.peers n p
       → IsNumbered p.readers k r → IsEntityId r.entity
 
--- there are fewer than 2^62 changes, each with a key of 16 octets, a value of at most 1,024, and a strength of 32 bits
--- where it has one
-pub record AreSmall (changes : List Change) : Type 0 where
+-- there are fewer than 2^62 changes, each with a key of 16 octets, a value of at most so many, which is at most 65,000,
+-- and a strength of 32 bits where it has one
+pub record AreSmall (most : ℕ) (changes : List Change) : Type 0 where
+  pub limited : most ≤ greatest_value
   pub few : length changes < max_sn
   pub key : (number : ℕ) (change : Change) → change_at changes number ≡ Some change → length change.key.0 ≡ key_octets
-  pub value : (number : ℕ) (change : Change) → change_at changes number ≡ Some change → length change.value ≤ max_value
+  pub value : (number : ℕ) (change : Change) → change_at changes number ≡ Some change → length change.value ≤ most
   pub strength : (number : ℕ) (change : Change) → change_at changes number ≡ Some change → IsStrength change.strength
 
 -- so are the changes of each of the peer's writers
 abbrev pub HasSmallChanges : Part → Type 0
-HasSmallChanges part = (writer : ℕ) → AreSmall (writer_changes (own_writer part writer))
+HasSmallChanges part = (writer : ℕ)
+    → AreSmall (own_writer part writer).max_value (writer_changes (own_writer part writer))
 
 -- the set of an ACKNACK has its 256 places
 abbrev pub HasPlaces : Submessage → Type 0

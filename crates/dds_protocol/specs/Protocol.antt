@@ -9,6 +9,7 @@ use Rattle.dds_base.specs.declared.guid.GuidPrefix.{GuidPrefix}
 use Rattle.dds_base.specs.declared.happening.Happening.{Happening}
 use Rattle.dds_base.specs.declared.happening.Happening.TheVariants.{Heard as WasHeard}
 use Rattle.dds_base.specs.declared.happening.PassedRun.{PassedRun}
+use Rattle.dds_base.specs.Bounds.{usual_value}
 use Rattle.dds_base.specs.Kept.{numbers_from, is_kept}
 use Rattle.dds_base.specs.Matched.{is_reliable, is_reliable_reader}
 use Rattle.dds_base.specs.Places.{Match}
@@ -192,12 +193,17 @@ ReaderTakes config own peer at (Heartbeat h) reader old moves dues new =
     (Idles old moves dues new)
 ReaderTakes config own peer at submessage reader old moves dues new = Idles old moves dues new
 
--- the answers in order, eight in each group but the last, which has no more than that
-abbrev pub AreGrouped : List Answer → List (List Answer) → Type 0
-AreGrouped answers [] = answers ≡ []
-AreGrouped answers (group ∷ groups) =
-    (rest : List Answer) × (answers ≡ group ++ rest) × (1 ≤ length group) × (length group ≤ 8)
-    × (rest ≢ [] → length group ≡ 8) × AreGrouped rest groups
+-- how many answers stand in a message of a writer whose values have at most so many octets: eight where that is no more
+-- than usual, else one
+abbrev pub answers_per : ℕ → ℕ
+answers_per most = if nat_le most usual_value then 8 else 1
+
+-- the answers in order, so many in each group but the last, which has no more than that
+abbrev pub AreGrouped : ℕ → List Answer → List (List Answer) → Type 0
+AreGrouped per answers [] = answers ≡ []
+AreGrouped per answers (group ∷ groups) =
+    (rest : List Answer) × (answers ≡ group ++ rest) × (1 ≤ length group) × (length group ≤ per)
+    × (rest ≢ [] → length group ≡ per) × AreGrouped per rest groups
 
 -- a writer's matched readers, of which one has acknowledged all numbers below this one, and does not go back
 abbrev pub acknowledging : Writer → Endpoint → ℕ → Writer
@@ -226,7 +232,7 @@ pub record TakesAckNack (own : GuidPrefix) (at : Receiver) (old : State) (writer
   pub there : Writer
   pub there_is : there ≡ acknowledging (own_writer old.part writer) reader (max acknowledged a.reader_sn_state.base)
   pub groups : List (List Answer)
-  pub grouped : AreGrouped
+  pub grouped : AreGrouped (answers_per there.max_value)
       (answers_to (has_for there reader)
       (requested a.reader_sn_state (answered_from (owed_from there reader) acknowledged a.reader_sn_state.base)
       (length (writer_changes there)))) groups

@@ -2,11 +2,11 @@
 -- HEARTBEAT, the reader's ACKNACK, and the answers to that, each delivered once. After it the reader has caught up.
 --
 -- RTPS 2.5, 8.4.9 (reliable StatefulWriter), 8.4.12 (reliable StatefulReader).
-use Rattle.std.specs.Prelude.{◌≡◌, ◌⊎◌, ℕ, ◌+◌, ◌-◌, ◌<◌, ◌≤◌, min, true, false, List, [], ◌∷◌, length, slice_get, None, Some, ℤ, Contains}
+use Rattle.std.specs.Prelude.{◌≡◌, ◌⊎◌, ℕ, ◌+◌, ◌-◌, ◌<◌, ◌≤◌, if◌then◌else◌, min, nat_le, true, false, List, [], ◌∷◌, length, slice_get, None, Some, ℤ, Contains}
 use Rattle.dds_base.specs.declared.change.Change.{Change}
 use Rattle.dds_base.specs.declared.config.Config.{Config}
 use Rattle.dds_base.specs.declared.guid.EntityId.{EntityId}
-use Rattle.dds_base.specs.Bounds.{max_count, max_sn, window_width}
+use Rattle.dds_base.specs.Bounds.{max_count, max_sn, usual_value, window_width}
 use Rattle.dds_base.specs.Checked.{check_refusal}
 use Rattle.dds_base.specs.Matched.{is_reliable_reader}
 use Rattle.dds_base.specs.Places.{coming}
@@ -180,9 +180,15 @@ AsksAreSent = (config : Config) (tests : AllTests) (writer reader : Endpoint) (p
     → (begins : BeginsRound config tests writer reader old heard) → begins.lost_asks ≡ 0
     → HasAskOf config writer reader begins.hears.step.packets
 
--- the answers of a round go in 32 packets at most
+-- so many packets are enough for the answers of a writer whose values have at most so many octets: 32 where that is no
+-- more than usual
+abbrev pub packets_for : ℕ → ℕ
+packets_for most = if nat_le most usual_value then 32 else 256
+
+-- the answers of a round go in no more packets than are enough for the writer
 abbrev pub AnswersAreFew : Type 0
 AnswersAreFew = (config : Config) (tests : AllTests) (writer reader : Endpoint) (place acknowledged : ℕ)
     (old asked : WorldState) → check_refusal config.peers ≡ None → Sound config old → HasUsedCounts config old
     → IsBounded (machine_of old) → IsPair config writer reader → StandsAt old writer reader place acknowledged
-    → (asks : AsksInRound config tests writer reader old asked) → length asks.answers.step.packets ≤ 32
+    → (asks : AsksInRound config tests writer reader old asked)
+    → length asks.answers.step.packets ≤ packets_for (writer_at (machine_of old) writer).max_value

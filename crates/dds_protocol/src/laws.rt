@@ -177,6 +177,6 @@ pub fn pair_catches_up()
     ensures beat { BeatsAreSent }
     // The reader answers that with an ACKNACK.
     ensures ask { AsksAreSent }
-    // The answers to that go in 32 packets at most.
+    // The answers to that go in 32 packets at most, or in 256 where values may be longer than usual.
     ensures answers { AnswersAreFew }
 {}

@@ -1,5 +1,5 @@
 -- What a DATA says of a change means that change, and can be written.
-use Rattle.std.proofs.Common.{◌≡◌, ℕ, ℤ, ◌≤◌, List, [], length, Option, refl}
+use Rattle.std.proofs.Common.{◌≡◌, ℕ, ℤ, ◌≤◌, List, [], length, Option, refl, arith}
 use Rattle.std.specs.Prelude.{◌≢◌}
 use Rattle.dds_base.specs.declared.change.Change.{Change}
 use Rattle.dds_base.specs.declared.change.ChangeKind.{ChangeKind}
@@ -10,9 +10,10 @@ use Rattle.rtps_wire.specs.declared.data.ChangeBody.TheVariants.{Write, Dispose,
 use Rattle.rtps_wire.specs.declared.data.DataContent.{DataContent}
 use Rattle.rtps_wire.specs.Content.{body_with, content_of, change_with, change_in, IsEmptyUnlessWrite}
 use Rattle.rtps_wire.specs.Data.{IsBody, IsStrength, IsContent}
+use Rattle.rtps_wire.specs.Submessages.{octets_of_change}
 
 body_valid : (k : ChangeKind) (key : Key) (value : List ℕ)
-    → length key.0 ≡ 16 → length value ≤ 1024 → IsBody (body_with k key value)
+    → length key.0 ≡ 16 → length value ≤ 65000 → IsBody (body_with k key value)
 body_valid kind.Write key value of_key short = record { key = of_key; value = short }
 body_valid kind.Dispose key value of_key short = of_key
 body_valid kind.Unregister key value of_key short = of_key
@@ -20,10 +21,20 @@ body_valid kind.DisposeUnregister key value of_key short = of_key
 
 -- what a DATA says of a change can be written
 pub content_valid : (k : ChangeKind) (key : Key) (value : List ℕ) (strength : Option ℤ)
-    → length key.0 ≡ 16 → length value ≤ 1024 → IsStrength strength
+    → length key.0 ≡ 16 → length value ≤ 65000 → IsStrength strength
     → IsContent (record { body = body_with k key value; strength = strength })
 content_valid k key value strength of_key short fits =
     record { body = body_valid k key value of_key short; strength = fits }
+
+octets_with : (k : ChangeKind) (key : Key) (value : List ℕ) → octets_of_change (body_with k key value) ≤ length value
+octets_with kind.Write key value = omega arith
+octets_with kind.Dispose key value = omega arith
+octets_with kind.Unregister key value = omega arith
+octets_with kind.DisposeUnregister key value = omega arith
+
+-- it has the value's octets at most
+pub content_octets : (c : Change) → octets_of_change (content_of c).body ≤ length c.value
+content_octets c = octets_with c.kind c.key c.value
 
 -- what a DATA says of a change of this kind means the change
 change_again : (k : ChangeKind) (key : Key) (value : List ℕ) (moment : ℕ) (strength : Option ℤ)

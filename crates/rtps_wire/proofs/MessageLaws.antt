@@ -80,7 +80,7 @@ reading bytes octets = within (length bytes) bytes octets (omega arith)
     within (suc n) bytes octets few =
         read_from bytes (frame_at bytes) octets refl (λ rest all fewer. within n rest all (omega arith))
 
-pub header_found : (bytes : List ℕ) (x : GuidPrefix × List ℕ) → AreOctets bytes → length bytes ≤ 65535
+pub header_found : (bytes : List ℕ) (x : GuidPrefix × List ℕ) → AreOctets bytes → length bytes ≤ 65507
     → header_at bytes ≡ Some x → HasHeader bytes x.0 x.1
 unfolding header_at
 header_found (r ∷ t ∷ p ∷ s ∷ major ∷ minor ∷ v ∷ w ∷ rest) x octets short e =

@@ -366,7 +366,7 @@ body_le s = omega (arith, length-append (number (order_of (flags_of s)) w16 (len
 -- ---- messages
 
 spelled_all : (ss : List Submessage) → AllByRecursion IsSpellable ss
-    → length (flat_map spelling_of_submessage ss) ≤ 65535
+    → length (flat_map spelling_of_submessage ss) ≤ 65507
     → ReadsAll (flat_map spelling_of_submessage ss) ss []
 spelled_all [] valid short = (inl (omega arith), refl)
 spelled_all (s ∷ ss) valid short =
@@ -428,13 +428,13 @@ front_le (x ∷ ss) (suc i) s lt e =
 
 pub front_short : (m : Message) (i : ℕ) (s : Submessage) → i < length m.submessages → s ≡ get_or m.submessages i s
     → IsWritable m
-    → 20 + length (flat_map spelling_of_submessage (take i m.submessages)) + length (spelling_of_submessage s) ≤ 65535
+    → 20 + length (flat_map spelling_of_submessage (take i m.submessages)) + length (spelling_of_submessage s) ≤ 65507
 front_short m i s lt e w =
     let all = length-append (header_text 5 (0 ∷ 0 ∷ []) m.prefix) (flat_map spelling_of_submessage m.submessages) in
     let header = header_length 5 (0 ∷ 0 ∷ []) m.prefix refl w.prefix in
     omega (arith, w.short, front_le m.submessages i s lt e)
 
 pub too_long : (m : Message) (i : ℕ) (s : Submessage) → i < length m.submessages → s ≡ get_or m.submessages i s
-    → 65535 < 20 + length (flat_map spelling_of_submessage (take i m.submessages)) + length (spelling_of_submessage s)
+    → 65507 < 20 + length (flat_map spelling_of_submessage (take i m.submessages)) + length (spelling_of_submessage s)
     → IsWritable m → ⊥
 too_long m i s lt e past w = omega (arith, past, front_short m i s lt e w)

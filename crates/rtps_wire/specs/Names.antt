@@ -159,4 +159,4 @@ max_bits = window_width
 
 -- the longest message, in octets: one is a UDP datagram (9.5), and none over IPv4 is longer
 abbrev pub max_message : ℕ
-max_message = 65535
+max_message = 65507

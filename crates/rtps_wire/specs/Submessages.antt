@@ -1,5 +1,8 @@
 -- Submessages by cases: id, flags, body, and when each is valid (RTPS 2.5, 8.3.4 and 9.4.5).
-use Rattle.std.specs.Prelude.{◌≡◌, ℕ, ◌+◌, ◌-◌, ◌%◌, ◌<◌, ◌^◌, true, false, List, [], ◌++◌, length, replicate, Some, None, if◌then◌else◌}
+use Rattle.std.specs.Prelude.{◌≡◌, ℕ, ◌+◌, ◌-◌, ◌%◌, ◌<◌, ◌≤◌, ◌^◌, true, false, List, [], ◌∷◌, ◌++◌, length, replicate, Some, None, if◌then◌else◌}
+use Rattle.dds_base.specs.Bounds.{usual_value}
+use Rattle.rtps_wire.specs.declared.data.ChangeBody.{ChangeBody}
+use Rattle.rtps_wire.specs.declared.data.ChangeBody.TheVariants.{Write}
 use Rattle.rtps_wire.specs.declared.submessage.Submessage.{Submessage}
 use Rattle.rtps_wire.specs.declared.submessage.Submessage.TheVariants.{Pad, InfoDst, InfoTs, Data, Heartbeat, AckNack, Gap, Other}
 use Rattle.rtps_wire.specs.Fields.{has_flag}
@@ -76,6 +79,27 @@ IsSpellable (Data d) = IsData d × IsContent d.content
 IsSpellable (AckNack a) = IsAckNack a × IsSet a.reader_sn_state
 IsSpellable (Gap g) = IsGap g × IsSet g.gap_list
 IsSpellable s = IsValid s
+
+-- ---- how long its value is
+
+-- the octets of the value that a change has: none where it is no write
+abbrev pub octets_of_change : ChangeBody → ℕ
+octets_of_change (Write d) = length d.value
+octets_of_change other = 0
+
+-- the octets of the value that a submessage has: none where it is no DATA
+abbrev pub value_octets : Submessage → ℕ
+value_octets (Data d) = octets_of_change d.content.body
+value_octets other = 0
+
+-- the octets of the values of all of these
+abbrev pub all_value_octets : List Submessage → ℕ
+all_value_octets [] = 0
+all_value_octets (s ∷ ss) = value_octets s + all_value_octets ss
+
+-- its value is no longer than usual
+abbrev pub HasUsualValue : Submessage → Type 0
+HasUsualValue s = value_octets s ≤ usual_value
 
 -- ---- as written: little-endian, with no flag but the one that says so and those of the submessage
 

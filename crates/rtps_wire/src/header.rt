@@ -9,14 +9,14 @@ ghost use Rattle.std.specs.Option.{option_map};
 ghost use Rattle.rtps_wire.specs.HeaderAt.{header_at};
 
 use crate::field::take_prefix;
-use crate::names::{LEN_HEADER, MAJOR_VERSION, MAX_SUBMESSAGE};
+use crate::names::{LEN_HEADER, MAJOR_VERSION, MAX_USUAL_SUBMESSAGE};
 use dds_base::GuidPrefix;
 
-/// The longest message, in octets: no UDP datagram over IPv4 is longer.
-pub const MAX_MESSAGE: usize = 65_535;
+/// The longest message, in octets: so many a UDP datagram over IPv4 carries, of 65,535 with both their headers.
+pub const MAX_MESSAGE: usize = 65_507;
 
-/// So many submessages have place in a message, however long they are: 60.
-pub const MAX_TOGETHER: usize = (MAX_MESSAGE - LEN_HEADER) / MAX_SUBMESSAGE;
+/// So many submessages have place in a message, whose values have at most `USUAL_VALUE` octets: 60.
+pub const MAX_TOGETHER: usize = (MAX_MESSAGE - LEN_HEADER) / MAX_USUAL_SUBMESSAGE;
 
 /// The sender's prefix, and the bytes after the header. `None` where there is no header of this protocol.
 #[tactic(auto, unfolding(crate::specs::HeaderAt::header_at))]

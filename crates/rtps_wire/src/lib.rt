@@ -71,7 +71,7 @@ pub use gap::Gap;
 pub use header::{MAX_MESSAGE, MAX_TOGETHER};
 pub use heartbeat::Heartbeat;
 pub use message::{Message, Read};
-pub use names::MAX_SUBMESSAGE;
+pub use names::{MAX_BESIDE_VALUE, MAX_SUBMESSAGE};
 pub use parameters::skip_parameters;
 pub use read::{begin_message, next_frame, next_submessage, read_message};
 pub use seek::{Sought, has_submessage};

@@ -5,7 +5,7 @@
 //!
 //! RTPS 2.5, 9.3 (fields), 9.4.4 (header), 9.4.5 (submessages), 9.6 (parameters) and 10 (payload).
 
-use dds_base::MAX_VALUE;
+use dds_base::{MAX_VALUE, USUAL_VALUE};
 use rtps_sets::MAX_BITS;
 
 // ---- the header of a message
@@ -193,5 +193,11 @@ pub const MAX_CONTENT: usize = LEN_STRENGTH + LEN_PARAMETER_HEAD + LEN_DATUM_HEA
 /// The longest fields of a submessage: those of a DATA.
 pub const MAX_FIELDS: usize = LEN_DATA_HEAD + MAX_CONTENT;
 
-/// The longest submessage: a DATA with its header, in 1,084 octets.
+/// The longest submessage: a DATA with its header, in 65,060 octets.
 pub const MAX_SUBMESSAGE: usize = LEN_SUBMESSAGE_HEADER + MAX_FIELDS;
+
+/// The longest submessage where values have at most `USUAL_VALUE` octets: a DATA with its header, in 1,084 octets.
+pub const MAX_USUAL_SUBMESSAGE: usize = MAX_SUBMESSAGE - MAX_VALUE + USUAL_VALUE as usize;
+
+/// So many octets a submessage takes at most beside those of its value.
+pub const MAX_BESIDE_VALUE: usize = 87;

@@ -2,7 +2,8 @@ use Rattle.std.proofs.Common.{◌≡◌, ◌+◌, ◌*◌, ◌≤◌, ◌∷◌,
 use Rattle.std.specs.List.{AllByRecursion, flat_map}
 use Rattle.dds_base.specs.Written.{changes_of}
 use Rattle.rtps_wire.specs.declared.submessage.Submessage.TheVariants.{InfoDst}
-use Rattle.rtps_wire.specs.Submessages.{IsSpellable}
+use Rattle.dds_base.specs.Bounds.{greatest_value}
+use Rattle.rtps_wire.specs.Submessages.{IsSpellable, all_value_octets}
 use Rattle.rtps_writer.specs.Standing.{StandsFor as RtpsStandsFor}
 use Rattle.rtps_writer.specs.WriterState.{WriterState}
 use Rattle.dds_protocol.specs.DueMessages.{submessages_of}
@@ -17,4 +18,6 @@ invariant-loop-answer l = record {
       (take l.answer-index l.fn.answers);
   each : AllByRecursion IsSpellable l.submessages;
   few : length l.submessages ≤ 1 + 2 * l.answer-index;
+  light : all_value_octets l.submessages ≤ l.answer-index * l.fn.answering.max_value;
+  short : all_value_octets l.submessages ≤ l.answer-index * greatest_value;
 }

@@ -10,7 +10,7 @@ use Rattle.dds_core.proofs.answering.send_answers.Given as goal
 -- the answers so far were sent
 abbrev pub invariant-loop-rest : goal.invariant-loop-rest
 invariant-loop-rest l = record {
-  can : AreAnswerable l.fn.writer l.rest;
+  can : AreAnswerable l.fn.answering.max_value l.fn.writer l.rest;
   few : l.sent.unsent + length l.rest ≤ l.initial.sent.unsent + length l.fn.answers;
   sends : (s : WriterState) → RtpsStandsFor l.fn.writer s
       → SentBefore l.fn.answering (changes_of s.written) l.fn.answers l.rest l.initial.sent l.sent;

@@ -7,7 +7,7 @@ use Rattle.rtps_wire.proofs.write.is_writable.Goals as goal
 
 pub returns-then-len-gt-MAX_MESSAGE : goal.returns-then-len-gt-MAX_MESSAGE
 returns-then-len-gt-MAX_MESSAGE c =
-    let past : 65535 < 20 + length
+    let past : 65507 < 20 + length
     (flat_map spelling_of_submessage
     (take c.loop-submessage.submessage-index c.as_slice-submessage-items.result.now)) + length
     (spelling_of_submessage c.submessage-item.result) =

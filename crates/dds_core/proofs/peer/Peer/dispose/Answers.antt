@@ -6,6 +6,12 @@ use Rattle.dds_core.specs.Making.{Makes}
 use Rattle.dds_core.proofs.CallSteps.{dispose_at, made_steps, made_sends}
 use Rattle.dds_core.proofs.peer.Peer.dispose.Goals as goal
 
+-- there is no value, so it is short
+pub make-requires-clause-short : goal.make-requires-clause-short
+make-requires-clause-short c = λ k at.
+    subst (λ (v : List ℕ). IsShort k.max_value v) (sym (c.from_vec-none.ensures.octets ∙ c.new.ensures.items))
+    (omega arith, omega arith)
+
 -- the change that was made has no value
 made : (c : goal.After-make)
     → Makes c.args.self.now c.in-Some.index kind.Dispose c.args.key [] c.make.result c.make.new.self

@@ -1,4 +1,4 @@
-use Rattle.std.proofs.Common.{◌≡◌, ◌+◌, List, length, inl, inr, refl, sym, subst, ◌∙◌}
+use Rattle.std.proofs.Common.{◌≡◌, ◌+◌, List, Some, length, slice_get, inl, inr, refl, sym, subst, ◌∙◌}
 use Rattle.std.proofs.lemmas.Option.{same_Some}
 use Rattle.dds_base.specs.declared.change.Change.{Change}
 use Rattle.dds_base.specs.Written.{Changed}
@@ -12,6 +12,19 @@ use Rattle.dds_core.specs.Stepping.{Enters}
 use Rattle.dds_core.proofs.Makes.{Carries, made, made_by, not_begun, not_made, writer_at}
 use Rattle.dds_core.proofs.CallSteps.{still_stands}
 use Rattle.dds_core.proofs.peer.Peer.make.Goals as goal
+
+-- the value is as short as one has to be at the writer
+pub announce-announced-requires-clause-short : goal.announce-announced-requires-clause-short
+announce-announced-requires-clause-short c =
+    (c.requires.short c.index-writer.result.now
+    (subst (λ (x : PeerKept). slice_get x.writers c.args.index ≡ Some c.index-writer.result.now) c.self.view_is
+    (writer_at c.self.view_is c.requires.within c.index-writer.ensures))).1
+
+pub append-requires-clause-short : goal.append-requires-clause-short
+append-requires-clause-short c =
+    c.requires.short c.index_mut.result.now
+    (subst (λ (x : PeerKept). slice_get x.writers c.args.index ≡ Some c.index_mut.result.now) c.self.view_is
+    (writer_at c.self.view_is c.requires.within c.index_mut.ensures.value))
 
 pub returns-in-Err-clause-makes : goal.returns-in-Err-clause-makes
 returns-in-Err-clause-makes c = λ config peer given.

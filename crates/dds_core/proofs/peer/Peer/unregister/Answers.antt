@@ -8,10 +8,16 @@ use Rattle.dds_protocol.specs.Peer.{Peer}
 use Rattle.dds_core.specs.Kept.{WriterKept, PeerKept}
 use Rattle.dds_core.specs.Making.{Makes}
 use Rattle.dds_core.specs.Stepping.{Sends}
-use Rattle.dds_core.specs.Standing.{StandsFor, WriterStands}
+use Rattle.dds_core.specs.Standing.{IsShort, StandsFor, WriterStands}
 use Rattle.dds_core.specs.Stepping.{Steps}
 use Rattle.dds_core.proofs.CallSteps.{follows_as, unregister_at, unregistered_at, made_steps, made_sends}
 use Rattle.dds_core.proofs.peer.Peer.unregister.Goals as goal
+
+-- there is no value, so it is short
+pub make-requires-clause-short : goal.make-requires-clause-short
+make-requires-clause-short c = λ k at.
+    subst (λ (v : List ℕ). IsShort k.max_value v) (sym (c.from_vec-none.ensures.octets ∙ c.new.ensures.items))
+    (omega arith, omega arith)
 
 -- the change is made or refused, and what goes out is said of either
 unregisters : (c : goal.After-make)

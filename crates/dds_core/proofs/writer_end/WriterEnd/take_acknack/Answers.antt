@@ -1,4 +1,4 @@
-use Rattle.std.proofs.Common.{◌≡◌, ◌<◌, ◌≤◌, List, Some, length, ap, sym, subst, ◌∙◌, arith, rules}
+use Rattle.std.proofs.Common.{◌≡◌, ℕ, ◌<◌, ◌≤◌, List, Some, length, ap, sym, subst, ◌∙◌, arith, rules}
 use Rattle.std.specs.Int.{w32}
 use Rattle.std.proofs.lemmas.Int.{to_z-of_z}
 use Rattle.std.proofs.lemmas.Option.{same_Some, slice_get-get_or}
@@ -15,14 +15,14 @@ use Rattle.dds_core.proofs.WriterEnds.{kept_as}
 use Rattle.dds_core.proofs.Replies.{acknack_taken, after-changes, answerable, few_answers}
 use Rattle.dds_core.proofs.writer_end.WriterEnd.take_acknack.Goals as goal
 
-abbrev answering_of : GuidPrefix → EntityId → ReaderName → Answering
-answering_of own entity reader = record { own = own; entity = entity; reader = reader }
+abbrev answering_of : GuidPrefix → EntityId → ℕ → ReaderName → Answering
+answering_of own entity most reader = record { own = own; entity = entity; reader = reader; max_value = most }
 
 pub send_answers-requires-clause-can : goal.send_answers-requires-clause-can
 send_answers-requires-clause-can c =
     let whole = c.self.invariant in
-    subst (λ (xs : List Answer). AreAnswerable c.take_acknack-acknowledged.new.self xs) (sym c.as_slice.ensures.value)
-    (answerable c.take_acknack-acknowledged.new.self whole.state c.args.row _ c.args.body.now.reader_sn_state _
+    subst (λ (xs : List Answer). AreAnswerable c.self.inside.max_value c.take_acknack-acknowledged.new.self xs) (sym c.as_slice.ensures.value)
+    (answerable c.self.inside.max_value c.take_acknack-acknowledged.new.self whole.state c.args.row _ c.args.body.now.reader_sn_state _
     c.take_acknack-acknowledged.result.answers.items
     (c.take_acknack-acknowledged.ensures.stands whole.state whole.stands) whole.short c.requires.base
     (c.take_acknack-acknowledged.ensures.answers whole.state whole.stands))
@@ -43,14 +43,14 @@ invariant_of-self c =
       count = c.take_acknack-acknowledged.ensures.readers ∙ whole.count;
       state = _;
       stands = c.take_acknack-acknowledged.ensures.stands whole.state whole.stands;
-      short = subst (λ (cs : List Change). AreShort cs) (sym (after-changes whole.state c.args.row _ _)) whole.short;
+      short = subst (λ (cs : List Change). AreShort c.self.inside.max_value cs) (sym (after-changes whole.state c.args.row _ _)) whole.short;
     }
 
 pub returns-clause-takes : goal.returns-clause-takes
 returns-clause-takes c =
     let old : WriterKept =
-    kept_as c.self.inside.entity c.self.inside.autodispose c.self.inside.destinations.items c.self.inside.readers.items
-    c.self.inside.writer in
+    kept_as c.self.inside.entity c.self.inside.autodispose c.self.inside.max_value c.self.inside.destinations.items
+    c.self.inside.readers.items c.self.inside.writer in
     let within : c.args.row < length c.self.inside.readers.items =
     let row = c.requires.row in let same = ap (λ (k : WriterKept). length k.readers) c.self.view_is in
     omega (arith, row, same) in
@@ -59,7 +59,7 @@ returns-clause-takes c =
     c.send_answers.new.sent) c.self.view_is
     (acknack_taken old c.args.prefix c.args.row c.args.body.now c.args.sent.now c.take_acknack-acknowledged.new.self
     c.take_acknack-acknowledged.result.acknowledged c.send_answers.new.sent _ _ c.as_slice.result.now
-    (answering_of c.args.prefix c.self.inside.entity c.index.result.now)
+    (answering_of c.args.prefix c.self.inside.entity c.self.inside.max_value c.index.result.now)
     c.base.ensures.base (to_z-of_z w32 c.args.body.now.count (search rules)) c.take_acknack-acknowledged.ensures.stands
     c.take_acknack-acknowledged.ensures.acknowledged
     (λ s given. c.as_slice.ensures.value ∙ c.take_acknack-acknowledged.ensures.answers s given)
@@ -69,4 +69,4 @@ returns-clause-takes c =
     same_Some c.index.result.now name
     (sym (slice_get-get_or c.self.inside.readers.items c.args.row _ within
     ∙ ap (λ (x : ReaderName). Some x) (sym c.index.ensures)) ∙ at) in
-    ap (λ (x : ReaderName). answering_of c.args.prefix c.self.inside.entity x) is))
+    ap (λ (x : ReaderName). answering_of c.args.prefix c.self.inside.entity c.self.inside.max_value x) is))

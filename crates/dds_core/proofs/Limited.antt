@@ -1,0 +1,62 @@
+-- How long the values of a peer's writer may be: a configuration that is taken sets a limit to them.
+use Rattle.std.proofs.Common.{◌≡◌, ℕ, zero, suc, ◌≤◌, Bool, true, false, ◌||◌, List, [], ◌∷◌, Option, Some, None, slice_get, subst, ap, sym, arith}
+use Rattle.std.specs.Prelude.{if◌then◌else◌, nat_lt}
+use Rattle.std.specs.List.{list_any}
+use Rattle.std.proofs.lemmas.Bool.Decides.{nat_tests}
+use Rattle.std.proofs.lemmas.Option.{same_Some}
+use Rattle.dds_base.specs.declared.code.Code.{Code}
+use Rattle.dds_base.specs.declared.code.Code.TheVariants.{BadParameter}
+use Rattle.dds_base.specs.declared.config.Config.{Config}
+use Rattle.dds_base.specs.declared.config.PeerConfig.{PeerConfig}
+use Rattle.dds_base.specs.declared.config.WriterConfig.{WriterConfig}
+use Rattle.dds_base.specs.Checked.{check_refusal, has_bad_parameter, is_bad_peer, is_bad_value, is_bad_writer}
+use Rattle.dds_core.specs.Identity.{WriterIdentity, IsPeerOf, configured_writer, identity_of, writer_identity}
+use Rattle.dds_core.specs.Kept.{PeerKept, WriterKept}
+use Rattle.dds_core.proofs.Lists.{get-map, map-get}
+
+or_left : (a b : Bool) → (a || b) ≡ false → a ≡ false
+or_left true b h = absurd cc
+or_left false b h = refl
+
+or_right : (a b : Bool) → (a || b) ≡ false → b ≡ false
+or_right true b h = absurd cc
+or_right false b h = h
+
+none_passes : {X : Type 0} (test : X → Bool) (xs : List X) (i : ℕ) (x : X) → list_any test xs ≡ false
+    → slice_get xs i ≡ Some x → test x ≡ false
+none_passes test [] i x none at = absurd cc
+none_passes test (y ∷ ys) zero x none at =
+    subst (λ z. test z ≡ false) (same_Some y x at) (or_left (test y) (list_any test ys) none)
+none_passes test (y ∷ ys) (suc i) x none at =
+    none_passes test ys i x (or_right (test y) (list_any test ys) none) at
+
+taken : (peers : List PeerConfig) → check_refusal peers ≡ None → has_bad_parameter peers ≡ false
+taken peers h = by (has_bad_parameter peers) _ h
+  where
+    by : (b : Bool) (rest : Option Code) → (if b then Some BadParameter else rest) ≡ None → b ≡ false
+    by true rest e = absurd cc
+    by false rest e = refl
+
+-- of each writer of a configuration that is taken
+limited : (peers : List PeerConfig) → check_refusal peers ≡ None → (n : ℕ) (p : PeerConfig)
+    → slice_get peers n ≡ Some p → (i : ℕ) (w : WriterConfig) → slice_get p.writers i ≡ Some w → w.max_value ≤ 65000
+limited peers checked n p at i w there =
+    let peer : is_bad_peer p ≡ false =
+    none_passes is_bad_peer peers n p (or_right _ _ (or_right _ _ (taken peers checked))) at in
+    let writer : is_bad_writer w ≡ false =
+    none_passes is_bad_writer p.writers i w (or_left _ _ (or_right _ _ (or_right _ _ peer))) there in
+    let value : is_bad_value w.max_value ≡ false =
+    or_right _ _ (or_right _ _ (or_right _ _ (or_right _ _ writer))) in
+    let most : nat_lt 65000 w.max_value ≡ false = or_right _ _ value in
+    grind (arith, nat_tests)
+
+-- of each writer of a peer
+pub value_limited : (config : Config) (number : ℕ) (kept : PeerKept) → IsPeerOf config number (identity_of kept)
+    → (i : ℕ) (k : WriterKept) → slice_get kept.writers i ≡ Some k → k.max_value ≤ 65000
+value_limited config number kept is i k at =
+    let there = map-get writer_identity kept.writers i k at in
+    let f =
+    get-map (configured_writer config.peers) is.own.writers i (writer_identity k)
+    (subst (λ (xs : List WriterIdentity). slice_get xs i ≡ Some (writer_identity k)) is.writers there) in
+    let same : f.0.max_value ≡ k.max_value = ap (λ (x : WriterIdentity). x.max_value) f.2 in
+    subst (λ (m : ℕ). m ≤ 65000) same (limited config.peers is.checked _ is.own is.at.1 i f.0 f.1)
