@@ -75,7 +75,7 @@ more_spells (x ∷ xs) more h k = (k.0, more_spells xs more h k.1)
 
 both_octets : (old more : List Submessage) → all_value_octets (old ++ more)
     ≡ all_value_octets old + all_value_octets more
-both_octets [] more = refl
+both_octets [] more = omega arith
 both_octets (x ∷ xs) more = let rest = both_octets xs more in omega (arith, rest)
 
 spells_more : (most : ℕ) (old more new : List Submessage) → new ≡ old ++ more → length more ≤ 2

@@ -398,7 +398,7 @@ acknack_answered c a w r is low old made dues new tellable k =
     ap (λ (y : Writer). acknowledged_of y.readers r) k.there_is
     ∙ acknowledged-hits before.readers r k.acknowledged acked k.matched in
     let passed =
-    all_grouped (ArePassed x) _ k.groups k.grouped
+    all_grouped (ArePassed x) _ _ k.groups k.grouped
     (gaps_pass k.there r a.reader_sn_state
     (answered_from (owed_from k.there r) k.acknowledged a.reader_sn_state.base) acked row low) in
     let message : List Answer → Due =

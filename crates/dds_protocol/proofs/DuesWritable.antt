@@ -135,7 +135,7 @@ both_spellable [] ys h k = k
 both_spellable (x ∷ xs) ys h k = (h.0, both_spellable xs ys h.1 k)
 
 both_octets : (xs ys : List Submessage) → all_value_octets (xs ++ ys) ≡ all_value_octets xs + all_value_octets ys
-both_octets [] ys = refl
+both_octets [] ys = omega arith
 both_octets (x ∷ xs) ys = let rest = both_octets xs ys in omega (arith, rest)
 
 both_short : (xs ys : List Submessage) (m n k l : ℕ) → AreShort xs m k → AreShort ys n l

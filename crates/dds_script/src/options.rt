@@ -1,7 +1,9 @@
 //! The options of a writer or a reader.
 
 use crate::number::{decimal, decimal_i32, decimal_u32, units};
-use dds_base::{EntityId, HistoryQos, OwnershipQos, ReaderConfig, ReliabilityQos, WriterConfig};
+use dds_base::{
+    EntityId, HistoryQos, OwnershipQos, ReaderConfig, ReliabilityQos, USUAL_VALUE, WriterConfig,
+};
 
 /// What the options of a writer or a reader say.
 #[derive(Clone, Copy)]
@@ -26,6 +28,8 @@ pub struct Options {
     pub autodispose: bool,
     /// `topic`: writers and readers of one number match.
     pub topic: u32,
+    /// `values`: how many octets a value has at most.
+    pub max_value: u32,
 }
 
 impl Options {
@@ -42,6 +46,7 @@ impl Options {
             lease: None,
             autodispose: true,
             topic: 0,
+            max_value: USUAL_VALUE,
         }
     }
 
@@ -64,6 +69,7 @@ impl Options {
             "max" => self.max_samples = decimal_i32(number)?,
             "lease" => self.lease = Some(units(number)?),
             "topic" => self.topic = decimal_u32(number)?,
+            "values" => self.max_value = decimal_u32(number)?,
             _ => return None,
         }
         Some(())
@@ -143,6 +149,7 @@ pub fn writer_config(entity: EntityId, options: Options) -> WriterConfig {
         strength: options.strength,
         lease: options.lease,
         autodispose: options.autodispose,
+        max_value: options.max_value,
     }
 }
 
@@ -158,5 +165,6 @@ pub fn reader_config(entity: EntityId, options: Options) -> ReaderConfig {
         max_instances: options.max_instances,
         max_arrivals: options.max_arrivals,
         lease: options.lease,
+        max_value: options.max_value,
     }
 }

@@ -1,6 +1,6 @@
 -- A round by its stages: after it the reader has caught up, unless something hindered it.
 use Rattle.std.proofs.Common.{◌≡◌, ◌⊎◌, ℕ, ℤ, ◌+◌, ◌-◌, ◌^◌, ◌<◌, ◌≤◌, min, Bool, true, false, List, [], ◌∷◌, ◌++◌, Option, Some, None, Contains, map, length, slice_get, refl, subst, ap, sym, ◌∙◌, inl, inr, ⊎_elim, arith, length-append}
-use Rattle.std.specs.Prelude.{IsSome, nat_le}
+use Rattle.std.specs.Prelude.{IsSome, if◌then◌else◌, nat_le}
 use Rattle.std.proofs.lemmas.Bool.{cases_lt}
 use Rattle.std.proofs.lemmas.Bool.Decides.{nat_tests}
 use Rattle.dds_base.specs.declared.config.Config.{Config}
@@ -28,7 +28,7 @@ use Rattle.dds_machine.specs.Numbered.{numbered, HasNumber}
 use Rattle.dds_machine.specs.Part.{Part, ReaderProxy, Writer, WriterProxy, NoLess, IsAtMost, own_writer, acknowledged_of, place_of, writer_changes}
 use Rattle.dds_protocol.specs.DueMessages.{writer_entity}
 use Rattle.dds_protocol.specs.Protocol.{Known}
-use Rattle.dds_protocol.specs.Repair.{AsksInRound, BeginsRound, Delivers, DeliversAll, HasCaughtUp, IsRepairRound, StandsAt}
+use Rattle.dds_protocol.specs.Repair.{AsksInRound, BeginsRound, Delivers, DeliversAll, HasCaughtUp, IsRepairRound, StandsAt, packets_for}
 use Rattle.dds_protocol.specs.Rules.{RuledStep, RuledRun}
 use Rattle.dds_protocol.specs.World.{WorldState, peer_at, machine_of}
 use Rattle.dds_protocol.proofs.ClosedSteps.{acknowledges_no_more}
@@ -525,6 +525,14 @@ abbrev deliveries : {hearing : Hearing} → Ask hearing → List WorldEvent
 deliveries a =
     map (λ k. world.Deliver a.h.t.m.reader.peer k) (numbers_from (length a.h.beat.mid.sent + 1) (length (answers a)))
 
+-- 256 packets are enough for them
+enough : (most count : ℕ) → count ≤ packets_for most → count ≤ 256
+enough most count few = by (nat_le most 1024) few
+  where
+    by : (b : Bool) → count ≤ (if b then 32 else 256) → count ≤ 256
+    by true h = omega (arith, h)
+    by false h = h
+
 -- the events after the ACKNACK are those
 all_answers : {hearing : Hearing} → (a : Ask hearing) → answers_at a.h.t.m.reader.peer (length a.h.beat.mid.sent)
     (length a.ask.mid.sent)
@@ -532,12 +540,13 @@ all_answers : {hearing : Hearing} → (a : Ask hearing) → answers_at a.h.t.m.r
 unfolding asks
 all_answers a =
     let c = a.h.t in
-    let most : length (answers a) ≤ 32 =
+    let few =
     answers_are_few c.config a.h.t.tests c.m.writer c.m.reader c.place (acknowledged c) c.network (after_ask a)
     (core c).stands.is_peer.checked c.s.sound c.s.used c.s.bounded (pair c).pair (stands c) (asks a) in
+    let most : length (answers a) ≤ 256 = enough (writer_at (machine_of c.network) c.m.writer).max_value _ few in
     let size = ap (λ (ps : List Packet). length ps) (sent2 a) in
     let parts = length-append a.h.beat.mid.sent (answers a) in
-    let count : min 32 (length a.ask.mid.sent - length a.h.beat.mid.sent) ≡ length (answers a) =
+    let count : min 256 (length a.ask.mid.sent - length a.h.beat.mid.sent) ≡ length (answers a) =
     omega (arith, most, size, parts) in
     ap (λ (n : ℕ). map (λ k. world.Deliver c.m.reader.peer k) (numbers_from (length a.h.beat.mid.sent + 1) n)) count
 

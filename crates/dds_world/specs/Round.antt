@@ -93,9 +93,9 @@ abbrev pub acknack_of : Config → Endpoint → Endpoint → Sought
 acknack_of config writer reader =
     sought.AckNack (reader_entity config reader.peer reader.number) (writer_entity config writer.peer writer.number)
 
--- the answers: all packets whose numbers lie above this one and are at most the other, up to 32 of them, at this peer
+-- the answers: all packets whose numbers lie above this one and are at most the other, up to 256 of them, at this peer
 abbrev pub answers_at : ℕ → ℕ → ℕ → List WorldEvent
-answers_at peer from to = map (λ k. Deliver peer k) (numbers_from (from + 1) (min 32 (to - from)))
+answers_at peer from to = map (λ k. Deliver peer k) (numbers_from (from + 1) (min 256 (to - from)))
 
 -- After the HEARTBEAT: of the packets that its delivery sent to the writer's peer, the first with the ACKNACK is
 -- delivered there, and then its answers at the reader's peer; if there is none, the round ends.

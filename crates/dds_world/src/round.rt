@@ -44,7 +44,7 @@ pub struct RoundReply {
 /// Where none of the first four is so, the writer knows that the reader had all changes below `from`.
 #[derive(Debug, Drop)]
 pub struct Round {
-    /// The replies to its events, 1 to 35.
+    /// The replies to its events, 1 to 259.
     pub replies: Sequence<RoundReply>,
     /// Whether there were changes of the writer that the reader had not acknowledged, when the round began.
     pub was_behind: bool,
@@ -80,10 +80,11 @@ pub struct Matched {
     pub moment: Moment,
 }
 
-/// How many packets are delivered as answers. An ACKNACK asks for 256 numbers at most, and a packet has eight answers.
-const MAX_ANSWERS: u64 = 32;
+/// How many packets are delivered as answers. An ACKNACK asks for 256 numbers at most, and a packet has eight answers, or
+/// one where values may be longer than usual.
+const MAX_ANSWERS: u64 = 256;
 /// The replies to a tick, a HEARTBEAT, an ACKNACK and its answers.
-const MAX_REPLIES: usize = 35;
+const MAX_REPLIES: usize = 259;
 
 /// Whether the packet is sent to this peer, and has such a submessage.
 fn is_to(packet: &Packet, peer: u8, wanted: &Sought) -> bool
@@ -95,10 +96,10 @@ fn is_to(packet: &Packet, peer: u8, wanted: &Sought) -> bool
 impl<F: Filter, L: Listener> World<F, L> {
     /// One round of repair: the writer's peer ticks, at its own moment; then the writer's HEARTBEAT that this sent to
     /// the reader's peer is delivered there, the reader's ACKNACK to the writer that this sent is delivered at the
-    /// writer's peer, and each packet that this sent, up to 32, at the reader's. Where one of them was not sent, the
+    /// writer's peer, and each packet that this sent, up to 256, at the reader's. Where one of them was not sent, the
     /// round ends.
     ///
-    /// Each packet is delivered once, and no other one is. There are 1 to 35 replies; each of them may lack memory, as
+    /// Each packet is delivered once, and no other one is. There are 1 to 259 replies; each of them may lack memory, as
     /// one of `World::step`. Afterwards the reader has come to the next 256 changes, or to all, or to one for which it
     /// has no room, unless the answer shows why not (see `Round`).
     ///
@@ -218,7 +219,7 @@ impl<F: Filter, L: Listener> World<F, L> {
 
     /// Delivers the writer's HEARTBEAT to the reader, if it is among the packets after so many, and what follows.
     fn deliver_heartbeat(&mut self, m: &Matched, from: u64, replies: &mut Vec<RoundReply>)
-        requires room { vec_len replies.old + 34 ≤ vec_capacity replies.old }
+        requires room { vec_len replies.old + 258 ≤ vec_capacity replies.old }
         ensures adds { AddsIn L.notices L.capacity L.becomes
             (λ hearing. Beating (tests_in F.meaning self.old) m.now from)
             self.old replies.old.items self.new replies.new.items }
@@ -238,7 +239,7 @@ impl<F: Filter, L: Listener> World<F, L> {
 
     /// Delivers the reader's ACKNACK to the writer, if it is among the packets after so many, and its answers.
     fn deliver_acknack(&mut self, m: &Matched, from: u64, replies: &mut Vec<RoundReply>)
-        requires room { vec_len replies.old + 33 ≤ vec_capacity replies.old }
+        requires room { vec_len replies.old + 257 ≤ vec_capacity replies.old }
         ensures adds { AddsIn L.notices L.capacity L.becomes
             (λ hearing. Acknowledging (tests_in F.meaning self.old) m.now from)
             self.old replies.old.items self.new replies.new.items }
@@ -257,9 +258,9 @@ impl<F: Filter, L: Listener> World<F, L> {
         self.deliver_answers(m.reader.peer, sent, replies);
     }
 
-    /// Delivers the packets after so many at this peer, up to 32.
+    /// Delivers the packets after so many at this peer, up to 256.
     fn deliver_answers(&mut self, peer: u8, from: u64, replies: &mut Vec<RoundReply>)
-        requires room { vec_len replies.old + 32 ≤ vec_capacity replies.old }
+        requires room { vec_len replies.old + 256 ≤ vec_capacity replies.old }
         ensures adds { AddsIn L.notices L.capacity L.becomes
             (λ hearing. Answering (tests_in F.meaning self.old) peer from)
             self.old replies.old.items self.new replies.new.items }

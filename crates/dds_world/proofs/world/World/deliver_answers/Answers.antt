@@ -41,7 +41,7 @@ pub returns-clause-adds : goal.returns-clause-adds
 returns-clause-adds g c = λ given.
     let i = c.loop-index.invariant.0 given in
     let first = c.args.self.now in
-    let all : c.loop-index.index ≡ min 32 (length first.sent - c.args.from) = omega arith in (
+    let all : c.loop-index.index ≡ min 256 (length first.sent - c.args.from) = omega arith in (
       answers_at c.args.peer c.args.from (length first.sent),
       i.0,
       i.1,
