@@ -107,10 +107,12 @@ typedef struct cw_writer_config {
     uint32_t depth;       /* from 1, where keeps_last */
     int32_t max_samples;  /* RESOURCE_LIMITS: positive, or -1 for no limit */
     int32_t strength;     /* OWNERSHIP_STRENGTH at first, where is_exclusive */
+    uint32_t max_value;   /* how many octets a value has at most: 1 to 65,000, or 0 for 1,024 */
     uint64_t lease;       /* in units of 2^-32 second, from 1 to 2^63 - 1, where has_lease */
 } cw_writer_config;
 
-/* A reader of a configuration, likewise; its entity ends with 0x07, and it takes writers whose lease is no longer. */
+/* A reader of a configuration, likewise; its entity ends with 0x07, and it takes writers whose lease and whose max_value are
+ * no greater. */
 typedef struct cw_reader_config {
     uint8_t peer;
     uint8_t entity[4];
@@ -123,6 +125,7 @@ typedef struct cw_reader_config {
     uint32_t depth;
     int32_t max_samples;
     int32_t max_instances; /* RESOURCE_LIMITS: positive, or -1 for no limit */
+    uint32_t max_value;
     uint64_t lease;
     uint64_t max_arrivals; /* from 1 to 2^63, where has_max_arrivals */
 } cw_reader_config;
@@ -223,7 +226,9 @@ enum {
     CW_RULE_LEASE = 12,                /* a lease is from 1 to 2^63 - 1 */
     CW_RULE_DEPTH_WITHIN_MAXIMUM = 13, /* a depth is at most max_samples */
     CW_RULE_SAME_OWNERSHIP = 14,       /* each matched writer has the reader's ownership */
-    CW_RULE_OFFERED_LEASE = 15         /* no matched writer has a longer lease than the reader asks for */
+    CW_RULE_OFFERED_LEASE = 15,        /* no matched writer has a longer lease than the reader asks for */
+    CW_RULE_MAX_VALUE = 16,            /* max_value is at most 65,000 */
+    CW_RULE_OFFERED_VALUE = 17         /* no matched writer has a greater max_value than the reader */
 };
 
 /* Which rule a configuration breaks first, and where, and a sentence that says it, such as "reader 1 of peer 2: its depth is
@@ -282,11 +287,12 @@ typedef struct cw_writer_kind {
     uint8_t kind;         /* CW_DATUM, .. */
     uint32_t first_field; /* of CW_CDR and CW_CDR2: how many fields of the array stand before its own, */
     uint32_t field_count; /* and how many are its own, at least one */
+    uint32_t max_value;   /* how many octets a value of it has at most: 1 to 65,000, or 0 for 1,024 */
 } cw_writer_kind;
 
 /* Values of other types, which a peer reads as a datum whose value is the payload: representation, options and body. A
  * datagram of the network goes through cw_inward before cw_deliver, one of cw_packet through cw_outward before it is sent.
- * What is to be handed on is copied to the start of the buffer, at most 65,535 octets; it is the datagram itself where the
+ * What is to be handed on is copied to the start of the buffer, at most 65,507 octets; it is the datagram itself where the
  * answer is CW_NO_DATA. With gaps a GAP stands in place of the number of a DATA of another type than the datum whose payload
  * a peer could not read, and of a DATA_FRAG of any writer of the table: else it is asked for again and again.
  * CW_BAD_PARAMETER where the arrays are no table; CW_OUT_OF_RESOURCES with *needed = 0 where what is to be handed on would
@@ -303,7 +309,8 @@ uint8_t cw_outward(const cw_writer_kind *kinds, size_t kinds_len, const cw_key_f
 uint8_t cw_deliver(cw_peer *peer, const uint8_t *datagram, size_t datagram_len);
 uint8_t cw_tick(cw_peer *peer, uint64_t now);
 
-/* Calls of a writer, by its number (DDS 1.4, 2.2.2.4); a value has at most 1,024 octets. */
+/* Calls of a writer, by its number (DDS 1.4, 2.2.2.4); a value has at most as many octets as
+ * the max_value of its writer says. */
 uint8_t cw_register(cw_peer *peer, uint8_t writer, const uint8_t key[16]);
 uint8_t cw_write(cw_peer *peer, uint8_t writer, const uint8_t key[16], const uint8_t *value, size_t value_len);
 uint8_t cw_dispose(cw_peer *peer, uint8_t writer, const uint8_t key[16]);
@@ -350,6 +357,12 @@ uint8_t cw_add_filter(cw_peer *peer, const uint8_t *octets, size_t octets_len, u
 uint8_t cw_set_recorder(cw_peer *peer, uint8_t kind, uint8_t number, uint32_t mask, size_t room);
 uint8_t cw_clear_recorder(cw_peer *peer, uint8_t kind, uint8_t number);
 uint8_t cw_notice(cw_peer *peer, size_t at, cw_notice_info *notice);
+
+/* How many octets a packet has at most: what UDP over IPv4 carries. Packets of writers whose max_value is 1,024 or less have
+ * fewer than 10,000. */
+enum {
+    CW_LONGEST_PACKET = 65507
+};
 
 /* Fetches of the last answer, which change nothing. Packets and samples count from 0; each is copied to the start of the
  * buffer, and *needed is how many octets it has. Where they don't fit, nothing is copied, the code is CW_OUT_OF_RESOURCES,

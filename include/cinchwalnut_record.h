@@ -102,6 +102,8 @@ static inline void cw_recorded_writer(cw_recording *run, const cw_writer_config 
     fprintf(run->to, " strength=%" PRId32, it->strength);
     if (it->has_lease)
         fprintf(run->to, " lease=%" PRIu64, it->lease);
+    if (it->max_value)
+        fprintf(run->to, " values=%" PRIu32, it->max_value);
     fputs(it->autodispose ? "\n" : " noauto\n", run->to);
 }
 
@@ -114,6 +116,8 @@ static inline void cw_recorded_reader(cw_recording *run, const cw_reader_config 
         fprintf(run->to, " lease=%" PRIu64, it->lease);
     if (it->has_max_arrivals)
         fprintf(run->to, " arrivals=%" PRIu64, it->max_arrivals);
+    if (it->max_value)
+        fprintf(run->to, " values=%" PRIu32, it->max_value);
     fputs(it->is_best_effort ? " besteffort\n" : "\n", run->to);
 }
 

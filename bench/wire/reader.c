@@ -11,7 +11,7 @@
 enum { PAD = 0x01, ACKNACK = 0x06, HEARTBEAT = 0x07, GAP = 0x08, INFO_TS = 0x09, INFO_DST = 0x0e, DATA = 0x15 };
 enum { LITTLE = 1, INVALIDATE = 2, FINAL = 2, LIVELINESS = 4, HAS_PARAMETERS = 2, HAS_DATUM = 4, HAS_KEY = 8, NON_STANDARD = 16 };
 enum { SENTINEL = 0x01, STRENGTH = 0x06, KEY_HASH = 0x70, STATUS_INFO = 0x71, DISPOSED = 1, UNREGISTERED = 2 };
-enum { LONGEST = 65535, LONGEST_VALUE = 1024, MOST_BITS = 256, MOST = (LONGEST - 20) / 4 };
+enum { LONGEST = 65507, LONGEST_VALUE = 65000, MOST_BITS = 256, MOST = (LONGEST - 20) / 4 };
 static const uint64_t GREATEST = (uint64_t)1 << 62;
 
 /* What is not read yet, and in which order of bytes. */

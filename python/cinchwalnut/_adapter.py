@@ -11,7 +11,7 @@ from ._checks import Octets, octets, octets_of, u32
 from ._codes import Code, refused
 
 _LIBRARY = _library.LIBRARY
-_ROOM = 65535  # what a message may have at most
+_ROOM = 65507  # what a message may have at most
 
 
 class Carries(enum.IntEnum):
@@ -31,12 +31,13 @@ class KeyField(NamedTuple):
 
 
 class WriterKind(NamedTuple):
-    """What the topic of a writer carries; key fields where that is CDR or CDR2."""
+    """What the topic of a writer carries; key fields where that is CDR or CDR2; how many octets a value has at most."""
 
     prefix: Octets
     entity: Octets
     carries: Carries
     fields: Sequence[KeyField] = ()
+    max_value: int = 1024
 
 
 class Adapter:
@@ -55,7 +56,7 @@ class Adapter:
             own = [_library.CKeyField(u32(it.place, "a place"), _size(it.size)) for it in kind.fields]
             if own and carries in (Carries.DATUM, Carries.KEYLESS):
                 raise ValueError(f"{carries.name} has no key fields")
-            rows.append(_library.CWriterKind(prefix, entity, carries, len(fields), len(own)))
+            rows.append(_library.CWriterKind(prefix, entity, carries, len(fields), len(own), u32(kind.max_value, "max_value")))
             fields += own
         self._table = [*_library.array_of(_library.CWriterKind, rows), *_library.array_of(_library.CKeyField, fields)]
         self._buffer, self._needed = c.create_string_buffer(_ROOM), c.c_size_t(0)

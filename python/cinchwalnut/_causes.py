@@ -8,9 +8,9 @@ from ._codes import Code
 from ._config import ReaderConfig, WriterConfig
 
 _BAD, _NOT_NOW = Code.BAD_PARAMETER, Code.PRECONDITION_NOT_MET
+_USUAL = 1024  # octets of a value, where the configuration does not say
 # By the code and the call; `{0}` is its first operand.
 _CAUSES: Dict[Tuple[int, str], str] = {
-    (_BAD, "write"): "a value has at most 1,024 octets",
     (_BAD, "key"): "no known instance has handle {1}",
     (_BAD, "querycond"): "there is no filter {4}",
     (_BAD, "trigger"): "there is no condition or entity {0}",
@@ -29,24 +29,30 @@ _CAUSES: Dict[Tuple[int, str], str] = {
 
 
 class Own(NamedTuple):
-    """How many writers and readers a peer has."""
+    """How many writers and readers a peer has, and how many octets a value of each writer has at most."""
 
     writers: int
     readers: int
+    values: Sequence[int]
 
 
 def own_of(writers: Sequence[WriterConfig], readers: Sequence[ReaderConfig], number: int) -> Own:
-    return Own(sum(it.peer == number for it in writers), sum(it.peer == number for it in readers))
+    values = [it.max_value or _USUAL for it in writers if it.peer == number]
+    return Own(len(values), sum(it.peer == number for it in readers), values)
 
 
 def own_of_text(text: str, number: int) -> Own:
     """Those of a configuration in lines that was taken."""
     peer = 0
     own: List[str] = []
-    for word in (it.partition(" ")[0] for it in text.splitlines()):
+    values: List[int] = []
+    for word, *options in (it.split(" ") for it in text.splitlines()):
         peer += word == "peer"
         own += [word] * (peer == number)
-    return Own(own.count("writer"), own.count("reader"))
+        if word == "writer" and peer == number:
+            said = [it.partition("=")[2] for it in options if it.startswith("values=")]
+            values.append(int(said[-1]) if said else _USUAL)
+    return Own(len(values), own.count("reader"), values)
 
 
 def cause(code: int, line: str, own: Own) -> str:
@@ -59,6 +65,8 @@ def cause(code: int, line: str, own: Own) -> str:
     name, operands = words[1], words[2:]
     if code == _BAD and (nobody := _no_end(operands, own)):
         return nobody
+    if code == _BAD and name == "write":
+        return f"a value has at most {own.values[int(operands[0][1:]) - 1]:,} octets"
     if name in ("read", "take") or name.startswith(("read_", "take_")):
         return _cause_of_access(code, name, operands)
     return _CAUSES.get((code, name), "").format(*operands)

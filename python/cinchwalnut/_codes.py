@@ -75,6 +75,8 @@ class Rule(enum.IntEnum):
     DEPTH_WITHIN_MAXIMUM = 13
     SAME_OWNERSHIP = 14
     OFFERED_LEASE = 15
+    MAX_VALUE = 16
+    OFFERED_VALUE = 17
 
 
 class Refused(Exception):

@@ -20,7 +20,7 @@ def _truth(value: Any, name: str) -> bool:
 _CHECKS: dict[str, Callable[[Any, str], Any]] = {
     **dict.fromkeys(("peer",), u8),
     **dict.fromkeys(("entity",), _entity),
-    **dict.fromkeys(("topic", "depth"), u32),
+    **dict.fromkeys(("topic", "depth", "max_value"), u32),
     **dict.fromkeys(("max_samples", "max_instances", "strength"), i32),
     **dict.fromkeys(("lease", "max_arrivals"), u64),
 }
@@ -48,6 +48,7 @@ class WriterConfig(_Checked):
     max_samples: int = -1
     strength: int = 0
     lease: int = 0
+    max_value: int = 1024
 
 
 @dataclasses.dataclass
@@ -67,6 +68,7 @@ class ReaderConfig(_Checked):
     max_instances: int = -1
     lease: int = 0
     max_arrivals: int = 0
+    max_value: int = 1024
 
 
 def _entity_of(key: int, kind: int) -> bytes:

@@ -24,7 +24,7 @@ class CWriterConfig(c.Structure):
         *[("peer", c.c_uint8), ("entity", c.c_uint8 * 4)],
         *[(name, c.c_bool) for name in ("is_exclusive", "keeps_last", "has_lease", "autodispose")],
         *[("topic", c.c_uint32), ("depth", c.c_uint32), ("max_samples", c.c_int32), ("strength", c.c_int32)],
-        ("lease", c.c_uint64),
+        *[("max_value", c.c_uint32), ("lease", c.c_uint64)],
     ]
 
 
@@ -33,7 +33,7 @@ class CReaderConfig(c.Structure):
         *[("peer", c.c_uint8), ("entity", c.c_uint8 * 4)],
         *[(name, c.c_bool) for name in ("is_exclusive", "keeps_last", "has_lease", "is_best_effort", "has_max_arrivals")],
         *[("topic", c.c_uint32), ("depth", c.c_uint32), ("max_samples", c.c_int32), ("max_instances", c.c_int32)],
-        *[("lease", c.c_uint64), ("max_arrivals", c.c_uint64)],
+        *[("max_value", c.c_uint32), ("lease", c.c_uint64), ("max_arrivals", c.c_uint64)],
     ]
 
 
@@ -51,7 +51,7 @@ class CKeyField(c.Structure):
 class CWriterKind(c.Structure):
     _fields_ = [
         *[("prefix", c.c_uint8 * 12), ("entity", c.c_uint8 * 4), ("kind", c.c_uint8)],
-        *[(name, c.c_uint32) for name in ("first_field", "field_count")],
+        *[(name, c.c_uint32) for name in ("first_field", "field_count", "max_value")],
     ]
 
 

@@ -101,7 +101,7 @@ class Peer:
     """A peer of a configuration: the prefixes of its peers, its writers and its readers, and its own number.
 
     Peers are numbered from 1 in their order, and so are the writers of a peer, and its readers. A key has 16 octets, and a value
-    at most 1,024. `most` is how many samples at most, -1 for all; masks are sums of states, or `ANY`.
+    at most as many as the `max_value` of its writer says. `most` is how many samples at most, -1 for all; masks are sums of states, or `ANY`.
 
     Each event returns what it sends: the packets, each with the number of the peer that it is for. A call that is refused
     raises `Refused`, by its code, and says the cause. Threads may share a peer: an event and the fetch of what it gave back are one."""

@@ -6,7 +6,7 @@ import functools
 import re
 
 PREFIX, ENTITY = re.compile("[0-9a-fA-F]{24}"), re.compile("[0-9a-fA-F]{8}")
-OPTION = re.compile(r"shared|exclusive|besteffort|all|noauto|(?:last|max|instances|arrivals|strength|topic)=-?\d+|lease=\d+(?:s|ms|us)?")
+OPTION = re.compile(r"shared|exclusive|besteffort|all|noauto|(?:last|max|instances|arrivals|strength|topic|values)=-?\d+|lease=\d+(?:s|ms|us)?")
 PARTS = {"s": 1, "ms": 1_000, "us": 1_000_000}  # of a second
 
 

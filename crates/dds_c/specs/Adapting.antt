@@ -22,6 +22,7 @@ use Rattle.rtps_adapter.specs.Adapting.{IsAnswer}
 use Rattle.dds_c.specs.declared.adapting.FlatKeyField.{FlatKeyField}
 use Rattle.dds_c.specs.declared.adapting.FlatKind.{FlatKind}
 use Rattle.dds_c.specs.Fetching.{Copies, CopiesNothing}
+use Rattle.dds_c.specs.Opening.{max_value_of}
 
 -- how many octets a key field takes
 abbrev pub size_of : ℕ → FieldSize
@@ -60,8 +61,8 @@ carried_of Datum = TheDatum
 carried_of (Opaque Keyless) = NoKey
 carried_of (Opaque (Fields encoding fields)) = KeyFields encoding fields.now
 
-abbrev pub said_of : WriterKind → Guid × Carried
-said_of row = (row.writer, carried_of row.kind)
+abbrev pub said_of : WriterKind → Guid × Carried × ℕ
+said_of row = (row.writer, carried_of row.kind, row.max_value)
 
 -- what the same row says in arrays, among these fields
 abbrev pub fields_at : List KeyField → FlatKind → List KeyField
@@ -74,9 +75,12 @@ carried_by fields k =
     else if k.kind == 2 then KeyFields Cdr (fields_at fields k)
     else KeyFields Cdr2 (fields_at fields k)
 
-abbrev pub said_by : List KeyField → FlatKind → Guid × Carried
-said_by fields k =
-    (record { prefix = record { 0 = k.prefix }; entity = record { 0 = k.entity } }, carried_by fields k)
+abbrev pub said_by : List KeyField → FlatKind → Guid × Carried × ℕ
+said_by fields k = (
+  record { prefix = record { 0 = k.prefix }; entity = record { 0 = k.entity } },
+  carried_by fields k,
+  max_value_of k.max_value,
+)
 
 -- what is done with a datagram of the network
 abbrev pub way_of : Bool → Way

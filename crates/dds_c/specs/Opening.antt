@@ -1,9 +1,9 @@
 -- What a configuration in arrays means, and what is held once a peer was opened.
 --
 -- DDS 1.4, 2.2.3 (supported QoS); that a configuration comes in arrays is this project's own.
-use Rattle.std.specs.Prelude.{◌≡◌, ◌⊎◌, ℕ, ◌+◌, List, [], ◌∷◌, length, map, Bool, true, false, ◌||◌, not, nat_eq, Option, Some, None, if◌then◌else◌}
+use Rattle.std.specs.Prelude.{◌≡◌, ◌⊎◌, ℕ, ◌+◌, ◌==◌, List, [], ◌∷◌, length, map, Bool, true, false, ◌||◌, not, nat_eq, Option, Some, None, if◌then◌else◌}
 use Rattle.std.specs.List.{filter, list_any}
-use Rattle.dds_base.specs.Bounds.{usual_arrivals}
+use Rattle.dds_base.specs.Bounds.{usual_arrivals, usual_value}
 use Rattle.dds_base.specs.Number.{is_number}
 use Rattle.dds_base.specs.Refusal.{Refuses}
 use Rattle.dds_base.specs.declared.code.Code.{Code}
@@ -45,6 +45,10 @@ abbrev pub max_arrivals_of : Bool → ℕ → ℕ
 max_arrivals_of true max_arrivals = max_arrivals
 max_arrivals_of false max_arrivals = usual_arrivals
 
+-- how many octets a value has at most: as many as usual where it says 0
+abbrev pub max_value_of : ℕ → ℕ
+max_value_of most = if most == 0 then usual_value else most
+
 -- whether one writer alone may change an instance
 abbrev pub ownership_of : Bool → OwnershipQos
 ownership_of true = Exclusive
@@ -66,6 +70,7 @@ writer_of w = record {
   strength = w.strength;
   lease = lease_of w.has_lease w.lease;
   autodispose = w.autodispose;
+  max_value = max_value_of w.max_value;
 }
 
 -- a reader, as peers know it
@@ -80,6 +85,7 @@ reader_of r = record {
   max_instances = r.max_instances;
   max_arrivals = max_arrivals_of r.has_max_arrivals r.max_arrivals;
   lease = lease_of r.has_lease r.lease;
+  max_value = max_value_of r.max_value;
 }
 
 -- the writers of the peer of this number, in their order

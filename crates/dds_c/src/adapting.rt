@@ -11,6 +11,7 @@ ghost use Rattle.rtps_adapter.specs.Adapting.{IsAnswer};
 ghost use Rattle.dds_c.specs.Adapting.{AdaptedCopied, Turned, TurnedBy, field_of, fields_at, is_field, is_kind, no_table, said_by, said_of, size_of, way_of};
 ghost use Rattle.dds_c.specs.Fetching.{CopiesNothing};
 
+use crate::config::max_value;
 use crate::out::copy_out;
 use dds_base::{Code, EntityId, Guid, GuidPrefix};
 use rtps_adapter::{
@@ -47,6 +48,8 @@ pub struct FlatKind {
     pub first_field: u32,
     /// How many fields it has, at least one, where `kind` is 2 or 3.
     pub field_count: u32,
+    /// How many octets a value of it has at most, to 65,000; 0 says 1,024.
+    pub max_value: u32,
 }
 
 fn size_of(octets: u8) -> FieldSize
@@ -143,6 +146,7 @@ fn writer_kind<'a>(fields: &'a [KeyField], kind: &FlatKind) -> WriterKind<'a>
             2 => Kind::Opaque(KeyRule::Fields(Encoding::Cdr, own)),
             _ => Kind::Opaque(KeyRule::Fields(Encoding::Cdr2, own)),
         },
+        max_value: max_value(kind.max_value),
     }
 }
 

@@ -5,11 +5,11 @@
 ghost use Rattle.std.specs.Prelude.{◌≡◌, IfOk, not};
 ghost use Rattle.std.specs.List.{list_any};
 ghost use Rattle.dds_base.specs.Number.{is_number};
-ghost use Rattle.dds_c.specs.Opening.{config_of, history_of, lease_of, max_arrivals_of, names_no_peer, ownership_of, peer_of, reader_of, readers_of, reliability_of, writer_of, writers_of};
+ghost use Rattle.dds_c.specs.Opening.{config_of, history_of, lease_of, max_arrivals_of, max_value_of, names_no_peer, ownership_of, peer_of, reader_of, readers_of, reliability_of, writer_of, writers_of};
 
 use dds_base::{
     Config, EntityId, GuidPrefix, HistoryQos, OwnershipQos, PeerConfig, ReaderConfig,
-    ReliabilityQos, Sequence, WriterConfig, index_of,
+    ReliabilityQos, Sequence, USUAL_VALUE, WriterConfig, index_of,
 };
 use std::alloc::{AllocError, Global};
 
@@ -49,6 +49,8 @@ pub struct FlatWriter {
     pub max_samples: i32,
     /// Of the writers of an exclusive instance the strongest owns it.
     pub strength: i32,
+    /// How many octets a value has at most, to 65,000; 0 says 1,024.
+    pub max_value: u32,
     /// In units of 2^-32 second, from 1 to 2^63 - 1; it counts only where `has_lease` is true.
     pub lease: u64,
 }
@@ -81,6 +83,8 @@ pub struct FlatReader {
     pub max_samples: i32,
     /// Positive, or -1 for no limit.
     pub max_instances: i32,
+    /// How many octets a value of a writer that it takes has at most, to 65,000; 0 says 1,024.
+    pub max_value: u32,
     /// In units of 2^-32 second, from 1 to 2^63 - 1; it counts only where `has_lease` is true.
     pub lease: u64,
     /// From 1 to 2^63; it counts only where `has_max_arrivals` is true.
@@ -111,6 +115,13 @@ fn max_arrivals(has_max_arrivals: bool, max_arrivals: u64) -> u64
     } else {
         ReaderConfig::USUAL_ARRIVALS
     }
+}
+
+/// How many octets a value has at most.
+pub fn max_value(most: u32) -> u32
+    ensures { result ≡ max_value_of most }
+{
+    if most == 0 { USUAL_VALUE } else { most }
 }
 
 fn ownership(is_exclusive: bool) -> OwnershipQos
@@ -145,6 +156,7 @@ fn writer_config(writer: &FlatWriter) -> WriterConfig
         strength: writer.strength,
         lease: lease(writer.has_lease, writer.lease),
         autodispose: writer.autodispose,
+        max_value: max_value(writer.max_value),
     }
 }
 
@@ -161,6 +173,7 @@ fn reader_config(reader: &FlatReader) -> ReaderConfig
         max_instances: reader.max_instances,
         max_arrivals: max_arrivals(reader.has_max_arrivals, reader.max_arrivals),
         lease: lease(reader.has_lease, reader.lease),
+        max_value: max_value(reader.max_value),
     }
 }
 

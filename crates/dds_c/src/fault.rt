@@ -50,6 +50,8 @@ fn number_of_rule(rule: ConfigRule) -> u8
         ConfigRule::DepthWithinMaximum => 13,
         ConfigRule::SameOwnership => 14,
         ConfigRule::OfferedLease => 15,
+        ConfigRule::MaxValue => 16,
+        ConfigRule::OfferedValue => 17,
     }
 }
 

@@ -5,11 +5,12 @@
 ghost use Rattle.std.specs.Prelude.{◌≡◌, ◌≢◌, ◌⊎◌, true, false, length};
 ghost use Rattle.std.specs.List.{fold};
 ghost use Rattle.dds_c.specs.Opening.{config_of, names_no_peer};
-ghost use Rattle.dds_c.specs.Sums.{bit, mixed, mixed_lease, number_of_history, number_of_ownership, number_of_reliability, sum_of, with_peer, with_reader, with_writer};
+ghost use Rattle.dds_c.specs.Sums.{bit, mixed, mixed_lease, mixed_value, number_of_history, number_of_ownership, number_of_reliability, sum_of, with_peer, with_reader, with_writer};
 
 use crate::config::{FlatPeer, FlatReader, FlatWriter, config, name_no_peer};
 use dds_base::{
-    Code, Config, HistoryQos, OwnershipQos, PeerConfig, ReaderConfig, ReliabilityQos, WriterConfig,
+    Code, Config, HistoryQos, OwnershipQos, PeerConfig, ReaderConfig, ReliabilityQos, USUAL_VALUE,
+    WriterConfig,
 };
 use std::alloc::{AllocError, Global};
 
@@ -66,6 +67,18 @@ fn number_of_history(history: HistoryQos) -> u64
     }
 }
 
+/// How long values may be, where that is not as usual: so a configuration that says nothing of it has the sum that it had
+/// before there was such a policy.
+fn mix_value(sum: u64, max_value: u32) -> u64
+    ensures { result ≡ mixed_value sum max_value }
+{
+    if max_value == USUAL_VALUE {
+        sum
+    } else {
+        mix(sum, u64::from(max_value))
+    }
+}
+
 fn with_writer(sum: u64, writer: &WriterConfig) -> u64
     ensures { result ≡ with_writer sum writer.now }
 {
@@ -76,7 +89,8 @@ fn with_writer(sum: u64, writer: &WriterConfig) -> u64
     let sum = mix(sum, u64::from(writer.max_samples.cast_unsigned()));
     let sum = mix(sum, u64::from(writer.strength.cast_unsigned()));
     let sum = mix(sum, u64::from(writer.autodispose));
-    mix_lease(sum, writer.lease)
+    let sum = mix_lease(sum, writer.lease);
+    mix_value(sum, writer.max_value)
 }
 
 fn with_reader(sum: u64, reader: &ReaderConfig) -> u64
@@ -90,7 +104,8 @@ fn with_reader(sum: u64, reader: &ReaderConfig) -> u64
     let sum = mix(sum, u64::from(reader.max_samples.cast_unsigned()));
     let sum = mix(sum, u64::from(reader.max_instances.cast_unsigned()));
     let sum = mix(sum, reader.max_arrivals);
-    mix_lease(sum, reader.lease)
+    let sum = mix_lease(sum, reader.lease);
+    mix_value(sum, reader.max_value)
 }
 
 fn with_peer(sum: u64, peer: &PeerConfig) -> u64

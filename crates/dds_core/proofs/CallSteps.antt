@@ -141,9 +141,11 @@ no_unregister part w key none = (bad_first (has_element part.rtps.writers w) _ n
 -- a value that is too long
 long_write : (part : Part) (w : ℕ) (key : Key) (value : List ℕ) → (own_writer part w).max_value < length value
     → Answers no_filters part (call.Write w key value) (Refused BadParameter) part.dds
-long_write part w key value long =
-    (bad_second (not (has_element part.rtps.writers w)) (nat_lt (own_writer part w).max_value (length value)) _
-    (grind (arith, nat_tests)), refl)
+long_write part w key value long = (
+  bad_second (not (has_element part.rtps.writers w)) (nat_lt (own_writer part w).max_value (length value)) _
+      (grind (arith, nat_tests)),
+  refl,
+)
   where
     bad_second : (a b : Bool) (rest : Option Code) → b ≡ true
         → Refuses (if a || b then Some BadParameter else rest) BadParameter

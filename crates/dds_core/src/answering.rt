@@ -107,7 +107,11 @@ fn answers_per(max_value: u32) -> usize
     ensures per { result ≡ answers_per max_value }
     ensures some { 1 ≤ result }
 {
-    if max_value <= USUAL_VALUE { MAX_ANSWERS } else { 1 }
+    if max_value <= USUAL_VALUE {
+        MAX_ANSWERS
+    } else {
+        1
+    }
 }
 
 /// Adds a change, which lends its value, with its moment.

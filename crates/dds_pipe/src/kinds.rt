@@ -1,6 +1,6 @@
 //! What the topics of writers carry, as lines say it, and datagrams that are turned by it.
 
-use dds_base::{Code, Guid, Octets};
+use dds_base::{Code, Guid, Octets, USUAL_VALUE};
 use dds_script::{decimal, entity_id, guid_prefix};
 use rtps_adapter::{
     Adapted, Encoding, FieldSize, KeyField, KeyRule, Kind, WriterKind, inward, inward_with_gaps,
@@ -24,6 +24,8 @@ enum Carried {
 pub struct KindLine {
     writer: Guid,
     carried: Carried,
+    /// How many octets a value of it has at most.
+    max_value: u32,
     /// Whether numbers of the writer that can't be read stand in GAPs.
     has_gaps: bool,
 }
@@ -109,8 +111,22 @@ fn guid(prefix: &str, entity: &str) -> Option<Guid> {
     Some(Guid { prefix, entity })
 }
 
-/// What the words of a `kind` line say: the GUID of a writer, what its topic carries, and `gaps` where numbers that
-/// can't be read are to stand in GAPs.
+/// How many octets a value has at most, where the last word says it, and the words before that.
+fn most_of<'a, 'w>(words: &'a [&'w str]) -> (&'a [&'w str], u32) {
+    if let [said @ .., word] = words {
+        let most = word
+            .strip_prefix("values=")
+            .and_then(|number| decimal(number))
+            .and_then(|number| u32::try_from(number).ok());
+        if let Some(most) = most {
+            return (said, most);
+        }
+    }
+    (words, USUAL_VALUE)
+}
+
+/// What the words of a `kind` line say: the GUID of a writer, what its topic carries, `values=` with how many octets a
+/// value has at most, and `gaps` where numbers that can't be read are to stand in GAPs.
 pub fn kind_line(alloc: Global, words: &[&str]) -> Result<Option<KindLine>, AllocError> {
     let [prefix, entity, said @ ..] = words else {
         return Ok(None);
@@ -122,10 +138,12 @@ pub fn kind_line(alloc: Global, words: &[&str]) -> Result<Option<KindLine>, Allo
         [said @ .., "gaps"] => (said, true),
         said => (said, false),
     };
+    let (said, max_value) = most_of(said);
     match carried_of(alloc, said)? {
         Some(carried) => Ok(Some(KindLine {
             writer,
             carried,
+            max_value,
             has_gaps,
         })),
         None => Ok(None),
@@ -144,6 +162,7 @@ impl KindLine {
         WriterKind {
             writer: self.writer,
             kind,
+            max_value: self.max_value,
         }
     }
 }

@@ -3,7 +3,7 @@
 //! The laws are this project's own; what they speak of is in RTPS 2.5, 8.3.8 and 8.4 (behaviour), and DDS 1.4,
 //! 2.2.3.
 
-ghost use Rattle.std.specs.Prelude.{◌≡◌, ◌↔◌, ◌⊎◌, ◌+◌, ◌∷◌, [], IsTrue, List, length, ℕ};
+ghost use Rattle.std.specs.Prelude.{◌≡◌, ◌↔◌, ◌⊎◌, ◌+◌, ◌<◌, ◌≤◌, ◌∷◌, [], IsTrue, List, length, ℕ};
 ghost use Rattle.dds_protocol.specs.Bounds.{OpensBounded, RunsBounded, StepsBounded};
 ghost use Rattle.dds_protocol.specs.CatchUp.{WindowCatchesUp};
 ghost use Rattle.dds_protocol.specs.Closed.{BestEffortAsDropped, ClosedAcknowledges, ClosedClaims, ClosedLosesNone, OpensClosed, RunsAlike, RunsClosed, StaysClosed};
@@ -11,7 +11,8 @@ ghost use Rattle.dds_protocol.specs.DueMessages.{AreSent, Due, packet_of};
 ghost use Rattle.dds_protocol.specs.Fresh.{OpensUsed, StepsUsed};
 ghost use Rattle.dds_protocol.specs.InOrder.{ChangesComeInOrder};
 ghost use Rattle.dds_protocol.specs.Laws.{AnswersAreTrue, AnswersCanBeWritten, AssertionsAreTrue, AssertionsCanBeWritten, Composes, ComposesRuns, HeartbeatsAreTrue, KeepAllIsKept, OpensBacked, OpensSound, OwnersExist, ReadersTellWritersApart, RulesRestOnClaims};
-ghost use Rattle.dds_protocol.specs.Repair.{AnswersAreFew, AsksAreSent, BeatsAreSent, PairCatchesUp};
+ghost use Rattle.dds_protocol.specs.Protocol.{answers_per};
+ghost use Rattle.dds_protocol.specs.Repair.{AnswersAreFew, AsksAreSent, BeatsAreSent, PairCatchesUp, packets_for};
 ghost use Rattle.dds_protocol.specs.declared.event.Packet.{Packet};
 
 use crate::event::{Event, Output};
@@ -179,4 +180,15 @@ pub fn pair_catches_up()
     ensures ask { AsksAreSent }
     // The answers to that go in 32 packets at most, or in 256 where values may be longer than usual.
     ensures answers { AnswersAreFew }
+{}
+
+/// Where values are no longer than usual, of at most 1,024 octets, eight answers stand in a packet, and 32 packets have
+/// all answers of a round; where they may be longer, one stands in each.
+pub fn usual_values_stand_together()
+    // Eight.
+    ensures eight { (most : ℕ) → most ≤ 1024 → answers_per most ≡ 8 }
+    // And 32 packets.
+    ensures packets { (most : ℕ) → most ≤ 1024 → packets_for most ≡ 32 }
+    // Else one.
+    ensures one { (most : ℕ) → 1024 < most → answers_per most ≡ 1 }
 {}

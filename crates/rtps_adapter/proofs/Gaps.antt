@@ -53,9 +53,9 @@ five_put reader writer sn out a b first second third fourth fifth a_is b_is e f 
 
 -- the GAP, behind its header
 pub gap_put : (reader writer : EntityId) (sn : ℕ) (old begun new : List ℕ) → length reader.0 ≡ 4 → length writer.0 ≡ 4
-    → length old + 32 ≤ 65535 → begun ≡ old ++ frame_text 8 1 28 []
+    → length old + 32 ≤ 65507 → begun ≡ old ++ frame_text 8 1 28 []
     → new ≡ begun ++ text_of_gap (gap_of reader writer sn)
-    → (new ≡ old ++ (gap_piece (gap_of reader writer sn)).text) × (length new ≤ 65535)
+    → (new ≡ old ++ (gap_piece (gap_of reader writer sn)).text) × (length new ≤ 65507)
 gap_put reader writer sn old begun new r w room e f =
     let text = text_of_gap (gap_of reader writer sn) in
     let whole : new ≡ old ++ (frame_text 8 1 28 [] ++ text_of_gap (gap_of reader writer sn)) =

@@ -23,7 +23,7 @@ use Rattle.rtps_adapter.specs.declared.direction.Direction.TheVariants.{Inward, 
 use Rattle.rtps_adapter.specs.declared.kinds.WriterKind.{WriterKind}
 use Rattle.rtps_adapter.specs.Turning.{Piece, piece_of, turned}
 use Rattle.rtps_adapter.specs.Adapting.{StandsIn, IsMessage, Becomes, becomes, Makes, Adapts, texts_of}
-use Rattle.rtps_adapter.specs.ComesBack.{Fits, ComesBack, ComesBackWithGaps}
+use Rattle.rtps_adapter.specs.ComesBack.{Fits, IsWithin, ComesBack, ComesBackWithGaps}
 use Rattle.rtps_adapter.proofs.Rounds.{Round, round, spelled, filled_back}
 
 -- ---- bytes have one reading
@@ -101,7 +101,7 @@ frame_length id flags body =
 
 -- a submessage that was written, and others behind it
 stands_written : (id flags : ℕ) (body rest : List ℕ) (ps : List Piece) → runs_to_end id (length body) ≡ false
-    → length (frame_text id flags (length body) body) ≤ 65535 → StandsIn rest ps []
+    → length (frame_text id flags (length body) body) ≤ 65507 → StandsIn rest ps []
     → StandsIn (frame_text id flags (length body) body ++ rest) (piece_of id flags body ∷ ps) []
 stands_written id flags body rest ps within short on = (
   rest,
@@ -120,10 +120,10 @@ record Rounds (kinds : List WriterKind) (source : GuidPrefix) (ss : List Submess
   outs : List Piece
   out_is : map (turned Outward kinds source) (map spelled ss) ≡ outs
   back_is : map (turned Inward kinds source) outs ≡ map spelled ss
-  filled_is : map (filled kinds source) outs ≡ map spelled ss
+  filled_is : AllByRecursion (IsWithin kinds source) ss → map (filled kinds source) outs ≡ map spelled ss
   shorter : length (texts_of outs) ≤ length (texts_of (map spelled ss))
-  stands : length (texts_of outs) ≤ 65535 → StandsIn (texts_of outs) outs []
-  stood : length (texts_of (map spelled ss)) ≤ 65535 → StandsIn (texts_of (map spelled ss)) (map spelled ss) []
+  stands : length (texts_of outs) ≤ 65507 → StandsIn (texts_of outs) outs []
+  stood : length (texts_of (map spelled ss)) ≤ 65507 → StandsIn (texts_of (map spelled ss)) (map spelled ss) []
 
 rounds : (kinds : List WriterKind) (source : GuidPrefix) (ss : List Submessage) → AllByRecursion IsSpellable ss
     → AllByRecursion (Fits kinds source) ss → Rounds kinds source ss
@@ -131,13 +131,13 @@ rounds kinds source [] valid fits = record {
   outs = [];
   out_is = refl;
   back_is = refl;
-  filled_is = refl;
+  filled_is = λ short. refl;
   shorter = omega arith;
   stands = λ short. (inl (omega arith), refl);
   stood = λ short. (inl (omega arith), refl);
 }
 rounds kinds source (s ∷ ss) valid fits =
-    let r : Round kinds source (spelled s) = round kinds source s valid.0 fits.0 in
+    let r : Round kinds source (spelled s) (IsWithin kinds source s) = round kinds source s valid.0 fits.0 in
     let more : Rounds kinds source ss = rounds kinds source ss valid.1 fits.1 in
     let out : Piece = piece_of (spelled s).id r.flags r.body in
     record {
@@ -146,8 +146,8 @@ rounds kinds source (s ∷ ss) valid fits =
           (map (turned Outward kinds source) (map spelled ss)) more.outs r.out_is more.out_is;
       back_is = two (turned Inward kinds source out) (spelled s) (map (turned Inward kinds source) more.outs)
           (map spelled ss) r.back_is more.back_is;
-      filled_is = two (filled kinds source out) (spelled s) (map (filled kinds source) more.outs) (map spelled ss)
-          (filled_back kinds source (spelled s) r) more.filled_is;
+      filled_is = λ short. two (filled kinds source out) (spelled s) (map (filled kinds source) more.outs) (map spelled ss)
+          (filled_back kinds source (spelled s) (IsWithin kinds source s) r short.0) (more.filled_is short.1);
       shorter = omega (
         arith,
         r.shorter,
@@ -174,7 +174,7 @@ rounds kinds source (s ∷ ss) valid fits =
 
 -- a header, and submessages that were written
 abbrev message_of : (prefix : GuidPrefix) (bytes : List ℕ) (ps : List Piece) → length prefix.0 ≡ 12
-    → bytes ≡ header_text 5 (0 ∷ 0 ∷ []) prefix ++ texts_of ps → length bytes ≤ 65535
+    → bytes ≡ header_text 5 (0 ∷ 0 ∷ []) prefix ++ texts_of ps → length bytes ≤ 65507
     → StandsIn (texts_of ps) ps [] → IsMessage bytes prefix ps []
 message_of prefix bytes ps len parts short stands = record {
   header = header_text 5 (0 ∷ 0 ∷ []) prefix;
@@ -186,7 +186,7 @@ message_of prefix bytes ps len parts short stands = record {
 }
 
 texts_le : (prefix : GuidPrefix) (bytes texts : List ℕ) → bytes ≡ header_text 5 (0 ∷ 0 ∷ []) prefix ++ texts
-    → length bytes ≤ 65535 → length texts ≤ 65535
+    → length bytes ≤ 65507 → length texts ≤ 65507
 texts_le prefix bytes texts parts short =
     omega (arith, short, ap length parts, length-append (header_text 5 (0 ∷ 0 ∷ []) prefix) texts)
 
@@ -216,7 +216,7 @@ returned kinds m out w r there =
     (r.stood (texts_le m.prefix (spelling_of m) (texts_of (map spelled m.submessages)) parts w.short))) there r.out_is in
     let len = length-append (header_text 5 (0 ∷ 0 ∷ []) m.prefix) (texts_of r.outs) in
     let long = length-append (header_text 5 (0 ∷ 0 ∷ []) m.prefix) (texts_of (map spelled m.submessages)) in
-    let short : length out ≤ 65535 =
+    let short : length out ≤ 65507 =
     omega (arith, len, long, ap length out_is, ap length parts, r.shorter, w.short) in (
       omega (arith, len, long, ap length out_is, ap length parts, r.shorter),
       λ way back same here.
@@ -232,6 +232,6 @@ comes_back kinds m out back w fits there here =
     let known = returned kinds m out w r there in (known.0, known.1 (Turning Inward) back r.back_is here)
 
 pub comes_back_filled : ComesBackWithGaps
-comes_back_filled kinds m out back w fits there here =
+comes_back_filled kinds m out back w fits within there here =
     let r : Rounds kinds m.prefix m.submessages = rounds kinds m.prefix m.submessages w.submessages fits in
-    (returned kinds m out w r there).1 Filling back r.filled_is here
+    (returned kinds m out w r there).1 Filling back (r.filled_is within) here

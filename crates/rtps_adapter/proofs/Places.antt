@@ -266,7 +266,7 @@ frame_again bytes rest other p frame text go =
 
 -- a submessage that is written anew, before other octets
 frame_anew : (id flags : ℕ) (body other : List ℕ) → 20 ≤ length body
-    → length (frame_text id flags (length body) body) ≤ 65535
+    → length (frame_text id flags (length body) body) ≤ 65507
     → IsFrame (frame_text id flags (length body) body ++ other) id flags body other
 frame_anew id flags body other long short = record {
   len = length body;
@@ -278,21 +278,21 @@ frame_anew id flags body other long short = record {
 
 frame_turned : (direction : Direction) (kinds : List WriterKind) (source : GuidPrefix) (bytes rest other : List ℕ)
     (p : Piece) → IsFrame bytes p.id p.flags p.body rest → bytes ≡ p.text ++ rest → (rest ≡ [] → other ≡ [])
-    → length ((turned direction kinds source p).text) ≤ 65535
+    → length ((turned direction kinds source p).text) ≤ 65507
     → (q : Piece) → turned direction kinds source p ≡ q → Shape direction kinds source p
     → IsFrame (q.text ++ other) q.id q.flags q.body other
 frame_turned direction kinds source bytes rest other p frame text go short q is (inl same) =
     subst (λ (z : Piece). IsFrame (z.text ++ other) z.id z.flags z.body other) (sym same ∙ is)
     (frame_again bytes rest other p frame text go)
 frame_turned direction kinds source bytes rest other p frame text go short q is (inr s) =
-    let short_text : length (frame_text p.id s.0 (length s.1) s.1) ≤ 65535 =
+    let short_text : length (frame_text p.id s.0 (length s.1) s.1) ≤ 65507 =
     omega (arith, short, ap (λ (z : Piece). length z.text) s.2) in
     subst (λ (z : Piece). IsFrame (z.text ++ other) z.id z.flags z.body other) (sym s.2 ∙ is)
     (frame_anew p.id s.0 s.1 other s.3 short_text)
 
 stands_turned : (direction : Direction) (kinds : List WriterKind) (source : GuidPrefix) (bytes : List ℕ)
     (ps : List Piece) (left : List ℕ) → StandsIn bytes ps left
-    → length (turned_texts (Turning direction) kinds source ps ++ left) ≤ 65535
+    → length (turned_texts (Turning direction) kinds source ps ++ left) ≤ 65507
     → StandsIn (turned_texts (Turning direction) kinds source ps ++ left) (map (turned direction kinds source) ps) left
 stands_turned direction kinds source bytes [] left s short =
     (subst (λ (z : List ℕ). IsEnd z) (sym s.1) s.0, refl)
@@ -331,7 +331,7 @@ same_places direction kinds bytes out t short =
     let header : m.header ≡ header_text m.begins.minor m.begins.vendor t.source =
     append_cancel_right m.header (header_text h.minor h.vendor t.source) m.body (sym m.parts ∙ h.header) in
     let texts = turned_texts (Turning direction) kinds t.source t.pieces ++ t.left in
-    let few : length (turned_texts (Turning direction) kinds t.source t.pieces ++ t.left) ≤ 65535 =
+    let few : length (turned_texts (Turning direction) kinds t.source t.pieces ++ t.left) ≤ 65507 =
     omega (arith, short, ap length t.text, length-append m.header texts) in
     record {
       source = t.source;

@@ -1,5 +1,5 @@
 -- Each submessage that a peer wrote comes back as it was.
-use Rattle.std.proofs.Common.{◌≡◌, ℕ, ◌%◌, ◌<◌, ◌≤◌, Bool, true, false, eqb, ltb, ◌&&◌, List, [], ◌∷◌, ◌++◌, length, Option, Some, None, refl, sym, ap, subst, ◌∙◌, append_assoc, arith, ℤ}
+use Rattle.std.proofs.Common.{◌≡◌, ℕ, ◌+◌, ◌%◌, ◌<◌, ◌≤◌, Bool, true, false, eqb, ltb, ◌&&◌, List, [], ◌∷◌, ◌++◌, length, Option, Some, None, refl, sym, ap, subst, ◌∙◌, append_assoc, arith, ℤ}
 use Rattle.std.proofs.lemmas.Bool.{ne_eqb, le-ltb}
 use Rattle.std.proofs.lemmas.List.{length-append}
 use Rattle.dds_base.specs.declared.endianness.Endianness.TheVariants.{Little}
@@ -20,28 +20,28 @@ use Rattle.rtps_wire.specs.AckNack.{text_of_acknack}
 use Rattle.rtps_wire.specs.Heartbeat.{heartbeat_text}
 use Rattle.rtps_wire.specs.Parameters.{parameter_text}
 use Rattle.rtps_wire.specs.Sets.{text_of_set}
-use Rattle.rtps_wire.specs.Submessages.{id_of, flags_of, body_of, padding, IsSpellable}
+use Rattle.rtps_wire.specs.Submessages.{id_of, flags_of, body_of, octets_of_change, padding, IsSpellable}
 use Rattle.rtps_wire.proofs.SetSpelling.{text_of_set_len}
 use Rattle.rtps_adapter.specs.declared.direction.Direction.TheVariants.{Inward, Outward}
 use Rattle.rtps_adapter.specs.declared.kinds.Kind.{Kind}
 use Rattle.rtps_adapter.specs.declared.kinds.Kind.TheVariants as kinds_of
 use Rattle.rtps_adapter.specs.declared.kinds.KeyRule.{KeyRule}
 use Rattle.rtps_adapter.specs.declared.kinds.WriterKind.{WriterKind}
-use Rattle.rtps_adapter.specs.Kinds.{kind_of, rule_of}
+use Rattle.rtps_adapter.specs.Kinds.{kind_of, most_of, rule_of}
 use Rattle.rtps_adapter.specs.Opened.{payload_at}
 use Rattle.rtps_adapter.specs.Turning.{Piece, piece_of, aligned, has_payload, foreign_payload, turned_payload, changed, turned}
 use Rattle.rtps_adapter.specs.Payloads.{inward_payload, outward_payload}
 use Rattle.rtps_adapter.specs.Filling.{named_at, is_lost, lost, filled}
 use Rattle.rtps_adapter.proofs.Gaps.{named_writer}
-use Rattle.rtps_adapter.specs.ComesBack.{IsKey, FitsRule, FitsKind, Fits}
+use Rattle.rtps_adapter.specs.ComesBack.{IsKey, FitsRule, FitsKind, Fits, IsWithin}
 use Rattle.rtps_adapter.proofs.Returning.{written_parameters, written_payload, written_whole, says_key, carries_payload, key_flag, head_of_data, data_opens, data_returns, write_there, write_back, payload_back, payload_less, key_returns, key_there, foreign_not, foreign_is, is_little}
 
 -- a submessage as it is written
 abbrev pub spelled : Submessage → Piece
 spelled s = piece_of (id_of s) (flags_of s) (body_of s)
 
--- what a submessage turns into on its way out, and that it comes back
-pub record Round (kinds : List WriterKind) (source : GuidPrefix) (p : Piece) : Type 0 where
+-- what a submessage turns into on its way out, and that it comes back; its number is kept where it is so short
+pub record Round (kinds : List WriterKind) (source : GuidPrefix) (p : Piece) (Short : Type 0) : Type 0 where
   pub flags : ℕ
   pub body : List ℕ
   pub out_is : turned Outward kinds source p ≡ piece_of p.id flags body
@@ -49,12 +49,12 @@ pub record Round (kinds : List WriterKind) (source : GuidPrefix) (p : Piece) : T
   pub within : runs_to_end p.id (length body) ≡ false
   pub shorter : length body ≤ length p.body
   pub was_within : runs_to_end p.id (length p.body) ≡ false
-  pub kept : lost kinds source p.id flags body ≡ None
+  pub kept : Short → lost kinds source p.id flags body ≡ None
 
 -- it comes back too where numbers that can't be read stand in GAPs
-pub filled_back : (kinds : List WriterKind) (source : GuidPrefix) (p : Piece) (r : Round kinds source p)
-    → filled kinds source (piece_of p.id r.flags r.body) ≡ p
-filled_back kinds source p r = rw r.kept r.back_is
+pub filled_back : (kinds : List WriterKind) (source : GuidPrefix) (p : Piece) (Short : Type 0)
+    (r : Round kinds source p Short) → Short → filled kinds source (piece_of p.id r.flags r.body) ≡ p
+filled_back kinds source p Short r short = let kept = r.kept short in rw kept r.back_is
 
 -- a number that can be read
 pub not_lost : (kinds : List WriterKind) (source : GuidPrefix) (id flags : ℕ) (body : List ℕ)
@@ -90,9 +90,10 @@ aligned_positive text lt = omega (arith, lt, length-append text (padding (length
 -- what has no payload to be turned stays both ways
 stays : (kinds : List WriterKind) (source : GuidPrefix) (id flags : ℕ) (body : List ℕ)
     → foreign_payload kinds source id flags body ≡ None → runs_to_end id (length body) ≡ false
-    → lost kinds source id flags body ≡ None → Round kinds source (piece_of id flags body)
+    → (Short : Type 0) → (Short → lost kinds source id flags body ≡ None)
+    → Round kinds source (piece_of id flags body) Short
 unfolding changed
-stays kinds source id flags body none within kept = record {
+stays kinds source id flags body none within Short kept = record {
   flags = flags;
   body = body;
   out_is = rw none refl;
@@ -115,10 +116,11 @@ other_id kinds source id flags body other = rw other refl
 
 -- a submessage of another kind
 passed_on : (kinds : List WriterKind) (source : GuidPrefix) (id flags : ℕ) (body : List ℕ) → eqb id 21 ≡ false
-    → eqb id 22 ≡ false → runs_to_end id (length body) ≡ false → Round kinds source (piece_of id flags body)
+    → eqb id 22 ≡ false → runs_to_end id (length body) ≡ false
+    → Round kinds source (piece_of id flags body) (Unit {0})
 passed_on kinds source id flags body other fragment within =
-    stays kinds source id flags body (other_id kinds source id flags body other) within
-    (other_kept kinds source id flags body other fragment)
+    stays kinds source id flags body (other_id kinds source id flags body other) within (Unit {0})
+    (λ short. other_kept kinds source id flags body other fragment)
 
 -- ---- DATA
 
@@ -126,17 +128,19 @@ passed_on kinds source id flags body other fragment within =
 pub read_kept : (kinds : List WriterKind) (source : GuidPrefix) (flags : ℕ) (w : EntityId) (front q written : List ℕ)
     (rule : KeyRule) → has_payload flags ≡ true → payload_at flags (front ++ q) ≡ Some (w, q)
     → rule_of (kind_of kinds source w) ≡ Some rule → inward_payload rule (has_flag flags 8) q ≡ Some written
-    → length written ≤ 1048 → is_lost kinds source w 21 flags (front ++ q) ≡ false
+    → length written ≤ 24 + most_of kinds source w → is_lost kinds source w 21 flags (front ++ q) ≡ false
 unfolding turned_payload
 read_kept kinds source flags w front q written rule has opens is back short =
-    let few : ltb 1048 (length written) ≡ false = le-ltb 1048 (length written) short in
+    let few : ltb (24 + most_of kinds source w) (length written) ≡ false =
+    le-ltb (24 + most_of kinds source w) (length written) short in
     rw (is, foreign_is kinds source flags w front q rule has opens is, back, few) refl
 
-written_short : (b : ChangeBody) → IsBody b → length (written_payload b) ≤ 1048
-written_short (Write d) valid = simp length-append (omega (arith, valid.key, valid.value))
-written_short (Dispose k) valid = omega (arith, valid)
-written_short (Unregister k) valid = omega (arith, valid)
-written_short (DisposeUnregister k) valid = omega (arith, valid)
+written_short : (b : ChangeBody) → IsBody b → (most : ℕ) → octets_of_change b ≤ most
+    → length (written_payload b) ≤ 24 + most
+written_short (Write d) valid most few = simp length-append (omega (arith, valid.key, few))
+written_short (Dispose k) valid most few = omega (arith, valid)
+written_short (Unregister k) valid most few = omega (arith, valid)
+written_short (DisposeUnregister k) valid most few = omega (arith, valid)
 
 -- it names its writer
 data_names : (d : Data) (q : List ℕ) (x : EntityId × EntityId × ℕ) → IsData d
@@ -242,7 +246,7 @@ turning rule (DisposeUnregister k) valid fits =
 
 data_turned : (kinds : List WriterKind) (source : GuidPrefix) (d : Data) (rule : KeyRule) → IsData d
     → IsContent d.content → rule_of (kind_of kinds source d.writer_id) ≡ Some rule → FitsRule rule d.content.body
-    → Round kinds source (spelled (submessages.Data d))
+    → Round kinds source (spelled (submessages.Data d)) (IsWithin kinds source (submessages.Data d))
 data_turned kinds source d rule valid content is fits =
     let b = d.content.body in
     let flags = content_flags d.content in
@@ -260,7 +264,8 @@ data_turned kinds source d rule valid content is fits =
     (λ q. data_opens d.reader_id d.writer_id d.writer_sn d.content.body d.content.strength q valid.reader valid.writer
     content.body)
     is (head_whole d valid content.body) t.whole t.there t.back in
-    subst (λ (z : List ℕ). Round kinds source (piece_of 21 (content_flags d.content) z)) (sym whole) (record {
+    subst (λ (z : List ℕ). Round kinds source (piece_of 21 (content_flags d.content) z)
+    (IsWithin kinds source (submessages.Data d))) (sym whole) (record {
       flags = content_flags d.content;
       body = head_of_data d.reader_id d.writer_id d.writer_sn d.content.body d.content.strength ++ t.new;
       out_is = r.out_is;
@@ -275,17 +280,18 @@ data_turned kinds source d rule valid content is fits =
         length-append front (written_payload d.content.body),
       );
       was_within = positive_within 21 (length (aligned (front ++ written_payload d.content.body))) (omega arith);
-      kept = data_kept kinds source d t.new valid
+      kept = λ short. data_kept kinds source d t.new valid
           (read_kept kinds source (content_flags d.content) d.writer_id
           (head_of_data d.reader_id d.writer_id d.writer_sn d.content.body d.content.strength) t.new
           (written_payload d.content.body) rule (carries_payload d.content.body d.content.strength)
           (data_opens d.reader_id d.writer_id d.writer_sn d.content.body d.content.strength t.new valid.reader
           valid.writer content.body)
-          is t.back (written_short d.content.body content.body));
+          is t.back (written_short d.content.body content.body (most_of kinds source d.writer_id) short));
     })
 
 data_stays : (kinds : List WriterKind) (source : GuidPrefix) (d : Data) → IsData d → IsContent d.content
-    → rule_of (kind_of kinds source d.writer_id) ≡ None → Round kinds source (spelled (submessages.Data d))
+    → rule_of (kind_of kinds source d.writer_id) ≡ None
+    → Round kinds source (spelled (submessages.Data d)) (IsWithin kinds source (submessages.Data d))
 data_stays kinds source d valid content is =
     let front = head_of_data d.reader_id d.writer_id d.writer_sn d.content.body d.content.strength in
     let whole = data_whole d in
@@ -303,12 +309,13 @@ data_stays kinds source d valid content is =
     (written_payload d.content.body ++ padding (length (front ++ written_payload d.content.body)))
     (carries_payload d.content.body d.content.strength) opens is)
     (positive_within 21 (length (body_of (submessages.Data d))) (omega arith))
-    (ap (lost kinds source 21 (content_flags d.content)) parts
+    (IsWithin kinds source (submessages.Data d))
+    (λ short. ap (lost kinds source 21 (content_flags d.content)) parts
     ∙ data_kept kinds source d (written_payload d.content.body ++ zeros) valid (rw is refl))
 
 data_round : (kinds : List WriterKind) (source : GuidPrefix) (d : Data) (kind : Kind) → IsData d → IsContent d.content
     → kind_of kinds source d.writer_id ≡ kind → FitsKind kind d.content.body
-    → Round kinds source (spelled (submessages.Data d))
+    → Round kinds source (spelled (submessages.Data d)) (IsWithin kinds source (submessages.Data d))
 data_round kinds source d kinds_of.Datum valid content is fits =
     data_stays kinds source d valid content (ap rule_of is)
 data_round kinds source d (kinds_of.Opaque rule) valid content is fits =
@@ -317,7 +324,7 @@ data_round kinds source d (kinds_of.Opaque rule) valid content is fits =
 -- ---- each submessage
 
 pub round : (kinds : List WriterKind) (source : GuidPrefix) (s : Submessage) → IsSpellable s → Fits kinds source s
-    → Round kinds source (spelled s)
+    → Round kinds source (spelled s) (IsWithin kinds source s)
 round kinds source submessages.Pad valid fits =
     passed_on kinds source 1 (flags_of submessages.Pad) (body_of submessages.Pad) refl refl
     (pad_within (length (body_of submessages.Pad)))

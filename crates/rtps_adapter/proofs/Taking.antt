@@ -27,7 +27,7 @@ use Rattle.rtps_adapter.specs.declared.direction.Direction.TheVariants.{Inward}
 use Rattle.rtps_adapter.specs.declared.kinds.Kind.TheVariants.{Opaque}
 use Rattle.rtps_adapter.specs.declared.kinds.KeyRule.{KeyRule}
 use Rattle.rtps_adapter.specs.declared.kinds.WriterKind.{WriterKind}
-use Rattle.rtps_adapter.specs.Kinds.{kind_of, rule_of}
+use Rattle.rtps_adapter.specs.Kinds.{kind_of, most_of, rule_of}
 use Rattle.rtps_adapter.specs.Keys.{key_by, key_alone}
 use Rattle.rtps_adapter.specs.Opened.{after_first, after_parameters, after_inline, payload_at}
 use Rattle.rtps_adapter.specs.Payloads.{value_at}
@@ -207,12 +207,13 @@ unfolding turned_payload
 inward_key rule is_key front payload value k set opens key = rw set (key_back rule k payload value opens key)
 
 -- What a DATA of another type is turned into is read, where that says what it does and is no longer than a datum may be;
--- so it is with GAPs.
-abbrev AreRead : List WriterKind → GuidPrefix → Piece → Data → Type 0
-AreRead kinds source p d =
+-- so it is with GAPs, where this has no more octets than the table says.
+abbrev AreRead : List WriterKind → GuidPrefix → Piece → Data → List ℕ → Type 0
+AreRead kinds source p d new =
     Reads (turned Inward kinds source p).id (turned Inward kinds source p).flags (turned Inward kinds source p).body
     (submessages.Data d)
-    × Reads (filled kinds source p).id (filled kinds source p).flags (filled kinds source p).body (submessages.Data d)
+    × (length new ≤ 24 + most_of kinds source d.writer_id
+    → Reads (filled kinds source p).id (filled kinds source p).flags (filled kinds source p).body (submessages.Data d))
 
 is_read : (has_value has_key : Bool) (kinds : List WriterKind) (source : GuidPrefix) (p : Piece) (ps : List Parameter)
     (payload new : List ℕ) (rule : KeyRule) (d : Data)
@@ -224,10 +225,10 @@ is_read : (has_value has_key : Bool) (kinds : List WriterKind) (source : GuidPre
       front = front;
       octets = payload;
     }) ≡ Some new)
-    → ((zeros : List ℕ) → SaysContent p.flags ps (new ++ zeros) d.content) → length new ≤ 1048 → IsData d
-    → AreRead kinds source p d
+    → ((zeros : List ℕ) → SaysContent p.flags ps (new ++ zeros) d.content) → IsData d
+    → AreRead kinds source p d new
 unfolding changed turned_payload
-is_read has_value has_key kinds source p ps payload new rule d w has kind turns says short is_data =
+is_read has_value has_key kinds source p ps payload new rule d w has kind turns says is_data =
     let s = swaps_inline (has_flag p.flags 2) (order_of p.flags) w.from_parameters ps payload w.inline in
     let head = data_head (order_of p.flags) w.extra (16 + length w.skipped) d.reader_id d.writer_id d.writer_sn in
     let front : List ℕ = head ++ (w.skipped ++ s.front) in
@@ -269,15 +270,17 @@ is_read has_value has_key kinds source p ps payload new rule d w has kind turns 
     subst (λ (q : Piece). Reads q.id q.flags q.body (submessages.Data d)) (sym is)
     (record { kind = w.kind; flags_are = w.standard; body_is = known; valid = is_data }) in
     let body : List ℕ = (head ++ (w.skipped ++ s.front)) ++ payload in
-    let kept : lost kinds source 21 p.flags ((head ++ (w.skipped ++ s.front)) ++ payload) ≡ None =
-    not_lost kinds source 21 p.flags body (named_at p.flags body) refl (λ x e.
+    let kept : length new ≤ 24 + most_of kinds source d.writer_id
+    → lost kinds source 21 p.flags ((head ++ (w.skipped ++ s.front)) ++ payload) ≡ None =
+    λ short. not_lost kinds source 21 p.flags body (named_at p.flags body) refl (λ x e.
     subst (λ (writer : EntityId). is_lost kinds source writer 21 p.flags body ≡ false)
     (sym (named_writer p.flags w.extra (16 + length w.skipped) d.reader_id d.writer_id d.writer_sn
     (w.skipped ++ (s.front ++ payload)) x is_data.reader is_data.writer is_data.small
     (ap (named_at p.flags) (sym (behind payload)) ∙ e)))
     (read_kept kinds source p.flags d.writer_id front payload new rule has opens (ap rule_of kind) (turns front) short)) in
-    let same : filled kinds source p ≡ turned Inward kinds source p = rw (w.kind, was, kept) refl in
-    (read, subst (λ (q : Piece). Reads q.id q.flags q.body (submessages.Data d)) (sym same) read)
+    let same : length new ≤ 24 + most_of kinds source d.writer_id → filled kinds source p ≡ turned Inward kinds source p =
+    λ short. let here_kept = kept short in rw (w.kind, was, here_kept) refl in
+    (read, λ short. subst (λ (q : Piece). Reads q.id q.flags q.body (submessages.Data d)) (sym (same short)) read)
   where
     regroup : (a b c d : List ℕ) → (a ++ (b ++ c)) ++ d ≡ a ++ (b ++ (c ++ d))
     regroup a b c d = simp append_assoc
@@ -287,7 +290,7 @@ both_read : (kinds : List WriterKind) (source : GuidPrefix) (p : Piece) (ps : Li
     → HasStatus ps false false → HasStrength (order_of p.flags) ps d.content.strength
     → kind_of kinds source d.writer_id ≡ Opaque rule
     → value_at payload ≡ Some datum.value → key_by rule datum.value ≡ Some datum.key → IsDatum datum
-    → d.content.body ≡ Write datum → IsData d → AreRead kinds source p d
+    → d.content.body ≡ Write datum → IsData d → AreRead kinds source p d (spelling_of_datum datum)
 both_read kinds source p ps payload rule datum d w status strength kind value key valid body is_data =
     is_read true false kinds source p ps payload (spelling_of_datum datum) rule d w (rw (w.value_flag, w.key_flag) refl)
     kind
@@ -296,16 +299,20 @@ both_read kinds source p ps payload rule datum d w status strength kind value ke
     let reads : ReadsDatum (spelling_of_datum datum ++ zeros) datum =
     record { order = Little; options = 0 ∷ 0 ∷ []; rest = zeros; two = refl; text = refl; valid = valid } in
     record { body = rw body (status, w.value_flag, w.key_flag, reads); strength = strength })
-    (simp length-append (omega (arith, valid.key, valid.value)))
     is_data
 
+datum_short : (datum : Datum) → IsDatum datum → (most : ℕ) → length datum.value ≤ most
+    → length (spelling_of_datum datum) ≤ 24 + most
+datum_short datum valid most few = simp length-append (omega (arith, valid.key, few))
+
 pub values_are_read : ValuesAreRead
-values_are_read kinds source p ps payload rule datum d w status strength kind value key valid body is_data =
+values_are_read kinds source p ps payload rule datum d w status strength kind value key valid body is_data short =
     (both_read kinds source p ps payload rule datum d w status strength kind value key valid body is_data).0
 
 pub values_are_read_filled : ValuesAreReadWithGaps
-values_are_read_filled kinds source p ps payload rule datum d w status strength kind value key valid body is_data =
+values_are_read_filled kinds source p ps payload rule datum d w status strength kind value key valid body is_data short =
     (both_read kinds source p ps payload rule datum d w status strength kind value key valid body is_data).1
+    (datum_short datum valid (most_of kinds source d.writer_id) short)
 
 -- the key form of an instance that is ended
 says_end : (flags : ℕ) (ps : List Parameter) (k : Key) (zeros : List ℕ) (body : ChangeBody) → has_flag flags 4 ≡ false
@@ -327,7 +334,8 @@ both_keys_read : (kinds : List WriterKind) (source : GuidPrefix) (p : Piece) (ps
     → Carries false true p d.reader_id d.writer_id d.writer_sn ps payload
     → SaysEnd ps k d.content.body → HasStrength (order_of p.flags) ps d.content.strength
     → kind_of kinds source d.writer_id ≡ Opaque rule
-    → value_at payload ≡ Some value → key_alone rule value ≡ Some k → IsData d → AreRead kinds source p d
+    → value_at payload ≡ Some value → key_alone rule value ≡ Some k → IsData d
+    → AreRead kinds source p d (spelling_of_key k)
 both_keys_read kinds source p ps payload value rule k d w ends strength kind opens key is_data =
     let len = key_is_long true rule value k key in
     is_read false true kinds source p ps payload (spelling_of_key k) rule d w (rw (w.value_flag, w.key_flag) refl) kind
@@ -336,7 +344,6 @@ both_keys_read kinds source p ps payload value rule k d w ends strength kind ope
       body = says_end p.flags ps k zeros d.content.body w.value_flag w.key_flag len ends;
       strength = strength;
     })
-    (omega (arith, len))
     is_data
 
 pub keys_are_read : KeysAreRead
@@ -345,4 +352,5 @@ keys_are_read kinds source p ps payload value rule k d w ends strength kind open
 
 pub keys_are_read_filled : KeysAreReadWithGaps
 keys_are_read_filled kinds source p ps payload value rule k d w ends strength kind opens key is_data =
-    (both_keys_read kinds source p ps payload value rule k d w ends strength kind opens key is_data).1
+    let len = key_is_long true rule value k key in
+    (both_keys_read kinds source p ps payload value rule k d w ends strength kind opens key is_data).1 (omega (arith, len))

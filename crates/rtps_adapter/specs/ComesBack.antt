@@ -9,6 +9,7 @@ use Rattle.rtps_wire.specs.declared.message.Message.{Message}
 use Rattle.rtps_wire.specs.declared.submessage.Submessage.{Submessage}
 use Rattle.rtps_wire.specs.declared.submessage.Submessage.TheVariants.{Data}
 use Rattle.rtps_wire.specs.Messages.{IsWritable, spelling_of}
+use Rattle.rtps_wire.specs.Submessages.{octets_of_change}
 use Rattle.rtps_adapter.specs.declared.direction.Direction.TheVariants.{Inward, Outward}
 use Rattle.rtps_adapter.specs.declared.direction.Way.TheVariants.{Filling}
 use Rattle.rtps_adapter.specs.declared.kinds.Kind.{Kind}
@@ -16,7 +17,7 @@ use Rattle.rtps_adapter.specs.declared.kinds.Kind.TheVariants.{Datum, Opaque}
 use Rattle.rtps_adapter.specs.declared.kinds.KeyRule.{KeyRule}
 use Rattle.rtps_adapter.specs.declared.kinds.KeyRule.TheVariants.{Keyless, Fields}
 use Rattle.rtps_adapter.specs.declared.kinds.WriterKind.{WriterKind}
-use Rattle.rtps_adapter.specs.Kinds.{kind_of, no_key}
+use Rattle.rtps_adapter.specs.Kinds.{kind_of, most_of, no_key}
 use Rattle.rtps_adapter.specs.Keys.{key_alone, key_by, representation_of}
 use Rattle.rtps_adapter.specs.Payloads.{payload_of}
 use Rattle.rtps_adapter.specs.Adapting.{Adapts, Makes}
@@ -57,9 +58,14 @@ ComesBack = (kinds : List WriterKind) (m : Message) (out back : List ℕ) → Is
     → Adapts Outward kinds (spelling_of m) out → Adapts Inward kinds out back
     → (length out ≤ length (spelling_of m)) × (back ≡ spelling_of m)
 
+-- The value of a DATA has no more octets than the table says of its writer.
+abbrev pub IsWithin : List WriterKind → GuidPrefix → Submessage → Type 0
+IsWithin kinds source (Data d) = octets_of_change d.content.body ≤ most_of kinds source d.writer_id
+IsWithin kinds source s = Unit {0}
+
 -- It comes back so too where the numbers that a peer could not read stand in GAPs: none of them is one that a peer
--- wrote.
+-- wrote, where no value is longer than the table says.
 abbrev pub ComesBackWithGaps : Type 0
 ComesBackWithGaps = (kinds : List WriterKind) (m : Message) (out back : List ℕ) → IsWritable m
-    → AllByRecursion (Fits kinds m.prefix) m.submessages
+    → AllByRecursion (Fits kinds m.prefix) m.submessages → AllByRecursion (IsWithin kinds m.prefix) m.submessages
     → Adapts Outward kinds (spelling_of m) out → Makes Filling kinds out back → back ≡ spelling_of m

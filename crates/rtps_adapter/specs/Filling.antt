@@ -9,7 +9,7 @@ use Rattle.std.specs.Prelude.{ℕ, ◌+◌, ◌==◌, ◌&&◌, ◌||◌, Bool, 
 use Rattle.std.specs.Option.{option_map_or}
 use Rattle.dds_base.specs.declared.guid.EntityId.{EntityId}
 use Rattle.dds_base.specs.declared.guid.GuidPrefix.{GuidPrefix}
-use Rattle.dds_base.specs.Bounds.{max_sn, max_value}
+use Rattle.dds_base.specs.Bounds.{max_sn}
 use Rattle.dds_base.specs.Fields.{octets_at, ◌>>=◌}
 use Rattle.rtps_sets.specs.NumberSet.{empty_from}
 use Rattle.rtps_wire.specs.declared.gap.Gap.{Gap}
@@ -19,7 +19,7 @@ use Rattle.rtps_wire.specs.Gap.{text_of_gap}
 use Rattle.rtps_wire.specs.Names.{flag_data, flag_endianness, flag_key, flag_non_standard, id_data, id_gap}
 use Rattle.rtps_adapter.specs.declared.kinds.WriterKind.{WriterKind}
 use Rattle.rtps_adapter.specs.declared.direction.Direction.TheVariants.{Inward}
-use Rattle.rtps_adapter.specs.Kinds.{is_of, kind_of, rule_of}
+use Rattle.rtps_adapter.specs.Kinds.{is_of, kind_of, most_of, rule_of}
 use Rattle.rtps_adapter.specs.Turning.{Piece, piece_of, Payload, foreign_payload, turned_payload, turned}
 
 -- the id of DATA_FRAG
@@ -30,9 +30,9 @@ id_data_frag = 0x16
 abbrev pub len_data_frag_head : ℕ
 len_data_frag_head = 32
 
--- the longest datum that a peer reads: representation, options, key, length and value
-abbrev pub longest_datum : ℕ
-longest_datum = 24 + max_value
+-- what stands in a datum before its value: representation, options, key and length
+abbrev pub len_datum_head : ℕ
+len_datum_head = 24
 
 -- the reader, the writer and the number that a DATA and a DATA_FRAG name; none where the head is cut, or the number is
 -- none of those that a GAP can have
@@ -44,10 +44,10 @@ named_at flags body = do
   sn ← sn_at (order_of flags) writer.1
   if nat_lt sn.0 1 || nat_lt max_sn (sn.0 + 1) then None else Some (reader.0, writer.0, sn.0)
 
--- no peer reads what a payload turns into: nothing, or a datum that is too long
-abbrev pub is_unread : Option (List ℕ) → Bool
-is_unread None = true
-is_unread (Some octets) = nat_lt longest_datum (length octets)
+-- no peer reads what a payload turns into, where values have at most so many octets: nothing, or a datum that is too long
+abbrev pub is_unread : ℕ → Option (List ℕ) → Bool
+is_unread most None = true
+is_unread most (Some octets) = nat_lt (len_datum_head + most) (length octets)
 
 -- one of the flags D, K and N is set, so the DATA has a payload, though not one of a form that a peer reads
 abbrev pub shows_payload : ℕ → Bool
@@ -58,7 +58,8 @@ shows_payload flags = has_flag flags flag_data || has_flag flags flag_key || has
 abbrev pub is_lost : List WriterKind → GuidPrefix → EntityId → ℕ → ℕ → List ℕ → Bool
 is_lost kinds source writer id flags body =
     if id == id_data then is_some (rule_of (kind_of kinds source writer))
-    && option_map_or (λ (x : Payload). is_unread (turned_payload Inward x)) (foreign_payload kinds source id flags body)
+    && option_map_or (λ (x : Payload). is_unread (most_of kinds source writer) (turned_payload Inward x))
+    (foreign_payload kinds source id flags body)
     (shows_payload flags)
     else id == id_data_frag
     && (is_some (find (is_of source writer) kinds) && not (nat_lt (length body) len_data_frag_head))

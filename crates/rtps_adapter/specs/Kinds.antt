@@ -1,10 +1,10 @@
 -- What the topics of writers carry (RTPS 2.5, 8.2: GUID_t; clause 10: SerializedPayload).
-use Rattle.std.specs.Prelude.{◌&&◌, Bool, List, Option, None, Some, find, replicate}
+use Rattle.std.specs.Prelude.{ℕ, ◌&&◌, Bool, List, Option, None, Some, find, replicate}
 use Rattle.std.specs.Option.{option_map_or}
 use Rattle.dds_base.specs.declared.guid.EntityId.{EntityId}
 use Rattle.dds_base.specs.declared.guid.GuidPrefix.{GuidPrefix}
 use Rattle.dds_base.specs.declared.key.Key.{Key}
-use Rattle.dds_base.specs.Bounds.{key_octets}
+use Rattle.dds_base.specs.Bounds.{key_octets, usual_value}
 use Rattle.dds_base.specs.Checked.{same_prefix, same_entity}
 use Rattle.rtps_adapter.specs.declared.kinds.Kind.{Kind}
 use Rattle.rtps_adapter.specs.declared.kinds.Kind.TheVariants.{Datum, Opaque}
@@ -18,6 +18,11 @@ is_of prefix entity row = same_prefix row.writer.prefix prefix && same_entity ro
 -- what the topic of a writer carries: what its first row says, and a datum where it has none
 abbrev pub kind_of : List WriterKind → GuidPrefix → EntityId → Kind
 kind_of kinds prefix entity = option_map_or (λ (row : WriterKind). row.kind) (find (is_of prefix entity) kinds) Datum
+
+-- how many octets a value of a writer has at most: what its first row says, and as many as usual where it has none
+abbrev pub most_of : List WriterKind → GuidPrefix → EntityId → ℕ
+most_of kinds prefix entity =
+    option_map_or (λ (row : WriterKind). row.max_value) (find (is_of prefix entity) kinds) usual_value
 
 -- the rule of the key, where it is no datum
 abbrev pub rule_of : Kind → Option KeyRule

@@ -1,9 +1,10 @@
 -- What a peer reads of a value of another type (RTPS 2.5, 9.4.5: Data; 9.6: strength, status info; clause 10).
-use Rattle.std.specs.Prelude.{◌≡◌, ℕ, ◌+◌, ◌<◌, ◌^◌, Bool, true, false, List, [], ◌++◌, length, Some, MatchBool}
+use Rattle.std.specs.Prelude.{◌≡◌, ℕ, ◌+◌, ◌<◌, ◌≤◌, ◌^◌, Bool, true, false, List, [], ◌++◌, length, Some, MatchBool}
 use Rattle.dds_base.specs.declared.datum.Datum.{Datum as DatumOf}
 use Rattle.dds_base.specs.declared.guid.EntityId.{EntityId}
 use Rattle.dds_base.specs.declared.guid.GuidPrefix.{GuidPrefix}
 use Rattle.dds_base.specs.declared.key.Key.{Key}
+use Rattle.dds_base.specs.Bounds.{greatest_value}
 use Rattle.dds_base.specs.DatumText.{IsDatum}
 use Rattle.rtps_wire.specs.declared.data.ChangeBody.{ChangeBody}
 use Rattle.rtps_wire.specs.declared.data.ChangeBody.TheVariants.{Write, Dispose, Unregister, DisposeUnregister}
@@ -18,7 +19,7 @@ use Rattle.rtps_adapter.specs.declared.direction.Direction.TheVariants.{Inward}
 use Rattle.rtps_adapter.specs.declared.kinds.Kind.TheVariants.{Opaque}
 use Rattle.rtps_adapter.specs.declared.kinds.KeyRule.{KeyRule}
 use Rattle.rtps_adapter.specs.declared.kinds.WriterKind.{WriterKind}
-use Rattle.rtps_adapter.specs.Kinds.{kind_of}
+use Rattle.rtps_adapter.specs.Kinds.{kind_of, most_of}
 use Rattle.rtps_adapter.specs.Keys.{key_by, key_alone}
 use Rattle.rtps_adapter.specs.Payloads.{value_at}
 use Rattle.rtps_adapter.specs.Turning.{Piece, turned}
@@ -45,24 +46,26 @@ pub record Carries (has_value has_key : Bool) (p : Piece) (reader writer : Entit
       ((ps ≡ []) × (payload ≡ from_parameters))
 
 -- A write of another type is read by a peer as a write of its value, with the key that the rule finds, for the same
--- reader, of the same writer, with the same number and strength, where this is what submessages become.
-abbrev pub WritesAreRead : (List WriterKind → GuidPrefix → Piece → Piece) → Type 0
-WritesAreRead becomes = (kinds : List WriterKind) (source : GuidPrefix) (p : Piece) (ps : List Parameter)
+-- reader, of the same writer, with the same number and strength, where this is what submessages become, and values of the
+-- writer have at most so many octets.
+abbrev pub WritesAreRead : (List WriterKind → GuidPrefix → EntityId → ℕ) → (List WriterKind → GuidPrefix → Piece → Piece)
+    → Type 0
+WritesAreRead most becomes = (kinds : List WriterKind) (source : GuidPrefix) (p : Piece) (ps : List Parameter)
     (payload : List ℕ) (rule : KeyRule) (datum : DatumOf) (d : DataOf)
     → Carries true false p d.reader_id d.writer_id d.writer_sn ps payload
     → HasStatus ps false false → HasStrength (order_of p.flags) ps d.content.strength
     → kind_of kinds source d.writer_id ≡ Opaque rule
     → value_at payload ≡ Some datum.value → key_by rule datum.value ≡ Some datum.key → IsDatum datum
-    → d.content.body ≡ Write datum → IsData d
+    → d.content.body ≡ Write datum → IsData d → length datum.value ≤ most kinds source d.writer_id
     → Reads (becomes kinds source p).id (becomes kinds source p).flags (becomes kinds source p).body (Data d)
 
 -- Of what writes turn into it is so.
 abbrev pub ValuesAreRead : Type 0
-ValuesAreRead = WritesAreRead (turned Inward)
+ValuesAreRead = WritesAreRead (λ kinds source writer. greatest_value) (turned Inward)
 
--- It is so too where numbers that can't be read stand in GAPs.
+-- It is so too where numbers that can't be read stand in GAPs, of values that are no longer than the table says.
 abbrev pub ValuesAreReadWithGaps : Type 0
-ValuesAreReadWithGaps = WritesAreRead filled
+ValuesAreReadWithGaps = WritesAreRead most_of filled
 
 -- The parameters say that the change ends the instance of the key, and how.
 abbrev pub SaysEnd : List Parameter → Key → ChangeBody → Type 0

@@ -263,7 +263,7 @@ pub fn inward(alloc: Global, kinds: &[WriterKind], bytes: &[u8]) -> Result<Adapt
 /// reader does not ask for it again and again. They are
 ///
 /// - that of a DATA of another type than the datum whose payload can't be found (cut, octetsToInlineQos below 16, no
-///   sentinel, N, or D and K), can't be turned, or has a value of more than 1,024 octets;
+///   sentinel, N, or D and K), can't be turned, or has a value of more octets than the table says;
 /// - that of a DATA_FRAG of a writer that the table names.
 ///
 /// A number that is not read for its parameters or its status stands in none. Where the head of such a submessage is

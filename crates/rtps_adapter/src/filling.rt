@@ -16,7 +16,7 @@ ghost use Rattle.rtps_adapter.specs.Filling.{named_at, is_unread, is_lost, shows
 use crate::change::{FLAG_DATA, FLAG_KEY, ID_DATA, foreign_payload, turned_payload};
 use crate::data::{FLAG_NON_STANDARD, has_flag, order_of, take_entity_id};
 use crate::direction::Direction;
-use crate::kinds::{WriterKind, is_named, kind_of, rule_of};
+use crate::kinds::{WriterKind, is_named, kind_of, most_of, rule_of};
 use crate::payload::{NewPayload, payload_len};
 use dds_base::{Code, Endianness, EntityId, GuidPrefix, take_octets, take_u32};
 use rtps_wire::{Frame, MAX_SN};
@@ -33,8 +33,8 @@ pub const LEN_GAP: usize = 28;
 /// The head of a DATA_FRAG.
 const LEN_DATA_FRAG_HEAD: usize = 32;
 
-/// The longest datum that a peer reads: representation, options, key, length and 1,024 octets.
-const LONGEST_DATUM: usize = 24 + 1024;
+/// What stands in a datum before its value: representation, options, key and length.
+const LEN_DATUM_HEAD: usize = 24;
 
 /// A sequence number has a high half and a low half of 32 bits.
 const HALF_RANGE: u64 = 1 << 32;
@@ -82,24 +82,24 @@ fn named_in(flags: u8, body: &[u8]) -> Option<Named>
     Some(Named { reader, writer, sn })
 }
 
-/// Whether no peer reads what a payload turns into.
-fn is_unread(payload: &Option<NewPayload>) -> bool
-    ensures { result ≡ is_unread (option_map new_text payload.now) }
+/// Whether no peer reads what a payload turns into, where values have at most so many octets.
+fn is_unread(most: u32, payload: &Option<NewPayload>) -> bool
+    ensures { result ≡ is_unread most (option_map new_text payload.now) }
 {
     match payload {
-        Some(payload) => LONGEST_DATUM < payload_len(payload),
+        Some(payload) => LEN_DATUM_HEAD + (most as usize) < payload_len(payload),
         None => true,
     }
 }
 
 /// Whether a peer could not read a DATA of another type than the datum.
-fn is_unread_data(kinds: &[WriterKind], source: &GuidPrefix, frame: &Frame) -> bool
-    ensures { result ≡ option_map_or (λ (x : Payload). is_unread (turned_payload Inward x))
+fn is_unread_data(kinds: &[WriterKind], source: &GuidPrefix, most: u32, frame: &Frame) -> bool
+    ensures { result ≡ option_map_or (λ (x : Payload). is_unread most (turned_payload Inward x))
         (foreign_payload kinds.now source.now frame.now.id frame.now.flags frame.now.body.now)
         (shows_payload frame.now.flags) }
 {
     match foreign_payload(kinds, source, frame) {
-        Some(found) => is_unread(&turned_payload(Direction::Inward, &found)),
+        Some(found) => is_unread(most, &turned_payload(Direction::Inward, &found)),
         None => {
             has_flag(frame.flags, FLAG_DATA)
                 || has_flag(frame.flags, FLAG_KEY)
@@ -115,7 +115,7 @@ fn is_lost(kinds: &[WriterKind], source: &GuidPrefix, writer: &EntityId, frame: 
 {
     if frame.id == ID_DATA {
         return rule_of(kind_of(kinds, source, writer)).is_some()
-            && is_unread_data(kinds, source, frame);
+            && is_unread_data(kinds, source, most_of(kinds, source, writer), frame);
     }
     frame.id == ID_DATA_FRAG
         && is_named(kinds, source, writer)

@@ -4,9 +4,9 @@
 
 ghost use Rattle.std.specs.Prelude.{◌≡◌, find, is_some};
 ghost use Rattle.std.specs.Option.{option_copied};
-ghost use Rattle.rtps_adapter.specs.Kinds.{is_of, kind_of, rule_of};
+ghost use Rattle.rtps_adapter.specs.Kinds.{is_of, kind_of, most_of, rule_of};
 
-use dds_base::{EntityId, Guid, GuidPrefix, Key};
+use dds_base::{EntityId, Guid, GuidPrefix, Key, USUAL_VALUE};
 
 /// By which rules of CDR the values of a type are encoded.
 ///
@@ -71,6 +71,8 @@ pub struct WriterKind<'a> {
     pub writer: Guid,
     /// What its topic carries.
     pub kind: Kind<'a>,
+    /// How many octets a value of it has at most: a longer one is a number that can't be read.
+    pub max_value: u32,
 }
 
 /// Whether a row is of a writer.
@@ -105,6 +107,16 @@ pub fn kind_of<'a>(kinds: &[WriterKind<'a>], prefix: &GuidPrefix, entity: &Entit
     match row_of(kinds, prefix, entity) {
         Some(row) => row.kind,
         None => Kind::Datum,
+    }
+}
+
+/// How many octets a value of a writer has at most: as many as usual, where the table does not say.
+pub fn most_of(kinds: &[WriterKind], prefix: &GuidPrefix, entity: &EntityId) -> u32
+    ensures { result ≡ most_of kinds.now prefix.now entity.now }
+{
+    match row_of(kinds, prefix, entity) {
+        Some(row) => row.max_value,
+        None => USUAL_VALUE,
     }
 }
 

@@ -14,7 +14,7 @@ ghost use Rattle.rtps_adapter.specs.Same.{Same, StrangersStay, NoneIsRead};
 pub fn what_was_written_comes_back()
     // Each message that can be written comes back.
     ensures back { ComesBack }
-    // It does so where numbers that can't be read stand in GAPs.
+    // It does so where numbers that can't be read stand in GAPs, if no value is longer than the table says.
     ensures filled { ComesBackWithGaps }
 {}
 
@@ -42,9 +42,9 @@ pub fn what_cant_be_turned_is_not_read()
 /// A write of another type is read by a peer as a write of its value, with the key that the rule finds: for the same
 /// reader, of the same writer, with the same number and strength.
 pub fn values_are_read()
-    // So it is of each that has a value of at most 1,024 octets.
+    // So it is of each that has a value of at most 65,000 octets.
     ensures read { ValuesAreRead }
-    // So it is where numbers that can't be read stand in GAPs.
+    // So it is where numbers that can't be read stand in GAPs, of each that has no more octets than the table says.
     ensures filled { ValuesAreReadWithGaps }
 {}
 

@@ -74,7 +74,7 @@ messages_are_read c f k s can reads =
     let head : List ℕ = header_text 5 (0 ∷ 0 ∷ []) c.source in
     let n = body_len f k.flags k.parameters k.octets can.fragment in
     let parts = regroup head dst ts data-text in
-    let size : length (message_of c f k) ≤ 65535 =
+    let size : length (message_of c f k) ≤ 65507 =
     omega (
       arith,
       length-append ((head ++ dst) ++ ts) data-text,

@@ -39,7 +39,7 @@ abbrev pub least_octets_to_inline_qos : ℕ
 least_octets_to_inline_qos = 28
 
 -- So many octets of parameters and payload a DATA carries in one datagram, behind the header of a message, an INFO_DST,
--- an INFO_TS, the header of the DATA and its head. The bound is this project's: a message has at most 65,535 octets.
+-- an INFO_TS, the header of the DATA and its head. The bound is this project's: a message has at most 65,507 octets.
 abbrev pub max_carried : ℕ
 max_carried = 65463
 

@@ -1,7 +1,7 @@
 //! What no clause says: that a datagram is turned, in and out. The octets are those of CDR and of XTypes 1.3,
 //! 7.6.3.1.2, written out.
 
-use dds_base::{EntityId, Guid, GuidPrefix, Octets};
+use dds_base::{EntityId, Guid, GuidPrefix, Octets, USUAL_VALUE};
 use rtps_adapter::{Adapted, KeyRule, Kind, WriterKind, inward, outward};
 use std::test::Fail;
 
@@ -67,6 +67,7 @@ const WRITER: Guid = Guid {
 const KEYLESS: WriterKind = WriterKind {
     writer: WRITER,
     kind: Kind::Opaque(KeyRule::Keyless),
+    max_value: USUAL_VALUE,
 };
 
 fn rewritten(adapted: Adapted) -> Option<Octets> {

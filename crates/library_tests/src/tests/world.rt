@@ -9,7 +9,7 @@ use crate::tests::listeners::Latest;
 use crate::tests::rows::{Subject, Words, expect_rows, number_of, octets_of, words_of};
 use dds_base::{
     Code, Config, EntityId, GuidPrefix, HistoryQos, Key, Masks, Moment, Octets, OwnershipQos,
-    PeerConfig, ReaderConfig, ReliabilityQos, Selection, Sequence, WriterConfig,
+    PeerConfig, ReaderConfig, ReliabilityQos, Selection, Sequence, USUAL_VALUE, WriterConfig,
 };
 use dds_conditions::{Cond, Filter};
 use dds_notices::Listener;
@@ -31,6 +31,7 @@ const WRITER: WriterConfig = WriterConfig {
     strength: 0,
     lease: None,
     autodispose: true,
+    max_value: USUAL_VALUE,
 };
 
 const READER: ReaderConfig = ReaderConfig {
@@ -43,6 +44,7 @@ const READER: ReaderConfig = ReaderConfig {
     max_instances: -1,
     max_arrivals: ReaderConfig::USUAL_ARRIVALS,
     lease: None,
+    max_value: USUAL_VALUE,
 };
 
 fn first(alloc: Global, writers: &[WriterConfig]) -> PeerConfig {

@@ -3,7 +3,7 @@
 use crate::tests::rows::number_of;
 use dds_base::{
     Config, EntityId, GuidPrefix, HistoryQos, OwnershipQos, PeerConfig, ReaderConfig,
-    ReliabilityQos, Sequence, WriterConfig,
+    ReliabilityQos, Sequence, USUAL_VALUE, WriterConfig,
 };
 use std::alloc::Global;
 
@@ -20,6 +20,7 @@ struct End {
     max_instances: i32,
     max_arrivals: u64,
     lease: Option<u64>,
+    max_value: u32,
 }
 
 impl End {
@@ -35,6 +36,7 @@ impl End {
         max_instances: -1,
         max_arrivals: ReaderConfig::USUAL_ARRIVALS,
         lease: None,
+        max_value: USUAL_VALUE,
     };
 
     fn take_word(&mut self, name: &str, number: &str) {
@@ -48,6 +50,7 @@ impl End {
             "instances" => self.max_instances = number.parse().unwrap_or(0),
             "arrivals" => self.max_arrivals = number_of(number),
             "lease" => self.lease = Some(number_of(number)),
+            "values" => self.max_value = number.parse().unwrap_or(0),
             _ => {}
         }
     }
@@ -71,6 +74,7 @@ impl End {
             strength: 0,
             lease: self.lease,
             autodispose: true,
+            max_value: self.max_value,
         }
     }
 
@@ -85,6 +89,7 @@ impl End {
             max_instances: self.max_instances,
             max_arrivals: self.max_arrivals,
             lease: self.lease,
+            max_value: self.max_value,
         }
     }
 }

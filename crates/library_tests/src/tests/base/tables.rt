@@ -14,9 +14,9 @@ decode 0002 0000 00000000000000000000000000000001 02000000 6162 => none; none; n
 decode 0003 0000 00000000000000000000000000000001 02000000 6162 => none; none; none
 decode 0100 0000 00000000000000000000000000000001 02000000 6162 => none; none; none
 decode 0101 0000 00000000000000000000000000000001 02000000 6162 => none; none; none
-# A value has at most 1,024 octets.
-decode 0001 0000 00000000000000000000000000000001 00040000 07x1024 => 00000000000000000000000000000001 with 1024 octets written so; 00000000000000000000000000000001; 00000000000000000000000000000001
-decode 0001 0000 00000000000000000000000000000001 01040000 07x1025 => none; none; 00000000000000000000000000000001
+# A value has at most 65,000 octets.
+decode 0001 0000 00000000000000000000000000000001 e8fd0000 07x65000 => 00000000000000000000000000000001 with 65000 octets written so; 00000000000000000000000000000001; 00000000000000000000000000000001
+decode 0001 0000 00000000000000000000000000000001 e9fd0000 07x65001 => none; none; 00000000000000000000000000000001
 # A datum that is cut in its value, in the value's length, before that, in the key, before that, in the options, in the representation.
 decode 0001 0000 00000000000000000000000000000001 02000000 61 => none; none; 00000000000000000000000000000001
 decode 0001 0000 00000000000000000000000000000001 02000000 => none; none; 00000000000000000000000000000001
@@ -59,15 +59,18 @@ fault writer reader arrivals=0 => reader 1 of peer 2: its max_arrivals is 0 or a
 fault writer reader instances=0 arrivals=0 => reader 1 of peer 2: its max_instances is neither -1 nor positive, BAD_PARAMETER
 fault writer reader lease=0 arrivals=0 => reader 1 of peer 2: its max_arrivals is 0 or above 2^63, BAD_PARAMETER
 fault writer lease=0 reader => writer 1 of peer 1: its lease is 0 or too long, BAD_PARAMETER
+fault writer values=0 reader => writer 1 of peer 1: its max_value is 0 or above 65000, BAD_PARAMETER
+fault writer reader values=65001 => reader 1 of peer 2: its max_value is 0 or above 65000, BAD_PARAMETER
 fault writer last=3 max=2 reader => writer 1 of peer 1: its depth is above its maximum of samples, INCONSISTENT_POLICY
 fault writer exclusive reader => reader 1 of peer 2: a matched writer has another ownership, INCONSISTENT_POLICY
 fault writer lease=20 reader lease=10 => reader 1 of peer 2: a matched writer has a longer lease than it asks for, INCONSISTENT_POLICY
+fault writer values=1025 reader => reader 1 of peer 2: a matched writer has a greater max_value than it takes, INCONSISTENT_POLICY
 ";
 
 /// Configurations, and the answer to each. There are two peers, or as many as `peers` says; the first has the writers,
 /// and the last, which may have another `prefix`, the readers. A writer or a reader keeps all, has no limits and no
 /// lease, and is shared, but for the words after it: its entity `kind`, `last` so many are kept, its `max`_samples, its
-/// max_`instances`, its max_`arrivals`, its `lease`, its `topic`, and how many `times` it is there, each time as another
+/// max_`instances`, its max_`arrivals`, its `lease`, how long its `values` may be, its `topic`, and how many `times` it is there, each time as another
 /// entity.
 pub const CONFIGS: &str = "\
 # Peers that keep all are taken.
@@ -108,6 +111,11 @@ check reader arrivals=9223372036854775809 => Err(BadParameter)
 check writer exclusive reader arrivals=9223372036854775809 => Err(BadParameter)
 check reader arrivals=9223372036854775808 => Ok(())
 check writer exclusive reader arrivals=9223372036854775808 => Err(InconsistentPolicy)
+check writer values=65000 reader values=65000 => Ok(())
+check writer values=65000 reader => Err(InconsistentPolicy)
+check writer values=65000 => Ok(())
+check writer values=65001 reader => Err(BadParameter)
+check writer reader values=0 => Err(BadParameter)
 check reader lease=0 => Err(BadParameter)
 check writer exclusive reader lease=0 => Err(BadParameter)
 check reader lease=9223372036854775808 => Err(BadParameter)

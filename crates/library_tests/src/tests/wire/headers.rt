@@ -15,9 +15,9 @@ whole 52335053 0205 0000 000000000000000000000001 => no message
 whole 52543353 0205 0000 000000000000000000000001 => no message
 whole 52545033 0205 0000 000000000000000000000001 => no message
 whole 52545053 3305 0000 000000000000000000000001 => no message
-# 65,535 octets are read, and no more. A submessage of id 0 and length 0 runs to the end.
-whole 52545053 0205 0000 000000000000000000000001 00x65515 => 65535; OTHER 00
-whole 52545053 0205 0000 000000000000000000000001 00x65516 => no message
+# 65,507 octets are read, and no more. A submessage of id 0 and length 0 runs to the end.
+whole 52545053 0205 0000 000000000000000000000001 00x65487 => 65507; OTHER 00
+whole 52545053 0205 0000 000000000000000000000001 00x65488 => no message
 ";
 
 /// What follows the header, and each length of the message at which something else is read of it than at the one

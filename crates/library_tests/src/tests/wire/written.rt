@@ -66,10 +66,10 @@ make other 1 - 1 => 1 false
 # Numbers begin at 1.
 make dispose 0 - 1 => 1 false
 make dispose 1 - 1 => 1 true
-# A value has at most 1,024 octets.
-make write 1 07x1024 1 => 1 true
-make write 1 07x1025 1 => 1 false
-# A message has at most 65,535: 61 of the longest values take 65,412 with the header, 62 take 66,484.
+# A value has at most 65,000 octets.
+make write 1 07x65000 1 => 1 true
+make write 1 07x65001 1 => 1 false
+# A message has at most 65,507: 61 of 1,024 octets take 65,412 with the header, 62 take 66,484.
 make write 1 07x1024 61 => 61 true
 make write 1 07x1024 62 => 62 false
 # With a strength 60 of them take 65,060, and 61 take 66,144.
