@@ -1,5 +1,5 @@
 -- What a network has sent is what its peers wrote.
-use Rattle.std.proofs.Common.{◌≡◌, ◌⊎◌, ℕ, List, [], ◌∷◌, ◌++◌, length, Contains, subst, sym, ap, ◌∙◌, refl, ⊎_elim, arith}
+use Rattle.std.proofs.Common.{◌≡◌, ◌⊎◌, ◌≤◌, ℕ, List, [], ◌∷◌, ◌++◌, length, Contains, subst, sym, ap, ◌∙◌, refl, ⊎_elim, arith}
 use Rattle.std.specs.List.{AllByRecursion}
 use Rattle.std.proofs.lemmas.List.Elements.{Contains-append_cases}
 use Rattle.dds_base.specs.declared.config.Config.{Config}
@@ -9,8 +9,8 @@ use Rattle.rtps_adapter.specs.declared.direction.Direction.TheVariants.{Inward, 
 use Rattle.rtps_adapter.specs.declared.direction.Way.TheVariants.{Filling}
 use Rattle.rtps_adapter.specs.declared.kinds.WriterKind.{WriterKind}
 use Rattle.rtps_adapter.specs.Adapting.{Adapts, Makes}
-use Rattle.rtps_adapter.specs.ComesBack.{Fits}
-use Rattle.rtps_adapter.proofs.MessageRounds.{comes_back, comes_back_filled}
+use Rattle.rtps_adapter.specs.ComesBack.{Fits, IsShort}
+use Rattle.rtps_adapter.proofs.MessageRounds.{comes_back, comes_back_filled, no_longer}
 use Rattle.dds_machine.specs.declared.event.WorldEvent.{WorldEvent}
 use Rattle.dds_machine.specs.declared.reply.Reply.{Reply}
 use Rattle.dds_machine.specs.Machine.{AllTests}
@@ -20,7 +20,7 @@ use Rattle.dds_protocol.specs.Noticing.{world_ended}
 use Rattle.dds_protocol.specs.Rules.{CountedStep, RuledRun}
 use Rattle.dds_protocol.specs.World.{WorldState}
 use Rattle.dds_protocol.proofs.Composed.{is_alone}
-use Rattle.adapter_laws.specs.Networks.{IsWrittenAs, PassesAdapters}
+use Rattle.adapter_laws.specs.Networks.{IsWrittenAs, PassesAdapters, StaysAMessage}
 
 -- each of these packets is the written form of some message
 abbrev pub AreWritten : List Packet → Type 0
@@ -71,18 +71,29 @@ run_written config tests old unsent (event ∷ events) [] new last run before = 
 -- the written form of a message passes adapters
 written_passes : (kinds : List WriterKind) (packet : Packet) (m : Message) → IsWrittenAs packet m
     → AllByRecursion (Fits kinds m.prefix) m.submessages → PassesAdapters kinds packet
-written_passes kinds packet m is fit out back turned returned =
+written_passes kinds packet m is fit out back turned short returned =
     let went = subst (λ (bytes : List ℕ). Adapts Outward kinds bytes out) is.bytes turned in
     ⊎_elim
-    (λ r. (comes_back kinds m out back is.writable fit went r).1 ∙ sym is.bytes)
-    (λ r. comes_back_filled kinds m out back is.writable fit went r ∙ sym is.bytes) returned
+    (λ r. (comes_back kinds m out back is.writable fit went r).1 short ∙ sym is.bytes)
+    (λ r. comes_back_filled kinds m out back is.writable fit went r short ∙ sym is.bytes) returned
+
+-- and gets no longer
+written_stays : (kinds : List WriterKind) (packet : Packet) (m : Message) → IsWrittenAs packet m
+    → AllByRecursion (Fits kinds m.prefix) m.submessages → AllByRecursion (IsShort kinds m.prefix) m.submessages
+    → StaysAMessage kinds packet
+written_stays kinds packet m is fit all out turned =
+    let went = subst (λ (bytes : List ℕ). Adapts Outward kinds bytes out) is.bytes turned in
+    let less : length out ≤ length (spelling_of m) = no_longer kinds m out is.writable fit went all in
+    omega (arith, less, ap length is.bytes)
 
 pub sent_passes : (kinds : List WriterKind) (config : Config) (tests : AllTests) (old : WorldState) (unsent : ℕ)
     (events : List WorldEvent) (replies : List Reply) (new : WorldState) (last : ℕ) → old.sent ≡ []
     → RuledRun config tests old unsent events replies new last → (packet : Packet) → Contains new.sent packet
     → (m : Message) × IsWrittenAs packet m
-    × (AllByRecursion (Fits kinds m.prefix) m.submessages → PassesAdapters kinds packet)
+    × (AllByRecursion (Fits kinds m.prefix) m.submessages
+    → PassesAdapters kinds packet
+    × (AllByRecursion (IsShort kinds m.prefix) m.submessages → StaysAMessage kinds packet))
 sent_passes kinds config tests old unsent events replies new last begins run packet here =
     let w = run_written config tests old unsent events replies new last run
     (subst AreWritten (sym begins) none_written) packet here in
-    (w.0, w.1, written_passes kinds packet w.0 w.1)
+    (w.0, w.1, λ fit. (written_passes kinds packet w.0 w.1 fit, written_stays kinds packet w.0 w.1 fit))

@@ -1,21 +1,24 @@
 -- Key fields that stand in a key, big-endian.
 use Rattle.std.proofs.Common.{◌≡◌, ℕ, ◌-◌, ◌%◌, ◌≤◌, Bool, true, false, cond, ltb, List, [], ◌∷◌, ◌++◌, length, take, drop, replicate, Option, None, Some, IsTrue, ◌↔◌, refl, sym, ap, ◌∙◌, append_assoc, arith}
 use Rattle.std.specs.Prelude.{is_some}
-use Rattle.std.specs.Option.{option_map}
+use Rattle.std.specs.Option.{option_map, option_or}
 use Rattle.std.proofs.lemmas.Bool.{ltb-false, le-ltb}
 use Rattle.std.proofs.lemmas.List.{append-nil, length-append, length-replicate, length-take-le, take-append-drop, take_at}
 use Rattle.dds_base.specs.declared.endianness.Endianness.TheVariants.{Big}
 use Rattle.dds_base.specs.declared.key.Key.{Key}
+use Rattle.dds_base.specs.DatumAt.{key_at}
 use Rattle.dds_base.specs.Fields.{octets_at, ◌>>=◌}
 use Rattle.dds_base.specs.Happening.{same_key}
 use Rattle.dds_base.proofs.FieldLaws.{bind_some, guard_some, some_is, field_octets}
 use Rattle.dds_base.proofs.KeyLaws.{key-same, same_key-refl}
+use Rattle.rtps_announcements.specs.ListAt.{value_in}
+use Rattle.rtps_announcements.specs.Names.{pid_endpoint_guid, pid_participant_guid}
 use Rattle.rtps_adapter.specs.declared.kinds.Encoding.{Encoding}
 use Rattle.rtps_adapter.specs.declared.kinds.Encoding.TheVariants.{Cdr, Cdr2}
 use Rattle.rtps_adapter.specs.declared.kinds.KeyField.{KeyField}
-use Rattle.rtps_adapter.specs.Keys.{size_of, alignment_of, aligned_to, in_big_endian, number_in, fields_in, key_of_octets, order_in, representation_of, key_by_fields, own_octets, key_in}
+use Rattle.rtps_adapter.specs.Keys.{size_of, alignment_of, aligned_to, in_big_endian, number_in, fields_in, key_of_octets, order_in, representation_of, key_by_fields, own_octets, order_of_list, key_by_list, key_in}
 use Rattle.rtps_adapter.specs.declared.kinds.KeyRule.{KeyRule}
-use Rattle.rtps_adapter.specs.declared.kinds.KeyRule.TheVariants.{Keyless, Fields}
+use Rattle.rtps_adapter.specs.declared.kinds.KeyRule.TheVariants.{Keyless, Fields, ParameterList}
 use Rattle.rtps_adapter.specs.Kinds.{no_key}
 use Rattle.md5.proofs.StandardFacts.{length-md5}
 
@@ -249,8 +252,26 @@ fields_long is_key encoding fs (a ∷ b ∷ c ∷ d ∷ body) k e =
     ∙ octets_long (ltb 16 (length q.0)) q.0 refl
 fields_long is_key encoding fs _ k e = absurd cc
 
+list_long : (value : List ℕ) (k : Key) → key_by_list value ≡ Some k → length k.0 ≡ 16
+unfolding key_by_list key_at
+list_long (a ∷ b ∷ c ∷ d ∷ body) k e =
+    let p =
+    bind_some (order_of_list a b)
+    (λ order. option_or (value_in order body pid_endpoint_guid) (value_in order body pid_participant_guid)
+    >>= λ guid. key_at guid >>= λ x. Some x.0) k e in
+    let q =
+    bind_some (option_or (value_in p.0 body pid_endpoint_guid) (value_in p.0 body pid_participant_guid))
+    (λ guid. key_at guid >>= λ x. Some x.0) k p.2 in
+    let r = bind_some (key_at q.0) (λ x. Some x.0) k q.2 in
+    let s = bind_some (octets_at 16 q.0) (λ x. Some (record { 0 = x.0 }, x.1)) r.0 r.1 in
+    sym (ap (λ (z : Key). length z.0) (some_is r.0.0 k r.2))
+    ∙ (sym (ap (λ (z : Key × List ℕ). length z.0.0) (some_is (record { 0 = s.0.0 }, s.0.1) r.0 s.2))
+    ∙ (octets_parts 16 q.0 s.0.0 s.0.1 s.1).1)
+list_long _ k e = absurd cc
+
 -- a key that a rule finds has sixteen octets
 pub key_is_long : (is_key : Bool) (rule : KeyRule) (value : List ℕ) (k : Key) → key_in is_key rule value ≡ Some k
     → length k.0 ≡ 16
 key_is_long is_key Keyless value k e = sym (ap (λ (z : Key). length z.0) (some_is no_key k e))
 key_is_long is_key (Fields encoding fields) value k e = fields_long is_key encoding fields.now value k e
+key_is_long is_key ParameterList value k e = list_long value k e

@@ -12,7 +12,7 @@ use Rattle.rtps_adapter.specs.declared.kinds.KeyField.{KeyField}
 use Rattle.rtps_adapter.specs.KeyOctets.{AreSoFar, Continues, next_in}
 use Rattle.rtps_adapter.specs.Keys.{size_of, alignment_of, aligned_to, number_in, fields_in, key_of_octets, order_in, key_by_fields}
 use Rattle.rtps_adapter.specs.declared.kinds.KeyRule.{KeyRule}
-use Rattle.rtps_adapter.specs.declared.kinds.KeyRule.TheVariants.{Keyless, Fields}
+use Rattle.rtps_adapter.specs.declared.kinds.KeyRule.TheVariants.{Keyless, Fields, ParameterList}
 use Rattle.rtps_adapter.specs.Payloads.{inward_payload, value_at}
 use Rattle.rtps_adapter.specs.Refused.{ShortCantBeTurned, PaddingCantBeTurned, FieldsHaveToBeThere}
 
@@ -134,6 +134,8 @@ fields_stay Keyless before after f payload a b c d body parts value past =
     absurd (omega (arith, ap length parts, length-append before (f ∷ after)))
 fields_stay (Fields encoding fields) before after f payload a b c d body parts value past =
     rw (value, parts, no_key_beyond encoding before after f a b c d body past) refl
+fields_stay ParameterList before after f payload a b c d body parts value past =
+    absurd (omega (arith, ap length parts, length-append before (f ∷ after)))
 
 -- ---- what has no value
 

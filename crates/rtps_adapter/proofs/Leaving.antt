@@ -8,7 +8,7 @@ use Rattle.dds_base.proofs.FieldLaws.{bind_some}
 use Rattle.dds_base.proofs.KeyLaws.{key-same}
 use Rattle.rtps_wire.specs.declared.data.ChangeBody.TheVariants.{Write}
 use Rattle.rtps_adapter.specs.declared.kinds.KeyRule.{KeyRule}
-use Rattle.rtps_adapter.specs.declared.kinds.KeyRule.TheVariants.{Keyless, Fields}
+use Rattle.rtps_adapter.specs.declared.kinds.KeyRule.TheVariants.{Keyless, Fields, ParameterList}
 use Rattle.rtps_adapter.specs.Kinds.{no_key}
 use Rattle.rtps_adapter.specs.Keys.{key_by, own_octets, representation_of}
 use Rattle.rtps_adapter.specs.Payloads.{payload_of, key_payload_of, is_found, has_own_key, outward_payload}
@@ -45,6 +45,7 @@ key_fits (Fields encoding fields) payload out k e sent =
     (λ octets. payload_of (0 ∷ representation_of encoding ∷ 0 ∷ 0 ∷ octets)) out known in
     let s = own_says encoding fields.now k a.0 a.1 in
     key_form_is encoding fields.now k.0 s.octets s.found ∙ ap Some s.is
+key_fits ParameterList payload out k e sent = tt
 
 pub goes_out : WhatGoesOutFits
 goes_out rule payload out = (datum_fits rule payload out, key_fits rule payload out)

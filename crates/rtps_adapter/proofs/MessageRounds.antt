@@ -10,6 +10,7 @@ use Rattle.rtps_wire.specs.declared.submessage.Submessage.{Submessage}
 use Rattle.rtps_wire.specs.Fields.{order_of}
 use Rattle.rtps_wire.specs.Frames.{runs_to_end, frame_text}
 use Rattle.rtps_wire.specs.Messages.{header_text, IsWritable, spelling_of}
+use Rattle.rtps_wire.specs.Names.{max_message}
 use Rattle.rtps_wire.specs.Submessages.{IsSpellable, spelling_of_submessage}
 use Rattle.rtps_wire.proofs.FrameLaws.{frame_only, frame_apart}
 use Rattle.rtps_wire.proofs.MessageLaws.{header_again}
@@ -23,7 +24,7 @@ use Rattle.rtps_adapter.specs.declared.direction.Direction.TheVariants.{Inward, 
 use Rattle.rtps_adapter.specs.declared.kinds.WriterKind.{WriterKind}
 use Rattle.rtps_adapter.specs.Turning.{Piece, piece_of, turned}
 use Rattle.rtps_adapter.specs.Adapting.{StandsIn, IsMessage, Becomes, becomes, Makes, Adapts, texts_of}
-use Rattle.rtps_adapter.specs.ComesBack.{Fits, IsWithin, ComesBack, ComesBackWithGaps}
+use Rattle.rtps_adapter.specs.ComesBack.{Fits, IsShort, IsWithin, ComesBack, ComesBackWithGaps}
 use Rattle.rtps_adapter.proofs.Rounds.{Round, round, spelled, filled_back}
 
 -- ---- bytes have one reading
@@ -121,7 +122,7 @@ record Rounds (kinds : List WriterKind) (source : GuidPrefix) (ss : List Submess
   out_is : map (turned Outward kinds source) (map spelled ss) ≡ outs
   back_is : map (turned Inward kinds source) outs ≡ map spelled ss
   filled_is : AllByRecursion (IsWithin kinds source) ss → map (filled kinds source) outs ≡ map spelled ss
-  shorter : length (texts_of outs) ≤ length (texts_of (map spelled ss))
+  shorter : AllByRecursion (IsShort kinds source) ss → length (texts_of outs) ≤ length (texts_of (map spelled ss))
   stands : length (texts_of outs) ≤ 65507 → StandsIn (texts_of outs) outs []
   stood : length (texts_of (map spelled ss)) ≤ 65507 → StandsIn (texts_of (map spelled ss)) (map spelled ss) []
 
@@ -131,13 +132,14 @@ rounds kinds source [] valid fits = record {
   outs = [];
   out_is = refl;
   back_is = refl;
-  filled_is = λ short. refl;
-  shorter = omega arith;
+  filled_is = λ within. refl;
+  shorter = λ all. omega arith;
   stands = λ short. (inl (omega arith), refl);
   stood = λ short. (inl (omega arith), refl);
 }
 rounds kinds source (s ∷ ss) valid fits =
-    let r : Round kinds source (spelled s) (IsWithin kinds source s) = round kinds source s valid.0 fits.0 in
+    let r : Round kinds source (spelled s) (IsWithin kinds source s) (IsShort kinds source s) =
+    round kinds source s valid.0 fits.0 in
     let more : Rounds kinds source ss = rounds kinds source ss valid.1 fits.1 in
     let out : Piece = piece_of (spelled s).id r.flags r.body in
     record {
@@ -146,12 +148,13 @@ rounds kinds source (s ∷ ss) valid fits =
           (map (turned Outward kinds source) (map spelled ss)) more.outs r.out_is more.out_is;
       back_is = two (turned Inward kinds source out) (spelled s) (map (turned Inward kinds source) more.outs)
           (map spelled ss) r.back_is more.back_is;
-      filled_is = λ short. two (filled kinds source out) (spelled s) (map (filled kinds source) more.outs) (map spelled ss)
-          (filled_back kinds source (spelled s) (IsWithin kinds source s) r short.0) (more.filled_is short.1);
-      shorter = omega (
+      filled_is = λ within. two (filled kinds source out) (spelled s) (map (filled kinds source) more.outs) (map spelled ss)
+          (filled_back kinds source (spelled s) (IsWithin kinds source s) (IsShort kinds source s) r within.0)
+          (more.filled_is within.1);
+      shorter = λ all. omega (
         arith,
-        r.shorter,
-        more.shorter,
+        r.shorter all.0,
+        more.shorter all.1,
         length-append out.text (texts_of more.outs),
         length-append (spelled s).text (texts_of (map spelled ss)),
         frame_length (spelled s).id r.flags r.body,
@@ -203,9 +206,9 @@ adapts_to way kinds prefix bytes out ps qs m (inr none) same = absurd (none.0 pr
 -- what went out, and what it becomes on its way back
 returned : (kinds : List WriterKind) (m : Message) (out : List ℕ) → IsWritable m
     → (r : Rounds kinds m.prefix m.submessages) → Adapts Outward kinds (spelling_of m) out
-    → (length out ≤ length (spelling_of m)) × ((way : Way) (back : List ℕ)
-    → map (becomes way kinds m.prefix) r.outs ≡ map spelled m.submessages → Makes way kinds out back
-    → back ≡ spelling_of m)
+    → (AllByRecursion (IsShort kinds m.prefix) m.submessages → length out ≤ length (spelling_of m))
+    × ((way : Way) (back : List ℕ) → map (becomes way kinds m.prefix) r.outs ≡ map spelled m.submessages
+    → Makes way kinds out back → length out ≤ max_message → back ≡ spelling_of m)
 returned kinds m out w r there =
     let header = header_text 5 (0 ∷ 0 ∷ []) m.prefix in
     let parts : spelling_of m ≡ header_text 5 (0 ∷ 0 ∷ []) m.prefix ++ texts_of (map spelled m.submessages) =
@@ -215,16 +218,21 @@ returned kinds m out w r there =
     (message_of m.prefix (spelling_of m) (map spelled m.submessages) w.prefix parts w.short
     (r.stood (texts_le m.prefix (spelling_of m) (texts_of (map spelled m.submessages)) parts w.short))) there r.out_is in
     let len = length-append (header_text 5 (0 ∷ 0 ∷ []) m.prefix) (texts_of r.outs) in
-    let long = length-append (header_text 5 (0 ∷ 0 ∷ []) m.prefix) (texts_of (map spelled m.submessages)) in
-    let short : length out ≤ 65507 =
-    omega (arith, len, long, ap length out_is, ap length parts, r.shorter, w.short) in (
-      omega (arith, len, long, ap length out_is, ap length parts, r.shorter),
-      λ way back same here.
+    let long = length-append (header_text 5 (0 ∷ 0 ∷ []) m.prefix) (texts_of (map spelled m.submessages)) in (
+      λ all. omega (arith, len, long, ap length out_is, ap length parts, r.shorter all),
+      λ way back same here short.
           adapts_to way kinds m.prefix out back r.outs (map spelled m.submessages)
           (message_of m.prefix out r.outs w.prefix out_is short (r.stands (texts_le m.prefix out (texts_of r.outs) out_is short)))
           here same
           ∙ sym parts,
     )
+
+-- it gets no longer on its way out
+pub no_longer : (kinds : List WriterKind) (m : Message) (out : List ℕ) → IsWritable m
+    → AllByRecursion (Fits kinds m.prefix) m.submessages → Adapts Outward kinds (spelling_of m) out
+    → AllByRecursion (IsShort kinds m.prefix) m.submessages → length out ≤ length (spelling_of m)
+no_longer kinds m out w fits there =
+    (returned kinds m out w (rounds kinds m.prefix m.submessages w.submessages fits) there).0
 
 pub comes_back : ComesBack
 comes_back kinds m out back w fits there here =
@@ -232,6 +240,6 @@ comes_back kinds m out back w fits there here =
     let known = returned kinds m out w r there in (known.0, known.1 (Turning Inward) back r.back_is here)
 
 pub comes_back_filled : ComesBackWithGaps
-comes_back_filled kinds m out back w fits within there here =
+comes_back_filled kinds m out back w fits within there here short =
     let r : Rounds kinds m.prefix m.submessages = rounds kinds m.prefix m.submessages w.submessages fits in
-    (returned kinds m out w r there).1 Filling back (r.filled_is within) here
+    (returned kinds m out w r there).1 Filling back (r.filled_is within) here short

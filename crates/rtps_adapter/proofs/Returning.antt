@@ -2,7 +2,7 @@
 use Rattle.std.proofs.Common.{◌≡◌, ◌≢◌, ℕ, zero, suc, ◌+◌, ◌-◌, ◌%◌, ◌^◌, ◌<◌, ◌≤◌, Bool, true, false, cond, eqb, ltb, List, [], ◌∷◌, ◌++◌, length, take, Option, Some, None, refl, sym, ap, subst, ◌∙◌, append_assoc, arith, ℤ}
 use Rattle.std.specs.Int.{w16}
 use Rattle.std.proofs.lemmas.Bool.{ne_eqb, le-ltb, eqb-true}
-use Rattle.std.proofs.lemmas.List.{append-nil, length-append, length-replicate, take_at}
+use Rattle.std.proofs.lemmas.List.{append-nil, length-append, length-replicate, take_all, take_at}
 use Rattle.dds_base.specs.declared.datum.Datum.{Datum}
 use Rattle.dds_base.specs.declared.endianness.Endianness.{Endianness}
 use Rattle.dds_base.specs.declared.endianness.Endianness.TheVariants.{Big, Little}
@@ -22,19 +22,22 @@ use Rattle.rtps_wire.specs.Parameters.{parameter_text}
 use Rattle.rtps_wire.specs.ParametersAt.{parameter_at}
 use Rattle.rtps_wire.specs.Submessages.{padding}
 use Rattle.rtps_wire.proofs.WireFields.{field_entity_id}
+use Rattle.rtps_announcements.specs.ListAt.{value_in, value_from}
+use Rattle.rtps_announcements.specs.Names.{pid_endpoint_guid}
+use Rattle.dds_base.specs.DatumAt.{key_at}
 use Rattle.rtps_adapter.specs.declared.direction.Direction.{Direction}
 use Rattle.rtps_adapter.specs.declared.direction.Direction.TheVariants.{Inward, Outward}
 use Rattle.rtps_adapter.specs.declared.kinds.Encoding.{Encoding}
 use Rattle.rtps_adapter.specs.declared.kinds.KeyRule.{KeyRule}
-use Rattle.rtps_adapter.specs.declared.kinds.KeyRule.TheVariants.{Keyless, Fields}
+use Rattle.rtps_adapter.specs.declared.kinds.KeyRule.TheVariants.{Keyless, Fields, ParameterList}
 use Rattle.rtps_adapter.specs.declared.kinds.WriterKind.{WriterKind}
 use Rattle.rtps_adapter.specs.Kinds.{kind_of, rule_of}
-use Rattle.rtps_adapter.specs.Keys.{key_by, key_alone, representation_of}
+use Rattle.rtps_adapter.specs.Keys.{key_by, key_alone, key_by_list, representation_of}
 use Rattle.rtps_adapter.proofs.KeyForms.{own_few, fields_again, key_form_is, alone_says}
 use Rattle.rtps_adapter.specs.Opened.{after_first, after_parameters, after_inline, payload_at}
-use Rattle.rtps_adapter.specs.Payloads.{value_at, payload_of, key_payload_of, has_own_key, inward_payload, outward_payload}
+use Rattle.rtps_adapter.specs.Payloads.{value_at, payload_of, list_of_key, key_payload_of, has_own_key, inward_payload, outward_payload}
 use Rattle.rtps_adapter.specs.Turning.{Piece, piece_of, has_payload, foreign_payload, turned_payload, aligned, changed, turned}
-use Rattle.rtps_adapter.specs.ComesBack.{IsKey, IsValue}
+use Rattle.rtps_adapter.specs.ComesBack.{IsKey, IsValue, GetsNoLonger}
 
 -- ---- parameters
 
@@ -378,7 +381,7 @@ payload_less d p valid e = simp length-append (omega (arith, valid.key, payload_
 pub record KeyReturns (rule : KeyRule) (k : Key) : Type 0 where
   pub new : List ℕ
   pub whole : length new % 4 ≡ 0
-  pub less : length new ≤ length (spelling_of_key k)
+  pub less : GetsNoLonger rule (Dispose k) → length new ≤ length (spelling_of_key k)
   pub sent : key_payload_of rule k ≡ Some new
   pub back : inward_payload rule true new ≡ Some (spelling_of_key k)
 
@@ -394,12 +397,37 @@ payload_made encoding octets = (
   refl,
 )
 
+list_length : (k : Key) → length k.0 ≡ 16 → length (list_of_key k) ≡ 28
+list_length k len = omega (arith, len, length-append k.0 sentinel_text)
+
+-- a list of parameters counts no padding
+list_value : (k : Key) → length k.0 ≡ 16 → value_at (list_of_key k) ≡ Some (list_of_key k)
+unfolding value_at
+list_value k len =
+    let body : List ℕ = parameter_text Little (record { id = pid_endpoint_guid; value = k.0 }) ++ sentinel_text in
+    rw (le-ltb (length body) 0 (omega arith))
+    (ap (λ (z : List ℕ). Some (0 ∷ 3 ∷ 0 ∷ 0 ∷ z)) (take_all (length body - 0 % 4) body (omega arith)))
+
+guid_first : (k : Key) → length k.0 ≡ 16 → value_in Little
+    (parameter_text Little (record { id = pid_endpoint_guid; value = k.0 }) ++ sentinel_text) pid_endpoint_guid
+    ≡ Some k.0
+unfolding value_in value_from
+guid_first k len = rw (parameter_skipped pid_endpoint_guid k.0 sentinel_text (omega arith) (λ e. absurd cc) (omega (arith, len))) refl
+
+-- the list that names a key has it
+list_again : (k : Key) → length k.0 ≡ 16 → key_by_list (list_of_key k) ≡ Some k
+unfolding key_by_list key_at
+list_again k len =
+    let whole : octets_at 16 k.0 ≡ Some (k.0, []) =
+    ap (octets_at 16) (sym (append-nil k.0)) ∙ (field_octets 16).again k.0 [] len in
+    rw (guid_first k len, whole) refl
+
 pub key_returns : (rule : KeyRule) (k : Key) → length k.0 ≡ 16 → IsKey rule k → KeyReturns rule k
 unfolding key_payload_of value_at
 key_returns Keyless k len is = record {
   new = 0 ∷ 1 ∷ 0 ∷ 0 ∷ [];
   whole = refl;
-  less = omega (arith, len);
+  less = λ short. omega (arith, len);
   sent = rw is refl;
   back = key_back Keyless k (0 ∷ 1 ∷ 0 ∷ 0 ∷ []) (0 ∷ 1 ∷ 0 ∷ 0 ∷ []) refl (ap Some (sym is));
 }
@@ -412,12 +440,19 @@ key_returns (Fields encoding fields) k len is =
     record {
       new = made.0;
       whole = returns.1;
-      less = omega (arith, len, few, payload_length value made.0 made.1);
+      less = λ short. omega (arith, len, few, payload_length value made.0 made.1);
       sent = rw s.own made.1;
       back = key_back (Fields encoding fields) k made.0 value returns.0
           (key_form_is encoding fields.now s.octets s.octets (fields_again fields.now encoding k.0 [] s.octets s.found)
           ∙ ap Some s.is);
     }
+key_returns ParameterList k len is = record {
+  new = list_of_key k;
+  whole = omega (arith, list_length k len);
+  less = λ short. absurd short;
+  sent = refl;
+  back = key_back ParameterList k (list_of_key k) (list_of_key k) (list_value k len) (list_again k len);
+}
 
 pub key_there : (rule : KeyRule) (k : Key) (new zeros : List ℕ) → length k.0 ≡ 16 → key_payload_of rule k ≡ Some new
     → outward_payload rule true (spelling_of_key k ++ zeros) ≡ Some new

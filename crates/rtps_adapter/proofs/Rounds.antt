@@ -26,6 +26,7 @@ use Rattle.rtps_adapter.specs.declared.direction.Direction.TheVariants.{Inward, 
 use Rattle.rtps_adapter.specs.declared.kinds.Kind.{Kind}
 use Rattle.rtps_adapter.specs.declared.kinds.Kind.TheVariants as kinds_of
 use Rattle.rtps_adapter.specs.declared.kinds.KeyRule.{KeyRule}
+use Rattle.rtps_adapter.specs.declared.kinds.KeyRule.TheVariants.{Keyless, Fields, ParameterList}
 use Rattle.rtps_adapter.specs.declared.kinds.WriterKind.{WriterKind}
 use Rattle.rtps_adapter.specs.Kinds.{kind_of, most_of, rule_of}
 use Rattle.rtps_adapter.specs.Opened.{payload_at}
@@ -33,28 +34,29 @@ use Rattle.rtps_adapter.specs.Turning.{Piece, piece_of, aligned, has_payload, fo
 use Rattle.rtps_adapter.specs.Payloads.{inward_payload, outward_payload}
 use Rattle.rtps_adapter.specs.Filling.{named_at, is_lost, lost, filled}
 use Rattle.rtps_adapter.proofs.Gaps.{named_writer}
-use Rattle.rtps_adapter.specs.ComesBack.{IsKey, FitsRule, FitsKind, Fits, IsWithin}
+use Rattle.rtps_adapter.specs.ComesBack.{IsKey, FitsRule, FitsKind, Fits, IsWithin, GetsNoLonger, StaysShort, IsShort}
 use Rattle.rtps_adapter.proofs.Returning.{written_parameters, written_payload, written_whole, says_key, carries_payload, key_flag, head_of_data, data_opens, data_returns, write_there, write_back, payload_back, payload_less, key_returns, key_there, foreign_not, foreign_is, is_little}
 
 -- a submessage as it is written
 abbrev pub spelled : Submessage → Piece
 spelled s = piece_of (id_of s) (flags_of s) (body_of s)
 
--- what a submessage turns into on its way out, and that it comes back; its number is kept where it is so short
-pub record Round (kinds : List WriterKind) (source : GuidPrefix) (p : Piece) (Short : Type 0) : Type 0 where
+-- what a submessage turns into on its way out, and that it comes back; its number is kept where its value is within what
+-- the table says, and it gets no longer where it is short
+pub record Round (kinds : List WriterKind) (source : GuidPrefix) (p : Piece) (Within Short : Type 0) : Type 0 where
   pub flags : ℕ
   pub body : List ℕ
   pub out_is : turned Outward kinds source p ≡ piece_of p.id flags body
   pub back_is : turned Inward kinds source (piece_of p.id flags body) ≡ p
   pub within : runs_to_end p.id (length body) ≡ false
-  pub shorter : length body ≤ length p.body
+  pub shorter : Short → length body ≤ length p.body
   pub was_within : runs_to_end p.id (length p.body) ≡ false
-  pub kept : Short → lost kinds source p.id flags body ≡ None
+  pub kept : Within → lost kinds source p.id flags body ≡ None
 
 -- it comes back too where numbers that can't be read stand in GAPs
-pub filled_back : (kinds : List WriterKind) (source : GuidPrefix) (p : Piece) (Short : Type 0)
-    (r : Round kinds source p Short) → Short → filled kinds source (piece_of p.id r.flags r.body) ≡ p
-filled_back kinds source p Short r short = let kept = r.kept short in rw kept r.back_is
+pub filled_back : (kinds : List WriterKind) (source : GuidPrefix) (p : Piece) (Within Short : Type 0)
+    (r : Round kinds source p Within Short) → Within → filled kinds source (piece_of p.id r.flags r.body) ≡ p
+filled_back kinds source p Within Short r within = let kept = r.kept within in rw kept r.back_is
 
 -- a number that can be read
 pub not_lost : (kinds : List WriterKind) (source : GuidPrefix) (id flags : ℕ) (body : List ℕ)
@@ -90,16 +92,16 @@ aligned_positive text lt = omega (arith, lt, length-append text (padding (length
 -- what has no payload to be turned stays both ways
 stays : (kinds : List WriterKind) (source : GuidPrefix) (id flags : ℕ) (body : List ℕ)
     → foreign_payload kinds source id flags body ≡ None → runs_to_end id (length body) ≡ false
-    → (Short : Type 0) → (Short → lost kinds source id flags body ≡ None)
-    → Round kinds source (piece_of id flags body) Short
+    → (Within : Type 0) → (Within → lost kinds source id flags body ≡ None)
+    → Round kinds source (piece_of id flags body) Within (Unit {0})
 unfolding changed
-stays kinds source id flags body none within Short kept = record {
+stays kinds source id flags body none within Within kept = record {
   flags = flags;
   body = body;
   out_is = rw none refl;
   back_is = rw none refl;
   within = within;
-  shorter = omega arith;
+  shorter = λ short. omega arith;
   was_within = within;
   kept = kept;
 }
@@ -117,7 +119,7 @@ other_id kinds source id flags body other = rw other refl
 -- a submessage of another kind
 passed_on : (kinds : List WriterKind) (source : GuidPrefix) (id flags : ℕ) (body : List ℕ) → eqb id 21 ≡ false
     → eqb id 22 ≡ false → runs_to_end id (length body) ≡ false
-    → Round kinds source (piece_of id flags body) (Unit {0})
+    → Round kinds source (piece_of id flags body) (Unit {0}) (Unit {0})
 passed_on kinds source id flags body other fragment within =
     stays kinds source id flags body (other_id kinds source id flags body other) within (Unit {0})
     (λ short. other_kept kinds source id flags body other fragment)
@@ -213,7 +215,7 @@ head_whole d valid body =
 record Turning (rule : KeyRule) (b : ChangeBody) (is_key : Bool) : Type 0 where
   new : List ℕ
   whole : length new % 4 ≡ 0
-  less : length new ≤ length (written_payload b)
+  less : GetsNoLonger rule b → length new ≤ length (written_payload b)
   there : (zeros : List ℕ) → outward_payload rule is_key (written_payload b ++ zeros) ≡ Some new
   back : inward_payload rule is_key new ≡ Some (written_payload b)
 
@@ -228,25 +230,50 @@ key_turning rule k len is =
       back = r.back;
     }
 
+-- no list says a key alone, whatever becomes of its instance
+as_dispose : (rule : KeyRule) (b : ChangeBody) (k : Key) → says_key b ≡ true → GetsNoLonger rule b
+    → GetsNoLonger rule (Dispose k)
+as_dispose Keyless b k e short = tt
+as_dispose (Fields encoding fields) b k e short = tt
+as_dispose ParameterList (Write d) k e short = absurd cc
+as_dispose ParameterList (Dispose other) k e short = absurd short
+as_dispose ParameterList (Unregister other) k e short = absurd short
+as_dispose ParameterList (DisposeUnregister other) k e short = absurd short
+
 turning : (rule : KeyRule) (b : ChangeBody) → IsBody b → FitsRule rule b → Turning rule b (says_key b)
 turning rule (Write d) valid fits =
     let returns = payload_back d.value fits.0.0 fits.0.1 in
     record {
       new = fits.0.0;
       whole = returns.1;
-      less = payload_less d fits.0.0 valid fits.0.1;
+      less = λ short. payload_less d fits.0.0 valid fits.0.1;
       there = λ zeros. write_there rule d fits.0.0 zeros valid fits.1 fits.0.1;
       back = write_back rule d fits.0.0 fits.1 returns.0;
     }
 turning rule (Dispose k) valid fits = key_turning rule k valid fits
 turning rule (Unregister k) valid fits =
-    let t = key_turning rule k valid fits in record { new = t.new; whole = t.whole; less = t.less; there = t.there; back = t.back }
+    let t = key_turning rule k valid fits in
+    record {
+      new = t.new;
+      whole = t.whole;
+      less = λ short. t.less (as_dispose rule (Unregister k) k refl short);
+      there = t.there;
+      back = t.back;
+    }
 turning rule (DisposeUnregister k) valid fits =
-    let t = key_turning rule k valid fits in record { new = t.new; whole = t.whole; less = t.less; there = t.there; back = t.back }
+    let t = key_turning rule k valid fits in
+    record {
+      new = t.new;
+      whole = t.whole;
+      less = λ short. t.less (as_dispose rule (DisposeUnregister k) k refl short);
+      there = t.there;
+      back = t.back;
+    }
 
 data_turned : (kinds : List WriterKind) (source : GuidPrefix) (d : Data) (rule : KeyRule) → IsData d
     → IsContent d.content → rule_of (kind_of kinds source d.writer_id) ≡ Some rule → FitsRule rule d.content.body
     → Round kinds source (spelled (submessages.Data d)) (IsWithin kinds source (submessages.Data d))
+    (GetsNoLonger rule d.content.body)
 data_turned kinds source d rule valid content is fits =
     let b = d.content.body in
     let flags = content_flags d.content in
@@ -265,15 +292,15 @@ data_turned kinds source d rule valid content is fits =
     content.body)
     is (head_whole d valid content.body) t.whole t.there t.back in
     subst (λ (z : List ℕ). Round kinds source (piece_of 21 (content_flags d.content) z)
-    (IsWithin kinds source (submessages.Data d))) (sym whole) (record {
+    (IsWithin kinds source (submessages.Data d)) (GetsNoLonger rule d.content.body)) (sym whole) (record {
       flags = content_flags d.content;
       body = head_of_data d.reader_id d.writer_id d.writer_sn d.content.body d.content.strength ++ t.new;
       out_is = r.out_is;
       back_is = r.back_is;
       within = positive_within 21 (length (front ++ t.new)) (omega arith);
-      shorter = omega (
+      shorter = λ short. omega (
         arith,
-        t.less,
+        t.less short,
         length-append front t.new,
         length-append (front ++ written_payload d.content.body)
             (padding (length (front ++ written_payload d.content.body))),
@@ -291,7 +318,7 @@ data_turned kinds source d rule valid content is fits =
 
 data_stays : (kinds : List WriterKind) (source : GuidPrefix) (d : Data) → IsData d → IsContent d.content
     → rule_of (kind_of kinds source d.writer_id) ≡ None
-    → Round kinds source (spelled (submessages.Data d)) (IsWithin kinds source (submessages.Data d))
+    → Round kinds source (spelled (submessages.Data d)) (IsWithin kinds source (submessages.Data d)) (Unit {0})
 data_stays kinds source d valid content is =
     let front = head_of_data d.reader_id d.writer_id d.writer_sn d.content.body d.content.strength in
     let whole = data_whole d in
@@ -316,6 +343,7 @@ data_stays kinds source d valid content is =
 data_round : (kinds : List WriterKind) (source : GuidPrefix) (d : Data) (kind : Kind) → IsData d → IsContent d.content
     → kind_of kinds source d.writer_id ≡ kind → FitsKind kind d.content.body
     → Round kinds source (spelled (submessages.Data d)) (IsWithin kinds source (submessages.Data d))
+    (StaysShort kind d.content.body)
 data_round kinds source d kinds_of.Datum valid content is fits =
     data_stays kinds source d valid content (ap rule_of is)
 data_round kinds source d (kinds_of.Opaque rule) valid content is fits =
@@ -324,7 +352,7 @@ data_round kinds source d (kinds_of.Opaque rule) valid content is fits =
 -- ---- each submessage
 
 pub round : (kinds : List WriterKind) (source : GuidPrefix) (s : Submessage) → IsSpellable s → Fits kinds source s
-    → Round kinds source (spelled s) (IsWithin kinds source s)
+    → Round kinds source (spelled s) (IsWithin kinds source s) (IsShort kinds source s)
 round kinds source submessages.Pad valid fits =
     passed_on kinds source 1 (flags_of submessages.Pad) (body_of submessages.Pad) refl refl
     (pad_within (length (body_of submessages.Pad)))

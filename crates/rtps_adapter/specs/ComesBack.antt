@@ -10,12 +10,13 @@ use Rattle.rtps_wire.specs.declared.submessage.Submessage.{Submessage}
 use Rattle.rtps_wire.specs.declared.submessage.Submessage.TheVariants.{Data}
 use Rattle.rtps_wire.specs.Messages.{IsWritable, spelling_of}
 use Rattle.rtps_wire.specs.Submessages.{octets_of_change}
+use Rattle.rtps_wire.specs.Names.{max_message}
 use Rattle.rtps_adapter.specs.declared.direction.Direction.TheVariants.{Inward, Outward}
 use Rattle.rtps_adapter.specs.declared.direction.Way.TheVariants.{Filling}
 use Rattle.rtps_adapter.specs.declared.kinds.Kind.{Kind}
 use Rattle.rtps_adapter.specs.declared.kinds.Kind.TheVariants.{Datum, Opaque}
 use Rattle.rtps_adapter.specs.declared.kinds.KeyRule.{KeyRule}
-use Rattle.rtps_adapter.specs.declared.kinds.KeyRule.TheVariants.{Keyless, Fields}
+use Rattle.rtps_adapter.specs.declared.kinds.KeyRule.TheVariants.{Keyless, Fields, ParameterList}
 use Rattle.rtps_adapter.specs.declared.kinds.WriterKind.{WriterKind}
 use Rattle.rtps_adapter.specs.Kinds.{kind_of, most_of, no_key}
 use Rattle.rtps_adapter.specs.Keys.{key_alone, key_by, representation_of}
@@ -27,11 +28,12 @@ abbrev pub IsValue : List ℕ → Type 0
 IsValue value = (payload : List ℕ) × (payload_of value ≡ Some payload)
 
 -- A key that a type of the rule has, and that can be said alone: of key fields it is what they say where they stand in
--- its own sixteen octets, big-endian.
+-- its own sixteen octets, big-endian; of a list of parameters it is any.
 abbrev pub IsKey : KeyRule → Key → Type 0
 IsKey Keyless k = k ≡ no_key
 IsKey (Fields encoding fields) k =
     key_alone (Fields encoding fields) (0 ∷ representation_of encoding ∷ 0 ∷ 0 ∷ k.0) ≡ Some k
+IsKey ParameterList k = Unit {0}
 
 -- A change is one of a type of the rule: its value is a payload's, and has its key.
 abbrev pub FitsRule : KeyRule → ChangeBody → Type 0
@@ -50,13 +52,30 @@ abbrev pub Fits : List WriterKind → GuidPrefix → Submessage → Type 0
 Fits kinds source (Data d) = FitsKind (kind_of kinds source d.writer_id) d.content.body
 Fits kinds source s = Unit {0}
 
--- What a peer wrote gets no longer, and comes back as it was, octet for octet, where each change is one of the type
--- that its topic carries.
+-- A list of parameters that says a key alone has eight octets more than the key form; all else gets no longer.
+abbrev pub GetsNoLonger : KeyRule → ChangeBody → Type 0
+GetsNoLonger ParameterList (Write d) = Unit {0}
+GetsNoLonger ParameterList b = ⊥
+GetsNoLonger rule b = Unit {0}
+
+abbrev pub StaysShort : Kind → ChangeBody → Type 0
+StaysShort Datum b = Unit {0}
+StaysShort (Opaque rule) b = GetsNoLonger rule b
+
+-- The change of a DATA gets no longer.
+abbrev pub IsShort : List WriterKind → GuidPrefix → Submessage → Type 0
+IsShort kinds source (Data d) = StaysShort (kind_of kinds source d.writer_id) d.content.body
+IsShort kinds source s = Unit {0}
+
+-- What a peer wrote comes back as it was, octet for octet, where each change is one of the type that its topic carries;
+-- and it gets no longer on its way, but for keys that lists of parameters say alone. With these it may get longer than a
+-- message: then nothing is handed on.
 abbrev pub ComesBack : Type 0
 ComesBack = (kinds : List WriterKind) (m : Message) (out back : List ℕ) → IsWritable m
     → AllByRecursion (Fits kinds m.prefix) m.submessages
     → Adapts Outward kinds (spelling_of m) out → Adapts Inward kinds out back
-    → (length out ≤ length (spelling_of m)) × (back ≡ spelling_of m)
+    → (AllByRecursion (IsShort kinds m.prefix) m.submessages → length out ≤ length (spelling_of m))
+    × (length out ≤ max_message → back ≡ spelling_of m)
 
 -- The value of a DATA has no more octets than the table says of its writer.
 abbrev pub IsWithin : List WriterKind → GuidPrefix → Submessage → Type 0
@@ -68,4 +87,5 @@ IsWithin kinds source s = Unit {0}
 abbrev pub ComesBackWithGaps : Type 0
 ComesBackWithGaps = (kinds : List WriterKind) (m : Message) (out back : List ℕ) → IsWritable m
     → AllByRecursion (Fits kinds m.prefix) m.submessages → AllByRecursion (IsWithin kinds m.prefix) m.submessages
-    → Adapts Outward kinds (spelling_of m) out → Makes Filling kinds out back → back ≡ spelling_of m
+    → Adapts Outward kinds (spelling_of m) out → Makes Filling kinds out back → length out ≤ max_message
+    → back ≡ spelling_of m

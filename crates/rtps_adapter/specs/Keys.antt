@@ -2,22 +2,26 @@
 -- 7.6.3.1.2: their identifiers).
 --
 -- The key fields alone in their encoding, big-endian, are the key, with zeros behind them up to sixteen octets. Where they take
--- more octets, the key is the MD5 of these.
+-- more octets, the key is the MD5 of these. That of a list of parameters is the GUID that it names (8.5.4, 9.4.2).
 use Rattle.std.specs.Prelude.{ℕ, ◌+◌, ◌-◌, ◌%◌, ◌==◌, ◌&&◌, Bool, true, false, List, [], ◌∷◌, ◌++◌, length, replicate, reverse, nat_lt, Option, None, Some, if◌then◌else◌}
+use Rattle.std.specs.Option.{option_or}
 use Rattle.md5.specs.Md5.{md5}
 use Rattle.dds_base.specs.declared.endianness.Endianness.{Endianness}
 use Rattle.dds_base.specs.declared.endianness.Endianness.TheVariants.{Big, Little}
 use Rattle.dds_base.specs.declared.key.Key.{Key}
 use Rattle.dds_base.specs.Bounds.{key_octets}
+use Rattle.dds_base.specs.DatumAt.{key_at}
 use Rattle.dds_base.specs.Fields.{octets_at, ◌>>=◌}
 use Rattle.dds_base.specs.Happening.{same_key}
+use Rattle.rtps_announcements.specs.ListAt.{value_in}
+use Rattle.rtps_announcements.specs.Names.{pid_endpoint_guid, pid_participant_guid}
 use Rattle.rtps_adapter.specs.declared.kinds.Encoding.{Encoding}
 use Rattle.rtps_adapter.specs.declared.kinds.Encoding.TheVariants.{Cdr, Cdr2}
 use Rattle.rtps_adapter.specs.declared.kinds.FieldSize.{FieldSize}
 use Rattle.rtps_adapter.specs.declared.kinds.FieldSize.TheVariants.{One, Two, Four, Eight}
 use Rattle.rtps_adapter.specs.declared.kinds.KeyField.{KeyField}
 use Rattle.rtps_adapter.specs.declared.kinds.KeyRule.{KeyRule}
-use Rattle.rtps_adapter.specs.declared.kinds.KeyRule.TheVariants.{Keyless, Fields}
+use Rattle.rtps_adapter.specs.declared.kinds.KeyRule.TheVariants.{Keyless, Fields, ParameterList}
 use Rattle.rtps_adapter.specs.Kinds.{no_key}
 
 -- how many octets a field takes
@@ -97,10 +101,25 @@ own_octets encoding fields k = do
   octets ← fields_in true encoding Big k.0 [] fields
   if same_key (key_of_octets octets) k then Some octets else None
 
+-- the order that the representation of a list of parameters names: PL_CDR_BE and PL_CDR_LE
+abbrev pub order_of_list : ℕ → ℕ → Option Endianness
+order_of_list first second =
+    if first == 0 && second == 2 then Some Big else if first == 0 && second == 3 then Some Little else None
+
+-- the key of a list of parameters: the GUID of the endpoint that it names, or where it names none of the participant
+unfoldable pub key_by_list : List ℕ → Option Key
+key_by_list (a ∷ b ∷ c ∷ d ∷ body) = do
+  order ← order_of_list a b
+  guid ← option_or (value_in order body pid_endpoint_guid) (value_in order body pid_participant_guid)
+  k ← key_at guid
+  Some k.0
+key_by_list _ = None
+
 -- the key of a value, or of what says a key alone, by the rule
 abbrev pub key_in : Bool → KeyRule → List ℕ → Option Key
 key_in is_key Keyless value = Some no_key
 key_in is_key (Fields encoding fields) value = key_by_fields is_key encoding fields.now value
+key_in is_key ParameterList value = key_by_list value
 
 -- the key of a value; none where the value has none
 abbrev pub key_by : KeyRule → List ℕ → Option Key

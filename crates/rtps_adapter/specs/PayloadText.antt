@@ -7,12 +7,14 @@ use Rattle.rtps_wire.specs.Names.{max_message}
 use Rattle.rtps_wire.specs.Submessages.{padding}
 use Rattle.rtps_adapter.specs.Turning.{Piece}
 use Rattle.rtps_adapter.specs.declared.payload.NewPayload.{NewPayload}
-use Rattle.rtps_adapter.specs.declared.payload.NewPayload.TheVariants.{Datum, KeyForm, Own}
+use Rattle.rtps_adapter.specs.declared.payload.NewPayload.TheVariants.{Datum, KeyForm, Own, ParameterList}
+use Rattle.rtps_adapter.specs.Payloads.{list_of_key}
 
 abbrev pub new_text : NewPayload → List ℕ
 new_text (Datum key value) = spelling_of_datum (record { key = key; value = value })
 new_text (KeyForm key) = spelling_of_key key
 new_text (Own octets) = octets ++ padding (length octets)
+new_text (ParameterList key) = list_of_key key
 
 -- the body of a DATA that has it in place of its own payload, and of one that stands as it stood
 abbrev pub body_with : List ℕ → Option NewPayload → List ℕ

@@ -11,9 +11,13 @@ use Rattle.dds_base.specs.Fields.{◌>>=◌}
 use Rattle.dds_base.specs.DatumAt.{datum_at, key_form_at}
 use Rattle.dds_base.specs.DatumText.{spelling_of_datum, spelling_of_key}
 use Rattle.dds_base.specs.Happening.{same_key}
+use Rattle.dds_base.specs.declared.endianness.Endianness.TheVariants.{Little}
+use Rattle.rtps_wire.specs.Data.{sentinel_text}
+use Rattle.rtps_wire.specs.Parameters.{parameter_text}
 use Rattle.rtps_wire.specs.Submessages.{padding}
+use Rattle.rtps_announcements.specs.Names.{pid_endpoint_guid}
 use Rattle.rtps_adapter.specs.declared.kinds.KeyRule.{KeyRule}
-use Rattle.rtps_adapter.specs.declared.kinds.KeyRule.TheVariants.{Keyless, Fields}
+use Rattle.rtps_adapter.specs.declared.kinds.KeyRule.TheVariants.{Keyless, Fields, ParameterList}
 use Rattle.rtps_adapter.specs.Kinds.{no_key}
 use Rattle.rtps_adapter.specs.Keys.{key_alone, key_by, own_octets, representation_of}
 
@@ -33,13 +37,18 @@ payload_of (a ∷ b ∷ c ∷ d ∷ body) =
     else None
 payload_of _ = None
 
--- the payload that says a key alone, by the rule: of a type without a key it has nothing after the options, and of one
--- with key fields these, big-endian
+-- the list of parameters that names a key alone, as an endpoint's GUID
+abbrev pub list_of_key : Key → List ℕ
+list_of_key k = 0 ∷ 3 ∷ 0 ∷ 0 ∷ (parameter_text Little (record { id = pid_endpoint_guid; value = k.0 }) ++ sentinel_text)
+
+-- the payload that says a key alone, by the rule: of a type without a key it has nothing after the options, of one with
+-- key fields these, big-endian, and of a list of parameters the one that names it
 unfoldable pub key_payload_of : KeyRule → Key → Option (List ℕ)
 key_payload_of Keyless k = if same_key k no_key then Some (0 ∷ 1 ∷ 0 ∷ 0 ∷ []) else None
 key_payload_of (Fields encoding fields) k = do
   octets ← own_octets encoding fields.now k
   payload_of (0 ∷ representation_of encoding ∷ 0 ∷ 0 ∷ octets)
+key_payload_of ParameterList k = Some (list_of_key k)
 
 -- what a payload of another type turns into: the datum of its key and value, or where it says a key alone, the key form
 unfoldable pub inward_payload : KeyRule → Bool → List ℕ → Option (List ℕ)

@@ -3,7 +3,7 @@
 use Rattle.std.specs.Prelude.{◌≡◌, ℕ, ◌+◌, ◌%◌, ◌<◌, Bool, false, List, [], ◌∷◌, ◌++◌, length, None, Some}
 use Rattle.rtps_adapter.specs.declared.kinds.KeyField.{KeyField}
 use Rattle.rtps_adapter.specs.declared.kinds.KeyRule.{KeyRule}
-use Rattle.rtps_adapter.specs.declared.kinds.KeyRule.TheVariants.{Keyless, Fields}
+use Rattle.rtps_adapter.specs.declared.kinds.KeyRule.TheVariants.{Keyless, Fields, ParameterList}
 use Rattle.rtps_adapter.specs.Keys.{size_of}
 use Rattle.rtps_adapter.specs.Payloads.{inward_payload, value_at}
 
@@ -21,6 +21,7 @@ PaddingCantBeTurned = (rule : KeyRule) (is_key : Bool) (a b c d : ℕ) (body : L
 abbrev pub fields_of : KeyRule → List KeyField
 fields_of Keyless = []
 fields_of (Fields encoding fields) = fields.now
+fields_of ParameterList = []
 
 -- the payload of a value whose body ends before a key field does
 abbrev pub FieldsHaveToBeThere : Type 0

@@ -53,6 +53,11 @@ pub enum KeyRule<'a> {
     ///
     /// RTPS 2.5, 9.6.4.8 (KeyHash).
     Fields(Encoding, &'a [KeyField]),
+    /// The type is a list of parameters, as announcements of endpoints are. The key is the sixteen octets of the GUID
+    /// that it names: its first PID_ENDPOINT_GUID, or where it has none its first PID_PARTICIPANT_GUID.
+    ///
+    /// RTPS 2.5, 9.4.2 (ParameterList), 8.5.4 (the keys of SEDP) and 9.6 (ids).
+    ParameterList,
 }
 
 /// What a topic carries.

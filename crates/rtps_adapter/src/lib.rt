@@ -17,6 +17,7 @@ mod filling;
 mod key;
 mod kinds;
 pub mod laws;
+mod listed;
 mod payload;
 
 pub use adapt::{Adapted, inward, inward_with_gaps, outward};

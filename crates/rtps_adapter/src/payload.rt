@@ -9,7 +9,7 @@ ghost use Rattle.dds_base.specs.DatumAt.{datum_at, key_form_at};
 ghost use Rattle.dds_base.specs.Happening.{same_key};
 ghost use Rattle.dds_base.specs.DatumText.{spelling_of_datum, spelling_of_key};
 ghost use Rattle.rtps_wire.specs.Submessages.{padding};
-ghost use Rattle.rtps_adapter.specs.Payloads.{value_at, payload_of, key_payload_of, inward_payload, outward_payload, has_own_key};
+ghost use Rattle.rtps_adapter.specs.Payloads.{value_at, payload_of, list_of_key, key_payload_of, inward_payload, outward_payload, has_own_key};
 ghost use Rattle.rtps_adapter.specs.Keys.{key_in, key_by, representation_of};
 ghost use Rattle.rtps_wire.specs.declared.data.ChangeBody.TheVariants.{Write, Dispose};
 ghost use Rattle.rtps_adapter.specs.ComesBack.{IsValue, IsKey, FitsKind};
@@ -17,6 +17,7 @@ ghost use Rattle.rtps_adapter.specs.PayloadText.{new_text};
 
 use crate::key::{key_by_fields, own_len, representation_of};
 use crate::kinds::{Encoding, KeyRule, Kind, NO_KEY, rule_of};
+use crate::listed::{PID_ENDPOINT_GUID, key_by_list};
 use dds_base::{Code, Key, decode_datum_ref, decode_key};
 use rtps_wire::MAX_MESSAGE;
 use std::marker::Model;
@@ -29,6 +30,9 @@ const LEN_KEY_FORM: usize = LEN_KEY_HEAD + 16;
 
 /// A key form up to its key: representation and options.
 const LEN_KEY_HEAD: usize = 4;
+
+/// A list that names a key: representation, options, a parameter of the key, and the sentinel.
+const LEN_LIST: usize = LEN_KEY_HEAD + 4 + 16 + 4;
 
 /// Representation, options and body: a value, or a payload. Contracts see its octets.
 #[derive(Drop)]
@@ -75,6 +79,8 @@ pub enum NewPayload<'a> {
     KeyForm(Key),
     /// A payload of the topic's own type, with these octets and zeros up to a multiple of 4.
     Own(Serialized<'a>),
+    /// The list of parameters that names this key alone.
+    ParameterList(Key),
 }
 
 /// How many zeros follow so many octets, up to a multiple of 4.
@@ -113,6 +119,10 @@ fn key_of(rule: KeyRule, is_key: bool, value: &Serialized) -> Option<Key>
         KeyRule::Fields(encoding, fields) => {
             let [first, second, _, _] = value.head;
             key_by_fields(is_key, encoding, fields, (first, second), value.body)
+        }
+        KeyRule::ParameterList => {
+            let [first, second, _, _] = value.head;
+            key_by_list((first, second), value.body)
         }
     }
 }
@@ -186,6 +196,7 @@ fn own_key<'a>(rule: KeyRule, key: &Key, octets: &'a [u8]) -> Option<NewPayload<
             let len = own_len(encoding, fields, key)?;
             own_fields(encoding, &octets[..len])
         }
+        KeyRule::ParameterList => Some(NewPayload::ParameterList(*key)),
     }
 }
 
@@ -228,7 +239,7 @@ fn is_same_key(first: &Key, second: &Key) -> bool
 }
 
 /// The key of a value, by the rule. `None` where the value has none.
-#[tactic(auto, unfolding(crate::specs::Keys::key_by_fields))]
+#[tactic(auto, unfolding(crate::specs::Keys::key_by_fields, crate::specs::Keys::key_by_list))]
 fn key_by(rule: KeyRule, value: &[u8]) -> Option<Key>
     ensures { result ≡ key_by rule.entry value.now }
 {
@@ -239,6 +250,12 @@ fn key_by(rule: KeyRule, value: &[u8]) -> Option<Key>
                 return None;
             };
             key_by_fields(false, encoding, fields, (*first, *second), body)
+        }
+        KeyRule::ParameterList => {
+            let [first, second, _, _, body @ ..] = value else {
+                return None;
+            };
+            key_by_list((*first, *second), body)
         }
     }
 }
@@ -277,6 +294,7 @@ fn has_key(rule: KeyRule, key: &Key) -> bool
     match rule {
         KeyRule::Keyless => is_same_key(key, &NO_KEY),
         KeyRule::Fields(encoding, fields) => own_len(encoding, fields, key).is_some(),
+        KeyRule::ParameterList => true,
     }
 }
 
@@ -328,6 +346,11 @@ pub fn payload_len(payload: &NewPayload) -> usize
             LEN_KEY_FORM
         }
         NewPayload::Own(own) => own.octets() + zeros_after(own.octets()),
+        NewPayload::ParameterList(key) => {
+            // This shows the prover how many octets there are.
+            let _octets = key.as_slice();
+            LEN_LIST
+        }
     }
 }
 
@@ -352,6 +375,21 @@ fn put_key(out: &mut Vec<u8>, key: &Key) -> Result<(), Code>
     Ok(())
 }
 
+/// Appends the list of parameters that names the key.
+fn put_list(out: &mut Vec<u8>, key: &Key) -> Result<(), Code>
+    ensures ok { OnOk result (out.new.items ≡ out.old.items ++ list_of_key key.now) }
+    ensures memory { IfErr result (λ e. e ≡ Code.Memory) }
+{
+    // Its length shows the prover how many octets there are.
+    let len = key.as_slice().len() as u16;
+    out.extend_from_slice(&[0, 3, 0, 0])?;
+    out.extend_from_slice(&PID_ENDPOINT_GUID.to_le_bytes())?;
+    out.extend_from_slice(&len.to_le_bytes())?;
+    out.extend_from_slice(&key.0)?;
+    out.extend_from_slice(&[1, 0, 0, 0])?;
+    Ok(())
+}
+
 /// Appends the octets of what stands in place of a payload.
 pub fn put_payload(out: &mut Vec<u8>, payload: &NewPayload) -> Result<(), Code>
     requires { length (new_text payload.now) ≤ MAX_MESSAGE }
@@ -369,5 +407,6 @@ pub fn put_payload(out: &mut Vec<u8>, payload: &NewPayload) -> Result<(), Code>
             own.put(out)?;
             put_zeros(out, zeros_after(own.octets()))
         }
+        NewPayload::ParameterList(key) => put_list(out, key),
     }
 }

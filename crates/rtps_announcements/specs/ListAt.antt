@@ -1,5 +1,5 @@
--- Reading a list of parameters from left to right: what the code does, on lists. Nothing here has to be believed, since
--- `read_endpoint` and `read_participant` say what they read by `Lists`.
+-- Reading a list of parameters from left to right: what the code does, on lists. By `value_in` alone `first_value` says
+-- what it finds; `read_endpoint` and `read_participant` say what they read by `Lists`.
 --
 -- RTPS 2.5, 9.4.2 (ParameterList).
 use Rattle.std.specs.Prelude.{◌≡◌, ℕ, zero, suc, ◌%◌, ◌==◌, List, [], ◌∷◌, length, unwrap_or, Option, Some, None, if◌then◌else◌}

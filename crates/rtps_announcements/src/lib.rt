@@ -39,6 +39,7 @@ mod write;
 
 pub use endpoint::{Endpoint, read_endpoint};
 pub use guid::read_guid;
+pub use list::first_value;
 pub use locator::{Locator, Locators};
 pub use name::Name;
 pub use participant::{Participant, VendorId, read_participant};

@@ -85,8 +85,12 @@ pub fn has_parameters(order: Endianness, known: &[u16], bytes: &[u8]) -> bool
     false
 }
 
-/// The value of the first parameter of this id before the sentinel. `None` where there is none.
+/// The value of the first parameter of this id before the sentinel. `None` where there is none, or a parameter before
+/// it is cut. Takes no memory.
+///
+/// RTPS 2.5, 9.4.2 (ParameterList).
 pub fn first_value(order: Endianness, bytes: &[u8], id: u16) -> Option<&[u8]>
+    // Of a repeated parameter the first counts.
     ensures { option_map (λ v. v.now) result ≡ value_in order bytes.now id }
 {
     let mut left = bytes;
