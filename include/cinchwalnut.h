@@ -272,7 +272,8 @@ enum {
     CW_DATUM = 0,
     CW_KEYLESS = 1, /* a type without a key: its key is sixteen zeros */
     CW_CDR = 2,     /* one with key fields, in CDR; of more than sixteen octets its key is their MD5 */
-    CW_CDR2 = 3     /* likewise in CDR2 */
+    CW_CDR2 = 3,    /* likewise in CDR2 */
+    CW_PARAMETER_LIST = 4 /* a list of parameters: its key is the GUID that it names, of an endpoint or of a participant */
 };
 
 /* A key field of a type: it stands at one place in every value. */

@@ -21,6 +21,7 @@ class Carries(enum.IntEnum):
     KEYLESS = 1
     CDR = 2
     CDR2 = 3
+    PARAMETER_LIST = 4
 
 
 class KeyField(NamedTuple):
@@ -54,7 +55,7 @@ class Adapter:
             entity = tuple(octets_of(4, kind.entity, "an entity"))
             carries = Carries(kind.carries)
             own = [_library.CKeyField(u32(it.place, "a place"), _size(it.size)) for it in kind.fields]
-            if own and carries in (Carries.DATUM, Carries.KEYLESS):
+            if own and carries not in (Carries.CDR, Carries.CDR2):
                 raise ValueError(f"{carries.name} has no key fields")
             rows.append(_library.CWriterKind(prefix, entity, carries, len(fields), len(own), u32(kind.max_value, "max_value")))
             fields += own

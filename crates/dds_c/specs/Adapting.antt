@@ -14,7 +14,7 @@ use Rattle.rtps_adapter.specs.declared.kinds.Encoding.TheVariants.{Cdr, Cdr2}
 use Rattle.rtps_adapter.specs.declared.kinds.FieldSize.{FieldSize}
 use Rattle.rtps_adapter.specs.declared.kinds.FieldSize.TheVariants.{One, Two, Four, Eight}
 use Rattle.rtps_adapter.specs.declared.kinds.KeyField.{KeyField}
-use Rattle.rtps_adapter.specs.declared.kinds.KeyRule.TheVariants.{Keyless, Fields}
+use Rattle.rtps_adapter.specs.declared.kinds.KeyRule.TheVariants.{Keyless, Fields, ParameterList}
 use Rattle.rtps_adapter.specs.declared.kinds.Kind.{Kind}
 use Rattle.rtps_adapter.specs.declared.kinds.Kind.TheVariants.{Datum, Opaque}
 use Rattle.rtps_adapter.specs.declared.kinds.WriterKind.{WriterKind}
@@ -39,7 +39,7 @@ is_field f = f.size == 1 || f.size == 2 || f.size == 4 || f.size == 8
 -- a kind is one, and has fields among so many where it needs them
 abbrev pub is_kind : ℕ → FlatKind → Bool
 is_kind count k =
-    k.kind == 0 || k.kind == 1
+    k.kind == 0 || k.kind == 1 || k.kind == 4
     || ((k.kind == 2 || k.kind == 3)
     && (not (k.field_count == 0) && not (nat_lt count (k.first_field + k.field_count))))
 
@@ -49,17 +49,19 @@ no_table fields kinds =
     list_any (λ (f : FlatKeyField). not (is_field f)) fields
     || list_any (λ (k : FlatKind). not (is_kind (length fields) k)) kinds
 
--- what a topic carries: the datum, a type without a key, or one with these key fields
+-- what a topic carries: the datum, a type without a key, one with these key fields, or a list of parameters
 pub data Carried : Type 0 where
   TheDatum : Carried
   NoKey : Carried
   KeyFields : Encoding → List KeyField → Carried
+  Parameters : Carried
 
 -- what a row of a table says
 abbrev pub carried_of : Kind → Carried
 carried_of Datum = TheDatum
 carried_of (Opaque Keyless) = NoKey
 carried_of (Opaque (Fields encoding fields)) = KeyFields encoding fields.now
+carried_of (Opaque ParameterList) = Parameters
 
 abbrev pub said_of : WriterKind → Guid × Carried × ℕ
 said_of row = (row.writer, carried_of row.kind, row.max_value)
@@ -73,6 +75,7 @@ carried_by fields k =
     if k.kind == 0 then TheDatum
     else if k.kind == 1 then NoKey
     else if k.kind == 2 then KeyFields Cdr (fields_at fields k)
+    else if k.kind == 4 then Parameters
     else KeyFields Cdr2 (fields_at fields k)
 
 abbrev pub said_by : List KeyField → FlatKind → Guid × Carried × ℕ

@@ -42,7 +42,8 @@ pub struct FlatKind {
     pub prefix: [u8; 12],
     /// Of the writer.
     pub entity: [u8; 4],
-    /// 0 the datum, 1 a type without a key, 2 one with key fields in CDR, 3 one with key fields in CDR2.
+    /// 0 the datum, 1 a type without a key, 2 one with key fields in CDR, 3 one with key fields in CDR2, 4 a list of
+    /// parameters, whose key is the GUID that it names.
     pub kind: u8,
     /// How many fields stand before its own, where `kind` is 2 or 3.
     pub first_field: u32,
@@ -83,7 +84,7 @@ fn is_kind(count: usize, kind: &FlatKind) -> bool
     ensures { result ≡ is_kind count kind.now }
 {
     match kind.kind {
-        0 | 1 => true,
+        0 | 1 | 4 => true,
         2 | 3 => {
             kind.field_count != 0 && kind.first_field as usize + kind.field_count as usize <= count
         }
@@ -144,6 +145,7 @@ fn writer_kind<'a>(fields: &'a [KeyField], kind: &FlatKind) -> WriterKind<'a>
             0 => Kind::Datum,
             1 => Kind::Opaque(KeyRule::Keyless),
             2 => Kind::Opaque(KeyRule::Fields(Encoding::Cdr, own)),
+            4 => Kind::Opaque(KeyRule::ParameterList),
             _ => Kind::Opaque(KeyRule::Fields(Encoding::Cdr2, own)),
         },
         max_value: max_value(kind.max_value),

@@ -7,7 +7,10 @@ use std::alloc::{AllocError, Global};
 
 /// The form of a `kind` line.
 const KIND: &str =
-    "its form is `kind PREFIX ENTITY TYPE [gaps]`, where TYPE is datum, keyless, or cdr or cdr2 with key fields as PLACE:SIZE, each of 1, 2, 4 or 8 octets";
+    "its form is `kind PREFIX ENTITY TYPE [gaps]`, where TYPE is datum, keyless, list, or cdr or cdr2 with key fields as PLACE:SIZE, each of 1, 2, 4 or 8 octets";
+
+/// What follows `fragments`.
+const FRAGMENTS: Form = Form::of(&[Operand::GuidPrefix, Operand::EntityId]);
 
 /// Why words say nothing to a peer that is neither an event nor of a configuration.
 fn other_cause(alloc: Global, name: &str, words: &[&str]) -> Result<String, AllocError> {
@@ -16,6 +19,8 @@ fn other_cause(alloc: Global, name: &str, words: &[&str]) -> Result<String, Allo
         None => match name {
             "open" => form_cause(alloc, name, Form::of(&[Operand::Peer]), words),
             "kind" => String::from_str(alloc, KIND),
+            "fragments" => form_cause(alloc, name, FRAGMENTS, words),
+            "hear" => form_cause(alloc, name, Form::of(&[Operand::Octets]), words),
             _ => unknown_cause(alloc, "call", name),
         },
     }

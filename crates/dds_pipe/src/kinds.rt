@@ -17,6 +17,8 @@ enum Carried {
     Keyless,
     /// Another type, with these key fields.
     Fields(Encoding, Vec<KeyField>),
+    /// A list of parameters, whose key is the GUID that it names.
+    ParameterList,
 }
 
 /// What the topic of a writer carries.
@@ -98,6 +100,7 @@ fn carried_of(alloc: Global, words: &[&str]) -> Result<Option<Carried>, AllocErr
     match words {
         ["datum"] => Ok(Some(Carried::Datum)),
         ["keyless"] => Ok(Some(Carried::Keyless)),
+        ["list"] => Ok(Some(Carried::ParameterList)),
         ["cdr", fields @ ..] => with_fields(alloc, Encoding::Cdr, fields),
         ["cdr2", fields @ ..] => with_fields(alloc, Encoding::Cdr2, fields),
         _ => Ok(None),
@@ -105,7 +108,7 @@ fn carried_of(alloc: Global, words: &[&str]) -> Result<Option<Carried>, AllocErr
 }
 
 /// A GUID in two words.
-fn guid(prefix: &str, entity: &str) -> Option<Guid> {
+pub fn guid(prefix: &str, entity: &str) -> Option<Guid> {
     let prefix = guid_prefix(prefix)?;
     let entity = entity_id(entity)?;
     Some(Guid { prefix, entity })
@@ -155,6 +158,7 @@ impl KindLine {
         let kind = match &self.carried {
             Carried::Datum => Kind::Datum,
             Carried::Keyless => Kind::Opaque(KeyRule::Keyless),
+            Carried::ParameterList => Kind::Opaque(KeyRule::ParameterList),
             Carried::Fields(encoding, fields) => {
                 Kind::Opaque(KeyRule::Fields(*encoding, fields.as_slice()))
             }

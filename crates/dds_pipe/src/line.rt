@@ -1,7 +1,7 @@
 //! The lines that a peer is given.
 
-use crate::kinds::{KindLine, kind_line};
-use dds_base::{Moment, Octets};
+use crate::kinds::{KindLine, guid, kind_line};
+use dds_base::{Guid, Moment, Octets};
 use dds_protocol::Event;
 use dds_script::{
     ListenerLine, SetupLine, call_of, decimal_u8, entity_id, guid_prefix, listener_line,
@@ -16,6 +16,10 @@ pub enum Line {
     Setup(SetupLine),
     /// What the topic of a writer carries.
     Kind(KindLine),
+    /// The fragments of a writer are put together.
+    Fragments(Guid),
+    /// A datagram is looked at for fragments.
+    Hear(Octets),
     /// The peer opens as the one of this number.
     Open(u8),
     /// The peer has a filter more, by the octets with which a value begins.
@@ -58,6 +62,13 @@ fn open(words: &[&str]) -> Option<Line> {
     Some(Line::Open(decimal_u8(number)?))
 }
 
+fn fragments(words: &[&str]) -> Option<Line> {
+    let [prefix, entity] = words else {
+        return None;
+    };
+    Some(Line::Fragments(guid(prefix, entity)?))
+}
+
 fn tick(words: &[&str]) -> Option<Line> {
     let [now] = words else {
         return None;
@@ -77,6 +88,7 @@ fn short_line(name: &str, words: &[&str]) -> Option<Line> {
         "writer" => writer(words),
         "reader" => reader(words),
         "open" => open(words),
+        "fragments" => fragments(words),
         "tick" => tick(words),
         _ => None,
     }
@@ -89,22 +101,31 @@ fn call(alloc: Global, words: &[&str]) -> Result<Option<Line>, AllocError> {
     }
 }
 
+/// The octets that are the only word.
+fn only_octets(alloc: Global, words: &[&str]) -> Result<Option<Octets>, AllocError> {
+    match words {
+        [octets] => value(alloc, octets),
+        _ => Ok(None),
+    }
+}
+
 fn delivery(alloc: Global, words: &[&str]) -> Result<Option<Line>, AllocError> {
-    let [bytes] = words else {
-        return Ok(None);
-    };
-    match value(alloc, bytes)? {
+    match only_octets(alloc, words)? {
         Some(bytes) => Ok(Some(Line::Event(Event::Deliver(bytes)))),
         None => Ok(None),
     }
 }
 
 fn filter(alloc: Global, words: &[&str]) -> Result<Option<Line>, AllocError> {
-    let [octets] = words else {
-        return Ok(None);
-    };
-    match value(alloc, octets)? {
+    match only_octets(alloc, words)? {
         Some(octets) => Ok(Some(Line::Filter(octets))),
+        None => Ok(None),
+    }
+}
+
+fn hearing(alloc: Global, words: &[&str]) -> Result<Option<Line>, AllocError> {
+    match only_octets(alloc, words)? {
+        Some(bytes) => Ok(Some(Line::Hear(bytes))),
         None => Ok(None),
     }
 }
@@ -121,6 +142,7 @@ fn line_of_words(alloc: Global, words: &[&str]) -> Result<Option<Line>, AllocErr
         ["call", operands @ ..] => call(alloc, operands),
         ["deliver", operands @ ..] => delivery(alloc, operands),
         ["filter", operands @ ..] => filter(alloc, operands),
+        ["hear", operands @ ..] => hearing(alloc, operands),
         ["kind", operands @ ..] => kind(alloc, operands),
         ["listener" | "unlisten", ..] => Ok(listener(words)),
         [name, operands @ ..] => Ok(short_line(name, operands)),

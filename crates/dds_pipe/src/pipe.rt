@@ -3,7 +3,7 @@
 use crate::cause::cause_of;
 use crate::kinds::{KindLine, Kinds, Tables};
 use crate::line::{Line, line_of};
-use dds_base::{Code, Octets, Sequence};
+use dds_base::{Code, Guid, Octets, Sequence};
 use dds_core::Core as CoreOf;
 use dds_machine::Reply;
 use dds_notices::Recorder;
@@ -12,6 +12,7 @@ use dds_script::{
     Fault, Lines, ListenerLine, Prefix, Setup, SetupLine, SetupRefusal, Status, TranscriptLine,
     print,
 };
+use rtps_fragments::Fragments;
 use std::alloc::{AllocError, Global};
 use std::io::{Read, Write};
 
@@ -38,11 +39,19 @@ struct Session {
     alloc: Global,
     stage: Stage,
     kinds: Kinds,
+    fragments: Fragments,
 }
 
 fn packet_line(alloc: Global, to: u8, bytes: &[u8]) -> Result<String, AllocError> {
     let mut text = TranscriptLine::new(alloc);
     text.push_packet(u64::from(to), Some(bytes));
+    text.finish()
+}
+
+fn whole_line(alloc: Global, bytes: &[u8]) -> Result<String, AllocError> {
+    let mut text = TranscriptLine::new(alloc);
+    text.push_word("whole ");
+    text.push_octets(bytes);
     text.finish()
 }
 
@@ -125,13 +134,22 @@ fn print_output(
     print(output, reply_line(alloc, &reply, unsent)?.as_str())
 }
 
+/// Prints a line for each message that fragments made whole.
+fn print_whole(alloc: Global, whole: &[Octets], output: &mut impl Write) -> Result<(), Fault> {
+    for message in whole {
+        print(output, whole_line(alloc, message.as_slice())?.as_str())?;
+    }
+    Ok(())
+}
+
 impl Session {
-    fn new(alloc: Global) -> Self {
-        Session {
+    fn new(alloc: Global) -> Result<Self, Code> {
+        Ok(Session {
             alloc,
             stage: Stage::Naming(Setup::new(alloc)),
             kinds: Kinds::new(alloc),
-        }
+            fragments: Fragments::new(alloc, &[])?,
+        })
     }
 
     /// The fault of a line that may not stand where the session is, for this cause, or as the peer was refused.
@@ -195,6 +213,32 @@ impl Session {
         }
     }
 
+    /// Puts the fragments of a writer together from here on, unless the peer was refused.
+    fn know(&mut self, writer: Guid, line: u64) -> Result<(), Fault> {
+        if let Stage::Refused(_) = self.stage {
+            return Err(self.too_late(line));
+        }
+        match self.fragments.know(self.alloc, writer) {
+            Ok(()) => Ok(()),
+            Err(_) => Err(Fault::Memory),
+        }
+    }
+
+    /// Looks at a datagram for fragments, unless the peer was refused. Prints what they made whole, and whether there was
+    /// memory.
+    fn hear(&mut self, bytes: Octets, line: u64, output: &mut impl Write) -> Result<(), Fault> {
+        if let Stage::Refused(_) = self.stage {
+            return Err(self.too_late(line));
+        }
+        let mut whole = Vec::new(self.alloc);
+        let reply = match self.fragments.hear(self.alloc, bytes.as_slice(), &mut whole) {
+            Ok(()) => Reply::Done,
+            Err(code) => Reply::Refused(code),
+        };
+        print_whole(self.alloc, &whole, output)?;
+        print(output, reply_line(self.alloc, &reply, 0)?.as_str())
+    }
+
     /// An event at the peer, which needs to be open. Prints what answers it.
     fn happen(&mut self, event: Event, line: u64, output: &mut impl Write) -> Result<(), Fault> {
         let Stage::Open(core) = &mut self.stage else {
@@ -238,6 +282,8 @@ impl Session {
         match line {
             Line::Setup(part) => self.set_up(part, number),
             Line::Kind(kind) => self.set_kind(kind, number),
+            Line::Fragments(writer) => self.know(writer, number),
+            Line::Hear(bytes) => self.hear(bytes, number, output),
             Line::Open(peer) => {
                 let reply = self.open(peer, number)?;
                 print(output, reply_line(self.alloc, &reply, 0)?.as_str())
@@ -272,7 +318,9 @@ fn answer_lines<R: Read + Drop>(
     lines: &mut Lines<R>,
     output: &mut impl Write,
 ) -> Result<(), Fault> {
-    let mut session = Session::new(alloc);
+    let Ok(mut session) = Session::new(alloc) else {
+        return Err(Fault::Memory);
+    };
     for _ in 0..u64::MAX {
         match next_line(alloc, lines)? {
             Some(line) => session.answer(line, lines.number(), output)?,

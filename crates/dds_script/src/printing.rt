@@ -57,7 +57,7 @@ impl TranscriptLine {
     }
 
     /// Octets in hexadecimal digits, two each.
-    pub(crate) fn push_octets(&mut self, octets: &[u8]) {
+    pub fn push_octets(&mut self, octets: &[u8]) {
         for octet in octets {
             self.push(format_args!("{octet:02x}"));
         }
