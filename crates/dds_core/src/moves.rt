@@ -121,6 +121,17 @@ fn copied(spare: &mut Vec<Runs>, made: &Move) -> Move
             writer: *writer,
             reader: *reader,
         },
+        Move::Begun {
+            writer,
+            reader,
+            from,
+            to,
+        } => Move::Begun {
+            writer: *writer,
+            reader: *reader,
+            from: *from,
+            to: *to,
+        },
         Move::Acknowledged { writer, reader, to } => Move::Acknowledged {
             writer: *writer,
             reader: *reader,

@@ -4,7 +4,7 @@ use Rattle.std.specs.Option.{option_map}
 use Rattle.std.proofs.lemmas.List.{map-set}
 use Rattle.dds_machine.specs.declared.endpoint.Endpoint.{Endpoint}
 use Rattle.dds_machine.specs.Numbered.{numbered, with_numbered, HasNumber}
-use Rattle.dds_machine.specs.Part.{same_endpoint, ReaderProxy, WriterProxy, row_of, with_row, acknowledged_of, with_acknowledged, place_of, with_place, with_heard, IsBelow, IsAtMost, NoLess}
+use Rattle.dds_machine.specs.Part.{Begun, with_begun, same_endpoint, ReaderProxy, WriterProxy, row_of, with_row, acknowledged_of, with_acknowledged, place_of, with_place, with_heard, IsBelow, IsAtMost, NoLess}
 
 get-cases : {X : Type 0} (xs : List X) (i : ℕ) (x : X) (j : ℕ) (d : X)
     → (get_or (set xs i x) j d ≡ get_or xs j d) ⊎ ((j ≡ i) × (get_or (set xs i x) j d ≡ x))
@@ -221,6 +221,20 @@ pub place-hits : (rows : List WriterProxy) (w : Endpoint) (from to : ℕ) → pl
     → place_of (with_place rows w to) w ≡ Some to
 place-hits rows w from to h =
     field-hits (λ (p : WriterProxy). p.writer) (λ (p : WriterProxy). record p { place = to })
+    (λ (p : WriterProxy). p.place) to
+    (λ p. refl) (λ p. refl) rows w from h
+
+pub begun-cases : (rows : List WriterProxy) (w : Endpoint) (from to : ℕ) (v : Endpoint) → place_of rows w ≡ Some from
+    → (place_of (with_begun rows w to) v ≡ place_of rows v) ⊎ ((v ≡ w) × (place_of (with_begun rows w to) v ≡ Some to))
+begun-cases rows w from to v h =
+    field-cases (λ (p : WriterProxy). p.writer) (λ (p : WriterProxy). record p { place = to; how = Begun })
+    (λ (p : WriterProxy). p.place) to
+    (λ p. refl) (λ p. refl) rows w from v h
+
+pub begun-hits : (rows : List WriterProxy) (w : Endpoint) (from to : ℕ) → place_of rows w ≡ Some from
+    → place_of (with_begun rows w to) w ≡ Some to
+begun-hits rows w from to h =
+    field-hits (λ (p : WriterProxy). p.writer) (λ (p : WriterProxy). record p { place = to; how = Begun })
     (λ (p : WriterProxy). p.place) to
     (λ p. refl) (λ p. refl) rows w from h
 

@@ -1,17 +1,17 @@
--- What a delivery may do at a peer: a reader's place goes on over changes that come and changes that are passed over, a
--- reader acknowledges changes, and a writer is heard to assert its liveliness (RTPS 2.5, 8.4: reliable StatefulWriter
--- and StatefulReader; 8.7.2.2, LIVELINESS).
-use Rattle.std.specs.Prelude.{◌≡◌, ℕ, ◌<◌, true, List, [], ◌∷◌, Option, Some, None, ℤ, ◌<ℤ◌}
+-- What a delivery may do at a peer: a reader's place begins, and goes on over changes that come and changes that are
+-- passed over, a reader acknowledges changes, and a writer is heard to assert its liveliness (RTPS 2.5, 8.4: reliable
+-- StatefulWriter and StatefulReader; 8.7.2.2, LIVELINESS).
+use Rattle.std.specs.Prelude.{◌≡◌, ℕ, ◌<◌, ◌≤◌, true, List, [], ◌∷◌, Option, Some, None, ℤ, ◌<ℤ◌}
 use Rattle.dds_base.specs.declared.change.Change.{Change}
 use Rattle.dds_base.specs.declared.happening.Happening.TheVariants.{Heard as WasHeard}
 use Rattle.dds_base.specs.declared.happening.PassedRun.{PassedRun}
-use Rattle.dds_base.specs.Places.{WriterGrounds, Match, PlaceWith, GoesTo}
+use Rattle.dds_base.specs.Places.{WriterGrounds, Match, PlaceWith, GoesTo, MayPassOver}
 use Rattle.dds_machine.specs.declared.endpoint.Endpoint.{Endpoint}
 use Rattle.dds_machine.specs.declared.reply.Move.{Move}
-use Rattle.dds_machine.specs.declared.reply.Move.TheVariants.{Place, Acknowledged, Heard}
+use Rattle.dds_machine.specs.declared.reply.Move.TheVariants.{Place, Acknowledged, Heard, Begun as HasBegun}
 use Rattle.dds_machine.specs.declared.reply.Reply.{Reply}
 use Rattle.dds_machine.specs.declared.reply.Reply.TheVariants.{Reported}
-use Rattle.dds_machine.specs.Part.{is_attached, Begun, how_of, Part, own_writer, own_proxies, own_reader, acknowledged_of, with_acknowledged, place_of, with_place, heard_of, with_heard, publication_among, at_reader, at_writer}
+use Rattle.dds_machine.specs.Part.{is_attached, Waiting, Begun, how_of, with_begun, Part, own_writer, own_proxies, own_reader, acknowledged_of, with_acknowledged, place_of, with_place, heard_of, with_heard, publication_among, at_reader, at_writer}
 
 -- What a delivery at one peer may rest on. A far end is an endpoint, an own one a number.
 pub record Grounds : Type 1 where
@@ -57,6 +57,16 @@ pub record Places (grounds : Grounds) (old : Part) (writer : Endpoint) (reader t
       (position_at old reader place) passed to end
   pub after : new ≡ at_reader old reader (with_place (own_proxies old reader) writer to) end.happened
 
+-- the place of a matched reader begins, where it was or further on, over what it may pass over; nothing of that is
+-- entered as lost
+pub record Begins (grounds : Grounds) (old : Part) (writer : Endpoint) (reader place to : ℕ) (new : Part) : Type 0 where
+  pub waits : how_of (own_proxies old reader) writer ≡ Waiting
+  pub at : place_of (own_proxies old reader) writer ≡ Some place
+  pub no_less : place ≤ to
+  pub may_pass : (number : ℕ) → place ≤ number → number < to
+      → MayPassOver (as_to grounds writer reader) (own_reader old reader).qos number
+  pub after : new ≡ at_reader old reader (with_begun (own_proxies old reader) writer to) (own_reader old reader).happened
+
 -- a matched reader of the peer's writer has acknowledged more, and no more than it has
 pub record Acknowledges (grounds : Grounds) (old : Part) (writer : ℕ) (reader : Endpoint) (to : ℕ)
     (new : Part) : Type 0 where
@@ -90,6 +100,7 @@ abbrev pub IsMove : Grounds → Part → Move → Part → Type 0
 IsMove grounds old (Place writer reader to passed) new = Places grounds old writer reader to passed new
 IsMove grounds old (Acknowledged writer reader to) new = Acknowledges grounds old writer reader to new
 IsMove grounds old (Heard writer reader) new = Hears grounds old writer reader new
+IsMove grounds old (HasBegun writer reader from to) new = Begins grounds old writer reader from to new
 
 -- moves taken in turn
 abbrev pub AreMoves : Grounds → Part → List Move → Part → Type 0

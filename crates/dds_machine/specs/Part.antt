@@ -237,6 +237,11 @@ is_attached Away = false
 is_attached Waiting = true
 is_attached Begun = true
 
+-- these rows, once the place in this writer's list has begun at the number
+abbrev pub with_begun : List WriterProxy → Endpoint → ℕ → List WriterProxy
+with_begun rows writer to =
+    with_row (λ (p : WriterProxy). p.writer) (λ (p : WriterProxy). record p { place = to; how = Begun }) rows writer
+
 -- the number of the first row of this writer in a list that is numbered from n on
 abbrev pub publication_from : ℕ → List WriterProxy → Endpoint → Option ℕ
 publication_from n [] writer = None

@@ -28,6 +28,14 @@ pub enum Move {
         writer: Endpoint,
         reader: u8,
     },
+    /// The place of the peer's reader in a writer's list was `from`, and has begun at `to` since the two were matched: what
+    /// lies between was not for the reader, and is not lost.
+    Begun {
+        writer: Endpoint,
+        reader: u8,
+        from: Sn,
+        to: Sn,
+    },
     /// A reader has acknowledged all changes below `to` of the peer's writer.
     Acknowledged {
         writer: u8,

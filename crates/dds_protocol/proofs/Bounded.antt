@@ -1,7 +1,8 @@
 -- No reader's place goes past the end of a writer's list.
-use Rattle.std.proofs.Common.{◌≡◌, ℕ, zero, suc, ◌+◌, ◌≤◌, true, false, Option, Some, None, List, [], ◌∷◌, refl, subst, ap, sym, ◌∙◌, inl, inr, ⊎_elim, arith, length, length-append}
+use Rattle.std.proofs.Common.{◌≡◌, ℕ, zero, suc, ◌+◌, ◌-◌, ◌≤◌, true, false, Option, Some, None, List, [], ◌∷◌, refl, subst, ap, sym, ◌∙◌, inl, inr, ⊎_elim, arith, length, length-append}
 use Rattle.std.specs.Prelude.{nat_le}
 use Rattle.std.specs.Option.{option_map_or}
+use Rattle.std.proofs.lemmas.Bool.{cases_lt}
 use Rattle.std.proofs.lemmas.Option.{same_Some}
 use Rattle.dds_base.specs.declared.change.Change.{Change}
 use Rattle.dds_base.specs.declared.config.Config.{Config}
@@ -15,10 +16,10 @@ use Rattle.dds_machine.specs.declared.endpoint.Endpoint.{Endpoint}
 use Rattle.dds_machine.specs.declared.event.WorldEvent.{WorldEvent}
 use Rattle.dds_machine.specs.declared.event.WorldEvent.TheVariants as world
 use Rattle.dds_machine.specs.declared.reply.Move.{Move}
-use Rattle.dds_machine.specs.declared.reply.Move.TheVariants.{Place, Acknowledged, Heard}
+use Rattle.dds_machine.specs.declared.reply.Move.TheVariants.{Place, Acknowledged, Heard, Begun as HasBegun}
 use Rattle.dds_machine.specs.declared.reply.Reply.{Reply}
 use Rattle.dds_machine.specs.declared.reply.Reply.TheVariants.{Reported}
-use Rattle.dds_machine.specs.Part.{WriterProxy, Part, Rtps, no_part, own_proxies, place_of, with_place, with_heard, writer_changes}
+use Rattle.dds_machine.specs.Part.{WriterProxy, Part, Rtps, no_part, own_proxies, own_reader, place_of, with_place, with_begun, with_heard, writer_changes}
 use Rattle.dds_machine.specs.Moves.{as_to, match_of, position_at, IsMove, AreMoves, DeliveryStep}
 use Rattle.dds_machine.specs.Calls.{Effect, nothing, writes, effect, effect_of}
 use Rattle.dds_machine.specs.Machine.{Machine, AllTests, part_at, writer_at, grounds_of, Step}
@@ -28,7 +29,7 @@ use Rattle.dds_machine.specs.Opening.{opening}
 use Rattle.dds_protocol.specs.Opening.{opening_world}
 use Rattle.dds_machine.specs.Runs.{Run}
 use Rattle.dds_protocol.specs.Bounds.{IsBounded}
-use Rattle.dds_machine.proofs.Tables.{numbered-cases, place-cases, place-heard}
+use Rattle.dds_machine.proofs.Tables.{begun-cases, numbered-cases, place-cases, place-heard}
 use Rattle.dds_protocol.proofs.Growth.{MachineGrows, with_part, with_part-grows, CallStep-grows, TickStep-grows, TickStep-rows, DeliveryStep-grows, writer-changes, change_at-within}
 use Rattle.dds_protocol.proofs.Owing.{owed_within}
 use Rattle.dds_protocol.proofs.Composed.{parts_at}
@@ -123,6 +124,17 @@ moved_within m rows w from to at old le v p h =
     omega (arith, is, last, le))
     (place-cases rows w from to v at)
 
+begun_within : (m : Machine) (rows : List WriterProxy) (w : Endpoint) (from to : ℕ) → place_of rows w ≡ Some from
+    → RowsWithin m rows
+    → to ≤ length (writer_changes (writer_at m w)) + 1 → RowsWithin m (with_begun rows w to)
+begun_within m rows w from to at old le v p h =
+    ⊎_elim (λ e. old v p (sym e ∙ h))
+    (λ s.
+    let is = same_Some to p (sym s.1 ∙ h) in
+    let last = ap (λ (x : Endpoint). length (writer_changes (writer_at m x))) s.0 in
+    omega (arith, is, last, le))
+    (begun-cases rows w from to v at)
+
 move_within : (m : Machine) (i : ℕ) (old : Part) (mv : Move) (new : Part) → IsMove (grounds_of m i) old mv new
     → Within m old → Within m new
 move_within m i old (Place w r to passed) new h low =
@@ -138,6 +150,18 @@ move_within m i old (Heard w r) new h low =
     (set_within m old r (with_heard (own_proxies old r) w h.count) low
     (λ v p e. low r v p (sym (place-heard (own_proxies old r) w h.count v) ∙ e)))
 move_within m i old (Acknowledged w r to) new h low = subst (λ (q : Part). Within m q) (sym h.after) low
+move_within m i old (HasBegun w r from to) new h low =
+    let last = length (writer_changes (writer_at m w)) in
+    let start = low r w from h.at in
+    let within : to ≤ last + 1 =
+    ⊎_elim (λ less.
+    let under = passes_within (as_to (grounds_of m i) w r) last (speaks_to m i w r) (own_reader old r).qos (to - 1)
+    (h.may_pass (to - 1) (omega (arith, less)) (omega (arith, less))) in
+    omega (arith, under))
+    (λ more. omega (arith, more, start)) (cases_lt from to) in
+    subst (λ (q : Part). Within m q) (sym h.after)
+    (set_within m old r (with_begun (own_proxies old r) w to) low
+    (begun_within m (own_proxies old r) w from to h.at (low r) within))
 
 moves_within : (m : Machine) (i : ℕ) (old : Part) (ms : List Move) (new : Part) → AreMoves (grounds_of m i) old ms new
     → Within m old → Within m new

@@ -1,7 +1,7 @@
 -- Where nobody comes or goes nobody has.
 use Rattle.std.proofs.Common.{◌≡◌, ℕ, zero, suc, ◌+◌, ◌==◌, ◌&&◌, ◌≤◌, Bool, true, false, cond, get_or, map, List, [], ◌∷◌, ◌++◌, Option, None, Some, refl, subst, ap, sym, ◌∙◌, inl, inr, ⊎_elim, arith}
 use Rattle.std.specs.Prelude.{IsSome}
-use Rattle.std.specs.Option.{option_map}
+use Rattle.std.specs.Option.{option_map, option_map_or}
 use Rattle.std.proofs.lemmas.Option.{same_Some}
 use Rattle.dds_base.specs.declared.config.Config.{Config}
 use Rattle.dds_base.specs.declared.config.PeerConfig.{PeerConfig}
@@ -13,7 +13,7 @@ use Rattle.dds_machine.specs.declared.endpoint.Endpoint.{Endpoint}
 use Rattle.dds_machine.specs.declared.event.WorldEvent.{WorldEvent}
 use Rattle.dds_machine.specs.declared.event.WorldEvent.TheVariants as world
 use Rattle.dds_machine.specs.declared.reply.Move.{Move}
-use Rattle.dds_machine.specs.declared.reply.Move.TheVariants.{Place, Acknowledged, Heard}
+use Rattle.dds_machine.specs.declared.reply.Move.TheVariants.{Place, Acknowledged, Heard, Begun as HasBegun}
 use Rattle.dds_machine.specs.declared.reply.Reply.{Reply}
 use Rattle.dds_machine.specs.declared.reply.Reply.TheVariants.{Reported}
 use Rattle.dds_machine.specs.Calls.{effect_of}
@@ -22,10 +22,10 @@ use Rattle.dds_machine.specs.Moves.{Grounds, IsMove, AreMoves, DeliveryStep}
 use Rattle.dds_machine.specs.Noticing.{machine_ended}
 use Rattle.dds_machine.specs.Numbered.{numbered, with_numbered}
 use Rattle.dds_machine.specs.Opening.{matched_writers, reliable_readers, opening_writer, opening_part, opening}
-use Rattle.dds_machine.specs.Part.{Begun, same_endpoint, ReaderProxy, WriterProxy, Writer, Rtps, Part, IsAtMost, no_part, no_writer, row_of, with_row, acknowledged_of, own_proxies, own_reader, own_writer, with_acknowledged, with_place, with_heard}
+use Rattle.dds_machine.specs.Part.{Away, Waiting, Begun, same_endpoint, ReaderProxy, WriterProxy, Writer, Rtps, Part, IsAtMost, no_part, no_writer, row_of, with_row, acknowledged_of, own_proxies, own_reader, own_writer, with_acknowledged, with_place, with_heard}
 use Rattle.dds_machine.specs.Runs.{Run}
 use Rattle.dds_machine.proofs.Tables.{at_most_on, numbered-cases, row-cases}
-use Rattle.dds_protocol.specs.Closed.{IsClosed}
+use Rattle.dds_protocol.specs.Closed.{BeginNone, IsClosed, NoneBegins}
 use Rattle.dds_protocol.specs.Noticing.{world_ended}
 use Rattle.dds_protocol.specs.Opening.{opening_world}
 use Rattle.dds_protocol.specs.World.{WorldState, machine_of}
@@ -40,14 +40,14 @@ use Rattle.dds_protocol.proofs.SameBeside.{SameBeside, parts_alike}
 -- ---- rows
 
 -- the place of this row, if there is one, has begun
-abbrev HasBegun : Option WriterProxy → Type 0
-HasBegun o = (row : WriterProxy) → o ≡ Some row → row.how ≡ Begun
+abbrev IsBegun : Option WriterProxy → Type 0
+IsBegun o = (row : WriterProxy) → o ≡ Some row → row.how ≡ Begun
 
 abbrev RowsBegun : List WriterProxy → Type 0
-RowsBegun rows = (w : Endpoint) → HasBegun (row_of (λ (p : WriterProxy). p.writer) rows w)
+RowsBegun rows = (w : Endpoint) → IsBegun (row_of (λ (p : WriterProxy). p.writer) rows w)
 
 still_begun : (change : WriterProxy → WriterProxy) → ((p : WriterProxy) → (change p).how ≡ p.how)
-    → (o : Option WriterProxy) → HasBegun o → HasBegun (option_map change o)
+    → (o : Option WriterProxy) → IsBegun o → IsBegun (option_map change o)
 still_begun change kept None h row e = cc
 still_begun change kept (Some x) h row e =
     sym (ap (λ (p : WriterProxy). p.how) (same_Some (change x) row e)) ∙ (kept x ∙ h x refl)
@@ -56,8 +56,8 @@ rows_begun : (change : WriterProxy → WriterProxy) → ((p : WriterProxy) → (
     → ((p : WriterProxy) → (change p).how ≡ p.how) → (rows : List WriterProxy) (v : Endpoint) → RowsBegun rows
     → RowsBegun (with_row (λ (p : WriterProxy). p.writer) change rows v)
 rows_begun change named kept rows v h w =
-    ⊎_elim (λ e. subst (λ (o : Option WriterProxy). HasBegun o) (sym e) (h w))
-    (λ s. subst (λ (o : Option WriterProxy). HasBegun o) (sym s.1)
+    ⊎_elim (λ e. subst (λ (o : Option WriterProxy). IsBegun o) (sym e) (h w))
+    (λ s. subst (λ (o : Option WriterProxy). IsBegun o) (sym s.1)
     (still_begun change kept (row_of (λ (p : WriterProxy). p.writer) rows v) (h v)))
     (row-cases (λ (p : WriterProxy). p.writer) change named rows v w)
 
@@ -110,6 +110,22 @@ set_begun old k rows c h r =
 
 -- ---- what an event does
 
+-- no place waits there, so none begins
+none_begins : (g : Grounds) (old : Part) (w : Endpoint) (r from to : ℕ) (new : Part) → PartClosed old
+    → IsMove g old (HasBegun w r from to) new → ⊥
+none_begins g old w r from to new c h = by (row_of (λ (p : WriterProxy). p.writer) (own_proxies old r) w) refl
+  where
+    by : (o : Option WriterProxy) → row_of (λ (p : WriterProxy). p.writer) (own_proxies old r) w ≡ o → ⊥
+    by None e =
+        let at : ◌≡◌ {A = Option ℕ} None (Some from) =
+        sym (ap (λ (x : Option WriterProxy). option_map (λ (p : WriterProxy). p.place) x) e) ∙ h.at in
+        cc
+    by (Some row) e =
+        let waits : Waiting ≡ row.how =
+        sym h.waits ∙ ap (λ (x : Option WriterProxy). option_map_or (λ (p : WriterProxy). p.how) x Away) e in
+        let begun : Waiting ≡ Begun = waits ∙ c.begun r w row e in
+        cc
+
 move_closed : (g : Grounds) (old : Part) (m : Move) (new : Part) → PartClosed old → IsMove g old m new → PartClosed new
 move_closed g old (Place w r to passed) new c h =
     subst (λ (q : Part). PartClosed q) (sym h.after) (record {
@@ -125,6 +141,7 @@ move_closed g old (Heard w r) new c h =
           (own_proxies old r) w (c.begun r));
       owed = λ k. c.owed k;
     })
+move_closed g old (HasBegun w r from to) new c h = absurd (none_begins g old w r from to new c h)
 move_closed g old (Acknowledged w r to) new c h =
     let after : Writer = record (own_writer old w) { readers = with_acknowledged (own_writer old w).readers r to } in
     subst (λ (q : Part). PartClosed q) (sym h.after) (record {
@@ -140,6 +157,17 @@ moves_closed : (g : Grounds) (old : Part) (ms : List Move) (new : Part) → Part
     → PartClosed new
 moves_closed g old [] new c h = subst (λ (q : Part). PartClosed q) (sym h) c
 moves_closed g old (m ∷ ms) new c h = moves_closed g h.0 ms new (move_closed g old m h.0 c h.1) h.2
+
+moves_begin_none : (g : Grounds) (old : Part) (ms : List Move) (new : Part) → PartClosed old → AreMoves g old ms new
+    → BeginNone ms
+moves_begin_none g old [] new c h = tt
+moves_begin_none g old (HasBegun w r from to ∷ ms) new c h = absurd (none_begins g old w r from to h.0 c h.1)
+moves_begin_none g old (Place w r to passed ∷ ms) new c h =
+    moves_begin_none g h.0 ms new (move_closed g old (Place w r to passed) h.0 c h.1) h.2
+moves_begin_none g old (Heard w r ∷ ms) new c h =
+    moves_begin_none g h.0 ms new (move_closed g old (Heard w r) h.0 c h.1) h.2
+moves_begin_none g old (Acknowledged w r to ∷ ms) new c h =
+    moves_begin_none g h.0 ms new (move_closed g old (Acknowledged w r to) h.0 c h.1) h.2
 
 delivery_closed : (g : Grounds) (old : Part) (reply : Reply) (new : Part) → PartClosed old → DeliveryStep g old reply new
     → PartClosed new
@@ -257,6 +285,35 @@ runs_closed tests sent m (ev ∷ events) (reply ∷ replies) last after c h =
     runs_closed tests h.1 (machine_ended m ev h.0) events replies last after
     (stays_closed tests sent m ev reply h.0 c h.2) h.4
 
+-- what a delivery reports goes before what the others do
+delivery_begins : (g : Grounds) (old : Part) (peer packet : ℕ) (reply : Reply) (new : Part) (events : List WorldEvent)
+    (replies : List Reply) → PartClosed old → DeliveryStep g old reply new → NoneBegins events replies
+    → NoneBegins (world.Deliver peer packet ∷ events) (reply ∷ replies)
+delivery_begins g old peer packet (Reported report) new events replies c h rest =
+    (moves_begin_none g old report.moves new c h, rest)
+delivery_begins g old peer packet reply new events replies c h rest = absurd h
+
+step_begins : (tests : AllTests) (sent : ℕ) (m : Machine) (ev : WorldEvent) (reply : Reply) (new : Machine)
+    (events : List WorldEvent) (replies : List Reply) → IsClosed m → Step tests sent m ev reply new
+    → NoneBegins events replies → NoneBegins (ev ∷ events) (reply ∷ replies)
+step_begins tests sent m (world.Call peer c) reply new events replies closed h rest = rest
+step_begins tests sent m (world.Tick peer now) reply new events replies closed h rest = rest
+step_begins tests sent m (world.Deliver peer packet) reply new events replies closed (inl h) rest =
+    delivery_begins (grounds_of m peer) (part_at m peer) peer packet reply h.2.after events replies
+    (parts_of m closed peer) h.2.step rest
+step_begins tests sent m (world.Deliver peer packet) reply new events replies closed (inr h) rest =
+    subst (λ (x : Reply). NoneBegins (world.Deliver peer packet ∷ events) (x ∷ replies)) (sym h.1.0) rest
+
+pub begins_none : (tests : AllTests) (sent : ℕ) (m : Machine) (events : List WorldEvent) (replies : List Reply) (last : ℕ)
+    (after : Machine) → IsClosed m → Run tests sent m events replies last after → NoneBegins events replies
+begins_none tests sent m [] [] last after c h = tt
+begins_none tests sent m [] (reply ∷ replies) last after c h = absurd h
+begins_none tests sent m (ev ∷ events) [] last after c h = absurd h
+begins_none tests sent m (ev ∷ events) (reply ∷ replies) last after c h =
+    step_begins tests sent m ev reply h.0 events replies c h.2
+    (begins_none tests h.1 (machine_ended m ev h.0) events replies last after
+    (stays_closed tests sent m ev reply h.0 c h.2) h.4)
+
 -- ---- the opening
 
 -- each row has begun, and each is owed all
@@ -272,8 +329,8 @@ begun_found : (rows : List WriterProxy) → AllBegun rows → RowsBegun rows
 begun_found [] f w = λ row e. cc
 begun_found (p ∷ ps) f w = by (same_endpoint p.writer w) (begun_found ps f.1 w)
   where
-    by : (b : Bool) → HasBegun (row_of (λ (x : WriterProxy). x.writer) ps w)
-        → HasBegun (cond b (Some p) (row_of (λ (x : WriterProxy). x.writer) ps w))
+    by : (b : Bool) → IsBegun (row_of (λ (x : WriterProxy). x.writer) ps w)
+        → IsBegun (cond b (Some p) (row_of (λ (x : WriterProxy). x.writer) ps w))
     by true rest = λ row e. sym (ap (λ (x : WriterProxy). x.how) (same_Some p row e)) ∙ f.0
     by false rest = rest
 

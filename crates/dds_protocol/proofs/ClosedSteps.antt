@@ -12,7 +12,7 @@ use Rattle.dds_machine.specs.declared.endpoint.Endpoint.{Endpoint}
 use Rattle.dds_machine.specs.declared.event.WorldEvent.{WorldEvent}
 use Rattle.dds_machine.specs.declared.event.WorldEvent.TheVariants as world
 use Rattle.dds_machine.specs.declared.reply.Move.{Move}
-use Rattle.dds_machine.specs.declared.reply.Move.TheVariants.{Place, Acknowledged, Heard}
+use Rattle.dds_machine.specs.declared.reply.Move.TheVariants.{Place, Acknowledged, Heard, Begun as HasBegun}
 use Rattle.dds_machine.specs.declared.reply.Reply.{Reply}
 use Rattle.dds_machine.specs.declared.reply.Reply.TheVariants.{Reported}
 use Rattle.dds_machine.specs.Machine.{Machine, AllTests, Step, grounds_of, part_at, place_at, writer_at}
@@ -24,7 +24,7 @@ use Rattle.dds_protocol.specs.Claims.{MayPass}
 use Rattle.dds_protocol.specs.Closed.{ClosedRun, ClosedStep, IsClosed, closed_grounds_of}
 use Rattle.dds_protocol.specs.World.{Holds, Sound, WorldState, machine_of}
 use Rattle.dds_protocol.proofs.Closed.{stays_closed}
-use Rattle.dds_protocol.proofs.Composed.{at}
+use Rattle.dds_protocol.proofs.Composed.{at, passed_over_on}
 use Rattle.dds_protocol.proofs.Ends.{SameEnds, ends_same, next_ends}
 use Rattle.dds_protocol.proofs.Owing.{first_or}
 
@@ -114,6 +114,18 @@ move_with g k old (Heard w r) new s h = record {
   may_hear = s.hear w r h.count h.may_hear;
   after = h.after;
 }
+move_with g k old (HasBegun w r from to) new s h =
+    let placed : IsSome (place_of (own_proxies old r) w) = ap (λ (o : Option ℕ). is_some o) h.at in
+    let says : SayAsMuch (as_to g w r) (as_to k w r) 0 =
+    record { is_change = λ n c low q. s.change w r n c q; may_pass = λ n low q. s.pass w r n placed q } in
+    record {
+      waits = h.waits;
+      at = h.at;
+      no_less = h.no_less;
+      may_pass = λ n low high.
+          passed_over_on (as_to g w r) (as_to k w r) 0 says (own_reader old r).qos n (omega arith) (h.may_pass n low high);
+      after = h.after;
+    }
 
 moves_with : (g k : Grounds) (first old : Part) (ms : List Move) (new : Part) → SayAll g k first → SameEnds first old
     → AreMoves g old ms new → AreMoves k old ms new

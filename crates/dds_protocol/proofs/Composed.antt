@@ -9,6 +9,7 @@ use Rattle.dds_base.specs.declared.config.Config.{Config}
 use Rattle.dds_base.specs.declared.config.PeerConfig.{PeerConfig}
 use Rattle.dds_base.specs.declared.config.ReaderConfig.{ReaderConfig}
 use Rattle.dds_base.specs.declared.qos.ReaderQos.{ReaderQos}
+use Rattle.dds_base.specs.Places.{WriterGrounds, MayPassOver}
 use Rattle.dds_base.specs.declared.qos.ReliabilityQos.{ReliabilityQos}
 use Rattle.dds_base.specs.Kept.{change_at, is_dropped}
 use Rattle.dds_base.specs.Matched.{is_reliable}
@@ -20,7 +21,7 @@ use Rattle.dds_protocol.specs.declared.event.Packet.{Packet}
 use Rattle.dds_machine.specs.declared.event.WorldEvent.{WorldEvent}
 use Rattle.dds_machine.specs.declared.event.WorldEvent.TheVariants as world
 use Rattle.dds_machine.specs.declared.reply.Move.{Move}
-use Rattle.dds_machine.specs.declared.reply.Move.TheVariants.{Place, Acknowledged, Heard}
+use Rattle.dds_machine.specs.declared.reply.Move.TheVariants.{Place, Acknowledged, Heard, Begun as HasBegun}
 use Rattle.dds_base.specs.declared.guid.GuidPrefix.{GuidPrefix}
 use Rattle.rtps_wire.specs.declared.submessage.Submessage.{Submessage}
 use Rattle.rtps_wire.specs.declared.submessage.Submessage.TheVariants.{Heartbeat, Gap}
@@ -125,6 +126,22 @@ says_as_much m i g t w r place low = record {
       (t.pass w r n h);
 }
 
+-- what may be passed over on some grounds may be on grounds that say as much
+pub passed_over_on : (g k : WriterGrounds) (from : ℕ) → SayAsMuch g k from → (qos : ReaderQos) (n : ℕ) → from ≤ n
+    → MayPassOver g qos n → MayPassOver k qos n
+passed_over_on g k from m qos n low (inl h) = inl (m.may_pass n low h)
+passed_over_on g k from m qos n low (inr h) =
+    let before = h.1.before in
+    inr (
+      h.0,
+      record {
+        later = h.1.later;
+        change = h.1.change;
+        is_change = m.is_change h.1.later h.1.change (omega (arith, low, before)) h.1.is_change;
+        before = h.1.before;
+      },
+    )
+
 -- moves on true claims are moves of the machine
 abbrev IsAbove : Machine → ℕ → Part → Type 0
 IsAbove m i part = (r : ℕ) (w : Endpoint) → NoLess (place_at m (at i r) w) (place_of (own_proxies part r) w)
@@ -152,6 +169,18 @@ sound_move m i g t old (Acknowledged w r to) new low h = record {
   has_place = t.place w r to h.has_place;
   after = h.after;
 }
+sound_move m i g t old (HasBegun w r from to) new low h =
+    let least : NoLess (place_at m (at i r) w) (Some from) =
+    subst (λ (o : Option ℕ). NoLess (place_at m (at i r) w) o) h.at (low r w) in
+    record {
+      waits = h.waits;
+      at = h.at;
+      no_less = h.no_less;
+      may_pass = λ n above under.
+          passed_over_on (as_to g w r) (as_to (grounds_of m i) w r) from (says_as_much m i g t w r from least)
+          (own_reader old r).qos n above (h.may_pass n above under);
+      after = h.after;
+    }
 sound_move m i g t old (Heard w r) new low h = record {
   publication = h.publication;
   matched = h.matched;
@@ -240,6 +269,7 @@ AckedBelow m i part = (w : ℕ) (r : Endpoint) → Covered (own_writer part w) r
 acked_move : (m : Machine) (i : ℕ) (old : Part) (mv : Move) (new : Part) → IsMove (grounds_of m i) old mv new
     → AckedBelow m i old → AckedBelow m i new
 acked_move m i old (Place w r to passed) new h le = subst (λ (q : Part). AckedBelow m i q) (sym h.after) le
+acked_move m i old (HasBegun w r from to) new h le = subst (λ (q : Part). AckedBelow m i q) (sym h.after) le
 acked_move m i old (Heard w r) new h le = subst (λ (q : Part). AckedBelow m i q) (sym h.after) le
 acked_move m i old (Acknowledged w r to) new h le =
     let before = own_writer old w in

@@ -7,7 +7,7 @@ use Rattle.dds_machine.specs.declared.endpoint.Endpoint.{Endpoint}
 use Rattle.dds_machine.specs.declared.event.WorldEvent.{WorldEvent}
 use Rattle.dds_machine.specs.declared.event.WorldEvent.TheVariants as world
 use Rattle.dds_machine.specs.declared.reply.Move.{Move}
-use Rattle.dds_machine.specs.declared.reply.Move.TheVariants.{Place, Acknowledged, Heard}
+use Rattle.dds_machine.specs.declared.reply.Move.TheVariants.{Place, Acknowledged, Heard, Begun as HasBegun}
 use Rattle.dds_machine.specs.declared.reply.Reply.{Reply}
 use Rattle.dds_machine.specs.declared.reply.Reply.TheVariants.{Reported}
 use Rattle.dds_machine.specs.Calls.{Effect, nothing, writes, effect, effect_of, CallStep}
@@ -15,7 +15,7 @@ use Rattle.dds_machine.specs.Machine.{Machine, AllTests, part_at, grounds_of, St
 use Rattle.dds_machine.specs.Moves.{Grounds, IsMove, AreMoves, DeliveryStep}
 use Rattle.dds_machine.specs.Noticing.{machine_ended}
 use Rattle.dds_machine.specs.Numbered.{numbered, with_numbered}
-use Rattle.dds_machine.specs.Part.{ReaderProxy, WriterProxy, Writer, Rtps, Part, NoLess, acknowledged_of, no_part, no_writer, own_proxies, own_reader, own_writer, place_of, row_of, with_acknowledged, with_heard, with_place, with_row}
+use Rattle.dds_machine.specs.Part.{ReaderProxy, WriterProxy, Writer, Rtps, Part, NoLess, acknowledged_of, no_part, no_writer, own_proxies, own_reader, own_writer, place_of, row_of, Begun, with_acknowledged, with_begun, with_heard, with_place, with_row}
 use Rattle.dds_machine.specs.Ticks.{TickStep}
 use Rattle.dds_machine.specs.Watching.{Tests}
 use Rattle.dds_machine.proofs.Tables.{no_less_on, no_less_same, numbered-cases, row-cases}
@@ -130,6 +130,15 @@ move_ends g old (Heard w r) new h = record {
   further = λ j v. (IsMove-grows g old (Heard w r) new h).places j v;
   rows = λ k v. ap (λ (q : Part). is_some (acknowledged_of (own_writer q k).readers v)) h.after;
   qos = λ j. move_qos g old (Heard w r) new j h;
+}
+move_ends g old (HasBegun w r from to) new h = record {
+  places = λ j v.
+      ap (λ (q : Part). is_some (place_of (own_proxies q j) v)) h.after
+      ∙ set_places old r (with_begun (own_proxies old r) w to)
+      (place_there (λ (p : WriterProxy). record p { place = to; how = Begun }) (λ p. refl) (own_proxies old r) w) j v;
+  further = λ j v. (IsMove-grows g old (HasBegun w r from to) new h).places j v;
+  rows = λ k v. ap (λ (q : Part). is_some (acknowledged_of (own_writer q k).readers v)) h.after;
+  qos = λ j. move_qos g old (HasBegun w r from to) new j h;
 }
 move_ends g old (Acknowledged w r to) new h =
     let before : Writer = own_writer old w in

@@ -15,11 +15,11 @@ use Rattle.dds_base.specs.Kept.{change_at, is_dropped, is_dropped_by, later_chan
 use Rattle.dds_machine.specs.declared.call.Call.{Call}
 use Rattle.dds_machine.specs.declared.endpoint.Endpoint.{Endpoint}
 use Rattle.dds_machine.specs.declared.reply.Move.{Move}
-use Rattle.dds_machine.specs.declared.reply.Move.TheVariants.{Place, Acknowledged, Heard}
+use Rattle.dds_machine.specs.declared.reply.Move.TheVariants.{Place, Acknowledged, Heard, Begun as HasBegun}
 use Rattle.dds_machine.specs.declared.reply.Reply.{Reply}
 use Rattle.dds_machine.specs.declared.reply.Reply.TheVariants.{Done, Refused, Reported}
 use Rattle.dds_machine.specs.Numbered.{numbered, with_numbered}
-use Rattle.dds_machine.specs.Part.{WriterProxy, Writer, Rtps, Part, no_writer, no_part, own_writer, own_proxies, place_of, with_place, with_heard, with_acknowledged, writer_changes, history_of, has_readers, is_behind, is_assertion, owed_from, NoLess}
+use Rattle.dds_machine.specs.Part.{WriterProxy, Writer, Rtps, Part, no_writer, no_part, own_writer, own_proxies, place_of, with_place, with_begun, with_heard, with_acknowledged, writer_changes, history_of, has_readers, is_behind, is_assertion, owed_from, NoLess}
 use Rattle.dds_machine.specs.Moves.{Grounds, IsMove, AreMoves, DeliveryStep}
 use Rattle.dds_machine.specs.Ticks.{ticked, reader_ticked, TickStep}
 use Rattle.dds_machine.specs.Calls.{Effect, nothing, writes, effect, effect_of, with_written, CallStep}
@@ -28,7 +28,7 @@ use Rattle.dds_protocol.specs.Claims.{Claim, ChangeIs, MayPass, PlaceReached, As
 use Rattle.dds_machine.specs.Machine.{Machine, part_at, writer_at, place_at}
 use Rattle.dds_protocol.specs.World.{Holds}
 use Rattle.dds_protocol.proofs.Owing.{changes-more, no_fewer, owed_same, owed_acknowledged}
-use Rattle.dds_machine.proofs.Tables.{numbered-cases, numbered-map-cases, append_nothing, slice_get-append, place-cases, place-heard, no_less_same, no_less_on, at_most_on, below_on}
+use Rattle.dds_machine.proofs.Tables.{numbered-cases, numbered-map-cases, append_nothing, slice_get-append, place-cases, begun-cases, place-heard, no_less_same, no_less_on, at_most_on, below_on}
 
 pub record WriterGrows (old new : Writer) : Type 0 where
   pub policy : new.policy ≡ old.policy
@@ -130,6 +130,15 @@ place_still rows w count v =
     subst (λ (o : Option ℕ). NoLess (place_of rows v) o) (sym (place-heard rows w count v))
     (no_less_same (place_of rows v))
 
+place_begun : (rows : List WriterProxy) (w : Endpoint) (from to : ℕ) → place_of rows w ≡ Some from → from ≤ to
+    → (v : Endpoint) → NoLess (place_of rows v) (place_of (with_begun rows w to) v)
+place_begun rows w from to is le v =
+    ⊎_elim (λ e. subst (λ (o : Option ℕ). NoLess (place_of rows v) o) (sym e) (no_less_same (place_of rows v)))
+    (λ s.
+    subst (λ (o : Option ℕ). NoLess (place_of rows v) o) (sym s.1)
+    (subst (λ (o : Option ℕ). NoLess o (Some to)) (sym (ap (λ (x : Endpoint). place_of rows x) s.0 ∙ is)) le))
+    (begun-cases rows w from to v is)
+
 pub IsMove-grows : (g : Grounds) (old : Part) (m : Move) (new : Part) → IsMove g old m new → Grows old.rtps new.rtps
 IsMove-grows g old (Place w r to passed) new h =
     let forward = h.forward in
@@ -151,6 +160,10 @@ IsMove-grows g old (Heard w r) new h =
     subst (λ (q : Part). Grows old.rtps q.rtps) (sym h.after)
     (set_reader-grows old.rtps r (with_heard (own_proxies old r) w h.count)
     (place_still (own_proxies old r) w h.count))
+IsMove-grows g old (HasBegun w r from to) new h =
+    subst (λ (q : Part). Grows old.rtps q.rtps) (sym h.after)
+    (set_reader-grows old.rtps r (with_begun (own_proxies old r) w to)
+    (place_begun (own_proxies old r) w from to h.at h.no_less))
 
 pub AreMoves-grows : (g : Grounds) (old : Part) (ms : List Move) (new : Part) → AreMoves g old ms new
     → Grows old.rtps new.rtps

@@ -1,7 +1,8 @@
 -- In every run, the changes that came at a reader are the first ones of the list of a writer that keeps all.
-use Rattle.std.proofs.Common.{◌≡◌, ℕ, zero, suc, ◌+◌, ◌≤◌, ◌==◌, ◌⊎◌, Bool, true, false, List, [], ◌∷◌, ◌++◌, refl, subst, ap, sym, ◌∙◌, inl, inr, ⊎_elim, arith, length, get_or, map, cond, eq-eqb, eqb-true, append_assoc, Option, Some, None}
+use Rattle.std.proofs.Common.{◌≡◌, ℕ, zero, suc, ◌+◌, ◌<◌, ◌≤◌, ◌==◌, ◌⊎◌, Bool, true, false, List, [], ◌∷◌, ◌++◌, refl, subst, ap, sym, ◌∙◌, inl, inr, ⊎_elim, arith, length, get_or, map, cond, eq-eqb, eqb-true, append_assoc, Option, Some, None}
 use Rattle.std.specs.Prelude.{ℤ, IsSome, is_some}
 use Rattle.std.specs.Option.{option_map}
+use Rattle.std.proofs.lemmas.Bool.{cases_lt}
 use Rattle.std.proofs.lemmas.Option.{same_Some}
 use Rattle.std.proofs.lemmas.List.{length-map}
 use Rattle.dds_base.specs.declared.change.Change.{Change}
@@ -15,18 +16,19 @@ use Rattle.dds_base.specs.declared.qos.HistoryQos.TheVariants.{KeepAll}
 use Rattle.dds_base.specs.declared.qos.ReaderQos.{ReaderQos}
 use Rattle.dds_base.specs.Liveliness.{dead_at, with_deaths}
 use Rattle.dds_base.specs.Matched.{is_reliable}
+use Rattle.dds_base.specs.Places.{MayPassOver}
 use Rattle.dds_machine.specs.declared.call.Call.{Call}
 use Rattle.dds_machine.specs.declared.endpoint.Endpoint.{Endpoint}
 use Rattle.dds_machine.specs.declared.event.WorldEvent.{WorldEvent}
 use Rattle.dds_machine.specs.declared.event.WorldEvent.TheVariants as world
 use Rattle.dds_machine.specs.declared.reply.Move.{Move}
-use Rattle.dds_machine.specs.declared.reply.Move.TheVariants.{Place, Acknowledged, Heard}
+use Rattle.dds_machine.specs.declared.reply.Move.TheVariants.{Place, Acknowledged, Heard, Begun as HasBegun}
 use Rattle.dds_base.specs.declared.happening.PassedRun.{PassedRun}
 use Rattle.dds_machine.specs.declared.reply.Reply.{Reply}
 use Rattle.dds_machine.specs.declared.reply.Reply.TheVariants.{Done, Reported, Refused}
 use Rattle.dds_machine.specs.Numbered.{numbered, with_numbered, HasNumber}
-use Rattle.dds_machine.specs.Part.{Begun, same_endpoint, WriterProxy, Reader, Dds, Part, no_reader, no_part, own_writer, own_proxies, own_reader, at_reader, at_writer, row_of, place_of, with_place, with_heard, with_acknowledged, publication_among, writer_changes}
-use Rattle.dds_machine.specs.Moves.{Grounds, as_to, match_of, position_at, AreMoves, Places, Hears, DeliveryStep}
+use Rattle.dds_machine.specs.Part.{Begun, same_endpoint, WriterProxy, Reader, Dds, Part, no_reader, no_part, own_writer, own_proxies, own_reader, at_reader, at_writer, row_of, place_of, with_place, with_begun, with_heard, with_acknowledged, publication_among, writer_changes}
+use Rattle.dds_machine.specs.Moves.{Grounds, as_to, match_of, position_at, AreMoves, Begins as PlaceBegins, Places, Hears, DeliveryStep}
 use Rattle.dds_machine.specs.Ticks.{TickStep, reader_ticked}
 use Rattle.dds_machine.specs.Calls.{Effect, nothing, writes, effect, effect_of, Answers, CallStep}
 use Rattle.dds_machine.specs.Watching.{Tests}
@@ -38,7 +40,7 @@ use Rattle.dds_protocol.specs.World.{machine_of}
 use Rattle.dds_machine.specs.Opening.{opening_reader, matched_writers, opening_part, opening}
 use Rattle.dds_protocol.specs.Opening.{opening_peers, opening_world}
 use Rattle.dds_protocol.specs.Peer.{Peer}
-use Rattle.dds_machine.proofs.Tables.{numbered-cases, numbered-map-cases, numbered-same, length-with_numbered, place-cases, place-hits, place-heard, same_is}
+use Rattle.dds_machine.proofs.Tables.{begun-cases, numbered-cases, numbered-map-cases, numbered-same, length-with_numbered, place-cases, place-hits, place-heard, same_is}
 use Rattle.dds_protocol.proofs.Growth.{CallStep-grows, TickStep-rows, TickStep-readers, TickStep-grows, DeliveryStep-grows, MachineGrows, with_part-grows, writer-changes}
 use Rattle.dds_protocol.proofs.Policies.{IsReliableAt, still_reliable, Step-qos}
 use Rattle.dds_protocol.proofs.CallChanges.{CallChange, unchanged, reads, takes, looks, watches, changes_of}
@@ -48,7 +50,7 @@ use Rattle.dds_protocol.proofs.ClosedSteps.{delivery_closed}
 use Rattle.dds_protocol.proofs.RunLaws.{keeps_all, Step-policy}
 use Rattle.dds_machine.specs.Noticing.{machine_ended}
 use Rattle.dds_protocol.proofs.EndsBeside.{ended_alike, ended_policy, ended_writer}
-use Rattle.dds_protocol.proofs.InOrder.{same_self, publication_kept, publication_there, Along, along_as, RestsOn, goes_along, others_go, different}
+use Rattle.dds_protocol.proofs.InOrder.{same_self, passes_none, publication_kept, publication_there, Along, along_as, RestsOn, goes_along, others_go, different}
 
 has_with : {X : Type 0} (xs : List X) (i : ℕ) (x : X) (j : ℕ) → HasNumber xs j → HasNumber (with_numbered xs i x) j
 has_with xs i x j h =
@@ -226,6 +228,46 @@ lane_heard changes g old w v r k new false e l h =
     (moved_other changes old w r k (with_heard (own_proxies old k) v h.count)
     (WasHeard h.publication old.dds.moment ∷ (own_reader old k).happened) (λ q. let s = eq-eqb k r (sym q) in cc) l)
 
+-- the place of a reliable reader, which may pass over nothing, begins where it is
+begun_here : (changes : List Change) (g : Grounds) (old : Part) (w v : Endpoint) (r from to : ℕ) (new : Part)
+    → RestsOn changes (as_to g w r) → IsReliableAt old r → Lane changes old w r → PlaceBegins g old v r from to new
+    → Lane changes (at_reader old r (with_begun (own_proxies old r) v to) (own_reader old r).happened) w r
+begun_here changes g old w v r from to new f reliable l h =
+    let rows = with_begun (own_proxies old r) v to in
+    let happened = (own_reader old r).happened in
+    let here : place_of rows w ≡ Some l.place =
+    ⊎_elim (λ s. s ∙ l.matched.at)
+    (λ o.
+    let e = o.0 in
+    let at : place_of (own_proxies old r) w ≡ Some from = ap (λ (x : Endpoint). place_of (own_proxies old r) x) e ∙ h.at in
+    let same : l.place ≡ from = same_Some l.place from (sym l.matched.at ∙ at) in
+    let no_less = h.no_less in
+    let further : from < to → ⊥ =
+    λ less. passes_none (as_to g w r) (own_reader old r).qos from reliable f.1
+    (subst (λ (x : Endpoint). MayPassOver (as_to g x r) (own_reader old r).qos from) (sym e)
+    (h.may_pass from (omega arith) less)) in
+    let stays : l.place ≡ to =
+    ⊎_elim (λ less. absurd (further less)) (λ more. omega (arith, more, no_less, same)) (cases_lt from to) in
+    o.1 ∙ ap (λ (n : ℕ). Some n) (sym stays))
+    (begun-cases (own_proxies old r) v from to w h.at) in
+    moved_here changes old w r l.publication l.place rows happened l
+    (publication_kept (λ (p : WriterProxy). record p { place = to; how = Begun }) (λ p. refl) (own_proxies old r) v w
+    ∙ l.matched.handle) here
+    (along_as changes l.publication l.publication (position_at old r l.place)
+    (record { place = l.place; happened = happened }) l.along refl refl)
+
+lane_begun : (changes : List Change) (g : Grounds) (old : Part) (w v : Endpoint) (r k from to : ℕ) (new : Part) (b : Bool)
+    → (k == r) ≡ b → RestsOn changes (as_to g w r) → IsReliableAt old r → Lane changes old w r
+    → PlaceBegins g old v k from to new → Lane changes new w r
+lane_begun changes g old w v r k from to new true e f reliable l h =
+    subst (λ (j : ℕ). PlaceBegins g old v j from to new → Lane changes new w r) (sym (eqb-true k r e))
+    (λ x. subst (λ (p : Part). Lane changes p w r) (sym x.after) (begun_here changes g old w v r from to new f reliable l x))
+    h
+lane_begun changes g old w v r k from to new false e f reliable l h =
+    subst (λ (x : Part). Lane changes x w r) (sym h.after)
+    (moved_other changes old w r k (with_begun (own_proxies old k) v to) (own_reader old k).happened
+    (λ q. let s = eq-eqb k r (sym q) in cc) l)
+
 lane_moves : (changes : List Change) (g : Grounds) (old : Part) (w : Endpoint) (r : ℕ) (ms : List Move) (new : Part)
     → RestsOn changes (as_to g w r) → IsReliableAt old r → Lane changes old w r → AreMoves g old ms new
     → Lane changes new w r
@@ -239,6 +281,9 @@ lane_moves changes g old w r (Acknowledged v k to ∷ ms) new f reliable l h =
     (lane_as changes old
     (at_writer old v (record (own_writer old v) { readers = with_acknowledged (own_writer old v).readers k to })) w
     r l l.rows l.own refl refl refl)) h.2
+lane_moves changes g old w r (HasBegun v k from to ∷ ms) new f reliable l h =
+    lane_moves changes g h.0 w r ms new f (still_reliable g old (HasBegun v k from to) h.0 r h.1 reliable)
+    (lane_begun changes g old w v r k from to h.0 (k == r) refl f reliable l h.1) h.2
 lane_moves changes g old w r (Heard v k ∷ ms) new f reliable l h =
     lane_moves changes g h.0 w r ms new f (still_reliable g old (Heard v k) h.0 r h.1 reliable)
     (lane_heard changes g old w v r k h.0 (k == r) refl l h.1) h.2

@@ -1,5 +1,6 @@
 -- In every run, a reliable reader passes over no change that a writer that keeps all owes it.
-use Rattle.std.proofs.Common.{◌≡◌, ℕ, ◌<◌, ◌≤◌, true, List, [], ◌∷◌, refl, subst, ap, sym, ◌∙◌, inl, inr, ⊎_elim, arith}
+use Rattle.std.proofs.Common.{◌≡◌, ◌⊎◌, ℕ, ◌-◌, ◌<◌, ◌≤◌, true, List, [], ◌∷◌, refl, subst, ap, sym, ◌∙◌, inl, inr, ⊎_elim, arith}
+use Rattle.std.proofs.lemmas.Bool.{cases_lt}
 use Rattle.dds_base.specs.declared.happening.PassedRun.{PassedRun}
 use Rattle.dds_base.specs.declared.qos.HistoryQos.TheVariants.{KeepAll}
 use Rattle.dds_base.specs.declared.qos.ReaderQos.{ReaderQos}
@@ -9,11 +10,11 @@ use Rattle.dds_machine.specs.declared.endpoint.Endpoint.{Endpoint}
 use Rattle.dds_machine.specs.declared.event.WorldEvent.{WorldEvent}
 use Rattle.dds_machine.specs.declared.event.WorldEvent.TheVariants as world
 use Rattle.dds_machine.specs.declared.reply.Move.{Move}
-use Rattle.dds_machine.specs.declared.reply.Move.TheVariants.{Place, Acknowledged, Heard}
+use Rattle.dds_machine.specs.declared.reply.Move.TheVariants.{Place, Acknowledged, Heard, Begun as HasBegun}
 use Rattle.dds_machine.specs.declared.reply.Reply.{Reply}
 use Rattle.dds_machine.specs.declared.reply.Reply.TheVariants.{Reported}
 use Rattle.dds_machine.specs.Part.{Part, own_reader, owed_from}
-use Rattle.dds_machine.specs.Moves.{Grounds, Places, as_to, match_of, position_at, AreMoves, DeliveryStep}
+use Rattle.dds_machine.specs.Moves.{Grounds, Begins, Places, as_to, match_of, position_at, AreMoves, DeliveryStep}
 use Rattle.dds_machine.specs.Machine.{Machine, AllTests, part_at, writer_at, grounds_of, Step}
 use Rattle.dds_machine.specs.Noticing.{machine_ended}
 use Rattle.dds_machine.specs.Runs.{Run}
@@ -56,6 +57,20 @@ places_below g bound w k old v r to passed new f reliable h same here =
     (ap (λ (n : ℕ). is_reliable (own_reader old n).qos.reliability) here ∙ reliable)
     (λ n p. f n (subst (λ (x : Endpoint). g.may_pass x k n) same (subst (λ (j : ℕ). g.may_pass v j n) here p))) h.goes
 
+-- and a place begins no further, or where it was
+begins_below : (g : Grounds) (bound : ℕ) (w : Endpoint) (k : ℕ) (old : Part) (v : Endpoint) (r from to : ℕ) (new : Part)
+    → PassBelow bound g w k → IsReliableAt old k → Begins g old v r from to new → v ≡ w → r ≡ k
+    → (to ≤ bound) ⊎ (to ≡ from)
+begins_below g bound w k old v r from to new f reliable h same here =
+    let no_less = h.no_less in
+    ⊎_elim (λ less.
+    let last = passed_below (as_to g v r) (own_reader old r).qos bound (to - 1)
+    (ap (λ (n : ℕ). is_reliable (own_reader old n).qos.reliability) here ∙ reliable)
+    (λ n p. f n (subst (λ (x : Endpoint). g.may_pass x k n) same (subst (λ (j : ℕ). g.may_pass v j n) here p)))
+    (h.may_pass (to - 1) (omega (arith, less)) (omega (arith, less))) in
+    inl (omega (arith, last)))
+    (λ more. inr (omega (arith, more, no_less))) (cases_lt from to)
+
 owed_passes : (g : Grounds) (bound : ℕ) (w : Endpoint) (k : ℕ) (old : Part) (ms : List Move) (new : Part)
     → PassBelow bound g w k → IsReliableAt old k → AreMoves g old ms new → PassesNoneFrom bound w k ms
 owed_passes g bound w k old [] new f reliable h = tt
@@ -67,6 +82,10 @@ owed_passes g bound w k old (Acknowledged v r to ∷ ms) new f reliable h =
     owed_passes g bound w k h.0 ms new f (still_reliable g old (Acknowledged v r to) h.0 k h.1 reliable) h.2
 owed_passes g bound w k old (Heard v r ∷ ms) new f reliable h =
     owed_passes g bound w k h.0 ms new f (still_reliable g old (Heard v r) h.0 k h.1 reliable) h.2
+owed_passes g bound w k old (HasBegun v r from to ∷ ms) new f reliable h = (
+  begins_below g bound w k old v r from to h.0 f reliable h.1,
+  owed_passes g bound w k h.0 ms new f (still_reliable g old (HasBegun v r from to) h.0 k h.1 reliable) h.2,
+)
 
 -- what a writer that keeps all does not owe lies below the bound
 not_owed_below : (m : Machine) (i : ℕ) (w : Endpoint) (k bound : ℕ) → (writer_at m w).policy ≡ KeepAll
@@ -162,6 +181,9 @@ no_passes m i w k old (Acknowledged v r to ∷ ms) new all reliable h =
     no_passes m i w k h.0 ms new all (still_reliable (closed_grounds_of m i) old (Acknowledged v r to) h.0 k h.1 reliable) h.2
 no_passes m i w k old (Heard v r ∷ ms) new all reliable h =
     no_passes m i w k h.0 ms new all (still_reliable (closed_grounds_of m i) old (Heard v r) h.0 k h.1 reliable) h.2
+no_passes m i w k old (HasBegun v r from to ∷ ms) new all reliable h =
+    no_passes m i w k h.0 ms new all (still_reliable (closed_grounds_of m i) old (HasBegun v r from to) h.0 k h.1 reliable)
+    h.2
 
 -- what a delivery reports goes before what the others do
 loses_delivery : (m : Machine) (i : ℕ) (w r : Endpoint) (packet : ℕ) (old : Part) (reply : Reply) (new : Part)

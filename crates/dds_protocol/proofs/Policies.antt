@@ -9,13 +9,13 @@ use Rattle.dds_machine.specs.declared.endpoint.Endpoint.{Endpoint}
 use Rattle.dds_machine.specs.declared.event.WorldEvent.{WorldEvent}
 use Rattle.dds_machine.specs.declared.event.WorldEvent.TheVariants as world
 use Rattle.dds_machine.specs.declared.reply.Move.{Move}
-use Rattle.dds_machine.specs.declared.reply.Move.TheVariants.{Place, Acknowledged, Heard}
+use Rattle.dds_machine.specs.declared.reply.Move.TheVariants.{Place, Acknowledged, Heard, Begun as HasBegun}
 use Rattle.dds_machine.specs.declared.reply.Reply.{Reply}
 use Rattle.dds_machine.specs.declared.reply.Reply.TheVariants.{Done, Refused, Reported}
 use Rattle.dds_machine.specs.Calls.{CallStep}
 use Rattle.dds_machine.specs.Machine.{Machine, AllTests, part_at, grounds_of, Step}
 use Rattle.dds_machine.specs.Numbered.{numbered, with_numbered}
-use Rattle.dds_machine.specs.Part.{WriterProxy, Reader, Dds, Part, no_reader, no_part, own_proxies, own_reader, at_reader, with_place, with_heard}
+use Rattle.dds_machine.specs.Part.{WriterProxy, Reader, Dds, Part, no_reader, no_part, own_proxies, own_reader, at_reader, with_place, with_begun, with_heard}
 use Rattle.dds_machine.specs.Moves.{Grounds, IsMove, AreMoves, DeliveryStep}
 use Rattle.dds_machine.specs.Ticks.{TickStep, reader_ticked}
 use Rattle.dds_machine.specs.Watching.{Tests}
@@ -41,6 +41,9 @@ move_qos g old (Place v k to passed) new r h =
 move_qos g old (Acknowledged v k to) new r h = ap (λ (x : Part). (own_reader x r).qos) h.after
 move_qos g old (Heard v k) new r h = ap (λ (x : Part). (own_reader x r).qos) h.after ∙ at_reader-qos old k (with_heard (own_proxies old k) v h.count)
     (WasHeard h.publication old.dds.moment ∷ (own_reader old k).happened) r
+move_qos g old (HasBegun v k from to) new r h =
+    ap (λ (x : Part). (own_reader x r).qos) h.after
+    ∙ at_reader-qos old k (with_begun (own_proxies old k) v to) (own_reader old k).happened r
 
 pub still_reliable : (g : Grounds) (old : Part) (m : Move) (new : Part) (r : ℕ) → IsMove g old m new
     → IsReliableAt old r → IsReliableAt new r

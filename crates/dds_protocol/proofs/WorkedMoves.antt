@@ -1,5 +1,5 @@
--- Which moves a place makes, computed at two peers: over changes that come and over runs that are passed over. Peer 1
--- has a writer w1, peer 2 a matched reader r1.
+-- Which moves a place makes, computed at two peers: over changes that come, over runs that are passed over, and where it
+-- begins. Peer 1 has a writer w1, peer 2 a matched reader r1.
 use Rattle.std.proofs.Common.{◌≡◌, ℕ, zero, suc, ◌+◌, ◌<◌, ◌≤◌, true, Option, None, List, [], ◌∷◌, refl, ap, subst, inl, inr, ⊎_elim, arith}
 use Rattle.std.specs.Prelude.{ℤ, slice_index}
 use Rattle.dds_base.specs.declared.change.Change.{Change}
@@ -17,11 +17,11 @@ use Rattle.dds_base.specs.Places.{WriterGrounds, Match, PlaceWith, Comes, AllCom
 use Rattle.dds_conditions.specs.Watched.{opened as nothing_watched}
 use Rattle.dds_notices.specs.Listeners.{nobody}
 use Rattle.dds_machine.specs.declared.reply.Move.{Move}
-use Rattle.dds_machine.specs.declared.reply.Move.TheVariants.{Place}
+use Rattle.dds_machine.specs.declared.reply.Move.TheVariants.{Place, Begun as HasBegun}
 use Rattle.dds_machine.specs.declared.reply.Reply.TheVariants.{Reported}
-use Rattle.dds_machine.specs.Part.{Begun, opened_with, Part, Writer, no_reader, nothing_seen, owed_from}
+use Rattle.dds_machine.specs.Part.{Begun, Waiting, opened_with, Part, Writer, no_reader, nothing_seen, owed_from}
 use Rattle.dds_base.specs.declared.qos.ReliabilityQos.TheVariants.{BestEffort}
-use Rattle.dds_machine.specs.Moves.{Grounds, as_to, AreMoves, match_of, Places, DeliveryStep}
+use Rattle.dds_machine.specs.Moves.{Grounds, as_to, AreMoves, match_of, Begins, Places, DeliveryStep}
 use Rattle.dds_machine.specs.Machine.{Machine, grounds_of}
 use Rattle.dds_machine.specs.Opening.{opening, reader_qos}
 use Rattle.dds_protocol.proofs.WorkedReceivers.{prefix_1, prefix_2, r1_id, writer, reader, w1, r1, some_is}
@@ -360,3 +360,60 @@ best_effort_2 = record (part_2 1 None []) {
 
 owed-not_best_effort : (number : ℕ) → (grounds_of (machine owing_3 best_effort_2) 2).may_pass w1 1 number → ⊥
 owed-not_best_effort number h = ⊎_elim (λ dropped. absurd cc) (λ owed. let is = owed.reliable in absurd cc) h
+
+-- ---- a place that begins
+
+-- r1 is matched with w1 again, and its place waits where it was
+abbrev waiting : ℕ → Part
+waiting place =
+    record (part_2 place None []) {
+      rtps = record {
+        writers = [];
+        readers = (record { writer = w1; place = place; heard = None; how = Waiting } ∷ []) ∷ [];
+      };
+    }
+
+-- it begins over what is not owed, and nothing is entered as lost
+begins-at_3 : Delivers owing_3 (waiting 1) (HasBegun w1 1 1 3 ∷ []) (part_2 3 None [])
+begins-at_3 = (
+  part_2 3 None [],
+  record {
+    waits = refl;
+    at = refl;
+    no_less = omega arith;
+    may_pass = λ number low high.
+        inl (inr (record { reliable = refl; from = low; below = omega (arith, high) }));
+    after = refl;
+  },
+  refl,
+)
+
+-- or where it was
+begins-where_it_was : Delivers owing_3 (waiting 2) (HasBegun w1 1 2 2 ∷ []) (part_2 2 None [])
+begins-where_it_was = (
+  part_2 2 None [],
+  record {
+    waits = refl;
+    at = refl;
+    no_less = omega arith;
+    may_pass = λ number low high. absurd (omega (arith, low, high));
+    after = refl;
+  },
+  refl,
+)
+
+-- not over a change that is owed
+begins-not_at_4 : (new : Part) → Begins (grounds_of (machine owing_3 (waiting 1)) 2) (waiting 1) w1 1 1 4 new → ⊥
+begins-not_at_4 new h =
+    ⊎_elim
+    (λ o. ⊎_elim (λ dropped. absurd cc) (λ owed. let below = owed.below in absurd (omega (arith, below))) o)
+    (λ jumps. let other = jumps.0 in absurd cc) (h.may_pass 3 (omega arith) (omega arith))
+
+-- nor where it has begun
+begins-once : (to : ℕ) (new : Part) → Begins (grounds_at_2 owing_3) (part_2 1 None []) w1 1 1 to new → ⊥
+begins-once to new h = let waits = h.waits in cc
+
+-- a place that waits doesn't go on
+waits-goes_nowhere : (to : ℕ) (passed : List PassedRun) (new : Part)
+    → Places (grounds_of (machine kept (waiting 1)) 2) (waiting 1) w1 1 to passed new → ⊥
+waits-goes_nowhere to passed new h = let begun = h.matched.begun in cc

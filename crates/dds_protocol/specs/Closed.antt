@@ -1,5 +1,5 @@
--- Networks in which nobody comes or goes: each place has begun, each matched reliable reader is owed all changes, and the
--- machine passes over those alone that a writer's history had dropped.
+-- Networks in which nobody comes or goes: each place has begun, and none begins; each matched reliable reader is owed all
+-- changes, and the machine passes over those alone that a writer's history had dropped.
 --
 -- A notion of this project, of RTPS 2.5, 8.4.7 (ReaderProxy), 8.4.10 (WriterProxy).
 use Rattle.std.specs.Prelude.{◌≡◌, ◌↔◌, ◌⊎◌, ℕ, ◌<◌, ◌≤◌, true, false, Some, IsSome, List, [], ◌∷◌}
@@ -10,7 +10,10 @@ use Rattle.dds_base.specs.Matched.{is_reliable}
 use Rattle.dds_machine.specs.declared.endpoint.Endpoint.{Endpoint}
 use Rattle.dds_machine.specs.declared.event.WorldEvent.{WorldEvent}
 use Rattle.dds_machine.specs.declared.event.WorldEvent.TheVariants as event
+use Rattle.dds_machine.specs.declared.reply.Move.{Move}
+use Rattle.dds_machine.specs.declared.reply.Move.TheVariants.{Begun as HasBegun}
 use Rattle.dds_machine.specs.declared.reply.Reply.{Reply}
+use Rattle.dds_machine.specs.declared.reply.Reply.TheVariants.{Reported}
 use Rattle.dds_machine.specs.Machine.{Machine, AllTests, AtPeer, IsRefused, Step, grounds_of, part_at, place_at, writer_at}
 use Rattle.dds_machine.specs.Moves.{Grounds, DeliveryStep}
 use Rattle.dds_machine.specs.Noticing.{machine_ended}
@@ -56,6 +59,24 @@ StaysClosed = (tests : AllTests) (sent : ℕ) (old : Machine) (event : WorldEven
 abbrev pub RunsClosed : Type 0
 RunsClosed = (tests : AllTests) (sent : ℕ) (old : Machine) (events : List WorldEvent) (replies : List Reply) (last : ℕ)
     (new : Machine) → IsClosed old → Run tests sent old events replies last new → IsClosed new
+
+-- none of these moves begins a place
+abbrev pub BeginNone : List Move → Type 0
+BeginNone [] = Unit {0}
+BeginNone (HasBegun writer reader from to ∷ moves) = ⊥
+BeginNone (m ∷ moves) = BeginNone moves
+
+-- nor does one that a reply to a delivery reports
+abbrev pub NoneBegins : List WorldEvent → List Reply → Type 0
+NoneBegins (event.Deliver peer packet ∷ events) (Reported report ∷ replies) =
+    BeginNone report.moves × NoneBegins events replies
+NoneBegins (event ∷ events) (reply ∷ replies) = NoneBegins events replies
+NoneBegins events replies = Unit {0}
+
+-- so it is in every run there
+abbrev pub ClosedBeginsNone : Type 0
+ClosedBeginsNone = (tests : AllTests) (sent : ℕ) (old : Machine) (events : List WorldEvent) (replies : List Reply)
+    (last : ℕ) (new : Machine) → IsClosed old → Run tests sent old events replies last new → NoneBegins events replies
 
 -- ---- what may be passed over there
 

@@ -2,7 +2,7 @@
 --
 -- The laws are this project's own; what they speak of is in RTPS 2.5, 8.3.8 and 8.4 (behaviour), and DDS 1.4,
 -- 2.2.3 (HISTORY: KEEP_ALL; OWNERSHIP).
-use Rattle.std.specs.Prelude.{◌≡◌, ◌≢◌, ℕ, ◌<◌, ◌≤◌, true, Some, None, IsSome, List, [], ◌∷◌, length, Contains}
+use Rattle.std.specs.Prelude.{◌≡◌, ◌≢◌, ◌⊎◌, ℕ, ◌<◌, ◌≤◌, true, Some, None, IsSome, List, [], ◌∷◌, length, Contains}
 use Rattle.std.specs.List.{All}
 use Rattle.dds_base.specs.declared.config.Config.{Config}
 use Rattle.dds_base.specs.declared.config.PeerConfig.{PeerConfig}
@@ -20,7 +20,7 @@ use Rattle.dds_base.specs.Matched.{is_reliable}
 use Rattle.dds_machine.specs.declared.event.WorldEvent.{WorldEvent}
 use Rattle.dds_machine.specs.declared.event.WorldEvent.TheVariants.{Deliver}
 use Rattle.dds_machine.specs.declared.reply.Move.{Move}
-use Rattle.dds_machine.specs.declared.reply.Move.TheVariants.{Place}
+use Rattle.dds_machine.specs.declared.reply.Move.TheVariants.{Place, Begun}
 use Rattle.dds_machine.specs.declared.reply.Reply.{Reply}
 use Rattle.dds_machine.specs.declared.reply.Report.{Report}
 use Rattle.dds_machine.specs.declared.reply.Reply.TheVariants.{Done, Reported}
@@ -89,11 +89,13 @@ abbrev pub EndBelow : ℕ → List PassedRun → Type 0
 EndBelow bound [] = Unit {0}
 EndBelow bound (run ∷ runs) = (run.last < bound) × EndBelow bound runs
 
--- the peer's reader of this number passes over no change of this writer from the bound on
+-- the peer's reader of this number passes over no change of this writer from the bound on, also where its place begins
 abbrev pub PassesNoneFrom : ℕ → Endpoint → ℕ → List Move → Type 0
 PassesNoneFrom bound writer reader [] = Unit {0}
 PassesNoneFrom bound writer reader (Place w r to passed ∷ moves) =
     (w ≡ writer → r ≡ reader → EndBelow bound passed) × PassesNoneFrom bound writer reader moves
+PassesNoneFrom bound writer reader (Begun w r from to ∷ moves) =
+    (w ≡ writer → r ≡ reader → (to ≤ bound) ⊎ (to ≡ from)) × PassesNoneFrom bound writer reader moves
 PassesNoneFrom bound writer reader (m ∷ moves) = PassesNoneFrom bound writer reader moves
 
 -- no reply reports that a change of this writer from the bound on was passed over by this reader

@@ -6,7 +6,7 @@
 ghost use Rattle.std.specs.Prelude.{◌≡◌, ◌↔◌, ◌⊎◌, ◌+◌, ◌<◌, ◌≤◌, ◌∷◌, [], IsTrue, List, length, ℕ};
 ghost use Rattle.dds_protocol.specs.Bounds.{OpensBounded, RunsBounded, StepsBounded};
 ghost use Rattle.dds_protocol.specs.CatchUp.{WindowCatchesUp};
-ghost use Rattle.dds_protocol.specs.Closed.{BestEffortAsDropped, ClosedAcknowledges, ClosedClaims, ClosedLosesNone, OpensClosed, RunsAlike, RunsClosed, StaysClosed};
+ghost use Rattle.dds_protocol.specs.Closed.{BestEffortAsDropped, ClosedAcknowledges, ClosedBeginsNone, ClosedClaims, ClosedLosesNone, OpensClosed, RunsAlike, RunsClosed, StaysClosed};
 ghost use Rattle.dds_protocol.specs.DueMessages.{AreSent, Due, packet_of};
 ghost use Rattle.dds_protocol.specs.Fresh.{OpensUsed, StepsUsed};
 ghost use Rattle.dds_protocol.specs.InOrder.{ChangesComeInOrder};
@@ -42,8 +42,8 @@ pub fn keep_all_is_kept()
     ensures closed { ClosedLosesNone }
 {}
 
-/// Nobody comes or goes: each place has begun, and each matched reliable reader is owed all changes. So what is not owed
-/// adds nothing to what may be passed over, and to what packets claim.
+/// Nobody comes or goes: each place has begun, and each matched reliable reader is owed all changes. So no place begins,
+/// and what is not owed adds nothing to what may be passed over, and to what packets claim.
 pub fn nobody_comes_or_goes()
     // at the opening,
     ensures opening { OpensClosed }
@@ -51,6 +51,8 @@ pub fn nobody_comes_or_goes()
     ensures step { StaysClosed }
     // and after every run.
     ensures run { RunsClosed }
+    // No place begins there.
+    ensures begins { ClosedBeginsNone }
     // There the runs are those in which a change is passed over only if it was dropped.
     ensures dropped { RunsAlike }
     // Packets claim there that a change is dropped, or that its reader is past it,

@@ -162,6 +162,13 @@ impl TranscriptLine {
         self.push(format_args!(" [heard {peer}.w{number} r{reader}]"));
     }
 
+    fn push_begun(&mut self, writer: Endpoint, reader: u8, from: u64, to: u64) {
+        let (peer, number) = (writer.peer, writer.number);
+        self.push(format_args!(
+            " [begun {peer}.w{number} r{reader} {from} {to}]"
+        ));
+    }
+
     fn push_acknowledged(&mut self, writer: u8, reader: Endpoint, to: u64) {
         let (peer, number) = (reader.peer, reader.number);
         self.push(format_args!(" [acked w{writer} {peer}.r{number} {to}]"));
@@ -176,6 +183,12 @@ impl TranscriptLine {
                 passed,
             } => self.push_place(*writer, *reader, to.number(), passed.as_slice()),
             Move::Heard { writer, reader } => self.push_heard(*writer, *reader),
+            Move::Begun {
+                writer,
+                reader,
+                from,
+                to,
+            } => self.push_begun(*writer, *reader, from.number(), to.number()),
             Move::Acknowledged { writer, reader, to } => {
                 self.push_acknowledged(*writer, *reader, to.number());
             }

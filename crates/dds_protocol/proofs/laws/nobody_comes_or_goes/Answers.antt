@@ -1,4 +1,4 @@
-use Rattle.dds_protocol.proofs.Closed.{opens_closed, runs_closed, stays_closed}
+use Rattle.dds_protocol.proofs.Closed.{begins_none, opens_closed, runs_closed, stays_closed}
 use Rattle.dds_protocol.proofs.ClosedSteps.{acknowledges_no_more, best_effort_dropped, claims_dropped, runs_alike}
 use Rattle.dds_protocol.proofs.laws.nobody_comes_or_goes.Goals as goal
 
@@ -7,6 +7,7 @@ returns c = record {
   opening = opens_closed;
   step = stays_closed;
   run = runs_closed;
+  begins = begins_none;
   dropped = runs_alike;
   claims = claims_dropped;
   acknowledged = acknowledges_no_more;

@@ -109,6 +109,7 @@ moves : (a b : Move) → Decides (of_moves.ghosts.eq a b) (a ≡ b)
 moves = of_variants enum_of_moves _
     (more endpoints (more Decides-eqb (more Decides-eqb (last (lists runs))))  -- Place
     ⨾ more endpoints (last Decides-eqb)  -- Heard
+    ⨾ more endpoints (more Decides-eqb (more Decides-eqb (last Decides-eqb)))  -- Begun
     ⨾ more Decides-eqb (more endpoints (last Decides-eqb))  -- Acknowledged
     ⨾ tt)
 
