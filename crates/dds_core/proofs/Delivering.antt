@@ -33,7 +33,7 @@ delivers old new bytes report gone receives config peer s sound =
       number = peer.number;
       part = r.state.part;
       known = r.state.known;
-      delivered = record { packet = bytes; report = report } ∷ peer.delivered;
+      delivered = record { packet = bytes; rows = peer.part.rtps.readers; report = report } ∷ peer.delivered;
     } in (
       after,
       record {

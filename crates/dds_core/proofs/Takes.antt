@@ -26,12 +26,12 @@ use Rattle.dds_machine.specs.declared.endpoint.Endpoint.{Endpoint}
 use Rattle.dds_machine.specs.declared.reply.Move.{Move}
 use Rattle.dds_machine.specs.declared.reply.Move.TheVariants.{Place, Heard}
 use Rattle.dds_machine.specs.Numbered.{with_numbered, HasNumber}
-use Rattle.dds_machine.specs.Part.{is_attached, Part, Reader, WriterProxy, no_reader, own_proxies, own_reader, place_of, with_place, with_heard, at_reader}
+use Rattle.dds_machine.specs.Part.{Attachment, Begun, is_attached, Part, Reader, WriterProxy, no_reader, own_proxies, own_reader, place_of, with_place, with_heard, at_reader}
 use Rattle.dds_machine.specs.Moves.{IsMatchedAt, match_of}
 use Rattle.dds_protocol.specs.Claims.{Receiver}
 use Rattle.dds_protocol.specs.Peer.{Peer, state_of}
 use Rattle.dds_protocol.specs.DueMessages.{acknacks_due}
-use Rattle.dds_protocol.specs.Protocol.{Known, State, GoesBy, Goes, Asserting, TakesHeartbeat, with_tracked}
+use Rattle.dds_protocol.specs.Protocol.{Known, State, GoesBy, Goes, Asserting, Starts, TakesHeartbeat, stands_to, with_tracked}
 use Rattle.dds_protocol.proofs.Ways.{jumps_gone}
 use Rattle.dds_protocol.proofs.Framing.{tracked_here, tracked_elsewhere, pair_or_not}
 use Rattle.dds_machine.proofs.Tables.{numbered-same, place-cases, place-hits, place-heard}
@@ -81,6 +81,11 @@ pub stands_first : (c : Telling) (proxies : List WriterProxy) → proxied proxie
 stands_first c proxies same =
     subst (λ (es : List Endpoint). IsFirstOf es c.writer c.row) (sym same)
     (is_first_of c.k.writers c.writer c.row c.first)
+
+-- its place has begun
+pub begun_here : (c : Telling) → stands_to (state_of c.peer) c.writer (suc c.i) ≡ Begun
+begun_here c =
+    how_there (proxies_of c) c.writer c.row (stands_first c (proxies_of c) (stood c).writers_are) (stood c).begun
 
 -- the reader's match with the writer, as it knows it
 pub match_is : (c : Telling) → match_at (qos_of c.k.store.cache) c.row c.kept.moment
@@ -402,14 +407,16 @@ heard_asserts true c count = (
     publication = c.row + 1;
     handle = handle_is (proxies_of c) c.writer c.row
         (stands_first c (proxies_of c) (stood c).writers_are);
-    here = ap is_attached
-        (how_there (proxies_of c) c.writer c.row (stands_first c (proxies_of c) (stood c).writers_are)
-        (stood c).begun);
+    here = ap is_attached (begun_here c);
     after = refl;
   },
   refl,
 )
 heard_asserts false c count = (refl, refl)
+
+heard_known : (b : Bool) (c : Telling) (count : ℤ) → (heard_state b c count).known ≡ c.peer.known
+heard_known true c count = refl
+heard_known false c count = refl
 
 -- the state of the peer after a HEARTBEAT that was taken
 abbrev pub after_heartbeat : Bool → Telling → ℤ → Step → Tracked → List Happening → State
@@ -488,9 +495,14 @@ heartbeat_on c own at entity k' h seen from step seen_is same others at_place la
     proxied_is : proxied (own_proxies heard.part (suc c.i)) ≡ writers_of c.k.writers
     proxied_is = ap proxied (heard_proxies_are b c h.count) ∙ (heard_writers b c h.count ∙ (stood c).writers_are)
 
-    goes : Goes heard c.writer (suc c.i) (with_heartbeat h.first_sn h.count (known_of c))
+    starts : Starts (stands_to (state_of c.peer) c.writer (suc c.i)) heard c.writer (suc c.i) h.first_sn [] heard
+    starts =
+        subst (λ (a : Attachment). Starts a heard c.writer (suc c.i) h.first_sn [] heard) (sym (begun_here c))
+        (refl, refl)
+
+    goes_on : Goes heard c.writer (suc c.i) (with_heartbeat h.first_sn h.count (known_of c))
         (place_moves c (known_of c).place step) there
-    goes = record {
+    goes_on = record {
       publication = c.row + 1;
       place = (known_of c).place;
       matched = matched_by c heard.part proxied_is
@@ -506,12 +518,16 @@ heartbeat_on c own at entity k' h seen from step seen_is same others at_place la
       moves_are = refl;
       after =
           ap (λ (k : Known). record { part = there.part; known = with_tracked k c.writer (suc c.i) mid })
-          (sym (heard_known b));
+          (sym (heard_known b c h.count));
     }
-      where
-        heard_known : (b : Bool) → (heard_state b c h.count).known ≡ c.peer.known
-        heard_known true = refl
-        heard_known false = refl
+
+    goes : Goes heard c.writer (suc c.i)
+        (with_heartbeat h.first_sn h.count (heard.known.tracked c.writer (suc c.i)))
+        (place_moves c (known_of c).place step) there
+    goes =
+        subst (λ (k : Known). Goes heard c.writer (suc c.i)
+        (with_heartbeat h.first_sn h.count (k.tracked c.writer (suc c.i))) (place_moves c (known_of c).place step)
+        there) (sym (heard_known b c h.count)) goes_on
 
     moves_are : moves_of c.writer (c.i + 1) from step ≡ (if b then Heard c.writer (suc c.i) ∷ [] else [])
         ++ place_moves c (known_of c).place step
@@ -536,6 +552,9 @@ heartbeat_on c own at entity k' h seen from step seen_is same others at_place la
       hearing = if b then Heard c.writer (suc c.i) ∷ [] else [];
       heard = heard;
       asserts = heard_asserts b c h.count;
+      starting = [];
+      started = heard;
+      starts = starts;
       going = place_moves c (known_of c).place step;
       there = there;
       goes = goes;

@@ -21,6 +21,7 @@ use Rattle.rtps_reader.specs.Proxy.{tracked}
 use Rattle.rtps_reader.specs.Tracked.{Tracked, with_data, with_gap}
 use Rattle.rtps_reader.proofs.MoveLaws.{same_is}
 use Rattle.rtps_reader.specs.Reader.{Proxies, Tracks, OthersStay, match_at, MovesOn, JumpsOn}
+use Rattle.rtps_wire.specs.declared.gap.Gap.{Gap as GapBody}
 use Rattle.rtps_wire.specs.declared.heartbeat.Heartbeat.{Heartbeat as HeartbeatBody}
 use Rattle.rtps_wire.specs.declared.submessage.Submessage.{Submessage}
 use Rattle.rtps_wire.specs.declared.submessage.Submessage.TheVariants.{Data, Heartbeat, Gap}
@@ -31,7 +32,7 @@ use Rattle.dds_machine.specs.declared.reply.Move.TheVariants.{Place, Heard}
 use Rattle.dds_protocol.specs.Claims.{Receiver, IsToReader, Names}
 use Rattle.dds_protocol.specs.Peer.{Peer, state_of}
 use Rattle.dds_protocol.specs.DueMessages.{Due, acknacks_due}
-use Rattle.dds_protocol.specs.Protocol.{State, InTurn, MayNeedMemory, TakesChange, TakesGap, heard_as, TakesHeartbeat, TakesOrNot, ReaderTakes, may_do}
+use Rattle.dds_protocol.specs.Protocol.{State, InTurn, MayNeedMemory, TakesChange, TakesGap, heard_as, TakesHeartbeat, TakesOrNot, ReaderTakes, may_do, MeetsChange, MeetsGap, MeetsHeartbeat, stands_to}
 use Rattle.dds_core.specs.declared.delivery.FirstNamed.{FirstNamed}
 use Rattle.dds_core.specs.declared.matching.WriterName.{WriterName}
 use Rattle.dds_core.specs.declared.effects.Effects.{Effects}
@@ -58,9 +59,9 @@ use Rattle.dds_core.proofs.Lists.{element, left_at, left_more, drop_set, set_bac
 use Rattle.dds_core.proofs.Named.{first_row, is_to, row_of_writer}
 use Rattle.std.proofs.lemmas.Bool.Decides.{nat_tests}
 use Rattle.dds_machine.specs.Numbered.{with_numbered}
-use Rattle.dds_machine.specs.Part.{no_reader}
+use Rattle.dds_machine.specs.Part.{Attachment, no_reader}
 use Rattle.dds_protocol.proofs.Framing.{with_same}
-use Rattle.dds_core.proofs.Takes.{Telling, known_of, proxies_of, reader_of, part_of, stood, stands_after, moves_on, heartbeat_on, jumps_on, after_step}
+use Rattle.dds_core.proofs.Takes.{Telling, begun_here, known_of, proxies_of, reader_of, part_of, stood, stands_after, moves_on, heartbeat_on, jumps_on, after_step}
 
 -- what one reader did, by the rules, and what was then due
 pub record ReaderTook (config : Config) (own : GuidPrefix) (at : Receiver) (s : Submessage) (reader : ℕ) (peer : Peer)
@@ -155,6 +156,31 @@ heard_writer : (b : Bool) (h : HeartbeatBody) → (heard_as b h).writer_id ≡ h
 heard_writer true h = refl
 heard_writer false h = refl
 
+-- its place has begun, so what comes is taken as ever
+change_met : (c : Telling) (reliable : Bool) (number : ℕ) (change : Change) (moves : List Move) (new : State)
+    → TakesChange reliable (state_of c.peer) c.writer (suc c.i) number change moves new
+    → MeetsChange (stands_to (state_of c.peer) c.writer (suc c.i)) reliable (state_of c.peer) c.writer (suc c.i) number
+    change moves new
+change_met c reliable number change moves new takes =
+    subst (λ (a : Attachment). MeetsChange a reliable (state_of c.peer) c.writer (suc c.i) number change moves new)
+    (sym (begun_here c)) takes
+
+gap_met : (c : Telling) (reliable : Bool) (g : GapBody) (moves : List Move) (new : State)
+    → TakesGap reliable (state_of c.peer) c.writer (suc c.i) g moves new
+    → MeetsGap (stands_to (state_of c.peer) c.writer (suc c.i)) reliable (state_of c.peer) c.writer (suc c.i) g moves new
+gap_met c reliable g moves new takes =
+    subst (λ (a : Attachment). MeetsGap a reliable (state_of c.peer) c.writer (suc c.i) g moves new)
+    (sym (begun_here c)) takes
+
+heartbeat_met : (c : Telling) (own : GuidPrefix) (at : Receiver) (reliable : Bool) (entity : EntityId)
+    (h : HeartbeatBody) (moves : List Move) (dues : List Due) (new : State)
+    → TakesOrNot own at (state_of c.peer) c.writer (suc c.i) entity (heard_as reliable h) moves dues new
+    → MeetsHeartbeat (stands_to (state_of c.peer) c.writer (suc c.i)) reliable own at (state_of c.peer) c.writer
+    (suc c.i) entity h moves dues new
+heartbeat_met c own at reliable entity h moves dues new takes =
+    subst (λ (a : Attachment). MeetsHeartbeat a reliable own at (state_of c.peer) c.writer (suc c.i) entity h moves dues
+    new) (sym (begun_here c)) takes
+
 -- what is ready for a reader is told, by the reader's reliability, which is that of the configuration
 told_so : (c : Telling) (own : GuidPrefix) (at : Receiver) (s : Submessage) (said : Told) (k' : ReaderKept) (from : ℕ)
     (step : Step) (reader_id writer_id : EntityId) → NamedBy s reader_id writer_id
@@ -180,7 +206,14 @@ told_so c own at (Data d) (told.Change number change) k' from step reader_id wri
     (sym (policy ∙ is.0)) r.0 in
     record {
       state = after_step c step n.new n.after;
-      takes = inl (c.writer, to_it, (takes, no_answer c own at to.entity writer_id step m.acknack));
+      takes = inl (
+        c.writer,
+        to_it,
+        (
+          change_met c (is_reliable_reader to_it.to.end) d.writer_sn (change_in d.content at.timestamp) _ _ takes,
+          no_answer c own at to.entity writer_id step m.acknack,
+        ),
+      );
       stands = r.1;
     }
 told_so c own at (Data d) (told.Jump number change) k' from step reader_id writer_id by is to policy same others place
@@ -198,7 +231,14 @@ told_so c own at (Data d) (told.Jump number change) k' from step reader_id write
     (sym (policy ∙ is.0)) (other, r.0) in
     record {
       state = after_step c step n.new n.after;
-      takes = inl (c.writer, to_it, (takes, no_answer c own at to.entity writer_id step m.acknack));
+      takes = inl (
+        c.writer,
+        to_it,
+        (
+          change_met c (is_reliable_reader to_it.to.end) d.writer_sn (change_in d.content at.timestamp) _ _ takes,
+          no_answer c own at to.entity writer_id step m.acknack,
+        ),
+      );
       stands = r.1;
     }
 told_so c own at (Gap g) (told.Gap start list) k' from step reader_id writer_id by is to policy same others place m =
@@ -213,7 +253,14 @@ told_so c own at (Gap g) (told.Gap start list) k' from step reader_id writer_id 
     (after_step c step n.new n.after)) (sym (policy ∙ is.0)) r.0 in
     record {
       state = after_step c step n.new n.after;
-      takes = inl (c.writer, to_it, (takes, no_answer c own at to.entity writer_id step m.acknack));
+      takes = inl (
+        c.writer,
+        to_it,
+        (
+          gap_met c (is_reliable_reader to_it.to.end) g _ _ takes,
+          no_answer c own at to.entity writer_id step m.acknack,
+        ),
+      );
       stands = r.1;
     }
 told_so c own at (Gap g) told.Nothing k' from step reader_id writer_id by is to policy same others place m =
@@ -225,7 +272,14 @@ told_so c own at (Gap g) told.Nothing k' from step reader_id writer_id by is to 
     (state_of c.peer)) (sym (policy ∙ is)) (none, refl) in
     record {
       state = state_of c.peer;
-      takes = inl (c.writer, to_it, (takes, no_answer c own at to.entity writer_id step m.0.acknack));
+      takes = inl (
+        c.writer,
+        to_it,
+        (
+          gap_met c (is_reliable_reader to_it.to.end) g _ _ takes,
+          no_answer c own at to.entity writer_id step m.0.acknack,
+        ),
+      );
       stands = idles_after c k' same others m.1 m.2;
     }
 told_so c own at (Heartbeat h) (told.Heartbeat seen) k' from step reader_id writer_id by is to policy same others place
@@ -246,7 +300,16 @@ told_so c own at (Heartbeat h) (told.Heartbeat seen) k' from step reader_id writ
     (heard_as (is_reliable_reader to_it.to.end) h) (moves_of c.writer (c.i + 1) from step) dues r.0 =
     subst (λ (b : Bool). TakesOrNot own at (state_of c.peer) c.writer (suc c.i) to.entity (heard_as b h)
     (moves_of c.writer (c.i + 1) from step) dues r.0) (sym policy) (inl takes) in
-    record { state = r.0; takes = inl (c.writer, to_it, either); stands = r.2 }
+    record {
+      state = r.0;
+      takes = inl (
+        c.writer,
+        to_it,
+        heartbeat_met c own at (is_reliable_reader to_it.to.end) to.entity h (moves_of c.writer (c.i + 1) from step) dues
+            r.0 either,
+      );
+      stands = r.2;
+    }
 told_so c own at (Heartbeat h) (told.Heartbeat seen) k' from step reader_id writer_id by is to policy same others place
     (inr m) =
     let to_it = named_as c own at reader_id writer_id h.reader_id h.writer_id by.0 by.1 to in
@@ -260,15 +323,17 @@ told_so c own at (Heartbeat h) (told.Heartbeat seen) k' from step reader_id writ
           inl (
             c.writer,
             to_it,
-            inr (
-              repeated,
-              (
-                no_moves c.writer (c.i + 1) from step m.1.heard
-                    (m.1.to ∙ sym place),
-                no_answer c own at to.entity writer_id step m.1.acknack,
-                refl,
-              ),
-            ),
+            heartbeat_met c own at (is_reliable_reader to_it.to.end) to_it.entity h
+                (moves_of c.writer (c.i + 1) from step) (answer_to c own at to.entity writer_id step) (state_of c.peer)
+                (inr (
+                  repeated,
+                  (
+                    no_moves c.writer (c.i + 1) from step m.1.heard
+                        (m.1.to ∙ sym place),
+                    no_answer c own at to.entity writer_id step m.1.acknack,
+                    refl,
+                  ),
+                )),
           );
       stands = idles_after c k' same others m.2 m.3;
     }

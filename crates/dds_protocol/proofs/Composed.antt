@@ -30,7 +30,7 @@ use Rattle.dds_machine.specs.declared.reply.Report.{Report}
 use Rattle.dds_machine.specs.declared.reply.Reply.{Reply}
 use Rattle.dds_machine.specs.declared.reply.Reply.TheVariants.{Reported}
 use Rattle.dds_machine.specs.Numbered.{with_numbered, HasNumber}
-use Rattle.dds_machine.specs.Part.{Writer, Part, no_part, no_writer, own_writer, own_proxies, own_reader, acknowledged_of, with_acknowledged, owed_from, place_of, writer_changes, history_of, is_assertion, IsBelow, IsAtMost, IsCovered, NoLess}
+use Rattle.dds_machine.specs.Part.{Writer, WriterProxy, Part, no_part, no_writer, own_writer, own_proxies, own_reader, acknowledged_of, with_acknowledged, owed_from, place_of, writer_changes, history_of, is_assertion, IsBelow, IsAtMost, IsCovered, NoLess}
 use Rattle.dds_base.proofs.PlaceLaws.{SayAsMuch, goes_on}
 use Rattle.dds_machine.specs.Moves.{Grounds, as_to, match_of, position_at, IsMove, AreMoves, DeliveryStep}
 use Rattle.dds_protocol.specs.Receipt.{HasNoRoom, MovesOver, TakesUp, Receives, prefix_of}
@@ -97,10 +97,11 @@ record AreTrue (m : Machine) (i : ℕ) (g : Grounds) : Type 0 where
   place : (w : ℕ) (r : Endpoint) (base : ℕ) → g.has_place w r base → Holds m (PlaceReached (at i w) r base)
   hear : (w : Endpoint) (r : ℕ) (count : ℤ) → g.may_hear w r count → Holds m (Asserts w (at i r) count)
 
-claimed-true : (config : Config) (m : Machine) (i : ℕ) (before : List Delivery) (packet : List ℕ) (index : ℕ)
+claimed-true : (config : Config) (m : Machine) (i : ℕ) (before : List Delivery) (packet : List ℕ)
+    (rows : List (List WriterProxy)) (index : ℕ)
     → KeepsPolicies config m → AllHold config m (packet ∷ packets_of before)
-    → AreTrue m i (claimed config before packet i index)
-claimed-true config m i before packet index keeps all = record {
+    → AreTrue m i (claimed config before packet rows i index)
+claimed-true config m i before packet rows index keeps all = record {
   change = λ w r n c h. holds_claimed config m (packet ∷ packets_of before) all (ChangeIs w (at i r) n c) h;
   pass = λ w r n h. holds_claimed config m (packet ∷ packets_of before) all (MayPass w (at i r) n) h;
   told = λ w r n h. told_claimed config m (packet ∷ packets_of before) keeps w (at i r) n h;
@@ -423,16 +424,19 @@ above_self m i r w = no_less_same (place_at m (at i r) w)
 part_delivery : (config : Config) (m : Machine) (i : ℕ) (packet : List ℕ) (before : Peer) (report : Report) (new : Part)
     → before.number ≡ i → part_at m i ≡ before.part → KeepsPolicies config m
     → AllHold config m (packet ∷ packets_of before.delivered)
-    → Receives config (claimed config before.delivered packet before.number) before.number packet before.part report new
+    → Receives config (claimed config before.delivered packet before.part.rtps.readers before.number) before.number
+    packet before.part report new
     → Receives config (λ k. grounds_of m i) i packet (part_at m i) report new
     × AreMoves (grounds_of m i) (part_at m i) report.moves new
 part_delivery config m i packet before report new is at_i keeps hold h =
-    let here : Receives config (claimed config before.delivered packet i) i packet (part_at m i) report new =
-    subst (λ (q : Part). Receives config (claimed config before.delivered packet i) i packet q report new) (sym at_i)
-    (subst (λ (j : ℕ). Receives config (claimed config before.delivered packet j) j packet before.part report new) is h)
-    in
-    receives-sound config m i (claimed config before.delivered packet i)
-    (λ k. claimed-true config m i before.delivered packet k keeps hold) packet (part_at m i) report new
+    let rows : List (List WriterProxy) = before.part.rtps.readers in
+    let here : Receives config (claimed config before.delivered packet rows i) i packet (part_at m i) report new =
+    subst (λ (q : Part). Receives config (claimed config before.delivered packet rows i) i packet q report new)
+    (sym at_i)
+    (subst (λ (j : ℕ). Receives config (claimed config before.delivered packet rows j) j packet before.part report new)
+    is h) in
+    receives-sound config m i (claimed config before.delivered packet rows i)
+    (λ k. claimed-true config m i before.delivered packet rows k keeps hold) packet (part_at m i) report new
     (above_self m i) here
 
 abbrev EventSteps : Config → Tests → Machine → ℕ → Event → Reply → Peer → Type 0
@@ -463,7 +467,8 @@ part_step config tests m i (event.Deliver packet) before (Reported report) after
       r.1,
       (after.part, r.0),
       subst (λ (ds : List Delivery). DeliveredHold config m ds) (sym h.1)
-          (with_delivery config m (record { packet = packet; report = report }) before.delivered sent all),
+          (with_delivery config m
+          (record { packet = packet; rows = before.part.rtps.readers; report = report }) before.delivered sent all),
     )
 part_step config tests m i (event.Deliver packet) before reply after is at_i keeps sent all h = absurd h
 

@@ -1,6 +1,6 @@
 -- While a packet is taken up, no count is taken that its sender has not used, and each ACKNACK that is due has a count
 -- that its reader uses with it.
-use Rattle.std.proofs.Common.{◌≡◌, ◌⊎◌, ℕ, ℤ, pos, suc, ◌+◌, ◌≤◌, ◌≤ℤ◌, ◌==◌, ◌&&◌, Bool, true, false, cond, List, [], ◌∷◌, ◌++◌, Option, Some, None, Contains, length, refl, subst, ap, sym, ◌∙◌, inl, inr, ⊎_elim, arith, eqb-true}
+use Rattle.std.proofs.Common.{◌≡◌, ◌⊎◌, ℕ, ℤ, pos, suc, ◌+◌, ◌≤◌, ◌≤ℤ◌, ◌==◌, ◌&&◌, Bool, true, false, cond, List, [], ◌∷◌, ◌++◌, Option, Some, None, Contains, length, refl, subst, ap, sym, ◌∙◌, inl, inr, ⊎_elim, arith, eqb-true, max}
 use Rattle.std.proofs.lemmas.Int.{ints}
 use Rattle.std.proofs.lemmas.List.Elements.{Contains-append_cases}
 use Rattle.std.proofs.lemmas.Option.{same_Some}
@@ -28,15 +28,15 @@ use Rattle.dds_machine.specs.Part.{ReaderProxy, same_endpoint, own_writer, write
 use Rattle.dds_protocol.specs.Claims.{Receiver, receiver_of, after_submessage, StandsAt, StandsIn, IsWriter, IsToReader, IsToWriter}
 use Rattle.dds_protocol.specs.Receipt.{prefix_of}
 use Rattle.dds_protocol.specs.DueMessages.{Due, acknack_message, acknacks_due, answer_message}
-use Rattle.dds_protocol.specs.Protocol.{Known, State, InTurn, TakesChange, heard_as, Idles, TakesHeartbeat, TakesOrNot, TakesAckNack, ReaderTakes, WriterTakes, Takes, FollowsMessage, TakesPacket, with_answered}
+use Rattle.dds_protocol.specs.Protocol.{BeginsWith, HearsAlone, Known, State, stands_to, InTurn, TakesChange, heard_as, Idles, TakesHeartbeat, TakesAckNack, ReaderTakes, WriterTakes, Takes, FollowsMessage, TakesPacket, with_answered}
 use Rattle.dds_protocol.specs.Backed.{reader_at}
 use Rattle.dds_protocol.specs.Fresh.{HasHeartbeat, HasAckNack}
 use Rattle.dds_protocol.proofs.Composed.{is_alone}
 use Rattle.dds_protocol.proofs.CountsWritten.{plain_beats, plain_asks, plain_answers, one_ask, one_ask_beats, each_of}
 use Rattle.dds_protocol.proofs.DuesAcknacks.{ask_body, answer_names}
 use Rattle.dds_protocol.proofs.Framing.{pair_or_not}
-use Rattle.dds_protocol.proofs.Ways.{Went, goes_went, after_change, after_change-same, change_went, gap_went}
-use Rattle.dds_protocol.proofs.Learning.{Learns, way_learns, heartbeat_learns}
+use Rattle.dds_protocol.proofs.Ways.{Went, goes_went, after_change, after_change-same, change_went, gap_went, met_change, met_gap, met_heartbeat}
+use Rattle.dds_protocol.proofs.Learning.{Learns, alone_learns, asserting_known, starts_known, starts_learns, way_learns, heartbeat_learns}
 use Rattle.dds_machine.proofs.Tables.{same_is}
 use Rattle.dds_protocol.proofs.Turns.{in_turn}
 
@@ -212,10 +212,16 @@ heartbeat_counts : (c : Counting) (at : Receiver) (h : HeartbeatBody) → IsUsed
     → TakesHeartbeat c.own at old w r is.entity h moves dues new → Counts c old dues new
 heartbeat_counts c at h used old w r is moves dues new k =
     let learned = heartbeat_learns c.own at old w r is.entity h moves dues new k in
-    let known : k.there.known.tracked w r ≡ k.goes.known = (way_learns k.heard w r k.going k.there k.goes).here in
+    let known : k.there.known.tracked w r ≡ k.goes.known = (way_learns k.started w r k.going k.there k.goes).here in
     let stays = k.goes.advances.stays.acknacks in
+    let begun =
+    (starts_known (stands_to old w r) k.heard w r h.first_sn k.starting k.started k.starts).acknacks in
+    let heard =
+    ap (λ (x : Known). (x.tracked w r).acknacks)
+    (asserting_known h.liveliness_flag old w r h.count k.hearing k.heard k.asserts) in
     let more = answered_more k.answer k.goes.known in
-    learned_counts c old w r (answered k.answer k.goes.known) dues new learned (omega (arith, stays, more))
+    learned_counts c old w r (answered k.answer k.goes.known) dues new learned
+    (omega (arith, stays, more, begun, heard))
     (λ n e.
     let is_count : h.count ≡ n =
     same_Some h.count n (sym k.goes.advances.stays.count ∙ (sym (answered_count k.answer k.goes.known) ∙ e)) in
@@ -229,7 +235,10 @@ reader_counts : (c : Counting) (at : Receiver) (s : Submessage) → IsUsed c at 
     → (r : ℕ) (old : State) (moves : List Move) (dues : List Due) (new : State)
     → ReaderTakes c.config c.own c.peer at s r old moves dues new → Counts c old dues new
 reader_counts c at (Data d) used r old moves dues new (inl h) =
-    by (is_reliable_reader h.1.to.end) h.2.0
+    ⊎_elim (λ takes. by (is_reliable_reader h.1.to.end) takes)
+    (λ o.
+    ⊎_elim (λ k. begins k) (λ n. counts_idle c old moves dues new (n.0, h.2.1, n.1)) o)
+    (met_change (stands_to old h.0 r) (is_reliable_reader h.1.to.end) old h.0 r d.writer_sn change moves new h.2.0)
   where
     change : Change
     change = change_in d.content at.timestamp
@@ -239,22 +248,41 @@ reader_counts c at (Data d) used r old moves dues new (inl h) =
         let same = after_change-same reliable d.writer_sn change (old.known.tracked h.0 r) in
         goes_counts c old h.0 r (after_change reliable d.writer_sn change (old.known.tracked h.0 r)) moves dues new
         (change_went reliable old h.0 r d.writer_sn change moves new takes) h.2.1 same.1 same.2
+
+    begins : BeginsWith old h.0 r d.writer_sn change moves new → Counts c old dues new
+    begins k =
+        counts_on c old k.started new [] dues
+        (learned_counts c old h.0 r (record (old.known.tracked h.0 r) { place = max k.starts.place d.writer_sn }) []
+        k.started (starts_learns old h.0 r d.writer_sn k.starting k.started k.starts) (omega arith) (λ n e. inl e)
+        (no_dues c k.started [] refl))
+        (goes_counts c k.started h.0 r (k.started.known.tracked h.0 r) k.going dues new
+        (change_went false k.started h.0 r d.writer_sn change k.going new k.takes) h.2.1 refl refl)
 reader_counts c at (Data d) used r old moves dues new (inr h) = counts_idle c old moves dues new h.1
 reader_counts c at (Gap g) used r old moves dues new (inl h) =
-    ⊎_elim (λ t. goes_counts c old h.0 r (with_gap g.gap_start g.gap_list (old.known.tracked h.0 r)) moves dues new
-    (goes_went old h.0 r _ moves new t.1) h.2.1 refl refl)
+    ⊎_elim
+    (λ takes. ⊎_elim (λ t. goes_counts c old h.0 r (with_gap g.gap_start g.gap_list (old.known.tracked h.0 r)) moves
+    dues new (goes_went old h.0 r _ moves new t.1) h.2.1 refl refl)
     (λ n. counts_idle c old moves dues new (n.0, h.2.1, n.1))
-    (gap_went (is_reliable_reader h.1.to.end) old h.0 r g moves new h.2.0)
+    (gap_went (is_reliable_reader h.1.to.end) old h.0 r g moves new takes))
+    (λ n. counts_idle c old moves dues new (n.0, h.2.1, n.1))
+    (met_gap (stands_to old h.0 r) (is_reliable_reader h.1.to.end) old h.0 r g moves new h.2.0)
 reader_counts c at (Gap g) used r old moves dues new (inr h) = counts_idle c old moves dues new h.1
 reader_counts c at (Heartbeat b) used r old moves dues new (inl h) =
-    by (is_reliable_reader h.1.to.end) h.2
+    by (is_reliable_reader h.1.to.end)
+    (met_heartbeat (stands_to old h.0 r) (is_reliable_reader h.1.to.end) c.own at old h.0 r h.1.entity b moves dues new
+    h.2)
   where
-    by : (reliable : Bool) → TakesOrNot c.own at old h.0 r h.1.entity (heard_as reliable b) moves dues new
-        → Counts c old dues new
+    by : (reliable : Bool)
+        → TakesHeartbeat c.own at old h.0 r h.1.entity (heard_as reliable b) moves dues new
+        ⊎ (HearsAlone old h.0 r b moves new × (dues ≡ [])) ⊎ Idles old moves dues new → Counts c old dues new
     by true (inl k) = heartbeat_counts c at b used old h.0 r h.1 moves dues new k
-    by true (inr n) = counts_idle c old moves dues new n.1
     by false (inl k) = heartbeat_counts c at (heard_as false b) used old h.0 r h.1 moves dues new k
-    by false (inr n) = counts_idle c old moves dues new n.1
+    by reliable (inr (inl k)) =
+        learned_counts c old h.0 r (record (old.known.tracked h.0 r) { count = Some b.count }) dues new
+        (alone_learns old h.0 r b moves new k.0) (omega arith)
+        (λ n e. inr (subst (λ (z : ℤ). z ≤ℤ pos (c.beats h.0)) (same_Some b.count n e) (used h.0 h.1.from)))
+        (no_dues c new dues k.1)
+    by reliable (inr (inr n)) = counts_idle c old moves dues new n
 reader_counts c at (Heartbeat b) used r old moves dues new (inr h) = counts_idle c old moves dues new h.1
 reader_counts c at (AckNack a) used r old moves dues new h = counts_idle c old moves dues new h
 reader_counts c at Pad used r old moves dues new h = counts_idle c old moves dues new h

@@ -1,5 +1,5 @@
 -- An ACKNACK that is due to a writer claims no more than the place of the reader in that writer's list.
-use Rattle.std.proofs.Common.{◌≡◌, ℕ, Bool, true, false, ◌||◌, List, [], Option, Some, None, refl, subst, ap, sym, ◌∙◌, inl, inr, ⊎_elim, arith}
+use Rattle.std.proofs.Common.{◌≡◌, ◌⊎◌, ℕ, Bool, true, false, ◌||◌, List, [], Option, Some, None, refl, subst, ap, sym, ◌∙◌, inl, inr, ⊎_elim, arith}
 use Rattle.std.proofs.lemmas.List.Elements.{All-cons, All-nil}
 use Rattle.dds_base.specs.declared.config.Config.{Config}
 use Rattle.dds_base.specs.declared.guid.EntityId.{EntityId}
@@ -19,9 +19,9 @@ use Rattle.dds_machine.specs.Part.{Part, WriterProxy, own_proxies, place_of, wit
 use Rattle.dds_protocol.specs.Claims.{Receiver, every_peer, Names, IsWriter, IsReader, IsToReader, IsToWriter, Claim, ChangeIs, MayPass, PlaceReached, Asserts, Says}
 use Rattle.dds_protocol.specs.Peer.{IsTrueAt}
 use Rattle.dds_protocol.specs.DueMessages.{Due, acknack_message, acknacks_due}
-use Rattle.dds_protocol.specs.Protocol.{State, heard_as, TakesHeartbeat, TakesOrNot, ReaderTakes}
+use Rattle.dds_protocol.specs.Protocol.{State, heard_as, TakesHeartbeat, ReaderTakes, HearsAlone, Idles, stands_to}
 use Rattle.dds_base.specs.Matched.{is_reliable_reader}
-use Rattle.dds_protocol.proofs.Ways.{Went, goes_went}
+use Rattle.dds_protocol.proofs.Ways.{Went, goes_went, met_heartbeat}
 use Rattle.dds_protocol.specs.Backed.{reader_at}
 use Rattle.dds_protocol.specs.Dues.{IsTruthful, AreTruthful}
 use Rattle.dds_protocol.proofs.Dues.{addressed, told_alone}
@@ -156,7 +156,7 @@ heartbeat_answered c h w r is old made dues new k =
           due = due;
           part = new.part;
           there = ap (λ (s : State). place_of (own_proxies s.part r) w) k.after
-              ∙ (goes_there k.heard w r _ k.going k.there (goes_went k.heard w r _ k.going k.there k.goes) ∙ ap (λ (n : ℕ). Some n) (sym a.3.set_base));
+              ∙ (goes_there k.started w r _ k.going k.there (goes_went k.started w r _ k.going k.there k.goes) ∙ ap (λ (n : ℕ). Some n) (sym a.3.set_base));
         } in
         All-cons (IsTruthful c.config c.peer new.part) (acknack_due x w.peer) [] (acknack_truthful x w.peer)
         (All-nil (IsTruthful c.config c.peer new.part))
@@ -174,15 +174,19 @@ pub reader_truthful : (c : Coming) (s : Submessage) (r : ℕ) (old : State) (mad
 reader_truthful c (Data d) r old made dues new h = none_due c new.part dues (⊎_elim (λ t. t.2.1) (λ n. n.1.1) h)
 reader_truthful c (Gap g) r old made dues new h = none_due c new.part dues (⊎_elim (λ t. t.2.1) (λ n. n.1.1) h)
 reader_truthful c (Heartbeat b) r old made dues new h =
-    ⊎_elim (λ t. by t.0 t.1 (is_reliable_reader t.1.to.end) t.2) (λ n. none_due c new.part dues n.1.1) h
+    ⊎_elim (λ t. by t.0 t.1 (is_reliable_reader t.1.to.end)
+    (met_heartbeat (stands_to old t.0 r) (is_reliable_reader t.1.to.end) c.own c.at old t.0 r t.1.entity b made dues new
+    t.2)) (λ n. none_due c new.part dues n.1.1) h
   where
     by : (w : Endpoint) (is : IsToReader c.config c.own c.at b.reader_id b.writer_id w (reader_at c.peer r))
-        (reliable : Bool) → TakesOrNot c.own c.at old w r is.entity (heard_as reliable b) made dues new
+        (reliable : Bool)
+        → TakesHeartbeat c.own c.at old w r is.entity (heard_as reliable b) made dues new
+        ⊎ (HearsAlone old w r b made new × (dues ≡ [])) ⊎ Idles old made dues new
         → AreTruthful c.config c.peer new.part dues
     by w is true (inl k) = heartbeat_answered c b w r is old made dues new k
-    by w is true (inr n) = none_due c new.part dues n.1.1
     by w is false (inl k) = heartbeat_answered c (heard_as false b) w r is old made dues new k
-    by w is false (inr n) = none_due c new.part dues n.1.1
+    by w is reliable (inr (inl k)) = none_due c new.part dues k.1
+    by w is reliable (inr (inr n)) = none_due c new.part dues n.1
 reader_truthful c (AckNack a) r old made dues new h = none_due c new.part dues h.1
 reader_truthful c Pad r old made dues new h = none_due c new.part dues h.1
 reader_truthful c (InfoDst x) r old made dues new h = none_due c new.part dues h.1

@@ -14,7 +14,7 @@ use Rattle.dds_protocol.specs.declared.event.Packet.{Packet}
 use Rattle.dds_machine.specs.declared.reply.Move.{Move}
 use Rattle.dds_machine.specs.declared.reply.Report.{Report}
 use Rattle.dds_machine.specs.declared.reply.Reply.{Reply}
-use Rattle.dds_machine.specs.Part.{Part, ReaderProxy, own_writer, acknowledged_of, NoLess}
+use Rattle.dds_machine.specs.Part.{Part, ReaderProxy, WriterProxy, own_writer, acknowledged_of, NoLess}
 use Rattle.dds_machine.specs.Ticks.{TickStep}
 use Rattle.dds_protocol.specs.Claims.{Receiver, receiver_of, after_submessage, Claim, Claims}
 use Rattle.dds_protocol.specs.Peer.{Delivery, packets_of, IsTrueAt}
@@ -22,6 +22,7 @@ use Rattle.dds_protocol.specs.DueMessages.{Due, AreSent, heartbeats_due}
 use Rattle.dds_protocol.specs.Protocol.{State, FollowsMessage, TakesMessage, TakesPacket}
 use Rattle.dds_protocol.specs.Backed.{IsBacked}
 use Rattle.dds_protocol.specs.Dues.{AreTellable, IsPartOf, IsTruthful, AreTruthful, IsSized, HasSmallChanges, HasPlaces, CanBeWritten}
+use Rattle.dds_protocol.proofs.Attached.{SameMet}
 use Rattle.dds_protocol.proofs.Composed.{front_or_rest, later_in}
 use Rattle.dds_protocol.proofs.DuesGrowth.{Gains, gains_same, gains_on, small_gained, truthful_gained, truthful_on}
 use Rattle.dds_protocol.proofs.DuesHeartbeats.{heartbeats_truthful}
@@ -55,15 +56,16 @@ bases_read bytes [] left h = tt
 bases_read bytes (s ∷ ss) left h = (base_read h.1.0 h.1.1 h.1.2 s h.1.4, bases_read h.0 ss left h.2)
 
 -- a message that comes to a peer
-abbrev arrival : (config : Config) (peer : ℕ) (before : List Delivery) (bytes : List ℕ)
+abbrev arrival : (config : Config) (peer : ℕ) (before : List Delivery) (bytes : List ℕ) (rows : List (List WriterProxy))
     → check_refusal config.peers ≡ None
     → (message : Message) (offset : ℕ) → ReadsMessage bytes message offset → Arrival
-arrival config peer before bytes checked message offset is_read = record {
+arrival config peer before bytes rows checked message offset is_read = record {
   config = config;
   checked = checked;
   peer = peer;
   before = before;
   bytes = bytes;
+  rows = rows;
   message = message;
   offset = offset;
   is_read = is_read;
@@ -86,24 +88,25 @@ followed_none p old dues new none same = record {
 
 followed : (p : Arrival) (index : ℕ) (at : Receiver) (ss : List Submessage) → IsRest p index at ss
     → AllByRecursion HasBase ss → (old : State) (moves : List Move) (refused : Option ℕ) (dues : List Due) (new : State)
-    → Backed p (Some index) old → AreTellable old.part
+    → Backed p (Some index) old → SameMet p.rows old.part.rtps.readers → AreTellable old.part
     → FollowsMessage p.config (own p) p.peer index at ss old moves refused dues new → Followed p old dues new
-followed p index at [] rest bases old moves refused dues new b t h = followed_none p old dues new h.1.1 h.1.2
-followed p index at (s ∷ ss) rest bases old moves refused dues new b t (inl h) =
+followed p index at [] rest bases old moves refused dues new b met t h = followed_none p old dues new h.1.1 h.1.2
+followed p index at (s ∷ ss) rest bases old moves refused dues new b met t (inl h) =
     followed_none p old dues new h.1.1 h.1.2
-followed p index at (s ∷ ss) rest bases old moves refused dues new b t (inr h) =
+followed p index at (s ∷ ss) rest bases old moves refused dues new b met t (inr h) =
     let mid : State = h.4 in
     let stands : Stands p index at s =
     subst (λ (n : ℕ). Stands p n at s) (omega arith) (rest.stand 0 at s (refl, refl)) in
     let one : Taken (coming_at p index at s stands) old h.0 mid =
-    taken (coming_at p index at s stands) s refl old h.0 h.2 mid b h.7 in
+    taken (coming_at p index at s stands) s refl old h.0 h.2 mid b met h.7 in
     let kept : Keeps (coming_at p index at s stands) old h.2 mid =
     takes_kept (coming_at p index at s stands) s refl bases.0 old h.0 h.2 mid
-    (record { backed = b; tellable = t }) h.7 in
+    (record { backed = b; met = met; tellable = t }) h.7 in
     let next : Backed p (Some (index + 1)) mid = next_backed p index at s ss rest stands mid one.backed one.past in
     let later : Followed p mid h.3 new =
     followed p (index + 1) (after_submessage (own p) at s) ss
-    (rest_next p index at s ss rest) bases.1 mid h.1 refused h.3 new next kept.rests.tellable h.8 in
+    (rest_next p index at s ss rest) bases.1 mid h.1 refused h.3 new next kept.rests.met kept.rests.tellable
+    h.8 in
     record {
       gains = gains_on old.part mid.part new.part kept.gains later.gains;
       truthful = subst (λ (ds : List Due). AreTruthful p.config p.peer new.part ds) (sym h.6)
@@ -119,9 +122,9 @@ message_followed : (config : Config) (peer : ℕ) (before : List Delivery) (byte
     (report : Report) (dues : List Due) (new : State) (checked : check_refusal config.peers ≡ None)
     → IsBacked config peer (packets_of before) before old → AreTellable old.part
     → (h : TakesMessage config peer bytes old report dues new)
-    → Followed (arrival config peer before bytes checked h.message h.offset h.is_read) old dues new
+    → Followed (arrival config peer before bytes old.part.rtps.readers checked h.message h.offset h.is_read) old dues new
 message_followed config peer before bytes old report dues new checked b t h =
-    let p : Arrival = arrival config peer before bytes checked h.message h.offset h.is_read in
+    let p : Arrival = arrival config peer before bytes old.part.rtps.readers checked h.message h.offset h.is_read in
     let all : IsRest p 0 (receiver_of h.message.prefix) h.message.submessages = record {
       stand = λ k later s e. subst (λ (n : ℕ). Stands p n later s) (omega arith) e;
       only = λ k later s e. subst (λ (n : ℕ). Stands p n later s) (omega arith) e;
@@ -129,7 +132,7 @@ message_followed config peer before bytes old report dues new checked b t h =
     let bases : AllByRecursion HasBase h.message.submessages =
     bases_read h.is_read.body h.message.submessages h.is_read.left h.is_read.submessages in
     followed p 0 (receiver_of h.message.prefix) h.message.submessages all bases old report.moves report.refused dues new
-    (begun p old b) t h.follows
+    (begun p old b) (λ r w. refl) t h.follows
 
 -- What is due once a peer took a packet up is true: each message, once written, claims only what is so of the peer's
 -- own lists and places.

@@ -16,13 +16,15 @@ use Rattle.dds_protocol.proofs.DuesAcknacks.{none_due, reader_truthful}
 use Rattle.dds_protocol.proofs.DuesAnswers.{writer_truthful}
 use Rattle.dds_protocol.proofs.DuesGrowth.{small_gained, Gains, gains_same, gains_on, AreMoves-gains, truthful_gained, tellable_gained}
 use Rattle.dds_protocol.proofs.DuesWritten.{none_written, reader_written, writer_written}
-use Rattle.dds_protocol.proofs.RuledReaders.{Coming, grounds, Backs, IsTakenAt}
-use Rattle.dds_protocol.proofs.RuledTurns.{IsTelling, reader_taken}
+use Rattle.dds_protocol.proofs.RuledReaders.{Coming, grounds, Backs, Met, IsTakenAt}
+use Rattle.dds_protocol.proofs.RuledTurns.{IsTelling, met_on, reader_taken}
 use Rattle.dds_protocol.proofs.RuledWriters.{IsTaken, writer_taken}
 
--- what a step rests on: what is known is backed, and the changes of the writers can be told
+-- what a step rests on: what is known is backed, the same are matched as when the packet came, and the changes of the
+-- writers can be told
 pub record Rests (c : Coming) (s : State) : Type 0 where
   pub backed : Backs c s
+  pub met : Met c s
   pub tellable : AreTellable s.part
 
 -- a step leaves what the next one rests on, and what is due then is true
@@ -39,7 +41,11 @@ keeps_moves : (c : Coming) (old : State) (made : List Move) (dues : List Due) (n
 keeps_moves c old made dues new r moves backed truthful writable =
     let gains : Gains old.part new.part = AreMoves-gains (grounds c) old.part made new.part moves in
     record {
-      rests = record { backed = backed; tellable = tellable_gained old.part new.part gains r.tellable };
+      rests = record {
+        backed = backed;
+        met = met_on c old made new r.met moves;
+        tellable = tellable_gained old.part new.part gains r.tellable;
+      };
       gains = gains;
       truthful = truthful;
       writable = writable;
@@ -83,9 +89,9 @@ reader_kept : (c : Coming) (s : Submessage) → c.submessage ≡ s → IsTelling
     → (reader : ℕ) (old : State) (made : List Move) (dues : List Due) (new : State) → Rests c old
     → ReaderTakes c.config c.own c.peer c.at s reader old made dues new → Keeps c old dues new
 reader_kept c s is telling reader old made dues new r h =
-    let one : IsTakenAt c s reader old made new = reader_taken c s is telling reader old made dues new r.backed h in
+    let one : IsTakenAt c s reader old made new = reader_taken c s is telling reader old made dues new r.backed r.met h in
     keeps_moves c old made dues new r one.moves one.backed (reader_truthful c s reader old made dues new h)
-    (λ sized small. reader_written c s reader old made dues new sized r.backed h)
+    (λ sized small. reader_written c s reader old made dues new sized one.backed h)
 
 readers_kept : (c : Coming) (s : Submessage) → c.submessage ≡ s → IsTelling s
     → (old : State) (made : List Move) (dues : List Due) (new : State) → Rests c old

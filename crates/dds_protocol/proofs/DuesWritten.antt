@@ -1,5 +1,5 @@
 -- What is due once a submessage was taken up can be written.
-use Rattle.std.proofs.Common.{◌≡◌, ℕ, ◌^◌, ◌<◌, ◌≤◌, Bool, true, false, List, [], ◌∷◌, Option, Some, None, length, subst, ap, sym, ◌∙◌, inl, inr, ⊎_elim, arith}
+use Rattle.std.proofs.Common.{◌≡◌, ◌⊎◌, ℕ, ◌^◌, ◌<◌, ◌≤◌, Bool, true, false, List, [], ◌∷◌, Option, Some, None, length, subst, ap, sym, ◌∙◌, inl, inr, ⊎_elim, arith}
 use Rattle.std.specs.List.{All}
 use Rattle.std.proofs.lemmas.List.Elements.{All-cons, All-map, All-nil, All-weaker}
 use Rattle.dds_base.specs.declared.change.Change.{Change}
@@ -8,8 +8,8 @@ use Rattle.dds_base.specs.declared.guid.EntityId.{EntityId}
 use Rattle.dds_base.specs.declared.guid.GuidPrefix.{GuidPrefix}
 use Rattle.dds_base.specs.Kept.{change_at}
 use Rattle.rtps_reader.specs.declared.step.AckNackDue.{AckNackDue}
-use Rattle.rtps_reader.specs.Answer.{AnswersHeartbeat}
-use Rattle.rtps_reader.specs.Tracked.{Tracked, with_heartbeat}
+use Rattle.rtps_reader.specs.Answer.{AnswersHeartbeat, answered}
+use Rattle.rtps_reader.specs.Tracked.{Tracked}
 use Rattle.rtps_sets.specs.NumberSet.{NumberSet}
 use Rattle.rtps_wire.specs.declared.acknack.AckNack.{AckNack as AckNackBody}
 use Rattle.rtps_wire.specs.declared.heartbeat.Heartbeat.{Heartbeat as HeartbeatBody}
@@ -27,13 +27,14 @@ use Rattle.dds_machine.specs.Part.{Writer, own_writer, owed_from, writer_changes
 use Rattle.dds_protocol.specs.Claims.{IsReader, IsWriter, IsToReader, IsToWriter}
 use Rattle.dds_protocol.specs.DueMessages.{Due, answer_message, acknack_message, acknacks_due}
 use Rattle.dds_base.specs.Matched.{is_reliable_reader}
-use Rattle.dds_protocol.proofs.Ways.{Went, goes_went}
-use Rattle.dds_protocol.specs.Protocol.{State, heard_as, TakesHeartbeat, TakesOrNot, TakesAckNack, ReaderTakes, WriterTakes, AreGrouped, answers_per, answered_from, has_for}
+use Rattle.dds_protocol.proofs.Ways.{met_heartbeat}
+use Rattle.dds_protocol.specs.Protocol.{State, heard_as, TakesHeartbeat, TakesAckNack, ReaderTakes, WriterTakes, AreGrouped, answers_per, answered_from, has_for, HearsAlone, Idles, stands_to}
 use Rattle.dds_protocol.specs.Backed.{reader_at}
 use Rattle.dds_protocol.specs.Dues.{IsTellable, AreTellable, IsSized, AreSmall, HasSmallChanges, CanBeWritten}
 use Rattle.dds_protocol.proofs.DuesAnswers.{IsAskedOf, answers_of, answers_of-right, all_grouped}
 use Rattle.dds_protocol.proofs.DuesWritable.{Ends, IsDatable, HasSmallGap, acknack_writable, answers_writable}
 use Rattle.dds_protocol.proofs.Framing.{tracked_here}
+use Rattle.dds_protocol.proofs.Knowing.{answered_same}
 use Rattle.dds_protocol.proofs.RuledReaders.{Coming, Backs}
 
 -- nothing is due
@@ -62,16 +63,6 @@ writer_octets config sized prefix entity w is = (
 
 -- ---- an ACKNACK
 
--- a place goes on from 1 or more
-place_low : (old : State) (w : Endpoint) (r : ℕ) (t : Tracked) (moves : List Move) (new : State)
-    → Went old w r t moves new → 1 ≤ t.place → 1 ≤ (new.known.tracked w r).place
-place_low old w r t moves new g low =
-    let more = g.advances.forward in
-    let is : new.known.tracked w r ≡ g.known =
-    ap (λ (s : State). s.known.tracked w r) g.after ∙ tracked_here old.known w r g.known in
-    let place : (new.known.tracked w r).place ≡ g.to = ap (λ (x : Tracked). x.place) is ∙ g.advances.place in
-    omega (arith, low, more, place)
-
 acknack_written : (c : Coming) (h : HeartbeatBody) (w : Endpoint) (r : ℕ)
     (is : IsToReader c.config c.own c.at h.reader_id h.writer_id w (reader_at c.peer r)) → IsSized c.config
     → (t : Tracked) → 1 ≤ t.place → (answer : Option AckNackDue) → AnswersHeartbeat t h.last_sn h.final_flag answer
@@ -95,31 +86,38 @@ acknack_written c h w r is sized t low (Some due) a =
 
 heartbeat_written : (c : Coming) (h : HeartbeatBody) (w : Endpoint) (r : ℕ)
     (is : IsToReader c.config c.own c.at h.reader_id h.writer_id w (reader_at c.peer r)) → IsSized c.config
-    → (old : State) (made : List Move) (dues : List Due) (new : State) → Backs c old
+    → (old : State) (made : List Move) (dues : List Due) (new : State) → Backs c new
     → TakesHeartbeat c.own c.at old w r is.entity h made dues new → All CanBeWritten dues
 heartbeat_written c h w r is sized old made dues new b k =
-    let low : 1 ≤ (k.there.known.tracked w r).place =
-    place_low k.heard w r (with_heartbeat h.first_sn h.count (old.known.tracked w r)) k.going k.there
-    (goes_went k.heard w r _ k.going k.there k.goes) (b.claimed w r).from in
+    let from = (b.claimed w r).from in
+    let known : new.known.tracked w r ≡ answered k.answer (k.there.known.tracked w r) =
+    ap (λ (s : State). s.known.tracked w r) k.after
+    ∙ tracked_here k.there.known w r (answered k.answer (k.there.known.tracked w r)) in
+    let same =
+    ap (λ (t : Tracked). t.place) known ∙ (answered_same k.answer (k.there.known.tracked w r)).0 in
+    let low : 1 ≤ (k.there.known.tracked w r).place = omega (arith, from, same) in
     subst (λ (ds : List Due). All CanBeWritten ds) (sym k.dues_are)
     (acknack_written c h w r is sized (k.there.known.tracked w r) low k.answer k.answers)
 
 -- what is due once a reader took a submessage up can be written
 pub reader_written : (c : Coming) (s : Submessage) (r : ℕ) (old : State) (made : List Move) (dues : List Due)
-    (new : State) → IsSized c.config → Backs c old → ReaderTakes c.config c.own c.peer c.at s r old made dues new
+    (new : State) → IsSized c.config → Backs c new → ReaderTakes c.config c.own c.peer c.at s r old made dues new
     → All CanBeWritten dues
 reader_written c (Data d) r old made dues new sized b h = none_written dues (⊎_elim (λ t. t.2.1) (λ n. n.1.1) h)
 reader_written c (Gap g) r old made dues new sized b h = none_written dues (⊎_elim (λ t. t.2.1) (λ n. n.1.1) h)
 reader_written c (Heartbeat x) r old made dues new sized b h =
-    ⊎_elim (λ t. by t.0 t.1 (is_reliable_reader t.1.to.end) t.2) (λ n. none_written dues n.1.1) h
+    ⊎_elim (λ t. by t.0 t.1 (is_reliable_reader t.1.to.end)
+    (met_heartbeat (stands_to old t.0 r) (is_reliable_reader t.1.to.end) c.own c.at old t.0 r t.1.entity x made dues new
+    t.2)) (λ n. none_written dues n.1.1) h
   where
     by : (w : Endpoint) (is : IsToReader c.config c.own c.at x.reader_id x.writer_id w (reader_at c.peer r))
-        (reliable : Bool) → TakesOrNot c.own c.at old w r is.entity (heard_as reliable x) made dues new
-        → All CanBeWritten dues
+        (reliable : Bool)
+        → TakesHeartbeat c.own c.at old w r is.entity (heard_as reliable x) made dues new
+        ⊎ (HearsAlone old w r x made new × (dues ≡ [])) ⊎ Idles old made dues new → All CanBeWritten dues
     by w is true (inl k) = heartbeat_written c x w r is sized old made dues new b k
-    by w is true (inr n) = none_written dues n.1.1
     by w is false (inl k) = heartbeat_written c (heard_as false x) w r is sized old made dues new b k
-    by w is false (inr n) = none_written dues n.1.1
+    by w is reliable (inr (inl k)) = none_written dues k.1
+    by w is reliable (inr (inr n)) = none_written dues n.1
 reader_written c (AckNack a) r old made dues new sized b h = none_written dues h.1
 reader_written c Pad r old made dues new sized b h = none_written dues h.1
 reader_written c (InfoDst x) r old made dues new sized b h = none_written dues h.1

@@ -73,7 +73,7 @@ pub elsewhere : {X : Type 0} (xs : List X) (n : ℕ) (x : X) (m : ℕ) (d : X) �
 elsewhere xs n x m d f = ⊎_elim (λ e. e) (λ s. absurd (f s.0)) (numbered-cases xs n x m d)
 
 -- a reader of whose matched writers something is found is there
-has_found : {X : Type 0} (found : List WriterProxy → Option X) → found [] ≡ None → (part : Part) (r : ℕ) (x : X)
+pub has_found : {X : Type 0} (found : List WriterProxy → Option X) → found [] ≡ None → (part : Part) (r : ℕ) (x : X)
     → found (own_proxies part r) ≡ Some x → HasNumber part.rtps.readers r
 has_found {X = X} found none part zero x h = cc
 has_found {X = X} found none part (suc i) x h = (omega arith, within part.rtps.readers i h)

@@ -111,7 +111,8 @@ event_lasts config tests peer before (event.Tick now) reply after h = record {
 }
 event_lasts config tests peer before (event.Deliver packet) (Reported report) after h =
     let g : Gains before.part after.part =
-    receives_gains config (claimed config before.delivered packet before.number) before.number packet before.part
+    receives_gains config (claimed config before.delivered packet before.part.rtps.readers before.number)
+    before.number packet before.part
     report after.part h.0 in
     record { grows = g.grows; part = is_part_kept config peer before.part after.part g.grows g.same }
 event_lasts config tests peer before (event.Deliver packet) reply after h = absurd h

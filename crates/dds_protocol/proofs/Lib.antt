@@ -20,8 +20,10 @@ pub mod OwnGuids
 pub mod Ways
 pub mod Knowing
 pub mod Framing
+pub mod Attached
 pub mod Ruled
 pub mod RuledReaders
+pub mod RuledHeartbeats
 pub mod RuledTurns
 pub mod RuledWriters
 pub mod RuledPackets

@@ -89,7 +89,15 @@ pub took_seat : (c : Asking) (old new : State) (dues : List Due) → Took c old 
     → (m : Match) (w : Endpoint) (r : ℕ) → Seat m w r old → Seat m w r new
 took_seat c old new dues t m w r s =
     subst (λ (x : State). Seat m w r x) (sym t.takes.after)
-    (record { rows = s.rows; there = s.there; handle = s.handle; qos = s.qos; moment = s.moment; place = s.place })
+    (record {
+      rows = s.rows;
+      there = s.there;
+      handle = s.handle;
+      qos = s.qos;
+      moment = s.moment;
+      place = s.place;
+      begun = s.begun;
+    })
 
 pub took_standing : (c : Asking) (old new : State) (dues : List Due) → Took c old dues new → (w : Endpoint) (r : ℕ)
     → standing_of new w r ≡ standing_of old w r

@@ -12,7 +12,7 @@ use Rattle.dds_machine.specs.declared.endpoint.Endpoint.{Endpoint}
 use Rattle.dds_machine.specs.declared.event.WorldEvent.TheVariants as world
 use Rattle.dds_machine.specs.declared.reply.Reply.TheVariants.{Done, Reported}
 use Rattle.dds_machine.specs.Numbered.{numbered}
-use Rattle.dds_machine.specs.Part.{Part, WriterProxy, ReaderProxy, Writer, no_writer, own_writer, own_proxies, own_reader, acknowledged_of, place_of, publication_among, writer_changes, heartbeats_used}
+use Rattle.dds_machine.specs.Part.{how_of, Part, WriterProxy, ReaderProxy, Writer, no_writer, own_writer, own_proxies, own_reader, acknowledged_of, place_of, publication_among, writer_changes, heartbeats_used}
 use Rattle.dds_machine.specs.Moves.{match_of}
 use Rattle.dds_protocol.specs.Dues.{IsPartOf}
 use Rattle.dds_machine.specs.Machine.{AllTests, writer_at, place_at}
@@ -168,6 +168,9 @@ seat_ticked c = record {
   qos = refl;
   moment = refl;
   place = place_ticked c ∙ ap (λ (n : ℕ). Some n) (sym (knows_place c));
+  begun = ap (λ (rows : List (List WriterProxy)). how_of (numbered rows c.reader.number []) c.writer)
+      (left c c.reader.peer).rows
+      ∙ c.stands.begun;
 }
 
 pub beat_later : (c : Begun) → is_later ((ticked_reader c).known.tracked c.writer c.reader.number).count (body c).count

@@ -404,6 +404,7 @@ round_catches_up c = record {
   stands = record {
     here = (repaired c).seat.there;
     place_is = place_is c.new c.given.first.reader c.given.first.writer ∙ (repaired c).seat.place;
+    begun = (repaired c).seat.begun;
     known = refl;
     acknowledged_is = row_new c;
   };

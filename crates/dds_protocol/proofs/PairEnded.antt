@@ -6,7 +6,7 @@ use Rattle.dds_machine.specs.declared.endpoint.Endpoint.{Endpoint}
 use Rattle.dds_machine.specs.declared.event.WorldEvent.{WorldEvent}
 use Rattle.dds_protocol.specs.Noticing.{world_ended}
 use Rattle.dds_machine.specs.Numbered.{HasNumber, numbered}
-use Rattle.dds_machine.specs.Part.{WriterProxy, own_reader, own_writer, place_of, publication_among, writer_changes}
+use Rattle.dds_machine.specs.Part.{how_of, WriterProxy, own_reader, own_writer, place_of, publication_among, writer_changes}
 use Rattle.dds_protocol.specs.Peer.{state_of}
 use Rattle.dds_protocol.specs.Protocol.{Known}
 use Rattle.dds_protocol.specs.World.{WorldState, peer_at}
@@ -60,6 +60,7 @@ module _ (before : WorldState) (e : WorldEvent) (world : WorldState) (p : ℕ) w
     moment = alike.moment ∙ s.moment;
     place = ap (λ (xs : List (List WriterProxy)). place_of (numbered xs r []) w) alike.rows
         ∙ (s.place ∙ ap (λ (k : Known). Some (k.tracked w r).place) (sym known_ended));
+    begun = ap (λ (xs : List (List WriterProxy)). how_of (numbered xs r []) w) alike.rows ∙ s.begun;
   }
 
   pub standing_ended : (w : Endpoint) (r : ℕ) → standing_of (state_of (peer_at (world_ended before e world) p)) w r

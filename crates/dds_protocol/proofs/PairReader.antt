@@ -1,5 +1,5 @@
 -- What a reader does with the submessages of one of its matched writers: its place goes on as far as it can.
-use Rattle.std.proofs.Common.{◌≡◌, ℕ, ℤ, ◌-◌, Bool, true, false, List, Option, Some, length, slice_get, subst, ap, sym, ◌∙◌, inl, inr, ⊎_elim, arith}
+use Rattle.std.proofs.Common.{◌≡◌, ℕ, ℤ, ◌-◌, Bool, true, false, List, [], Option, Some, length, slice_get, refl, subst, ap, sym, ◌∙◌, inl, inr, ⊎_elim, arith}
 use Rattle.std.proofs.lemmas.Option.{same_Some}
 use Rattle.dds_base.specs.declared.happening.Happening.{Happening}
 use Rattle.dds_base.specs.declared.qos.ReaderQos.{ReaderQos}
@@ -23,13 +23,14 @@ use Rattle.rtps_wire.specs.Content.{change_in}
 use Rattle.dds_machine.specs.declared.endpoint.Endpoint.{Endpoint}
 use Rattle.dds_machine.specs.declared.reply.Move.{Move}
 use Rattle.dds_machine.specs.Numbered.{HasNumber}
-use Rattle.dds_machine.specs.Part.{Part, Reader, WriterProxy, no_reader, own_proxies, own_reader, place_of, publication_among}
+use Rattle.dds_machine.specs.Part.{Attachment, Begun, how_of, with_place, Part, Reader, WriterProxy, no_reader, own_proxies, own_reader, place_of, publication_among}
 use Rattle.dds_machine.specs.Moves.{match_of}
 use Rattle.dds_protocol.specs.Claims.{Receiver, IsReader, IsToReader, IsToReliable}
 use Rattle.dds_protocol.specs.DueMessages.{Due, acknacks_due}
-use Rattle.dds_protocol.specs.Protocol.{State, Goes, TakesChange, TakesGap, heard_as, Asserting, TakesHeartbeat, TakesOrNot, ReaderTakes}
+use Rattle.dds_protocol.specs.Protocol.{MeetsChange, MeetsGap, MeetsHeartbeat, Starts, State, Goes, TakesChange, TakesGap, heard_as, Asserting, TakesHeartbeat, TakesOrNot, ReaderTakes, stands_to}
 use Rattle.dds_protocol.specs.Backed.{reader_at}
 use Rattle.dds_protocol.specs.CatchUp.{Standing, GoesOn}
+use Rattle.dds_protocol.proofs.Attached.{how_kept}
 use Rattle.dds_protocol.proofs.DuesAcknacks.{goes_there}
 use Rattle.dds_protocol.proofs.Framing.{tracked_here}
 use Rattle.dds_protocol.proofs.Knowing.{answered_same}
@@ -48,7 +49,7 @@ standing t h = record { tracked = t; happened = h }
 abbrev pub standing_of : State → Endpoint → ℕ → Standing
 standing_of s w r = standing (s.known.tracked w r) (own_reader s.part r).happened
 
--- the reader is there, and matched with the writer
+-- the reader is there, and matched with the writer, and its place has begun
 pub record Seat (m : Match) (w : Endpoint) (r : ℕ) (s : State) : Type 0 where
   pub rows : HasNumber s.part.rtps.readers r
   pub there : HasNumber s.part.dds.readers r
@@ -56,6 +57,7 @@ pub record Seat (m : Match) (w : Endpoint) (r : ℕ) (s : State) : Type 0 where
   pub qos : (own_reader s.part r).qos ≡ m.qos
   pub moment : s.part.dds.moment ≡ m.moment
   pub place : place_of (own_proxies s.part r) w ≡ Some (s.known.tracked w r).place
+  pub begun : how_of (own_proxies s.part r) w ≡ Begun
 
 has_as : {X : Type 0} (xs ys : List X) (n : ℕ) → length ys ≡ length xs → HasNumber xs n → HasNumber ys n
 has_as xs ys n e h = let low = h.0 in let high = h.1 in (low, omega (arith, high, e))
@@ -70,6 +72,7 @@ seat_as m w r old new same rows there s = record {
   moment = same.moment ∙ s.moment;
   place = ap (λ (xs : List WriterProxy). place_of xs w) same.proxies
       ∙ (s.place ∙ ap (λ (t : Tracked). Some t.place) (sym (same.tracked w)));
+  begun = ap (λ (xs : List WriterProxy). how_of xs w) same.proxies ∙ s.begun;
 }
 
 -- the same, of a peer of which all readers are still there
@@ -106,6 +109,11 @@ goes_by m w r mark old moves new s g = record {
     qos = ap (λ (x : Reader). x.qos) reader ∙ s.qos;
     moment = (way_frames old w r moves new g).moment ∙ s.moment;
     place = goes_there old w r t moves new (goes_went old w r t moves new g);
+    begun = ap (λ (x : State). how_of (own_proxies x.part r) w) g.after
+        ∙ (ap (λ (xs : List WriterProxy). how_of xs w)
+        (numbered-same old.part.rtps.readers r (with_place (own_proxies old.part r) w g.to) [] s.rows)
+        ∙ (how_kept (λ (p : WriterProxy). record p { place = g.to }) (λ p. refl) (λ p. refl) (own_proxies old.part r) w w
+        ∙ s.begun));
   };
   goes = (
     g.to,
@@ -171,6 +179,10 @@ reliable_too c at reader_id writer_id w v x to is =
     ap (λ (e : ReaderConfig). is_reliable_reader e)
     (reader_ends c.config c.own c.own is.entity to.is_to.entity x is.to to.is_to.to) ∙ to.reliable
 
+-- its place has begun there, by any name of the writer
+begun_at : (m : Match) (w v : Endpoint) (r : ℕ) (s : State) → v ≡ w → Seat m w r s → stands_to s v r ≡ Begun
+begun_at m w v r s e seat = ap (λ (x : Endpoint). stands_to s x r) e ∙ seat.begun
+
 pub data_moves : (c : Host) (at : Receiver) (d : DataBody) (m : Match) (w : Endpoint) (r : ℕ)
     → IsToReliable c.config c.own at d.reader_id d.writer_id w (reader_at c.peer r)
     → (old : State) (moves : List Move) (dues : List Due) (new : State) → Seat m w r old
@@ -184,7 +196,8 @@ data_moves c at d m w r to old moves dues new s (inl h) =
     (subst (λ (x : Endpoint). Goes old x r
     (with_data d.writer_sn (change_in d.content at.timestamp) (old.known.tracked x r)) moves new) same
     (subst (λ (b : Bool). TakesChange b old h.0 r d.writer_sn (change_in d.content at.timestamp) moves new) reliable
-    h.2.0))
+    (subst (λ (a : Attachment). MeetsChange a (is_reliable_reader h.1.to.end) old h.0 r d.writer_sn
+    (change_in d.content at.timestamp) moves new) (begun_at m w h.0 r old same s) h.2.0)))
 data_moves c at d m w r to old moves dues new s (inr h) = absurd (h.0 w to.is_to)
 
 pub gap_moves : (c : Host) (at : Receiver) (g : GapBody) (m : Match) (w : Endpoint) (r : ℕ)
@@ -198,7 +211,9 @@ gap_moves c at g m w r to old moves dues new s (inl h) =
     let reliable = reliable_too c at g.reader_id g.writer_id w h.0 (reader_at c.peer r) to h.1 in
     goes_by m w r (with_gap g.gap_start g.gap_list) old moves new s
     (subst (λ (x : Endpoint). Goes old x r (with_gap g.gap_start g.gap_list (old.known.tracked x r)) moves new) same
-    (subst (λ (b : Bool). TakesGap b old h.0 r g moves new) reliable h.2.0))
+    (subst (λ (b : Bool). TakesGap b old h.0 r g moves new) reliable
+    (subst (λ (a : Attachment). MeetsGap a (is_reliable_reader h.1.to.end) old h.0 r g moves new)
+    (begun_at m w h.0 r old same s) h.2.0)))
 gap_moves c at g m w r to old moves dues new s (inr h) = absurd (h.0 w to.is_to)
 
 -- ---- a HEARTBEAT
@@ -243,18 +258,23 @@ heartbeat_heard c at h m w r quiet is old moves dues new s k = record {
     place = ap (λ (p : Part). place_of (own_proxies p r) w) part
         ∙ (moved.seat.place ∙ ap (λ (n : ℕ). Some n)
         (sym (ap (λ (t : Tracked). t.place) known ∙ (answered_same k.answer (k.there.known.tracked w r)).0)));
+    begun = ap (λ (p : Part). how_of (own_proxies p r) w) part ∙ moved.seat.begun;
   };
   after = ap (λ (t : Tracked). standing t (own_reader new.part r).happened) known
       ∙ ap (λ (p : Part). standing (answered k.answer (k.there.known.tracked w r)) (own_reader p r).happened) part;
 }
   where
-    same : k.heard ≡ old
-    same = not_asserting h.liveliness_flag quiet old w r h.count k.hearing k.heard k.asserts
+    heard : k.heard ≡ old
+    heard = not_asserting h.liveliness_flag quiet old w r h.count k.hearing k.heard k.asserts
+
+    same : k.started ≡ old
+    same =
+        (subst (λ (a : Attachment). Starts a k.heard w r h.first_sn k.starting k.started) s.begun k.starts).1 ∙ heard
 
     moved : MovesBy m w r (with_heartbeat h.first_sn h.count) old k.there
     moved =
         goes_by m w r (with_heartbeat h.first_sn h.count) old k.going k.there s
-        (subst (λ (x : State). Goes x w r (with_heartbeat h.first_sn h.count (old.known.tracked w r)) k.going k.there)
+        (subst (λ (x : State). Goes x w r (with_heartbeat h.first_sn h.count (x.known.tracked w r)) k.going k.there)
         same k.goes)
 
     part : new.part ≡ k.there.part
@@ -277,7 +297,9 @@ heartbeat_moves c at h m w r quiet to old moves dues new s later (inl k) =
     ≡ false = subst (λ (x : Endpoint). is_later (old.known.tracked x r).count h.count
     ≡ false) same n.0 in absurd cc)
     (subst (λ (b : Bool). TakesOrNot c.own at old k.0 r k.1.entity (heard_as b h) moves dues new)
-    (reliable_too c at h.reader_id h.writer_id w k.0 (reader_at c.peer r) to k.1) k.2)
+    (reliable_too c at h.reader_id h.writer_id w k.0 (reader_at c.peer r) to k.1)
+    (subst (λ (a : Attachment). MeetsHeartbeat a (is_reliable_reader k.1.to.end) c.own at old k.0 r k.1.entity h moves
+    dues new) (begun_at m w k.0 r old same s) k.2))
   where
     same : k.0 ≡ w
     same = one_writer c.config at.source_guid_prefix h.writer_id k.0 w c.checked k.1.from to.is_to.from

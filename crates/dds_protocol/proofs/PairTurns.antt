@@ -1,5 +1,5 @@
 -- The readers of a peer take a submessage up in turn: what one of them does, the others leave as it is.
-use Rattle.std.proofs.Common.{◌≡◌, ◌⊎◌, ℕ, ℤ, zero, suc, ◌+◌, ◌<◌, ◌≤◌, Bool, true, false, List, [], Option, Some, None, Contains, length, refl, subst, ap, sym, ◌∙◌, inl, inr, ⊎_elim, arith}
+use Rattle.std.proofs.Common.{◌≡◌, ◌⊎◌, ℕ, ℤ, zero, suc, ◌+◌, ◌<◌, ◌≤◌, Bool, true, false, List, [], Option, Some, None, Contains, length, refl, subst, ap, sym, ◌∙◌, inl, inr, ⊎_elim, arith, max}
 use Rattle.std.proofs.lemmas.Bool.{cases_lt}
 use Rattle.std.proofs.lemmas.List.Elements.{Contains-append_cases, Contains-append_left, Contains-append_right}
 use Rattle.dds_base.specs.declared.config.Config.{Config}
@@ -24,19 +24,19 @@ use Rattle.rtps_wire.specs.Messages.{IsWritable, spelling_of}
 use Rattle.rtps_wire.specs.Sought.{HasSought}
 use Rattle.dds_machine.specs.declared.endpoint.Endpoint.{Endpoint}
 use Rattle.dds_machine.specs.declared.reply.Move.{Move}
-use Rattle.dds_machine.specs.Part.{WriterProxy, own_proxies, own_reader, with_heard}
+use Rattle.dds_machine.specs.Part.{Attachment, Begun, WriterProxy, own_proxies, own_reader, with_begun, with_heard}
 use Rattle.dds_protocol.specs.Claims.{Receiver, IsReader, IsToReader}
 use Rattle.dds_protocol.specs.DueMessages.{Due, acknack_message, acknacks_due}
-use Rattle.dds_protocol.specs.Protocol.{State, InTurn, GoesBy, heard_as, Asserting, TakesHeartbeat, TakesOrNot, Idles, ReaderTakes, with_tracked}
+use Rattle.dds_protocol.specs.Protocol.{HearsAlone, Starts, StartsAt, State, stands_to, InTurn, GoesBy, heard_as, Asserting, TakesHeartbeat, Idles, ReaderTakes, with_tracked}
 use Rattle.dds_protocol.specs.Backed.{reader_at}
 use Rattle.dds_protocol.specs.Fresh.{HasAckNack}
 use Rattle.dds_protocol.proofs.Composed.{is_alone}
 use Rattle.dds_protocol.proofs.CountsWritten.{one_ask, one_sought}
 use Rattle.dds_protocol.proofs.DuesAcknacks.{ask_body, answer_names}
-use Rattle.dds_protocol.proofs.Framing.{Frames, frames_at, frames_known, has_handle, number_or_not}
+use Rattle.dds_protocol.proofs.Framing.{Frames, frames_at, frames_known, has_handle, has_reader, number_or_not, tracked_elsewhere}
 use Rattle.dds_protocol.proofs.Learning.{way_learns}
 use Rattle.dds_protocol.proofs.Ruled.{way_frames}
-use Rattle.dds_protocol.proofs.Ways.{change_went, gap_went}
+use Rattle.dds_protocol.proofs.Ways.{change_went, gap_went, met_change, met_gap, met_heartbeat, started}
 use Rattle.dds_protocol.proofs.RuledTurns.{SameAt, same_on, same_by}
 use Rattle.dds_machine.proofs.Tables.{length-with_numbered}
 use Rattle.dds_protocol.proofs.Turns.{in_turn}
@@ -118,37 +118,87 @@ asserting_leaves true old w r count moves new h =
     })
 asserting_leaves false old w r count moves new h = subst (λ (s : State). Leaves old r s) (sym h.1) (leaves_same old r)
 
+starts_leaves : (old : State) (w : Endpoint) (r number : ℕ) (moves : List Move) (new : State)
+    → StartsAt old w r number moves new → Leaves old r new
+starts_leaves old w r number moves new h =
+    let to : ℕ = max h.place number in
+    let t : Tracked = record (old.known.tracked w r) { place = to } in
+    leaves_by old new w r
+    (subst (λ (s : State). Frames old w r s) (sym h.after)
+    (frames_at old w r (λ (p : WriterProxy). record p { place = to; how = Begun }) (λ p. refl)
+    (own_reader old.part r).happened (with_tracked old.known w r t) (has_reader old.part r h.place w h.at)
+    (λ v k apart. tracked_elsewhere old.known w r t v k apart)))
+    (record {
+      writers = ap (λ (s : State). s.part.rtps.writers) h.after;
+      answered = λ v x. ap (λ (s : State). s.known.answered v x) h.after;
+      rows = ap (λ (s : State). length s.part.rtps.readers) h.after
+          ∙ length-with_numbered old.part.rtps.readers r (with_begun (own_proxies old.part r) w to);
+      readers = ap (λ (s : State). length s.part.dds.readers) h.after ∙ length-with_numbered old.part.dds.readers r _;
+    })
+
+starting_leaves : (how : Attachment) (old : State) (w : Endpoint) (r number : ℕ) (moves : List Move) (new : State)
+    → Starts how old w r number moves new → Leaves old r new
+starting_leaves how old w r number moves new h =
+    ⊎_elim (λ s. starts_leaves old w r number moves new s)
+    (λ n. subst (λ (s : State). Leaves old r s) (sym n.1) (leaves_same old r))
+    (started how old w r number moves new h)
+
+-- what is known of one writer at one reader was changed alone
+known_leaves : (old : State) (w : Endpoint) (r : ℕ) (t : Tracked)
+    → Leaves old r (record old { known = with_tracked old.known w r t })
+known_leaves old w r t =
+    leaves_by old (record old { known = with_tracked old.known w r t }) w r (frames_known old w r t)
+    (record { writers = refl; answered = λ v x. refl; rows = refl; readers = refl })
+
+alone_leaves : (old : State) (w : Endpoint) (r : ℕ) (h : HeartbeatBody) (moves : List Move) (new : State)
+    → HearsAlone old w r h moves new → Leaves old r new
+alone_leaves old w r h moves new k =
+    leaves_on old k.heard new r (asserting_leaves h.liveliness_flag old w r h.count moves k.heard k.asserts)
+    (subst (λ (s : State). Leaves k.heard r s) (sym k.after)
+    (known_leaves k.heard w r (record (k.heard.known.tracked w r) { count = Some h.count })))
+
 heartbeat_leaves : (own : GuidPrefix) (at : Receiver) (old : State) (w : Endpoint) (r : ℕ) (entity : EntityId)
     (h : HeartbeatBody) (moves : List Move) (dues : List Due) (new : State)
     → TakesHeartbeat own at old w r entity h moves dues new → Leaves old r new
 heartbeat_leaves own at old w r entity h moves dues new k =
     leaves_on old k.there new r
     (leaves_on old k.heard k.there r (asserting_leaves h.liveliness_flag old w r h.count k.hearing k.heard k.asserts)
-    (way_leaves k.heard w r k.going k.there k.goes))
+    (leaves_on k.heard k.started k.there r
+    (starting_leaves (stands_to old w r) k.heard w r h.first_sn k.starting k.started k.starts)
+    (way_leaves k.started w r k.going k.there k.goes)))
     (subst (λ (s : State). Leaves k.there r s) (sym k.after)
-    (leaves_by k.there
-    (record k.there { known = with_tracked k.there.known w r (answered k.answer (k.there.known.tracked w r)) }) w r
-    (frames_known k.there w r (answered k.answer (k.there.known.tracked w r)))
-    (record { writers = refl; answered = λ v x. refl; rows = refl; readers = refl })))
+    (known_leaves k.there w r (answered k.answer (k.there.known.tracked w r))))
 
 -- what a reader does leaves all else at the peer
 pub reader_leaves : (c : Host) (at : Receiver) (s : Submessage) (k : ℕ) (old : State) (moves : List Move)
     (dues : List Due) (new : State)
     → ReaderTakes c.config c.own c.peer at s k old moves dues new → Leaves old k new
 reader_leaves c at (Data d) k old moves dues new (inl h) =
-    way_leaves old h.0 k moves new
+    ⊎_elim
+    (λ takes. way_leaves old h.0 k moves new
     (change_went (is_reliable_reader h.1.to.end) old h.0 k d.writer_sn (change_in d.content at.timestamp) moves new
-    h.2.0)
+    takes))
+    (λ o. ⊎_elim
+    (λ b. leaves_on old b.started new k (starts_leaves old h.0 k d.writer_sn b.starting b.started b.starts)
+    (way_leaves b.started h.0 k b.going new b.takes.1))
+    (λ n. subst (λ (s : State). Leaves old k s) (sym n.1) (leaves_same old k)) o)
+    (met_change (stands_to old h.0 k) (is_reliable_reader h.1.to.end) old h.0 k d.writer_sn
+    (change_in d.content at.timestamp) moves new h.2.0)
 reader_leaves c at (Data d) k old moves dues new (inr h) = leaves_idle old k moves dues new h.1
 reader_leaves c at (Gap g) k old moves dues new (inl h) =
-    ⊎_elim (λ t. way_leaves old h.0 k moves new t.1)
+    ⊎_elim
+    (λ takes. ⊎_elim (λ t. way_leaves old h.0 k moves new t.1)
     (λ n. subst (λ (s : State). Leaves old k s) (sym n.1) (leaves_same old k))
-    (gap_went (is_reliable_reader h.1.to.end) old h.0 k g moves new h.2.0)
+    (gap_went (is_reliable_reader h.1.to.end) old h.0 k g moves new takes))
+    (λ n. subst (λ (s : State). Leaves old k s) (sym n.1) (leaves_same old k))
+    (met_gap (stands_to old h.0 k) (is_reliable_reader h.1.to.end) old h.0 k g moves new h.2.0)
 reader_leaves c at (Gap g) k old moves dues new (inr h) = leaves_idle old k moves dues new h.1
 reader_leaves c at (Heartbeat b) k old moves dues new (inl h) =
     ⊎_elim
     (λ t. heartbeat_leaves c.own at old h.0 k h.1.entity (heard_as (is_reliable_reader h.1.to.end) b) moves dues new t)
-    (λ n. leaves_idle old k moves dues new n.1) h.2
+    (λ o. ⊎_elim (λ x. alone_leaves old h.0 k b moves new x.0) (λ n. leaves_idle old k moves dues new n) o)
+    (met_heartbeat (stands_to old h.0 k) (is_reliable_reader h.1.to.end) c.own at old h.0 k h.1.entity b moves dues new
+    h.2)
 reader_leaves c at (Heartbeat b) k old moves dues new (inr h) = leaves_idle old k moves dues new h.1
 reader_leaves c at (AckNack a) k old moves dues new h = leaves_idle old k moves dues new h
 reader_leaves c at Pad k old moves dues new h = leaves_idle old k moves dues new h
@@ -197,9 +247,14 @@ pub reader_asks : (c : Host) (at : Receiver) (s : Submessage) (k : ℕ) (old : S
     → ReaderTakes c.config c.own c.peer at s k old moves dues new → (due : Due) → Contains dues due → Asks c k due
 reader_asks c at (Data d) k old moves dues new h = none_asks c k dues (⊎_elim (λ t. t.2.1) (λ n. n.1.1) h)
 reader_asks c at (Gap g) k old moves dues new h = none_asks c k dues (⊎_elim (λ t. t.2.1) (λ n. n.1.1) h)
-reader_asks c at (Heartbeat b) k old moves dues new (inl h) = by (is_reliable_reader h.1.to.end) h.2
+reader_asks c at (Heartbeat b) k old moves dues new (inl h) =
+    by (is_reliable_reader h.1.to.end)
+    (met_heartbeat (stands_to old h.0 k) (is_reliable_reader h.1.to.end) c.own at old h.0 k h.1.entity b moves dues new
+    h.2)
   where
-    by : (reliable : Bool) → TakesOrNot c.own at old h.0 k h.1.entity (heard_as reliable b) moves dues new
+    by : (reliable : Bool)
+        → TakesHeartbeat c.own at old h.0 k h.1.entity (heard_as reliable b) moves dues new
+        ⊎ (HearsAlone old h.0 k b moves new × (dues ≡ [])) ⊎ Idles old moves dues new
         → (due : Due) → Contains dues due → Asks c k due
     by true (inl t) due among =
         due_asks c at b.reader_id b.writer_id h.0 k h.1 t.answer due
@@ -207,7 +262,8 @@ reader_asks c at (Heartbeat b) k old moves dues new (inl h) = by (is_reliable_re
     by false (inl t) due among =
         due_asks c at b.reader_id b.writer_id h.0 k h.1 t.answer due
         (subst (λ (ds : List Due). Contains ds due) t.dues_are among)
-    by reliable (inr n) due among = none_asks c k dues n.1.1 due among
+    by reliable (inr (inl x)) due among = none_asks c k dues x.1 due among
+    by reliable (inr (inr n)) due among = none_asks c k dues n.1 due among
 reader_asks c at (Heartbeat b) k old moves dues new (inr h) = none_asks c k dues h.1.1
 reader_asks c at (AckNack a) k old moves dues new h = none_asks c k dues h.1
 reader_asks c at Pad k old moves dues new h = none_asks c k dues h.1

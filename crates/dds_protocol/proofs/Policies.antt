@@ -26,7 +26,7 @@ use Rattle.dds_protocol.proofs.CallChanges.{CallChange, unchanged, reads, takes,
 abbrev pub IsReliableAt : Part → ℕ → Type 0
 IsReliableAt part r = is_reliable (own_reader part r).qos.reliability ≡ true
 
-at_reader-qos : (old : Part) (k : ℕ) (rows : List WriterProxy) (happened : List Happening) (r : ℕ)
+pub at_reader-qos : (old : Part) (k : ℕ) (rows : List WriterProxy) (happened : List Happening) (r : ℕ)
     → (own_reader (at_reader old k rows happened) r).qos ≡ (own_reader old r).qos
 at_reader-qos old k rows happened r =
     let reader : Reader = record (own_reader old k) { happened = happened } in

@@ -88,10 +88,10 @@ backed_on config peer packets deliveries v k old new f b h = record {
 -- ---- the place goes on
 
 -- what the reader may rest on, the packets claim
-pub says_as_much : (config : Config) (before : List Delivery) (packet : List ℕ) (peer index : ℕ) (w : Endpoint) (r : ℕ)
-    (t : Tracked) → IsClaimed config peer (packet ∷ packets_of before) w r t
-    → SayAsMuch (known t) (as_to (claimed config before packet peer index) w r) t.place
-says_as_much config before packet peer index w r t k =
+pub says_as_much : (config : Config) (before : List Delivery) (packet : List ℕ) (rows : List (List WriterProxy))
+    (peer index : ℕ) (w : Endpoint) (r : ℕ) (t : Tracked) → IsClaimed config peer (packet ∷ packets_of before) w r t
+    → SayAsMuch (known t) (as_to (claimed config before packet rows peer index) w r) t.place
+says_as_much config before packet rows peer index w r t k =
     record { is_change = λ n c low h. k.change n c low h; may_pass = λ n low h. k.pass n low h }
 
 -- the moves that a way makes are legal, where its changes and runs may rest on these grounds
@@ -144,15 +144,15 @@ way_moves g old w r moves new h way = by (nat_lt h.place h.to) refl
         subst (λ (ms : List Move). AreMoves g old.part ms new.part) (sym made) (stays (grind (arith, nat_tests)))
 
 -- so are those of a place that goes as far as it can
-pub goes_moves : (config : Config) (before : List Delivery) (packet : List ℕ) (peer index : ℕ) (old : State)
-    (w : Endpoint) (r : ℕ) (t : Tracked) (moves : List Move) (new : State)
+pub goes_moves : (config : Config) (before : List Delivery) (packet : List ℕ) (rows : List (List WriterProxy))
+    (peer index : ℕ) (old : State) (w : Endpoint) (r : ℕ) (t : Tracked) (moves : List Move) (new : State)
     → IsClaimed config peer (packet ∷ packets_of before) w r t → (h : Goes old w r t moves new) → t.place ≡ h.place
-    → AreMoves (claimed config before packet peer index) old.part moves new.part
-goes_moves config before packet peer index old w r t moves new k h at =
-    way_moves (claimed config before packet peer index) old w r moves new h
-    (goes_on (known t) (as_to (claimed config before packet peer index) w r) h.place
-    (subst (λ (n : ℕ). SayAsMuch (known t) (as_to (claimed config before packet peer index) w r) n) at
-    (says_as_much config before packet peer index w r t k))
+    → AreMoves (claimed config before packet rows peer index) old.part moves new.part
+goes_moves config before packet rows peer index old w r t moves new k h at =
+    way_moves (claimed config before packet rows peer index) old w r moves new h
+    (goes_on (known t) (as_to (claimed config before packet rows peer index) w r) h.place
+    (subst (λ (n : ℕ). SayAsMuch (known t) (as_to (claimed config before packet rows peer index) w r) n) at
+    (says_as_much config before packet rows peer index w r t k))
     (match_of old.part r h.publication) (position_at old.part r h.place) h.passed h.to
     (record { place = h.to; happened = h.happened }) (omega arith)
     (subst (λ (n : ℕ). GoesTo (known t) (match_of old.part r h.publication)

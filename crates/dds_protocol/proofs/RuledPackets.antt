@@ -1,5 +1,5 @@
 -- A packet that a peer takes up by the rules of the protocol makes moves that rest on what packets claim.
-use Rattle.std.proofs.Common.{◌≡◌, ◌⊎◌, ℕ, ℤ, zero, suc, ◌+◌, ◌-◌, ◌<◌, ◌≤◌, false, List, [], ◌∷◌, ◌++◌, Option, Some, None, Contains, refl, subst, ap, sym, ◌∙◌, inl, inr, ⊎_elim, arith, length, slice_get, get_or}
+use Rattle.std.proofs.Common.{◌≡◌, ◌⊎◌, ℕ, ℤ, zero, suc, ◌+◌, ◌-◌, ◌<◌, ◌≤◌, true, false, List, [], ◌∷◌, ◌++◌, Option, Some, None, Contains, refl, subst, ap, sym, ◌∙◌, inl, inr, ⊎_elim, arith, length, slice_get, get_or}
 use Rattle.std.proofs.lemmas.Option.{same_Some}
 use Rattle.dds_base.specs.declared.change.Change.{Change}
 use Rattle.dds_base.specs.declared.config.Config.{Config}
@@ -19,7 +19,7 @@ use Rattle.dds_machine.specs.declared.endpoint.Endpoint.{Endpoint}
 use Rattle.dds_machine.specs.declared.reply.Move.{Move}
 use Rattle.dds_machine.specs.declared.reply.Report.{Report}
 use Rattle.dds_machine.specs.Numbered.{numbered, HasNumber}
-use Rattle.dds_machine.specs.Part.{Part, own_proxies, place_of, heard_of}
+use Rattle.dds_machine.specs.Part.{WriterProxy, Part, own_proxies, place_of, heard_of}
 use Rattle.dds_machine.specs.Moves.{IsMatchedAt, AreMoves}
 use Rattle.dds_protocol.specs.Claims.{Receiver, receiver_of, after_submessage, StandsAt, StandsIn, IsReader, IsToReader, ChangeIs, Concerns, Says}
 use Rattle.dds_protocol.specs.Receipt.{prefix_of, MovesOver, TakesUp, IsNotTaken, Receives}
@@ -27,11 +27,12 @@ use Rattle.dds_protocol.specs.Peer.{Delivery, IsApplied, IsBefore, claimed, pack
 use Rattle.dds_protocol.specs.DueMessages.{Due}
 use Rattle.dds_protocol.specs.Protocol.{Known, State, InTurn, ReaderTakes, Takes, MayNeedMemory, FollowsMessage, TakesPacket}
 use Rattle.dds_protocol.specs.Backed.{reader_at, IsClaimed, IsBacked}
+use Rattle.dds_protocol.proofs.Attached.{SameMet, is_met}
 use Rattle.dds_protocol.proofs.Knowing.{claimed_on}
 use Rattle.dds_protocol.proofs.Composed.{front_or_rest, later_in}
 use Rattle.dds_protocol.proofs.Framing.{has_reader}
-use Rattle.dds_protocol.proofs.RuledReaders.{Coming, grounds, Backs, IsPast}
-use Rattle.dds_protocol.proofs.RuledTurns.{IsTelling, Turn, readers_taken}
+use Rattle.dds_protocol.proofs.RuledReaders.{Coming, grounds, Backs, Met, IsPast}
+use Rattle.dds_protocol.proofs.RuledTurns.{IsTelling, Turn, met_on, readers_taken}
 use Rattle.dds_protocol.proofs.RuledWriters.{IsTaken, writers_taken}
 use Rattle.rtps_wire.proofs.MessageLaws.{message_one}
 
@@ -86,24 +87,25 @@ by_writers c s is past says old made new t = record {
 }
 
 pub taken : (c : Coming) (s : Submessage) → c.submessage ≡ s
-    → (old : State) (made : List Move) (dues : List Due) (new : State) → Backs c old
+    → (old : State) (made : List Move) (dues : List Due) (new : State) → Backs c old → Met c old
     → Takes c.config c.own c.peer c.at s old made dues new → Taken c old made new
-taken c (AckNack a) is old made dues new b h =
+taken c (AckNack a) is old made dues new b met h =
     by_writers c (AckNack a) is (λ r x. tt) (λ w r n change told. told) old made new
     (writers_taken c a is old (numbers_from 1 (length old.part.rtps.writers)) old made dues new b h)
-taken c s is old made dues new b h =
+taken c s is old made dues new b met h =
     by_readers c s is tt old made dues new (λ w r p n m. has_reader old.part r n w m.at) b
-    (readers_taken c s is tt 1 (length old.part.rtps.readers) old made dues new b h)
+    (readers_taken c s is tt 1 (length old.part.rtps.readers) old made dues new b met h)
 
 -- ---- the submessages of a packet
 
--- a packet that is a message, and comes to a peer after these deliveries
+-- a packet that is a message, comes to a peer after these deliveries, and found these rows
 pub record Packet : Type 0 where
   pub config : Config
   pub checked : check_refusal config.peers ≡ None
   pub peer : ℕ
   pub before : List Delivery
   pub bytes : List ℕ
+  pub rows : List (List WriterProxy)
   pub message : Message
   pub offset : ℕ
   pub is_read : ReadsMessage bytes message offset
@@ -137,7 +139,7 @@ rest_next p index at s ss h = record {
 abbrev pub Backed : Packet → Option ℕ → State → Type 0
 Backed p refused s =
     IsBacked p.config p.peer (p.bytes ∷ packets_of p.before)
-    (record { packet = p.bytes; report = record { moves = []; refused = refused } } ∷ p.before) s
+    (record { packet = p.bytes; rows = p.rows; report = record { moves = []; refused = refused } } ∷ p.before) s
 
 -- the prefix of the reader's peer is the one by which the message is received
 pub numbered_is : {X : Type 0} (xs : List X) (n : ℕ) (x d : X) → 1 ≤ n → slice_get xs (n - 1) ≡ Some x
@@ -165,9 +167,10 @@ pub record IsAppliedAt (p : Packet) (refused : Option ℕ) (w : Endpoint) (r : �
   pub stands : Stands p index at (Heartbeat heartbeat)
   pub is_to : IsToReader p.config (own p) at heartbeat.reader_id heartbeat.writer_id w (reader_at p.peer r)
   pub same_count : heartbeat.count ≡ count
+  pub met : is_met p.rows r w ≡ true
 
 applied_at : (p : Packet) (report : Report) (w : Endpoint) (r : ℕ) (count : ℤ)
-    → IsApplied p.config (record { packet = p.bytes; report = report }) w (reader_at p.peer r) count
+    → IsApplied p.config (record { packet = p.bytes; rows = p.rows; report = report }) w (reader_at p.peer r) count
     → IsAppliedAt p report.refused w r count
 applied_at p report w r count h =
     let prefix : h.own ≡ own p = own_is p h.own h.is_to.entity r h.is_to.to in
@@ -187,10 +190,11 @@ applied_at p report w r count h =
           subst (λ (x : GuidPrefix). IsToReader p.config x h.at h.heartbeat.reader_id h.heartbeat.writer_id w
           (reader_at p.peer r)) prefix h.is_to;
       same_count = h.same_count;
+      met = h.met;
     }
 
 applied_as : (p : Packet) (report : Report) (w : Endpoint) (r : ℕ) (count : ℤ) → IsAppliedAt p report.refused w r count
-    → IsApplied p.config (record { packet = p.bytes; report = report }) w (reader_at p.peer r) count
+    → IsApplied p.config (record { packet = p.bytes; rows = p.rows; report = report }) w (reader_at p.peer r) count
 applied_as p report w r count h = record {
   own = own p;
   at = h.at;
@@ -199,6 +203,7 @@ applied_as p report w r count h = record {
   before = h.before;
   is_to = h.is_to;
   same_count = h.same_count;
+  met = h.met;
 }
 
 -- it is the packet's delivery, or an earlier one
@@ -210,14 +215,14 @@ newest_by : (p : Packet) (report : Report) (w : Endpoint) (r : ℕ) (o : Option 
     → ((count : ℤ) → IsAppliedAt p report.refused w r count → is_later o count ≡ false)
     → ((d : Delivery) (count : ℤ) → Contains p.before d → IsApplied p.config d w (reader_at p.peer r) count
     → is_later o count ≡ false)
-    → (d : Delivery) (count : ℤ) → Contains (record { packet = p.bytes; report = report } ∷ p.before) d
+    → (d : Delivery) (count : ℤ) → Contains (record { packet = p.bytes; rows = p.rows; report = report } ∷ p.before) d
     → IsApplied p.config d w (reader_at p.peer r) count → is_later o count ≡ false
 newest_by p report w r o here earlier d count among h =
     ⊎_elim (λ e. here count
     (applied_at p report w r count
     (subst (λ (x : Delivery). IsApplied p.config x w (reader_at p.peer r) count) (sym e) h)))
     (λ a. earlier d count a h)
-    (newer (record { packet = p.bytes; report = report }) p.before d among)
+    (newer (record { packet = p.bytes; rows = p.rows; report = report }) p.before d among)
 
 abbrev refused_at : Option ℕ → Report
 refused_at refused = record { moves = []; refused = refused }
@@ -232,10 +237,10 @@ rebacked p old new s f b = record {
   claimed = b.claimed;
   newest = λ w r has d count among h.
       newest_by p (refused_at new) w r (s.known.tracked w r).count
-      (λ n a. ⊎_elim (λ o. b.newest w r has (record { packet = p.bytes; report = refused_at old }) n
-      (first_in (record { packet = p.bytes; report = refused_at old }) p.before)
+      (λ n a. ⊎_elim (λ o. b.newest w r has (record { packet = p.bytes; rows = p.rows; report = refused_at old }) n
+      (first_in (record { packet = p.bytes; rows = p.rows; report = refused_at old }) p.before)
       (applied_as p (refused_at old) w r n (bounded w r n a o))) (λ e. e) (f w r n has a))
-      (λ e n a k. b.newest w r has e n (later_in (record { packet = p.bytes; report = refused_at old }) p.before e a) k)
+      (λ e n a k. b.newest w r has e n (later_in (record { packet = p.bytes; rows = p.rows; report = refused_at old }) p.before e a) k)
       d count among h;
   heard = b.heard;
 }
@@ -250,6 +255,7 @@ rebacked p old new s f b = record {
       stands = a.stands;
       is_to = a.is_to;
       same_count = a.same_count;
+      met = a.met;
     }
 
     first_in : (x : Delivery) (xs : List Delivery) → Contains (x ∷ xs) x
@@ -264,9 +270,9 @@ to_next (suc k) (suc i) h = ⊎_elim (λ l. inl (omega (arith, l))) (λ e. inr (
 
 -- the submessage that a HEARTBEAT is
 past_it : (c : Coming) (h : HeartbeatBody) (w : Endpoint) (r : ℕ) (s : State) → Heartbeat h ≡ c.submessage
-    → IsToReader c.config c.own c.at h.reader_id h.writer_id w (reader_at c.peer r) → IsPast c c.submessage r s
-    → is_later (s.known.tracked w r).count h.count ≡ false
-past_it c h w r s is to past = (subst (λ (x : Submessage). IsPast c x r s) (sym is) past) w to
+    → IsToReader c.config c.own c.at h.reader_id h.writer_id w (reader_at c.peer r) → is_met c.rows r w ≡ true
+    → IsPast c c.submessage r s → is_later (s.known.tracked w r).count h.count ≡ false
+past_it c h w r s is to met past = (subst (λ (x : Submessage). IsPast c x r s) (sym is) past) w to met
 
 abbrev pub coming_at : (p : Packet) (index : ℕ) (at : Receiver) (s : Submessage) → Stands p index at s → Coming
 coming_at p index at s stands = record {
@@ -275,6 +281,7 @@ coming_at p index at s stands = record {
   peer = p.peer;
   before = p.before;
   packet = p.bytes;
+  rows = p.rows;
   index = index;
   own = own p;
   at = at;
@@ -304,7 +311,7 @@ next_backed p index at s ss rest stands new b past =
     subst (λ (x : Receiver). IsToReader p.config (own p) x a.heartbeat.reader_id a.heartbeat.writer_id w
     (reader_at p.peer r)) here.0 a.is_to in
     inr (subst (λ (n : ℤ). is_later (new.known.tracked w r).count n ≡ false) a.same_count
-    (past_it (coming_at p index at s stands) a.heartbeat w r new here.1 to (past r has))))
+    (past_it (coming_at p index at s stands) a.heartbeat w r new here.1 to a.met (past r has))))
     (to_next a.index index a.before)) b
   where
     zero_on : (n : ℕ) → n ≡ n + 0
@@ -313,7 +320,7 @@ next_backed p index at s ss rest stands new b past =
 -- the submessages from this index on were taken up
 pub record Up (p : Packet) (index : ℕ) (at : Receiver) (ss : List Submessage) (old : State) (moves : List Move)
     (refused : Option ℕ) (new : State) : Type 0 where
-  pub takes : TakesUp p.config (claimed p.config p.before p.bytes p.peer) p.peer
+  pub takes : TakesUp p.config (claimed p.config p.before p.bytes p.rows p.peer) p.peer
       (own p) index at ss old.part moves refused new.part
   pub backed : Backed p refused new
 
@@ -344,28 +351,30 @@ concerned p own at s old h = absurd h
 
 follows_up : (p : Packet) (index : ℕ) (at : Receiver) (ss : List Submessage) → IsRest p index at ss
     → (old : State) (moves : List Move) (refused : Option ℕ) (dues : List Due) (new : State) → Backed p (Some index) old
+    → SameMet p.rows old.part.rtps.readers
     → FollowsMessage p.config (own p) p.peer index at ss old moves refused dues new
     → Up p index at ss old moves refused new
-follows_up p index at [] rest old moves refused dues new b h = record {
+follows_up p index at [] rest old moves refused dues new b met h = record {
   takes = (h.1.0, h.0, ap (λ (s : State). s.part) h.1.2);
   backed =
       subst (λ (o : Option ℕ). Backed p o new) (sym h.0)
       (subst (λ (s : State). Backed p None s) (sym h.1.2) (all_of p index at rest old b));
 }
-follows_up p index at (s ∷ ss) rest old moves refused dues new b (inl h) = record {
+follows_up p index at (s ∷ ss) rest old moves refused dues new b met (inl h) = record {
   takes = inl (h.1.0, h.0, ap (λ (s : State). s.part) h.1.2, concerned p (own p) at s old h.2);
   backed =
       subst (λ (o : Option ℕ). Backed p o new) (sym h.0) (subst (λ (s : State). Backed p (Some index) s) (sym h.1.2) b);
 }
-follows_up p index at (s ∷ ss) rest old moves refused dues new b (inr h) =
+follows_up p index at (s ∷ ss) rest old moves refused dues new b met (inr h) =
     let stands : Stands p index at s =
     subst (λ (n : ℕ). Stands p n at s) (omega arith) (rest.stand 0 at s (refl, refl)) in
     let one : Taken (coming_at p index at s stands) old h.0 h.4 =
-    taken (coming_at p index at s stands) s refl old h.0 h.2 h.4 b h.7 in
+    taken (coming_at p index at s stands) s refl old h.0 h.2 h.4 b met h.7 in
     let next : Backed p (Some (index + 1)) h.4 = next_backed p index at s ss rest stands h.4 one.backed one.past in
     let later : Up p (index + 1) (after_submessage (own p) at s) ss h.4 h.1 refused new =
     follows_up p (index + 1) (after_submessage (own p) at s) ss
-    (rest_next p index at s ss rest) h.4 h.1 refused h.3 new next h.8 in
+    (rest_next p index at s ss rest) h.4 h.1 refused h.3 new next
+    (met_on (coming_at p index at s stands) old h.0 h.4 met one.moves) h.8 in
     record { takes = inr (h.0, h.1, h.4.part, h.5, one.moves, one.over, later.takes); backed = later.backed }
 
 -- ---- the packet
@@ -399,23 +408,24 @@ begun p s b = record {
 -- the delivery is so reported
 pub reported : (p : Packet) (report : Report) (s : State) → Backed p report.refused s
     → IsBacked p.config p.peer (p.bytes ∷ packets_of p.before)
-    (record { packet = p.bytes; report = report } ∷ p.before) s
+    (record { packet = p.bytes; rows = p.rows; report = report } ∷ p.before) s
 reported p report s b = record {
   place = b.place;
   claimed = b.claimed;
   newest = λ w r has d count among h.
       newest_by p report w r (s.known.tracked w r).count
-      (λ n a. b.newest w r has (record { packet = p.bytes; report = refused_at report.refused }) n
+      (λ n a. b.newest w r has (record { packet = p.bytes; rows = p.rows; report = refused_at report.refused }) n
       (0, omega arith, refl) (applied_as p (refused_at report.refused) w r n a))
       (λ e n a k. b.newest w r has e n
-      (later_in (record { packet = p.bytes; report = refused_at report.refused }) p.before e a) k) d count among h;
+      (later_in (record { packet = p.bytes; rows = p.rows; report = refused_at report.refused }) p.before e a) k) d count among h;
   heard = b.heard;
 }
 
 -- a packet that is no message tells nothing
 pub tells_nothing : (config : Config) (peer : ℕ) (before : List Delivery) (bytes : List ℕ) (old new : Part)
     (report : Report) → IsNotTaken bytes old report new → (w : Endpoint) (r : ℕ) (count : ℤ)
-    → IsApplied config (record { packet = bytes; report = report }) w (reader_at peer r) count → ⊥
+    → IsApplied config (record { packet = bytes; rows = old.rtps.readers; report = report }) w (reader_at peer r) count
+    → ⊥
 tells_nothing config peer before bytes old new report n w r count h =
     n.unread h.there.message h.there.offset h.there.is_read
 
@@ -423,7 +433,8 @@ tells_nothing config peer before bytes old new report n w r count h =
 pub unread_backed : (config : Config) (peer : ℕ) (before : List Delivery) (bytes : List ℕ) (old new : State)
     (report : Report) → IsNotTaken bytes old.part report new.part → new.known ≡ old.known
     → IsBacked config peer (packets_of before) before old
-    → IsBacked config peer (bytes ∷ packets_of before) (record { packet = bytes; report = report } ∷ before) new
+    → IsBacked config peer (bytes ∷ packets_of before)
+    (record { packet = bytes; rows = old.part.rtps.readers; report = report } ∷ before) new
 unread_backed config peer before bytes old new report taken same b = record {
   place =
       λ w r p e. ap (λ (k : Known). (k.tracked w r).place) same
@@ -449,7 +460,7 @@ unread_backed config peer before bytes old new report taken same b = record {
       ∙ ⊎_elim (λ e. absurd (tells_nothing config peer before bytes old.part new.part report taken w r count
       (subst (λ (x : Delivery). IsApplied config x w (reader_at peer r) count) (sym e) k)))
       (λ a. b.newest w r (subst (λ (q : Part). HasNumber q.rtps.readers r) taken.after has) d count a k)
-      (newer (record { packet = bytes; report = report }) before d among);
+      (newer (record { packet = bytes; rows = old.part.rtps.readers; report = report }) before d among);
   heard =
       λ w r count e. ap (λ (x : Known). is_later (x.tracked w r).count count) same
       ∙ b.heard w r count (ap (λ (q : Part). heard_of (own_proxies q r) w) (sym taken.after) ∙ e);
@@ -457,9 +468,9 @@ unread_backed config peer before bytes old new report taken same b = record {
 
 pub record IsTakenUp (config : Config) (peer : ℕ) (before : List Delivery) (bytes : List ℕ) (old : State)
     (report : Report) (new : State) : Type 0 where
-  pub receives : Receives config (claimed config before bytes peer) peer bytes old.part report new.part
+  pub receives : Receives config (claimed config before bytes old.part.rtps.readers peer) peer bytes old.part report new.part
   pub backed : IsBacked config peer (bytes ∷ packets_of before)
-      (record { packet = bytes; report = report } ∷ before) new
+      (record { packet = bytes; rows = old.part.rtps.readers; report = report } ∷ before) new
 
 -- What a peer does with a packet by the rules rests on what this packet and earlier ones claim, and what it knows then
 -- is what they claim.
@@ -475,6 +486,7 @@ takes_packet config peer before bytes old report dues new checked b (inl h) =
       peer = peer;
       before = before;
       bytes = bytes;
+      rows = old.part.rtps.readers;
       message = h.message;
       offset = h.offset;
       is_read = h.is_read;
@@ -485,7 +497,7 @@ takes_packet config peer before bytes old report dues new checked b (inl h) =
     } in
     let up : Up p 0 (receiver_of h.message.prefix) h.message.submessages old report.moves report.refused new =
     follows_up p 0 (receiver_of h.message.prefix) h.message.submessages all old report.moves report.refused dues new
-    (begun p old b) h.follows in
+    (begun p old b) (λ r w. refl) h.follows in
     record {
       receives = inl (record { message = h.message; offset = h.offset; is_read = h.is_read; taken = up.takes });
       backed = reported p report new up.backed;

@@ -1,6 +1,7 @@
 -- What one of the peer's readers does with a submessage rests on what packets claim.
-use Rattle.std.proofs.Common.{◌≡◌, ◌⊎◌, ℕ, ℤ, ◌-◌, ◌<◌, ◌≤◌, ◌&&◌, ◌||◌, Bool, true, false, nat_lt, nat_le, List, [], ◌∷◌, ◌++◌, Option, Some, None, refl, subst, ap, sym, ◌∙◌, inl, inr, ⊎_elim, arith, eq-eqb}
+use Rattle.std.proofs.Common.{◌≡◌, ◌⊎◌, ℕ, ℤ, ◌-◌, ◌<◌, ◌≤◌, ◌&&◌, ◌||◌, Bool, true, false, nat_lt, nat_le, List, [], ◌∷◌, Option, Some, None, refl, subst, ap, sym, ◌∙◌, inl, inr, ⊎_elim, arith, eq-eqb, max}
 use Rattle.std.specs.Prelude.{if◌then◌else◌}
+use Rattle.std.specs.Option.{option_map}
 use Rattle.std.proofs.lemmas.Bool.Decides.{nat_tests}
 use Rattle.std.proofs.lemmas.Option.{same_Some}
 use Rattle.dds_base.specs.declared.change.Change.{Change}
@@ -10,20 +11,19 @@ use Rattle.dds_base.specs.declared.guid.GuidPrefix.{GuidPrefix}
 use Rattle.dds_base.specs.declared.happening.Happening.{Happening}
 use Rattle.dds_base.specs.declared.happening.Happening.TheVariants.{Passed}
 use Rattle.dds_base.specs.Checked.{check_refusal}
-use Rattle.dds_base.specs.Matched.{is_reliable_reader}
-use Rattle.dds_base.specs.Places.{Match, PlaceWith, coming, GoesTo}
+use Rattle.dds_base.specs.Matched.{is_reliable, is_reliable_reader}
+use Rattle.dds_base.specs.declared.qos.ReaderQos.{ReaderQos}
+use Rattle.dds_base.specs.Places.{Match, MayPassOver, PlaceWith, coming, GoesTo}
 use Rattle.dds_base.specs.Presence.{has_room}
 use Rattle.dds_base.proofs.PlaceLaws.{goes_nowhere}
 use Rattle.dds_base.specs.Counts.{is_later}
 use Rattle.rtps_sets.specs.NumberSet.{NumberSet, has_number}
 use Rattle.rtps_sets.specs.Window.{is_in_window}
-use Rattle.rtps_reader.specs.Tracked.{Slot, Missing, Held, Irrelevant, Tracked, is_missing, is_passable, is_passable_slot, is_named, with_data, with_gap, with_heartbeat}
+use Rattle.rtps_reader.specs.Tracked.{Slot, Missing, Held, Irrelevant, Tracked, is_missing, is_passable, is_passable_slot, is_named, with_data, with_gap}
 use Rattle.rtps_reader.specs.Advance.{known}
 use Rattle.rtps_reader.specs.Jump.{jumped_to, comes, JumpsIf, Jumps}
-use Rattle.rtps_reader.specs.Answer.{answered}
 use Rattle.rtps_wire.specs.declared.data.Data.{Data as DataBody}
 use Rattle.rtps_wire.specs.declared.gap.Gap.{Gap as GapBody}
-use Rattle.rtps_wire.specs.declared.heartbeat.Heartbeat.{Heartbeat as HeartbeatBody}
 use Rattle.rtps_wire.specs.declared.submessage.Submessage.{Submessage}
 use Rattle.rtps_wire.specs.declared.submessage.Submessage.TheVariants.{Data, Heartbeat, Gap}
 use Rattle.rtps_wire.specs.Content.{change_in}
@@ -31,29 +31,32 @@ use Rattle.dds_machine.specs.declared.endpoint.Endpoint.{Endpoint}
 use Rattle.dds_machine.specs.declared.reply.Move.{Move}
 use Rattle.dds_machine.specs.declared.reply.Move.TheVariants.{Place}
 use Rattle.dds_machine.specs.Numbered.{HasNumber}
-use Rattle.dds_machine.specs.Part.{Part, own_proxies, own_reader, place_of, with_heard, heard_of, at_reader}
-use Rattle.dds_machine.specs.Moves.{Grounds, as_to, match_of, position_at, IsMatchedAt, AreMoves, IsLater}
-use Rattle.dds_protocol.specs.Claims.{Receiver, IsToReader, IsToReliable, Claim, ChangeIs, MayPass, Asserts, Says, Claimed}
+use Rattle.dds_machine.specs.Part.{Attachment, Away, Waiting, Begun, WriterProxy, Part, own_proxies, own_reader, place_of, row_of, with_begun, heard_of, at_reader}
+use Rattle.dds_machine.specs.Moves.{Grounds, as_to, match_of, position_at, IsMatchedAt, AreMoves}
+use Rattle.dds_protocol.specs.Claims.{Receiver, IsToReader, Claim, ChangeIs, MayPass, Says, Claimed}
 use Rattle.dds_protocol.specs.Receipt.{GoesOver, HasNoRoom}
 use Rattle.dds_protocol.specs.Peer.{Delivery, claimed, packets_of, delivered_to}
 use Rattle.dds_protocol.specs.DueMessages.{Due}
-use Rattle.dds_protocol.specs.Protocol.{State, GoesBy, Goes, TakesChange, TakesGap, heard_as, Asserting, TakesHeartbeat, Idles, ReaderTakes}
+use Rattle.dds_protocol.specs.Protocol.{BeginsIf, BeginsWith, MeetsChange, MeetsGap, StartsAt, State, GoesBy, Goes, TakesChange, TakesGap, Idles, ReaderTakes, stands_to, with_tracked}
 use Rattle.dds_protocol.specs.Backed.{reader_at, IsClaimed, TookNone, IsBacked}
+use Rattle.dds_protocol.proofs.Attached.{SameMet, is_met}
 use Rattle.dds_protocol.proofs.Composed.{moves_on}
 use Rattle.dds_protocol.proofs.OwnGuids.{one_writer}
-use Rattle.dds_protocol.proofs.Framing.{Frames, frames_at, frames_none, frames_on, has_reader, has_handle, frames_known, tracked_here, heard_here, heard_there}
-use Rattle.dds_protocol.proofs.Knowing.{data_claimed, gap_claimed, heartbeat_claimed, answered_claimed, answered_same}
+use Rattle.dds_protocol.proofs.Framing.{Frames, tracked_elsewhere, frames_at, frames_none, frames_on, has_reader, tracked_here}
+use Rattle.dds_protocol.proofs.Knowing.{data_claimed, gap_claimed}
 use Rattle.dds_protocol.proofs.Ways.{Went, goes_went, change_went, jumps_go}
-use Rattle.dds_protocol.proofs.Ruled.{BackedAt, backed_on, way_moves, goes_moves, way_frames, goes_backed, later_on, not_later_than_itself, earlier}
-use Rattle.dds_machine.proofs.Tables.{numbered-same, place-heard}
+use Rattle.dds_protocol.proofs.Ruled.{BackedAt, backed_on, way_moves, goes_moves, way_frames, goes_backed}
+use Rattle.dds_protocol.proofs.Policies.{at_reader-qos}
+use Rattle.dds_machine.proofs.Tables.{begun-hits, numbered-same, row-hits}
 
--- a submessage of a packet, which comes to a peer after these deliveries
+-- a submessage of a packet, which comes to a peer after these deliveries, and found these rows
 pub record Coming : Type 0 where
   pub config : Config
   pub checked : check_refusal config.peers ≡ None
   pub peer : ℕ
   pub before : List Delivery
   pub packet : List ℕ
+  pub rows : List (List WriterProxy)
   pub index : ℕ
   pub own : GuidPrefix
   pub at : Receiver
@@ -61,22 +64,26 @@ pub record Coming : Type 0 where
   pub says : (claim : Claim) → Says config own at submessage claim → Claimed config (packet ∷ packets_of before) claim
 
 abbrev pub grounds : Coming → Grounds
-grounds c = claimed c.config c.before c.packet c.peer c.index
+grounds c = claimed c.config c.before c.packet c.rows c.peer c.index
 
 abbrev pub packets : Coming → List (List ℕ)
 packets c = c.packet ∷ packets_of c.before
 
 abbrev pub deliveries : Coming → List Delivery
-deliveries c = delivered_to c.packet c.index ∷ c.before
+deliveries c = delivered_to c.packet c.rows c.index ∷ c.before
 
 abbrev pub Backs : Coming → State → Type 0
 Backs c s = IsBacked c.config c.peer (packets c) (deliveries c) s
 
--- the reader took no HEARTBEAT of the writer with a greater count than that of this one
+-- the same are matched as when the packet came
+abbrev pub Met : Coming → State → Type 0
+Met c s = SameMet c.rows s.part.rtps.readers
+
+-- the reader took no HEARTBEAT of the writer with a greater count than that of this one, if the two are matched
 abbrev pub IsPast : Coming → Submessage → ℕ → State → Type 0
 IsPast c (Heartbeat h) r s =
     (w : Endpoint) → IsToReader c.config c.own c.at h.reader_id h.writer_id w (reader_at c.peer r)
-    → is_later (s.known.tracked w r).count h.count ≡ false
+    → is_met c.rows r w ≡ true → is_later (s.known.tracked w r).count h.count ≡ false
 IsPast c other r s = Unit {0}
 
 -- the change at the reader's place moves it, if there is room
@@ -239,7 +246,7 @@ jumped_or_full c old w r number change made new h says at same =
         })
 
 -- the one writer of this name
-writer_is : (c : Coming) (reader_id writer_id : EntityId) (w v : Endpoint) (r : ℕ)
+pub writer_is : (c : Coming) (reader_id writer_id : EntityId) (w v : Endpoint) (r : ℕ)
     → IsToReader c.config c.own c.at reader_id writer_id w (reader_at c.peer r)
     → IsToReader c.config c.own c.at reader_id writer_id v (reader_at c.peer r) → w ≡ v
 writer_is c reader_id writer_id w v r a b =
@@ -274,7 +281,7 @@ goes_taken : (c : Coming) (s : Submessage) (r : ℕ) (old : State) (w : Endpoint
     → MovesIt c s r old made → IsTakenAt c s r old made new
 goes_taken c s r old w t made new b place count k h past over =
     went_taken c s r old w t made new b count k (goes_went old w r t made new h)
-    (goes_moves c.config c.before c.packet c.peer c.index old w r t made new k h
+    (goes_moves c.config c.before c.packet c.rows c.peer c.index old w r t made new k h
     (place ∙ b.place w r h.place h.matched.at)) past over
 
 -- where the place of the writer that a DATA is of moves, or has no room, so it is of each writer that it tells of
@@ -352,16 +359,186 @@ data_jumped c d is r old w made new b to takes =
     at : t.place ≡ jump.place
     at = b.place w r jump.place jump.matched.at
 
+-- ---- a place that begins
+
+heard_begun : (to : ℕ) (o : Option WriterProxy)
+    → option_map (λ (p : WriterProxy). p.heard)
+    (option_map (λ (p : WriterProxy). record p { place = to; how = Begun }) o)
+    ≡ option_map (λ (p : WriterProxy). p.heard) o
+heard_begun to None = refl
+heard_begun to (Some p) = refl
+
+-- the place of the reader is where it is to be, and all that is known of the writer stays backed
+pub record IsStarted (c : Coming) (w : Endpoint) (r : ℕ) (old : State) (made : List Move) (new : State) : Type 0 where
+  pub moves : AreMoves (grounds c) old.part made new.part
+  pub frames : Frames old w r new
+  pub claimed : IsClaimed c.config c.peer (packets c) w r (tracked_by new w r)
+  pub place : (p : ℕ) → place_of (own_proxies new.part r) w ≡ Some p → (tracked_by new w r).place ≡ p
+  pub count : (tracked_by new w r).count ≡ (tracked_by old w r).count
+  pub counts : (n : ℤ) → heard_of (own_proxies new.part r) w ≡ Some (Some n)
+      → heard_of (own_proxies old.part r) w ≡ Some (Some n)
+
+pub not_started : (c : Coming) (w : Endpoint) (r : ℕ) (old : State) (made : List Move) (new : State)
+    → IsClaimed c.config c.peer (packets c) w r (tracked_by old w r)
+    → ((p : ℕ) → place_of (own_proxies old.part r) w ≡ Some p → (tracked_by old w r).place ≡ p)
+    → (made ≡ []) × (new ≡ old) → IsStarted c w r old made new
+not_started c w r old made new k place h = record {
+  moves = subst (λ (ms : List Move). AreMoves (grounds c) old.part ms new.part) (sym h.0)
+      (ap (λ (s : State). s.part) h.1);
+  frames = subst (λ (s : State). Frames old w r s) (sym h.1) (frames_none old w r);
+  claimed = subst (λ (s : State). IsClaimed c.config c.peer (packets c) w r (tracked_by s w r)) (sym h.1) k;
+  place = λ p e.
+      ap (λ (s : State). (tracked_by s w r).place) h.1
+      ∙ place p (ap (λ (s : State). place_of (own_proxies s.part r) w) (sym h.1) ∙ e);
+  count = ap (λ (s : State). (tracked_by s w r).count) h.1;
+  counts = λ n e. ap (λ (s : State). heard_of (own_proxies s.part r) w) (sym h.1) ∙ e;
+}
+
+pub starts_at : (c : Coming) (w : Endpoint) (r number : ℕ) (old : State) (made : List Move) (new : State)
+    → IsClaimed c.config c.peer (packets c) w r (tracked_by old w r)
+    → ((p : ℕ) → place_of (own_proxies old.part r) w ≡ Some p → (tracked_by old w r).place ≡ p)
+    → ((n : ℕ) → 1 ≤ n → n < number → MayPassOver (as_to (grounds c) w r) (own_reader old.part r).qos n)
+    → StartsAt old w r number made new → IsStarted c w r old made new
+starts_at c w r number old made new k place may h =
+    let rows : List WriterProxy = own_proxies old.part r in
+    let to : ℕ = max h.place number in
+    let t : Tracked = record (tracked_by old w r) { place = to } in
+    let from = k.from in
+    let at : (tracked_by old w r).place ≡ h.place = place h.place h.at in
+    let there : HasNumber old.part.rtps.readers r = has_reader old.part r h.place w h.at in
+    let part : new.part ≡ at_reader old.part r (with_begun rows w to) (own_reader old.part r).happened =
+    ap (λ (s : State). s.part) h.after in
+    let proxies : own_proxies new.part r ≡ with_begun rows w to =
+    ap (λ (p : Part). own_proxies p r) part
+    ∙ numbered-same old.part.rtps.readers r (with_begun rows w to) [] there in
+    let known_is : tracked_by new w r ≡ t =
+    ap (λ (s : State). tracked_by s w r) h.after ∙ tracked_here old.known w r t in
+    let further : h.place ≤ to = omega arith in
+    record {
+      moves = subst (λ (ms : List Move). AreMoves (grounds c) old.part ms new.part) (sym h.moves_are) (
+        new.part,
+        record {
+          waits = h.waits;
+          at = h.at;
+          no_less = further;
+          may_pass = λ n above under. may n (omega (arith, from, at, above)) (omega (arith, above, under));
+          after = part;
+        },
+        refl,
+      );
+      frames =
+          subst (λ (s : State). Frames old w r s) (sym h.after)
+          (frames_at old w r (λ (p : WriterProxy). record p { place = to; how = Begun }) (λ p. refl)
+          (own_reader old.part r).happened (with_tracked old.known w r t) there
+          (λ v j apart. tracked_elsewhere old.known w r t v j apart));
+      claimed = subst (λ (x : Tracked). IsClaimed c.config c.peer (packets c) w r x) (sym known_is) (record {
+        from = omega (arith, from, at, further);
+        change = λ n ch low e. k.change n ch (omega (arith, at, further, low)) e;
+        pass = λ n low e. k.pass n (omega (arith, at, further, low)) e;
+      });
+      place = λ p e.
+          ap (λ (x : Tracked). x.place) known_is
+          ∙ same_Some to p (sym (begun-hits rows w h.place to h.at)
+          ∙ (ap (λ (xs : List WriterProxy). place_of xs w) (sym proxies) ∙ e));
+      count = ap (λ (x : Tracked). x.count) known_is;
+      counts = λ n e.
+          sym (ap (λ (o : Option WriterProxy). option_map (λ (p : WriterProxy). p.heard) o)
+          (row-hits (λ (p : WriterProxy). p.writer) (λ (p : WriterProxy). record p { place = to; how = Begun })
+          (λ p. refl) rows w)
+          ∙ heard_begun to (row_of (λ (p : WriterProxy). p.writer) rows w))
+          ∙ (ap (λ (xs : List WriterProxy). heard_of xs w) (sym proxies) ∙ e);
+    }
+
+-- all else is as it was
+started_backed : (c : Coming) (w : Endpoint) (r : ℕ) (old : State) (made : List Move) (new : State) → Backs c old
+    → HasNumber old.part.rtps.readers r → IsStarted c w r old made new → Backs c new
+started_backed c w r old made new b there s =
+    backed_on c.config c.peer (packets c) (deliveries c) w r old new s.frames b (record {
+      place = s.place;
+      claimed = s.claimed;
+      newest = λ d n among applied.
+          ap (λ (o : Option ℤ). is_later o n) s.count ∙ b.newest w r there d n among applied;
+      heard = λ n e. ap (λ (o : Option ℤ). is_later o n) s.count ∙ b.heard w r n (s.counts n e);
+    })
+
+-- a place that has not begun is at no number of which a DATA may speak
+not_begun : (c : Coming) (d : DataBody) (r : ℕ) (old : State) (w : Endpoint) (made : List Move)
+    → IsToReader c.config c.own c.at d.reader_id d.writer_id w (reader_at c.peer r)
+    → (stands_to old w r ≡ Begun → ⊥) → MovesIt c (Data d) r old made
+not_begun c d r old w made to other v p n ch told matched =
+    let one : v ≡ w = writer_is c d.reader_id d.writer_id v w r told.0 to in
+    absurd (other (ap (λ (x : Endpoint). stands_to old x r) (sym one) ∙ matched.begun))
+
+-- a best-effort reader that waited begins with the change
+data_begun : (c : Coming) (d : DataBody) → c.submessage ≡ Data d
+    → (r : ℕ) (old : State) (w : Endpoint) (made : List Move) (new : State) → Backs c old
+    → IsToReader c.config c.own c.at d.reader_id d.writer_id w (reader_at c.peer r)
+    → BeginsWith old w r d.writer_sn (change_in d.content c.at.timestamp) made new
+    → IsTakenAt c (Data d) r old made new
+data_begun c d is r old w made new b to k = record {
+  moves = subst (λ (ms : List Move). AreMoves (grounds c) old.part ms new.part) (sym k.moves_are)
+      (moves_on (grounds c) old.part k.starting k.started.part k.going new.part start.moves later.moves);
+  backed = later.backed;
+  writer = w;
+  frames = frames_on old k.started new w r start.frames (way_frames k.started w r k.going new k.takes.1);
+  past = tt;
+  over = not_begun c d r old w made to (λ e. let clash : Waiting ≡ Begun = sym k.starts.waits ∙ e in cc);
+}
+  where
+    change : Change
+    change = change_in d.content c.at.timestamp
+
+    best : is_reliable (own_reader old.part r).qos.reliability ≡ false
+    best =
+        ap (λ (q : ReaderQos). is_reliable q.reliability)
+        (sym (ap (λ (s : State). (own_reader s.part r).qos) k.starts.after
+        ∙ at_reader-qos old.part r (with_begun (own_proxies old.part r) w (max k.starts.place d.writer_sn))
+        (own_reader old.part r).happened r))
+        ∙ k.takes.0
+
+    start : IsStarted c w r old k.starting k.started
+    start =
+        starts_at c w r d.writer_sn old k.starting k.started (b.claimed w r) (λ p e. b.place w r p e)
+        (λ n low below. inr (
+          best,
+          record { later = d.writer_sn; change = change; is_change = data_says c d is w r to; before = below },
+        )) k.starts
+
+    later : IsTakenAt c (Data d) r k.started k.going new
+    later =
+        data_jumped c d is r k.started w k.going new
+        (started_backed c w r old k.starting k.started b (has_reader old.part r k.starts.place w k.starts.at) start) to
+        k.takes
+
 pub data_taken : (c : Coming) (d : DataBody) → c.submessage ≡ Data d
     → (r : ℕ) (old : State) (made : List Move) (dues : List Due) (new : State) → Backs c old
     → ReaderTakes c.config c.own c.peer c.at (Data d) r old made dues new → IsTakenAt c (Data d) r old made new
-data_taken c d is r old made dues new b (inl h) = by (is_reliable_reader h.1.to.end) h.2.0
+data_taken c d is r old made dues new b (inl h) =
+    by (stands_to old h.0 r) refl (is_reliable_reader h.1.to.end) h.2.0
   where
-    by : (reliable : Bool)
-        → TakesChange reliable old h.0 r d.writer_sn (change_in d.content c.at.timestamp) made new
+    change : Change
+    change = change_in d.content c.at.timestamp
+
+    nothing : (how : Attachment) → stands_to old h.0 r ≡ how → (how ≡ Begun → ⊥) → (made ≡ []) × (new ≡ old)
         → IsTakenAt c (Data d) r old made new
-    by true goes = data_held c d is r old h.0 made new b h.1 goes
-    by false takes = data_jumped c d is r old h.0 made new b h.1 takes
+    nothing how e other idle =
+        nothing_taken c (Data d) r old made dues new b (idle.0, h.2.1, idle.1) tt
+        (not_begun c d r old h.0 [] h.1 (λ begun. other (sym e ∙ begun)))
+
+    begins : (comes_there : Bool) → stands_to old h.0 r ≡ Waiting
+        → BeginsIf comes_there old h.0 r d.writer_sn change made new → IsTakenAt c (Data d) r old made new
+    begins true e k = data_begun c d is r old h.0 made new b h.1 k
+    begins false e idle = nothing Waiting e (λ q. cc) idle
+
+    by : (how : Attachment) → stands_to old h.0 r ≡ how → (reliable : Bool)
+        → MeetsChange how reliable old h.0 r d.writer_sn change made new → IsTakenAt c (Data d) r old made new
+    by Begun e true goes = data_held c d is r old h.0 made new b h.1 goes
+    by Begun e false takes = data_jumped c d is r old h.0 made new b h.1 takes
+    by Waiting e true idle = nothing Waiting e (λ q. cc) idle
+    by Waiting e false meets =
+        begins (nat_le (tracked_by old h.0 r).place d.writer_sn
+        && comes (match_of old.part r meets.0) d.writer_sn (own_reader old.part r).happened d.writer_sn change) e meets.2
+    by Away e reliable idle = nothing Away e (λ q. cc) idle
 data_taken c d is r old made dues new b (inr h) =
     nothing_taken c (Data d) r old made dues new b h.1 tt
     (λ w publication number change told matched. absurd (h.0 w told.0))
@@ -383,8 +560,13 @@ in_gap start list n h = by (nat_le start n) (nat_lt n list.base) refl refl
 pub gap_taken : (c : Coming) (g : GapBody) → c.submessage ≡ Gap g
     → (r : ℕ) (old : State) (made : List Move) (dues : List Due) (new : State) → Backs c old
     → ReaderTakes c.config c.own c.peer c.at (Gap g) r old made dues new → IsTakenAt c (Gap g) r old made new
-gap_taken c g is r old made dues new b (inl h) = by (is_reliable_reader h.1.to.end) refl h.2.0
+gap_taken c g is r old made dues new b (inl h) = so (stands_to old h.0 r) h.2.0
   where
+    nothing : (made ≡ []) × (new ≡ old) → IsTakenAt c (Gap g) r old made new
+    nothing idle =
+        nothing_taken c (Gap g) r old made dues new b (idle.0, h.2.1, idle.1) tt
+        (λ v publication number ch told matched. absurd told)
+
     by : (reliable : Bool) → is_reliable_reader h.1.to.end ≡ reliable → TakesGap reliable old h.0 r g made new
         → IsTakenAt c (Gap g) r old made new
     by true reliable goes =
@@ -396,221 +578,12 @@ gap_taken c g is r old made dues new b (inl h) = by (is_reliable_reader h.1.to.e
         (record { is_to = h.1; reliable = reliable }, least, in_gap g.gap_start g.gap_list n named))) in
         goes_taken c (Gap g) r old w (with_gap g.gap_start g.gap_list (tracked_by old w r)) made new b refl refl k goes
         tt (λ v publication number ch told matched. absurd told)
-    by false other idle =
-        nothing_taken c (Gap g) r old made dues new b (idle.0, h.2.1, idle.1) tt
-        (λ v publication number ch told matched. absurd told)
+    by false other idle = nothing idle
+
+    so : (how : Attachment) → MeetsGap how (is_reliable_reader h.1.to.end) old h.0 r g made new
+        → IsTakenAt c (Gap g) r old made new
+    so Begun takes = by (is_reliable_reader h.1.to.end) refl takes
+    so Waiting idle = nothing idle
+    so Away idle = nothing idle
 gap_taken c g is r old made dues new b (inr h) =
     nothing_taken c (Gap g) r old made dues new b h.1 tt (λ w publication number change told matched. absurd told)
-
--- ---- a HEARTBEAT
-
--- the reader hears the writer, if flag L is set
-pub record IsHeard (c : Coming) (w : Endpoint) (r : ℕ) (count : ℤ) (old : State) (hearing : List Move)
-    (heard : State) : Type 0 where
-  pub moves : AreMoves (grounds c) old.part hearing heard.part
-  pub frames : Frames old w r heard
-  pub known : heard.known ≡ old.known
-  pub place : (p : ℕ) → place_of (own_proxies heard.part r) w ≡ Some p → place_of (own_proxies old.part r) w ≡ Some p
-  pub counts : (n : ℤ) → heard_of (own_proxies heard.part r) w ≡ Some (Some n)
-      → (heard_of (own_proxies old.part r) w ≡ Some (Some n)) ⊎ (count ≡ n)
-
-heard_later : (c : Coming) (w : Endpoint) (r : ℕ) (count : ℤ) (old : State) → Backs c old
-    → is_later (tracked_by old w r).count count ≡ true → (o : Option ℤ) → heard_of (own_proxies old.part r) w ≡ Some o
-    → IsLater o count
-heard_later c w r count old b later None e = tt
-heard_later c w r count old b later (Some n) e = earlier (tracked_by old w r).count count n later (b.heard w r n e)
-
-hears : (c : Coming) (w : Endpoint) (r : ℕ) (count : ℤ) (flag : Bool) (old : State) (hearing : List Move)
-    (heard : State) → Backs c old → HasNumber old.part.rtps.readers r → is_later (tracked_by old w r).count count ≡ true
-    → (flag ≡ true → Claimed c.config (packets c) (Asserts w (reader_at c.peer r) count))
-    → Asserting flag old w r count hearing heard → IsHeard c w r count old hearing heard
-hears c w r count true old hearing heard b there later says h =
-    let last = heard_there 1 h.0.publication (own_proxies old.part r) w h.0.handle in
-    let rows = numbered-same old.part.rtps.readers r (with_heard (own_proxies old.part r) w count) [] there in
-    let part : heard.part ≡ at_reader old.part r (with_heard (own_proxies old.part r) w count) _ =
-    ap (λ (s : State). s.part) h.0.after in
-    let proxies : own_proxies heard.part r ≡ with_heard (own_proxies old.part r) w count =
-    ap (λ (p : Part). own_proxies p r) part ∙ rows in
-    record {
-      moves = subst (λ (ms : List Move). AreMoves (grounds c) old.part ms heard.part) (sym h.1) (
-        heard.part,
-        record {
-          publication = h.0.publication;
-          matched = h.0.handle;
-          here = h.0.here;
-          heard = last.0;
-          last = last.1;
-          count = count;
-          later = heard_later c w r count old b later last.0 last.1;
-          may_hear = (
-            says refl,
-            λ d n among applied. earlier (tracked_by old w r).count count n later
-                (b.newest w r there d n among applied),
-          );
-          after = part;
-        },
-        refl,
-      );
-      frames =
-          subst (λ (s : State). Frames old w r s) (sym h.0.after)
-          (frames_at old w r (λ p. record p { heard = Some count }) (λ p. refl) _ old.known there (λ v k apart. refl));
-      known = ap (λ (s : State). s.known) h.0.after;
-      place =
-          λ p e. sym (place-heard (own_proxies old.part r) w count w) ∙ (ap (λ xs. place_of xs w) (sym proxies) ∙ e);
-      counts = λ n e. inr (heard_here (own_proxies old.part r) w count n (ap (λ xs. heard_of xs w) (sym proxies) ∙ e));
-    }
-hears c w r count false old hearing heard b there later says h = record {
-  moves =
-      subst (λ (ms : List Move). AreMoves (grounds c) old.part ms heard.part) (sym h.0)
-      (ap (λ (s : State). s.part) h.1);
-  frames = subst (λ (s : State). Frames old w r s) (sym h.1) (frames_none old w r);
-  known = ap (λ (s : State). s.known) h.1;
-  place = λ p e. ap (λ (s : State). place_of (own_proxies s.part r) w) (sym h.1) ∙ e;
-  counts = λ n e. inl (ap (λ (s : State). heard_of (own_proxies s.part r) w) (sym h.1) ∙ e);
-}
-
-asserting_there : (flag : Bool) (old : State) (w : Endpoint) (r p : ℕ) (count : ℤ) (hearing : List Move) (heard : State)
-    → Asserting flag old w r count hearing heard → place_of (own_proxies heard.part r) w ≡ Some p
-    → HasNumber old.part.rtps.readers r
-asserting_there true old w r p count hearing heard h at = has_handle old.part r h.0.publication w h.0.handle
-asserting_there false old w r p count hearing heard h at =
-    has_reader old.part r p w (ap (λ (s : State). place_of (own_proxies s.part r) w) (sym h.1) ∙ at)
-
--- what a reader hears of a HEARTBEAT has its count and its flag L, and speaks of numbers to a reliable reader alone
-record IsHeardAs (c : Coming) (h s : HeartbeatBody) (w : Endpoint) (r : ℕ) : Type 0 where
-  count : s.count ≡ h.count
-  flag : s.liveliness_flag ≡ h.liveliness_flag
-  first : (n : ℕ) → n < s.first_sn
-      → IsToReliable c.config c.own c.at h.reader_id h.writer_id w (reader_at c.peer r) × (n < h.first_sn)
-
-is_heard_as : (c : Coming) (h : HeartbeatBody) (w : Endpoint) (r : ℕ)
-    → (to : IsToReader c.config c.own c.at h.reader_id h.writer_id w (reader_at c.peer r)) (reliable : Bool)
-    → is_reliable_reader to.to.end ≡ reliable → IsHeardAs c h (heard_as reliable h) w r
-is_heard_as c h w r to true reliable =
-    record { count = refl; flag = refl; first = λ n below. (record { is_to = to; reliable = reliable }, below) }
-is_heard_as c h w r to false other =
-    record { count = refl; flag = refl; first = λ n below. absurd (omega (arith, below)) }
-
--- one that is taken
-heartbeat_takes : (c : Coming) (h s : HeartbeatBody) → c.submessage ≡ Heartbeat h
-    → (w : Endpoint) (r : ℕ) (entity : EntityId) (old : State) (made : List Move) (dues : List Due) (new : State)
-    → Backs c old
-    → IsToReader c.config c.own c.at h.reader_id h.writer_id w (reader_at c.peer r) → IsHeardAs c h s w r
-    → TakesHeartbeat c.own c.at old w r entity s made dues new → IsTakenAt c (Heartbeat h) r old made new
-heartbeat_takes c h s is w r entity old made dues new b to heard_so k =
-    record {
-      moves = subst (λ (ms : List Move). AreMoves (grounds c) old.part ms new.part) (sym k.moves_are)
-          (subst (λ (p : Part). AreMoves (grounds c) old.part (k.hearing ++ k.going) p) (sym part)
-          (moves_on (grounds c) old.part k.hearing k.heard.part k.going k.there.part heard.moves
-          (goes_moves c.config c.before c.packet c.peer c.index k.heard w r t k.going k.there claimed_by k.goes
-          at)));
-      backed = backed_on c.config c.peer (packets c) (deliveries c) w r old new frames b here;
-      writer = w;
-      frames = frames;
-      past = λ v v_to.
-          subst (λ (x : Endpoint). is_later (new.known.tracked x r).count h.count ≡ false)
-          (writer_is c h.reader_id h.writer_id w v r to v_to)
-          (subst (λ (n : ℤ). is_later (new.known.tracked w r).count n ≡ false) heard_so.count
-          (ap (λ (o : Option ℤ). is_later o s.count) counts ∙ not_later_than_itself s.count));
-      over = λ v publication number ch told matched. absurd told;
-    }
-  where
-    t : Tracked
-    t = with_heartbeat s.first_sn s.count (tracked_by old w r)
-
-    there : HasNumber old.part.rtps.readers r
-    there = asserting_there s.liveliness_flag old w r k.goes.place s.count k.hearing k.heard k.asserts k.goes.matched.at
-
-    heard : IsHeard c w r s.count old k.hearing k.heard
-    heard =
-        hears c w r s.count s.liveliness_flag old k.hearing k.heard b there k.later
-        (λ flag. c.says (Asserts w (reader_at c.peer r) s.count)
-        (subst (λ (x : Submessage). Says c.config c.own c.at x (Asserts w (reader_at c.peer r) s.count)) (sym is)
-        (to, sym heard_so.flag ∙ flag, heard_so.count))) k.asserts
-
-    claimed_by : IsClaimed c.config c.peer (packets c) w r t
-    claimed_by =
-        heartbeat_claimed c.config c.peer (packets c) w r s.first_sn s.count (tracked_by old w r) (b.claimed w r)
-        (λ n least below. c.says (MayPass w (reader_at c.peer r) n)
-        (subst (λ (x : Submessage). Says c.config c.own c.at x (MayPass w (reader_at c.peer r) n)) (sym is)
-        ((heard_so.first n below).0, least, (heard_so.first n below).1)))
-
-    at : t.place ≡ k.goes.place
-    at = b.place w r k.goes.place (heard.place k.goes.place k.goes.matched.at)
-
-    newest : TookNone c.config c.peer (deliveries c) w r t
-    newest d n among applied =
-        later_on (tracked_by old w r).count s.count n k.later (b.newest w r there d n among applied)
-
-    no_later : (n : ℤ) → heard_of (own_proxies k.heard.part r) w ≡ Some (Some n) → is_later t.count n ≡ false
-    no_later n e =
-        ⊎_elim (λ o. later_on (tracked_by old w r).count s.count n k.later (b.heard w r n o))
-        (λ same. subst (λ (x : ℤ). is_later (Some s.count) x ≡ false) same (not_later_than_itself s.count))
-        (heard.counts n e)
-
-    gone : BackedAt c.config c.peer (packets c) (deliveries c) w r k.there
-    gone =
-        goes_backed c.config c.peer (packets c)
-        (deliveries c) k.heard w r t k.going k.there claimed_by newest no_later
-        (goes_went k.heard w r t k.going k.there k.goes)
-
-    part : new.part ≡ k.there.part
-    part = ap (λ (s : State). s.part) k.after
-
-    known_is : new.known.tracked w r ≡ answered k.answer (k.there.known.tracked w r)
-    known_is =
-        ap (λ (s : State). s.known.tracked w r) k.after
-        ∙ tracked_here k.there.known w r (answered k.answer (k.there.known.tracked w r))
-
-    same_count : (new.known.tracked w r).count ≡ (k.there.known.tracked w r).count
-    same_count = ap (λ (x : Tracked). x.count) known_is ∙ (answered_same k.answer (k.there.known.tracked w r)).1
-
-    counts : (new.known.tracked w r).count ≡ Some s.count
-    counts =
-        same_count
-        ∙ (ap (λ (s : State). (s.known.tracked w r).count) k.goes.after
-        ∙ (ap (λ (x : Tracked). x.count) (tracked_here k.heard.known w r k.goes.known)
-        ∙ k.goes.advances.stays.count))
-
-    here : BackedAt c.config c.peer (packets c) (deliveries c) w r new
-    here = record {
-      place = λ p e.
-          ap (λ (x : Tracked). x.place) known_is
-          ∙ ((answered_same k.answer (k.there.known.tracked w r)).0
-          ∙ gone.place p (ap (λ (q : Part). place_of (own_proxies q r) w) (sym part) ∙ e));
-      claimed =
-          subst (λ (x : Tracked). IsClaimed c.config c.peer (packets c) w r x) (sym known_is)
-          (answered_claimed c.config c.peer (packets c) w r k.answer (k.there.known.tracked w r) gone.claimed);
-      newest = λ d n among applied. ap (λ (o : Option ℤ). is_later o n) same_count ∙ gone.newest d n among applied;
-      heard =
-          λ n e. ap (λ (o : Option ℤ). is_later o n) same_count
-          ∙ gone.heard n (ap (λ (q : Part). heard_of (own_proxies q r) w) (sym part) ∙ e);
-    }
-
-    frames : Frames old w r new
-    frames =
-        frames_on old k.there new w r
-        (frames_on old k.heard k.there w r heard.frames (way_frames k.heard w r k.going k.there k.goes))
-        (subst (λ (s : State). Frames k.there w r s) (sym k.after)
-        (frames_known k.there w r (answered k.answer (k.there.known.tracked w r))))
-
-pub heartbeat_taken : (c : Coming) (h : HeartbeatBody) → c.submessage ≡ Heartbeat h
-    → (r : ℕ) (old : State) (made : List Move) (dues : List Due) (new : State) → Backs c old
-    → ReaderTakes c.config c.own c.peer c.at (Heartbeat h) r old made dues new
-    → IsTakenAt c (Heartbeat h) r old made new
-heartbeat_taken c h is r old made dues new b (inl k) =
-    ⊎_elim (λ takes. heartbeat_takes c h s is k.0 r k.1.entity old made dues new b k.1 heard_so takes)
-    (λ not. nothing_taken c (Heartbeat h) r old made dues new b not.1
-    (λ v v_to. subst (λ (x : Endpoint). is_later (old.known.tracked x r).count h.count ≡ false)
-    (writer_is c h.reader_id h.writer_id k.0 v r k.1 v_to)
-    (subst (λ (n : ℤ). is_later (old.known.tracked k.0 r).count n ≡ false) heard_so.count not.0))
-    (λ v publication number ch told matched. absurd told)) k.2
-  where
-    s : HeartbeatBody
-    s = heard_as (is_reliable_reader k.1.to.end) h
-
-    heard_so : IsHeardAs c h s k.0 r
-    heard_so = is_heard_as c h k.0 r k.1 (is_reliable_reader k.1.to.end) refl
-heartbeat_taken c h is r old made dues new b (inr k) =
-    nothing_taken c (Heartbeat h) r old made dues new b k.1 (λ w told. absurd (k.0 w told))
-    (λ w publication number ch told matched. absurd told)

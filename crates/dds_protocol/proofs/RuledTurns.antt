@@ -16,9 +16,11 @@ use Rattle.dds_machine.specs.Moves.{AreMoves}
 use Rattle.dds_protocol.specs.Receipt.{GoesOver}
 use Rattle.dds_protocol.specs.DueMessages.{Due}
 use Rattle.dds_protocol.specs.Protocol.{State, InTurn, ReaderTakes}
+use Rattle.dds_protocol.proofs.Attached.{moves_met}
 use Rattle.dds_protocol.proofs.Composed.{moves_on}
 use Rattle.dds_protocol.proofs.Framing.{Frames, number_or_not}
-use Rattle.dds_protocol.proofs.RuledReaders.{Coming, grounds, Backs, IsPast, MovesIt, IsTakenAt, nothing_taken, data_taken, gap_taken, heartbeat_taken}
+use Rattle.dds_protocol.proofs.RuledHeartbeats.{heartbeat_taken}
+use Rattle.dds_protocol.proofs.RuledReaders.{Coming, grounds, Backs, Met, IsPast, MovesIt, IsTakenAt, nothing_taken, data_taken, gap_taken}
 
 pub goes_first : (w : Endpoint) (r n : ℕ) (xs ys : List Move) → GoesOver w r n xs → GoesOver w r n (xs ++ ys)
 goes_first w r n [] ys h = absurd h
@@ -63,7 +65,8 @@ same_by old new v k r f n =
 
 past_on : (c : Coming) (s : Submessage) (r : ℕ) (old new : State) → SameAt old new r → IsPast c s r old
     → IsPast c s r new
-past_on c (Heartbeat h) r old new f p = λ w to. ap (λ (t : Tracked). is_later t.count h.count) (f.tracked w) ∙ p w to
+past_on c (Heartbeat h) r old new f p =
+    λ w to met. ap (λ (t : Tracked). is_later t.count h.count) (f.tracked w) ∙ p w to met
 past_on c Pad r old new f p = tt
 past_on c (InfoDst d) r old new f p = tt
 past_on c (InfoTs d) r old new f p = tt
@@ -176,28 +179,34 @@ turn_more c s first count old mid new made later all is one rest = record {
         by (inr g) = g
 
 pub reader_taken : (c : Coming) (s : Submessage) → c.submessage ≡ s → IsTelling s
-    → (r : ℕ) (old : State) (made : List Move) (dues : List Due) (new : State) → Backs c old
+    → (r : ℕ) (old : State) (made : List Move) (dues : List Due) (new : State) → Backs c old → Met c old
     → ReaderTakes c.config c.own c.peer c.at s r old made dues new → IsTakenAt c s r old made new
-reader_taken c (Data d) is telling r old made dues new b h = data_taken c d is r old made dues new b h
-reader_taken c (Gap g) is telling r old made dues new b h = gap_taken c g is r old made dues new b h
-reader_taken c (Heartbeat h) is telling r old made dues new b k = heartbeat_taken c h is r old made dues new b k
-reader_taken c (AckNack a) is telling r old made dues new b h = absurd telling
-reader_taken c Pad is telling r old made dues new b h =
+reader_taken c (Data d) is telling r old made dues new b met h = data_taken c d is r old made dues new b h
+reader_taken c (Gap g) is telling r old made dues new b met h = gap_taken c g is r old made dues new b h
+reader_taken c (Heartbeat h) is telling r old made dues new b met k = heartbeat_taken c h is r old made dues new b met k
+reader_taken c (AckNack a) is telling r old made dues new b met h = absurd telling
+reader_taken c Pad is telling r old made dues new b met h =
     nothing_taken c Pad r old made dues new b h tt (λ w p n ch told m. absurd told)
-reader_taken c (InfoDst x) is telling r old made dues new b h =
+reader_taken c (InfoDst x) is telling r old made dues new b met h =
     nothing_taken c (InfoDst x) r old made dues new b h tt (λ w p n ch told m. absurd told)
-reader_taken c (InfoTs x) is telling r old made dues new b h =
+reader_taken c (InfoTs x) is telling r old made dues new b met h =
     nothing_taken c (InfoTs x) r old made dues new b h tt (λ w p n ch told m. absurd told)
-reader_taken c (Other x) is telling r old made dues new b h =
+reader_taken c (Other x) is telling r old made dues new b met h =
     nothing_taken c (Other x) r old made dues new b h tt (λ w p n ch told m. absurd told)
 
+-- who is matched with whom stays
+pub met_on : (c : Coming) (old : State) (made : List Move) (new : State) → Met c old
+    → AreMoves (grounds c) old.part made new.part → Met c new
+met_on c old made new met moves r w = moves_met (grounds c) old.part made new.part moves r w ∙ met r w
+
 pub readers_taken : (c : Coming) (s : Submessage) → c.submessage ≡ s → IsTelling s
-    → (first count : ℕ) (old : State) (made : List Move) (dues : List Due) (new : State) → Backs c old
+    → (first count : ℕ) (old : State) (made : List Move) (dues : List Due) (new : State) → Backs c old → Met c old
     → InTurn (ReaderTakes c.config c.own c.peer c.at s) (numbers_from first count) old made dues new
     → Turn c s first count old made new
-readers_taken c s is telling first zero old made dues new b h = turn_none c s first old made new b h.0 h.2
-readers_taken c s is telling first (suc count) old made dues new b h =
+readers_taken c s is telling first zero old made dues new b met h = turn_none c s first old made new b h.0 h.2
+readers_taken c s is telling first (suc count) old made dues new b met h =
     let mid : State = h.4 in
-    let one : IsTakenAt c s first old h.0 mid = reader_taken c s is telling first old h.0 h.2 mid b h.7 in
+    let one : IsTakenAt c s first old h.0 mid = reader_taken c s is telling first old h.0 h.2 mid b met h.7 in
     turn_more c s first count old mid new h.0 h.1 made h.5 one
-    (readers_taken c s is telling (first + 1) count mid h.1 h.3 new one.backed h.8)
+    (readers_taken c s is telling (first + 1) count mid h.1 h.3 new one.backed
+    (met_on c old h.0 mid met one.moves) h.8)

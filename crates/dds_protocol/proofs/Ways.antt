@@ -4,6 +4,8 @@ use Rattle.std.proofs.Common.{◌≡◌, ◌⊎◌, ℕ, ◌+◌, ◌-◌, ◌<�
 use Rattle.std.specs.Prelude.{if◌then◌else◌}
 use Rattle.std.proofs.lemmas.Bool.Decides.{nat_tests}
 use Rattle.dds_base.specs.declared.change.Change.{Change}
+use Rattle.dds_base.specs.declared.guid.EntityId.{EntityId}
+use Rattle.dds_base.specs.declared.guid.GuidPrefix.{GuidPrefix}
 use Rattle.dds_base.specs.declared.happening.Happening.{Happening}
 use Rattle.dds_base.specs.declared.happening.Happening.TheVariants.{Passed}
 use Rattle.dds_base.specs.declared.happening.PassedRun.{PassedRun}
@@ -15,9 +17,13 @@ use Rattle.rtps_reader.specs.Tracked.{Tracked, with_data, with_gap}
 use Rattle.rtps_reader.specs.Advance.{known, Stays, Advances}
 use Rattle.rtps_reader.specs.Jump.{run_of, jumped_to, comes, JumpsIf, Jumps}
 use Rattle.rtps_wire.specs.declared.gap.Gap.{Gap as GapBody}
+use Rattle.rtps_wire.specs.declared.heartbeat.Heartbeat.{Heartbeat as HeartbeatBody}
 use Rattle.dds_machine.specs.declared.endpoint.Endpoint.{Endpoint}
 use Rattle.dds_machine.specs.declared.reply.Move.{Move}
-use Rattle.dds_protocol.specs.Protocol.{State, GoesBy, Goes, TakesChange, TakesGap}
+use Rattle.dds_machine.specs.Part.{Attachment, Away, Waiting, Begun}
+use Rattle.dds_protocol.specs.Claims.{Receiver}
+use Rattle.dds_protocol.specs.DueMessages.{Due}
+use Rattle.dds_protocol.specs.Protocol.{BeginsIf, BeginsWith, GoesBy, Goes, HearsAlone, Idles, MeetsChange, MeetsGap, MeetsHeartbeat, Starts, StartsAt, State, TakesChange, TakesGap, TakesHeartbeat, heard_as}
 
 -- the place does not go back, and from it on the same is known
 pub record HasGone (t : Tracked) (to : ℕ) (new : Tracked) : Type 0 where
@@ -203,3 +209,55 @@ pub gap_went : (b : Bool) (old : State) (w : Endpoint) (r : ℕ) (g : GapBody) (
     ⊎ ((moves ≡ []) × (new ≡ old))
 gap_went true old w r g moves new h = inl (refl, h)
 gap_went false old w r g moves new h = inr h
+
+-- ---- by how a reader stands to the writer
+
+-- nothing is moved
+abbrev pub StaysAs : State → List Move → State → Type 0
+StaysAs old moves new = (moves ≡ []) × (new ≡ old)
+
+-- a place begins, or it is where it was
+pub started : (how : Attachment) (old : State) (w : Endpoint) (r number : ℕ) (moves : List Move) (new : State)
+    → Starts how old w r number moves new → StartsAt old w r number moves new ⊎ StaysAs old moves new
+started Waiting old w r number moves new h = inl h
+started Away old w r number moves new h = inr h
+started Begun old w r number moves new h = inr h
+
+begun_if : (b : Bool) (old : State) (w : Endpoint) (r number : ℕ) (change : Change) (moves : List Move) (new : State)
+    → BeginsIf b old w r number change moves new
+    → BeginsWith old w r number change moves new ⊎ StaysAs old moves new
+begun_if true old w r number change moves new h = inl h
+begun_if false old w r number change moves new h = inr h
+
+-- a change is taken, or a place begins with it, or it does nothing
+pub met_change : (how : Attachment) (reliable : Bool) (old : State) (w : Endpoint) (r number : ℕ) (change : Change)
+    (moves : List Move) (new : State) → MeetsChange how reliable old w r number change moves new
+    → TakesChange reliable old w r number change moves new
+    ⊎ BeginsWith old w r number change moves new ⊎ StaysAs old moves new
+met_change Begun reliable old w r number change moves new h = inl h
+met_change Waiting false old w r number change moves new h =
+    inr (begun_if _ old w r number change moves new h.2)
+met_change Waiting true old w r number change moves new h = inr (inr h)
+met_change Away reliable old w r number change moves new h = inr (inr h)
+
+-- a GAP is taken, or does nothing
+pub met_gap : (how : Attachment) (reliable : Bool) (old : State) (w : Endpoint) (r : ℕ) (g : GapBody)
+    (moves : List Move) (new : State) → MeetsGap how reliable old w r g moves new
+    → TakesGap reliable old w r g moves new ⊎ StaysAs old moves new
+met_gap Begun reliable old w r g moves new h = inl h
+met_gap Waiting reliable old w r g moves new h = inr h
+met_gap Away reliable old w r g moves new h = inr h
+
+-- a HEARTBEAT is taken, or the writer is heard by it alone, or it does nothing
+pub met_heartbeat : (how : Attachment) (reliable : Bool) (own : GuidPrefix) (at : Receiver) (old : State) (w : Endpoint)
+    (r : ℕ) (entity : EntityId) (h : HeartbeatBody) (moves : List Move) (dues : List Due) (new : State)
+    → MeetsHeartbeat how reliable own at old w r entity h moves dues new
+    → TakesHeartbeat own at old w r entity (heard_as reliable h) moves dues new
+    ⊎ (HearsAlone old w r h moves new × (dues ≡ [])) ⊎ Idles old moves dues new
+met_heartbeat Away reliable own at old w r entity h moves dues new x = inr (inr x)
+met_heartbeat Waiting false own at old w r entity h moves dues new (inl x) = inr (inl x)
+met_heartbeat Waiting false own at old w r entity h moves dues new (inr x) = inr (inr x.1)
+met_heartbeat Waiting true own at old w r entity h moves dues new (inl x) = inl x
+met_heartbeat Waiting true own at old w r entity h moves dues new (inr x) = inr (inr x.1)
+met_heartbeat Begun reliable own at old w r entity h moves dues new (inl x) = inl x
+met_heartbeat Begun reliable own at old w r entity h moves dues new (inr x) = inr (inr x.1)

@@ -14,6 +14,7 @@ use Rattle.rtps_wire.specs.Frames.{IsFrame}
 use Rattle.rtps_wire.specs.Submessages.{IsKnownKind, Reads}
 use Rattle.rtps_wire.specs.Sets.{set_of, bits_below}
 use Rattle.dds_machine.specs.declared.reply.Move.TheVariants.{Heard}
+use Rattle.dds_machine.specs.Part.{Away, Begun}
 use Rattle.dds_protocol.specs.Claims.{Claim, MayPass, PlaceReached, Asserts, Claims, Receiver, Says, StandsAt, every_reader, receiver_of}
 use Rattle.dds_protocol.specs.Peer.{Delivery, IsApplied, IsNewest}
 use Rattle.dds_protocol.proofs.WorkedReceivers.{prefix_1, prefix_2, w1_id, r1_id, w1, r1, to_2, to_1, network, to_r1}
@@ -214,7 +215,11 @@ heartbeat-claims =
 
 -- once it was applied at r1, its count is no longer the newest: the same packet is not heard again
 abbrev delivery : Delivery
-delivery = record { packet = heartbeat_packet; report = record { moves = Heard w1 1 ∷ []; refused = None } }
+delivery = record {
+  packet = heartbeat_packet;
+  rows = (record { writer = w1; place = 1; heard = None; how = Begun } ∷ []) ∷ [];
+  report = record { moves = Heard w1 1 ∷ []; refused = None };
+}
 
 heartbeat-applied : IsApplied network delivery w1 r1 (pos 1)
 heartbeat-applied = record {
@@ -231,6 +236,7 @@ heartbeat-applied = record {
   before = tt;
   is_to = to_r1 every_reader 0 (inr refl);
   same_count = refl;
+  met = refl;
 }
 
 newest-before : IsNewest network [] w1 r1 (pos 1)
@@ -241,5 +247,12 @@ newest-not_again newest = absurd (omega (arith, ints, newest delivery (pos 1) (0
 
 -- a HEARTBEAT that found no memory, or stands behind what found none, was not applied
 applied-not_from_the_refused : IsApplied network
-    (record { packet = heartbeat_packet; report = record { moves = []; refused = Some 0 } }) w1 r1 (pos 1) → ⊥
+    (record { packet = heartbeat_packet; rows = delivery.rows; report = record { moves = []; refused = Some 0 } }) w1 r1
+    (pos 1) → ⊥
 applied-not_from_the_refused h = absurd (omega (arith, h.before))
+
+-- nor one that came while the two were not matched
+applied-not_while_away : IsApplied network
+    (record delivery { rows = (record { writer = w1; place = 1; heard = None; how = Away } ∷ []) ∷ [] }) w1 r1 (pos 1)
+    → ⊥
+applied-not_while_away h = let met = h.met in cc

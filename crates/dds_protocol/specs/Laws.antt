@@ -145,8 +145,9 @@ abbrev pub RulesRestOnClaims : Type 0
 RulesRestOnClaims = (config : Config) (peer : ℕ) (before : List Delivery) (bytes : List ℕ) (old : State)
     (report : Report) (dues : List Due) (new : State) → check_refusal config.peers ≡ None
     → IsBacked config peer (packets_of before) before old → TakesPacket config peer bytes old report dues new
-    → Receives config (claimed config before bytes peer) peer bytes old.part report new.part
-    × IsBacked config peer (bytes ∷ packets_of before) (record { packet = bytes; report = report } ∷ before) new
+    → Receives config (claimed config before bytes old.part.rtps.readers peer) peer bytes old.part report new.part
+    × IsBacked config peer (bytes ∷ packets_of before)
+    (record { packet = bytes; rows = old.part.rtps.readers; report = report } ∷ before) new
 
 -- at the opening a peer knows nothing, so all that it knows is what was claimed
 abbrev pub OpensBacked : Type 0

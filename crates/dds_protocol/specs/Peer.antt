@@ -17,7 +17,8 @@ use Rattle.dds_protocol.specs.declared.event.Packet.{Packet}
 use Rattle.dds_machine.specs.declared.reply.Reply.{Reply}
 use Rattle.dds_machine.specs.declared.reply.Reply.TheVariants.{Reported}
 use Rattle.dds_machine.specs.declared.reply.Report.{Report}
-use Rattle.dds_machine.specs.Part.{Part, no_part, own_writer, own_proxies, acknowledged_of, place_of, writer_changes, history_of, is_assertion, owed_from, IsBelow, IsAtMost}
+use Rattle.dds_machine.specs.Numbered.{numbered}
+use Rattle.dds_machine.specs.Part.{WriterProxy, how_of, is_attached, Part, no_part, own_writer, own_proxies, acknowledged_of, place_of, writer_changes, history_of, is_assertion, owed_from, IsBelow, IsAtMost}
 use Rattle.dds_machine.specs.Moves.{Grounds}
 use Rattle.dds_machine.specs.Ticks.{TickStep}
 use Rattle.dds_machine.specs.Calls.{CallStep}
@@ -26,9 +27,10 @@ use Rattle.dds_protocol.specs.Claims.{Receiver, StandsIn, IsToReader, Claim, Cha
 use Rattle.dds_protocol.specs.Receipt.{Receives}
 use Rattle.dds_protocol.specs.Protocol.{Known, State, knows_nothing}
 
--- a packet that was delivered, and what it did
+-- a packet that was delivered, the rows of the peer's readers as it found them, and what it did
 pub record Delivery : Type 0 where
   pub packet : List ℕ
+  pub rows : List (List WriterProxy)
   pub report : Report
 
 -- a peer, by its number, with its part, what it knows beside that, and the packets that were delivered to it, the
@@ -57,7 +59,7 @@ IsBefore index None = Unit {0}
 IsBefore index (Some refused) = index < refused
 
 -- a HEARTBEAT of this count from the writer was applied at the reader: it stands in the packet, before what found no
--- memory
+-- memory, and the two were matched
 pub record IsApplied (config : Config) (delivery : Delivery) (writer reader : Endpoint) (count : ℤ) : Type 0 where
   pub own : GuidPrefix
   pub at : Receiver
@@ -66,6 +68,7 @@ pub record IsApplied (config : Config) (delivery : Delivery) (writer reader : En
   pub before : IsBefore there.index delivery.report.refused
   pub is_to : IsToReader config own at heartbeat.reader_id heartbeat.writer_id writer reader
   pub same_count : heartbeat.count ≡ count
+  pub met : is_attached (how_of (numbered delivery.rows reader.number []) writer) ≡ true
 
 -- the count is above those of all HEARTBEATs of the writer that were applied at the reader by these deliveries
 abbrev pub IsNewest : Config → List Delivery → Endpoint → Endpoint → ℤ → Type 0
@@ -73,14 +76,15 @@ IsNewest config deliveries writer reader count =
     (delivery : Delivery) (earlier : ℤ) → Contains deliveries delivery → IsApplied config delivery writer reader earlier
     → earlier <ℤ count
 
--- the packet, as far as the submessage of this index
-abbrev pub delivered_to : List ℕ → ℕ → Delivery
-delivered_to packet index = record { packet = packet; report = record { moves = []; refused = Some index } }
+-- the packet, which found these rows, as far as the submessage of this index
+abbrev pub delivered_to : List ℕ → List (List WriterProxy) → ℕ → Delivery
+delivered_to packet rows index =
+    record { packet = packet; rows = rows; report = record { moves = []; refused = Some index } }
 
--- what a packet claims to the peer of this number when it comes to the submessage of this index, with what was
--- delivered before
-abbrev pub claimed : Config → List Delivery → List ℕ → ℕ → ℕ → Grounds
-claimed config before packet peer index = record {
+-- what a packet, which found these rows, claims to the peer of this number when it comes to the submessage of this
+-- index, with what was delivered before
+abbrev pub claimed : Config → List Delivery → List ℕ → List (List WriterProxy) → ℕ → ℕ → Grounds
+claimed config before packet rows peer index = record {
   is_change = λ writer reader number change. Claimed config (packet ∷ packets_of before)
       (ChangeIs writer (record { peer = peer; number = reader }) number change);
   may_pass = λ writer reader number. Claimed config (packet ∷ packets_of before)
@@ -89,7 +93,7 @@ claimed config before packet peer index = record {
       (PlaceReached (record { peer = peer; number = writer }) reader base);
   may_hear = λ writer reader count.
       Claimed config (packet ∷ packets_of before) (Asserts writer (record { peer = peer; number = reader }) count)
-      × IsNewest config (delivered_to packet index ∷ before) writer (record { peer = peer; number = reader }) count;
+      × IsNewest config (delivered_to packet rows index ∷ before) writer (record { peer = peer; number = reader }) count;
 }
 
 -- the claim is true of the peer's own lists and places
@@ -112,8 +116,9 @@ EventStep config tests old (event.Call call) reply new =
 EventStep config tests old (event.Tick now) reply new =
     TickStep old.part now reply new.part × (new.delivered ≡ old.delivered)
 EventStep config tests old (event.Deliver packet) (Reported report) new =
-    Receives config (claimed config old.delivered packet old.number) old.number packet old.part report new.part
-    × (new.delivered ≡ record { packet = packet; report = report } ∷ old.delivered)
+    Receives config (claimed config old.delivered packet old.part.rtps.readers old.number) old.number packet old.part
+    report new.part
+    × (new.delivered ≡ record { packet = packet; rows = old.part.rtps.readers; report = report } ∷ old.delivered)
 EventStep config tests old (event.Deliver packet) reply new = ⊥
 
 -- what a peer knows changes by deliveries alone

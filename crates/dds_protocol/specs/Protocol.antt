@@ -25,15 +25,15 @@ use Rattle.rtps_wire.specs.Messages.{ReadsMessage}
 use Rattle.rtps_reader.specs.declared.step.AckNackDue.{AckNackDue}
 use Rattle.rtps_reader.specs.Tracked.{Tracked, fresh, may_take, with_data, with_gap, with_heartbeat}
 use Rattle.rtps_reader.specs.Advance.{Advances}
-use Rattle.rtps_reader.specs.Jump.{Jumps}
+use Rattle.rtps_reader.specs.Jump.{Jumps, comes}
 use Rattle.rtps_reader.specs.Answer.{AnswersHeartbeat, answered}
 use Rattle.rtps_writer.specs.declared.answer.Answer.{Answer}
 use Rattle.rtps_writer.specs.Answers.{answers_to, requested}
 use Rattle.dds_machine.specs.declared.endpoint.Endpoint.{Endpoint}
 use Rattle.dds_machine.specs.declared.reply.Report.{Report}
 use Rattle.dds_machine.specs.declared.reply.Move.{Move}
-use Rattle.dds_machine.specs.declared.reply.Move.TheVariants.{Place, Acknowledged, Heard}
-use Rattle.dds_machine.specs.Part.{is_attached, how_of, Part, ReaderProxy, Writer, same_endpoint, own_writer, own_proxies, own_reader, acknowledged_of, with_acknowledged, with_place, with_heard, publication_among, at_reader, at_writer, writer_changes, history_of, owed_from}
+use Rattle.dds_machine.specs.declared.reply.Move.TheVariants.{Place, Acknowledged, Heard, Begun as HasBegun}
+use Rattle.dds_machine.specs.Part.{Attachment, Away, Waiting, Begun, is_attached, how_of, Part, ReaderProxy, Writer, same_endpoint, own_writer, own_proxies, own_reader, acknowledged_of, with_acknowledged, place_of, with_place, with_begun, with_heard, publication_among, at_reader, at_writer, writer_changes, history_of, owed_from}
 use Rattle.dds_machine.specs.Moves.{IsMatchedAt, match_of}
 use Rattle.dds_protocol.specs.Claims.{Receiver, receiver_of, after_submessage, IsToReader, IsToWriter}
 use Rattle.dds_protocol.specs.Receipt.{prefix_of, IsNotTaken}
@@ -104,8 +104,31 @@ pub record GoesBy (Way : Match → List Happening → ℕ → List PassedRun →
 abbrev pub Goes : State → Endpoint → ℕ → Tracked → List Move → State → Type 0
 Goes old writer reader t moves new = GoesBy (λ match h. Advances match t h) old writer reader moves new
 
--- What a change does at a reader: a reliable one holds it, and its place goes as far as it can; a best-effort one takes
--- it at once, over all before it, or not at all (DDS 1.4, 2.2.3, RELIABILITY).
+-- how the peer's reader of this number stands to the writer
+abbrev pub stands_to : State → Endpoint → ℕ → Attachment
+stands_to s writer reader = how_of (own_proxies s.part reader) writer
+
+-- the place of a reader that waits begins at this number, or where it was, if that is further
+pub record StartsAt (old : State) (writer : Endpoint) (reader number : ℕ) (moves : List Move)
+    (new : State) : Type 0 where
+  pub waits : stands_to old writer reader ≡ Waiting
+  pub place : ℕ
+  pub at : place_of (own_proxies old.part reader) writer ≡ Some place
+  pub moves_are : moves ≡ HasBegun writer reader place (max place number) ∷ []
+  pub after : new ≡ record {
+    part = at_reader old.part reader (with_begun (own_proxies old.part reader) writer (max place number))
+        (own_reader old.part reader).happened;
+    known = with_tracked old.known writer reader
+        (record (old.known.tracked writer reader) { place = max place number });
+  }
+
+-- so it is where the place waits; one that has begun stays where it is
+abbrev pub Starts : Attachment → State → Endpoint → ℕ → ℕ → List Move → State → Type 0
+Starts Waiting old writer reader number moves new = StartsAt old writer reader number moves new
+Starts how old writer reader number moves new = (moves ≡ []) × (new ≡ old)
+
+-- What a change does at a reader whose place has begun: a reliable one holds it, and its place goes as far as it can; a
+-- best-effort one takes it at once, over all before it, or not at all (DDS 1.4, 2.2.3, RELIABILITY).
 abbrev pub TakesChange : Bool → State → Endpoint → ℕ → ℕ → Change → List Move → State → Type 0
 TakesChange true old writer reader number change moves new =
     Goes old writer reader (with_data number change (old.known.tracked writer reader)) moves new
@@ -113,11 +136,42 @@ TakesChange false old writer reader number change moves new =
     (is_reliable (own_reader old.part reader).qos.reliability ≡ false)
     × GoesBy (λ match h. Jumps match (old.known.tracked writer reader) h number change) old writer reader moves new
 
--- what a GAP does at a reader: at a best-effort one nothing
+-- the place of a best-effort reader that waits begins at a change, which then comes
+pub record BeginsWith (old : State) (writer : Endpoint) (reader number : ℕ) (change : Change) (moves : List Move)
+    (new : State) : Type 0 where
+  pub starting : List Move
+  pub started : State
+  pub starts : StartsAt old writer reader number starting started
+  pub going : List Move
+  pub takes : TakesChange false started writer reader number change going new
+  pub moves_are : moves ≡ starting ++ going
+
+-- it does so at the first one that is not below the place, and has room
+abbrev pub BeginsIf : Bool → State → Endpoint → ℕ → ℕ → Change → List Move → State → Type 0
+BeginsIf true old writer reader number change moves new = BeginsWith old writer reader number change moves new
+BeginsIf false old writer reader number change moves new = (moves ≡ []) × (new ≡ old)
+
+-- what a change does at a reader that stands so to its writer: a reliable one whose place waits, waits for a HEARTBEAT
+abbrev pub MeetsChange : Attachment → Bool → State → Endpoint → ℕ → ℕ → Change → List Move → State → Type 0
+MeetsChange Begun reliable old writer reader number change moves new =
+    TakesChange reliable old writer reader number change moves new
+MeetsChange Waiting false old writer reader number change moves new =
+    (publication : ℕ) × (publication_among (own_proxies old.part reader) writer ≡ Some publication)
+    × BeginsIf (nat_le (old.known.tracked writer reader).place number
+    && comes (match_of old.part reader publication) number (own_reader old.part reader).happened number change)
+    old writer reader number change moves new
+MeetsChange how reliable old writer reader number change moves new = (moves ≡ []) × (new ≡ old)
+
+-- what a GAP does at a reader whose place has begun: at a best-effort one nothing
 abbrev pub TakesGap : Bool → State → Endpoint → ℕ → GapBody → List Move → State → Type 0
 TakesGap true old writer reader g moves new =
     Goes old writer reader (with_gap g.gap_start g.gap_list (old.known.tracked writer reader)) moves new
 TakesGap false old writer reader g moves new = (moves ≡ []) × (new ≡ old)
+
+-- at any other one nothing
+abbrev pub MeetsGap : Attachment → Bool → State → Endpoint → ℕ → GapBody → List Move → State → Type 0
+MeetsGap Begun reliable old writer reader g moves new = TakesGap reliable old writer reader g moves new
+MeetsGap how reliable old writer reader g moves new = (moves ≡ []) × (new ≡ old)
 
 -- what a reader hears of a HEARTBEAT: a best-effort one its count and its flag L alone, as if it spoke of no number, and
 -- asked for no answer
@@ -142,17 +196,21 @@ Asserting true old writer reader count moves new =
 Asserting false old writer reader count moves new = (moves ≡ []) × (new ≡ old)
 
 -- a HEARTBEAT whose count is greater than that of the last one that the reader took of the writer is taken: the reader
--- hears the writer, its place goes on, and it answers
+-- hears the writer, its place begins at firstSN, if it waits, and goes on, and it answers
 pub record TakesHeartbeat (own : GuidPrefix) (at : Receiver) (old : State) (writer : Endpoint) (reader : ℕ)
     (entity : EntityId) (h : HeartbeatBody) (moves : List Move) (dues : List Due) (new : State) : Type 0 where
   pub later : is_later (old.known.tracked writer reader).count h.count ≡ true
   pub hearing : List Move
   pub heard : State
   pub asserts : Asserting h.liveliness_flag old writer reader h.count hearing heard
+  pub starting : List Move
+  pub started : State
+  pub starts : Starts (stands_to old writer reader) heard writer reader h.first_sn starting started
   pub going : List Move
   pub there : State
-  pub goes : Goes heard writer reader (with_heartbeat h.first_sn h.count (old.known.tracked writer reader)) going there
-  pub moves_are : moves ≡ hearing ++ going
+  pub goes : Goes started writer reader
+      (with_heartbeat h.first_sn h.count (started.known.tracked writer reader)) going there
+  pub moves_are : moves ≡ hearing ++ (starting ++ going)
   pub answer : Option AckNackDue
   pub answers : AnswersHeartbeat (there.known.tracked writer reader) h.last_sn h.final_flag answer
   pub dues_are : dues ≡ acknacks_due own at.source_guid_prefix writer.peer entity h.writer_id answer
@@ -165,6 +223,27 @@ abbrev pub TakesOrNot : GuidPrefix → Receiver → State → Endpoint → ℕ �
 TakesOrNot own at old writer reader entity h moves dues new =
     TakesHeartbeat own at old writer reader entity h moves dues new
     ⊎ ((is_later (old.known.tracked writer reader).count h.count ≡ false) × Idles old moves dues new)
+
+-- a best-effort reader whose place waits hears the writer by one that is taken, and waits for a change
+pub record HearsAlone (old : State) (writer : Endpoint) (reader : ℕ) (h : HeartbeatBody) (moves : List Move)
+    (new : State) : Type 0 where
+  pub later : is_later (old.known.tracked writer reader).count h.count ≡ true
+  pub heard : State
+  pub asserts : Asserting h.liveliness_flag old writer reader h.count moves heard
+  pub after : new ≡ record heard {
+    known = with_tracked heard.known writer reader
+        (record (heard.known.tracked writer reader) { count = Some h.count });
+  }
+
+-- what a HEARTBEAT does at a reader that stands so to its writer: where the two are not matched nothing
+abbrev pub MeetsHeartbeat : Attachment → Bool → GuidPrefix → Receiver → State → Endpoint → ℕ → EntityId → HeartbeatBody
+    → List Move → List Due → State → Type 0
+MeetsHeartbeat Away reliable own at old writer reader entity h moves dues new = Idles old moves dues new
+MeetsHeartbeat Waiting false own at old writer reader entity h moves dues new =
+    (HearsAlone old writer reader h moves new × (dues ≡ []))
+    ⊎ ((is_later (old.known.tracked writer reader).count h.count ≡ false) × Idles old moves dues new)
+MeetsHeartbeat how reliable own at old writer reader entity h moves dues new =
+    TakesOrNot own at old writer reader entity (heard_as reliable h) moves dues new
 
 -- the submessage names the peer's reader, which is of this reliability, and is of a writer that is matched with it: the
 -- reader takes it so; else it is nothing to the reader
@@ -180,16 +259,18 @@ abbrev pub ReaderTakes : Config → GuidPrefix → ℕ → Receiver → Submessa
     → Type 0
 ReaderTakes config own peer at (Data d) reader old moves dues new =
     WhereMatched config own at d.reader_id d.writer_id (record { peer = peer; number = reader })
-    (λ writer entity reliable.
-    TakesChange reliable old writer reader d.writer_sn (change_in d.content at.timestamp) moves new × (dues ≡ []))
+    (λ writer entity reliable. MeetsChange (stands_to old writer reader) reliable old writer reader d.writer_sn
+    (change_in d.content at.timestamp) moves new × (dues ≡ []))
     (Idles old moves dues new)
 ReaderTakes config own peer at (Gap g) reader old moves dues new =
     WhereMatched config own at g.reader_id g.writer_id (record { peer = peer; number = reader })
-    (λ writer entity reliable. TakesGap reliable old writer reader g moves new × (dues ≡ []))
+    (λ writer entity reliable.
+    MeetsGap (stands_to old writer reader) reliable old writer reader g moves new × (dues ≡ []))
     (Idles old moves dues new)
 ReaderTakes config own peer at (Heartbeat h) reader old moves dues new =
     WhereMatched config own at h.reader_id h.writer_id (record { peer = peer; number = reader })
-    (λ writer entity reliable. TakesOrNot own at old writer reader entity (heard_as reliable h) moves dues new)
+    (λ writer entity reliable.
+    MeetsHeartbeat (stands_to old writer reader) reliable own at old writer reader entity h moves dues new)
     (Idles old moves dues new)
 ReaderTakes config own peer at submessage reader old moves dues new = Idles old moves dues new
 

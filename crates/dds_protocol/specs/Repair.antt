@@ -19,7 +19,7 @@ use Rattle.dds_machine.specs.declared.event.WorldEvent.TheVariants.{Tick, Delive
 use Rattle.dds_machine.specs.declared.reply.Report.{Report}
 use Rattle.dds_machine.specs.declared.reply.Reply.TheVariants.{Done, Reported}
 use Rattle.dds_machine.specs.Numbered.{HasNumber}
-use Rattle.dds_machine.specs.Part.{own_proxies, own_reader, acknowledged_of, publication_among, writer_changes}
+use Rattle.dds_machine.specs.Part.{how_of, Begun, own_proxies, own_reader, acknowledged_of, publication_among, writer_changes}
 use Rattle.dds_machine.specs.Moves.{match_of, position_at}
 use Rattle.dds_protocol.specs.Claims.{IsWriter, IsReader}
 use Rattle.dds_protocol.specs.Receipt.{prefix_of}
@@ -106,11 +106,12 @@ pub record IsPair (config : Config) (writer reader : Endpoint) : Type 0 where
   pub matched : is_writer.end.topic ≡ is_reader.end.topic
   pub reliable : is_reliable_reader is_reader.end ≡ true
 
--- the reader's place in the writer's list, and what the writer has of the reader; and what the reader knows is of that
--- place
+-- the reader's place in the writer's list, which has begun, and what the writer has of the reader; and what the reader
+-- knows is of that place
 pub record StandsAt (world : WorldState) (writer reader : Endpoint) (place acknowledged : ℕ) : Type 0 where
   pub here : HasNumber (peer_at world reader.peer).part.dds.readers reader.number
   pub place_is : place_at (machine_of world) reader writer ≡ Some place
+  pub begun : how_of (own_proxies (peer_at world reader.peer).part reader.number) writer ≡ Begun
   pub known : (tracked_at world writer reader).place ≡ place
   pub acknowledged_is : acknowledged_of (writer_at (machine_of world) writer).readers reader ≡ Some acknowledged
 
