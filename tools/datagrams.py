@@ -19,7 +19,7 @@ SECONDS = 20  # for an answer
 PAD, ACKNACK, HEARTBEAT, GAP, INFO_TS, INFO_DST, DATA = 0x01, 0x06, 0x07, 0x08, 0x09, 0x0E, 0x15
 UNKNOWN, NO_PREFIX = bytes(4), bytes(12)
 GREATEST = 1 << 62  # of the sequence numbers that are valid
-LONGEST_VALUE, LONGEST_DATAGRAM, MOST_BITS = 1_024, 65_535, 256
+LONGEST_VALUE, LONGEST_DATAGRAM, MOST_BITS = 65_000, 65_507, 256
 KINDS = ["write", "dispose", "unregister", "dispose and unregister"]
 
 

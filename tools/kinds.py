@@ -9,8 +9,8 @@ from typing import Dict, NamedTuple, Optional, Tuple
 
 import datagrams as dg
 
-DATA_FRAG, FLAG_N, NO_KEY = 0x16, 16, bytes(16)
-LINE = re.compile(r"kind ([0-9a-fA-F]{24}) ([0-9a-fA-F]{8}) (datum|keyless|cdr2?)((?: \d+:0*[1248])*)( gaps)?")
+DATA_FRAG, FLAG_N, NO_KEY, USUAL_VALUE = 0x16, 16, bytes(16), 1_024
+LINE = re.compile(r"kind ([0-9a-fA-F]{24}) ([0-9a-fA-F]{8}) (datum|keyless|cdr2?)((?: \d+:0*[1248])*)(?: values=(\d+))?( gaps)?")
 REPRESENTATIONS = {"cdr": 0, "cdr2": 6}  # of the big-endian one; that of the little-endian one is the next
 
 
@@ -19,6 +19,7 @@ class Kind(NamedTuple):
 
     name: str  # datum, keyless, cdr or cdr2
     fields: Tuple[Tuple[int, int], ...]  # the place and the size of each key field
+    most: int  # octets of a value
     has_gaps: bool
 
 
@@ -31,7 +32,8 @@ def kind_of(line: str) -> Optional[Tuple[bytes, Kind]]:
     if not found or (found[3] in REPRESENTATIONS) != bool(found[4]):
         return None
     fields = tuple((int(place), int(size)) for place, size in re.findall(r"(\d+):(\d+)", found[4]))
-    return bytes.fromhex(found[1] + found[2]), Kind(found[3], fields, bool(found[5]))
+    most = int(found[5]) if found[5] else USUAL_VALUE
+    return bytes.fromhex(found[1] + found[2]), Kind(found[3], fields, most, bool(found[6]))
 
 
 def value_of(payload: bytes) -> Optional[bytes]:
@@ -103,7 +105,7 @@ def turned_data(kind: Kind, order: str, flags: int, body: bytes) -> Tuple[Option
         return struct.pack(order + "BBH", dg.DATA, flags | FLAG_N, len(body)) + body, True
     whole = body[:at] + payload
     whole += bytes(-len(whole) % 4)
-    is_unread = len(payload) > 24 + dg.LONGEST_VALUE
+    is_unread = len(payload) > 24 + kind.most
     return struct.pack(order + "BBH", dg.DATA, flags, len(whole) & 0xFFFF) + whole, is_unread
 
 

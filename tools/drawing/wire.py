@@ -12,7 +12,7 @@ import datagrams as dg
 NAMES = {dg.PAD: "PAD", dg.ACKNACK: "ACKNACK", dg.HEARTBEAT: "HEARTBEAT", dg.GAP: "GAP", dg.INFO_TS: "INFO_TS",
          dg.INFO_DST: "INFO_DST", dg.DATA: "DATA"}
 PARAMETERS = {0x06: ("PID_OWNERSHIP_STRENGTH", "strength"), 0x70: ("PID_KEY_HASH", "key"), 0x71: ("PID_STATUS_INFO", "status info")}
-SENTINEL, LONGEST = 1, 65_535
+SENTINEL, LONGEST = 1, 65_507
 
 
 class Field(NamedTuple):

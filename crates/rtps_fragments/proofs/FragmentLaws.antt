@@ -139,7 +139,7 @@ record IsPossible (f : Fragment) : Type 0 where
   some : 1 ≤ f.fragments_in_submessage
   sized : 1 ≤ f.fragment_size
   within : f.fragment_starting_num - 1 + f.fragments_in_submessage ≤ count_of f.sample_size f.fragment_size
-  carried : length f.parameters + f.sample_size ≤ 65463
+  carried : length f.parameters + f.sample_size ≤ 65435
 
 possible : (f : Fragment) → is_impossible f ≡ false → IsPossible f
 possible f e =
@@ -149,8 +149,8 @@ possible f e =
     let d = neither _ _ n.0 in
     let c = neither _ _ d.0 in
     let b = neither _ _ c.0 in
-    let short : length f.parameters ≤ 65463 - f.sample_size = ltb-false _ _ h.1 in
-    let small : f.sample_size ≤ 65463 = ltb-false _ _ g.1 in
+    let short : length f.parameters ≤ 65435 - f.sample_size = ltb-false _ _ h.1 in
+    let small : f.sample_size ≤ 65435 = ltb-false _ _ g.1 in
     record {
       sn = ltb-false _ _ b.0;
       first = ltb-false _ _ b.1;
@@ -168,8 +168,8 @@ not_impossible f p =
     let d : ltb f.fragment_size 1 ≡ false = le-ltb _ _ p.sized in
     let n : ltb (count_of f.sample_size f.fragment_size) (f.fragment_starting_num - 1 + f.fragments_in_submessage)
     ≡ false = le-ltb _ _ p.within in
-    let g : ltb 65463 f.sample_size ≡ false = le-ltb _ _ (omega (arith, p.carried)) in
-    let h : ltb (65463 - f.sample_size) (length f.parameters) ≡ false = le-ltb _ _ (omega (arith, p.carried)) in
+    let g : ltb 65435 f.sample_size ≡ false = le-ltb _ _ (omega (arith, p.carried)) in
+    let h : ltb (65435 - f.sample_size) (length f.parameters) ≡ false = le-ltb _ _ (omega (arith, p.carried)) in
     rw (a, b, c, d, n, g, h) refl
 
 record HasFragments (f : Fragment) (bytes : List ℕ) (g : Fragment) : Type 0 where

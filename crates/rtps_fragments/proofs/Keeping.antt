@@ -24,8 +24,8 @@ IsKept-nothing f v = record {
   carried = omega (arith, v.carried);
 }
 
-either : (b : Bool) (xs ys : List ℕ) (n : ℕ) → length xs + n ≤ 65463 → length ys + n ≤ 65463
-    → length (cond b xs ys) + n ≤ 65463
+either : (b : Bool) (xs ys : List ℕ) (n : ℕ) → length xs + n ≤ 65435 → length ys + n ≤ 65435
+    → length (cond b xs ys) + n ≤ 65435
 either true xs ys n x y = x
 either false xs ys n x y = y
 
@@ -86,13 +86,13 @@ none_are_few writers =
     All-map (λ (r : Row). AreFew r.kept) (λ (w : Guid). record { writer = w; kept = [] }) writers
     (λ k d lt. record { numbers = omega arith; payloads = All-nil IsKept })
 
-short : (k : Kept) → IsKept k → octets_of k ≤ 65463
+short : (k : Kept) → IsKept k → octets_of k ≤ 65435
 short k o = omega (arith, o.carried, o.octets)
 
 pub few_are_short : FewAreShort
 few_are_short kept few =
     let sum =
-    sum_by-le octets_of 65463 kept (All-weaker IsKept (λ (k : Kept). octets_of k ≤ 65463) short kept few.payloads) in
+    sum_by-le octets_of 65435 kept (All-weaker IsKept (λ (k : Kept). octets_of k ≤ 65435) short kept few.payloads) in
     omega (arith, sum, few.numbers)
 
 pub known_are_few : KnownAreFew

@@ -41,7 +41,7 @@ least_octets_to_inline_qos = 28
 -- So many octets of parameters and payload a DATA carries in one datagram, behind the header of a message, an INFO_DST,
 -- an INFO_TS, the header of the DATA and its head. The bound is this project's: a message has at most 65,507 octets.
 abbrev pub max_carried : ℕ
-max_carried = 65463
+max_carried = 65435
 
 -- What a DATA_FRAG says. The flags are those of a DATA with this payload.
 pub record Fragment : Type 0 where

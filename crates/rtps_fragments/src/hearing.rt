@@ -170,7 +170,7 @@ impl Fragments {
     ///
     /// Passed over, with nothing changed, are DATA_FRAGs of other writers, those whose fragment size or whole length is
     /// not that of their number, fragments that are counted from 0 or beyond the payload, a payload that no DATA in one
-    /// datagram carries (more than 65,463 octets with its parameters), and a body that is cut short.
+    /// datagram carries (more than 65,435 octets with its parameters), and a body that is cut short.
     ///
     /// # Errors
     ///

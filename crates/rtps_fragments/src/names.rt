@@ -39,7 +39,7 @@ pub const FLAG_FRAG_NON_STANDARD: u8 = 0x08;
 pub const LEAST_OCTETS_TO_INLINE_QOS: u16 = 28;
 
 /// So many octets of parameters and payload a DATA carries in one datagram.
-pub const MAX_CARRIED: usize = 65_463;
+pub const MAX_CARRIED: usize = 65_435;
 
 /// So many numbers of a writer are kept at a time.
 pub const MAX_NUMBERS: usize = 16;
