@@ -1,0 +1,5 @@
+mod Saying
+mod Lists
+mod Delivering
+mod Farewell
+mod Datas

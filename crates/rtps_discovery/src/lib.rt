@@ -14,8 +14,16 @@
 //! ```
 #![tactic(auto)]
 
+mod discovery;
 mod lease;
 mod matching;
+mod packet;
+mod row;
+mod spdp;
+mod table;
 
+pub use discovery::{Heard, Participants, Settings, Ticked};
 pub use lease::taken_lease;
 pub use matching::{fits, misfit};
+pub use packet::Packet;
+pub use row::{Limits, Row, Told};
