@@ -5,6 +5,7 @@ mod announcements;
 mod base;
 mod cache;
 mod conditions;
+mod discovery;
 mod fragments;
 mod history;
 mod info;
