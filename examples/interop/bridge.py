@@ -91,8 +91,8 @@ class Timer:
 
 
 class Bridge:
-    def __init__(self, network: Network, kind: str):
-        self.network, self.type = network, TYPES[kind]
+    def __init__(self, network: Network, kind: str, max_value: int):
+        self.network, self.type, self.max_value = network, TYPES[kind], max_value
         self.prefix = bytes([0, 0]) + os.urandom(10)  # a new one each time: a product forgets none that has left at once
         self.discovery = Discovery(self.prefix, *network.places[:GROUP])
         self.announcement, self.discovering = Timer(ANNOUNCEMENT), Timer(DISCOVERY)
@@ -123,11 +123,12 @@ class Bridge:
         self.other_reader, self.is_best_effort = its_reader.guid[12:], its_reader.is_best_effort
         ends = (self.own_writer, its_writer.guid[12:], self.own_reader, self.other_reader)
         keys = [int.from_bytes(it[:3], "big") for it in ends]
-        writers = [writer(1, keys[0], topic=0, autodispose=False), writer(2, keys[1], topic=1, autodispose=False)]
-        readers = [reader(1, keys[2], topic=1), reader(2, keys[3], topic=0, is_best_effort=self.is_best_effort)]
+        of_both = {"max_value": self.max_value}
+        writers = [writer(1 + it, keys[it], topic=it, autodispose=False, **of_both) for it in (0, 1)]
+        readers = [reader(1, keys[2], topic=1, **of_both), reader(2, keys[3], topic=0, is_best_effort=self.is_best_effort, **of_both)]
         prefixes = [self.prefix, self.discovery.other]
         self.peer = Peer(prefixes, writers, readers, 1)
-        kinds = [WriterKind(prefixes[it.peer - 1], it.entity, self.type.carries, self.type.fields) for it in writers]
+        kinds = [WriterKind(prefixes[it.peer - 1], it.entity, self.type.carries, self.type.fields, self.max_value) for it in writers]
         self.adapter = Adapter(kinds, gaps=True)  # what could not be read would be asked for without an end
         self.discovery.add_writer(self.own_writer, Topic(TO_PRODUCT, self.type.name))
         self.discovery.add_reader(self.own_reader, Topic(FROM_PRODUCT, self.type.name))
@@ -225,10 +226,11 @@ def main() -> int:
     parser.add_argument("count", type=int)
     parser.add_argument("--drop", type=int, default=0, metavar="PERCENT", help="loses so many datagrams of a hundred, both ways")
     parser.add_argument("--seed", type=int, default=1, help="of what is lost")
+    parser.add_argument("--values", type=int, default=1024, metavar="OCTETS", help="how many a value has at most")
     parser.add_argument("--seconds", type=float, default=60, help="gives up then")
     options = parser.parse_args()
     network = Network(options.domain, options.drop, options.seed)
-    bridge = Bridge(network, options.type)
+    bridge = Bridge(network, options.type, options.values)
     changes = [it.split() for it in options.changes.read_text().splitlines()]
     is_complete = bridge.run(options.domain, changes, options.count, options.seconds)
     for key, state in sorted(bridge.states.items()):
