@@ -70,12 +70,12 @@ run_written config tests old unsent (event ∷ events) [] new last run before = 
 
 -- the written form of a message passes adapters
 written_passes : (kinds : List WriterKind) (packet : Packet) (m : Message) → IsWrittenAs packet m
-    → AllByRecursion (Fits kinds m.prefix) m.submessages → PassesAdapters kinds packet
+    → AllByRecursion (Fits kinds m.prefix) m.submessages → PassesAdapters kinds m packet
 written_passes kinds packet m is fit out back turned short returned =
     let went = subst (λ (bytes : List ℕ). Adapts Outward kinds bytes out) is.bytes turned in
     ⊎_elim
     (λ r. (comes_back kinds m out back is.writable fit went r).1 short ∙ sym is.bytes)
-    (λ r. comes_back_filled kinds m out back is.writable fit went r short ∙ sym is.bytes) returned
+    (λ r. comes_back_filled kinds m out back is.writable fit r.0 went r.1 short ∙ sym is.bytes) returned
 
 -- and gets no longer
 written_stays : (kinds : List WriterKind) (packet : Packet) (m : Message) → IsWrittenAs packet m
@@ -91,7 +91,7 @@ pub sent_passes : (kinds : List WriterKind) (config : Config) (tests : AllTests)
     → RuledRun config tests old unsent events replies new last → (packet : Packet) → Contains new.sent packet
     → (m : Message) × IsWrittenAs packet m
     × (AllByRecursion (Fits kinds m.prefix) m.submessages
-    → PassesAdapters kinds packet
+    → PassesAdapters kinds m packet
     × (AllByRecursion (IsShort kinds m.prefix) m.submessages → StaysAMessage kinds packet))
 sent_passes kinds config tests old unsent events replies new last begins run packet here =
     let w = run_written config tests old unsent events replies new last run

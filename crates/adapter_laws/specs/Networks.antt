@@ -9,7 +9,7 @@ use Rattle.rtps_adapter.specs.declared.direction.Direction.TheVariants.{Inward, 
 use Rattle.rtps_adapter.specs.declared.direction.Way.TheVariants.{Filling}
 use Rattle.rtps_adapter.specs.declared.kinds.WriterKind.{WriterKind}
 use Rattle.rtps_adapter.specs.Adapting.{Adapts, Makes}
-use Rattle.rtps_adapter.specs.ComesBack.{Fits, IsShort}
+use Rattle.rtps_adapter.specs.ComesBack.{Fits, IsShort, IsWithin}
 use Rattle.dds_machine.specs.declared.event.WorldEvent.{WorldEvent}
 use Rattle.dds_machine.specs.declared.reply.Reply.{Reply}
 use Rattle.dds_machine.specs.Machine.{AllTests}
@@ -23,11 +23,14 @@ pub record IsWrittenAs (packet : Packet) (m : Message) : Type 0 where
   pub writable : IsWritable m
   pub bytes : packet.bytes ≡ spelling_of m
 
--- What an adapter hands on of it on its way out, which is no longer than a message may be, one with the same table turns
--- back into the packet as it was, with GAPs for numbers that can't be read or without.
-abbrev pub PassesAdapters : List WriterKind → Packet → Type 0
-PassesAdapters kinds packet = (out back : List ℕ) → Adapts Outward kinds packet.bytes out → length out ≤ max_message
-    → (Adapts Inward kinds out back ⊎ Makes Filling kinds out back) → back ≡ packet.bytes
+-- What an adapter hands on of this message on its way out, which is no longer than a message may be, one with the same
+-- table turns back into the packet as it was; with GAPs for numbers that can't be read too, where no value is longer than
+-- the table says.
+abbrev pub PassesAdapters : List WriterKind → Message → Packet → Type 0
+PassesAdapters kinds m packet = (out back : List ℕ) → Adapts Outward kinds packet.bytes out
+    → length out ≤ max_message
+    → (Adapts Inward kinds out back
+    ⊎ (AllByRecursion (IsWithin kinds m.prefix) m.submessages × Makes Filling kinds out back)) → back ≡ packet.bytes
 
 -- It gets no longer on its way out, so that it is handed on.
 abbrev pub StaysAMessage : List WriterKind → Packet → Type 0
@@ -43,5 +46,5 @@ AdaptersChangeNothing = (kinds : List WriterKind) (config : Config) (tests : All
     → (packet : Packet) → Contains world.sent packet
     → (m : Message) × IsWrittenAs packet m
     × (AllByRecursion (Fits kinds m.prefix) m.submessages
-    → PassesAdapters kinds packet
+    → PassesAdapters kinds m packet
     × (AllByRecursion (IsShort kinds m.prefix) m.submessages → StaysAMessage kinds packet))
