@@ -53,28 +53,28 @@ pub fn is_address(one: &[u8; 4], other: &[u8; 4]) -> bool
 
 impl Row {
     /// Whether it is of this participant.
-    pub fn is_of(&self, prefix: &GuidPrefix) -> bool
+    pub(crate) fn is_of(&self, prefix: &GuidPrefix) -> bool
         ensures { result ≡ is_row prefix.now self.now }
     {
         self.participant.prefix == *prefix
     }
 
     /// Whether its datagrams come from this address.
-    pub fn is_from(&self, address: &[u8; 4]) -> bool
+    pub(crate) fn is_from(&self, address: &[u8; 4]) -> bool
         ensures { result ≡ is_from address.now self.now }
     {
         is_address(&self.source, address)
     }
 
     /// Whether it is of this participant, and its datagrams come from this address.
-    pub fn is_at(&self, prefix: &GuidPrefix, address: &[u8; 4]) -> bool
+    pub(crate) fn is_at(&self, prefix: &GuidPrefix, address: &[u8; 4]) -> bool
         ensures { result ≡ is_row_at prefix.now address.now self.now }
     {
         self.is_of(prefix) && self.is_from(address)
     }
 
     /// A datagram came, if it is its.
-    pub fn hear(&mut self, prefix: &GuidPrefix, address: &[u8; 4], now: u64)
+    pub(crate) fn hear(&mut self, prefix: &GuidPrefix, address: &[u8; 4], now: u64)
         ensures { self.new ≡ heard_row prefix.now address.now now self.old }
     {
         if self.is_at(prefix, address) {
@@ -84,7 +84,7 @@ impl Row {
     }
 
     /// Whether its lease has ended by now.
-    pub fn has_ended(&self, now: u64) -> bool
+    pub(crate) fn has_ended(&self, now: u64) -> bool
         ensures { result ≡ has_ended now self.now }
     {
         self.is_awake
@@ -93,7 +93,7 @@ impl Row {
     }
 
     /// It sleeps, if its lease has ended by now.
-    pub fn sleep(&mut self, now: u64)
+    pub(crate) fn sleep(&mut self, now: u64)
         ensures { self.new ≡ slept_row now self.old }
     {
         if self.has_ended(now) {
@@ -102,7 +102,7 @@ impl Row {
     }
 
     /// Where it is sent to.
-    pub fn reach(&self) -> Option<&Locator>
+    pub(crate) fn reach(&self) -> Option<&Locator>
         ensures { option_copied result ≡ reach self.now }
     {
         self.participant
