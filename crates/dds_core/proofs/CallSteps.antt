@@ -34,12 +34,13 @@ use Rattle.dds_core.specs.Identity.{WriterIdentity, ReaderIdentity, identity_of,
 use Rattle.dds_core.specs.Expiring.{AllExpire, HasPastCounting}
 use Rattle.dds_core.specs.Making.{IsMade, IsNotMade, entered}
 use Rattle.dds_core.specs.Sending.{SendsFor, SendsNothing}
-use Rattle.dds_core.specs.Standing.{WriterStands, StandsFor}
+use Rattle.dds_core.specs.Standing.{IsShort, WriterStands, StandsFor}
 use Rattle.dds_core.specs.Stepping.{Enters, AllTick}
 use Rattle.dds_core.specs.Beating.{BeatsOfAll}
 use Rattle.dds_core.proofs.BeatsDue.{due_true}
 use Rattle.dds_core.proofs.Dying.{expired_names, peer_past_counting, readers_expired}
 use Rattle.dds_core.proofs.Lists.{get-within}
+use Rattle.dds_core.proofs.Limited.{value_limited}
 use Rattle.dds_core.proofs.Ends.{with_writer, entered_at, own_writer_stepped, unchanged_with}
 use Rattle.dds_core.proofs.Taking.{silent}
 use Rattle.dds_core.proofs.Tellable.{tellable_entered, tellable_ticked}

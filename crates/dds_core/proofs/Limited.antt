@@ -1,5 +1,5 @@
 -- How long the values of a peer's writer may be: a configuration that is taken sets a limit to them.
-use Rattle.std.proofs.Common.{◌≡◌, ℕ, zero, suc, ◌≤◌, Bool, true, false, ◌||◌, List, [], ◌∷◌, Option, Some, None, slice_get, subst, ap, sym, arith}
+use Rattle.std.proofs.Common.{◌≡◌, ℕ, zero, suc, ◌≤◌, ◌==◌, Bool, true, false, not, ◌||◌, length, List, [], ◌∷◌, Option, Some, None, slice_get, refl, subst, ap, arith}
 use Rattle.std.specs.Prelude.{if◌then◌else◌, nat_lt}
 use Rattle.std.specs.List.{list_any}
 use Rattle.std.proofs.lemmas.Bool.Decides.{nat_tests}
@@ -9,7 +9,9 @@ use Rattle.dds_base.specs.declared.code.Code.TheVariants.{BadParameter}
 use Rattle.dds_base.specs.declared.config.Config.{Config}
 use Rattle.dds_base.specs.declared.config.PeerConfig.{PeerConfig}
 use Rattle.dds_base.specs.declared.config.WriterConfig.{WriterConfig}
-use Rattle.dds_base.specs.Checked.{check_refusal, has_bad_parameter, is_bad_peer, is_bad_value, is_bad_writer}
+use Rattle.dds_base.specs.declared.config.ReaderConfig.{ReaderConfig}
+use Rattle.dds_base.specs.Bounds.{max_ends, max_peers}
+use Rattle.dds_base.specs.Checked.{check_refusal, entity_count, has_bad_parameter, has_kind, has_no_depth, is_bad_lease, is_bad_peer, is_bad_reader, is_bad_writer, is_maximum, prefix_count, same_prefix, unknown_prefix}
 use Rattle.dds_core.specs.Identity.{WriterIdentity, IsPeerOf, configured_writer, identity_of, writer_identity}
 use Rattle.dds_core.specs.Kept.{PeerKept, WriterKept}
 use Rattle.dds_core.proofs.Lists.{get-map, map-get}
@@ -37,17 +39,33 @@ taken peers h = by (has_bad_parameter peers) _ h
     by true rest e = absurd cc
     by false rest e = refl
 
+third : (a b c : Bool) → (a || (b || c)) ≡ false → c ≡ false
+third a b c h = or_right b c (or_right a (b || c) h)
+
+third_of_four : (a b c d : Bool) → (a || (b || (c || d))) ≡ false → c ≡ false
+third_of_four a b c d h = or_left c d (third a b (c || d) h)
+
+last_of_six : (a b c d e f : Bool) → (a || (b || (c || (d || (e || f))))) ≡ false → f ≡ false
+last_of_six a b c d e f h = third d e f (or_right c (d || (e || f)) (third a b (c || (d || (e || f))) h))
+
 -- of each writer of a configuration that is taken
 limited : (peers : List PeerConfig) → check_refusal peers ≡ None → (n : ℕ) (p : PeerConfig)
     → slice_get peers n ≡ Some p → (i : ℕ) (w : WriterConfig) → slice_get p.writers i ≡ Some w → w.max_value ≤ 65000
 limited peers checked n p at i w there =
     let peer : is_bad_peer p ≡ false =
-    none_passes is_bad_peer peers n p (or_right _ _ (or_right _ _ (taken peers checked))) at in
+    none_passes is_bad_peer peers n p
+    (third ((length peers == 0) || nat_lt max_peers (length peers)) (list_any (λ (q : PeerConfig).
+    same_prefix q.prefix unknown_prefix || nat_lt 1 (prefix_count peers q.prefix)) peers) (list_any is_bad_peer peers)
+    (taken peers checked)) at in
     let writer : is_bad_writer w ≡ false =
-    none_passes is_bad_writer p.writers i w (or_left _ _ (or_right _ _ (or_right _ _ peer))) there in
-    let value : is_bad_value w.max_value ≡ false =
-    or_right _ _ (or_right _ _ (or_right _ _ (or_right _ _ writer))) in
-    let most : nat_lt 65000 w.max_value ≡ false = or_right _ _ value in
+    none_passes is_bad_writer p.writers i w
+    (third_of_four (nat_lt max_ends (length p.writers) || nat_lt max_ends (length p.readers))
+    (list_any (λ (v : WriterConfig). nat_lt 1 (entity_count p v.entity)) p.writers
+    || list_any (λ (r : ReaderConfig). nat_lt 1 (entity_count p r.entity)) p.readers) (list_any is_bad_writer p.writers)
+    (list_any is_bad_reader p.readers) peer) there in
+    let most : nat_lt 65000 w.max_value ≡ false =
+    last_of_six (not (has_kind 2 w.entity)) (has_no_depth w.history) (not (is_maximum w.max_samples))
+    (is_bad_lease w.lease) (w.max_value == 0) (nat_lt 65000 w.max_value) writer in
     grind (arith, nat_tests)
 
 -- of each writer of a peer

@@ -400,7 +400,7 @@ pub acknack_taken : (old : WriterKept) (own : GuidPrefix) (row : ℕ) (a : AckNa
     → ((s : WriterState) → RtpsStandsFor old.writer s → answers ≡ acknack_answers s row base a.reader_sn_state count)
     → ((s : WriterState) → RtpsStandsFor new s → SendsAnswers answering (changes_of s.written) answers sent gone)
     → ((name : ReaderName) → slice_get old.readers row ≡ Some name
-    → answering ≡ record { own = own; entity = old.entity; reader = name })
+    → answering ≡ record { own = own; entity = old.entity; reader = name; max_value = old.max_value })
     → TakesAckNack old own row a sent (record old { writer = new }) acknowledged gone
 acknack_taken old own row a sent new acknowledged gone base count answers answering same_base same_count stands newly
     answered sends who s given =

@@ -20,11 +20,12 @@ announce-announced-requires-clause-short c =
     (subst (λ (x : PeerKept). slice_get x.writers c.args.index ≡ Some c.index-writer.result.now) c.self.view_is
     (writer_at c.self.view_is c.requires.within c.index-writer.ensures))).1
 
-pub append-requires-clause-short : goal.append-requires-clause-short
-append-requires-clause-short c =
-    c.requires.short c.index_mut.result.now
-    (subst (λ (x : PeerKept). slice_get x.writers c.args.index ≡ Some c.index_mut.result.now) c.self.view_is
-    (writer_at c.self.view_is c.requires.within c.index_mut.ensures.value))
+pub append-requires : goal.append-requires
+append-requires c = record {
+  short = c.requires.short c.index_mut.result.now
+      (subst (λ (x : PeerKept). slice_get x.writers c.args.index ≡ Some c.index_mut.result.now) c.self.view_is
+      (writer_at c.self.view_is c.requires.within c.index_mut.ensures.value));
+}
 
 pub returns-in-Err-clause-makes : goal.returns-in-Err-clause-makes
 returns-in-Err-clause-makes c = λ config peer given.

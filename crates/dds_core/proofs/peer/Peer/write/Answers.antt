@@ -1,4 +1,4 @@
-use Rattle.std.proofs.Common.{◌≡◌, ◌<◌, ℕ, Some, length, slice_get, subst, ap, rules, arith, refl}
+use Rattle.std.proofs.Common.{◌≡◌, ◌<◌, Some, length, slice_get, subst, ap, rules, arith, refl}
 use Rattle.std.proofs.lemmas.Option.{same_Some, slice_get_read}
 use Rattle.dds_machine.specs.declared.call.Call.TheVariants as call
 use Rattle.dds_core.specs.Kept.{PeerKept, WriterKept}
