@@ -9,9 +9,6 @@ use std::alloc::{AllocError, Global};
 const KIND: &str =
     "its form is `kind PREFIX ENTITY TYPE [gaps]`, where TYPE is datum, keyless, list, or cdr or cdr2 with key fields as PLACE:SIZE, each of 1, 2, 4 or 8 octets";
 
-/// What follows `fragments`.
-const FRAGMENTS: Form = Form::of(&[Operand::GuidPrefix, Operand::EntityId]);
-
 /// Why words say nothing to a peer that is neither an event nor of a configuration.
 fn other_cause(alloc: Global, name: &str, words: &[&str]) -> Result<String, AllocError> {
     match peer_form(name) {
@@ -19,7 +16,10 @@ fn other_cause(alloc: Global, name: &str, words: &[&str]) -> Result<String, Allo
         None => match name {
             "open" => form_cause(alloc, name, Form::of(&[Operand::Peer]), words),
             "kind" => String::from_str(alloc, KIND),
-            "fragments" => form_cause(alloc, name, FRAGMENTS, words),
+            "fragments" => {
+                let form = Form::of(&[Operand::GuidPrefix, Operand::EntityId]);
+                form_cause(alloc, name, form, words)
+            }
             "hear" => form_cause(alloc, name, Form::of(&[Operand::Octets]), words),
             _ => unknown_cause(alloc, "call", name),
         },
