@@ -233,7 +233,7 @@ pair t = pair_named t.config t.m.writer t.m.reader (part t) (acknowledged t) (of
 stands : {hearing : Hearing} → (t : Tick hearing) → StandsAt t.network t.m.writer t.m.reader t.place (acknowledged t)
 stands t =
     let k = place_known t.old t.config t.network t.m.writer t.m.reader t.place t.s t.at in
-    record { here = k.here; place_is = t.at; known = k.known; acknowledged_is = row t }
+    record { here = k.here; place_is = t.at; begun = k.begun; known = k.known; acknowledged_is = row t }
 
 few : {hearing : Hearing} → (t : Tick hearing) → the_last t < 2 ^ 62
 few t =
