@@ -102,4 +102,4 @@ def turns(rows: list[Row]) -> str:
 
 
 # The chart of each kind of line, and the file that it goes to.
-CHARTS = {"growth": ("cost-growth.svg", growth), "turn": ("cost-turns.svg", turns)}
+CHARTS = {"growth": ("growth.svg", growth), "turn": ("turns.svg", turns)}
