@@ -231,7 +231,10 @@ impl Session {
             return Err(self.too_late(line));
         }
         let mut whole = Vec::new(self.alloc);
-        let reply = match self.fragments.hear(self.alloc, bytes.as_slice(), &mut whole) {
+        let reply = match self
+            .fragments
+            .hear(self.alloc, bytes.as_slice(), &mut whole)
+        {
             Ok(()) => Reply::Done,
             Err(code) => Reply::Refused(code),
         };

@@ -164,9 +164,7 @@ impl TranscriptLine {
 
     fn push_begun(&mut self, writer: Endpoint, reader: u8, from: u64, to: u64) {
         let (peer, number) = (writer.peer, writer.number);
-        self.push(format_args!(
-            " [begun {peer}.w{number} r{reader} {from} {to}]"
-        ));
+        self.push(format_args!(" [begun {peer}.w{number} r{reader} {from} {to}]"));
     }
 
     fn push_acknowledged(&mut self, writer: u8, reader: Endpoint, to: u64) {

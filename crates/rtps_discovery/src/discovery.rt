@@ -14,7 +14,9 @@ use crate::lease::taken_lease;
 use crate::packet::{FLAG_DATA, MAX_CONTENT, Packet, data_of, farewell_data, message_to};
 use crate::row::{Limits, Row, Told};
 use crate::spdp::{FLAG_ENDIANNESS, SPDP_READER, Said, first_said};
-use crate::table::{Room, announce, difference, enter, has_row, hear, is_there, part, room_for, sleep};
+use crate::table::{
+    Room, announce, difference, enter, has_row, hear, is_there, part, room_for, sleep,
+};
 use dds_base::{Code, EntityId, GuidPrefix};
 use rtps_announcements::{Locator, Participant, is_writable_participant, write_participant};
 use rtps_wire::begin_message;
@@ -44,16 +46,16 @@ impl Model for Participants {
     ghost Value = { State };
 
     ghost view = { λ s. record {
-        own = s.own;
-        domain = s.domain;
-        for_all = s.for_all.items;
-        for_one = s.for_one.items;
-        interval = s.interval;
-        addresses = s.addresses.items;
-        limits = s.limits;
-        rows = s.rows.items;
-        time = s.time;
-        next = s.next;
+      own = s.own;
+      domain = s.domain;
+      for_all = s.for_all.items;
+      for_one = s.for_one.items;
+      interval = s.interval;
+      addresses = s.addresses.items;
+      limits = s.limits;
+      rows = s.rows.items;
+      time = s.time;
+      next = s.next;
     } };
 }
 
@@ -393,7 +395,13 @@ impl Participants {
         if now < self.next {
             return Ok(packets);
         }
-        put_for_all(alloc, &mut packets, &self.own, &self.addresses, &self.for_all)?;
+        put_for_all(
+            alloc,
+            &mut packets,
+            &self.own,
+            &self.addresses,
+            &self.for_all,
+        )?;
         put_for_each(alloc, &mut packets, &self.own, &self.for_one, &self.rows)?;
         Ok(packets)
     }

@@ -117,7 +117,8 @@ fn has_asleep_before(rows: &[Row], address: Option<&[u8; 4]>, heard: u64) -> boo
     ensures { result ≡ list_any
         (λ o. is_asleep (option_copied address.entry) o && nat_lt o.heard heard) rows.now }
 {
-    rows.iter().any(|other| is_asleep_before(address, heard, other))
+    rows.iter()
+        .any(|other| is_asleep_before(address, heard, other))
 }
 
 /// Whether of these rows that sleep this one was heard first.

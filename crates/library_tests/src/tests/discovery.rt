@@ -10,7 +10,8 @@ use rtps_discovery::{Heard, Limits, Packet, Participants, Row, Settings, Ticked,
 use std::alloc::Global;
 
 /// What the first participant announces: a lease of 20 seconds, and its ports on the loopback.
-const ANNOUNCED: &str = "00030000 50001000 000000000000000000000001 000001c1 15000400 02050000 16000400 00000000 \
+const ANNOUNCED: &str =
+    "00030000 50001000 000000000000000000000001 000001c1 15000400 02050000 16000400 00000000 \
 0f000400 00000000 58000400 3f0c0000 02000800 14000000 00000000 32001800 01000000 f21c0000 00000000 00000000 00000000 \
 7f000001 31001800 01000000 f31c0000 00000000 00000000 00000000 7f000001 01000000";
 
@@ -112,7 +113,10 @@ fn push_row(text: &mut String, row: &Row) {
     push_hex(text, row.participant.prefix.as_slice());
     let _ = text.push(' ');
     push_hex(text, &row.source);
-    let (seconds, state) = (row.heard >> 32, if row.is_awake { "awake" } else { "asleep" });
+    let (seconds, state) = (
+        row.heard >> 32,
+        if row.is_awake { "awake" } else { "asleep" },
+    );
     let _ = write!(text, " {seconds} {state}");
 }
 
