@@ -7,7 +7,7 @@ use std::alloc::{AllocError, Global};
 
 /// The form of a `kind` line.
 const KIND: &str =
-    "its form is `kind PREFIX ENTITY TYPE [gaps]`, where TYPE is datum, keyless, list, or cdr or cdr2 with key fields as PLACE:SIZE, each of 1, 2, 4 or 8 octets";
+    "its form is `kind PREFIX ENTITY TYPE [values=N] [gaps]`, where TYPE is datum, keyless, list, or cdr or cdr2 with key fields as PLACE:SIZE, each of 1, 2, 4 or 8 octets";
 
 /// Why words say nothing to a peer that is neither an event nor of a configuration.
 fn other_cause(alloc: Global, name: &str, words: &[&str]) -> Result<String, AllocError> {

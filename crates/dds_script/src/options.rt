@@ -122,11 +122,11 @@ pub fn reader_options(words: &[&str]) -> Option<Options> {
 
 /// The options of a writer, as forms name them.
 pub const WRITER_OPTIONS: &str =
-    "shared, exclusive, all, last=N, max=N, topic=N, lease=UNITS, strength=N, noauto";
+    "shared, exclusive, all, last=N, max=N, topic=N, lease=UNITS, values=N, strength=N, noauto";
 
 /// The options of a reader, as forms name them.
 pub const READER_OPTIONS: &str =
-    "shared, exclusive, all, last=N, max=N, topic=N, lease=UNITS, instances=N, arrivals=N, besteffort";
+    "shared, exclusive, all, last=N, max=N, topic=N, lease=UNITS, values=N, instances=N, arrivals=N, besteffort";
 
 /// Whether a word is an option of a writer.
 pub fn is_writer_option(word: &str) -> bool {
