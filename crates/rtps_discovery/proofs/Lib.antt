@@ -3,3 +3,5 @@ mod Lists
 mod Delivering
 mod Farewell
 mod Datas
+mod Members
+mod Standing

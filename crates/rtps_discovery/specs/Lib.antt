@@ -5,3 +5,4 @@ pub mod Rooms
 pub mod Spdp
 pub mod Packets
 pub mod Steps
+pub mod Laws

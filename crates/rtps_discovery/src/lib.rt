@@ -15,6 +15,7 @@
 #![tactic(auto)]
 
 mod discovery;
+pub mod laws;
 mod lease;
 mod matching;
 mod packet;

@@ -1,0 +1,14 @@
+//! What holds of every table of participants, every datagram and every tick. The functions do nothing.
+//!
+//! RTPS 2.5, 8.5.3 (SPDP).
+
+ghost use Rattle.rtps_discovery.specs.Laws.{OthersStay, NothingChanges};
+
+/// A datagram speaks for its sender alone, and only at the address that it came from: of every other participant, and of
+/// one of its name at another address, what is known stays. Only a row that sleeps may make room.
+pub fn others_stay()
+    // Another row stays as it was, where it is awake, and none is new.
+    ensures others { OthersStay }
+    // What is no message of another participant changes no row.
+    ensures nothing { NothingChanges }
+{}
