@@ -5,3 +5,4 @@ mod Farewell
 mod Datas
 mod Members
 mod Standing
+mod Numbers

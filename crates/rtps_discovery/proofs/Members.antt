@@ -1,12 +1,11 @@
 -- The elements of lists that are made of others.
-use Rattle.std.proofs.Common.{◌≡◌, ◌⊎◌, ◌∙◌, ℕ, zero, suc, ◌+◌, ◌<◌, Bool, true, false, cond, List, [], ◌∷◌, ◌++◌, length, take, drop, map, filter_map, get_or, set, Contains, Option, Some, None, refl, sym, ap, subst, inl, inr, ⊎_elim, arith}
+use Rattle.std.proofs.Common.{◌≡◌, ◌⊎◌, ◌∙◌, ℕ, zero, suc, ◌<◌, Bool, true, false, cond, List, [], ◌∷◌, ◌++◌, length, take, drop, map, filter_map, get_or, set, Contains, Option, Some, None, refl, sym, ap, subst, inl, inr, ⊎_elim, arith}
 use Rattle.std.specs.Prelude.{filter, remove}
 use Rattle.std.specs.List.{cons_option}
 use Rattle.std.proofs.lemmas.List.{set_split, set-get_or}
 use Rattle.std.proofs.lemmas.List.Elements.{Contains-append_left, Contains-append_right, Contains-append_cases}
-use Rattle.dds_base.proofs.FieldLaws.{some_is}
 
-nothing_in : {X : Type 0} (x : X) → Contains [] x → ⊥
+pub nothing_in : {X : Type 0} (x : X) → Contains [] x → ⊥
 nothing_in x c = let l = c.1 in omega (arith, l)
 
 at_place : {X : Type 0} (y : X) (ys : List X) (x : X) (k : ℕ) → k < length (y ∷ ys) → get_or (y ∷ ys) k x ≡ x

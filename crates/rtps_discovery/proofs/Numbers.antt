@@ -1,6 +1,6 @@
 -- How many rows there are.
 use Rattle.std.proofs.Common.{◌≡◌, ◌⊎◌, ◌∙◌, ℕ, suc, ◌+◌, ◌<◌, ◌≤◌, Bool, true, false, cond, List, [], ◌∷◌, ◌++◌, length, take, drop, map, get_or, set, max, Option, Some, None, refl, sym, ap, subst, inl, inr, ⊎_elim, arith}
-use Rattle.std.specs.Prelude.{filter, not, remove, unwrap_or, if◌then◌else◌}
+use Rattle.std.specs.Prelude.{filter, not, remove, unwrap_or}
 use Rattle.std.specs.List.{count_by, position, sum_by}
 use Rattle.std.specs.Option.{option_map, option_map_or}
 use Rattle.std.specs.Str.{bytes_eq}
@@ -12,7 +12,7 @@ use Rattle.rtps_discovery.specs.declared.row.Row.{Row}
 use Rattle.rtps_discovery.specs.declared.row.Limits.{Limits}
 use Rattle.rtps_discovery.specs.declared.spdp.Said.{Said}
 use Rattle.rtps_discovery.specs.declared.spdp.Said.TheVariants.{Announces, Leaves}
-use Rattle.rtps_discovery.specs.Rows.{announced, entered, has_ended, has_row, heard, heard_row, is_from, is_row, is_row_at, new_row, parted, slept, slept_row, with_room}
+use Rattle.rtps_discovery.specs.Rows.{announced, entered, has_ended, has_row, heard, heard_row, is_from, is_row, is_row_at, new_row, slept_row, with_room}
 use Rattle.rtps_discovery.specs.Steps.{State, Delivers, rows_after, ticked}
 use Rattle.rtps_discovery.specs.Laws.{Delivery, IsFew, IsFewAt, FewAreKnown, FewAreKnownAt}
 use Rattle.rtps_discovery.proofs.Members.{parts_at}

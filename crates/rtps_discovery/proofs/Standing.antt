@@ -1,6 +1,6 @@
 -- Rows that stay, and rows that are new.
-use Rattle.std.proofs.Common.{◌≡◌, ◌⊎◌, ◌∙◌, ℕ, ◌+◌, ◌<◌, Bool, true, false, cond, List, [], ◌∷◌, ◌++◌, length, get_or, set, Contains, max, Option, Some, None, refl, sym, ap, subst, inl, inr, ⊎_elim, arith}
-use Rattle.std.specs.Prelude.{◌&&◌, not, nat_eq, nat_lt, is_some, remove, unwrap_or, IfSome, MatchOption, if◌then◌else◌}
+use Rattle.std.proofs.Common.{◌≡◌, ◌⊎◌, ◌∙◌, ℕ, ◌<◌, Bool, true, false, cond, List, [], ◌∷◌, ◌++◌, length, get_or, set, Contains, max, Option, Some, None, refl, sym, ap, subst, inl, inr, ⊎_elim}
+use Rattle.std.specs.Prelude.{◌&&◌, not, nat_eq, nat_lt, is_some, remove, unwrap_or, MatchOption}
 use Rattle.std.specs.List.{count_by, list_any, position, position_or_len}
 use Rattle.std.specs.Option.{option_map, option_map_or}
 use Rattle.std.specs.Str.{bytes_eq}
@@ -20,9 +20,9 @@ use Rattle.rtps_discovery.specs.declared.row.Limits.{Limits}
 use Rattle.rtps_discovery.specs.declared.spdp.Said.{Said}
 use Rattle.rtps_discovery.specs.declared.spdp.Said.TheVariants.{Announces, Leaves}
 use Rattle.rtps_discovery.specs.Rows.{among, announced, entered, has_row, heard, heard_row, is_asleep, is_asleep_longest, is_from, is_row_at, new_row, parted, with_room, without_one}
-use Rattle.rtps_discovery.specs.Spdp.{Begins, IsSaid, Part, Says, SaysFirst, first_said, for_us_after}
-use Rattle.rtps_discovery.specs.Steps.{State, Delivers, Hears, is_other, rows_after, with_rows}
-use Rattle.rtps_discovery.specs.Laws.{Delivery, OthersStay, NothingChanges}
+use Rattle.rtps_discovery.specs.Spdp.{Begins, IsSaid, Part, SaysFirst, first_said, for_us_after}
+use Rattle.rtps_discovery.specs.Steps.{State, Delivers, rows_after}
+use Rattle.rtps_discovery.specs.Laws.{OthersStay, NothingChanges}
 use Rattle.rtps_discovery.proofs.Members.{into_map, from_map, into_filter, from_filter, into_removed, from_removed, into_set, from_set}
 
 pub both : (a b : Bool) → (a && b) ≡ true → (a ≡ true) × (b ≡ true)

@@ -2,7 +2,7 @@
 //!
 //! RTPS 2.5, 8.5.3 (SPDP).
 
-ghost use Rattle.rtps_discovery.specs.Laws.{OthersStay, NothingChanges};
+ghost use Rattle.rtps_discovery.specs.Laws.{OthersStay, NothingChanges, FewAreKnown, FewAreKnownAt};
 
 /// A datagram speaks for its sender alone, and only at the address that it came from: of every other participant, and of
 /// one of its name at another address, what is known stays. Only a row that sleeps may make room.
@@ -11,4 +11,12 @@ pub fn others_stay()
     ensures others { OthersStay }
     // What is no message of another participant changes no row.
     ensures nothing { NothingChanges }
+{}
+
+/// The table never grows past its limits, whatever comes and from wherever.
+pub fn few_are_known()
+    // It has no more rows than it may have in all.
+    ensures few { FewAreKnown }
+    // It has no more of one address than it may have of one.
+    ensures of_one_address { FewAreKnownAt }
 {}
