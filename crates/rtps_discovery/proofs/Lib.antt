@@ -6,3 +6,4 @@ mod Datas
 mod Members
 mod Standing
 mod Numbers
+mod Lasting

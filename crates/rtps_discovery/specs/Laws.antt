@@ -64,3 +64,22 @@ FewAreKnown = IsKept IsFew
 -- never more of one address than the limit
 abbrev pub FewAreKnownAt : Type 0
 FewAreKnownAt = (address : List ℕ) → IsKept (IsFewAt address)
+
+-- ---- leases
+
+-- Who is there after a tick was heard so lately that its lease has not ended.
+abbrev pub LeasesEnd : Type 0
+LeasesEnd = (s : State) (now : ℕ) (r : Row) → Contains (ticked s now).rows r → r.is_awake ≡ true
+    → now < r.heard + taken_lease r.participant.lease
+
+-- A row is as it was, but that it may have begun to sleep.
+pub record SleepsAtMost (old new : Row) : Type 0 where
+  pub participant : new.participant ≡ old.participant
+  pub source : new.source ≡ old.source
+  pub heard : new.heard ≡ old.heard
+  pub awake : new.is_awake ≡ true → old.is_awake ≡ true
+
+-- A tick changes nothing else: the rows stand as they stood, one by one.
+abbrev pub TicksOnlySleep : Type 0
+TicksOnlySleep = (s : State) (now : ℕ) → (length (ticked s now).rows ≡ length s.rows)
+    × ((k : ℕ) (d : Row) → k < length s.rows → SleepsAtMost (slice_index_or s.rows k d) (slice_index_or (ticked s now).rows k d))

@@ -2,7 +2,7 @@
 //!
 //! RTPS 2.5, 8.5.3 (SPDP).
 
-ghost use Rattle.rtps_discovery.specs.Laws.{OthersStay, NothingChanges, FewAreKnown, FewAreKnownAt};
+ghost use Rattle.rtps_discovery.specs.Laws.{OthersStay, NothingChanges, FewAreKnown, FewAreKnownAt, LeasesEnd, TicksOnlySleep};
 
 /// A datagram speaks for its sender alone, and only at the address that it came from: of every other participant, and of
 /// one of its name at another address, what is known stays. Only a row that sleeps may make room.
@@ -19,4 +19,12 @@ pub fn few_are_known()
     ensures few { FewAreKnown }
     // It has no more of one address than it may have of one.
     ensures of_one_address { FewAreKnownAt }
+{}
+
+/// Nobody is taken to be there for longer than its lease.
+pub fn leases_end()
+    // Who is there after a tick was heard within its lease.
+    ensures leases { LeasesEnd }
+    // A tick changes nothing else.
+    ensures sleep { TicksOnlySleep }
 {}
