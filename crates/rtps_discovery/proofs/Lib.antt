@@ -7,3 +7,4 @@ mod Members
 mod Standing
 mod Numbers
 mod Lasting
+mod Goings

@@ -83,3 +83,30 @@ pub record SleepsAtMost (old new : Row) : Type 0 where
 abbrev pub TicksOnlySleep : Type 0
 TicksOnlySleep = (s : State) (now : ℕ) → (length (ticked s now).rows ≡ length s.rows)
     × ((k : ℕ) (d : Row) → k < length s.rows → SleepsAtMost (slice_index_or s.rows k d) (slice_index_or (ticked s now).rows k d))
+
+-- ---- what is sent
+
+-- What a datagram is answered goes to the address that it came from.
+abbrev pub AnswersGoBack : Type 0
+AnswersGoBack = (d : Delivery) → IfSome d.packet (λ p. p.to.address ≡ d.address)
+
+-- a row of this address
+abbrev pub HasSource : List Row → List ℕ → Type 0
+HasSource rows address = Any (λ r. r.source ≡ address) rows
+
+-- It goes to an address that is told of us anyway, or to one that datagrams of a row came from.
+abbrev pub GoesTo : State → Locator → Type 0
+GoesTo s to = Contains s.addresses to ⊎ HasSource s.rows to.address
+
+-- What is sent at a tick goes there.
+abbrev pub AnnouncementsGoToKnown : Type 0
+AnnouncementsGoToKnown = (s : State) (now : ℕ) (p : Packet) → Contains (sent_at s now) p → GoesTo s p.to
+
+-- What is sent as we leave goes there.
+abbrev pub FarewellsGoToKnown : Type 0
+FarewellsGoToKnown = (s : State) (p : Packet) → Contains (farewells s) p → GoesTo s p.to
+
+-- Datagrams came from the address of each row: this one, or those before.
+abbrev pub SourcesWereHeard : Type 0
+SourcesWereHeard = (d : Delivery) (r : Row) → Contains d.after.rows r
+    → (r.source ≡ d.address) ⊎ HasSource d.before.rows r.source

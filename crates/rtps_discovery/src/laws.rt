@@ -2,7 +2,7 @@
 //!
 //! RTPS 2.5, 8.5.3 (SPDP).
 
-ghost use Rattle.rtps_discovery.specs.Laws.{OthersStay, NothingChanges, FewAreKnown, FewAreKnownAt, LeasesEnd, TicksOnlySleep};
+ghost use Rattle.rtps_discovery.specs.Laws.{OthersStay, NothingChanges, FewAreKnown, FewAreKnownAt, LeasesEnd, TicksOnlySleep, AnswersGoBack, AnnouncementsGoToKnown, FarewellsGoToKnown, SourcesWereHeard};
 
 /// A datagram speaks for its sender alone, and only at the address that it came from: of every other participant, and of
 /// one of its name at another address, what is known stays. Only a row that sleeps may make room.
@@ -27,4 +27,17 @@ pub fn leases_end()
     ensures leases { LeasesEnd }
     // A tick changes nothing else.
     ensures sleep { TicksOnlySleep }
+{}
+
+/// Nothing is sent to an address because a datagram says so: only back to where it came from, and to those that are told
+/// of us anyway.
+pub fn what_is_sent_goes_back()
+    // What answers a datagram goes to the address that it came from.
+    ensures answer { AnswersGoBack }
+    // Our announcements go to the addresses that are told of us anyway, and to those that rows came from.
+    ensures announcements { AnnouncementsGoToKnown }
+    // So does what we say as we leave.
+    ensures farewells { FarewellsGoToKnown }
+    // Rows come from the addresses that datagrams came from.
+    ensures sources { SourcesWereHeard }
 {}
