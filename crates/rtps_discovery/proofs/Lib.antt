@@ -8,3 +8,4 @@ mod Standing
 mod Numbers
 mod Lasting
 mod Goings
+mod Telling

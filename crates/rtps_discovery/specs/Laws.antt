@@ -110,3 +110,22 @@ FarewellsGoToKnown = (s : State) (p : Packet) → Contains (farewells s) p → G
 abbrev pub SourcesWereHeard : Type 0
 SourcesWereHeard = (d : Delivery) (r : Row) → Contains d.after.rows r
     → (r.source ≡ d.address) ⊎ HasSource d.before.rows r.source
+
+-- ---- what is told
+
+-- What is told of a participant is so: it was there or not, and now is or is not.
+abbrev pub IsSo : GuidPrefix → Bool → Bool → Option Told → Type 0
+IsSo source was is None = is ≡ was
+IsSo source was is (Some (Appeared p)) = (p ≡ source) × (was ≡ false) × (is ≡ true)
+IsSo source was is (Some (Gone p)) = (p ≡ source) × (was ≡ true) × (is ≡ false)
+
+-- So it is of the sender of a datagram.
+abbrev pub ToldIsSo : Type 0
+ToldIsSo = (d : Delivery) (source : GuidPrefix) (body : List ℕ) → HasHeader d.bytes source body
+    → IsSo source (is_there source d.before.rows) (is_there source d.after.rows) d.told
+
+-- Whoever did not send it is there as before.
+abbrev pub OthersAreThere : Type 0
+OthersAreThere = (d : Delivery) (prefix : GuidPrefix)
+    → ((source : GuidPrefix) (body : List ℕ) → HasHeader d.bytes source body → source ≢ prefix)
+    → is_there prefix d.after.rows ≡ is_there prefix d.before.rows

@@ -2,7 +2,7 @@
 //!
 //! RTPS 2.5, 8.5.3 (SPDP).
 
-ghost use Rattle.rtps_discovery.specs.Laws.{OthersStay, NothingChanges, FewAreKnown, FewAreKnownAt, LeasesEnd, TicksOnlySleep, AnswersGoBack, AnnouncementsGoToKnown, FarewellsGoToKnown, SourcesWereHeard};
+ghost use Rattle.rtps_discovery.specs.Laws.{OthersStay, NothingChanges, FewAreKnown, FewAreKnownAt, LeasesEnd, TicksOnlySleep, AnswersGoBack, AnnouncementsGoToKnown, FarewellsGoToKnown, SourcesWereHeard, ToldIsSo, OthersAreThere};
 
 /// A datagram speaks for its sender alone, and only at the address that it came from: of every other participant, and of
 /// one of its name at another address, what is known stays. Only a row that sleeps may make room.
@@ -40,4 +40,12 @@ pub fn what_is_sent_goes_back()
     ensures farewells { FarewellsGoToKnown }
     // Rows come from the addresses that datagrams came from.
     ensures sources { SourcesWereHeard }
+{}
+
+/// Who appears was not there and now is; who is gone was there and is not.
+pub fn what_is_told_is_so()
+    // So it is of the sender of a datagram.
+    ensures told { ToldIsSo }
+    // Every other participant is there as before.
+    ensures others { OthersAreThere }
 {}
