@@ -1,10 +1,10 @@
 -- What is passed over.
-use Rattle.std.proofs.Common.{◌≡◌, ◌∙◌, ℕ, false, max, List, Option, Some, None, sym, ap, refl, inr}
+use Rattle.std.proofs.Common.{◌≡◌, ◌∙◌, ℕ, false, max, List, None, sym, ap, refl, inr}
 use Rattle.dds_base.specs.declared.guid.GuidPrefix.{GuidPrefix}
 use Rattle.dds_base.proofs.FieldLaws.{some_is}
 use Rattle.rtps_wire.specs.Messages.{HasHeader}
 use Rattle.rtps_wire.proofs.MessageLaws.{header_again}
-use Rattle.rtps_discovery.specs.Steps.{State, Delivers, PassesOver, is_other, with_rows}
+use Rattle.rtps_discovery.specs.Steps.{State, Delivers, is_other, with_rows}
 
 -- time goes on, and nothing else
 pub goes_on : (inside old new : State) (time moment : ℕ) → inside ≡ old → time ≡ max inside.time moment

@@ -1,7 +1,7 @@
 -- What a message says of its sender by SPDP (RTPS 2.5, 8.5.3: SPDP; 8.3.4: the message receiver; 9.4.5: Data, InfoDestination).
-use Rattle.std.specs.Prelude.{◌≡◌, ℕ, suc, ◌%◌, ◌==◌, ◌&&◌, ◌||◌, Bool, true, false, not, List, [], ◌∷◌, length, is_some, nat_lt, slice_index, unwrap_or, Option, Some, None, MatchOption, if◌then◌else◌}
+use Rattle.std.specs.Prelude.{◌≡◌, ℕ, ◌%◌, ◌==◌, ◌&&◌, ◌||◌, Bool, true, false, not, List, [], ◌∷◌, is_some, nat_lt, slice_index, unwrap_or, Option, Some, None, MatchOption, if◌then◌else◌}
 use Rattle.std.specs.Int.{w16}
-use Rattle.std.specs.Option.{option_map, option_or}
+use Rattle.std.specs.Option.{option_map}
 use Rattle.dds_base.specs.declared.endianness.Endianness.{Endianness}
 use Rattle.dds_base.specs.declared.guid.EntityId.{EntityId}
 use Rattle.dds_base.specs.declared.guid.GuidPrefix.{GuidPrefix}
@@ -15,7 +15,6 @@ use Rattle.rtps_wire.specs.Frames.{IsFrame, IsEnd}
 use Rattle.rtps_wire.specs.Names.{flag_inline_qos, id_data, least_octets_to_inline_qos, pid_status_info}
 use Rattle.rtps_wire.specs.ParametersAt.{parameters_at}
 use Rattle.rtps_wire.specs.Submessages.{Reads}
-use Rattle.rtps_announcements.specs.declared.participant.Participant.{Participant}
 use Rattle.rtps_announcements.specs.ListAt.{value_in}
 use Rattle.rtps_announcements.specs.Participants.{ReadsParticipant}
 use Rattle.rtps_discovery.specs.declared.spdp.Said.{Said}

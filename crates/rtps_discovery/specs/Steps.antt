@@ -1,5 +1,5 @@
 -- What discovery of participants does: what it knows after an event, what it tells, and what it sends (RTPS 2.5, 8.5.3).
-use Rattle.std.specs.Prelude.{◌≡◌, ◌⊎◌, ℕ, ◌+◌, ◌-◌, ◌^◌, ◌/◌, ◌<◌, length, ◌&&◌, Bool, true, false, not, List, [], ◌∷◌, ◌++◌, map, filter, filter_map, min, max, nat_lt, Option, Some, None, if◌then◌else◌}
+use Rattle.std.specs.Prelude.{◌≡◌, ◌⊎◌, ℕ, ◌+◌, ◌-◌, ◌^◌, ◌/◌, ◌<◌, length, ◌&&◌, Bool, true, false, not, List, [], ◌++◌, map, filter, filter_map, min, max, nat_lt, Option, Some, None, if◌then◌else◌}
 use Rattle.std.specs.Option.{option_and_then, option_map}
 use Rattle.dds_base.specs.declared.guid.GuidPrefix.{GuidPrefix}
 use Rattle.dds_base.specs.Checked.{same_prefix}
