@@ -13,7 +13,7 @@ from .running import Ran
 
 END = re.compile(r"(?:(\d+)\.)?([wr])(\d+)")
 SENT = re.compile(r" sent (\d+)-(\d+)")
-MOST_ANSWERS = 32  # packets with answers that a round delivers (docs/MODEL.md, "A network")
+MOST_ANSWERS = 256  # packets with answers that a round delivers (docs/MODEL.md, "A network")
 Ask = Callable[[str, Sequence[bytes]], list[Ran]]  # what the program of a kind answers to each of these
 
 
