@@ -25,7 +25,7 @@ use Rattle.dds_protocol.specs.Dues.{IsPartOf}
 use Rattle.dds_protocol.specs.Fresh.{HasHeartbeat, HasAckNack, heartbeats_used_at, acknacks_used_at}
 use Rattle.dds_machine.specs.Machine.{AllTests, place_at, writer_at}
 use Rattle.dds_machine.specs.Numbered.{numbered, HasNumber}
-use Rattle.dds_machine.specs.Part.{Part, ReaderProxy, Writer, WriterProxy, NoLess, IsAtMost, own_writer, acknowledged_of, place_of, writer_changes}
+use Rattle.dds_machine.specs.Part.{Part, ReaderProxy, Writer, WriterProxy, NoLess, IsAtMost, own_writer, acknowledged_of, how_of, place_of, writer_changes}
 use Rattle.dds_protocol.specs.DueMessages.{writer_entity}
 use Rattle.dds_protocol.specs.Protocol.{Known}
 use Rattle.dds_protocol.specs.Repair.{AsksInRound, BeginsRound, Delivers, DeliversAll, HasCaughtUp, IsRepairRound, StandsAt, packets_for}
@@ -290,6 +290,9 @@ not_behind t past =
         place_is = place_is (noted_tick t) t.m.reader t.m.writer
             ∙ (ap (λ (rows : List (List WriterProxy)). place_of (numbered_rows rows) t.m.writer)
             (left t.m.reader.peer).rows ∙ (sym (place_is t.network t.m.reader t.m.writer) ∙ t.at));
+        begun =
+            ap (λ (rows : List (List WriterProxy)). how_of (numbered_rows rows) t.m.writer) (left t.m.reader.peer).rows
+            ∙ (stands t).begun;
         known =
             ap (λ (k : Known). (k.tracked t.m.writer t.m.reader.number).place) (left t.m.reader.peer).known
             ∙ (stands t).known;
