@@ -9,7 +9,7 @@ ghost use Rattle.rtps_adapter.specs.PayloadText.{new_text};
 
 use crate::data::{FLAG_NON_STANDARD, has_flag, payload_of};
 use crate::direction::Direction;
-use crate::kinds::{KeyRule, WriterKind, kind_of, rule_of};
+use crate::kinds::{KeyRule, WriterKind, is_other, kind_of, rule_of};
 use crate::payload::{
     NewPayload, inward_payload, outward_payload, payload_len, put_payload, put_zeros, zeros_after,
 };
@@ -94,11 +94,18 @@ pub fn foreign_payload<'k, 'a>(
 }
 
 /// Whether a submessage is a DATA whose payload has to be turned.
+#[tactic(auto, unfolding(crate::specs::Turning::foreign_payload))]
 pub fn is_foreign(kinds: &[WriterKind], source: &GuidPrefix, frame: &Frame) -> bool
     ensures { result ≡ is_some
         (foreign_payload kinds.now source.now frame.now.id frame.now.flags frame.now.body.now) }
 {
-    foreign_payload(kinds, source, frame).is_some()
+    if frame.id != ID_DATA || !has_payload(frame.flags) {
+        return false;
+    }
+    let Some((writer, _)) = payload_of(frame.flags, frame.body) else {
+        return false;
+    };
+    is_other(kinds, source, &writer)
 }
 
 /// What a payload turns into. `None` where it can't be turned.

@@ -135,5 +135,12 @@ pub fn rule_of<'a>(kind: Kind<'a>) -> Option<KeyRule<'a>>
     }
 }
 
+/// Whether the topic of a writer carries another type than the datum.
+pub fn is_other(kinds: &[WriterKind], prefix: &GuidPrefix, entity: &EntityId) -> bool
+    ensures { result ≡ is_some (rule_of (kind_of kinds.now prefix.now entity.now)) }
+{
+    rule_of(kind_of(kinds, prefix, entity)).is_some()
+}
+
 /// The key of the one instance of a type without a key.
 pub const NO_KEY: Key = Key([0; 16]);
