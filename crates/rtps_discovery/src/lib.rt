@@ -1,8 +1,9 @@
-//! Discovery: which writers and readers are matched.
+//! Discovery: which participants are there, and which writers and readers are matched.
 //!
 //! `misfit` names the policy by which a writer and a reader of one topic do not fit, and `fits` says whether they are to
-//! be matched; `taken_lease` says how long a participant is taken to be there. `specs/` says so. Not here yet: the table of
-//! participants, and what is sent.
+//! be matched. `Participants` is the table of participants that announced themselves, with what is sent to them;
+//! `taken_lease` says how long one is taken to be there. `specs/` says so, and `laws` what follows. Not here: which
+//! writers and readers a participant has.
 //!
 //! DDS 1.4, 2.2.3 (supported QoS); DDS-XTypes 1.3, 7.6.3.1.1; RTPS 2.5, 8.5 (discovery).
 //!
