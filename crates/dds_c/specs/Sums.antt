@@ -43,7 +43,7 @@ mixed_lease sum None = mixed sum 0
 mixed_lease sum (Some lease) = mixed (mixed sum 1) lease
 
 -- how long values may be, where that is not as usual
-abbrev pub mixed_value : ℕ → ℕ → ℕ
+unfoldable pub mixed_value : ℕ → ℕ → ℕ
 mixed_value sum most = if most == usual_value then sum else mixed sum most
 
 -- with a writer, a reader, a peer more

@@ -69,6 +69,7 @@ fn number_of_history(history: HistoryQos) -> u64
 
 /// How long values may be, where that is not as usual: so a configuration that says nothing of it has the sum that it had
 /// before there was such a policy.
+#[tactic(auto, unfolding(crate::specs::Sums::mixed_value))]
 fn mix_value(sum: u64, max_value: u32) -> u64
     ensures { result ≡ mixed_value sum max_value }
 {
