@@ -109,17 +109,29 @@ fn with_reader(sum: u64, reader: &ReaderConfig) -> u64
     mix_value(sum, reader.max_value)
 }
 
+fn with_writers(sum: u64, writers: &[WriterConfig]) -> u64
+    ensures { result ≡ fold with_writer sum writers.now }
+{
+    writers
+        .iter()
+        .fold(sum, |sum, writer| with_writer(sum, writer))
+}
+
+fn with_readers(sum: u64, readers: &[ReaderConfig]) -> u64
+    ensures { result ≡ fold with_reader sum readers.now }
+{
+    readers
+        .iter()
+        .fold(sum, |sum, reader| with_reader(sum, reader))
+}
+
 fn with_peer(sum: u64, peer: &PeerConfig) -> u64
     ensures { result ≡ with_peer sum peer.now }
 {
     let (writers, readers) = (peer.writers.as_slice(), peer.readers.as_slice());
     let sum = mix_octets(sum, &peer.prefix.0);
-    let sum = writers
-        .iter()
-        .fold(sum, |sum, writer| with_writer(sum, writer));
-    let sum = readers
-        .iter()
-        .fold(sum, |sum, reader| with_reader(sum, reader));
+    let sum = with_writers(sum, writers);
+    let sum = with_readers(sum, readers);
     let sum = mix(sum, writers.len() as u64);
     mix(sum, readers.len() as u64)
 }
