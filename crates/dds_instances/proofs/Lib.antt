@@ -10,3 +10,4 @@ pub mod HoldingLaws
 pub mod SeeingLaws
 pub mod MarkerLaws
 pub mod ForesightLaws
+pub mod WritingLaws

@@ -12,8 +12,10 @@ use Rattle.dds_base.specs.declared.qos.ReaderQos.{ReaderQos}
 use Rattle.dds_base.specs.Access.{lives_begun}
 use Rattle.dds_base.specs.Happening.{same_key}
 use Rattle.dds_base.specs.Instance.{known_instances, introduced_by, is_known, latest_rebirth, accesses}
-use Rattle.dds_base.specs.Life.{has_there, last_marker}
+use Rattle.dds_base.specs.Life.{ends_with_write, has_there, last_marker}
+use Rattle.dds_instances.specs.declared.known.KnownInstance.{KnownInstance}
 use Rattle.dds_instances.specs.declared.track.InstanceTrack.{InstanceTrack}
+use Rattle.dds_instances.specs.Known.{IsKnown}
 use Rattle.dds_owner.specs.Standing.{Kept, KeptStrengths, StandsFor, TellsStrengths}
 use Rattle.dds_instances.specs.Track.{Tracks, lives_on, one_if}
 
@@ -63,6 +65,17 @@ pub record TakeUp (q : ReaderQos) (h : List Happening) (a : Arrival) (ts : List 
     : Type 0 where
   pub reaches : Reaches q h (Came a) ts
   pub begun : length (introduced_by q h (Came a)) ≡ one_if begins
+
+-- the tracks have taken up a change that came, one more write of a known instance: no life has begun or ended with it, and
+-- this is known of the instance then
+pub record TakesWrite (q : ReaderQos) (h : List Happening) (a : Arrival) (ts : List InstanceTrack) (known : KnownInstance)
+    : Type 0 where
+  pub follows : Follows q (Came a ∷ h) ts
+  pub begun : introduced_by q h (Came a) ≡ []
+  pub lives : known_instances q (Came a ∷ h) ≡ known_instances q h
+  pub written : ends_with_write q a.change.key (Came a ∷ h) ≡ true
+  pub key : known.key ≡ a.change.key
+  pub told : IsKnown q (Came a ∷ h) known
 
 -- the next life that begins is to have this handle and these owners, of an instance of which nothing has come
 pub record IsForNextLife (q : ReaderQos) (h : List Happening) (handle : ℕ) (blank : Kept) : Type 0 where

@@ -7,14 +7,17 @@ use Rattle.std.specs.List.{list_any}
 use Rattle.dds_base.specs.declared.key.Key.{Key}
 use Rattle.dds_base.specs.declared.change.ChangeKind.{ChangeKind}
 use Rattle.dds_base.specs.declared.change.ChangeKind.TheVariants.{Write, Unregister}
+use Rattle.dds_base.specs.declared.happening.Arrival.{Arrival}
 use Rattle.dds_base.specs.declared.happening.Happening.{Happening}
 use Rattle.dds_base.specs.declared.happening.SamplePosition.{SamplePosition}
 use Rattle.dds_base.specs.declared.sample.InstanceState.{InstanceState}
 use Rattle.dds_base.specs.declared.sample.InstanceState.TheVariants.{Alive}
 use Rattle.dds_base.specs.declared.qos.ReaderQos.{ReaderQos}
+use Rattle.dds_base.specs.declared.qos.OwnershipQos.TheVariants.{Shared}
 use Rattle.dds_base.specs.Access.{handle_of}
 use Rattle.dds_base.specs.Happening.{same_key, is_unregister}
 use Rattle.dds_base.specs.Instance.{is_disposed, is_without_writers, is_known, is_since, disposed_generations, no_writers_generations, latest_rebirth, accesses}
+use Rattle.dds_base.specs.Ownership.{IsMatched, is_registered}
 use Rattle.dds_base.specs.Life.{or_else, is_write, state_after, becomes_not_alive, last_accepted, last_marker}
 use Rattle.dds_instances.specs.declared.track.InstanceTrack.{InstanceTrack}
 use Rattle.dds_owner.specs.Standing.{Kept, StandsFor, has_writers}
@@ -146,3 +149,16 @@ lives_on t = t.is_held || has_writers t.owners
 -- the instance is not that of a key
 abbrev pub is_other : Key → InstanceTrack → Bool
 is_other i t = not (same_key t.key i)
+
+-- a change of the instance that a track has followed is one more write of it, upon a write: of a writer that is registered,
+-- where ownership is SHARED
+pub record IsOneMore (q : ReaderQos) (a : Arrival) (t : InstanceTrack) : Type 0 where
+  pub shared : q.ownership ≡ Shared
+  pub written : is_write (Some a.change.kind) ≡ true
+  pub upon : is_write t.last_accepted ≡ true
+  pub registered : (h : List Happening) → StandsFor t.owners q a.change.key h
+      → IsMatched q a.writer × (is_registered a.change.key a.writer h ≡ true)
+
+-- one more write was counted
+abbrev pub with_one_more : InstanceTrack → InstanceTrack
+with_one_more t = record t { accepted_writes = t.accepted_writes + 1 }

@@ -15,7 +15,7 @@ ghost use Rattle.dds_base.specs.declared.code.Code.TheVariants.{Memory};
 
 use crate::keeping::{
     add_blanks, bury_all, forget, forget_left, hold, hold_none, is_any_left, look_up,
-    note_strength, see_all, take_up,
+    note_strength, see_all, take_up, write_known,
 };
 use crate::known::{KnownInstance, told, view_of};
 use crate::place::KeyIndex;
@@ -82,7 +82,7 @@ fn room_after(happened: u64, room: usize) -> Result<usize, Code>
 }
 
 impl Instances {
-    ghost use Rattle.dds_base.specs.Life.{ends_life, is_at, is_nobody};
+    ghost use Rattle.dds_base.specs.Life.{ends_life, ends_with_write, is_at, is_nobody};
     ghost use Rattle.dds_base.specs.Ownership.{IsMatched, is_registered, registered_writers};
     ghost use Rattle.dds_base.specs.Presence.{is_accepted, marks};
     ghost use Rattle.dds_instances.specs.Known.{IsKnown, IsReturnable};
@@ -199,6 +199,49 @@ impl Instances {
         self.reserve(1)?;
         self.change(qos, arrival, is_end);
         Ok(())
+    }
+
+    /// Takes up a change that came at a reader of these policies, in the room that there is, where it is one more write of an
+    /// instance that is alive, of a writer that is registered for that, and ownership is SHARED: then no life begins or ends
+    /// with it, and nothing turns but the count of the writes. Tells what is known of the instance then. None where the change
+    /// is any other one, which `come` takes up.
+    ///
+    /// DDS 1.4, 2.2.2.5 (instance_state), 2.2.3 (OWNERSHIP).
+    #[inline(always)]
+    pub fn write_again(&mut self, qos: &ReaderQos, arrival: &Arrival) -> Option<KnownInstance>
+        // There is room for an entry.
+        requires room { 1 ≤ room_of self.old }
+        // Where something is told, the change came.
+        ensures came { IfSome result (λ known. (h : List Happening) → Stands qos.now self.old h
+            → Stands qos.now self.new (Came arrival.now ∷ h)) }
+        // It is an accepted write.
+        ensures written { IfSome result (λ known. (h : List Happening) → Stands qos.now self.old h
+            → ends_with_write qos.now arrival.now.change.key (Came arrival.now ∷ h) ≡ true) }
+        // The same instances are known as before.
+        ensures lives { IfSome result (λ known. (h : List Happening) → Stands qos.now self.old h
+            → known_instances qos.now (Came arrival.now ∷ h) ≡ known_instances qos.now h) }
+        // What is told is of its instance.
+        ensures key { IfSome result (λ known. (h : List Happening) → Stands qos.now self.old h
+            → known.key ≡ arrival.now.change.key) }
+        // It is what the definitions say.
+        ensures known { IfSome result (λ known. (h : List Happening) → Stands qos.now self.old h
+            → IsKnown qos.now (Came arrival.now ∷ h) known) }
+        // The two generation counts can be added.
+        ensures small { IfSome result
+            (λ known. known.disposed_generations + known.no_writers_generations < 2 ^ 64) }
+        // It takes the room of one entry.
+        ensures room { IfSome result (λ known. room_of self.new + 1 ≡ room_of self.old) }
+        // As many are alive as before.
+        ensures alive { alive_of self.new ≡ alive_of self.old }
+        // Where nothing is told, nothing has changed.
+        ensures same { result ≡ None → self.new ≡ self.old }
+    {
+        let at = self.index.seek(arrival.change.key)?;
+        let known = write_known(&mut self.tracks, at, qos, arrival)?;
+        note_strength(&mut self.strengths, arrival);
+        self.room -= 1;
+        self.happened += 1;
+        Some(known)
     }
 
     /// Says that what follows asks for an instance several times over, known or not: its key is hashed here, and then

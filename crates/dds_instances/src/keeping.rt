@@ -3,7 +3,7 @@
 //! DDS 1.4, 2.2.2.5 (SampleInfo: instance_state, view_state, the two generation counts), 2.2.3 (OWNERSHIP_STRENGTH,
 //! LIVELINESS).
 
-ghost use Rattle.std.specs.Prelude.{Bool, ◌≡◌, ◌+◌, ◌<◌, ◌≤◌, ◌∷◌, [], List, ℕ, true, false, None, is_some, IsTrue, MatchOption, IfSome, IfErr, OnOk, map, count_by, length, All, vec_len, vec_capacity, filter};
+ghost use Rattle.std.specs.Prelude.{Bool, ◌≡◌, ◌+◌, ◌^◌, ◌<◌, ◌≤◌, ◌∷◌, [], List, ℕ, true, false, None, is_some, IsTrue, MatchOption, IfSome, IfErr, OnOk, map, count_by, length, All, vec_len, vec_capacity, filter};
 ghost use Rattle.std.specs.List.{list_any, IsDistinct};
 ghost use Rattle.dds_base.specs.declared.happening.Happening.{Happening};
 ghost use Rattle.dds_base.specs.declared.happening.Happening.TheVariants.{Came, Died};
@@ -13,16 +13,17 @@ ghost use Rattle.dds_base.specs.declared.code.Code.TheVariants.{Memory};
 ghost use Rattle.dds_base.specs.declared.key.Key.{Key};
 ghost use Rattle.dds_base.specs.Life.{is_at, is_nobody, last_accepted};
 ghost use Rattle.dds_base.specs.Ownership.{registered_writers};
-ghost use Rattle.dds_owner.specs.Standing.{TellsStrengths, strengths_room};
+ghost use Rattle.dds_owner.specs.Standing.{KeptStrengths, TellsStrengths, strengths_room};
 ghost use Rattle.dds_base.specs.declared.happening.SamplePosition.{SamplePosition};
 ghost use Rattle.dds_instances.specs.Track.{Fits, Tracks, is_alive_track, held_as, held_too, is_other, lives_on, seen_in};
 ghost use Rattle.dds_instances.specs.Table.{is_any_left};
 ghost use Rattle.dds_instances.specs.declared.track.InstanceTrack.{InstanceTrack};
-ghost use Rattle.dds_instances.specs.Following.{key_of, AreBlank, Follows, FollowsBefore, HeldRight, IsForNextLife, IsPlaceOf, LivesRight, MayTakeUp, Reaches, TakeUp};
+ghost use Rattle.dds_instances.specs.Following.{key_of, AreBlank, Follows, FollowsBefore, HeldRight, IsForNextLife, IsPlaceOf, LivesRight, MayTakeUp, Reaches, TakeUp, TakesWrite};
 
+use crate::known::{KnownInstance, told_as};
 use crate::place::{KeyIndex, find, put_last};
 use crate::track::InstanceTrack;
-use dds_base::{Arrival, Code, Handle, Key, ReaderQos, SamplePosition};
+use dds_base::{Arrival, Code, Handle, InstanceState, Key, ReaderQos, SamplePosition};
 use dds_owner::{Owners, Strengths};
 use std::alloc::Global;
 
@@ -48,6 +49,38 @@ pub fn change_known(
         → TakeUp qos.now h arrival.now tracks.new.items false }
 {
     tracks[at].change(qos, strengths, arrival, position);
+}
+
+/// A known instance takes up a change of it, where that is one more write, and it is told what is known of the instance then;
+/// else nothing changes.
+#[inline(always)]
+pub fn write_known(
+    tracks: &mut Vec<InstanceTrack>,
+    at: usize,
+    qos: &ReaderQos,
+    arrival: &Arrival,
+) -> Option<KnownInstance>
+    requires place { IsPlaceOf (map key_of tracks.old.items) arrival.now.change.key at }
+    requires counts_fit { All (λ (t : InstanceTrack). t.accepted_writes + 1 < 2 ^ 64) tracks.old.items }
+    ensures fits { (n : ℕ) → All (Fits n) tracks.old.items → All (Fits (n + 1)) tracks.new.items }
+    ensures keys { map key_of tracks.new.items ≡ map key_of tracks.old.items }
+    ensures len { vec_len tracks.new ≡ vec_len tracks.old }
+    ensures capacity { vec_capacity tracks.new ≡ vec_capacity tracks.old }
+    ensures alive { count_by is_alive_track tracks.new.items
+        ≡ count_by is_alive_track tracks.old.items }
+    ensures small { (n : ℕ) → All (Fits n) tracks.old.items
+        → IfSome result (λ known. known.disposed_generations + known.no_writers_generations < n) }
+    ensures follows { IfSome result (λ known. (kept : KeptStrengths) (n : ℕ) (h : List Happening)
+        → MayTakeUp qos.now kept h n tracks.old.items
+        → TakesWrite qos.now h arrival.now tracks.new.items known) }
+    ensures same { result ≡ None → tracks.new ≡ tracks.old }
+{
+    if !tracks[at].is_one_more(qos, arrival) {
+        return None;
+    }
+    let track = &mut tracks[at];
+    track.count_write();
+    Some(told_as(track, InstanceState::Alive))
 }
 
 /// An instance becomes known by the first write or dispose of a life, the entry of this position, which is to have this

@@ -44,6 +44,30 @@ pub fn view_of(track: &InstanceTrack) -> ViewState
     }
 }
 
+/// What is known of the instance that a track has followed, which has this state.
+#[inline(always)]
+pub fn told_as(track: &InstanceTrack, state: InstanceState) -> KnownInstance
+    ensures key { result.key ≡ track.now.key }
+    ensures handle { result.handle ≡ track.now.handle }
+    ensures state { result.state ≡ state }
+    ensures view { result.view ≡ (if track.now.is_seen then NotNew else New) }
+    ensures disposed { result.disposed_generations ≡ track.now.disposed_generations }
+    ensures no_writers { result.no_writers_generations ≡ track.now.no_writers_generations }
+    ensures writes { result.accepted_writes ≡ track.now.accepted_writes }
+    ensures marker { result.last_marker ≡ track.now.last_marker }
+{
+    KnownInstance {
+        key: track.key,
+        handle: Handle::new(track.handle),
+        state,
+        view: view_of(track),
+        disposed_generations: track.disposed_generations,
+        no_writers_generations: track.no_writers_generations,
+        accepted_writes: track.accepted_writes,
+        last_marker: track.last_marker,
+    }
+}
+
 /// What is known of the instance that a track has followed.
 pub fn told(track: &InstanceTrack) -> KnownInstance
     ensures key { result.key ≡ track.now.key }
@@ -55,14 +79,5 @@ pub fn told(track: &InstanceTrack) -> KnownInstance
     ensures writes { result.accepted_writes ≡ track.now.accepted_writes }
     ensures marker { result.last_marker ≡ track.now.last_marker }
 {
-    KnownInstance {
-        key: track.key,
-        handle: Handle::new(track.handle),
-        state: track.state().unwrap_or(InstanceState::Alive),
-        view: view_of(track),
-        disposed_generations: track.disposed_generations,
-        no_writers_generations: track.no_writers_generations,
-        accepted_writes: track.accepted_writes,
-        last_marker: track.last_marker,
-    }
+    told_as(track, track.state().unwrap_or(InstanceState::Alive))
 }

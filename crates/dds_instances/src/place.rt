@@ -63,14 +63,26 @@ impl KeyIndex {
         self.latest = place;
     }
 
+    /// The place of a key, if it is there. The next key that is looked up is most likely this one, be it there or not.
+    #[inline(always)]
+    pub fn seek(&mut self, key: Key) -> Option<usize>
+        ensures place { MatchOption result (list_any (same_key key) self.old.keys
+            ≡ false) (IsPlaceOf self.old.keys key) }
+        ensures same { self.new ≡ self.old }
+    {
+        let found = find(self, key);
+        match found {
+            Some(place) => self.latest = place,
+            None => self.absent = Some(key),
+        }
+        found
+    }
+
     /// The next key that is looked up is most likely this one, be it there or not.
     pub fn expect(&mut self, key: Key)
         ensures same { self.new ≡ self.old }
     {
-        match find(self, key) {
-            Some(place) => self.latest = place,
-            None => self.absent = Some(key),
-        }
+        let _ = self.seek(key);
     }
 
     /// Puts a key last, in the room that there is.

@@ -12,9 +12,9 @@ ghost use Rattle.dds_base.specs.Life.{or_else, state_after, is_write, becomes_no
 ghost use Rattle.dds_base.specs.Ownership.{accepted_kind};
 ghost use Rattle.dds_base.specs.Presence.{marks};
 ghost use Rattle.dds_owner.specs.Standing.{StandsFor, TellsStrengths, has_writers};
-ghost use Rattle.dds_instances.specs.Track.{state_of_track, one_if, fresh, seen_at, is_born_dead, is_left_at_first, Counts, TracksEntry, Fits, Tracks};
+ghost use Rattle.dds_instances.specs.Track.{state_of_track, one_if, fresh, seen_at, with_one_more, IsOneMore, is_born_dead, is_left_at_first, Counts, TracksEntry, Fits, Tracks};
 
-use dds_base::{Arrival, ChangeKind, Handle, InstanceState, Key, ReaderQos};
+use dds_base::{Arrival, ChangeKind, Handle, InstanceState, Key, OwnershipQos, ReaderQos};
 use dds_owner::{Owners, Strengths};
 
 /// What is known of an instance after what has happened. `docs/DECISIONS.md`, "A reader's cache", says why it has
@@ -239,6 +239,27 @@ impl InstanceTrack {
         note(&mut self.owners, arrival);
         self.count(before, accepted, position);
         accepted
+    }
+
+    /// Whether a change of the instance is one more write of it, upon a write: of a writer that is registered, where ownership
+    /// is SHARED. Then the instance is alive, and stays so.
+    pub fn is_one_more(&self, qos: &ReaderQos, arrival: &Arrival) -> bool
+        ensures { result ≡ true → IsOneMore qos.now arrival.now self.now }
+    {
+        if let OwnershipQos::Exclusive = qos.ownership {
+            return false;
+        }
+        is_written(Some(arrival.change.kind))
+            && is_written(self.last_accepted)
+            && self.owners.is_registered(arrival.writer)
+    }
+
+    /// Counts one more write of the instance: all else of it stays.
+    pub fn count_write(&mut self)
+        requires fits { self.old.accepted_writes + 1 < 2 ^ 64 }
+        ensures { self.new ≡ with_one_more self.old }
+    {
+        self.accepted_writes += 1;
     }
 
     /// Takes up the death of a writer, the entry of this position.
