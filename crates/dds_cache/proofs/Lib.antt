@@ -19,6 +19,7 @@ pub mod CountLaws
 pub mod ChainLaws
 pub mod SummaryLaws
 pub mod AnyLaws
+pub mod ArrivingLaws
 pub mod DataLaws
 pub mod RoomLaws
 pub mod DeathLaws

@@ -3,7 +3,7 @@ use Rattle.std.proofs.Common.{◌≡◌, ℕ, ◌≤◌, List, [], ◌∷◌, le
 use Rattle.std.specs.Prelude.{if◌then◌else◌, is_some, nat_lt}
 use Rattle.std.specs.List.{list_any, All, items_where_true}
 use Rattle.std.specs.List.Retain.{IsFiltered}
-use Rattle.std.proofs.lemmas.Bool.{and_parts, cases_Bool, ltb-false}
+use Rattle.std.proofs.lemmas.Bool.{and_parts, cases_Bool, le-ltb, ltb-false}
 use Rattle.std.proofs.lemmas.List.Elements.{All-weaker, All-nil, All-cons, All-filter, All-head, All-tail}
 use Rattle.dds_base.specs.declared.key.Key.{Key}
 use Rattle.dds_base.specs.declared.change.ChangeKind.{ChangeKind}
@@ -215,3 +215,13 @@ chosen P (false ∷ bs) (k ∷ ks) all = chosen P bs ks (All-tail P k ks all)
 pub chosen-all : {F : Type 0} (P : Kept → Type 0) (R : F → Kept → Bool → F → Type 0) (f : F) (xs ys : List Kept)
     → IsFiltered R f xs ys → All P xs → All P ys
 chosen-all P R f xs ys filtered all = subst (λ (ks : List Kept). All P ks) (sym filtered.4) (chosen P filtered.0 xs all)
+
+-- all are left where the same instances are known
+pub none-since : (q : ReaderQos) (h : List Happening) (e : Happening) (ks : List Kept)
+    → known_instances q (e ∷ h) ≡ known_instances q h
+    → left_since q (e ∷ h) (length (known_instances q h)) ks ≡ ks
+none-since q h e ks same =
+    let no_fewer : nat_lt (length (known_instances q (e ∷ h))) (length (known_instances q h)) ≡ false =
+    le-ltb (length (known_instances q (e ∷ h))) (length (known_instances q h))
+    (omega (arith, ap (λ (is : List Key). length is) same)) in
+    ap (λ (b : Bool). if b then filter (stays q (e ∷ h)) ks else ks) no_fewer

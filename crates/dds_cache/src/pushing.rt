@@ -87,9 +87,36 @@ fn let_first_go(
     }
 }
 
+/// Lets the samples go that a change of an instance pushed out of its history, by what is known of the instance. It costs what
+/// it lets go: a sample that was pushed out stands before those that were not, but for the last marker.
+pub fn push_out_of(
+    alloc: Global,
+    qos: &ReaderQos,
+    known: &KnownInstance,
+    samples: &mut Vec<Kept>,
+    summary: &mut Summary,
+)
+    requires counted { IsSummary samples.old.items summary.old }
+    ensures holds { (table : Table) (h : List Happening) → IsKnown qos.now h known.now
+        → HoldsBut qos.now table samples.old.items h known.now.key
+        → Holds qos.now table samples.new.items h }
+    ensures small { All IsSmall samples.old.items → All IsSmall samples.new.items }
+    ensures counted { IsSummary samples.new.items summary.new }
+    ensures len { vec_len samples.new ≡ vec_len samples.old }
+    ensures capacity { vec_capacity samples.new ≡ vec_capacity samples.old }
+{
+    let HistoryQos::KeepLast(_) = qos.history else {
+        return;
+    };
+    let before = summary.outs;
+    let_first_go(alloc, qos, known, samples, summary);
+    if before < summary.outs {
+        summary.chains.advance(samples, known.key);
+    }
+}
+
 /// Lets the samples go that a change of an instance pushed out of its history, where that is of the last ones alone. The
-/// instances have taken the change up. It costs what it lets go: a sample that was pushed out stands before those that were
-/// not, but for the last marker.
+/// instances have taken the change up.
 pub fn push_out(
     alloc: Global,
     instances: &Instances,
@@ -106,17 +133,11 @@ pub fn push_out(
     ensures len { vec_len samples.new ≡ vec_len samples.old }
     ensures capacity { vec_capacity samples.new ≡ vec_capacity samples.old }
 {
-    let HistoryQos::KeepLast(_) = qos.history else {
+    if let HistoryQos::KeepAll = qos.history {
         return;
-    };
+    }
     match instances.known(key) {
         None => {}
-        Some(known) => {
-            let before = summary.outs;
-            let_first_go(alloc, qos, &known, samples, summary);
-            if before < summary.outs {
-                summary.chains.advance(samples, known.key);
-            }
-        }
+        Some(known) => push_out_of(alloc, qos, &known, samples, summary),
     }
 }

@@ -22,16 +22,16 @@ ghost use Rattle.dds_cache.specs.Twice.{first_of};
 
 use crate::access::is_any_match;
 use crate::access_kind::AccessKind;
-use crate::arriving::{add_left, is_accepted_write};
+use crate::arriving::{add_left, add_write, is_accepted_write};
 use crate::asking::is_none_asked;
 use crate::collection::{Access, as_sample, gather, twice};
 use crate::dying::add_markers;
 use crate::ending::{hold_present, is_end};
 use crate::entering::enter_access;
-use crate::kept::Kept;
+use crate::kept::{Kept, is_kept_after};
 use crate::only::{find_only, masks_of_all, take_last};
 use crate::pick::{pick, picks_any};
-use crate::pushing::push_out;
+use crate::pushing::{push_out, push_out_of};
 use crate::room::{count_arrival, is_room};
 use crate::summary::Summary;
 use crate::sweeping::{let_go, next_sweep, sweep};
@@ -221,8 +221,47 @@ impl ReaderCache {
         }
     }
 
-    /// Takes up a change of a matched writer, in the room that there is.
+    /// Takes up a change of a matched writer, in the room that there is. One more write of an instance that is alive, where
+    /// ownership is SHARED, is looked up once, and nothing is asked of it but which samples it pushes out.
     fn take_up(&mut self, arrival: Arrival)
+        requires room { 1 ≤ room_of self.old }
+        requires matched { IsMatched (qos_of self.old) arrival.writer }
+        ensures stands { (h : List Happening) → StandsFor self.old h
+            → StandsFor self.new (Came arrival ∷ h) }
+        ensures qos { qos_of self.new ≡ qos_of self.old }
+        ensures room { room_of self.new + 1 ≡ room_of self.old }
+    {
+        if !is_kept_after(self.qos.history, 0, false) {
+            self.take_up_any(arrival);
+            return;
+        }
+        let Some(known) = self.instances.write_again(&self.qos, &arrival) else {
+            self.take_up_any(arrival);
+            return;
+        };
+        let newest = self.instances.happened();
+        add_write(
+            self.alloc,
+            &known,
+            newest,
+            &mut self.samples,
+            &mut self.summary,
+            arrival,
+        );
+        push_out_of(
+            self.alloc,
+            &self.qos,
+            &known,
+            &mut self.samples,
+            &mut self.summary,
+        );
+        self.data_at = Some(newest);
+        self.arrivals = count_arrival(self.arrivals);
+        self.room -= 1;
+    }
+
+    /// Takes up any change of a matched writer, in the room that there is.
+    fn take_up_any(&mut self, arrival: Arrival)
         requires room { 1 ≤ room_of self.old }
         requires matched { IsMatched (qos_of self.old) arrival.writer }
         ensures stands { (h : List Happening) → StandsFor self.old h
