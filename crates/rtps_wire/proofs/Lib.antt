@@ -8,6 +8,7 @@ pub mod ParameterLaws
 pub mod DataLaws
 pub mod SubmessageLaws
 pub mod MessageLaws
+pub mod AnnouncementLaws
 pub mod SpellingLaws
 pub mod LengthLaws
 pub mod ContentLaws

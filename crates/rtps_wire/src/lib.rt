@@ -2,8 +2,9 @@
 //!
 //! `read_message` gives the one message that bytes are, `begin_message` and `next_submessage` the same one submessage
 //! after the other, without memory, and `next_frame` each before its body is read; `write_message` the one written form of
-//! a message, and `write_change` that of the one that announces a change; what is written is read as itself. `DataContent`
-//! is what a DATA says of a change. The grammar stands in `specs/`, one file for each submessage, and in words in
+//! a message, and `write_change` that of the one that announces a change; what is written is read as itself.
+//! `read_announcement` knows the one that announces a write, and reads it at once. `DataContent` is what a DATA says of a
+//! change. The grammar stands in `specs/`, one file for each submessage, and in words in
 //! `docs/WIRE.md`. Not here: what a peer does at a submessage.
 //!
 //! RTPS 2.5, 8.3 (messages) and 9.4 (their bytes).
@@ -41,6 +42,7 @@
 #![tactic(auto)]
 
 mod acknack;
+mod announced;
 mod announcement;
 mod content;
 mod data;
@@ -63,6 +65,7 @@ mod submessage;
 mod write;
 
 pub use acknack::AckNack;
+pub use announced::{Announcement, read_announcement};
 pub use announcement::write_change;
 pub use data::{ChangeBody, Data, DataContent};
 pub use field::MAX_SN;
