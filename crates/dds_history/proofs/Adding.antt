@@ -480,22 +480,22 @@ not_taken p hs number change awaited out none =
     nothing (KeepLast depth) = refl
 
 pub added_by : (p : HistoryQos) (last live : ℕ) (c : Counted) (es more : List Entry) (s : KeptState)
-    (turn number : ℕ) (change : Change) → last + 1 ≡ number → 0 < granted p → AreRuns p (held_by p c es)
+    (turn place number : ℕ) (change : Change) → last + 1 ≡ number → 0 < granted p → AreRuns p (held_by p c es)
     → Holds last (record { policy = p; entries = es; counted = c; live = live })
     → IsCountedBy p change.key (record { policy = p; entries = es; counted = c; live = live }) s turn
-    → more ≡ es ++ record { number = number; change = change; turn = turn } ∷ []
+    → more ≡ es ++ record { number = number; change = change; turn = turn; place = place } ∷ []
     → Holds number (record { policy = p; entries = more; counted = s.counted; live = s.live })
     × (held_by p s.counted more ≡ with_change p (held_by p c es) number change true)
-added_by p last live c es more s turn number change next some runs h counted is =
+added_by p last live c es more s turn place number change next some runs h counted is =
     subst (λ (xs : List Entry). Holds number (record { policy = p; entries = xs; counted = s.counted; live = s.live })
     × (held_by p s.counted xs ≡ with_change p (held_by p c es) number change true)) (sym is)
     (subst (λ (n : ℕ). Holds n (record {
       policy = p;
-      entries = es ++ record { number = number; change = change; turn = turn } ∷ [];
+      entries = es ++ record { number = number; change = change; turn = turn; place = place } ∷ [];
       counted = s.counted;
       live = s.live;
     })
-    × (held_by p s.counted (es ++ record { number = number; change = change; turn = turn } ∷ [])
+    × (held_by p s.counted (es ++ record { number = number; change = change; turn = turn; place = place } ∷ [])
     ≡ with_change p (held_by p c es) number change true)) next
     (by p some runs h counted))
   where
@@ -504,14 +504,14 @@ added_by p last live c es more s turn number change next some runs h counted is 
         → IsCountedBy q change.key (record { policy = q; entries = es; counted = c; live = live }) s turn
         → Holds (last + 1) (record {
           policy = q;
-          entries = es ++ record { number = number; change = change; turn = turn } ∷ [];
+          entries = es ++ record { number = number; change = change; turn = turn; place = place } ∷ [];
           counted = s.counted;
           live = s.live;
         })
-        × (held_by q s.counted (es ++ record { number = number; change = change; turn = turn } ∷ [])
+        × (held_by q s.counted (es ++ record { number = number; change = change; turn = turn; place = place } ∷ [])
         ≡ with_change q (held_by q c es) number change true)
     by KeepAll some runs h counted =
-        added_all last live s.live c s.counted es (record { number = number; change = change; turn = turn }) (sym next) h
+        added_all last live s.live c s.counted es (record { number = number; change = change; turn = turn; place = place }) (sym next) h
     by (KeepLast depth) some runs h counted =
-        added_last depth last live s.live c s.counted es (record { number = number; change = change; turn = turn })
+        added_last depth last live s.live c s.counted es (record { number = number; change = change; turn = turn; place = place })
         (sym next) counted.newest counted.counts counted.live some runs h

@@ -4,5 +4,6 @@ pub mod Counting
 pub mod Keeping
 pub mod Letting
 pub mod Numbering
+pub mod Placing
 pub mod Rising
 pub mod Runs

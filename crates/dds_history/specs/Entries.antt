@@ -2,7 +2,7 @@
 -- this: nothing here has to be believed.
 --
 -- DDS 1.4, 2.2.3 (HISTORY); RTPS 2.5, 8.2 (HistoryCache, CacheChange).
-use Rattle.std.specs.Prelude.{◌≡◌, ℕ, ◌≤◌, ◌<◌, ◌+◌, ◌-◌, ◌^◌, ◌==◌, ◌||◌, not, Bool, true, false, List, [], ◌∷◌, map, length, filter, drop, slice_get, nat_lt, nat_le, if◌then◌else◌}
+use Rattle.std.specs.Prelude.{◌≡◌, ℕ, ◌≤◌, ◌<◌, ◌+◌, ◌-◌, ◌^◌, ◌==◌, ◌||◌, not, Bool, true, false, List, [], ◌∷◌, map, length, filter, drop, slice_get, nat_lt, nat_le, Some, if◌then◌else◌}
 use Rattle.std.specs.Map.{lookup}
 use Rattle.std.specs.Option.{option_map_or, unwrap_or}
 use Rattle.dds_base.specs.declared.key.Key.{Key}
@@ -22,6 +22,11 @@ Counted = List (Key × KeyCount)
 -- what is counted of the key
 abbrev pub count_in : Counted → Key → KeyCount
 count_in counted key = unwrap_or (lookup (same_key key) counted) (record { turns = 0; kept = 0 })
+
+-- the key stands at this place, and this is counted of it
+pub record IsCountedAt (counted : Counted) (key : Key) (place : ℕ) (count : KeyCount) : Type 0 where
+  pub stands : slice_get counted place ≡ Some (key, count)
+  pub counts : count_in counted key ≡ count
 
 -- the policy, the entries, the keys with their counts, and how many changes are kept
 pub record KeptState : Type 0 where

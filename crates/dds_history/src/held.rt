@@ -9,7 +9,7 @@
 //!
 //! DDS 1.4, 2.2.3 (HISTORY); RTPS 2.5, 8.2 (HistoryCache, CacheChange).
 
-ghost use Rattle.std.specs.Prelude.{◌≡◌, [], ℕ, ◌+◌, ◌-◌, ◌^◌, ◌<◌, ◌≤◌, ◌==◌, ◌&&◌, ◌||◌, find, filter, slice_get, false, true, min, nat_le, nat_lt, Some, IfErr, IfSome, IfOk, OnOk, OnErr, if◌then◌else◌};
+ghost use Rattle.std.specs.Prelude.{◌≡◌, [], ℕ, ◌+◌, ◌-◌, ◌^◌, ◌<◌, ◌≤◌, ◌==◌, ◌&&◌, ◌||◌, find, filter, slice_get, false, true, min, nat_le, nat_lt, Some, IfErr, IfSome, IfOk, MatchOption, OnOk, OnErr, if◌then◌else◌};
 ghost use Rattle.std.specs.List.{reduce};
 ghost use Rattle.std.specs.Option.{option_copied, option_map, unwrap_or};
 ghost use Rattle.std.specs.VecDeque.{deque_len};
@@ -19,11 +19,11 @@ ghost use Rattle.dds_base.specs.declared.qos.HistoryQos.TheVariants.{KeepLast};
 ghost use Rattle.dds_base.specs.Happening.{same_key};
 ghost use Rattle.dds_history.specs.declared.held.Entry.{Entry};
 ghost use Rattle.dds_history.specs.Held.{IsNext, awaits, granted, kept_after, older_after};
-ghost use Rattle.dds_history.specs.Entries.{Gains, HasRuns, Holds, HoldsBefore, IsAfterFirst, Rises, count_in, goes_first, held_as, one_fewer, remaining_by, shown, state, is_counted, IsCounted, IsCountedBy, IsFew, IsFewBy};
+ghost use Rattle.dds_history.specs.Entries.{Gains, HasRuns, Holds, HoldsBefore, IsAfterFirst, Rises, count_in, goes_first, held_as, one_fewer, remaining_by, shown, state, is_counted, IsCounted, IsCountedAt, IsCountedBy, IsFew, IsFewBy};
 
 use dds_base::{Change, Code, HistoryQos, Key};
 use indexmap::IndexMap;
-use std::alloc::Global;
+use std::alloc::{AllocFailed, Global};
 use std::collections::VecDeque;
 
 /// A change, with its turn among those of its key.
@@ -33,6 +33,8 @@ pub struct Entry {
     pub change: Change,
     /// So many changes of its key were made with it, since some of them are kept; nothing counts under KEEP_ALL.
     pub turn: u64,
+    /// The place at which its key was counted when it came: it most likely stands there still.
+    pub place: usize,
 }
 
 /// What is counted of a key of which changes are kept.
@@ -53,6 +55,8 @@ pub struct Kept {
     pub keys: IndexMap<Key, KeyCount>,
     /// So many changes are kept; nothing counts under KEEP_ALL.
     pub live: u64,
+    /// The place at which a key was counted last.
+    pub latest: usize,
 }
 
 /// Whether some reader has not acknowledged the number.
@@ -69,14 +73,69 @@ pub fn first_awaited(acknowledged: &[u64]) -> u64
     acknowledged.iter().copied().min().unwrap_or(0)
 }
 
-/// What is counted of the key.
-fn count_of(keys: &IndexMap<Key, KeyCount>, key: &Key) -> KeyCount
+/// What is counted of the key, if it stands at this place.
+#[inline(always)]
+fn count_at(keys: &IndexMap<Key, KeyCount>, place: usize, key: &Key) -> Option<KeyCount>
+    ensures { IfSome result (IsCountedAt keys.now.entries key.now place) }
+{
+    let (other, count) = keys.get_index(place)?;
+    if *other == *key { Some(*count) } else { None }
+}
+
+/// What is counted of the key, which most likely stands at this place.
+fn count_of(keys: &IndexMap<Key, KeyCount>, likely: usize, key: &Key) -> KeyCount
     ensures { result ≡ count_in keys.now.entries key.now }
 {
+    if let Some(count) = count_at(keys, likely, key) {
+        return count;
+    }
     match keys.get(key) {
         Some(count) => *count,
         None => KeyCount { turns: 0, kept: 0 },
     }
+}
+
+/// Where the key stands, which most likely is at this place, and what is counted of it, if anything is.
+fn find_count(keys: &IndexMap<Key, KeyCount>, likely: usize, key: &Key) -> Option<(usize, KeyCount)>
+    ensures { MatchOption result (count_in keys.now.entries key.now ≡ record { turns = 0; kept = 0 })
+        (λ found. IsCountedAt keys.now.entries key.now found.0 found.1) }
+{
+    if let Some(count) = count_at(keys, likely, key) {
+        return Some((likely, count));
+    }
+    let (place, _, count) = keys.get_full(key)?;
+    Some((place, *count))
+}
+
+/// Counts this of the key that stands at a place.
+fn recount(keys: &mut IndexMap<Key, KeyCount>, place: usize, count: KeyCount)
+    ensures { (key : Key) (before : KeyCount) → slice_get keys.old.entries place ≡ Some (key, before)
+        → (k : Key) → count_in keys.new.entries k
+        ≡ (if same_key key k then count else count_in keys.old.entries k) }
+{
+    if let Some(found) = keys.get_index_mut(place) {
+        *found = count;
+    }
+}
+
+/// Enters the key, which most likely stands at this place, and gives its place and what was counted of it. What is entered of
+/// it is right once it is counted anew.
+fn enter(
+    keys: &mut IndexMap<Key, KeyCount>,
+    likely: usize,
+    key: Key,
+) -> Result<(usize, KeyCount), AllocFailed<(Key, KeyCount)>>
+    ensures entered { IfOk result (λ entered. (entered.1 ≡ count_in keys.old.entries key)
+        × (before : KeyCount) × (slice_get keys.new.entries entered.0 ≡ Some (key, before))) }
+    ensures others { OnOk result ((k : Key) → same_key key k ≡ false
+        → count_in keys.new.entries k ≡ count_in keys.old.entries k) }
+    ensures err { OnErr result (keys.new.entries ≡ keys.old.entries) }
+{
+    if let Some(count) = count_at(keys, likely, &key) {
+        return Ok((likely, count));
+    }
+    let (place, before) = keys.insert_full(key, KeyCount { turns: 0, kept: 0 })?;
+    Ok((place, before.unwrap_or(KeyCount { turns: 0, kept: 0 })))
 }
 
 /// So many more changes of its key drop the change: it is dropped where that is none.
@@ -86,22 +145,32 @@ fn remaining(policy: HistoryQos, keys: &IndexMap<Key, KeyCount>, entry: &Entry) 
     match policy {
         HistoryQos::KeepAll => 1,
         HistoryQos::KeepLast(depth) => {
-            let count = count_of(keys, &entry.change.key);
+            let count = count_of(keys, entry.place, &entry.change.key);
             u64::from(depth).saturating_sub(count.turns.saturating_sub(entry.turn))
         }
     }
 }
 
-/// One change fewer of the key is kept.
-fn release(keys: &mut IndexMap<Key, KeyCount>, key: Key)
+/// One change fewer of the key is kept, which most likely stands at this place.
+fn release(keys: &mut IndexMap<Key, KeyCount>, likely: usize, key: Key)
     ensures { (k : Key) → count_in keys.new.entries k
         ≡ (if same_key key k then one_fewer (count_in keys.old.entries key) else count_in keys.old.entries k) }
 {
-    let count = count_of(keys, &key);
+    let Some((place, count)) = find_count(keys, likely, &key) else {
+        return;
+    };
     if count.kept <= 1 {
-        keys.swap_remove(&key);
-    } else if let Some(found) = keys.get_mut(&key) {
-        found.kept = count.kept - 1;
+        keys.swap_remove_index(place);
+    } else {
+        let kept = count.kept - 1;
+        recount(
+            keys,
+            place,
+            KeyCount {
+                turns: count.turns,
+                kept,
+            },
+        );
     }
 }
 
@@ -195,6 +264,7 @@ impl Kept {
             entries: VecDeque::new(alloc),
             keys: IndexMap::new(alloc),
             live: 0,
+            latest: 0,
         }
     }
 
@@ -247,7 +317,7 @@ impl Kept {
         if let Some(entry) = self.entries.pop_front() {
             if self.is_counted(&entry) {
                 self.live = self.live.saturating_sub(1);
-                release(&mut self.keys, entry.change.key);
+                release(&mut self.keys, entry.place, entry.change.key);
             }
         }
     }
@@ -285,7 +355,7 @@ impl Kept {
         ensures entries { self.new.entries ≡ self.old.entries }
         ensures policy { self.new.policy ≡ self.old.policy }
     {
-        let count = count_of(&self.keys, &key);
+        let (place, count) = enter(&mut self.keys, self.latest, key)?;
         let is_full = count.kept == u64::from(depth);
         let turns = count.turns.saturating_add(1);
         let kept = if is_full {
@@ -293,7 +363,8 @@ impl Kept {
         } else {
             count.kept.saturating_add(1)
         };
-        self.keys.insert(key, KeyCount { turns, kept })?;
+        recount(&mut self.keys, place, KeyCount { turns, kept });
+        self.latest = place;
         if !is_full {
             self.live = self.live.saturating_add(1);
         }
@@ -331,6 +402,7 @@ impl Kept {
             number,
             change,
             turn,
+            place: self.latest,
         });
         Ok(())
     }
@@ -399,7 +471,7 @@ impl Kept {
         match self.policy {
             HistoryQos::KeepAll => self.entries.len() as u64,
             HistoryQos::KeepLast(depth) => {
-                if is_full(depth, count_of(&self.keys, key)) {
+                if is_full(depth, count_of(&self.keys, self.latest, key)) {
                     self.live.saturating_sub(1)
                 } else {
                     self.live

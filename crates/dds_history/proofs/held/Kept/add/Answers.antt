@@ -16,7 +16,12 @@ returns-clause-ok c = λ last before runs some.
     let counted = subst (λ (es : List Entry). IsCountedBy was.policy c.args.change.key
     (record { policy = was.policy; entries = es; counted = was.keys.entries; live = was.live })
     (state c.turn.new.self) c.in_ok-turn.turn) same (c.in_ok-turn.ensures.counts last before.few few) in
-    let new : Entry = record { number = c.args.number; change = c.args.change; turn = c.in_ok-turn.turn } in
+    let new : Entry = record {
+      number = c.args.number;
+      change = c.args.change;
+      turn = c.in_ok-turn.turn;
+      place = c.turn.new.self.latest;
+    } in
     let more : c.push_back_reserved.new.self.items ≡ was.entries.items ++ new ∷ [] =
     c.push_back_reserved.ensures.items
     ∙ (ap (λ (es : List Entry). es ++ new ∷ []) (ap (λ q. q.items) c.turn.ensures.entries ∙ same)) in
@@ -30,5 +35,5 @@ returns-clause-ok c = λ last before runs some.
     ≡ with_change was.policy (held_by was.policy was.keys.entries was.entries.items) c.args.number c.args.change true))
     (sym c.turn.ensures.policy)
     (added_by was.policy last was.live was.keys.entries was.entries.items c.push_back_reserved.new.self.items
-    (state c.turn.new.self) c.in_ok-turn.turn c.args.number c.args.change before.next some runs before.holds counted
+    (state c.turn.new.self) c.in_ok-turn.turn c.turn.new.self.latest c.args.number c.args.change before.next some runs before.holds counted
     more)
