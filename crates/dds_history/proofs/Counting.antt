@@ -128,6 +128,39 @@ same_counted : (c after : Counted) (es : List Entry) → SameTurns c after es �
 same_counted c after [] h k = tt
 same_counted c after (e ∷ es) h k = (k.0, omega (arith, h.0, k.1), k.2, same_counted c after es h.1 k.3)
 
+same_turns : (c after : Counted) (es : List Entry) → ((k : Key) → count_in after k ≡ count_in c k) → SameTurns c after es
+same_turns c after [] same = tt
+same_turns c after (e ∷ es) same = (ap (λ (n : KeyCount). n.turns) (same e.change.key), same_turns c after es same)
+
+-- the keys may stand otherwise, where the same is counted of each
+pub recounted : (p : HistoryQos) (last live : ℕ) (c after : Counted) (es : List Entry)
+    → ((k : Key) → count_in after k ≡ count_in c k)
+    → Holds last (record { policy = p; entries = es; counted = c; live = live })
+    → Holds last (record { policy = p; entries = es; counted = after; live = live })
+    × (held_by p after es ≡ held_by p c es)
+recounted KeepAll last live c after es same h =
+    (record { rises = h.rises; up_to = h.up_to; fits = tt }, refl)
+recounted (KeepLast depth) last live c after es same h =
+    let turns : SameTurns c after es = same_turns c after es same in
+    let shown_is : held_by (KeepLast depth) after es ≡ held_by (KeepLast depth) c es = same_shown depth c after es turns in (
+      record {
+        rises = h.rises;
+        up_to = h.up_to;
+        fits = record {
+          counted = same_counted c after es turns h.fits.counted;
+          kept = λ key. ap (λ (n : KeyCount). n.kept) (same key)
+              ∙ (h.fits.kept key ∙ ap (λ (hs : List HeldChange). lives key hs) (sym shown_is));
+          live = h.fits.live ∙ ap (λ (hs : List HeldChange). length hs) (sym shown_is);
+          few = record {
+            turns = λ key. subst (λ (n : KeyCount). n.turns ≤ last) (sym (same key)) (h.fits.few.turns key);
+            kept = λ key. subst (λ (n : KeyCount). n.kept ≤ last) (sym (same key)) (h.fits.few.kept key);
+            live = h.fits.few.live;
+          };
+        };
+      },
+      shown_is,
+    )
+
 abbrev pub Released : Counted → Counted → Key → Type 0
 Released c after key =
     (k : Key) → count_in after k ≡ (if same_key key k then one_fewer (count_in c key) else count_in c k)

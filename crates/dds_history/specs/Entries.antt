@@ -23,6 +23,10 @@ Counted = List (Key × KeyCount)
 abbrev pub count_in : Counted → Key → KeyCount
 count_in counted key = unwrap_or (lookup (same_key key) counted) (record { turns = 0; kept = 0 })
 
+-- something is counted
+abbrev pub is_any_counted : KeyCount → Bool
+is_any_counted count = nat_lt 0 count.turns || nat_lt 0 count.kept
+
 -- the key stands at this place, and this is counted of it
 pub record IsCountedAt (counted : Counted) (key : Key) (place : ℕ) (count : KeyCount) : Type 0 where
   pub stands : slice_get counted place ≡ Some (key, count)

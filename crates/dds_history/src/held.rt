@@ -19,12 +19,15 @@ ghost use Rattle.dds_base.specs.declared.qos.HistoryQos.TheVariants.{KeepLast};
 ghost use Rattle.dds_base.specs.Happening.{same_key};
 ghost use Rattle.dds_history.specs.declared.held.Entry.{Entry};
 ghost use Rattle.dds_history.specs.Held.{IsNext, awaits, granted, kept_after, older_after};
-ghost use Rattle.dds_history.specs.Entries.{Gains, HasRuns, Holds, HoldsBefore, IsAfterFirst, Rises, count_in, goes_first, held_as, one_fewer, remaining_by, shown, state, is_counted, IsCounted, IsCountedAt, IsCountedBy, IsFew, IsFewBy};
+ghost use Rattle.dds_history.specs.Entries.{Gains, HasRuns, Holds, HoldsBefore, IsAfterFirst, Rises, count_in, goes_first, held_as, one_fewer, remaining_by, shown, state, is_any_counted, is_counted, IsCounted, IsCountedAt, IsCountedBy, IsFew, IsFewBy};
 
 use dds_base::{Change, Code, HistoryQos, Key};
 use indexmap::IndexMap;
 use std::alloc::{AllocFailed, Global};
 use std::collections::VecDeque;
+
+/// So many keys may stand of which nothing is kept, beside twice as many as changes are.
+const IDLE_KEYS: u64 = 16;
 
 /// A change, with its turn among those of its key.
 #[derive(Drop)]
@@ -51,7 +54,7 @@ pub struct KeyCount {
 pub struct Kept {
     pub policy: HistoryQos,
     pub entries: VecDeque<Entry>,
-    /// The keys of which changes are kept; nothing counts under KEEP_ALL.
+    /// The keys of which changes are kept, and some of which none is any more; nothing counts under KEEP_ALL.
     pub keys: IndexMap<Key, KeyCount>,
     /// So many changes are kept; nothing counts under KEEP_ALL.
     pub live: u64,
@@ -151,7 +154,22 @@ fn remaining(policy: HistoryQos, keys: &IndexMap<Key, KeyCount>, entry: &Entry) 
     }
 }
 
-/// One change fewer of the key is kept, which most likely stands at this place.
+/// What is counted of a key once one change fewer of it is kept.
+fn one_fewer(count: KeyCount) -> KeyCount
+    ensures { result ≡ one_fewer count }
+{
+    if count.kept <= 1 {
+        KeyCount { turns: 0, kept: 0 }
+    } else {
+        KeyCount {
+            turns: count.turns,
+            kept: count.kept - 1,
+        }
+    }
+}
+
+/// One change fewer of the key is kept, which most likely stands at this place. It stands there on where none is, so that the
+/// other keys stay at their places too.
 fn release(keys: &mut IndexMap<Key, KeyCount>, likely: usize, key: Key)
     ensures { (k : Key) → count_in keys.new.entries k
         ≡ (if same_key key k then one_fewer (count_in keys.old.entries key) else count_in keys.old.entries k) }
@@ -159,19 +177,19 @@ fn release(keys: &mut IndexMap<Key, KeyCount>, likely: usize, key: Key)
     let Some((place, count)) = find_count(keys, likely, &key) else {
         return;
     };
-    if count.kept <= 1 {
-        keys.swap_remove_index(place);
-    } else {
-        let kept = count.kept - 1;
-        recount(
-            keys,
-            place,
-            KeyCount {
-                turns: count.turns,
-                kept,
-            },
-        );
-    }
+    recount(keys, place, one_fewer(count));
+}
+
+/// Forgets the keys of which nothing is counted.
+fn forget_idle(keys: &mut IndexMap<Key, KeyCount>)
+    ensures { (k : Key) → count_in keys.new.entries k ≡ count_in keys.old.entries k }
+{
+    let _ = keys.len(); // its contract says that no two keys are one
+    keys.retain(
+        |_key: &Key, count: &mut KeyCount| -> bool
+            ensures { (result ≡ is_any_counted count.old) × (count.new ≡ count.old) }
+        { 0 < count.turns || 0 < count.kept },
+    );
 }
 
 /// The change that stands as far from the first as its number does, if that is this number: so it is where no number
@@ -416,6 +434,29 @@ impl Kept {
     }
 
     /// Lets go of what was dropped, where it is first, or more than what is kept.
+    fn tidy_entries(&mut self)
+        ensures policy { self.new.policy ≡ self.old.policy }
+        ensures same { (last : ℕ) → Holds last (state self.old)
+            → Holds last (state self.new) × (shown (state self.new) ≡ shown (state self.old)) }
+    {
+        self.let_go(0);
+        if self.is_sparse() {
+            retain_kept(&mut self.entries, self.policy, &self.keys);
+        }
+    }
+
+    /// Forgets the keys of which nothing is kept, where they are many more than the changes that are.
+    fn tidy_keys(&mut self)
+        ensures policy { self.new.policy ≡ self.old.policy }
+        ensures same { (last : ℕ) → Holds last (state self.old)
+            → Holds last (state self.new) × (shown (state self.new) ≡ shown (state self.old)) }
+    {
+        if self.live.saturating_mul(2).saturating_add(IDLE_KEYS) < self.keys.len() as u64 {
+            forget_idle(&mut self.keys);
+        }
+    }
+
+    /// Lets go of what is kept no more, where that is due.
     fn tidy(&mut self)
         ensures policy { self.new.policy ≡ self.old.policy }
         ensures same { (last : ℕ) → Holds last (state self.old)
@@ -425,10 +466,8 @@ impl Kept {
         if let HistoryQos::KeepAll = self.policy {
             return;
         }
-        self.let_go(0);
-        if self.is_sparse() {
-            retain_kept(&mut self.entries, self.policy, &self.keys);
-        }
+        self.tidy_entries();
+        self.tidy_keys();
     }
 
     /// One more change, which is kept if some reader awaits it, and may drop an older one of its key.
