@@ -353,7 +353,7 @@ impl Kept {
     }
 
     /// Lets go of the changes below the number, and of what was dropped before the first that stays.
-    pub fn let_go(&mut self, number: u64)
+    fn let_go(&mut self, number: u64)
         ensures policy { self.new.policy ≡ self.old.policy }
         ensures rest { (last : ℕ) → Holds last (state self.old)
             → Holds last (state self.new)
@@ -434,11 +434,15 @@ impl Kept {
     }
 
     /// Lets go of what was dropped, where it is first, or more than what is kept.
-    fn tidy_entries(&mut self)
+    fn tidy(&mut self)
         ensures policy { self.new.policy ≡ self.old.policy }
         ensures same { (last : ℕ) → Holds last (state self.old)
             → Holds last (state self.new) × (shown (state self.new) ≡ shown (state self.old)) }
     {
+        // Then nothing is dropped.
+        if let HistoryQos::KeepAll = self.policy {
+            return;
+        }
         self.let_go(0);
         if self.is_sparse() {
             retain_kept(&mut self.entries, self.policy, &self.keys);
@@ -456,17 +460,15 @@ impl Kept {
         }
     }
 
-    /// Lets go of what is kept no more, where that is due.
-    fn tidy(&mut self)
+    /// Lets go of the changes below the number, and of what was dropped before the first that stays; and of the keys of which
+    /// nothing is kept then, where they are many.
+    pub fn acknowledge(&mut self, number: u64)
         ensures policy { self.new.policy ≡ self.old.policy }
-        ensures same { (last : ℕ) → Holds last (state self.old)
-            → Holds last (state self.new) × (shown (state self.new) ≡ shown (state self.old)) }
+        ensures rest { (last : ℕ) → Holds last (state self.old)
+            → Holds last (state self.new)
+            × (shown (state self.new) ≡ filter (λ h. nat_le number h.number) (shown (state self.old))) }
     {
-        // Then nothing is dropped.
-        if let HistoryQos::KeepAll = self.policy {
-            return;
-        }
-        self.tidy_entries();
+        self.let_go(number);
         self.tidy_keys();
     }
 
@@ -480,8 +482,13 @@ impl Kept {
         ensures taken { OnErr result ((nat_lt 0 (granted self.old.policy) && is_awaited) ≡ true) }
         ensures err { OnErr result (state self.new ≡ state self.old) }
     {
-        if self.takes(is_awaited) {
-            self.add(number, change)?;
+        if !self.takes(is_awaited) {
+            return Ok(());
+        }
+        let before = self.live;
+        self.add(number, change)?;
+        // Where one more is kept, none was dropped for it.
+        if self.live == before {
             self.tidy();
         }
         Ok(())

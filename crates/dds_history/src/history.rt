@@ -200,7 +200,7 @@ impl History {
         let to = to.number();
         if self.acknowledged[reader] < to {
             self.acknowledged[reader] = to;
-            self.kept.let_go(first_awaited(&self.acknowledged));
+            self.kept.acknowledge(first_awaited(&self.acknowledged));
         }
     }
 
