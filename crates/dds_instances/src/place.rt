@@ -17,7 +17,8 @@ use std::marker::Model;
 #[derive(Drop)]
 pub struct KeyIndex {
     set: IndexSet<Key>,
-    /// The place of the instance that was expected last: its key is compared before a key is hashed.
+    /// The place of the instance that was expected last: its key, and that of the one behind it, are compared before a key is
+    /// hashed.
     latest: usize,
     /// The key of no instance that was expected last, if there is one: it is compared then.
     absent: Option<Key>,
@@ -154,6 +155,11 @@ pub fn find(index: &KeyIndex, key: Key) -> Option<usize>
     }
     if is_that(&index.absent, key) {
         return None;
+    }
+    // Instances are often gone over in turn.
+    let following = index.latest.saturating_add(1);
+    if is_at(&index.set, following, key) {
+        return Some(following);
     }
     index.set.get_index_of(&key)
 }

@@ -24,3 +24,9 @@ returns c =
     (IsPlaceOf t.keys c.args.key)) c.index.view_is
     (place c.index.inside.set.keys c.args.key c.get_index_of.result c.len.ensures.unique c.get_index_of.ensures.index
     c.get_index_of.ensures.found)
+
+pub returns-then-is_at-2 : goal.returns-then-is_at-2
+returns-then-is_at-2 c =
+    subst (λ (t : Keys). IsPlaceOf t.keys c.args.key c.saturating_add-following.result) c.index.view_is
+    (place-got c.index.inside.set.keys c.args.key c.saturating_add-following.result c.len.ensures.unique
+    (c.is_at-2.ensures c.if-is_at-2.true))
