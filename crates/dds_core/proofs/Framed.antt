@@ -14,6 +14,13 @@ use Rattle.dds_core.specs.Receiving.{FrameNeedsMemory, NeedsMemory, TakesFrame, 
 use Rattle.dds_core.proofs.Taking.{readers_take}
 use Rattle.dds_core.proofs.Turns.{nobody_told}
 
+-- one that names nobody is taken up, and nothing is done
+pub nothing_taken : (old : PeerKept) (at : Receiver) (s : Submessage) (effects : Effects)
+    → ((a : AckNackBody) → s ≡ AckNack a → ⊥) → NamesNobody s → TakesOneMore old at s effects old effects
+nothing_taken old at s effects other nobody =
+    readers_take old old at s effects effects other
+    (nobody_told old at s effects (λ i k there. inl (λ reader_id writer_id by row named. nobody reader_id writer_id by)))
+
 -- one that speaks to the receiver alone is taken up, and nothing is done
 pub takes_for_receiver : (old : PeerKept) (at : Receiver) (id flags : ℕ) (body : List ℕ) (s : Submessage)
     (effects : Effects) (left : Receiver) → ((a : AckNackBody) → s ≡ AckNack a → ⊥) → NamesNobody s
@@ -22,9 +29,7 @@ pub takes_for_receiver : (old : PeerKept) (at : Receiver) (id flags : ℕ) (body
 takes_for_receiver old at id flags body s effects left other nobody read leaves = record {
   submessage = s;
   is_read = read;
-  takes =
-      readers_take old old at s effects effects other
-      (nobody_told old at s effects (λ i k there. inl (λ reader_id writer_id by row named. nobody reader_id writer_id by)));
+  takes = nothing_taken old at s effects other nobody;
   leaves = leaves;
 }
 

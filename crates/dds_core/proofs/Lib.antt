@@ -41,6 +41,7 @@ pub mod Telling
 pub mod Taking
 pub mod EffectsLaws
 pub mod Framed
+pub mod TakenAtOnce
 pub mod Tellable
 pub mod Delivering
 pub mod ReadersAnswer

@@ -253,18 +253,17 @@ takes_all old now source body left index at report gone taken ends fine config p
     }
 
 -- one finds no memory, and nothing that follows it is looked at
-pub takes_some : (old now new : PeerKept) (source : GuidPrefix) (body left : List ℕ) (index : ℕ) (at : Receiver)
+pub takes_some_of : (old now new : PeerKept) (source : GuidPrefix) (body left : List ℕ) (index : ℕ) (at : Receiver)
     (submessage : Submessage) (rest : List ℕ) (report : Report) (sent gone : Announced)
     → TakesTo old source body left index at report.moves now sent → now.prefix ≡ old.prefix
     → NeedsMemory now at submessage → StandsAsWell now new → gone ≡ sent → ReadsFirst left submessage rest
-    → AreOctets left → report.refused ≡ Some index → TakesBody old source body report new gone
-takes_some old now new source body left index at submessage rest report sent gone taken own needs well same first octets
-    refused config peer s =
+    → Reading rest → report.refused ≡ Some index → TakesBody old source body report new gone
+takes_some_of old now new source body left index at submessage rest report sent gone taken own needs well same first
+    later refused config peer s =
     let t : TakenTo old source body left index at report.moves now sent config peer = taken config peer s in
     let may : MayNeedMemory config old.prefix peer.number at submessage t.state =
     subst (λ (p : GuidPrefix). MayNeedMemory config p peer.number at submessage t.state) own
     (needs config (with_state peer t.state) t.stands) in
-    let later : Reading rest = reading rest (rest_octets left submessage rest first octets) in
     let end : FollowsBody config old.prefix peer.number index at left t.state [] report.refused [] t.state =
     record {
       submessages = submessage ∷ later.submessages;
@@ -279,6 +278,17 @@ takes_some old now new source body left index at submessage rest report sent gon
       stands = well config (with_state peer t.state) t.stands;
       sent = subst (λ (x : Announced). AreSent t.dues x.packets.items x.unsent) (sym same) t.sent;
     }
+
+-- the same, where octets are left
+pub takes_some : (old now new : PeerKept) (source : GuidPrefix) (body left : List ℕ) (index : ℕ) (at : Receiver)
+    (submessage : Submessage) (rest : List ℕ) (report : Report) (sent gone : Announced)
+    → TakesTo old source body left index at report.moves now sent → now.prefix ≡ old.prefix
+    → NeedsMemory now at submessage → StandsAsWell now new → gone ≡ sent → ReadsFirst left submessage rest
+    → AreOctets left → report.refused ≡ Some index → TakesBody old source body report new gone
+takes_some old now new source body left index at submessage rest report sent gone taken own needs well same first octets
+    refused =
+    takes_some_of old now new source body left index at submessage rest report sent gone taken own needs well same first
+    (reading rest (rest_octets left submessage rest first octets)) refused
 
 -- ---- the whole of a packet
 

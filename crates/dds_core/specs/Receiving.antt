@@ -12,7 +12,9 @@ use Rattle.dds_base.specs.Kept.{numbers_from}
 use Rattle.rtps_reader.specs.declared.step.Step.{Step}
 use Rattle.rtps_reader.specs.Tracked.{Tracked}
 use Rattle.rtps_reader.specs.Reader.{Tracks}
+use Rattle.rtps_wire.specs.declared.announced.Announcement.{Announcement}
 use Rattle.rtps_wire.specs.declared.submessage.Submessage.{Submessage}
+use Rattle.rtps_wire.specs.declared.submessage.Submessage.TheVariants.{InfoDst, InfoTs, Data}
 use Rattle.rtps_wire.specs.Messages.{ReadsAll}
 use Rattle.rtps_wire.specs.Submessages.{Reads}
 use Rattle.dds_machine.specs.declared.reply.Move.{Move}
@@ -176,6 +178,11 @@ pub record FollowsBody (config : Config) (own : GuidPrefix) (peer index : ℕ) (
   pub left : List ℕ
   pub is_read : ReadsAll body submessages left
   pub follows : FollowsMessage config own peer index at submessages old moves refused dues new
+
+-- the bytes are the three submessages that announce a write, and what is left where reading ends
+abbrev pub Announces : List ℕ → Announcement → Type 0
+Announces body it =
+    (left : List ℕ) × ReadsAll body (InfoDst it.destination ∷ InfoTs (Some it.moment) ∷ Data it.change ∷ []) left
 
 -- for each state that the old values stand for, the submessages that follow the header of a message are taken up with
 -- this report, and what is then due is sent

@@ -3,7 +3,7 @@
 //! RTPS 2.5, 8.3.4 (the message receiver), 8.4.12 (the behaviour of a reliable StatefulReader). What the peer's writers
 //! do with an ACKNACK is in `requests`.
 
-ghost use Rattle.std.specs.Prelude.{◌≡◌, ◌++◌, ◌+◌, ◌*◌, ◌^◌, ◌<◌, ◌≤◌, [], length, None, Some, IfSome, IfNone, IfOk, IfErr, OnOk, OnErr};
+ghost use Rattle.std.specs.Prelude.{◌≡◌, ◌++◌, ◌+◌, ◌*◌, ◌^◌, ◌<◌, ◌≤◌, ℕ, List, [], length, None, Some, IfSome, IfNone, IfOk, IfErr, OnOk, OnErr};
 ghost use Rattle.dds_base.specs.Bounds.{max_ends};
 ghost use Rattle.dds_base.specs.declared.code.Code.TheVariants.{Memory};
 ghost use Rattle.dds_machine.specs.declared.reply.Reply.TheVariants.{Reported};
@@ -12,7 +12,7 @@ ghost use Rattle.rtps_wire.specs.declared.submessage.Submessage.TheVariants as s
 ghost use Rattle.dds_core.specs.Stepping.{SoundSteps};
 ghost use Rattle.dds_core.specs.Sending.{AreMessages, max_unsent};
 ghost use Rattle.dds_core.specs.Readiness.{receiver_at, change_ready, IsReliableAt, IsBounded, AreReady, AreAlike, IsFirstNamed, IsNamedAt, IsReadyFor, IsRowOf, NamedBy, NamesNone, moves_of};
-ghost use Rattle.dds_core.specs.Receiving.{only_last, CanTakeAt, TakesAt, AllCanTake, TakesAll, TellsReaders, TakesOneMore, TakesFrame, KeepsPeer, NeedsMemory, FrameNeedsMemory, GoOn, NothingDone, TakesBody, StandsAsWell, ReceivesPacket};
+ghost use Rattle.dds_core.specs.Receiving.{only_last, CanTakeAt, TakesAt, AllCanTake, TakesAll, TellsReaders, TakesOneMore, TakesFrame, KeepsPeer, NeedsMemory, FrameNeedsMemory, GoOn, NothingDone, Announces, TakesBody, StandsAsWell, ReceivesPacket};
 ghost use Rattle.dds_core.specs.Twins.{Twins, wants_two};
 
 use crate::acknack::send_acknack;
@@ -28,7 +28,10 @@ use dds_base::{Code, GuidPrefix, Sequence, Sn};
 use dds_machine::{Endpoint, Move, Reply, Report};
 use dds_protocol::Output;
 use rtps_reader::Step;
-use rtps_wire::{Data, Frame, MAX_MESSAGE, Submessage, begin_message, next_frame};
+use rtps_wire::{
+    Announcement, Data, Frame, MAX_MESSAGE, Submessage, begin_message, next_frame,
+    read_announcement,
+};
 use smallvec::SmallVec;
 
 /// The first of a peer's readers that a submessage is for, and may do something at, and there the row of the writer that
@@ -94,6 +97,9 @@ fn row_at(
 /// How many readers a peer has for which no memory is needed for the list of what is ready. The place of each is zeroed at
 /// each submessage.
 const FEW_READERS: usize = 1;
+
+/// Where the DATA stands in a message that announces a write: behind INFO_DST and INFO_TS.
+const INDEX_OF_DATA: u32 = 2;
 
 /// Makes ready what a submessage tells, for each of the readers of the peer of this prefix.
 fn prepare(
@@ -500,6 +506,36 @@ impl Peer {
         effects.moves.take_report(None, twin)
     }
 
+    /// Takes up the submessages of a message that announces a write, as `take_submessages` does one after the other.
+    fn take_announcement(
+        &mut self,
+        announcement: Announcement,
+        effects: &mut Effects,
+        twin: &mut Twin,
+    ) -> Report
+        requires none { NothingDone (wants_two twin.old) effects.old }
+        requires bounded { IsBounded (submessage_of.Data announcement.change) }
+        ensures takes { (body : List ℕ) → Announces body announcement.entry
+            → TakesBody self.old announcement.entry.source body result self.new effects.new.sent }
+        ensures messages { AreMessages effects.new.sent.packets.items }
+        ensures few { effects.new.sent.unsent < max_unsent }
+        ensures twin { Twins twin.old (Reported result) twin.new }
+    {
+        let Announcement {
+            source,
+            destination,
+            moment,
+            change,
+        } = announcement;
+        let mut receiver = receiver_for(source);
+        receiver.note_destination(destination);
+        receiver.note_timestamp(&self.prefix, Some(moment));
+        match self.tell_readers(effects, &receiver, &Submessage::Data(change)) {
+            Ok(()) => effects.moves.take_report(None, twin),
+            Err(_) => effects.moves.take_report(Some(INDEX_OF_DATA), twin),
+        }
+    }
+
     /// What is done with the bytes of a packet.
     fn receive(&mut self, packet: &[u8], effects: &mut Effects, twin: &mut Twin) -> Report
         requires none { NothingDone (wants_two twin.old) effects.old }
@@ -508,6 +544,9 @@ impl Peer {
         ensures few { effects.new.sent.unsent < max_unsent }
         ensures twin { Twins twin.old (Reported result) twin.new }
     {
+        if let Some(announcement) = read_announcement(packet) {
+            return self.take_announcement(announcement, effects, twin);
+        }
         match begin_message(packet) {
             Some((source, body)) => self.take_submessages(source, body, effects, twin),
             None => unmoved(self.alloc, None),
