@@ -2,7 +2,7 @@
 //!
 //! DDS 1.4, 2.2.2.4 (register_instance, unregister_instance).
 
-ghost use Rattle.std.specs.Prelude.{◌≡◌, ◌<◌, ◌||◌, ◌⊎◌, [], not, false, true, slice_get, Some, IsOk, OnErr, OnOk, if◌then◌else◌};
+ghost use Rattle.std.specs.Prelude.{◌≡◌, ◌<◌, ◌||◌, ◌⊎◌, [], not, false, true, slice_get, is_some, Some, IsOk, OnErr, OnOk, if◌then◌else◌};
 ghost use Rattle.dds_base.specs.Happening.{same_key, is_unregister};
 ghost use Rattle.rtps_writer.specs.Registered.{is_among};
 
@@ -62,6 +62,18 @@ impl RegisteredInstances {
         is_at(&self.set, self.latest, key)
     }
 
+    /// Where an instance stands that is registered, which is often the one behind the remembered place: instances are often gone
+    /// over in turn.
+    fn place_of(&self, key: Key) -> Option<usize>
+        ensures { is_some result ≡ is_among self.now.keys key }
+    {
+        let following = self.latest.saturating_add(1);
+        if is_at(&self.set, following, key) {
+            return Some(following);
+        }
+        self.set.get_index_of(&key)
+    }
+
     /// Registers an instance, whether or not it is registered.
     pub fn register(&mut self, key: Key) -> Result<(), AllocFailed<Key>>
         ensures registered { OnOk result ((k : Key)
@@ -111,7 +123,7 @@ impl RegisteredInstances {
         if self.is_latest(key) {
             return;
         }
-        match self.set.get_index_of(&key) {
+        match self.place_of(key) {
             Some(place) => self.latest = place,
             None => {
                 self.latest = self.set.len();
