@@ -11,6 +11,7 @@ mod history;
 mod info;
 mod lease;
 mod listeners;
+mod matching;
 mod notices;
 mod owner;
 mod readme;

@@ -1,9 +1,9 @@
 mod Saying
-mod Lists
+pub mod Lists
 mod Delivering
 mod Farewell
 mod Datas
-mod Members
+pub mod Members
 mod Standing
 mod Numbers
 mod Lasting

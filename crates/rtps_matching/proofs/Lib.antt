@@ -1,0 +1,5 @@
+mod Announcing
+mod Members
+mod Pairs
+mod Placing
+mod Telling

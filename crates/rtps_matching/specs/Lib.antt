@@ -1,0 +1,4 @@
+-- The definitions that contracts cite, by subject.
+pub mod Matches
+pub mod Steps
+pub mod Laws
