@@ -331,7 +331,7 @@ stays_matched prefix o f together = by_test (is_of prefix f) refl
     by_test true is = (who_is_matched f.is_awake (fits_what o f.end) together).1
     by_test false is = together
 
-turned_name : (prefix : GuidPrefix) (awake : Bool) (f : Far) → (turned prefix awake f).guid ≡ f.guid
+pub turned_name : (prefix : GuidPrefix) (awake : Bool) (f : Far) → (turned prefix awake f).guid ≡ f.guid
 turned_name prefix awake f = by_test (is_of prefix f)
   where
     by_test : (b : Bool) → (let g : Far = cond b (with_awake awake f) f in g.guid) ≡ f.guid
