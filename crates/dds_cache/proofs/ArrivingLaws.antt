@@ -1,6 +1,5 @@
 -- What a change leaves of its instance, by what is known of that once the change has come.
 use Rattle.std.proofs.Common.{◌≡◌, ℕ, ◌+◌, ◌-◌, List, [], ◌∷◌, ◌++◌, length, Bool, true, ◌||◌, sym, ap, ◌∙◌, refl, subst, arith}
-use Rattle.dds_base.specs.declared.key.Key.{Key}
 use Rattle.dds_base.specs.declared.happening.Arrival.{Arrival}
 use Rattle.dds_base.specs.declared.happening.Happening.{Happening}
 use Rattle.dds_base.specs.declared.happening.Happening.TheVariants.{Came}
@@ -10,7 +9,7 @@ use Rattle.dds_instances.specs.declared.known.KnownInstance.{KnownInstance}
 use Rattle.dds_instances.specs.Known.{IsKnown}
 use Rattle.dds_cache.specs.declared.kept.Kept.{Kept}
 use Rattle.dds_cache.specs.Arriving.{LeavesWrite, kept_of}
-use Rattle.dds_cache.specs.Kept.{Adds, IsFresh, IsKept, IsKeptAt, is_live, sample_at}
+use Rattle.dds_cache.specs.Kept.{Adds, IsFresh, IsKept, is_live, sample_at}
 use Rattle.dds_cache.proofs.KeptLaws.{kept-newest, live-at, newest-came}
 use Rattle.dds_cache.proofs.StandingLaws.{adds-one}
 

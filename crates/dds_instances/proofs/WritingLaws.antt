@@ -1,7 +1,7 @@
 -- One more write of an instance that is alive turns nothing but the count of its writes.
 use Rattle.std.proofs.Common.{◌≡◌, ℕ, ◌+◌, ◌<◌, ◌==◌, List, [], ◌∷◌, ◌++◌, length, get_or, set, map, Bool, true, false, not, ◌&&◌, ◌||◌, sym, ap, ◌∙◌, refl, subst, Option, Some, None, arith, ⊎_elim}
-use Rattle.std.specs.Prelude.{is_some, if◌then◌else◌}
-use Rattle.std.proofs.lemmas.Bool.{and_parts, cases_Bool, eqb-true}
+use Rattle.std.specs.Prelude.{if◌then◌else◌}
+use Rattle.std.proofs.lemmas.Bool.{cases_Bool, eqb-true}
 use Rattle.std.proofs.lemmas.List.{append-nil, length-map, length-set, get_or-set_same}
 use Rattle.std.proofs.lemmas.List.Elements.{filter_agree}
 use Rattle.dds_base.specs.declared.key.Key.{Key}
@@ -18,7 +18,7 @@ use Rattle.dds_base.specs.declared.qos.ReaderQos.{ReaderQos}
 use Rattle.dds_base.specs.Access.{lives_begun, state_of_known}
 use Rattle.dds_base.specs.Happening.{is_unregister, is_write_or_dispose, same_key}
 use Rattle.dds_base.specs.Instance.{introduced_by, is_disposed, is_known, is_without_writers, known_instances}
-use Rattle.dds_base.specs.Life.{becomes_not_alive, ends_life, ends_with_write, is_nobody, is_write, last_accepted, or_else, state_after}
+use Rattle.dds_base.specs.Life.{becomes_not_alive, ends_life, is_nobody, is_write, last_accepted, state_after}
 use Rattle.dds_base.specs.Ownership.{accepted_kind, admits, is_registered, outranks_all, publication_handles, registered_writers}
 use Rattle.dds_base.proofs.KeyLaws.{same_key-refl}
 use Rattle.dds_base.proofs.LifeLaws.{ends-registered, same-state}

@@ -1,4 +1,4 @@
-use Rattle.std.proofs.Common.{ℕ, List, ◌≤◌, ◌<◌, ◌≡◌, ◌+◌, ◌∷◌, length, sym, subst, refl, ap, ◌∙◌, arith, Bool, Some}
+use Rattle.std.proofs.Common.{ℕ, List, ◌<◌, ◌≡◌, ◌+◌, ◌∷◌, length, sym, subst, refl, ap, ◌∙◌, arith, Bool, Some}
 use Rattle.std.specs.Prelude.{if◌then◌else◌}
 use Rattle.std.proofs.lemmas.Bool.{lt-ltb}
 use Rattle.dds_base.specs.declared.happening.Happening.{Happening}
@@ -11,7 +11,7 @@ use Rattle.dds_base.specs.Ownership.{IsMatched}
 use Rattle.dds_instances.specs.Table.{Stands, Table}
 use Rattle.dds_instances.specs.Known.{IsKnown}
 use Rattle.dds_cache.specs.declared.kept.Kept.{Kept}
-use Rattle.dds_cache.specs.Finding.{Holds, HoldsBut}
+use Rattle.dds_cache.specs.Finding.{HoldsBut}
 use Rattle.dds_cache.specs.Kept.{Adds, IsFresh}
 use Rattle.dds_cache.specs.Sound.{stored_of}
 use Rattle.dds_cache.specs.Standing.{Stored, StandsFor}

@@ -1,6 +1,5 @@
-use Rattle.std.proofs.Common.{◌≡◌, ◌+◌, List, ◌∷◌, subst, sym, ap, ◌∙◌, refl, arith, rules}
+use Rattle.std.proofs.Common.{◌+◌, subst, sym, ap, ◌∙◌, refl, arith, rules}
 use Rattle.dds_base.specs.declared.happening.Happening.TheVariants.{Came}
-use Rattle.dds_owner.specs.Standing.{KeptStrengths}
 use Rattle.dds_instances.specs.Following.{TakesWrite}
 use Rattle.dds_instances.specs.Keys.{Keys}
 use Rattle.dds_instances.specs.Sound.{table_of}
