@@ -198,12 +198,10 @@ impl StatefulWriter {
         // A refusal leaves the writer as it was.
         ensures err { OnErr result (self.new ≡ self.old) }
     {
-        if let Some(code) = self.history.refusal(&change) {
-            return Err(code);
-        }
         let (key, kind, moment) = (change.key, change.kind, change.source_timestamp);
         if self.registered.reserve(key, kind).is_err() {
-            return Err(Code::Memory);
+            // Every other cause goes first.
+            return Err(self.history.refusal(&change).unwrap_or(Code::Memory));
         }
         match self.history.append(change) {
             Ok(number) => {

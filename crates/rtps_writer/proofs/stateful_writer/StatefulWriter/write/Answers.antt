@@ -1,4 +1,5 @@
-use Rattle.std.proofs.Common.{Option, sym, ◌∙◌, refl, subst, inl}
+use Rattle.std.proofs.Common.{Option, Some, None, sym, refl, subst, inl}
+use Rattle.std.specs.Prelude.{unwrap_or}
 use Rattle.dds_base.specs.declared.code.Code.{Code}
 use Rattle.dds_base.specs.declared.code.Code.TheVariants.{Memory}
 use Rattle.dds_base.specs.Refusal.{Refuses}
@@ -6,17 +7,16 @@ use Rattle.rtps_writer.specs.WriterState.{history_of}
 use Rattle.rtps_writer.proofs.Parts.{changes, history_at}
 use Rattle.rtps_writer.proofs.stateful_writer.StatefulWriter.write.Goals as goal
 
-pub returns-in-Some-clause-refused : goal.returns-in-Some-clause-refused
-returns-in-Some-clause-refused c = λ s given.
-    let h = history_at _ c.args.self.now s c.self.view_is given in
-    subst (λ (o : Option Code). Refuses o c.in-Some.code)
-    (sym c.in-Some.is ∙ c.refusal.ensures.refusal (history_of s) h) refl
+-- a cause, or want of memory where there is none
+refuses_or_memory : (o : Option Code) → Refuses o (unwrap_or o Memory)
+refuses_or_memory None = refl
+refuses_or_memory (Some code) = refl
 
 pub returns-then-is_err-clause-refused : goal.returns-then-is_err-clause-refused
 returns-then-is_err-clause-refused c = λ s given.
     let h = history_at _ c.args.self.now s c.self.view_is given in
-    subst (λ (o : Option Code). Refuses o Memory)
-    (sym c.in_default.is ∙ c.refusal.ensures.refusal (history_of s) h) refl
+    subst (λ (o : Option Code). Refuses o c.unwrap_or.result) (c.refusal.ensures.refusal (history_of s) h)
+    (subst (λ (code : Code). Refuses c.refusal.result code) (sym c.unwrap_or.ensures) (refuses_or_memory c.refusal.result))
 
 pub returns-in-Ok-clause-ok : goal.returns-in-Ok-clause-ok
 returns-in-Ok-clause-ok c = λ s given.
@@ -35,11 +35,6 @@ pub returns-in-Err-clause-refused : goal.returns-in-Err-clause-refused
 returns-in-Err-clause-refused c = λ s given.
     let h = history_at _ c.args.self.now s c.self.view_is given in
     c.in-Err.ensures.refused (history_of s) h
-
-pub returns-in-Some-clause-wants : goal.returns-in-Some-clause-wants
-returns-in-Some-clause-wants c = λ s given none.
-    let h = history_at _ c.args.self.now s c.self.view_is given in
-    let some = sym c.in-Some.is ∙ c.refusal.ensures.refusal (history_of s) h in absurd cc
 
 pub returns-in-Err-clause-wants : goal.returns-in-Err-clause-wants
 returns-in-Err-clause-wants c = λ s given none.
