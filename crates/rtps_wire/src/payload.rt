@@ -20,7 +20,7 @@ pub fn put_key_form(out: &mut Vec<u8>, key: &Key) -> Result<(), Code>
 }
 
 /// The octets of a key, four at a time.
-fn words_of(key: &Key) -> ([u8; 4], [u8; 4], [u8; 4], [u8; 4])
+pub fn words_of(key: &Key) -> ([u8; 4], [u8; 4], [u8; 4], [u8; 4])
     ensures { ((result.0 ++ result.1) ++ result.2) ++ result.3 ≡ key.now.0 }
 {
     // This shows the prover how many octets a key has.
