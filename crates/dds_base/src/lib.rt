@@ -59,6 +59,7 @@ mod sample;
 mod selection;
 mod sequence;
 mod sn;
+mod spare;
 mod status;
 
 pub use change::{Change, ChangeKind};
@@ -89,4 +90,5 @@ pub use sample::{InstanceState, Picked, Sample, SampleInfo, SampleState, ViewSta
 pub use selection::{Scope, Selection};
 pub use sequence::Sequence;
 pub use sn::{MAX_SN, Sn};
+pub use spare::Spare;
 pub use status::{LivelinessChangedStatus, LivelinessLostStatus, SampleLostStatus};

@@ -38,7 +38,7 @@ use crate::sweeping::{let_go, next_sweep, sweep};
 use crate::test::Test;
 use dds_base::{
     Arrival, Code, Handle, Key, Masks, Moment, OwnershipQos, ReaderQos, Sample, SamplePosition,
-    Selection, Sequence, Sn,
+    Selection, Sequence, Sn, Spare,
 };
 use dds_info::Ranks;
 use dds_instances::Instances;
@@ -75,6 +75,8 @@ pub struct ReaderCache {
     room: usize,
     /// The position of the newest entry that brought a sample, if there is one and no read or take has followed it.
     data_at: Option<u64>,
+    /// In this memory the next collection is made.
+    collection: Spare<Sample>,
 }
 
 impl Model for ReaderCache {
@@ -108,7 +110,18 @@ impl ReaderCache {
             summary: Summary::new(alloc),
             room: 0,
             data_at: None,
+            collection: Spare::new(alloc),
         }
+    }
+
+    /// Takes the list of a collection back, for the next one. It keeps the memory of one list, of at most 128 places, and
+    /// lets the samples go; it takes none.
+    #[inline(always)]
+    pub fn lend(&mut self, list: Vec<Sample>)
+        // The cache is as it was.
+        ensures same { self.new ≡ self.old }
+    {
+        self.collection.keep(list);
     }
 
     /// Makes room for so many more entries: as many that follow find it. Each of them then has a place for the sample that
@@ -602,9 +615,10 @@ impl ReaderCache {
         let Some(only) = find_only(&self.instances, &self.qos, masks, test, &self.samples) else {
             return None;
         };
-        let Ok(mut samples) = Vec::with_capacity(self.alloc, 1) else {
+        let mut samples = self.collection.take(self.alloc);
+        if samples.reserve(1).is_err() {
             return None;
-        };
+        }
         let value = take_last(
             self.alloc,
             &mut self.instances,
