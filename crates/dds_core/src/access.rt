@@ -35,6 +35,7 @@ impl Peer {
         let Some(index) = index_of(reader, self.readers.len()) else {
             return self.refused(Code::BadParameter);
         };
+        self.spare.reader = index;
         let samples = self.readers[index].access(kind, selection, &Everything, twin);
         answered(self.alloc, reply_to_access(samples))
     }

@@ -191,6 +191,17 @@ impl<F: Filter, L: Listener> Core<F, L> {
         output
     }
 
+    /// Takes the lists of an answer back, which its caller has read, for the answers that follow: a caller who gives each
+    /// answer back has most of them made without asking for memory. It keeps the memory of a few lists, of at most 128
+    /// places each, and lets their elements go; it takes none.
+    #[inline(always)]
+    pub fn reuse(&mut self, output: Output)
+        // The peer is as it was, whatever is given back.
+        ensures same { self.new ≡ self.old }
+    {
+        self.filtered.reuse(output);
+    }
+
     /// Adds a filter, by the next number, from 1: query conditions can name it from then on. What it answers is what it
     /// means, for every key and value.
     ///

@@ -239,7 +239,15 @@ impl Peer {
             Ok(number) => number,
             Err(code) => return self.refused(code),
         };
-        let announced = writer.announce(self.alloc, self.prefix, self.moment, number, &change);
+        let list = self.spare.packets.take(self.alloc);
+        let announced = writer.announce(
+            self.alloc,
+            list,
+            self.prefix,
+            self.moment,
+            number,
+            &change,
+        );
         let Announced { packets, unsent } = announced;
         if let Err(code) = self.writers[index].append(change) {
             return self.refused(code);

@@ -561,7 +561,8 @@ impl Peer {
         ensures few { result.unsent < max_unsent }
         ensures twin { Twins twin.old result.reply twin.new }
     {
-        let mut effects = Effects::new(self.alloc, twin.is_asked());
+        let list = self.spare.moves.take(self.alloc);
+        let mut effects = Effects::new(self.alloc, twin.is_asked(), list);
         let report = self.receive(packet, &mut effects, twin);
         let Effects { sent, .. } = effects;
         let Announced { packets, unsent } = sent;

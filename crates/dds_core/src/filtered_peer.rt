@@ -111,6 +111,14 @@ impl<F: Filter> FilteredPeer<F> {
         self.peer.step_by(&self.filters, event, twin)
     }
 
+    /// Takes an answer's lists back, as `Core::reuse` has it.
+    #[inline(always)]
+    pub(crate) fn reuse(&mut self, output: Output)
+        ensures { self.new ≡ self.old }
+    {
+        self.peer.reuse(output);
+    }
+
     /// Adds a filter, by the next number, from 1: query conditions can name it from then on. What it answers is what it
     /// means, for every key and value.
     ///

@@ -63,6 +63,7 @@ mod receiver;
 mod requests;
 mod seen;
 mod sending;
+mod spare_lists;
 mod status_bits;
 mod store;
 mod twin;

@@ -187,8 +187,9 @@ impl Copies {
 }
 
 impl Moves {
-    /// No moves, and no room: to be kept twice, or once. Takes no memory.
-    pub fn new(alloc: Global, twice: bool) -> Moves
+    /// No moves, and no room: to be kept twice, or once; they are to be kept in this empty list. Takes no memory.
+    pub fn new(alloc: Global, twice: bool, list: Vec<Move>) -> Moves
+        requires empty { list.items ≡ [] }
         ensures { result ≡ record { items = []; room = 0; twice = twice } }
     {
         let copies = if twice {
@@ -198,7 +199,7 @@ impl Moves {
         };
         Moves {
             alloc,
-            moves: Vec::new(alloc),
+            moves: list,
             copies,
             room: 0,
         }

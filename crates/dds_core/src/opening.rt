@@ -12,6 +12,7 @@ ghost use Rattle.dds_core.specs.Standing.{StandsFor};
 
 use crate::peer::Peer;
 use crate::reader_end::ReaderEnd;
+use crate::spare_lists::SpareLists;
 use crate::writer_end::WriterEnd;
 use dds_base::{Code, Config, Moment, PeerConfig, index_of};
 use dds_conditions::Watch;
@@ -59,6 +60,7 @@ fn open(alloc: Global, peers: &[PeerConfig], index: usize) -> Result<Peer, Alloc
         writers,
         readers,
         watch,
+        spare: SpareLists::new(alloc),
     })
 }
 

@@ -14,6 +14,7 @@ use crate::lent_event::LentEvent;
 use crate::output::answered;
 use crate::reader_end::ReaderEnd;
 use crate::sending::Announced;
+use crate::spare_lists::SpareLists;
 use crate::twin::Twin;
 use crate::writer_end::{WriterEnd, tick_all};
 use dds_base::{Code, GuidPrefix, MOMENT_END, Moment, Sequence};
@@ -37,6 +38,8 @@ pub struct Peer {
     pub(crate) writers: Vec<WriterEnd>,
     pub(crate) readers: Vec<ReaderEnd>,
     pub(crate) watch: Watch,
+    /// Of what callers gave back. No event depends on it.
+    pub(crate) spare: SpareLists,
 }
 
 impl Model for Peer {

@@ -644,6 +644,14 @@ impl ReaderEnd {
         self.store.access(kind, selection, test, twin)
     }
 
+    /// Lends the memory of this list to the next collection.
+    #[inline(always)]
+    pub fn lend(&mut self, list: Vec<Sample>)
+        ensures { self.new ≡ self.old }
+    {
+        self.store.lend(list);
+    }
+
     /// The key of a known instance, by its handle.
     ///
     /// DDS 1.4, 2.2.2.5 (get_key_value).

@@ -90,14 +90,16 @@ fn announce_to(
     }
 }
 
-/// Announces a change of this number, of which a DATA says so much, to each of these peers.
+/// Announces a change of this number, of which a DATA says so much, to each of these peers, by packets in this empty list.
 pub fn announce(
     alloc: Global,
+    list: Vec<Packet>,
     sender: &Sender,
     destinations: &[Destination],
     number: Sn,
     content: DataContent<'_>,
 ) -> Announced
+    requires empty { list.items ≡ [] }
     requires first { 1 ≤ number }
     requires small { number ≤ max_changes }
     requires valid { IsContent content }
@@ -106,7 +108,7 @@ pub fn announce(
     ensures packets { AreAnnouncements sender.now number content.entry destinations.now
         result.packets.items }
 {
-    let mut packets = Vec::new(alloc);
+    let mut packets = list;
     let change = Data {
         reader_id: EntityId::UNKNOWN,
         writer_id: sender.entity,

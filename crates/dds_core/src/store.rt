@@ -224,6 +224,14 @@ impl Store {
         }
     }
 
+    /// Lends the memory of this list to the next collection.
+    #[inline(always)]
+    pub fn lend(&mut self, list: Vec<Sample>)
+        ensures { self.new ≡ self.old }
+    {
+        self.cache.lend(list);
+    }
+
     /// The key of a known instance, by its handle.
     pub fn key_value(&self, instance: Handle) -> Option<Key>
         ensures { (h : List Happening) → Holds self.now h

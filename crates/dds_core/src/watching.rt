@@ -406,6 +406,7 @@ impl Peer {
             Ok(asked) => asked,
             Err(code) => return self.refused(code),
         };
+        self.spare.reader = index;
         let test = ByFilter { filters, filter };
         let samples = self.readers[index].access(kind, selection, &test, twin);
         answered(self.alloc, reply_to_access(samples))

@@ -2,7 +2,7 @@
 //!
 //! RTPS 2.5, 8.4.7 (StatefulWriter); DDS 1.4, 2.2.2.4 (DataWriter).
 
-ghost use Rattle.std.specs.Prelude.{◌≡◌, ◌≢◌, ◌+◌, ◌^◌, ◌<◌, ◌≤◌, ◌⊎◌, ℤ, Option, length, map, nat_le, slice_get, slice_index, Some, None, true, false, IfSome, IfNone, IfOk, IfErr, OnOk, OnErr};
+ghost use Rattle.std.specs.Prelude.{◌≡◌, ◌≢◌, ◌+◌, ◌^◌, ◌<◌, ◌≤◌, ◌⊎◌, ℤ, [], Option, length, map, nat_le, slice_get, slice_index, Some, None, true, false, IfSome, IfNone, IfOk, IfErr, OnOk, OnErr};
 ghost use Rattle.dds_base.specs.Bounds.{greatest_value, max_changes, max_ends, max_peers, max_readers, window_width};
 ghost use Rattle.dds_base.specs.Checked.{check_refusal};
 ghost use Rattle.dds_base.specs.declared.code.Code.TheVariants.{Memory, OutOfResources, PreconditionNotMet};
@@ -40,6 +40,7 @@ use dds_base::{
 };
 use dds_machine::Endpoint;
 use dds_notices::StatusMask;
+use dds_protocol::Packet;
 use rtps_wire::{AckNack, DataContent};
 use rtps_writer::{Answered, StatefulWriter};
 use std::alloc::{AllocError, Global};
@@ -289,15 +290,18 @@ impl WriterEnd {
 
     /// Announces a change, which is to get this number, to each peer with a matched reader, at the moment of its peer, of
     /// this prefix. The change is lent before the history takes it: so it is announced whatever the history keeps, and a
-    /// packet is counted as unsent for want of memory alone. `docs/DECISIONS.md`, "Peers and the network".
+    /// packet is counted as unsent for want of memory alone. `docs/DECISIONS.md`, "Peers and the network". The packets
+    /// stand in this empty list.
     pub fn announce(
         &self,
         alloc: Global,
+        list: Vec<Packet>,
         prefix: GuidPrefix,
         moment: Moment,
         number: Sn,
         change: &Change,
     ) -> Announced
+        requires empty { list.items ≡ [] }
         requires first { 1 ≤ number }
         requires small { number ≤ max_changes }
         requires short { length change.now.value ≤ greatest_value }
@@ -319,6 +323,7 @@ impl WriterEnd {
         let content = DataContent::of_change(change);
         announce(
             alloc,
+            list,
             &sender,
             self.destinations.as_slice(),
             number,

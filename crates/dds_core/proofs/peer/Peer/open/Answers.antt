@@ -1,0 +1,16 @@
+use Rattle.std.proofs.Common.{ℕ, ◌+◌, List, subst, sym}
+use Rattle.dds_base.specs.declared.config.Config.{Config}
+use Rattle.dds_base.specs.declared.config.PeerConfig.{PeerConfig}
+use Rattle.dds_core.specs.Opening.{opening_peer}
+use Rattle.dds_core.specs.Standing.{StandsFor}
+use Rattle.dds_core.proofs.peer.Peer.open.Goals as goal
+
+-- an opened peer stands for its opening in a configuration
+abbrev Opened : goal.In_ok-open → Config → ℕ → Type 0
+Opened c config number = StandsFor c.in_ok-open.field-0 config (opening_peer config number)
+
+pub returns-clause-opening : goal.returns-clause-opening
+returns-clause-opening c =
+    subst (λ (n : ℕ). Opened c c.args.config.now n) (sym c.in-Some.ensures.index.0)
+    (subst (λ (ps : List PeerConfig). Opened c (record { peers = ps }) (c.in-Some.index + 1))
+    c.as_slice-peers.ensures.elements c.in_ok-open.ensures)
