@@ -33,7 +33,7 @@ pub(crate) fn step(alloc: Global, peer: &mut Peer, event: Event) -> u8
     let Some(mut session) = peer.take(alloc) else {
         return NOT_OPEN.number();
     };
-    session.step(event);
+    session.step(alloc, event);
     put_back(peer, session)
 }
 
@@ -52,7 +52,7 @@ pub extern "C" fn cw_deliver(alloc: Global, peer: &mut Peer, datagram: &[u8]) ->
     let Some(mut session) = peer.take(alloc) else {
         return NOT_OPEN.number();
     };
-    session.deliver(datagram);
+    session.deliver(alloc, datagram);
     put_back(peer, session)
 }
 

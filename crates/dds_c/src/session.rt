@@ -2,7 +2,7 @@
 //!
 //! The interface for C is this project's own.
 
-ghost use Rattle.std.specs.Prelude.{◌≡◌, ◌≢◌, None, IfOk, IfErr};
+ghost use Rattle.std.specs.Prelude.{◌≡◌, ◌≢◌, [], None, IfOk, IfErr};
 ghost use Rattle.dds_base.specs.Refusal.{Refuses};
 ghost use Rattle.dds_core.specs.Listening.{Steps};
 ghost use Rattle.dds_core.specs.Opening.{core_refusal};
@@ -20,6 +20,7 @@ use dds_notices::Recorder;
 use dds_protocol::{Event, Output};
 use dds_script::Prefix;
 use std::alloc::Global;
+use std::mem;
 
 /// A peer whose filters are prefixes, and whose listeners record.
 pub type Core = CoreOf<Prefix, Recorder>;
@@ -54,6 +55,17 @@ pub fn refusal(code: Code) -> u8
     }
 }
 
+/// No answer to any event, with nothing to send. Takes no memory.
+fn nothing(alloc: Global) -> Output
+    ensures { result ≡ record { reply = Reply.Done; packets = []; unsent = 0 } }
+{
+    Output {
+        reply: Reply::Done,
+        packets: Sequence::from_vec(Vec::new(alloc)),
+        unsent: 0,
+    }
+}
+
 impl Session {
     /// The peer of this number, at its opening.
     ///
@@ -65,37 +77,44 @@ impl Session {
         ensures refused { IfErr result (Refuses (core_refusal config.now.peers peer)) }
     {
         let core: Core = Core::open(alloc, config, peer)?;
-        let last = Output {
-            reply: Reply::Done,
-            packets: Sequence::from_vec(Vec::new(alloc)),
-            unsent: 0,
-        };
         Ok(Session {
             core,
-            last,
+            last: nothing(alloc),
             told: None,
         })
     }
 
-    /// An event at the peer.
-    pub fn step(&mut self, event: Event)
+    /// Gives the lists of the last answer back to the peer.
+    #[inline(always)]
+    fn recycle(&mut self, alloc: Global)
+        ensures core { self.new.core ≡ self.old.core }
+        ensures told { self.new.told ≡ self.old.told }
+    {
+        let last = mem::replace(&mut self.last, nothing(alloc));
+        self.core.reuse(last);
+    }
+
+    /// An event at the peer, whose answer takes the place of the last one.
+    pub fn step(&mut self, alloc: Global, event: Event)
         ensures step { Steps recorder_notices recorder_capacity recorder_becomes
             (tests_of prefix_meaning self.old.core.filtered.filters)
             self.old.core event self.new.last self.new.core }
         ensures messages { AreMessages self.new.last.packets }
         ensures told { self.new.told ≡ self.old.told }
     {
+        self.recycle(alloc);
         self.last = self.core.step(event);
     }
 
-    /// A datagram comes at the peer.
-    pub fn deliver(&mut self, datagram: &[u8])
+    /// A datagram comes at the peer, and the answer takes the place of the last one.
+    pub fn deliver(&mut self, alloc: Global, datagram: &[u8])
         ensures step { Steps recorder_notices recorder_capacity recorder_becomes
             (tests_of prefix_meaning self.old.core.filtered.filters)
             self.old.core (event.Deliver datagram.now) self.new.last self.new.core }
         ensures messages { AreMessages self.new.last.packets }
         ensures told { self.new.told ≡ self.old.told }
     {
+        self.recycle(alloc);
         self.last = self.core.deliver(datagram);
     }
 }
