@@ -4,7 +4,7 @@ use Rattle.std.specs.Prelude.{ℤ, pos, negsuc}
 use Rattle.dds_base.specs.declared.change.Change.{Change}
 use Rattle.dds_base.specs.declared.change.ChangeKind.TheVariants.{Write}
 use Rattle.dds_base.specs.declared.happening.Happening.{Happening}
-use Rattle.dds_base.specs.declared.happening.Happening.TheVariants.{Came, Heard, Died, Looked}
+use Rattle.dds_base.specs.declared.happening.Happening.TheVariants.{Came, Heard, Died, Left, Looked}
 use Rattle.dds_base.specs.declared.happening.StatusKind.TheVariants.{LivelinessChanged}
 use Rattle.dds_base.specs.declared.qos.ReaderQos.{ReaderQos}
 use Rattle.dds_base.specs.declared.qos.MatchedWriter.{MatchedWriter}
@@ -13,7 +13,7 @@ use Rattle.dds_base.specs.declared.qos.ReliabilityQos.TheVariants.{Reliable}
 use Rattle.dds_base.specs.declared.qos.HistoryQos.TheVariants.{KeepAll}
 use Rattle.dds_base.specs.declared.status.LivelinessChangedStatus.{LivelinessChangedStatus}
 use Rattle.dds_base.specs.Bounds.{usual_arrivals}
-use Rattle.dds_base.specs.Liveliness.{dead_at, after_deaths, liveliness_changed_status}
+use Rattle.dds_base.specs.Liveliness.{dead_at, after_deaths, after_parting, liveliness_changed_status}
 use Rattle.dds_base.specs.Written.{Changed, Asserted, LookedAt, Ticked, liveliness_lost_status}
 
 abbrev leased : Option ℕ → MatchedWriter
@@ -103,6 +103,44 @@ changed-between = refl
 changed-again : liveliness_changed_status three (came 1 3 ∷ Heard 2 2 ∷ came 1 1 ∷ []) 0 0
     ≡ status (pos 2) (pos 0) (pos 2) (pos 0) 2
 changed-again = refl
+
+-- a writer that leaves dies first where it is alive, and one that died or was never asserted only leaves
+left-alive : after_parting 1 20 (came 1 0 ∷ []) ≡ Left 1 20 ∷ Died 1 20 ∷ came 1 0 ∷ []
+left-alive = refl
+
+left-dead : after_parting 1 20 (Died 1 10 ∷ came 1 0 ∷ []) ≡ Left 1 20 ∷ Died 1 10 ∷ came 1 0 ∷ []
+left-dead = refl
+
+left-never_asserted : after_parting 1 20 (came 2 0 ∷ []) ≡ Left 1 20 ∷ came 2 0 ∷ []
+left-never_asserted = refl
+
+-- then it is neither alive nor dead, and it is the one that changed a count, if it changed one
+changed-left : liveliness_changed_status three (after_parting 1 20 (Looked LivelinessChanged ∷ came 1 0 ∷ [])) 1 0
+    ≡ status (pos 0) (pos 0) (negsuc 0) (pos 0) 1
+changed-left = refl
+
+changed-dead_left : liveliness_changed_status three
+    (after_parting 1 20 (Looked LivelinessChanged ∷ came 2 15 ∷ Died 1 10 ∷ came 1 0 ∷ [])) 1 1
+    ≡ status (pos 1) (pos 0) (pos 0) (negsuc 0) 1
+changed-dead_left = refl
+
+changed-unheard_left : liveliness_changed_status three (after_parting 1 20 (came 2 0 ∷ [])) 0 0
+    ≡ status (pos 1) (pos 0) (pos 1) (pos 0) 2
+changed-unheard_left = refl
+
+-- one that came again can die again, and no death of before counts
+changed-left_and_heard : liveliness_changed_status three (Heard 1 30 ∷ Left 1 20 ∷ Died 1 10 ∷ came 1 0 ∷ []) 0 0
+    ≡ status (pos 1) (pos 0) (pos 1) (pos 0) 1
+changed-left_and_heard = refl
+
+changed-died_again : liveliness_changed_status three
+    (Died 1 40 ∷ Heard 1 30 ∷ Left 1 20 ∷ Died 1 10 ∷ came 1 0 ∷ []) 1 0
+    ≡ status (pos 0) (pos 1) (negsuc 0) (pos 1) 1
+changed-died_again = refl
+
+-- it does not die again for the lease of before
+dead-left : dead_at three 1000 (after_parting 1 20 (came 1 2 ∷ [])) ≡ []
+dead-left = refl
 
 -- a writer of lease 10 is lost once, until it is asserted again, and before its first assertion never
 lost-once : liveliness_lost_status (Some 10) (Ticked 13 false ∷ Ticked 12 false ∷ Changed (change 2) ∷ [])

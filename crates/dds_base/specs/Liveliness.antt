@@ -1,10 +1,9 @@
 -- Which matched writers are alive at a reader, when their leases run out, and what LIVELINESS_CHANGED says.
 --
 -- DDS 1.4, 2.2.3 (LIVELINESS), 2.2.4.1 (LIVELINESS_CHANGED).
-use Rattle.std.specs.Prelude.{ℕ, pos, ◌-ℤ◌, List, [], ◌∷◌, Bool, false, ◌&&◌, ◌==◌, not, Option, None, Some, is_some, if◌then◌else◌, filter, count_by}
-use Rattle.std.specs.List.{list_any}
+use Rattle.std.specs.Prelude.{ℕ, pos, ◌-ℤ◌, List, [], ◌∷◌, Bool, false, ◌&&◌, ◌||◌, ◌==◌, not, Option, None, Some, is_some, if◌then◌else◌, filter, count_by}
 use Rattle.dds_base.specs.declared.happening.Happening.{Happening}
-use Rattle.dds_base.specs.declared.happening.Happening.TheVariants.{Came, Heard, Died}
+use Rattle.dds_base.specs.declared.happening.Happening.TheVariants.{Came, Heard, Died, Left}
 use Rattle.dds_base.specs.declared.qos.MatchedWriter.{MatchedWriter}
 use Rattle.dds_base.specs.declared.qos.ReaderQos.{ReaderQos}
 use Rattle.dds_base.specs.declared.status.LivelinessChangedStatus.{LivelinessChangedStatus}
@@ -23,6 +22,11 @@ abbrev pub is_death_of : ℕ → Happening → Bool
 is_death_of w (Died v moment) = v == w
 is_death_of w _ = false
 
+-- the entry says that w left
+abbrev pub is_parting_of : ℕ → Happening → Bool
+is_parting_of w (Left v moment) = v == w
+is_parting_of w _ = false
+
 -- the moment of the last assertion of w since its last death, none where it is not alive
 abbrev pub alive_since : ℕ → List Happening → Option ℕ
 alive_since w [] = None
@@ -32,9 +36,15 @@ alive_since w (e ∷ h) = if is_death_of w e then None else or_else (assertion_o
 abbrev pub is_alive : ℕ → List Happening → Bool
 is_alive w h = is_some (alive_since w h)
 
--- w is not alive: it has died, and was not asserted since. A writer that was never asserted is neither.
+-- w has died since it was matched last
+abbrev pub has_died : ℕ → List Happening → Bool
+has_died w [] = false
+has_died w (e ∷ h) = if is_parting_of w e then false else (is_death_of w e || has_died w h)
+
+-- w is not alive: it has died, and was not asserted since. A writer that was never asserted is neither, and so is one that
+-- died and left (2.2.4.1, not_alive_count).
 abbrev pub is_dead : ℕ → List Happening → Bool
-is_dead w h = list_any (is_death_of w) h && not (is_alive w h)
+is_dead w h = has_died w h && not (is_alive w h)
 
 -- the lease of a matched writer, none where it never ends
 abbrev pub lease_of : Option MatchedWriter → Option ℕ
@@ -58,18 +68,24 @@ with_deaths now (w ∷ ws) h = with_deaths now ws (Died w now ∷ h)
 abbrev pub after_deaths : ReaderQos → ℕ → List Happening → List Happening
 after_deaths q now h = with_deaths now (dead_at q now h) h
 
+-- what has happened once w left at this moment: one that is alive dies first, so it is registered for nothing any more
+abbrev pub after_parting : ℕ → ℕ → List Happening → List Happening
+after_parting w now h = Left w now ∷ (if is_alive w h then Died w now ∷ h else h)
+
 -- the entry changes how many writers are alive, or how many are not alive
 abbrev pub turns_alive : List Happening → Happening → Bool
 turns_alive h (Came a) = not (is_alive a.writer h)
 turns_alive h (Heard w moment) = not (is_alive w h)
 turns_alive h (Died w moment) = not (is_dead w h)
+turns_alive h (Left w moment) = is_dead w h
 turns_alive h _ = false
 
--- the writer that the entry asserts, or whose death it is; 0 for none
+-- the writer that the entry asserts, whose death it is, or that left; 0 for none
 abbrev pub writer_in : Happening → ℕ
 writer_in (Came a) = a.writer
 writer_in (Heard w moment) = w
 writer_in (Died w moment) = w
+writer_in (Left w moment) = w
 writer_in _ = 0
 
 -- how many matched writers are alive

@@ -66,6 +66,8 @@ pub enum Happening {
     Heard { writer: Handle, moment: Moment },
     /// A writer's lease ran out, at this moment of the reader's peer.
     Died { writer: Handle, moment: Moment },
+    /// A writer left: it is matched no more, from this moment of the reader's peer on.
+    Left { writer: Handle, moment: Moment },
     /// A read returned these samples.
     Read(Sequence<SamplePosition>),
     /// A take returned these samples.

@@ -8,7 +8,7 @@ use Rattle.dds_base.specs.declared.key.Key.{Key}
 use Rattle.dds_base.specs.declared.change.ChangeKind.{ChangeKind}
 use Rattle.dds_base.specs.declared.change.ChangeKind.TheVariants.{Write, Dispose, Unregister, DisposeUnregister}
 use Rattle.dds_base.specs.declared.happening.Happening.{Happening}
-use Rattle.dds_base.specs.declared.happening.Happening.TheVariants.{Came, Passed, Heard, Died, Read, Took, Looked}
+use Rattle.dds_base.specs.declared.happening.Happening.TheVariants.{Came, Passed, Heard, Died, Left, Read, Took, Looked}
 use Rattle.dds_base.specs.declared.sample.InstanceState.{InstanceState}
 use Rattle.dds_base.specs.declared.sample.InstanceState.TheVariants.{Alive, NotAliveDisposed, NotAliveNoWriters}
 use Rattle.dds_base.specs.declared.qos.ReaderQos.{ReaderQos}
@@ -70,6 +70,7 @@ unmarked-write q i h (Came a) matched write =
 unmarked-write q i h (Passed w first last) matched write = absurd (let clash : false ≡ true = write in cc)
 unmarked-write q i h (Heard w m) matched write = absurd (let clash : false ≡ true = write in cc)
 unmarked-write q i h (Died w m) matched write = absurd (let clash : false ≡ true = write in cc)
+unmarked-write q i h (Left w m) matched write = absurd (let clash : false ≡ true = write in cc)
 unmarked-write q i h (Read s) matched write = absurd (let clash : false ≡ true = write in cc)
 unmarked-write q i h (Took s) matched write = absurd (let clash : false ≡ true = write in cc)
 unmarked-write q i h (Looked k) matched write = absurd (let clash : false ≡ true = write in cc)

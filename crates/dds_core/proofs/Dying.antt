@@ -9,7 +9,7 @@ use Rattle.std.proofs.lemmas.Option.{same_Some, get_or_from_slice_get, slice_get
 use Rattle.dds_base.specs.declared.happening.Happening.{Happening}
 use Rattle.dds_base.specs.declared.happening.Happening.TheVariants.{Died}
 use Rattle.dds_base.specs.declared.qos.ReaderQos.{ReaderQos}
-use Rattle.dds_base.specs.Liveliness.{after_deaths, alive_since, dead_at, is_alive, is_death_of, is_overdue, lease_of}
+use Rattle.dds_base.specs.Liveliness.{after_deaths, alive_since, dead_at, has_died, is_alive, is_overdue, lease_of}
 use Rattle.dds_base.specs.Ownership.{publication_handles, writer_of}
 use Rattle.dds_base.specs.StatusFlags.{turned_at}
 use Rattle.dds_cache.specs.Standing.{qos_of, StandsFor as CacheStandsFor}
@@ -77,7 +77,7 @@ turned_by_death : (q : ReaderQos) (now after w : ℕ) (h : List Happening)
     → Some w ≡ find (λ v. nat_lt after v) (dead_at q now h)
     → Some (length (Died w now ∷ h)) ≡ turned_at (Died w now ∷ h)
 turned_by_death q now after w h first =
-    turns (list_any (is_death_of w) h) (is_alive w h)
+    turns (has_died w h) (is_alive w h)
     (over-live (lease_of (writer_of q.writers w)) (alive_since w h) now
     (found_in (is_overdue q now h) (λ v. nat_lt after v) w (publication_handles q) first))
   where

@@ -11,7 +11,7 @@ use Rattle.dds_base.specs.declared.key.Key.{Key}
 use Rattle.dds_base.specs.declared.change.ChangeKind.{ChangeKind}
 use Rattle.dds_base.specs.declared.happening.Arrival.{Arrival}
 use Rattle.dds_base.specs.declared.happening.Happening.{Happening}
-use Rattle.dds_base.specs.declared.happening.Happening.TheVariants.{Came, Passed, Heard, Died, Read, Took, Looked}
+use Rattle.dds_base.specs.declared.happening.Happening.TheVariants.{Came, Passed, Heard, Died, Left, Read, Took, Looked}
 use Rattle.dds_base.specs.declared.qos.ReaderQos.{ReaderQos}
 use Rattle.dds_base.specs.declared.qos.MatchedWriter.{MatchedWriter}
 use Rattle.dds_base.specs.declared.qos.OwnershipQos.{OwnershipQos}
@@ -80,6 +80,7 @@ introduced-any q h i (Came a) new =
 introduced-any q h i (Passed w first last) new = absurd (nothing (is_known q h i) new)
 introduced-any q h i (Heard w m) new = absurd (nothing (is_known q h i) new)
 introduced-any q h i (Died w m) new = absurd (nothing (is_known q h i) new)
+introduced-any q h i (Left w m) new = absurd (nothing (is_known q h i) new)
 introduced-any q h i (Read s) new = absurd (nothing (is_known q h i) new)
 introduced-any q h i (Took s) new = absurd (nothing (is_known q h i) new)
 introduced-any q h i (Looked s) new = absurd (nothing (is_known q h i) new)
@@ -189,6 +190,7 @@ nobody-still q i h (Heard v m) none refused = none
 nobody-still q i h (Died v m) none refused =
     fewer-pass (λ w. is_registered i w h) (λ w. is_registered i w (Died v m ∷ h)) (publication_handles q)
     (λ w after. and-right (not (v == w)) (is_registered i w h) after) none
+nobody-still q i h (Left v m) none refused = none
 nobody-still q i h (Read s) none refused = none
 nobody-still q i h (Took s) none refused = none
 nobody-still q i h (Looked k) none refused = none

@@ -2,12 +2,11 @@
 use Rattle.std.proofs.Common.{◌≡◌, ℕ, ◌+◌, ◌<◌, List, ◌∷◌, length, get_or, set, map, Bool, true, false, not, ◌==◌, ◌&&◌, cond, sym, subst, ap, ◌∙◌, refl, Option, Some, None, arith}
 use Rattle.std.proofs.lemmas.List.Sums.{sum_by-set}
 use Rattle.std.specs.Prelude.{if◌then◌else◌, count_by, is_some, nat_lt, find}
-use Rattle.std.specs.List.{list_any}
 use Rattle.dds_base.specs.declared.happening.Arrival.{Arrival}
 use Rattle.dds_base.specs.declared.happening.Happening.{Happening}
 use Rattle.dds_base.specs.declared.happening.Happening.TheVariants.{Came, Heard, Died}
 use Rattle.dds_base.specs.declared.qos.ReaderQos.{ReaderQos}
-use Rattle.dds_base.specs.Liveliness.{alive_since, dead_at, is_alive, is_death_of, last_turned}
+use Rattle.dds_base.specs.Liveliness.{alive_since, dead_at, has_died, is_alive, last_turned}
 use Rattle.dds_base.specs.Ownership.{publication_handles}
 use Rattle.dds_lease.specs.declared.track.LeaseTrack.{LeaseTrack}
 use Rattle.dds_lease.specs.Standing.{Kept, StandsFor}
@@ -109,7 +108,7 @@ pub died-stands : (kept new : Kept) (q : ReaderQos) (h : List Happening) (w mome
 died-stands kept new q h w moment at track given here within is alive put last = record {
   tracks = one-changed kept q h (Died w moment) buried w at track new.tracks
       (λ v. track-died q h w moment v) given here within (put-track kept at track buried new.tracks is put);
-  last_turned = last ∙ sym (turns (list_any (is_death_of w) h) (is_alive w h)
+  last_turned = last ∙ sym (turns (has_died w h) (is_alive w h)
       (ap (λ (o : Option ℕ). is_some o) (sym (since-of kept q h at w track given within is here)) ∙ alive));
 }
   where

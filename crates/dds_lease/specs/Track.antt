@@ -3,12 +3,11 @@
 --
 -- DDS 1.4, 2.2.3 (LIVELINESS: lease_duration), 2.2.4.1 (LIVELINESS_CHANGED).
 use Rattle.std.specs.Prelude.{ℕ, ◌+◌, Bool, false, ◌&&◌, not, nat_lt, List, [], ◌∷◌, Option, Some, None, is_some, if◌then◌else◌}
-use Rattle.std.specs.List.{list_any}
 use Rattle.dds_base.specs.declared.happening.Happening.{Happening}
 use Rattle.dds_base.specs.declared.qos.MatchedWriter.{MatchedWriter}
 use Rattle.dds_base.specs.declared.qos.ReaderQos.{ReaderQos}
 use Rattle.dds_base.specs.Ownership.{writer_of}
-use Rattle.dds_base.specs.Liveliness.{alive_since, is_death_of, lease_of}
+use Rattle.dds_base.specs.Liveliness.{alive_since, has_died, lease_of}
 use Rattle.dds_lease.specs.declared.track.LeaseTrack.{LeaseTrack}
 use Rattle.dds_lease.specs.Overdue.{is_over_at}
 
@@ -17,7 +16,7 @@ abbrev pub track_of : ReaderQos → List Happening → ℕ → LeaseTrack
 track_of q h w = record {
   lease = lease_of (writer_of q.writers w);
   since = alive_since w h;
-  has_died = list_any (is_death_of w) h;
+  has_died = has_died w h;
 }
 
 -- a writer of which nothing was heard

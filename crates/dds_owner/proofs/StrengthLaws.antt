@@ -7,7 +7,7 @@ use Rattle.std.proofs.lemmas.Bool.{cases_Bool, eqb-true}
 use Rattle.std.proofs.lemmas.Bool.Decides.{Decides-int_eq}
 use Rattle.dds_base.specs.declared.happening.Arrival.{Arrival}
 use Rattle.dds_base.specs.declared.happening.Happening.{Happening}
-use Rattle.dds_base.specs.declared.happening.Happening.TheVariants.{Came, Died, Heard, Looked, Passed, Read, Took}
+use Rattle.dds_base.specs.declared.happening.Happening.TheVariants.{Came, Died, Heard, Left, Looked, Passed, Read, Took}
 use Rattle.dds_base.specs.declared.qos.MatchedWriter.{MatchedWriter}
 use Rattle.dds_base.specs.declared.qos.ReaderQos.{ReaderQos}
 use Rattle.dds_base.specs.Ownership.{precedence_of, told_strength, writer_of}
@@ -89,6 +89,7 @@ changes-rise (Came a) h =
 changes-rise (Passed w first last) h = omega arith
 changes-rise (Heard w now) h = omega arith
 changes-rise (Died w now) h = omega arith
+changes-rise (Left w now) h = omega arith
 changes-rise (Read samples) h = omega arith
 changes-rise (Took samples) h = omega arith
 changes-rise (Looked kind) h = omega arith
@@ -106,6 +107,7 @@ told-on (Came a) h same w =
 told-on (Passed v first last) h same w = refl
 told-on (Heard v now) h same w = refl
 told-on (Died v now) h same w = refl
+told-on (Left v now) h same w = refl
 told-on (Read samples) h same w = refl
 told-on (Took samples) h same w = refl
 told-on (Looked kind) h same w = refl

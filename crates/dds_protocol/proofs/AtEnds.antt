@@ -5,7 +5,7 @@ use Rattle.std.proofs.lemmas.Bool.Decides.{nat_tests}
 use Rattle.dds_base.specs.declared.entity.Entity.{Entity}
 use Rattle.dds_base.specs.declared.entity.Entity.TheVariants as entity
 use Rattle.dds_base.specs.declared.happening.Happening.{Happening}
-use Rattle.dds_base.specs.declared.happening.Happening.TheVariants.{Came, Died, Heard, Looked, Passed, Read, Took}
+use Rattle.dds_base.specs.declared.happening.Happening.TheVariants.{Came, Died, Heard, Left, Looked, Passed, Read, Took}
 use Rattle.dds_base.specs.declared.qos.ReaderQos.{ReaderQos}
 use Rattle.dds_base.specs.Liveliness.{liveliness_changed_status, turns_alive}
 use Rattle.dds_base.specs.Statuses.{sample_lost_status}
@@ -138,6 +138,8 @@ data_within q (Heard w moment ∷ h) =
     none_after (brings_sample q (Heard w moment ∷ h)) (data_available_at q h) (length h) (data_within q h)
 data_within q (Died w moment ∷ h) =
     none_after (brings_sample q (Died w moment ∷ h)) (data_available_at q h) (length h) (data_within q h)
+data_within q (Left w moment ∷ h) =
+    none_after (brings_sample q (Left w moment ∷ h)) (data_available_at q h) (length h) (data_within q h)
 data_within q (Looked status ∷ h) =
     none_after (brings_sample q (Looked status ∷ h)) (data_available_at q h) (length h) (data_within q h)
 
@@ -147,6 +149,7 @@ passed_within (Passed w first last ∷ h) = none_after true (passed_at h) (lengt
 passed_within (Came a ∷ h) = none_after false (passed_at h) (length h) (passed_within h)
 passed_within (Heard w moment ∷ h) = none_after false (passed_at h) (length h) (passed_within h)
 passed_within (Died w moment ∷ h) = none_after false (passed_at h) (length h) (passed_within h)
+passed_within (Left w moment ∷ h) = none_after false (passed_at h) (length h) (passed_within h)
 passed_within (Read samples ∷ h) = none_after false (passed_at h) (length h) (passed_within h)
 passed_within (Took samples ∷ h) = none_after false (passed_at h) (length h) (passed_within h)
 passed_within (Looked status ∷ h) = none_after false (passed_at h) (length h) (passed_within h)
