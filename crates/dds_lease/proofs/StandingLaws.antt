@@ -1,18 +1,19 @@
 -- What is kept stands for what happened, after one more entry.
-use Rattle.std.proofs.Common.{◌≡◌, ℕ, ◌+◌, ◌<◌, List, ◌∷◌, length, get_or, set, map, Bool, true, false, not, ◌==◌, ◌&&◌, cond, sym, subst, ap, ◌∙◌, refl, Option, Some, None, arith}
+use Rattle.std.proofs.Common.{◌≡◌, ℕ, ◌+◌, ◌-◌, ◌<◌, ◌≤◌, List, ◌∷◌, length, get_or, set, map, Bool, true, false, not, ◌==◌, ◌&&◌, ◌||◌, cond, sym, subst, ap, ◌∙◌, refl, Option, Some, None, arith}
 use Rattle.std.proofs.lemmas.List.Sums.{sum_by-set}
 use Rattle.std.specs.Prelude.{if◌then◌else◌, count_by, is_some, nat_lt, find}
 use Rattle.dds_base.specs.declared.happening.Arrival.{Arrival}
 use Rattle.dds_base.specs.declared.happening.Happening.{Happening}
-use Rattle.dds_base.specs.declared.happening.Happening.TheVariants.{Came, Heard, Died}
+use Rattle.dds_base.specs.declared.happening.Happening.TheVariants.{Came, Heard, Died, Left}
 use Rattle.dds_base.specs.declared.qos.ReaderQos.{ReaderQos}
-use Rattle.dds_base.specs.Liveliness.{alive_since, dead_at, has_died, is_alive, last_turned}
+use Rattle.dds_base.specs.Liveliness.{after_parting, alive_since, dead_at, has_died, is_alive, is_dead, last_turned}
+use Rattle.dds_base.specs.Life.{or_else}
 use Rattle.dds_base.specs.Ownership.{publication_handles}
 use Rattle.dds_lease.specs.declared.track.LeaseTrack.{LeaseTrack}
 use Rattle.dds_lease.specs.Standing.{Kept, StandsFor}
 use Rattle.dds_base.specs.Written.{is_over}
 use Rattle.dds_lease.specs.Track.{first_over, is_dead_track, is_live_track, track_of}
-use Rattle.dds_lease.proofs.TrackLaws.{asserted, changed-at, track-at, track-came, track-count, track-died, track-heard, buried}
+use Rattle.dds_lease.proofs.TrackLaws.{asserted, buried, changed-at, parted, same-number, track-at, track-came, track-count, track-died, track-heard, track-parted}
 use Rattle.dds_lease.specs.Overdue.{is_over_at}
 use Rattle.dds_lease.proofs.FindingLaws.{first-dead}
 
@@ -20,6 +21,12 @@ pub matched-count : (kept : Kept) (q : ReaderQos) (h : List Happening) → Stand
     → length kept.tracks ≡ length q.writers
 matched-count kept q h given =
     ap (λ (ts : List LeaseTrack). length ts) given.tracks ∙ track-count (track_of q h) 1 q.writers
+
+-- a matched writer is among those of which something is kept
+pub within : (kept seen : Kept) (w n : ℕ) → seen ≡ kept → (0 < w) × (w ≤ length kept.tracks) → n ≡ w
+    → n - 1 < length seen.tracks
+within kept seen w n same matched number =
+    let count = ap (λ (k : Kept). length k.tracks) same in omega (arith, count, matched.0, matched.1, number)
 
 -- what is kept of one writer
 pub kept-track : (kept : Kept) (q : ReaderQos) (h : List Happening) (w at : ℕ) (d : LeaseTrack) → StandsFor kept q h
@@ -29,18 +36,18 @@ kept-track kept q h w at d given here within =
     ap (λ (ts : List LeaseTrack). get_or ts at d) given.tracks
     ∙ track-at (track_of q h) w 1 at d q.writers here (omega (arith, count, within))
 
--- the tracks after an entry that changes that of one writer
-one-changed : (kept : Kept) (q : ReaderQos) (h : List Happening) (e : Happening) (change : LeaseTrack → LeaseTrack)
+-- the tracks once more has happened, where that changes the track of one writer
+one-changed : (kept : Kept) (q : ReaderQos) (h after : List Happening) (change : LeaseTrack → LeaseTrack)
     (w at : ℕ) (d : LeaseTrack) (tracks : List LeaseTrack)
-    → ((v : ℕ) → track_of q (e ∷ h) v ≡ (if w == v then change (track_of q h v) else track_of q h v))
+    → ((v : ℕ) → track_of q after v ≡ (if w == v then change (track_of q h v) else track_of q h v))
     → StandsFor kept q h → 1 + at ≡ w → at < length kept.tracks
     → tracks ≡ set kept.tracks at (change (get_or kept.tracks at d))
-    → tracks ≡ map (track_of q (e ∷ h)) (publication_handles q)
-one-changed kept q h e change w at d tracks is given here within put =
+    → tracks ≡ map (track_of q after) (publication_handles q)
+one-changed kept q h after change w at d tracks is given here within put =
     let count = matched-count kept q h given in
     put
     ∙ (ap (λ (ts : List LeaseTrack). set ts at (change (get_or ts at d))) given.tracks
-    ∙ sym (changed-at (track_of q h) (track_of q (e ∷ h)) change w 1 at d q.writers is here
+    ∙ sym (changed-at (track_of q h) (track_of q after) change w 1 at d q.writers is here
     (omega (arith, count, within))))
 
 -- the writer that last changed a count, after an assertion
@@ -85,7 +92,7 @@ pub came-stands : (kept new : Kept) (q : ReaderQos) (h : List Happening) (a : Ar
 came-stands kept new q h a moment at track given put here same =
     let asserts : Asserts kept new at a.moment track = subst (λ (m : ℕ). Asserts kept new at m track) (sym same) put in
     record {
-      tracks = one-changed kept q h (Came a) (asserted a.moment) a.writer at track new.tracks
+      tracks = one-changed kept q h (Came a ∷ h) (asserted a.moment) a.writer at track new.tracks
           (λ v. track-came q h a v) given here put.within
           (put-track kept at track (asserted a.moment) new.tracks put.is asserts.tracks);
       last_turned = asserts-last kept new q h at a.writer moment track given put here;
@@ -94,7 +101,7 @@ came-stands kept new q h a moment at track given put here same =
 pub heard-stands : (kept new : Kept) (q : ReaderQos) (h : List Happening) (w moment at : ℕ) (track : LeaseTrack)
     → StandsFor kept q h → Asserts kept new at moment track → 1 + at ≡ w → StandsFor new q (Heard w moment ∷ h)
 heard-stands kept new q h w moment at track given put here = record {
-  tracks = one-changed kept q h (Heard w moment) (asserted moment) w at track new.tracks
+  tracks = one-changed kept q h (Heard w moment ∷ h) (asserted moment) w at track new.tracks
       (λ v. track-heard q h w moment v) given here put.within
       (put-track kept at track (asserted moment) new.tracks put.is put.tracks);
   last_turned = asserts-last kept new q h at w moment track given put here;
@@ -106,7 +113,7 @@ pub died-stands : (kept new : Kept) (q : ReaderQos) (h : List Happening) (w mome
     → is_some track.since ≡ true → new.tracks ≡ set kept.tracks at (buried track) → new.last_turned ≡ w
     → StandsFor new q (Died w moment ∷ h)
 died-stands kept new q h w moment at track given here within is alive put last = record {
-  tracks = one-changed kept q h (Died w moment) buried w at track new.tracks
+  tracks = one-changed kept q h (Died w moment ∷ h) buried w at track new.tracks
       (λ v. track-died q h w moment v) given here within (put-track kept at track buried new.tracks is put);
   last_turned = last ∙ sym (turns (has_died w h) (is_alive w h)
       (ap (λ (o : Option ℕ). is_some o) (sym (since-of kept q h at w track given within is here)) ∙ alive));
@@ -115,6 +122,56 @@ died-stands kept new q h w moment at track given here within is alive put last =
     turns : (died alive : Bool) → alive ≡ true → (if not (died && not alive) then w else last_turned h) ≡ w
     turns true alive e = ap (λ (b : Bool). if not (true && not b) then w else last_turned h) e
     turns false alive e = refl
+
+-- who changed a count last, once a writer left
+last-parted : (w moment : ℕ) (h : List Happening)
+    → last_turned (after_parting w moment h) ≡ (if is_alive w h || has_died w h then w else last_turned h)
+last-parted w moment h = by-alive (is_alive w h) refl
+  where
+    -- it died with this entry or before, and is alive no more
+    by-death : (same died : Bool) (since : Option ℕ) (before : ℕ) → same ≡ true
+        → (if (same || died) && not (is_some (if same then None else or_else None since)) then w else before) ≡ w
+    by-death true died since before e = refl
+    by-death false died since before e = absurd (cc)
+
+    by-alive : (alive : Bool) → is_alive w h ≡ alive
+        → last_turned (Left w moment ∷ (if alive then Died w moment ∷ h else h))
+        ≡ (if alive || has_died w h then w else last_turned h)
+    by-alive true is = by-death (w == w) (has_died w h) (alive_since w h) (last_turned (Died w moment ∷ h)) (same-number w)
+    by-alive false is = ap (λ (b : Bool). if b then w else last_turned h) (still (has_died w h) (is_alive w h) is)
+      where
+        still : (died alive : Bool) → alive ≡ false → (died && not alive) ≡ died
+        still true alive e = ap not e
+        still false alive e = refl
+
+-- the parting of a writer, be it alive or not
+pub parted-stands : (kept new : Kept) (q : ReaderQos) (h : List Happening) (w moment at : ℕ) (track : LeaseTrack)
+    → StandsFor kept q h → 1 + at ≡ w → at < length kept.tracks → track ≡ get_or kept.tracks at track
+    → new.tracks ≡ set kept.tracks at (parted track)
+    → new.last_turned ≡ (if is_some track.since || track.has_died then w else kept.last_turned)
+    → StandsFor new q (after_parting w moment h)
+parted-stands kept new q h w moment at track given here within is put last = record {
+  tracks = one-changed kept q h (after_parting w moment h) parted w at track new.tracks
+      (λ v. track-parted q h w moment v) given here within (put-track kept at track parted new.tracks is put);
+  last_turned = last
+      ∙ (ap (λ (t : LeaseTrack). if is_some t.since || t.has_died then w else kept.last_turned)
+      (is ∙ kept-track kept q h w at track given here within)
+      ∙ (ap (λ (n : ℕ). if is_alive w h || has_died w h then w else n) given.last_turned
+      ∙ sym (last-parted w moment h)));
+}
+
+-- whether a count changes with it
+pub parted-turns : (kept : Kept) (q : ReaderQos) (h : List Happening) (w at : ℕ) (track : LeaseTrack)
+    → StandsFor kept q h → 1 + at ≡ w → at < length kept.tracks → track ≡ get_or kept.tracks at track
+    → (is_some track.since || track.has_died) ≡ (is_alive w h || is_dead w h)
+parted-turns kept q h w at track given here within is =
+    ap (λ (t : LeaseTrack). is_some t.since || t.has_died) (is ∙ kept-track kept q h w at track given here within)
+    ∙ either (is_alive w h) (has_died w h)
+  where
+    either : (alive died : Bool) → (alive || died) ≡ (alive || (died && not alive))
+    either true died = refl
+    either false true = refl
+    either false false = refl
 
 -- what is found among the tracks is the first of those that die
 pub found-first : (kept : Kept) (q : ReaderQos) (h : List Happening) (now after : ℕ) → StandsFor kept q h

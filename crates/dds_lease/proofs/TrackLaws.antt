@@ -2,14 +2,14 @@
 use Rattle.std.proofs.Common.{◌≡◌, ℕ, zero, suc, ◌+◌, ◌<◌, List, [], ◌∷◌, length, get_or, set, map, Bool, true, false, ◌==◌, ◌||◌, sym, ap, ◌∙◌, refl, cond, Option, Some, None, arith, ⊎_elim}
 use Rattle.std.proofs.lemmas.Bool.{cases_Bool, eqb-true, eqb-false}
 use Rattle.std.proofs.lemmas.List.Sums.{length-filter}
-use Rattle.std.specs.Prelude.{if◌then◌else◌, slice_get, count_by, filter}
+use Rattle.std.specs.Prelude.{if◌then◌else◌, slice_get, count_by, filter, is_some}
 use Rattle.dds_base.specs.declared.happening.Arrival.{Arrival}
 use Rattle.dds_base.specs.declared.happening.Happening.{Happening}
-use Rattle.dds_base.specs.declared.happening.Happening.TheVariants.{Came, Heard, Died}
+use Rattle.dds_base.specs.declared.happening.Happening.TheVariants.{Came, Heard, Died, Left}
 use Rattle.dds_base.specs.declared.qos.MatchedWriter.{MatchedWriter}
 use Rattle.dds_base.specs.declared.qos.ReaderQos.{ReaderQos}
 use Rattle.dds_base.specs.Life.{or_else}
-use Rattle.dds_base.specs.Liveliness.{lease_of}
+use Rattle.dds_base.specs.Liveliness.{after_parting, alive_since, is_alive, lease_of}
 use Rattle.dds_base.specs.Ownership.{numbered_from, publication_handles, writer_of}
 use Rattle.dds_lease.specs.declared.track.LeaseTrack.{LeaseTrack}
 use Rattle.dds_lease.specs.Track.{fresh, is_dead_track, is_live_track, track_of}
@@ -21,6 +21,10 @@ asserted moment t = record t { since = Some moment }
 -- it died
 abbrev pub buried : LeaseTrack → LeaseTrack
 buried t = record t { since = None; has_died = true }
+
+-- it left: nothing is known of it but its lease
+abbrev pub parted : LeaseTrack → LeaseTrack
+parted t = record t { since = None; has_died = false }
 
 -- ---- before anything happened
 
@@ -72,6 +76,45 @@ pub track-died : (q : ReaderQos) (h : List Happening) (w moment v : ℕ)
     → track_of q (Died w moment ∷ h) v ≡ (if w == v then buried (track_of q h v) else track_of q h v)
 track-died q h w moment v = let t = track_of q h v in ended t.lease t.since t.has_died (w == v)
 
+-- ---- a parting, which may enter a death first
+
+parted-alive : (lease since : Option ℕ) (has_died leaves : Bool)
+    → ◌≡◌ {A = LeaseTrack}
+    (record {
+      lease = lease;
+      since = if leaves then None else or_else None since;
+      has_died = if leaves then false else (leaves || has_died);
+    })
+    (if leaves then parted (record { lease = lease; since = since; has_died = has_died })
+    else record { lease = lease; since = since; has_died = has_died })
+parted-alive lease since has_died true = refl
+parted-alive lease since has_died false = refl
+
+parted-else : (lease since : Option ℕ) (has_died leaves : Bool) → (leaves ≡ true → since ≡ None)
+    → ◌≡◌ {A = LeaseTrack}
+    (record { lease = lease; since = since; has_died = if leaves then false else has_died })
+    (if leaves then parted (record { lease = lease; since = since; has_died = has_died })
+    else record { lease = lease; since = since; has_died = has_died })
+parted-else lease since has_died true none =
+    ap (λ (o : Option ℕ). record { lease = lease; since = o; has_died = false }) (none refl)
+parted-else lease since has_died false none = refl
+
+none-since : (since : Option ℕ) → is_some since ≡ false → since ≡ None
+none-since None e = refl
+none-since (Some moment) e = absurd (cc)
+
+pub track-parted : (q : ReaderQos) (h : List Happening) (w moment v : ℕ)
+    → track_of q (after_parting w moment h) v ≡ (if w == v then parted (track_of q h v) else track_of q h v)
+track-parted q h w moment v = by-alive (is_alive w h) refl
+  where
+    by-alive : (alive : Bool) → is_alive w h ≡ alive
+        → track_of q (Left w moment ∷ (if alive then Died w moment ∷ h else h)) v
+        ≡ (if w == v then parted (track_of q h v) else track_of q h v)
+    by-alive true is = let t = track_of q h v in parted-alive t.lease t.since t.has_died (w == v)
+    by-alive false is = let t = track_of q h v in
+        parted-else t.lease t.since t.has_died (w == v)
+        (λ same. none-since (alive_since v h) (ap (λ (u : ℕ). is_alive u h) (sym (eqb-true w v same)) ∙ is))
+
 -- ---- the tracks of all, where that of one writer alone changes
 
 -- that of another writer stays
@@ -93,8 +136,8 @@ same-from f g change w k (x ∷ ws) is below =
     (unchanged f g change w k is (λ same. omega (arith, same, below)))
     ∙ ap (λ (ts : List LeaseTrack). f k ∷ ts) (same-from f g change w (k + 1) ws is (omega (arith, below)))
 
-itself : (k : ℕ) → (k == k) ≡ true
-itself k = ⊎_elim (λ same. same) (λ differ. absurd (eqb-false k k differ refl)) (cases_Bool (k == k))
+pub same-number : (k : ℕ) → (k == k) ≡ true
+same-number k = ⊎_elim (λ same. same) (λ differ. absurd (eqb-false k k differ refl)) (cases_Bool (k == k))
 
 pub changed-at : (f g : ℕ → LeaseTrack) (change : LeaseTrack → LeaseTrack) (w k at : ℕ) (d : LeaseTrack)
     (ws : List MatchedWriter) → ((v : ℕ) → g v ≡ (if w == v then change (f v) else f v)) → k + at ≡ w
@@ -104,7 +147,7 @@ pub changed-at : (f g : ℕ → LeaseTrack) (change : LeaseTrack → LeaseTrack)
 changed-at f g change w k at d [] is here within = absurd (omega (arith, within))
 changed-at f g change w k zero d (x ∷ ws) is here within =
     let same : k ≡ w = omega (arith, here) in
-    let one : (w == k) ≡ true = ap (λ (v : ℕ). w == v) same ∙ itself w in
+    let one : (w == k) ≡ true = ap (λ (v : ℕ). w == v) same ∙ same-number w in
     ap (λ (t : LeaseTrack). t ∷ map g (numbered_from (k + 1) ws))
     (is k ∙ ap (λ (b : Bool). if b then change (f k) else f k) one)
     ∙ ap (λ (ts : List LeaseTrack). change (f k) ∷ ts)

@@ -2,13 +2,13 @@
 //!
 //! DDS 1.4, 2.2.3 (LIVELINESS), 2.2.4.1 (LIVELINESS_CHANGED).
 
-ghost use Rattle.std.specs.Prelude.{◌≡◌, ◌+◌, ◌≤◌, ◌<◌, List, [], ◌∷◌, length, find, nat_lt, IfOk, IfErr, IfNone, IfSome, MatchOption, false};
+ghost use Rattle.std.specs.Prelude.{◌≡◌, ◌+◌, ◌≤◌, ◌<◌, ◌||◌, List, [], ◌∷◌, length, find, nat_lt, IfOk, IfErr, IfNone, IfSome, MatchOption, false};
 ghost use Rattle.dds_base.specs.declared.code.Code.TheVariants.{Memory};
 ghost use Rattle.dds_base.specs.declared.happening.Arrival.{Arrival};
 ghost use Rattle.dds_base.specs.declared.happening.Happening.{Happening};
 ghost use Rattle.dds_base.specs.declared.happening.Happening.TheVariants.{Came, Heard, Died};
 ghost use Rattle.dds_base.specs.declared.qos.ReaderQos.{ReaderQos};
-ghost use Rattle.dds_base.specs.Liveliness.{alive_count, dead_at, is_alive, last_turned, not_alive_count};
+ghost use Rattle.dds_base.specs.Liveliness.{after_parting, alive_count, dead_at, is_alive, is_dead, last_turned, not_alive_count};
 ghost use Rattle.dds_base.specs.Ownership.{IsMatched};
 ghost use Rattle.dds_lease.specs.Standing.{Kept, StandsFor, after_deaths_above, overdue_of, writer_count};
 
@@ -151,6 +151,35 @@ impl Leases {
         self.not_alive += 1;
         self.last_turned = writer;
         Some(writer)
+    }
+
+    /// A writer leaves at this moment: it is matched no more. What is known of it begins anew, so that it is neither alive
+    /// nor not alive; one that is alive dies first. Says whether it was either, and so the counts changed.
+    ///
+    /// RTPS 2.5, 8.4.10 (matched_writer_remove); DDS 1.4, 2.2.4.1 (LivelinessChangedStatus: not_alive_count).
+    pub fn leave(&mut self, writer: Handle, now: Moment) -> bool
+        // It is matched.
+        requires matched { (0 < writer) × (writer ≤ writer_count self.old) }
+        // It left, after its death if it was alive, and nothing else happened.
+        ensures left { (q : ReaderQos) (h : List Happening) → StandsFor self.old q h
+            → StandsFor self.new q (after_parting writer now h) }
+        // It was alive, or had died and was not alive.
+        ensures turned { (q : ReaderQos) (h : List Happening) → StandsFor self.old q h
+            → result ≡ (is_alive writer h || is_dead writer h) }
+        // The writers stay the same ones.
+        ensures writers { writer_count self.new ≡ writer_count self.old }
+    {
+        let _ = now;
+        let at = writer.number() as usize - 1;
+        let track = self.tracks[at];
+        self.tracks[at] = LeaseTrack::new(track.lease);
+        match (track.since, track.has_died) {
+            (Some(_), _) => self.alive -= 1,
+            (None, true) => self.not_alive -= 1,
+            (None, false) => return false,
+        }
+        self.last_turned = writer;
+        true
     }
 
     /// How many writers die at this moment.

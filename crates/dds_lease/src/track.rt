@@ -2,7 +2,7 @@
 //!
 //! DDS 1.4, 2.2.3 (LIVELINESS: lease_duration).
 
-ghost use Rattle.std.specs.Prelude.{◌≡◌, ◌-◌, ◌<◌, ◌≤◌, length, get_or, map, IfOk, IfSome, count_by, true};
+ghost use Rattle.std.specs.Prelude.{◌≡◌, ◌-◌, ◌<◌, ◌≤◌, length, get_or, map, IfOk, IfSome, count_by, true, false, None};
 ghost use Rattle.dds_lease.specs.declared.track.LeaseTrack.{LeaseTrack};
 ghost use Rattle.dds_lease.specs.Track.{first_over, fresh};
 ghost use Rattle.dds_lease.specs.Overdue.{is_over_at};
@@ -17,8 +17,21 @@ pub struct LeaseTrack {
     pub lease: Option<u64>,
     /// The moment of its last assertion, `None` while it is not alive.
     pub since: Option<Moment>,
-    /// Whether it died once, be it alive again or not.
+    /// Whether it died since it was matched last, be it alive again or not.
     pub has_died: bool,
+}
+
+impl LeaseTrack {
+    /// Of a writer with this lease, of which nothing was heard.
+    pub fn new(lease: Option<u64>) -> Self
+        ensures { result ≡ record { lease = lease; since = None; has_died = false } }
+    {
+        LeaseTrack {
+            lease,
+            since: None,
+            has_died: false,
+        }
+    }
 }
 
 /// Whether its lease is over at this moment.

@@ -11,7 +11,7 @@ use std::alloc::Global;
 /// `open` begins anew, with the lease of each matched writer: how many they are. A word that is no number never ends.
 /// `assert` has a writer and a moment: how many are alive, how many are not, and who turned last, which `counts` tells
 /// too. `expire` has the handle that it begins above, and a moment: who dies. `overdue` has a moment: how many die.
-/// `alive` has a writer.
+/// `alive` has a writer. `leave` has a writer and a moment: whether a count changed with that.
 const LEASES: &str = "\
 # A writer dies once its lease has passed since it was asserted, and not before.
 open 10 10 never => 3
@@ -46,6 +46,29 @@ expire 0 12 => 1
 expire 1 12 => 2
 expire 2 12 => 0
 counts => 1 2 2
+
+# One that leaves is neither alive nor not alive, and turns last if it was either.
+open 10 10 never => 3
+assert 1 2 => 1 0 1
+assert 2 3 => 2 0 2
+expire 0 12 => 1
+counts => 1 1 1
+leave 1 20 => true
+counts => 1 0 1
+alive 2 => true
+leave 2 20 => true
+counts => 0 0 2
+alive 2 => false
+leave 1 30 => false
+leave 3 30 => false
+counts => 0 0 2
+
+# Its lease of before is nothing to it; it begins anew once it is heard again.
+overdue 100 => 0
+assert 1 100 => 1 0 1
+overdue 109 => 0
+expire 0 110 => 1
+counts => 0 1 1
 ";
 
 fn matched(alloc: Global, operands: &str) -> Vec<MatchedWriter> {
@@ -91,6 +114,10 @@ fn assert_writer(leases: &mut Leases, writer: u64, now: Moment) {
     }
 }
 
+fn leave(leases: &mut Leases, writer: u64, now: Moment) -> bool {
+    0 < writer && writer as usize <= leases.writers() && leases.leave(Handle::new(writer), now)
+}
+
 fn expire(leases: &mut Leases, after: u64, now: Moment) -> u64 {
     match leases.expire(Handle::new(after), now) {
         Some(writer) => writer.number(),
@@ -115,6 +142,10 @@ impl Subject for Leases {
             }
             "counts" => push_counts(text, self),
             "expire" => push_number(text, expire(self, first, Moment::new(second))),
+            "leave" => {
+                let turned = leave(self, first, Moment::new(second));
+                let _ = write!(text, "{turned}");
+            }
             "overdue" => push_number(text, self.overdue(Moment::new(first)) as u64),
             "alive" => {
                 let is_alive = self.is_alive(Handle::new(first));

@@ -1,20 +1,15 @@
-use Rattle.std.proofs.Common.{◌≡◌, ℕ, ◌+◌, ◌-◌, ◌<◌, ◌≤◌, length, set, Bool, sym, ap, ◌∙◌, refl, arith}
+use Rattle.std.proofs.Common.{◌≡◌, ◌+◌, ◌-◌, set, Bool, sym, ap, ◌∙◌, refl, arith}
 use Rattle.std.specs.Prelude.{if◌then◌else◌}
 use Rattle.dds_lease.specs.declared.leases.Leases.TheInside.{Inside}
 use Rattle.dds_lease.specs.Standing.{Kept}
 use Rattle.dds_lease.proofs.TrackLaws.{asserted}
-use Rattle.dds_lease.proofs.StandingLaws.{Asserts, came-stands, heard-stands, stands-as}
+use Rattle.dds_lease.proofs.StandingLaws.{Asserts, came-stands, heard-stands, stands-as, within}
 use Rattle.dds_lease.proofs.leases.Leases.assert_at.Goals as goal
 use Rattle.dds_lease.proofs.leases.Leases.assert_at.Goals.{then-track, else-track}
 
 -- what is kept of the writers before
 abbrev before : Inside → Kept
 before inside = record { tracks = inside.tracks.items; last_turned = inside.last_turned }
-
-within : (kept seen : Kept) (w n : ℕ) → seen ≡ kept → (0 < w) × (w ≤ length kept.tracks) → n ≡ w
-    → n - 1 < length seen.tracks
-within kept seen w n same matched number =
-    let count = ap (λ (k : Kept). length k.tracks) same in omega (arith, count, matched.0, matched.1, number)
 
 -- an assertion of a writer that was alive
 stays : (c : goal.Then-is_some)
