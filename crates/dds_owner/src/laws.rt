@@ -5,7 +5,7 @@
 ghost use Rattle.std.specs.Prelude.{◌≡◌, ◌∷◌, [], ℕ, List, None, false};
 ghost use Rattle.dds_base.specs.declared.happening.Arrival.{Arrival};
 ghost use Rattle.dds_base.specs.declared.happening.Happening.{Happening};
-ghost use Rattle.dds_base.specs.declared.happening.Happening.TheVariants.{Came, Died, Heard, Looked, Passed, Read, Took};
+ghost use Rattle.dds_base.specs.declared.happening.Happening.TheVariants.{Came, Died, Heard, Left, Looked, Passed, Read, Took};
 ghost use Rattle.dds_base.specs.declared.happening.SamplePosition.{SamplePosition};
 ghost use Rattle.dds_base.specs.declared.happening.StatusKind.{StatusKind};
 ghost use Rattle.dds_base.specs.declared.key.Key.{Key};
@@ -34,6 +34,9 @@ pub fn other_entries_change_nothing()
     // A writer was heard.
     ensures heard { (kept : Kept) (q : ReaderQos) (i : Key) (h : List Happening) (w moment : ℕ)
         → StandsFor kept q i h → StandsFor kept q i (Heard w moment ∷ h) }
+    // A writer left.
+    ensures left { (kept : Kept) (q : ReaderQos) (i : Key) (h : List Happening) (w moment : ℕ)
+        → StandsFor kept q i h → StandsFor kept q i (Left w moment ∷ h) }
     // A read returned samples.
     ensures read { (kept : Kept) (q : ReaderQos) (i : Key) (h : List Happening)
         (samples : List SamplePosition)
@@ -62,6 +65,9 @@ pub fn other_entries_set_no_strength()
     // A writer died.
     ensures died { (kept : KeptStrengths) (q : ReaderQos) (h : List Happening) (w moment : ℕ)
         → TellsStrengths kept q h → TellsStrengths kept q (Died w moment ∷ h) }
+    // A writer left: if it comes again, it is as strong as it was told to be.
+    ensures left { (kept : KeptStrengths) (q : ReaderQos) (h : List Happening) (w moment : ℕ)
+        → TellsStrengths kept q h → TellsStrengths kept q (Left w moment ∷ h) }
     // A read returned samples.
     ensures read { (kept : KeptStrengths) (q : ReaderQos) (h : List Happening)
         (samples : List SamplePosition)
