@@ -7,7 +7,7 @@ ghost use Rattle.std.specs.Option.{option_map};
 ghost use Rattle.dds_base.specs.declared.key.Key.{Key};
 ghost use Rattle.dds_base.specs.Happening.{same_key};
 ghost use Rattle.dds_base.specs.declared.happening.Happening.{Happening};
-ghost use Rattle.dds_base.specs.declared.happening.Happening.TheVariants.{Came, Passed, Heard, Died, Read, Took, Looked};
+ghost use Rattle.dds_base.specs.declared.happening.Happening.TheVariants.{Came, Passed, Heard, Died, Left, Read, Took, Looked};
 ghost use Rattle.dds_base.specs.declared.happening.SamplePosition.{SamplePosition};
 ghost use Rattle.dds_base.specs.declared.happening.StatusKind.{StatusKind};
 ghost use Rattle.dds_base.specs.declared.qos.ReaderQos.{ReaderQos};
@@ -319,8 +319,8 @@ impl Instances {
         Ok(())
     }
 
-    /// Takes up an entry that says nothing of any instance: changes that were passed over, a writer that was heard, or
-    /// a status that was looked at.
+    /// Takes up an entry that says nothing of any instance: changes that were passed over, a writer that was heard or
+    /// left, or a status that was looked at.
     ///
     /// # Errors
     ///
@@ -334,12 +334,20 @@ impl Instances {
         ensures heard { OnOk result
             ((q : ReaderQos) (h : List Happening) (w moment : ℕ) → Stands q self.old h
             → Stands q self.new (Heard w moment ∷ h)) }
+        // A writer left.
+        ensures left { OnOk result
+            ((q : ReaderQos) (h : List Happening) (w moment : ℕ) → Stands q self.old h
+            → Stands q self.new (Left w moment ∷ h)) }
         // A status was looked at.
         ensures looked { OnOk result
             ((q : ReaderQos) (h : List Happening) (kind : StatusKind) → Stands q self.old h
             → Stands q self.new (Looked kind ∷ h)) }
+        // It is one entry more.
+        ensures happened { OnOk result (happened_of self.new ≡ happened_of self.old + 1) }
         // As many are alive as before.
         ensures alive { alive_of self.new ≡ alive_of self.old }
+        // It is taken up before 2^64 - 1 entries were.
+        ensures counted { happened_of self.old + 1 < 2 ^ 64 → IsOk result }
         // It is an entry as each is: where there is room it is taken up, it takes the room of one at most, and it is
         // refused for want of memory alone, and then changes nothing.
         ensures entry { TakesUpEntry self.old self.new result }

@@ -1,5 +1,5 @@
 use Rattle.std.proofs.Common.{refl, subst, sym}
-use Rattle.dds_base.specs.declared.happening.Happening.TheVariants.{Passed, Heard, Looked}
+use Rattle.dds_base.specs.declared.happening.Happening.TheVariants.{Passed, Heard, Left, Looked}
 use Rattle.dds_instances.specs.Table.{Table, Stands}
 use Rattle.dds_instances.specs.Sound.{table_of}
 use Rattle.dds_instances.proofs.EndingLaws.{stands-quiet}
@@ -14,6 +14,12 @@ returns-clause-passed c = λ q h w first last stands.
 pub returns-clause-heard : goal.returns-clause-heard
 returns-clause-heard c = λ q h w moment stands.
     stands-quiet q h (Heard w moment) (table_of c.self.inside) _ refl refl refl refl refl (λ it. record { tells = it.tells; counts = it.counts })
+    (record { accepts = λ i. refl; registers = λ i v. refl; takes = λ i. refl; introduces = refl }) (λ i j. refl)
+    (subst (λ (t : Table). Stands q t h) (sym c.self.view_is) stands)
+
+pub returns-clause-left : goal.returns-clause-left
+returns-clause-left c = λ q h w moment stands.
+    stands-quiet q h (Left w moment) (table_of c.self.inside) _ refl refl refl refl refl (λ it. record { tells = it.tells; counts = it.counts })
     (record { accepts = λ i. refl; registers = λ i v. refl; takes = λ i. refl; introduces = refl }) (λ i j. refl)
     (subst (λ (t : Table). Stands q t h) (sym c.self.view_is) stands)
 
