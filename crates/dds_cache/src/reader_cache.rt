@@ -4,7 +4,7 @@
 
 ghost use Rattle.std.specs.Prelude.{◌≡◌, ◌≢◌, ◌==◌, ℕ, ◌+◌, ◌-◌, ◌≤◌, ◌<◌, ◌^◌, ◌∷◌, [], if◌then◌else◌, nat_le, nat_lt, List, None, Some, IfSome, true, false, Ok, length, IsOk, OnOk, IfOk, IfErr};
 ghost use Rattle.dds_base.specs.declared.happening.Happening.{Happening};
-ghost use Rattle.dds_base.specs.declared.happening.Happening.TheVariants.{Came, Passed, Heard, Died};
+ghost use Rattle.dds_base.specs.declared.happening.Happening.TheVariants.{Came, Passed, Heard, Died, Left};
 ghost use Rattle.dds_base.specs.declared.code.Code.TheVariants.{Memory, NoData};
 ghost use Rattle.dds_base.specs.Access.{instance_of, handle_of, has_match};
 ghost use Rattle.dds_base.specs.Ownership.{IsMatched};
@@ -349,7 +349,12 @@ impl ReaderCache {
         ensures heard { OnOk result
             ((h : List Happening) (w moment : ℕ) → StandsFor self.old h
             → StandsFor self.new (Heard w moment ∷ h)) }
+        ensures left { OnOk result
+            ((h : List Happening) (w moment : ℕ) → StandsFor self.old h
+            → StandsFor self.new (Left w moment ∷ h)) }
         ensures entry { TakesEntry room_of self.old self.new result }
+        ensures counted { 1 ≤ deaths_of self.old → IsOk result }
+        ensures deaths { deaths_of self.old ≤ deaths_of self.new + 1 }
     {
         self.instances.skip()?;
         self.room = self.room.saturating_sub(1);
@@ -452,6 +457,32 @@ impl ReaderCache {
             return Err(Code::Memory);
         }
         self.bury(writer, moment);
+        Ok(())
+    }
+
+    /// Takes up that a matched writer left, at a moment of the reader's peer. It takes no memory, and ends no registration:
+    /// the death of a writer that is alive, which comes first, does.
+    ///
+    /// # Errors
+    ///
+    /// `Memory` after 2^64 - 1 entries; the cache is then as it was.
+    ///
+    /// RTPS 2.5, 8.4.10 (matched_writer_remove).
+    pub fn leave(&mut self, writer: Handle, moment: Moment) -> Result<(), Code>
+        // The writer is a matched one.
+        requires matched { IsMatched (qos_of self.old) writer }
+        // The writer left, and nothing else happened.
+        ensures ok { OnOk result
+            ((h : List Happening) → StandsFor self.old h
+            → StandsFor self.new (Left writer moment ∷ h)) }
+        // It is an entry as each is, by the deaths that can be counted: the policies stay, where one can be counted it
+        // is taken up, it is counted once at most, and where it is refused nothing changes.
+        ensures entry { TakesEntry deaths_of self.old self.new result }
+        // It takes the room of one entry at most.
+        ensures room { room_of self.old ≤ room_of self.new + 1 }
+    {
+        let _ = (moment, writer);
+        self.skip()?;
         Ok(())
     }
 

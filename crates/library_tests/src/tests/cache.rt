@@ -194,6 +194,14 @@ impl Reader {
         let answer = self.cache.died(writer, Moment::new(moment));
         let _ = write!(text, "{answer:?}");
     }
+
+    fn leave(&mut self, text: &mut String, writer: Handle, moment: u64)
+        requires low { 0 < writer }
+        requires high { writer ≤ 2 }
+    {
+        let answer = self.cache.leave(writer, Moment::new(moment));
+        let _ = write!(text, "{answer:?}");
+    }
 }
 
 impl Subject for Reader {
@@ -208,6 +216,7 @@ impl Subject for Reader {
             "read" => push_access(text, self.access(AccessKind::Read, selection)),
             "take" => push_access(text, self.access(AccessKind::Take, selection)),
             "died" => self.die(text, handle_of(words.first), number_of(words.second)),
+            "left" => self.leave(text, handle_of(words.first), number_of(words.second)),
             _ => self.come(text, handle_of(words.first), change_of(alloc, name, words)),
         }
     }

@@ -1,8 +1,8 @@
 //! What happens at readers of two writers that are configured with one strength, and what they answer.
 
 /// `open` begins anew, with the ownership and a depth or `all`. `write` (with a value in hex digits, and perhaps a
-/// strength, and a key other than 1), `dispose`, `unregister` and `died` (with a moment) name the handle of the writer;
-/// all changes but such are of key 1, and have no strength. `read` and `take` have the most samples that they may give,
+/// strength, and a key other than 1), `dispose`, `unregister`, `died` and `left` (with a moment) name the handle of the
+/// writer; all changes but such are of key 1, and have no strength. `read` and `take` have the most samples that they may give,
 /// or `all`, and whether only those that were not read (`unread`) or `any`.
 ///
 /// A sample is its key, its value, and whether that is valid; the states of the sample, of the view and of the
@@ -65,6 +65,20 @@ died 1 42949672960 => Ok(())
 read all any => \
 (key 1 value [1] valid true, NotRead New NotAliveNoWriters, counts 0 0, ranks 1 0 0, moment 0, handles 1 1)\
 (key 1 value [] valid false, NotRead New NotAliveNoWriters, counts 0 0, ranks 0 0 0, moment 42949672960, handles 1 1)
+
+# A parting leaves none, and the writer's strength stays told: it owns the instance again once it writes again.
+open exclusive all => opened
+write 2 b1 7 => Ok(())
+died 2 5 => Ok(())
+left 2 6 => Ok(())
+write 1 a1 => Ok(())
+write 2 b2 => Ok(())
+write 1 a2 => Ok(())
+read all any => \
+(key 1 value [177] valid true, NotRead New Alive, counts 0 0, ranks 3 1 1, moment 0, handles 1 2)\
+(key 1 value [] valid false, NotRead New Alive, counts 0 0, ranks 2 1 1, moment 5, handles 1 2)\
+(key 1 value [161] valid true, NotRead New Alive, counts 0 1, ranks 1 0 0, moment 0, handles 1 1)\
+(key 1 value [178] valid true, NotRead New Alive, counts 0 1, ranks 0 0 0, moment 0, handles 1 2)
 
 # A taken sample lets no older one back.
 open shared 2 => opened
