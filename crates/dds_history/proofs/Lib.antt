@@ -4,6 +4,7 @@ pub mod Counting
 pub mod Keeping
 pub mod Letting
 pub mod Numbering
+pub mod Parting
 pub mod Placing
 pub mod Rising
 pub mod Runs

@@ -69,11 +69,11 @@ pub fn is_awaited(acknowledged: &[u64], number: u64) -> bool
     acknowledged.iter().any(|to| *to <= number)
 }
 
-/// The first number that some reader has not acknowledged; 0 where there is no reader.
-pub fn first_awaited(acknowledged: &[u64]) -> u64
-    ensures { result ≡ unwrap_or (reduce min acknowledged.now) 0 }
+/// The first number that some reader has not acknowledged; this other one where there is no reader.
+pub fn first_awaited(acknowledged: &[u64], none: u64) -> u64
+    ensures { result ≡ unwrap_or (reduce min acknowledged.now) none }
 {
-    acknowledged.iter().copied().min().unwrap_or(0)
+    acknowledged.iter().copied().min().unwrap_or(none)
 }
 
 /// What is counted of the key, if it stands at this place.

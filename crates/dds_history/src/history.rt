@@ -2,13 +2,14 @@
 //!
 //! DDS 1.4, 2.2.3 (HISTORY, RESOURCE_LIMITS); RTPS 2.5, 8.2 (HistoryCache).
 
-ghost use Rattle.std.specs.Prelude.{◌≡◌, ◌+◌, ◌^◌, ◌<◌, ◌≤◌, true, None, [], length, replicate, slice_index, IfOk, IfErr, OnErr};
+ghost use Rattle.std.specs.Prelude.{◌≡◌, ◌+◌, ◌^◌, ◌<◌, ◌≤◌, true, None, [], length, replicate, slice_index, IfOk, IfErr, OnOk, OnErr};
 ghost use Rattle.std.specs.Option.{option_copied};
 ghost use Rattle.dds_base.specs.declared.change.Change.{Change};
 ghost use Rattle.dds_base.specs.declared.code.Code.TheVariants.{Memory};
 ghost use Rattle.dds_base.specs.Kept.{WriterHistory, acknowledge, appended, append_refusal, exceeds, first_kept, is_awaited, is_kept, kept_change};
 ghost use Rattle.dds_base.specs.Refusal.{Refuses};
 ghost use Rattle.dds_history.specs.Held.{awaits, held_of, kept_after};
+ghost use Rattle.dds_history.specs.Readers.{joined, left};
 ghost use Rattle.dds_history.specs.Standing.{StandsFor, reader_count};
 
 use crate::held::{Kept, first_awaited, is_awaited};
@@ -200,11 +201,52 @@ impl History {
         let to = to.number();
         if self.acknowledged[reader] < to {
             self.acknowledged[reader] = to;
-            self.kept.acknowledge(first_awaited(&self.acknowledged));
+            self.kept.acknowledge(first_awaited(&self.acknowledged, to));
         }
     }
 
-    /// The number below which this reader, by its index from 0, has acknowledged all: 1 at first.
+    /// One more reliable reader is matched: its index is the next, and it awaits what is made from now on.
+    ///
+    /// # Errors
+    ///
+    /// `Memory` where a growth was refused; the history is then as it was.
+    ///
+    /// RTPS 2.5, 8.4.7 (StatefulWriter, matched_reader_add).
+    pub fn join(&mut self) -> Result<(), Code>
+        // What it stands for has the reader last, which has acknowledged all that was made.
+        ensures ok { (w : WriterHistory) → StandsFor self.old w
+            → OnOk result (StandsFor self.new (joined w)) }
+        // There is one reader more.
+        ensures readers { OnOk result (reader_count self.new ≡ reader_count self.old + 1) }
+        // A refusal leaves the history as it was.
+        ensures err { OnErr result (self.new ≡ self.old) }
+        // The only refusal is for want of memory.
+        ensures memory { IfErr result (λ code. code ≡ Memory) }
+    {
+        self.acknowledged.push(self.last.saturating_add(1))?;
+        Ok(())
+    }
+
+    /// This reader, by its index from 0, is not matched any more, and those behind it move down by one. What it alone
+    /// awaited is let go of.
+    ///
+    /// RTPS 2.5, 8.4.7 (StatefulWriter, matched_reader_remove).
+    pub fn leave(&mut self, reader: usize)
+        // There is such a reader.
+        requires reader { reader < reader_count self.old }
+        // What it stands for has the other readers, as they were.
+        ensures stands { (w : WriterHistory) → StandsFor self.old w
+            → StandsFor self.new (left w reader) }
+        // There is one reader fewer.
+        ensures readers { reader_count self.new + 1 ≡ reader_count self.old }
+    {
+        let _ = self.acknowledged.remove(reader);
+        let next = self.last.saturating_add(1);
+        self.kept
+            .acknowledge(first_awaited(&self.acknowledged, next));
+    }
+
+    /// The number below which this reader, by its index from 0, has acknowledged all: 1 at the opening.
     ///
     /// RTPS 2.5, 8.4.7 (ReaderProxy, acked_changes_set).
     pub fn acknowledged(&self, reader: usize) -> Sn

@@ -9,7 +9,7 @@ use Rattle.dds_history.proofs.held.first_awaited.Goals as goal
 pub returns : goal.returns
 returns c =
     c.unwrap_or.ensures
-    ∙ ap (λ (o : Option ℕ). unwrap_or o 0)
+    ∙ ap (λ (o : Option ℕ). unwrap_or o c.args.none)
     (sym (option_map_id _)
     ∙ min_from_yields_List c.copied.result c.min.result c.min.ensures.ran
     (YieldsList-from_copied (YieldsList-from_slice c.args.acknowledged.now (cc))))

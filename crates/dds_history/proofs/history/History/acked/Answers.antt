@@ -44,12 +44,13 @@ returns-then-index-to-clause-stands c = λ w s.
     let count = ap (λ (v : Held). length v.acknowledged) c.self.view_is in
     omega (arith, count, c.requires.reader, length-set now.acknowledged c.args.reader c.number-to.result) in
     let rest = c.acknowledge.ensures.rest now.last here.holds in
-    let first : c.first_awaited.result ≡ unwrap_or (reduce min after) 0 =
-    c.first_awaited.ensures ∙ ap (λ (a : List ℕ). unwrap_or (reduce min a) 0) c.deref.ensures.value in
+    let none : ℕ = c.number-to.result in
+    let first : c.first_awaited.result ≡ unwrap_or (reduce min after) none =
+    c.first_awaited.ensures ∙ ap (λ (a : List ℕ). unwrap_or (reduce min a) none) c.deref.ensures.value in
     let shown_is = rest.1
     ∙ (ap (λ (n : ℕ). filter (λ (e : HeldChange). nat_le n e.number) (shown (kept_in now))) first
-    ∙ filter_agree (λ (e : HeldChange). nat_le (unwrap_or (reduce min after) 0) e.number)
-    (λ (e : HeldChange). awaits after e.number) (λ e. sym (awaited-from_least after 0 e.number some)) (shown (kept_in now))) in
+    ∙ filter_agree (λ (e : HeldChange). nat_le (unwrap_or (reduce min after) none) e.number)
+    (λ (e : HeldChange). awaits after e.number) (λ e. sym (awaited-from_least after none e.number some)) (shown (kept_in now))) in
     let moved = stands-acked now w c.args.reader c.number-to.result (state c.acknowledge.new.self) here lt
     c.acknowledge.ensures.policy shown_is rest.0 in
     subst (λ (k : ℕ). StandsFor (record now { policy = c.acknowledge.new.self.policy; kept = parts (state c.acknowledge.new.self); acknowledged = after })
