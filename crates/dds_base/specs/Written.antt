@@ -81,10 +81,10 @@ liveliness_lost_status lease c = record {
   total_count_change = loss_count lease c - told_losses (losses_seen lease c);
 }
 
--- What each HEARTBEAT count of a writer numbers, in order: an assertion, or not. A count is due to each assertion of a
--- writer that has matched readers, and to each tick at which some reader was behind.
-abbrev pub counts_of : Bool → List Written → List Bool
-counts_of matched [] = []
-counts_of matched (Asserted moment ∷ c) = if matched then counts_of matched c ++ true ∷ [] else counts_of matched c
-counts_of matched (Ticked now behind ∷ c) = if behind then counts_of matched c ++ false ∷ [] else counts_of matched c
-counts_of matched (_ ∷ c) = counts_of matched c
+-- What each HEARTBEAT count of a writer numbers, in order: an assertion, or not. A count is due to each assertion,
+-- whether or not somebody is told of it, and to each tick at which some reader was behind.
+abbrev pub counts_of : List Written → List Bool
+counts_of [] = []
+counts_of (Asserted moment ∷ c) = counts_of c ++ true ∷ []
+counts_of (Ticked now behind ∷ c) = if behind then counts_of c ++ false ∷ [] else counts_of c
+counts_of (_ ∷ c) = counts_of c

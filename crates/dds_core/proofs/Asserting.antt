@@ -43,7 +43,7 @@ told_more beat ds i d p q m n lt h k =
 -- ---- what is due
 
 some_told : (b : Bool) (xs : List Bool) (make : ℕ → HeartbeatDue) (due : HeartbeatDue)
-    → (if b then Some (make (length (if b then xs ++ true ∷ [] else xs))) else None) ≡ Some due
+    → (if b then Some (make (length (xs ++ true ∷ []))) else None) ≡ Some due
     → (b ≡ true) × (due ≡ make (length xs + 1))
 some_told true xs make due is =
     (refl, sym (same_Some (make (length (xs ++ true ∷ []))) due is) ∙ ap make (length-append xs (true ∷ [])))
@@ -53,12 +53,6 @@ none_told : (b : Bool) (due : HeartbeatDue) → (if b then Some due else None) �
 none_told true due is = absurd cc
 none_told false due is = refl
 
--- the HEARTBEAT of an assertion, by whether there are readers
-abbrev told_by : Writer → Bool → Option HeartbeatDue
-told_by w b =
-    if b then Some (due_by w (length (if b then counts_of b w.written ++ true ∷ [] else counts_of b w.written)))
-    else None
-
 -- the HEARTBEATs that are sent are those of the writer
 pub told_are : (prefix : GuidPrefix) (kept : WriterKept) (w : Writer) (answered : Endpoint → Option ℤ) (now : ℕ)
     (due : HeartbeatDue)
@@ -66,8 +60,7 @@ pub told_are : (prefix : GuidPrefix) (kept : WriterKept) (w : Writer) (answered 
     → told_to (record { prefix = prefix; entity = kept.entity; due = due; asserts = true }) kept.destinations
     ≡ assertions_of prefix kept w
 told_are prefix kept w answered now due is =
-    let d =
-    some_told (has_readers w) (counts_of (has_readers w) w.written) (due_by w) due is in
+    let d = some_told (has_readers w) (counts_of w.written) (due_by w) due is in
     ap (λ (x : HeartbeatDue). told_to
     (record { prefix = prefix; entity = kept.entity; due = x; asserts = true }) kept.destinations) d.1
     ∙ sym (ap (λ (b : Bool). if b then map
@@ -77,12 +70,7 @@ told_are prefix kept w answered now due is =
 pub told_none : (prefix : GuidPrefix) (kept : WriterKept) (w : Writer) (answered : Endpoint → Option ℤ) (now : ℕ)
     → heartbeat_asserted (state_of w answered) now ≡ None → [] ≡ assertions_of prefix kept w
 told_none prefix kept w answered now is =
-    let nobody =
-    none_told (has_readers w)
-    (due_by w
-    (length (if has_readers w then counts_of (has_readers w) w.written ++ true
-    ∷ [] else counts_of (has_readers w) w.written)))
-    is in
+    let nobody = none_told (has_readers w) (due_by w (length (counts_of w.written ++ true ∷ []))) is in
     sym (ap (λ (b : Bool). if b then map
     (λ (e : Destination). due_to e.peer (assertion_message prefix e.prefix kept.entity w)) kept.destinations
     else []) nobody)

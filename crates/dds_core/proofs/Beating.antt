@@ -18,7 +18,7 @@ use Rattle.rtps_writer.specs.WriterState.{WriterState, counts_due, heartbeat_due
 use Rattle.rtps_writer.specs.declared.heartbeat.HeartbeatDue.{HeartbeatDue}
 use Rattle.dds_machine.specs.declared.endpoint.Endpoint.{Endpoint}
 use Rattle.dds_protocol.specs.declared.event.Packet.{Packet}
-use Rattle.dds_machine.specs.Part.{ReaderProxy, Writer, no_writer, writer_changes, has_readers, history_of}
+use Rattle.dds_machine.specs.Part.{ReaderProxy, Writer, no_writer, writer_changes, history_of}
 use Rattle.dds_protocol.specs.DueMessages.{Due, AreSent, heartbeat_message}
 use Rattle.dds_core.specs.declared.heartbeat.Beat.{Beat}
 use Rattle.dds_core.specs.declared.matching.Destination.{Destination}
@@ -238,7 +238,7 @@ pub record SentTo (beat : Beat) (kept : Kept) (readers : List ReaderName) (ds : 
 
 -- how many counts were due before the tick
 abbrev counts_before : Writer → ℕ
-counts_before w = length (counts_of (has_readers w) w.written)
+counts_before w = length (counts_of w.written)
 
 -- what is due, by its count
 abbrev pub due_by : Writer → ℕ → HeartbeatDue
@@ -247,7 +247,7 @@ due_by w count = record { first = first_kept (history_of w); last = length (writ
 counts_now : (w : Writer) (answered : Endpoint → Option ℤ) (now : ℕ)
     → counts_due (rtps_ticked (state_of w answered) now) ≡ counts_before w + cond (is_behind (state_of w answered)) 1 0
 counts_now w answered now =
-    more (is_behind (state_of w answered)) (counts_of (has_readers w) w.written)
+    more (is_behind (state_of w answered)) (counts_of w.written)
   where
     more : (b : Bool) (xs : List Bool) → length (if b then xs ++ false ∷ [] else xs) ≡ length xs + cond b 1 0
     more true xs = let n = length-append xs (false ∷ []) in omega (arith, n)

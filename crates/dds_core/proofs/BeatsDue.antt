@@ -16,7 +16,7 @@ use Rattle.dds_machine.specs.declared.reply.Reply.TheVariants.{Done}
 use Rattle.dds_machine.specs.Ticks.{TickStep, tick_refusal, after_tick}
 use Rattle.dds_protocol.specs.Claims.{Claim, Claims, IsNumbered, every_reader}
 use Rattle.dds_protocol.specs.Dues.{IsPartOf, AreTruthful}
-use Rattle.dds_machine.specs.Part.{Part, ReaderProxy, Writer, no_writer, own_writer, acknowledged_of, has_readers, peers_of, writer_changes, NoLess}
+use Rattle.dds_machine.specs.Part.{Part, ReaderProxy, Writer, no_writer, own_writer, acknowledged_of, peers_of, writer_changes, NoLess}
 use Rattle.dds_protocol.specs.Peer.{Peer, IsTrueAt}
 use Rattle.dds_protocol.specs.DueMessages.{Due, AreSent, heartbeat_message, heartbeats_of, heartbeats_from, heartbeats_due, readers_behind, writer_entity}
 use Rattle.dds_protocol.specs.Receipt.{prefix_of}
@@ -143,7 +143,7 @@ beats_due_of config peer prefix number k w is =
     (peers_behind w k.destinations)) is.own
     ∙ ap (λ e. map (λ (d : Destination). due_to d.peer (heartbeat_message prefix d.prefix e w))
     (peers_behind w k.destinations)) is.entity)) in
-    ap (λ (dues : List Due). if nat_lt (length (counts_of (has_readers w) w.written)) (2 ^ 31 - 1) then dues else [])
+    ap (λ (dues : List Due). if nat_lt (length (counts_of w.written)) (2 ^ 31 - 1) then dues else [])
     (sym all)
 
 beats_due_from : (config : Config) (peer : ℕ) (prefix : GuidPrefix) (n : ℕ) (ks : List WriterKept) (ws : List Writer)

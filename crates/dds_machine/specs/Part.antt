@@ -294,11 +294,11 @@ has_readers w = nat_lt 0 (length w.matched)
 
 -- how many HEARTBEAT counts a writer has used
 abbrev pub heartbeats_used : Writer → ℕ
-heartbeats_used w = length (counts_of (has_readers w) w.written)
+heartbeats_used w = length (counts_of w.written)
 
 -- the count numbers an assertion of the writer
 abbrev pub is_assertion : Writer → ℤ → Bool
-is_assertion w (pos n) = numbered (counts_of (has_readers w) w.written) n false
+is_assertion w (pos n) = numbered (counts_of w.written) n false
 is_assertion w (negsuc n) = false
 
 -- a peer's reader has these matched writers, and this happened there

@@ -1,5 +1,5 @@
 -- Parts that differ in what was seen of statuses, in what is watched and in listeners, and in nothing else.
-use Rattle.std.proofs.Common.{◌≡◌, ℕ, Bool, List, length, refl, ap, sym, ◌∙◌, subst, ⊎_elim}
+use Rattle.std.proofs.Common.{◌≡◌, ℕ, List, length, refl, ap, sym, ◌∙◌, subst, ⊎_elim}
 use Rattle.dds_base.specs.declared.entity.Entity.{Entity}
 use Rattle.dds_base.specs.declared.entity.Entity.TheVariants as entity
 use Rattle.dds_base.specs.Written.{LookedAt, changes_of, counts_of}
@@ -17,17 +17,17 @@ pub record AlikeWriters (old new : Writer) : Type 0 where
   pub grows : WriterGrows old new
   pub rest : new ≡ record old { written = new.written }
   pub changes : changes_of new.written ≡ changes_of old.written
-  pub counts : (matched : Bool) → counts_of matched new.written ≡ counts_of matched old.written
+  pub counts : counts_of new.written ≡ counts_of old.written
 
 pub writers_same : (w : Writer) → AlikeWriters w w
-writers_same w = record { grows = writer_same w; rest = refl; changes = refl; counts = λ b. refl }
+writers_same w = record { grows = writer_same w; rest = refl; changes = refl; counts = refl }
 
 writers_on : (a b c : Writer) → AlikeWriters a b → AlikeWriters b c → AlikeWriters a c
 writers_on a b c f g = record {
   grows = writer_on a b c f.grows g.grows;
   rest = g.rest ∙ ap (λ (w : Writer). record w { written = c.written }) f.rest;
   changes = g.changes ∙ f.changes;
-  counts = λ m. g.counts m ∙ f.counts m;
+  counts = g.counts ∙ f.counts;
 }
 
 looked : (w : Writer) → AlikeWriters w (with_written w LookedAt)
@@ -35,7 +35,7 @@ looked w = record {
   grows = entered-grows w LookedAt;
   rest = refl;
   changes = refl;
-  counts = λ b. refl;
+  counts = refl;
 }
 
 -- its matched readers are the same

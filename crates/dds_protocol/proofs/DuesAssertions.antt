@@ -90,14 +90,10 @@ last_numbered : (xs : List Bool) (n : ℕ) → n ≡ suc (length xs) → numbere
 last_numbered xs n is =
     ap (λ (k : ℕ). numbered (xs ++ true ∷ []) k false) is ∙ last_is xs true false
 
--- the next count of a writer with readers is that of its assertion
-pub next_asserts : (w : Writer) (moment : ℕ) → has_readers w ≡ true
+-- the next count of a writer is that of its assertion
+pub next_asserts : (w : Writer) (moment : ℕ)
     → is_assertion (with_written w (Asserted moment)) (pos (heartbeats_used w + 1)) ≡ true
-next_asserts w moment matched =
-    ap (λ (b : Bool). numbered (if b then counts_of (has_readers w) w.written ++ true
-    ∷ [] else counts_of (has_readers w) w.written)
-    (heartbeats_used w + 1) false) matched
-    ∙ last_numbered (counts_of (has_readers w) w.written) (heartbeats_used w + 1) (omega arith)
+next_asserts w moment = last_numbered (counts_of w.written) (heartbeats_used w + 1) (omega arith)
 
 -- the writer of a peer that has asserted
 pub asserted_writer : (old new : Part) (number moment : ℕ) → HasNumber old.rtps.writers number
@@ -139,7 +135,7 @@ told_says b tests new t far to (Asserts v r k) h =
     let asserts : is_assertion (own_writer new b.number) k ≡ true =
     ap (λ c. is_assertion (own_writer new b.number) c) h.2
     ∙ (ap (λ (x : Writer). is_assertion x (pos (heartbeats_used w + 1))) after
-    ∙ next_asserts w b.part.dds.moment t.matched) in (
+    ∙ next_asserts w b.part.dds.moment) in (
       ap (λ (e : Endpoint). e.peer) same,
       ap (λ (e : Endpoint). is_assertion (own_writer new e.number) k) same ∙ asserts,
     )

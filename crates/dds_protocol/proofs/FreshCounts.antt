@@ -1,6 +1,6 @@
 -- An event of a network by the rules sends and takes no count that its sender has not used.
 use Rattle.std.proofs.Common.{◌≡◌, ◌⊎◌, ℕ, ℤ, pos, ◌+◌, ◌-◌, ◌≤◌, ◌≤ℤ◌, Bool, true, false, List, [], ◌∷◌, ◌++◌, Option, Some, None, Contains, length, length-append, refl, subst, ap, sym, ◌∙◌, inl, inr, ⊎_elim, arith}
-use Rattle.std.specs.Prelude.{if◌then◌else◌, nat_lt}
+use Rattle.std.specs.Prelude.{if◌then◌else◌}
 use Rattle.std.specs.List.{All}
 use Rattle.std.proofs.lemmas.Int.{ints}
 use Rattle.std.proofs.lemmas.List.Elements.{All-contains, Contains-append_cases}
@@ -24,7 +24,7 @@ use Rattle.dds_machine.specs.declared.reply.Report.{Report}
 use Rattle.dds_machine.specs.declared.reply.Reply.{Reply}
 use Rattle.dds_machine.specs.declared.reply.Reply.TheVariants.{Done, Reported}
 use Rattle.dds_machine.specs.Numbered.{HasNumber}
-use Rattle.dds_machine.specs.Part.{Part, Writer, no_writer, own_writer, writer_changes, has_readers, is_behind, peers_of, heartbeats_used}
+use Rattle.dds_machine.specs.Part.{Part, Writer, no_writer, own_writer, writer_changes, is_behind, peers_of, heartbeats_used}
 use Rattle.dds_machine.specs.Moves.{Grounds}
 use Rattle.dds_machine.specs.Ticks.{ticked, after_tick, TickStep}
 use Rattle.dds_machine.specs.Calls.{Effect, nothing, writes, effect, effect_of, with_written}
@@ -171,14 +171,11 @@ steps_stays config tests old peer ev reply new h = record {
 -- a writer that grows has used no fewer counts
 used_more : (old new : Writer) → WriterGrows old new → heartbeats_used old ≤ heartbeats_used new
 used_more old new g =
-    let matched : has_readers new ≡ has_readers old =
-    ap (λ (es : List Endpoint). nat_lt 0 (length es)) g.matched in
-    let r = counts-more (has_readers old) g.more old.written in
-    let is : counts_of (has_readers new) new.written ≡ counts_of (has_readers old) old.written ++ r.0 =
-    ap (λ (b : Bool). counts_of b new.written) matched
-    ∙ (ap (λ (c : List Written). counts_of (has_readers old) c) g.written ∙ r.1) in
+    let r = counts-more g.more old.written in
+    let is : counts_of new.written ≡ counts_of old.written ++ r.0 =
+    ap (λ (c : List Written). counts_of c) g.written ∙ r.1 in
     let longer = ap (λ (xs : List Bool). length xs) is in
-    let sum = length-append (counts_of (has_readers old) old.written) r.0 in
+    let sum = length-append (counts_of old.written) r.0 in
     omega (arith, longer, sum)
 
 -- what an event does to counts
@@ -411,9 +408,8 @@ used_ticked : (now : ℕ) (w : Writer) (b : Bool) → is_behind w ≡ b → b �
     → heartbeats_used (ticked now w) ≡ heartbeats_used w + 1
 used_ticked now w true is so =
     let longer =
-    ap (λ (c : Bool). length (if c then counts_of (has_readers w) w.written ++ false
-    ∷ [] else counts_of (has_readers w) w.written)) is in
-    let sum = length-append (counts_of (has_readers w) w.written) (false ∷ []) in
+    ap (λ (c : Bool). length (if c then counts_of w.written ++ false ∷ [] else counts_of w.written)) is in
+    let sum = length-append (counts_of w.written) (false ∷ []) in
     omega (arith, longer, sum)
 used_ticked now w false is so = cc
 
@@ -455,15 +451,10 @@ uses_tick config tests old peer now dues packets new checked h step are written 
 
 -- ---- a call
 
--- the writer that asserted has used one count more, where it has readers
-used_asserted : (w : Writer) (moment : ℕ) → has_readers w ≡ true
+-- the writer that asserted has used one count more
+used_asserted : (w : Writer) (moment : ℕ)
     → heartbeats_used (with_written w (Asserted moment)) ≡ heartbeats_used w + 1
-used_asserted w moment matched =
-    let longer =
-    ap (λ (b : Bool). length (if b then counts_of (has_readers w) w.written ++ true
-    ∷ [] else counts_of (has_readers w) w.written)) matched in
-    let sum = length-append (counts_of (has_readers w) w.written) (true ∷ []) in
-    omega (arith, longer, sum)
+used_asserted w moment = length-append (counts_of w.written) (true ∷ [])
 
 uses_call : (config : Config) (tests : Tests) (old : WorldState) (peer : ℕ) (call : Call) (reply : Reply)
     (dues : List Due) (packets : List Packet) (new : WorldState) → check_refusal config.peers ≡ None
@@ -491,7 +482,7 @@ uses_call config tests old peer call reply dues packets new checked h step are w
         asserted_writer part step.after.part writer moment there
         (entered ∙ ap (λ (e : Effect). effect part.rtps e) is) in
         next_beat config peer part step.after.part writer to true true checked (h.of_config peer step.within) there
-        (ap (λ (w : Writer). heartbeats_used w) after ∙ used_asserted (own_writer part writer) moment matched)
+        (ap (λ (w : Writer). heartbeats_used w) after ∙ used_asserted (own_writer part writer) moment)
 
 -- at no peer
 uses_no_call : (config : Config) (old : WorldState) (peer : ℕ) (e : Effect) (dues : List Due) (packets : List Packet)

@@ -19,7 +19,7 @@ use Rattle.dds_machine.specs.declared.reply.Move.TheVariants.{Place, Acknowledge
 use Rattle.dds_machine.specs.declared.reply.Reply.{Reply}
 use Rattle.dds_machine.specs.declared.reply.Reply.TheVariants.{Done, Refused, Reported}
 use Rattle.dds_machine.specs.Numbered.{numbered, with_numbered}
-use Rattle.dds_machine.specs.Part.{WriterProxy, Writer, Rtps, Part, no_writer, no_part, own_writer, own_proxies, place_of, with_place, with_begun, with_heard, with_acknowledged, writer_changes, history_of, has_readers, is_behind, is_assertion, owed_from, NoLess}
+use Rattle.dds_machine.specs.Part.{WriterProxy, Writer, Rtps, Part, no_writer, no_part, own_writer, own_proxies, place_of, with_place, with_begun, with_heard, with_acknowledged, writer_changes, history_of, is_behind, is_assertion, owed_from, NoLess}
 use Rattle.dds_machine.specs.Moves.{Grounds, IsMove, AreMoves, DeliveryStep}
 use Rattle.dds_machine.specs.Ticks.{ticked, reader_ticked, TickStep}
 use Rattle.dds_machine.specs.Calls.{Effect, nothing, writes, effect, effect_of, with_written, CallStep}
@@ -328,21 +328,19 @@ if_more : (b c : Bool) (xs ys zs : List Bool) → ys ≡ xs ++ zs
 if_more true c xs ys zs h = (zs ++ c ∷ [], ap (λ (us : List Bool). us ++ c ∷ []) h ∙ append_assoc xs zs (c ∷ []))
 if_more false c xs ys zs h = (zs, h)
 
-pub counts-more : (matched : Bool) (more written : List Written)
-    → (later : List Bool) × (counts_of matched (more ++ written) ≡ counts_of matched written ++ later)
-counts-more matched [] written = ([], sym (append_nothing (counts_of matched written)))
-counts-more matched (Registered key ∷ more) written = counts-more matched more written
-counts-more matched (LookedAt ∷ more) written = counts-more matched more written
-counts-more matched (StrengthSet strength ∷ more) written = counts-more matched more written
-counts-more matched (Changed change ∷ more) written = counts-more matched more written
-counts-more matched (Asserted moment ∷ more) written =
-    let r =
-    counts-more matched more written in if_more matched true (counts_of matched written)
-    (counts_of matched (more ++ written)) r.0 r.1
-counts-more matched (Ticked now behind ∷ more) written =
-    let r =
-    counts-more matched more written in if_more behind false (counts_of matched written)
-    (counts_of matched (more ++ written)) r.0 r.1
+pub counts-more : (more written : List Written)
+    → (later : List Bool) × (counts_of (more ++ written) ≡ counts_of written ++ later)
+counts-more [] written = ([], sym (append_nothing (counts_of written)))
+counts-more (Registered key ∷ more) written = counts-more more written
+counts-more (LookedAt ∷ more) written = counts-more more written
+counts-more (StrengthSet strength ∷ more) written = counts-more more written
+counts-more (Changed change ∷ more) written = counts-more more written
+counts-more (Asserted moment ∷ more) written =
+    let r = counts-more more written in
+    if_more true true (counts_of written) (counts_of (more ++ written)) r.0 r.1
+counts-more (Ticked now behind ∷ more) written =
+    let r = counts-more more written in
+    if_more behind false (counts_of written) (counts_of (more ++ written)) r.0 r.1
 
 get-append : (xs ys : List Bool) (i : ℕ) → get_or xs i false ≡ true → get_or (xs ++ ys) i false ≡ true
 get-append [] ys i h = cc
@@ -356,13 +354,10 @@ numbered-append xs ys (suc n) h = get-append xs ys n h
 pub assertion-grows : (old new : Writer) (count : ℤ) → WriterGrows old new → is_assertion old count ≡ true
     → is_assertion new count ≡ true
 assertion-grows old new (pos n) g h =
-    let matched : has_readers new ≡ has_readers old =
-    ap (λ (es : List Endpoint). nat_lt 0 (length es)) g.matched in
-    let r = counts-more (has_readers old) g.more old.written in
-    let is : counts_of (has_readers new) new.written ≡ counts_of (has_readers old) old.written ++ r.0 =
-    ap (λ (b : Bool). counts_of b new.written) matched
-    ∙ (ap (λ (c : List Written). counts_of (has_readers old) c) g.written ∙ r.1) in
-    ap (λ (xs : List Bool). numbered xs n false) is ∙ numbered-append (counts_of (has_readers old) old.written) r.0 n h
+    let r = counts-more g.more old.written in
+    let is : counts_of new.written ≡ counts_of old.written ++ r.0 =
+    ap (λ (c : List Written). counts_of c) g.written ∙ r.1 in
+    ap (λ (xs : List Bool). numbered xs n false) is ∙ numbered-append (counts_of old.written) r.0 n h
 assertion-grows old new (negsuc n) g h = cc
 
 -- the machine grows

@@ -1,9 +1,8 @@
 -- Networks that differ in what the peers' own calls and listeners see, and in nothing else: what holds of what was sent
 -- and of lists and places holds of both.
 use Rattle.std.proofs.Common.{◌≡◌, ℕ, Bool, Option, List, [], map, length, refl, subst, ap, sym, ◌∙◌, ⊎_elim, arith}
-use Rattle.std.specs.Prelude.{pos, ◌≤ℤ◌, Contains, nat_lt}
+use Rattle.std.specs.Prelude.{pos, ◌≤ℤ◌, Contains}
 use Rattle.dds_base.specs.declared.change.Change.{Change}
-use Rattle.dds_base.specs.Written.{counts_of}
 use Rattle.dds_base.specs.declared.config.Config.{Config}
 use Rattle.dds_base.specs.declared.entity.Entity.{Entity}
 use Rattle.dds_base.specs.declared.qos.ReaderQos.{ReaderQos}
@@ -11,7 +10,7 @@ use Rattle.dds_notices.specs.Listeners.{Place}
 use Rattle.dds_machine.specs.declared.endpoint.Endpoint.{Endpoint}
 use Rattle.dds_protocol.specs.declared.event.Packet.{Packet}
 use Rattle.dds_machine.specs.Numbered.{numbered, with_numbered, HasNumber}
-use Rattle.dds_machine.specs.Part.{Part, Writer, ReaderProxy, WriterProxy, has_readers, heartbeats_used, own_writer, place_of, NoLess}
+use Rattle.dds_machine.specs.Part.{Part, Writer, ReaderProxy, WriterProxy, heartbeats_used, own_writer, place_of, NoLess}
 use Rattle.dds_protocol.specs.Protocol.{Known}
 use Rattle.dds_protocol.specs.Peer.{Peer, Delivery, no_peer}
 use Rattle.dds_protocol.specs.Bounds.{IsBounded}
@@ -113,9 +112,7 @@ part_beside config peer old new same h = record {
 }
 
 beats_alike : (old new : Writer) → AlikeWriters old new → heartbeats_used new ≡ heartbeats_used old
-beats_alike old new h =
-    ap (λ (bs : List Bool). length bs) (h.counts (has_readers new))
-    ∙ ap (λ (es : List Endpoint). length (counts_of (nat_lt 0 (length es)) old.written)) h.grows.matched
+beats_alike old new h = ap (λ (bs : List Bool). length bs) h.counts
 
 pub used_beside : (config : Config) (old new : WorldState) → SameBeside old new → HasUsedCounts config old
     → HasUsedCounts config new

@@ -71,12 +71,12 @@ asserting =
     Asserted 20 ∷ Registered (key 2) ∷ Ticked 10 false ∷ Ticked 5 true ∷ Changed (write_of 1 1) ∷ Asserted 0
     ∷ Asserted 0 ∷ []
 
-counts-in_order : counts_of true asserting ≡ true ∷ true ∷ false ∷ true ∷ []
+counts-in_order : counts_of asserting ≡ true ∷ true ∷ false ∷ true ∷ []
 counts-in_order = refl
 
--- a writer without readers sends no HEARTBEAT
-counts-unmatched : counts_of false (Asserted 20 ∷ Ticked 10 false ∷ Asserted 0 ∷ []) ≡ []
-counts-unmatched = refl
+-- a tick at which nobody is behind takes none
+counts-not_behind : counts_of (Asserted 20 ∷ Ticked 10 false ∷ Asserted 0 ∷ []) ≡ true ∷ true ∷ []
+counts-not_behind = refl
 
 assertion-1 : is_assertion (writing KeepAll None asserting 1) (pos 1) ≡ true
 assertion-1 = refl

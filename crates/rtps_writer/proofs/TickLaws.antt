@@ -1,6 +1,7 @@
 -- What a tick or an assertion does to a writer, and the HEARTBEAT that it asks for.
-use Rattle.std.proofs.Common.{◌≡◌, ℕ, ◌+◌, ◌-◌, ◌^◌, ◌<◌, ◌≤◌, min, Bool, true, false, ◌&&◌, ◌⊎◌, inl, inr, cond, List, [], ◌∷◌, ◌++◌, length, Option, Some, None, ℤ, pos, refl, ap, sym, ◌∙◌, arith, length-append}
+use Rattle.std.proofs.Common.{◌≡◌, ℕ, ◌+◌, ◌-◌, ◌^◌, ◌<◌, ◌≤◌, min, Bool, true, false, ◌&&◌, ◌⊎◌, inl, inr, cond, List, [], ◌∷◌, ◌++◌, length, Option, Some, None, ℤ, pos, refl, ap, ◌∙◌, arith, length-append}
 use Rattle.std.specs.Prelude.{if◌then◌else◌, nat_le, nat_lt}
+use Rattle.std.specs.Bool.{then_some}
 use Rattle.std.proofs.lemmas.Bool.Decides.{nat_tests}
 use Rattle.dds_base.specs.declared.code.Code.TheVariants.{OutOfResources}
 use Rattle.dds_base.specs.Kept.{first_kept}
@@ -19,7 +20,7 @@ length_if false xs = omega arith
 
 -- a tick takes a count where some reader is behind
 counts-ticked : (s : WriterState) (now : ℕ) → counts_due (ticked s now) ≡ counts_due s + cond (is_behind s) 1 0
-counts-ticked s now = length_if (is_behind s) (counts_of s.matched s.written)
+counts-ticked s now = length_if (is_behind s) (counts_of s.written)
 
 -- what is kept of the liveliness has taken the tick up
 abbrev pub LivesOn : Liveliness → WriterState → ℕ → Type 0
@@ -113,29 +114,29 @@ due kept s now given behind few =
     ∙ (ap (λ (b : Bool). if b then Some (heartbeat (counts_due (ticked s now))) else None) left
     ∙ ap (λ (n : ℕ). Some (heartbeat n)) count)
 
-counts-asserted : (s : WriterState) (now : ℕ) → s.matched ≡ true
-    → counts_due (asserted s now) ≡ counts_due s + 1
-counts-asserted s now matched =
-    one_more s.matched (counts_of s.matched s.written) matched
-  where
-    one_more : (b : Bool) (xs : List Bool) → b ≡ true → length (if b then xs ++ true ∷ [] else xs) ≡ length xs + 1
-    one_more true xs is = let n = length-append xs (true ∷ []) in omega (arith, n)
-    one_more false xs is = absurd (cc)
+counts-asserted : (s : WriterState) (now : ℕ) → counts_due (asserted s now) ≡ counts_due s + 1
+counts-asserted s now = length-append (counts_of s.written) (true ∷ [])
 
--- where a reader is matched and a count is left, an assertion is not refused, and its HEARTBEAT is due
+-- the HEARTBEAT, where a reader is matched
+told_if : (b : Bool) (heartbeat : ℕ → HeartbeatDue) (n m : ℕ) → n ≡ m
+    → then_some b (heartbeat n) ≡ (if b then Some (heartbeat m) else None)
+told_if true heartbeat n m same = ap (λ (k : ℕ). Some (heartbeat k)) same
+told_if false heartbeat n m same = refl
+
+-- where a count is left, an assertion is not refused, and where a reader is matched, its HEARTBEAT is due
 pub due-asserted : (kept : Kept) (s : WriterState) (now : ℕ) (heartbeat : HeartbeatDue) → StandsFor kept s
-    → s.matched ≡ true → kept.counts_used < 2 ^ 31 - 1
+    → kept.counts_used < 2 ^ 31 - 1
     → heartbeat ≡ record { first = first_kept (history_of s); last = last_of s; count = pos (kept.counts_used + 1) }
-    → (assert_refusal s ≡ None) × (Some heartbeat ≡ heartbeat_asserted s now)
-due-asserted kept s now heartbeat given matched few is =
+    → (assert_refusal s ≡ None) × (then_some kept.matched heartbeat ≡ heartbeat_asserted s now)
+due-asserted kept s now heartbeat given few is =
     let used = given.counts_used in
     let left : nat_le (2 ^ 31 - 1) (counts_due s) ≡ false = grind (arith, nat_tests, used, few) in
-    let more = counts-asserted s now matched in
+    let more = counts-asserted s now in
     let count : kept.counts_used + 1 ≡ counts_due (asserted s now) = omega (arith, used, few, more) in
     let due : ℕ → HeartbeatDue =
     λ n. record { first = first_kept (history_of s); last = last_of s; count = pos n } in (
       ap (λ (b : Bool). if b then Some OutOfResources else None) left,
-      ap (λ (h : HeartbeatDue). Some h) is
-          ∙ (ap (λ (n : ℕ). Some (due n)) count
-          ∙ ap (λ (b : Bool). if b then Some (due (counts_due (asserted s now))) else None) (sym matched)),
+      ap (λ (b : Bool). then_some b heartbeat) given.matched
+          ∙ (ap (λ (h : HeartbeatDue). then_some s.matched h) is
+          ∙ told_if s.matched due (kept.counts_used + 1) (counts_due (asserted s now)) count),
     )

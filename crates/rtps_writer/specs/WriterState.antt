@@ -73,7 +73,7 @@ is_behind s = is_awaited (history_of s) (last_of s)
 
 -- how many HEARTBEAT counts were due so far
 abbrev pub counts_due : WriterState → ℕ
-counts_due s = length (counts_of s.matched s.written)
+counts_due s = length (counts_of s.written)
 
 -- a tick of its peer: what happened besides
 abbrev pub ticked : WriterState → ℕ → WriterState

@@ -85,8 +85,7 @@ impl StatefulWriter {
     /// first, `None` of a writer of shared ownership (OWNERSHIP_STRENGTH); `matched` says whether some reader is matched,
     /// of either reliability; `readers` is how many matched reliable readers it has, which have acknowledged nothing.
     ///
-    /// A writer with best-effort readers alone keeps nothing and never answers `Timeout`, but uses counts for its
-    /// assertions.
+    /// A writer without reliable readers keeps nothing and never answers `Timeout`, but uses counts for its assertions.
     ///
     /// # Errors
     ///
@@ -270,8 +269,8 @@ impl StatefulWriter {
         }
     }
 
-    /// Asserts the writer's liveliness at this moment, and gives the HEARTBEAT that tells the readers of it, with the
-    /// next count; `None` where no reader is matched, of either reliability.
+    /// Asserts the writer's liveliness at this moment, by the next count, and gives the HEARTBEAT that tells the readers
+    /// of it; `None` where no reader is matched, of either reliability: the count is used all the same.
     ///
     /// # Errors
     ///
@@ -297,10 +296,8 @@ impl StatefulWriter {
             return Err(Code::OutOfResources);
         }
         self.liveliness.assert_at(now);
-        if !self.matched {
-            return Ok(None);
-        }
-        Ok(Some(self.next_heartbeat()))
+        let heartbeat = self.next_heartbeat();
+        Ok(self.matched.then_some(heartbeat))
     }
 
     /// The strength that its next change carries; `None` of a writer of shared ownership.
