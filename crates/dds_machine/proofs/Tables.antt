@@ -1,10 +1,11 @@
 -- Lists with one element changed, and the rows of matched pairs.
-use Rattle.std.proofs.Common.{◌≡◌, ℕ, zero, suc, ◌==◌, ◌⊎◌, Option, None, ℤ, Bool, true, false, cond, List, [], ◌∷◌, ◌++◌, Some, refl, ap, sym, ◌∙◌, inl, inr, ⊎_elim, arith, length, slice_get, get_or, set, map, eqb-true, length-set, get_or-set_same}
+use Rattle.std.proofs.Common.{◌≡◌, ℕ, zero, suc, ◌==◌, ◌⊎◌, Option, None, ℤ, Bool, true, false, cond, List, [], ◌∷◌, ◌++◌, Some, refl, ap, sym, subst, ◌∙◌, inl, inr, ⊎_elim, arith, length, slice_get, get_or, set, map, eqb-true, length-set, get_or-set_same}
 use Rattle.std.specs.Option.{option_map}
 use Rattle.std.proofs.lemmas.List.{map-set}
 use Rattle.dds_machine.specs.declared.endpoint.Endpoint.{Endpoint}
 use Rattle.dds_machine.specs.Numbered.{numbered, with_numbered, HasNumber}
-use Rattle.dds_machine.specs.Part.{Begun, with_begun, same_endpoint, ReaderProxy, WriterProxy, row_of, with_row, acknowledged_of, with_acknowledged, place_of, with_place, with_heard, IsBelow, IsAtMost, NoLess}
+use Rattle.dds_machine.specs.Matching.{with_how}
+use Rattle.dds_machine.specs.Part.{Attachment, Begun, with_begun, same_endpoint, ReaderProxy, WriterProxy, row_of, with_row, acknowledged_of, with_acknowledged, place_of, with_place, with_heard, IsBelow, IsAtMost, NoLess}
 
 get-cases : {X : Type 0} (xs : List X) (i : ℕ) (x : X) (j : ℕ) (d : X)
     → (get_or (set xs i x) j d ≡ get_or xs j d) ⊎ ((j ≡ i) × (get_or (set xs i x) j d ≡ x))
@@ -113,6 +114,11 @@ below_on n (Some x) (Some y) h le = omega (arith, h, le)
 pub no_less_on : (a b c : Option ℕ) → NoLess a b → NoLess b c → NoLess a c
 no_less_on None b c f g = tt
 no_less_on (Some x) b c f g = at_most_on x b c f g
+
+pub none_on : (a b : Option ℕ) → NoLess a b → b ≡ None → a ≡ None
+none_on None b le e = refl
+none_on (Some x) None le e = absurd le
+none_on (Some x) (Some y) le e = absurd cc
 
 -- rows of matched ends
 
@@ -238,23 +244,70 @@ begun-hits rows w from to h =
     (λ (p : WriterProxy). p.place) to
     (λ p. refl) (λ p. refl) rows w from h
 
-same_places : (count : ℤ) (o : Option WriterProxy)
-    → option_map (λ (p : WriterProxy). p.place) (option_map (λ (p : WriterProxy). record p { heard = Some count }) o)
-    ≡ option_map (λ (p : WriterProxy). p.place) o
-same_places count None = refl
-same_places count (Some p) = refl
+-- a field that the change leaves
+same_field : {X V : Type 0} (change : X → X) (field : X → V) → ((x : X) → field (change x) ≡ field x) → (o : Option X)
+    → option_map field (option_map change o) ≡ option_map field o
+same_field change field stays None = refl
+same_field change field stays (Some x) = ap Some (stays x)
+
+-- after it, the field of each row is as before
+pub field-stays : {X V : Type 0} (name : X → Endpoint) (change : X → X) (field : X → V)
+    → ((x : X) → name (change x) ≡ name x) → ((x : X) → field (change x) ≡ field x)
+    → (rows : List X) (w v : Endpoint)
+    → option_map field (row_of name (with_row name change rows w) v) ≡ option_map field (row_of name rows v)
+field-stays {X = X} name change field kept stays rows w v =
+    ⊎_elim (λ e. ap (λ (o : Option X). option_map field o) e)
+    (λ s.
+    ap (λ (o : Option X). option_map field o) s.1
+    ∙ (same_field change field stays (row_of name rows w)
+    ∙ ap (λ (e : Endpoint). option_map field (row_of name rows e)) (sym s.0)))
+    (row-cases name change kept rows w v)
 
 -- a hearing changes no place
 pub place-heard : (rows : List WriterProxy) (w : Endpoint) (count : ℤ) (v : Endpoint)
     → place_of (with_heard rows w count) v ≡ place_of rows v
 place-heard rows w count v =
-    ⊎_elim (λ e. ap (λ (o : Option WriterProxy). option_map (λ (p : WriterProxy). p.place) o) e)
-    (λ s.
-    ap (λ (o : Option WriterProxy). option_map (λ (p : WriterProxy). p.place) o) s.1
-    ∙ (same_places count (row_of (λ (p : WriterProxy). p.writer) rows w)
-    ∙ ap (λ (e : Endpoint). place_of rows e) (sym s.0)))
-    (row-cases (λ (p : WriterProxy). p.writer) (λ (p : WriterProxy). record p { heard = Some count })
-    (λ p. refl) rows w v)
+    field-stays (λ (p : WriterProxy). p.writer) (λ (p : WriterProxy). record p { heard = Some count })
+    (λ (p : WriterProxy). p.place) (λ p. refl) (λ p. refl) rows w v
+
+-- nor does how the reader stands to its writer
+pub place-how : (rows : List WriterProxy) (w : Endpoint) (how : Attachment) (v : Endpoint)
+    → place_of (with_how rows w how) v ≡ place_of rows v
+place-how rows w how v =
+    field-stays (λ (p : WriterProxy). p.writer) (λ (p : WriterProxy). record p { how = how })
+    (λ (p : WriterProxy). p.place) (λ p. refl) (λ p. refl) rows w v
+
+-- with a row more at the end another name has the row that it had, and a name without one may have that
+pub row-append : {X : Type 0} (name : X → Endpoint) (xs : List X) (x : X) (v : Endpoint)
+    → (row_of name (xs ++ x ∷ []) v ≡ row_of name xs v)
+    ⊎ ((row_of name xs v ≡ None) × (row_of name (xs ++ x ∷ []) v ≡ Some x))
+row-append {X = X} name [] x v = by (same_endpoint (name x) v)
+  where
+    by : (b : Bool)
+        → ◌≡◌ {A = Option X} (cond b (Some x) None) None
+        ⊎ (◌≡◌ {A = Option X} None None × (cond b (Some x) None ≡ Some x))
+    by true = inr (refl, refl)
+    by false = inl refl
+row-append {X = X} name (y ∷ ys) x v = by (same_endpoint (name y) v) (row-append name ys x v)
+  where
+    by : (b : Bool)
+        → (row_of name (ys ++ x ∷ []) v ≡ row_of name ys v)
+        ⊎ ((row_of name ys v ≡ None) × (row_of name (ys ++ x ∷ []) v ≡ Some x))
+        → (cond b (Some y) (row_of name (ys ++ x ∷ []) v) ≡ cond b (Some y) (row_of name ys v))
+        ⊎ ((cond b (Some y) (row_of name ys v) ≡ None) × (cond b (Some y) (row_of name (ys ++ x ∷ []) v) ≡ Some x))
+    by true h = inl refl
+    by false h = h
+
+-- no place goes back by a row more
+pub place-append : (rows : List WriterProxy) (new : WriterProxy) (v : Endpoint)
+    → NoLess (place_of rows v) (place_of (rows ++ new ∷ []) v)
+place-append rows new v =
+    let place : Option WriterProxy → Option ℕ = λ o. option_map (λ (p : WriterProxy). p.place) o in
+    ⊎_elim
+    (λ e. subst (λ (o : Option WriterProxy). NoLess (place_of rows v) (place o)) (sym e)
+    (no_less_same (place_of rows v)))
+    (λ s. subst (λ (o : Option WriterProxy). NoLess (place o) (place_of (rows ++ new ∷ []) v)) (sym s.0) tt)
+    (row-append (λ (p : WriterProxy). p.writer) rows new v)
 
 pub acknowledged-cases : (rows : List ReaderProxy) (r : Endpoint) (from to : ℕ) (v : Endpoint)
     → acknowledged_of rows r ≡ Some from

@@ -1,6 +1,7 @@
 pub mod Numbered
 pub mod Part
 pub mod Passing
+pub mod Matching
 pub mod Moves
 pub mod Watching
 pub mod Refusals

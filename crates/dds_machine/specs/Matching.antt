@@ -1,0 +1,161 @@
+-- A peer is told that a writer and a reader are matched from now on, or no longer: what its part then is. Each side is
+-- told for itself, at any moment, whatever the other side knows.
+--
+-- RTPS 2.5, 8.4.7.4 (StatefulWriter, matched_reader_add, matched_reader_remove), 8.4.10.3 (StatefulReader,
+-- matched_writer_add, matched_writer_remove); DDS 1.4, 2.2.3 (DURABILITY: VOLATILE), 2.2.4.1
+-- (PUBLICATION_MATCHED, SUBSCRIPTION_MATCHED), 2.2.1.1 (return codes).
+use Rattle.std.specs.Prelude.{◌≡◌, ℕ, ◌+◌, ◌-◌, ◌^◌, ◌<◌, Bool, true, false, not, if◌then◌else◌, List, [], ◌∷◌, ◌++◌, length, filter, count_by, Option, Some, None, is_some}
+use Rattle.std.specs.List.{list_any}
+use Rattle.dds_base.specs.declared.code.Code.{Code}
+use Rattle.dds_base.specs.declared.code.Code.TheVariants.{BadParameter, Memory, PreconditionNotMet}
+use Rattle.dds_base.specs.declared.happening.Happening.{Happening}
+use Rattle.dds_base.specs.Liveliness.{after_parting}
+use Rattle.dds_base.specs.Refusal.{Refuses}
+use Rattle.dds_machine.specs.declared.endpoint.Endpoint.{Endpoint}
+use Rattle.dds_machine.specs.Numbered.{has_element, numbered, with_numbered}
+use Rattle.dds_machine.specs.Part.{Attachment, Away, Waiting, Matches, ReaderProxy, WriterProxy, Writer, Reader, Rtps, Dds, Part, no_writer, own_writer, own_proxies, own_reader, writer_changes, same_endpoint, row_of, with_row, how_of, is_attached, publication_among}
+
+-- ---- at a writer
+
+-- the writer is matched with the reader
+abbrev pub is_matched : Writer → Endpoint → Bool
+is_matched w reader = list_any (λ e. same_endpoint e reader) w.matched
+
+-- one match more, with this end
+abbrev pub match_made : Matches → Endpoint → Matches
+match_made matches end = record matches { made = matches.made + 1; last = Some end }
+
+-- one match less, with this end
+abbrev pub match_ended : Matches → Endpoint → Matches
+match_ended matches end = record matches { last = Some end }
+
+-- what a writer has of a reliable reader that it is told of: what it has made is not owed, and counts as acknowledged
+abbrev pub new_row : Writer → Endpoint → ReaderProxy
+new_row w reader = record {
+  reader = reader;
+  first = length (writer_changes w) + 1;
+  acknowledged = length (writer_changes w) + 1;
+}
+
+-- the writer, once it is told of a reader, which is reliable or not: the reader comes last
+abbrev pub joined : Writer → Endpoint → Bool → Writer
+joined w reader reliable = record w {
+  matched = w.matched ++ reader ∷ [];
+  readers = if reliable then w.readers ++ new_row w reader ∷ [] else w.readers;
+  matches = match_made w.matches reader;
+}
+
+-- the writer, once it is told that a reader has left: it has nothing more of that one
+abbrev pub left : Writer → Endpoint → Writer
+left w reader = record w {
+  matched = filter (λ e. not (same_endpoint e reader)) w.matched;
+  readers = filter (λ (p : ReaderProxy). not (same_endpoint p.reader reader)) w.readers;
+  matches = match_ended w.matches reader;
+}
+
+-- ---- at a reader
+
+-- these rows, once the reader stands so to this writer, which it knows
+abbrev pub with_how : List WriterProxy → Endpoint → Attachment → List WriterProxy
+with_how rows writer how =
+    with_row (λ (p : WriterProxy). p.writer) (λ (p : WriterProxy). record p { how = how }) rows writer
+
+-- the reader knows the writer: it is or was matched with it
+abbrev pub is_known : List WriterProxy → Endpoint → Bool
+is_known rows writer = is_some (row_of (λ (p : WriterProxy). p.writer) rows writer)
+
+-- these rows, once the reader is told of a writer: one that it knows keeps its place there, a new one comes last
+abbrev pub with_match : List WriterProxy → Endpoint → List WriterProxy
+with_match rows writer =
+    if is_known rows writer then with_how rows writer Waiting
+    else rows ++ record { writer = writer; place = 1; heard = None; how = Waiting } ∷ []
+
+-- how many writers the reader is matched with
+abbrev pub attached_count : List WriterProxy → ℕ
+attached_count rows = count_by (λ (p : WriterProxy). is_attached p.how) rows
+
+-- what has happened at a reader once the writer of this publication handle, if it has one, left at this moment
+abbrev pub happened_after : Option ℕ → ℕ → List Happening → List Happening
+happened_after None now h = h
+happened_after (Some writer) now h = after_parting writer now h
+
+-- the reader, once it is told of a writer
+abbrev pub reader_joined : Reader → Endpoint → Reader
+reader_joined r writer = record r { matches = match_made r.matches writer }
+
+-- the reader, at which this has happened once it is told that a writer has left
+abbrev pub reader_left : Reader → Endpoint → List Happening → Reader
+reader_left r writer happened = record r { happened = happened; matches = match_ended r.matches writer }
+
+-- ---- tellings
+
+-- what a peer is told: its writer of a reader, which is reliable or not, or that a reader has left; its reader of a
+-- writer, or that a writer has left
+pub data Telling : Type 0 where
+  MatchReader : (writer : ℕ) (reader : Endpoint) (reliable : Bool) → Telling
+  UnmatchReader : (writer : ℕ) (reader : Endpoint) → Telling
+  MatchWriter : (reader : ℕ) (writer : Endpoint) → Telling
+  UnmatchWriter : (reader : ℕ) (writer : Endpoint) → Telling
+
+-- there is no such end here; or the two are matched already, or are not, as the telling has it
+abbrev pub matching_refusal : Bool → Bool → Option Code
+matching_refusal here as_told =
+    if not here then Some BadParameter else (if as_told then Some PreconditionNotMet else None)
+
+-- why a telling is refused: no such writer or reader, or the two are matched there already, or are not
+abbrev pub telling_refusal : Part → Telling → Option Code
+telling_refusal part (MatchReader writer reader reliable) =
+    matching_refusal (has_element part.rtps.writers writer) (is_matched (own_writer part writer) reader)
+telling_refusal part (UnmatchReader writer reader) =
+    matching_refusal (has_element part.rtps.writers writer) (not (is_matched (own_writer part writer) reader))
+telling_refusal part (MatchWriter reader writer) =
+    matching_refusal (has_element part.dds.readers reader) (is_attached (how_of (own_proxies part reader) writer))
+telling_refusal part (UnmatchWriter reader writer) =
+    matching_refusal (has_element part.dds.readers reader) (not (is_attached (how_of (own_proxies part reader) writer)))
+
+-- what a telling does to a peer's writers and to the rows of its readers
+abbrev pub after_telling : Rtps → Telling → Rtps
+after_telling old (MatchReader writer reader reliable) =
+    record old {
+      writers = with_numbered old.writers writer (joined (numbered old.writers writer no_writer) reader reliable);
+    }
+after_telling old (UnmatchReader writer reader) =
+    record old { writers = with_numbered old.writers writer (left (numbered old.writers writer no_writer) reader) }
+after_telling old (MatchWriter reader writer) =
+    record old { readers = with_numbered old.readers reader (with_match (numbered old.readers reader []) writer) }
+after_telling old (UnmatchWriter reader writer) =
+    record old { readers = with_numbered old.readers reader (with_how (numbered old.readers reader []) writer Away) }
+
+-- what has happened at the peer's reader once this writer left
+abbrev pub parted_at : Part → ℕ → Endpoint → List Happening
+parted_at part reader writer =
+    happened_after (publication_among (own_proxies part reader) writer) part.dds.moment (own_reader part reader).happened
+
+-- what it does to what the peer's own calls see
+abbrev pub seen_after_telling : Part → Telling → Dds
+seen_after_telling old (MatchWriter reader writer) =
+    record old.dds {
+      readers = with_numbered old.dds.readers reader (reader_joined (own_reader old reader) writer);
+    }
+seen_after_telling old (UnmatchWriter reader writer) =
+    record old.dds {
+      readers = with_numbered old.dds.readers reader
+          (reader_left (own_reader old reader) writer (parted_at old reader writer));
+    }
+seen_after_telling old other = old.dds
+
+-- A match may want memory. That a reader has left never does, nor that a writer has, but where more would have happened
+-- at the reader than can be counted.
+abbrev pub TellingMayWantMemory : Part → Telling → Type 0
+TellingMayWantMemory part (UnmatchReader writer reader) = ⊥
+TellingMayWantMemory part (UnmatchWriter reader writer) = 2 ^ 64 - 1 < length (parted_at part reader writer)
+TellingMayWantMemory part other = Unit {0}
+
+-- One telling at a peer: it is done; or the first cause refuses it, or want of memory where there is none, and nothing
+-- changes.
+abbrev pub TellStep : Part → Telling → Option Code → Part → Type 0
+TellStep old telling None new =
+    (telling_refusal old telling ≡ None)
+    × (new ≡ record { rtps = after_telling old.rtps telling; dds = seen_after_telling old telling })
+TellStep old telling (Some code) new =
+    Refuses (telling_refusal old telling) code × (code ≡ Memory → TellingMayWantMemory old telling) × (new ≡ old)
