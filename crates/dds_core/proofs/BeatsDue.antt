@@ -269,9 +269,18 @@ part_of config peer kept s = record {
       s.writers.count ∙ (sym (length-map kept.writers writer_identity)
       ∙ (ap (λ (xs : List WriterIdentity). length xs) s.is_peer.writers
       ∙ length-map s.is_peer.own.writers (configured_writer config.peers)));
-  matched = λ number w at. s.matched s.is_peer.own number w s.is_peer.at at;
-  readers = own_readers config peer kept s;
 }
+
+-- each writer has rows for the reliable readers of its topic, in the order of the configuration
+pub configured_of : (config : Config) (peer : Peer) (kept : PeerKept) → StandsFor kept config peer → (n : ℕ)
+    → peer.number ≡ n → (number : ℕ) (p : PeerConfig) (w : WriterConfig) → IsNumbered config.peers n p
+    → IsNumbered p.writers number w
+    → map (λ (q : ReaderProxy). q.reader) (own_writer peer.part number).readers ≡ reader_ends w.topic config.peers
+configured_of config peer kept s n same number p w at there =
+    let one : p ≡ s.is_peer.own =
+    same_Some p s.is_peer.own
+    (sym at.1 ∙ (ap (λ (k : ℕ). slice_get config.peers (k - 1)) (sym same) ∙ s.is_peer.at.1)) in
+    own_readers config peer kept s number w (subst (λ (x : PeerConfig). IsNumbered x.writers number w) one there)
 
 -- what a peer sends at a tick is true afterwards
 pub due_true : (config : Config) (peer : Peer) (kept : PeerKept) (now : ℕ) (packets : List Packet) (unsent : ℕ)

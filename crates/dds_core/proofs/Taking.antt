@@ -367,6 +367,7 @@ sound_still config old new number known delivered readers b =
     (subst (λ k. IsBacked config old.number (packets_of old.delivered) old.delivered
     (record { part = new.part; known = k })) (sym known) (record {
       place = λ w r p e. b.place w r p (ap (λ xs. place_of (numbered xs r []) w) (sym readers) ∙ e);
+      unknown = λ w r e. b.unknown w r (ap (λ xs. place_of (numbered xs r []) w) (sym readers) ∙ e);
       claimed = b.claimed;
       newest = λ w r has. b.newest w r (subst (λ xs. HasNumber xs r) readers has);
       heard = λ w r count e. b.heard w r count (ap (λ xs. heard_of (numbered xs r []) w) (sym readers) ∙ e);

@@ -309,6 +309,15 @@ place-append rows new v =
     (λ s. subst (λ (o : Option WriterProxy). NoLess (place o) (place_of (rows ++ new ∷ []) v)) (sym s.0) tt)
     (row-append (λ (p : WriterProxy). p.writer) rows new v)
 
+-- and leaves each that is there
+pub place-stays : (rows : List WriterProxy) (new : WriterProxy) (v : Endpoint) (p : ℕ) → place_of rows v ≡ Some p
+    → place_of (rows ++ new ∷ []) v ≡ Some p
+place-stays rows new v p h =
+    let place : Option WriterProxy → Option ℕ = λ o. option_map (λ (q : WriterProxy). q.place) o in
+    ⊎_elim (λ e. ap place e ∙ h)
+    (λ s. let none = ap place s.0 in absurd (let no : ◌≡◌ {A = Option ℕ} None (Some p) = sym none ∙ h in cc))
+    (row-append (λ (q : WriterProxy). q.writer) rows new v)
+
 pub acknowledged-cases : (rows : List ReaderProxy) (r : Endpoint) (from to : ℕ) (v : Endpoint)
     → acknowledged_of rows r ≡ Some from
     → (acknowledged_of (with_acknowledged rows r to) v ≡ acknowledged_of rows v)

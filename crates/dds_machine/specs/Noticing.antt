@@ -120,10 +120,14 @@ peer_of (event.Call peer call) = peer
 peer_of (event.Tick peer now) = peer
 peer_of (event.Deliver peer packet) = peer
 
+-- the machine at the end of what came to the peer of this number, as the machine was before
+abbrev pub peer_ended : Machine → ℕ → Machine → Machine
+peer_ended before peer m =
+    record { parts = with_numbered m.parts peer (at_end (part_at before peer) (part_at m peer)) }
+
 -- the machine at the end of an event, which came to it as it was before
 abbrev pub machine_ended : Machine → WorldEvent → Machine → Machine
-machine_ended before e m =
-    record { parts = with_numbered m.parts (peer_of e) (at_end (part_at before (peer_of e)) (part_at m (peer_of e))) }
+machine_ended before e m = peer_ended before (peer_of e) m
 
 -- ---- listeners that are set
 

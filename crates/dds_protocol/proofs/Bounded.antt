@@ -100,13 +100,13 @@ speaks_to m i w r = record {
 }
 
 -- the places of this part's readers are not past the ends of the machine's lists
-abbrev RowsWithin : Machine → List WriterProxy → Type 0
+abbrev pub RowsWithin : Machine → List WriterProxy → Type 0
 RowsWithin m rows = (w : Endpoint) (p : ℕ) → place_of rows w ≡ Some p → p ≤ length (writer_changes (writer_at m w)) + 1
 
-abbrev Within : Machine → Part → Type 0
+abbrev pub Within : Machine → Part → Type 0
 Within m part = (r : ℕ) → RowsWithin m (own_proxies part r)
 
-set_within : (m : Machine) (part : Part) (r : ℕ) (rows : List WriterProxy) → Within m part → RowsWithin m rows → (k : ℕ)
+pub set_within : (m : Machine) (part : Part) (r : ℕ) (rows : List WriterProxy) → Within m part → RowsWithin m rows → (k : ℕ)
     → RowsWithin m (numbered (with_numbered part.rtps.readers r rows) k [])
 set_within m part r rows old new k =
     ⊎_elim (λ e. subst (λ (xs : List WriterProxy). RowsWithin m xs) (sym e) (old k))
@@ -182,7 +182,7 @@ rows_within m old new e low r =
     subst (λ (rows : List (List WriterProxy)). RowsWithin m (numbered rows r [])) (sym e) (low r)
 
 -- the machine with another part of one peer
-part_within : (m : Machine) (peer : ℕ) (after : Part) → MachineGrows m (with_part m peer after) → IsBounded m
+pub part_within : (m : Machine) (peer : ℕ) (after : Part) → MachineGrows m (with_part m peer after) → IsBounded m
     → Within m after → IsBounded (with_part m peer after)
 part_within m peer after g old new r w p h =
     let longer = writer-changes (writer_at m w) (writer_at (with_part m peer after) w) (g.writers w) in
@@ -194,7 +194,7 @@ part_within m peer after g old new r w p h =
     (numbered-cases m.parts peer after r.peer no_part) in
     omega (arith, more, sum, within)
 
-part_bounded : (m : Machine) (i : ℕ) → IsBounded m → Within m (part_at m i)
+pub part_bounded : (m : Machine) (i : ℕ) → IsBounded m → Within m (part_at m i)
 part_bounded m i b r w p h = b (record { peer = i; number = r }) w p h
 
 pub steps_bounded : (tests : AllTests) (sent : ℕ) (m : Machine) (ev : WorldEvent) (reply : Reply) (new : Machine)

@@ -264,7 +264,7 @@ receives-sound config m i gs t bytes old report new low (inr h) =
     (inr h, subst (λ (ms : List Move). AreMoves (grounds_of m i) old ms new) (sym h.moves) h.after)
 
 -- no reader has acknowledged more than it has or is not owed
-abbrev AckedBelow : Machine → ℕ → Part → Type 0
+abbrev pub AckedBelow : Machine → ℕ → Part → Type 0
 AckedBelow m i part = (w : ℕ) (r : Endpoint) → Covered (own_writer part w) r (place_at m r (at i w))
 
 acked_move : (m : Machine) (i : ℕ) (old : Part) (mv : Move) (new : Part) → IsMove (grounds_of m i) old mv new
@@ -378,7 +378,7 @@ EventHolds config m (event.Call call) = Unit {0}
 EventHolds config m (event.Tick now) = Unit {0}
 EventHolds config m (event.Deliver packet) = (c : Claim) → Claims config packet c → Holds m c
 
-abbrev DeliveredHold : Config → Machine → List Delivery → Type 0
+abbrev pub DeliveredHold : Config → Machine → List Delivery → Type 0
 DeliveredHold config m deliveries =
     (delivery : Delivery) (claim : Claim) → Contains deliveries delivery → Claims config delivery.packet claim
     → Holds m claim
@@ -495,6 +495,70 @@ peer_number ws i h =
     let count = length-map ws.peers (λ (p : Peer). p.part) in let low = h.0 in let high = h.1 in
     (omega (arith, low), omega (arith, high, count))
 
+-- the world in which one peer has another part, and has sent packets that are true of it, is sound where that part has
+-- grown, its writers have acknowledged no more than they may, and its readers keep their policies
+pub sound_after : (config : Config) (ws : WorldState) (i : ℕ) (after : Peer) (posted : List Packet)
+    → Sound config ws → HasNumber ws.peers i → after.number ≡ i
+    → Grows (part_at (machine_of ws) i).rtps after.part.rtps → AckedBelow (machine_of ws) i after.part
+    → ((r : ℕ) → (own_reader after.part r).qos ≡ (own_reader (part_at (machine_of ws) i) r).qos)
+    → DeliveredHold config (machine_of ws) after.delivered
+    → ((p : Packet) (c : Claim) → Contains posted p → Claims config p.bytes c → IsTrueAt i after.part c)
+    → Sound config (world_after ws i after posted)
+sound_after config ws i after posted sound within own_number part_grows mine qos delivered true_there =
+    let m : Machine = machine_of ws in
+    let m' : Machine = with_part m i after.part in
+    let new : WorldState = world_after ws i after posted in
+    let is_m' : machine_of new ≡ m' = machine_after ws i after posted in
+    let grows : MachineGrows m m' = with_part-grows m i after.part part_grows in
+    let still : (c : Claim) → Holds m c → Holds m' c = Holds-grows m m' grows in
+    let to_new : (c : Claim) → Holds m' c → Holds (machine_of new) c =
+    λ c h. subst (λ (x : Machine). Holds x c) (sym is_m') h in
+    let here : part_at m' i ≡ after.part = numbered-same m.parts i after.part no_part (part_number ws i within) in
+    let mine' : AckedBelow m' i after.part =
+    λ w r. covered_on (acknowledged_of (own_writer after.part w).readers r) (owed_from (own_writer after.part w) r)
+    (owed_from (own_writer after.part w) r) (place_at m r (at i w)) (place_at m' r (at i w)) (omega arith)
+    (grows.places r (at i w)) (mine w r) in
+    let same_length : length new.peers ≡ length ws.peers = length-with_numbered ws.peers i after in
+    record {
+      number = λ p lt.
+          let low = lt.0 in
+          let high = lt.1 in
+          ⊎_elim (λ e. ap (λ (q : Peer). q.number) e
+          ∙ sound.number p (omega (arith, low), omega (arith, high, same_length)))
+          (λ o. ap (λ (q : Peer). q.number) o.1 ∙ (own_number ∙ sym o.0)) (numbered-cases ws.peers i after p no_peer);
+      sent = λ p c d h.
+          ⊎_elim (λ o. to_new c (still c (sound.sent p c o h)))
+          (λ n. to_new c (true_holds m' i after.part here mine' c (true_there p c n h)))
+          (Contains-append_cases ws.sent posted p d);
+      delivered = λ j d c o h.
+          ⊎_elim (λ e. to_new c
+          (still c (sound.delivered j d c (subst (λ (q : Peer). Contains q.delivered d) e o) h)))
+          (λ e. to_new c (still c (delivered d c (subst (λ (q : Peer). Contains q.delivered d) e.1 o) h)))
+          (numbered-cases ws.peers i after j no_peer);
+      acknowledged = λ w r.
+          subst (λ (x : Machine). Covered (writer_at x w) r (place_at x r w)) (sym is_m')
+          (⊎_elim
+          (λ e.
+          subst (λ (q : Part). Covered (own_writer q w.number) r (place_at m' r w)) (sym e)
+          (covered_on (acknowledged_of (writer_at m w).readers r) (owed_from (writer_at m w) r)
+          (owed_from (writer_at m w) r) (place_at m r w) (place_at m' r w) (omega arith) (grows.places r w)
+          (sound.acknowledged w r)))
+          (λ o.
+          subst (λ (q : Part). Covered (own_writer q w.number) r (place_at m' r w)) (sym o.1)
+          (subst (λ (j : ℕ). Covered (own_writer after.part w.number) r (place_at m' r (at j w.number))) (sym o.0)
+          (mine' w.number r)))
+          (numbered-cases m.parts i after.part w.peer no_part));
+      policies = subst (λ (x : Machine). KeepsPolicies config x) (sym is_m')
+          (λ j k p r here there.
+          ⊎_elim (λ e. ap (λ (q : Part). (own_reader q k).qos.reliability) e ∙ sound.policies j k p r here there)
+          (λ o.
+          ap (λ (q : Part). (own_reader q k).qos.reliability) o.1
+          ∙ (ap (λ (q : ReaderQos). q.reliability) (qos k)
+          ∙ (ap (λ (n : ℕ). (own_reader (part_at m n) k).qos.reliability) (sym o.0)
+          ∙ sound.policies j k p r here there)))
+          (numbered-cases m.parts i after.part j no_part));
+    }
+
 pub happens : (config : Config) (tests : Tests) (ws : WorldState) (i : ℕ) (ev : Event) (output : Output) (after : Peer)
     (posted : List Packet)
     → Sound config ws → HasNumber ws.peers i → PeerStep config tests (peer_at ws i) ev output after
@@ -503,69 +567,19 @@ pub happens : (config : Config) (tests : Tests) (ws : WorldState) (i : ℕ) (ev 
     × EventProgresses config (machine_of ws) i ev output.reply × Sound config (world_after ws i after posted)
 happens config tests ws i ev output after posted sound within step is_sent of_packets =
     let m : Machine = machine_of ws in
-    let m' : Machine = with_part m i after.part in
-    let new : WorldState = world_after ws i after posted in
-    let is_m' : machine_of new ≡ m' = machine_after ws i after posted in
     let is_number : (peer_at ws i).number ≡ i = sound.number i within in
     let s : EventSteps config tests m i ev output.reply after =
     part_step config tests m i ev (peer_at ws i) output.reply after is_number (parts_at ws i) sound.policies is_sent
     (λ d c o h. sound.delivered i d c o h) step.step in
-    let grows : MachineGrows m m' =
-    with_part-grows m i after.part (PartStep-grows tests m i ev output.reply after.part s.0) in
-    let still : (c : Claim) → Holds m c → Holds m' c = Holds-grows m m' grows in
-    let to_new : (c : Claim) → Holds m' c → Holds (machine_of new) c =
-    λ c h. subst (λ (x : Machine). Holds x c) (sym is_m') h in
-    let here : part_at m' i ≡ after.part = numbered-same m.parts i after.part no_part (part_number ws i within) in
-    let mine : AckedBelow m i after.part =
-    PartStep-acked tests m i ev output.reply after.part s.0 (λ w r. sound.acknowledged (at i w) r) in
-    let mine' : AckedBelow m' i after.part =
-    λ w r. covered_on (acknowledged_of (own_writer after.part w).readers r) (owed_from (own_writer after.part w) r)
-    (owed_from (own_writer after.part w) r) (place_at m r (at i w)) (place_at m' r (at i w)) (omega arith)
-    (grows.places r (at i w)) (mine w r) in
-    let same_length : length new.peers ≡ length ws.peers = length-with_numbered ws.peers i after in
     let own_number : after.number ≡ i = step.same_number ∙ is_number in (
       s.0,
       s.1,
-      record {
-        number = λ p lt.
-            let low = lt.0 in
-            let high = lt.1 in
-            ⊎_elim (λ e. ap (λ (q : Peer). q.number) e
-            ∙ sound.number p (omega (arith, low), omega (arith, high, same_length)))
-            (λ o. ap (λ (q : Peer). q.number) o.1 ∙ (own_number ∙ sym o.0)) (numbered-cases ws.peers i after p no_peer);
-        sent = λ p c d h.
-            ⊎_elim (λ o. to_new c (still c (sound.sent p c o h)))
-            (λ n. to_new c (true_holds m' i after.part here mine' c
-            (subst (λ (j : ℕ). IsTrueAt j after.part c) own_number (step.sent p c (of_packets p n) h))))
-            (Contains-append_cases ws.sent posted p d);
-        delivered = λ j d c o h.
-            ⊎_elim (λ e. to_new c
-            (still c (sound.delivered j d c (subst (λ (q : Peer). Contains q.delivered d) e o) h)))
-            (λ e. to_new c (still c (s.2 d c (subst (λ (q : Peer). Contains q.delivered d) e.1 o) h)))
-            (numbered-cases ws.peers i after j no_peer);
-        acknowledged = λ w r.
-            subst (λ (x : Machine). Covered (writer_at x w) r (place_at x r w)) (sym is_m')
-            (⊎_elim
-            (λ e.
-            subst (λ (q : Part). Covered (own_writer q w.number) r (place_at m' r w)) (sym e)
-            (covered_on (acknowledged_of (writer_at m w).readers r) (owed_from (writer_at m w) r)
-            (owed_from (writer_at m w) r) (place_at m r w) (place_at m' r w) (omega arith) (grows.places r w)
-            (sound.acknowledged w r)))
-            (λ o.
-            subst (λ (q : Part). Covered (own_writer q w.number) r (place_at m' r w)) (sym o.1)
-            (subst (λ (j : ℕ). Covered (own_writer after.part w.number) r (place_at m' r (at j w.number))) (sym o.0)
-            (mine' w.number r)))
-            (numbered-cases m.parts i after.part w.peer no_part));
-        policies = subst (λ (x : Machine). KeepsPolicies config x) (sym is_m')
-            (λ j k p r here there.
-            ⊎_elim (λ e. ap (λ (q : Part). (own_reader q k).qos.reliability) e ∙ sound.policies j k p r here there)
-            (λ o.
-            ap (λ (q : Part). (own_reader q k).qos.reliability) o.1
-            ∙ (ap (λ (q : ReaderQos). q.reliability) (PartStep-qos tests m i ev output.reply after.part s.0 k)
-            ∙ (ap (λ (n : ℕ). (own_reader (part_at m n) k).qos.reliability) (sym o.0)
-            ∙ sound.policies j k p r here there)))
-            (numbered-cases m.parts i after.part j no_part));
-      },
+      sound_after config ws i after posted sound within own_number
+          (PartStep-grows tests m i ev output.reply after.part s.0)
+          (PartStep-acked tests m i ev output.reply after.part s.0 (λ w r. sound.acknowledged (at i w) r))
+          (PartStep-qos tests m i ev output.reply after.part s.0) s.2
+          (λ p c among h. subst (λ (j : ℕ). IsTrueAt j after.part c) own_number
+          (step.sent p c (of_packets p among) h)),
     )
 
 abbrev pub Composed : Config → AllTests → WorldState → WorldEvent → Reply → WorldState → Type 0

@@ -106,8 +106,6 @@ part_opened config (suc i) has =
       here = o.here;
       at = (omega arith, subst (λ (n : ℕ). slice_get config.peers n ≡ Some o.here) index o.at);
       writers = length-map o.here.writers (opening_writer config.peers);
-      matched = λ number w at. matched_opened config.peers o.here number w at;
-      readers = λ number w at. rows_opened config.peers o.here number w at;
     })
 
 -- at the opening no count was sent or taken

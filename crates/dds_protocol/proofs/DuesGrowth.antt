@@ -1,5 +1,5 @@
 -- What is true of a peer's lists and places stays true while a packet is taken up.
-use Rattle.std.proofs.Common.{◌≡◌, ◌⊎◌, ℕ, ◌<◌, List, [], ◌∷◌, Option, Some, Bool, true, false, cond, map, length, refl, subst, ap, sym, ◌∙◌, inl, inr, ⊎_elim, arith}
+use Rattle.std.proofs.Common.{◌≡◌, ◌⊎◌, ℕ, ◌<◌, List, [], ◌∷◌, Option, Some, length, refl, subst, ap, sym, ◌∙◌, inl, inr, ⊎_elim, arith}
 use Rattle.std.proofs.lemmas.List.Elements.{All-weaker}
 use Rattle.dds_base.specs.declared.change.Change.{Change}
 use Rattle.dds_base.specs.declared.config.Config.{Config}
@@ -9,7 +9,7 @@ use Rattle.dds_machine.specs.declared.endpoint.Endpoint.{Endpoint}
 use Rattle.dds_machine.specs.declared.reply.Move.{Move}
 use Rattle.dds_machine.specs.declared.reply.Move.TheVariants.{Place, Acknowledged, Heard, Begun as HasBegun}
 use Rattle.dds_machine.specs.Numbered.{numbered, with_numbered}
-use Rattle.dds_machine.specs.Part.{Part, ReaderProxy, Writer, no_writer, same_endpoint, own_writer, own_proxies, acknowledged_of, with_acknowledged, place_of, writer_changes, at_writer, NoLess}
+use Rattle.dds_machine.specs.Part.{Part, ReaderProxy, Writer, no_writer, own_writer, own_proxies, acknowledged_of, with_acknowledged, place_of, writer_changes, at_writer, NoLess}
 use Rattle.dds_machine.specs.Moves.{Grounds, IsMove, AreMoves}
 use Rattle.dds_protocol.specs.Claims.{Claim, ChangeIs, MayPass, PlaceReached, Asserts}
 use Rattle.dds_protocol.specs.Peer.{IsTrueAt}
@@ -17,10 +17,6 @@ use Rattle.dds_protocol.specs.DueMessages.{Due}
 use Rattle.dds_protocol.specs.Dues.{AreTellable, IsPartOf, IsTruthful, AreTruthful, AreSmall, HasSmallChanges}
 use Rattle.dds_protocol.proofs.Growth.{Grows, grows_same, grows_on, IsMove-grows, writer-changes, change_at-append, dropped-grows, assertion-grows}
 use Rattle.dds_machine.proofs.Tables.{numbered-cases, length-with_numbered, acknowledged-cases, no_less_same, no_less_on, at_most_on, below_on}
-
--- whom these rows name
-abbrev pub names_of : List ReaderProxy → List Endpoint
-names_of rows = map (λ (p : ReaderProxy). p.reader) rows
 
 -- no acknowledgement goes back
 abbrev pub KeepsAcknowledged : Part → Part → Type 0
@@ -58,20 +54,10 @@ truthful_on config peer old new g a dues h =
     All-weaker (IsTruthful config peer old) (IsTruthful config peer new)
     (λ due t claim writable says. true_on peer old new g a claim (t claim writable says)) dues h
 
--- the writers know of the same reliable readers
-pub record SameNames (old new : Part) : Type 0 where
-  pub count : length new.rtps.writers ≡ length old.rtps.writers
-  pub names : (w : ℕ) → names_of (own_writer new w).readers ≡ names_of (own_writer old w).readers
-
-pub is_part_kept : (config : Config) (peer : ℕ) (old new : Part) → Grows old.rtps new.rtps → SameNames old new
+-- as many writers are there
+pub is_part_kept : (config : Config) (peer : ℕ) (old new : Part) → length new.rtps.writers ≡ length old.rtps.writers
     → IsPartOf config peer old → IsPartOf config peer new
-is_part_kept config peer old new g s h = record {
-  here = h.here;
-  at = h.at;
-  writers = s.count ∙ h.writers;
-  matched = λ number w at. (g.writers number).matched ∙ h.matched number w at;
-  readers = λ number w at. s.names number ∙ h.readers number w at;
-}
+is_part_kept config peer old new count h = record { here = h.here; at = h.at; writers = count ∙ h.writers }
 
 -- ---- what a packet does: places and acknowledgements go on, and nothing is written
 
@@ -79,14 +65,14 @@ pub record Gains (old new : Part) : Type 0 where
   pub grows : Grows old.rtps new.rtps
   pub acknowledged : KeepsAcknowledged old new
   pub written : (w : ℕ) → (own_writer new w).written ≡ (own_writer old w).written
-  pub same : SameNames old new
+  pub count : length new.rtps.writers ≡ length old.rtps.writers
 
 pub gains_same : (p : Part) → Gains p p
 gains_same p = record {
   grows = grows_same p.rtps;
   acknowledged = λ w r. no_less_same (acknowledged_of (own_writer p w).readers r);
   written = λ w. refl;
-  same = record { count = refl; names = λ w. refl };
+  count = refl;
 }
 
 pub gains_on : (a b c : Part) → Gains a b → Gains b c → Gains a c
@@ -96,7 +82,7 @@ gains_on a b c f g = record {
       no_less_on (acknowledged_of (own_writer a w).readers r) (acknowledged_of (own_writer b w).readers r)
       (acknowledged_of (own_writer c w).readers r) (f.acknowledged w r) (g.acknowledged w r);
   written = λ w. g.written w ∙ f.written w;
-  same = record { count = g.same.count ∙ f.same.count; names = λ w. g.same.names w ∙ f.same.names w };
+  count = g.count ∙ f.count;
 }
 
 -- a step at a reader leaves the writers as they were
@@ -109,10 +95,7 @@ gains_there old new g same =
       acknowledged = λ w r. subst (λ (x : Writer). NoLess (acknowledged_of (own_writer old w).readers r)
           (acknowledged_of x.readers r)) (sym (at w)) (no_less_same (acknowledged_of (own_writer old w).readers r));
       written = λ w. ap (λ (x : Writer). x.written) (at w);
-      same = record {
-        count = ap (λ (ws : List Writer). length ws) same;
-        names = λ w. ap (λ (x : Writer). names_of x.readers) (at w);
-      };
+      count = ap (λ (ws : List Writer). length ws) same;
     }
 
 -- a row of which more is acknowledged
@@ -126,19 +109,6 @@ acknowledged_more rows r from to is less v =
     (subst (λ (o : Option ℕ). NoLess o (Some to)) (sym (ap (λ (x : Endpoint). acknowledged_of rows x) s.0 ∙ is))
     (omega (arith, less)))) (acknowledged-cases rows r from to v is)
 
-row_names : (p q : ReaderProxy) (ps qs : List ReaderProxy) (b : Bool) → q.reader ≡ p.reader
-    → names_of qs ≡ names_of ps → names_of (cond b (q ∷ ps) (p ∷ qs)) ≡ names_of (p ∷ ps)
-row_names p q ps qs true same later = ap (λ (e : Endpoint). e ∷ names_of ps) same
-row_names p q ps qs false same later = ap (λ (es : List Endpoint). p.reader ∷ es) later
-
--- it names whom it named
-acknowledged_names : (rows : List ReaderProxy) (r : Endpoint) (to : ℕ)
-    → names_of (with_acknowledged rows r to) ≡ names_of rows
-acknowledged_names [] r to = refl
-acknowledged_names (p ∷ ps) r to =
-    row_names p (record p { acknowledged = to }) ps (with_acknowledged ps r to) (same_endpoint p.reader r) refl
-    (acknowledged_names ps r to)
-
 gains_here : (old : Part) (w : ℕ) (r : Endpoint) (from to : ℕ) (new : Part)
     → acknowledged_of (own_writer old w).readers r ≡ Some from → from < to → Grows old.rtps new.rtps
     → new ≡ at_writer old w (record (own_writer old w) { readers = with_acknowledged (own_writer old w).readers r to })
@@ -148,10 +118,7 @@ gains_here old w r from to new is less g after = record {
   acknowledged = λ k v. subst (λ (p : Part). NoLess (acknowledged_of (own_writer old k).readers v)
       (acknowledged_of (own_writer p k).readers v)) (sym after) (row k v (cases k));
   written = λ k. ap (λ (p : Part). (own_writer p k).written) after ∙ list k (cases k);
-  same = record {
-    count = ap (λ (p : Part). length p.rtps.writers) after ∙ length-with_numbered old.rtps.writers w made;
-    names = λ k. ap (λ (p : Part). names_of (own_writer p k).readers) after ∙ ends k (cases k);
-  };
+  count = ap (λ (p : Part). length p.rtps.writers) after ∙ length-with_numbered old.rtps.writers w made;
 }
   where
     before : Writer
@@ -181,13 +148,6 @@ gains_here old w r from to new is less g after = record {
         → (put k).written ≡ (own_writer old k).written
     list k (inl e) = ap (λ (x : Writer). x.written) e
     list k (inr s) = ap (λ (x : Writer). x.written) s.1 ∙ ap (λ (j : ℕ). (own_writer old j).written) (sym s.0)
-
-    ends : (k : ℕ) → (put k ≡ own_writer old k) ⊎ ((k ≡ w) × (put k ≡ made))
-        → names_of (put k).readers ≡ names_of (own_writer old k).readers
-    ends k (inl e) = ap (λ (x : Writer). names_of x.readers) e
-    ends k (inr s) =
-        ap (λ (x : Writer). names_of x.readers) s.1
-        ∙ (acknowledged_names before.readers r to ∙ ap (λ (j : ℕ). names_of (own_writer old j).readers) (sym s.0))
 
 pub IsMove-gains : (g : Grounds) (old : Part) (m : Move) (new : Part) → IsMove g old m new → Gains old new
 IsMove-gains g old (Place w r to passed) new h =

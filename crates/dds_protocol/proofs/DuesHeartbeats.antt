@@ -1,5 +1,5 @@
 -- A HEARTBEAT that is due at a tick claims only what its writer has dropped, or the reader has acknowledged.
-use Rattle.std.proofs.Common.{◌≡◌, ℕ, zero, suc, ◌+◌, ◌-◌, ◌^◌, ◌<◌, Bool, true, false, List, [], ◌∷◌, length, get_or, map, filter, cond, ◌||◌, nat_le, refl, subst, ap, sym, ◌∙◌, arith, nat_lt}
+use Rattle.std.proofs.Common.{◌≡◌, ℕ, zero, suc, ◌+◌, ◌-◌, ◌^◌, ◌<◌, Bool, true, false, List, [], ◌∷◌, length, get_or, map, filter, cond, ◌||◌, nat_le, refl, subst, ap, sym, arith, nat_lt}
 use Rattle.std.specs.Prelude.{if◌then◌else◌, pos, Some, None, slice_get}
 use Rattle.std.proofs.lemmas.Bool.Decides.{nat_tests}
 use Rattle.std.specs.List.{All, list_any}
@@ -21,7 +21,7 @@ use Rattle.dds_protocol.specs.Peer.{IsTrueAt}
 use Rattle.dds_protocol.specs.DueMessages.{Due, writer_entity, readers_behind, heartbeat_message, heartbeats_of, heartbeats_from, heartbeats_due}
 use Rattle.dds_protocol.specs.Dues.{IsPartOf, IsTruthful, AreTruthful, IsSized, HasSmallChanges, CanBeWritten}
 use Rattle.dds_protocol.proofs.Dues.{addressed, told_alone}
-use Rattle.dds_protocol.proofs.DuesMatched.{OwnName, own_name, same_end}
+use Rattle.dds_protocol.proofs.DuesMatched.{OwnName, own_name}
 use Rattle.dds_protocol.proofs.DuesUnkept.{Passes, below_first_passes}
 use Rattle.dds_protocol.proofs.DuesWritable.{heartbeat_writable}
 use Rattle.dds_protocol.proofs.DuesWritten.{writer_octets}
@@ -61,13 +61,10 @@ first_says b final liveliness far to v r n h =
     let own : GuidPrefix = prefix_of b.config b.peer in
     let entity : EntityId = writer_entity b.config b.peer b.number in
     let to_it = h.0.is_to in
-    let same : v ≡ me = one_writer b.config own entity v me b.checked to_it.from b.own.name in
-    let end = same_end b.config own own entity entity v me to_it.from b.own.name same in
-    let row =
-    b.own.rows far to_it.entity r to_it.to (sym to_it.matched ∙ ap (λ x. x.topic) end) h.0.reliable in (
+    let same : v ≡ me = one_writer b.config own entity v me b.checked to_it.from b.own.name in (
       ap (λ (e : Endpoint). e.peer) same,
       subst (λ (e : Endpoint). Passes (own_writer b.part e.number) r n) (sym same)
-          (below_first_passes (own_writer b.part b.number) r row.0 n row.1 h.1 h.2),
+          (below_first_passes (own_writer b.part b.number) r n h.1 h.2),
     )
 
 -- that of a tick claims nothing besides

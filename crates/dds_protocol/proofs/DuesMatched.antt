@@ -13,14 +13,13 @@ use Rattle.dds_base.specs.Matched.{same_topic, is_reliable_reader, of_reliable_r
 use Rattle.dds_base.specs.MatchedAt.{of_readers_in}
 use Rattle.dds_machine.specs.declared.endpoint.Endpoint.{Endpoint}
 use Rattle.dds_machine.specs.Numbered.{HasNumber}
-use Rattle.dds_machine.specs.Part.{Part, ReaderProxy, same_endpoint, row_of, own_writer, acknowledged_of}
-use Rattle.dds_protocol.specs.Claims.{IsNumbered, IsWriter, IsReader, every_reader}
+use Rattle.dds_machine.specs.Part.{Part, ReaderProxy, same_endpoint, row_of, acknowledged_of}
+use Rattle.dds_protocol.specs.Claims.{IsNumbered, IsWriter, every_reader}
 use Rattle.dds_protocol.specs.Receipt.{prefix_of}
 use Rattle.dds_protocol.specs.DueMessages.{writer_entity}
 use Rattle.dds_protocol.specs.Dues.{IsPartOf}
 use Rattle.dds_protocol.proofs.Composed.{front_or_rest, later_in}
 use Rattle.dds_protocol.proofs.InOrder.{same_self}
-use Rattle.dds_protocol.proofs.OwnGuids.{same_endpoints}
 use Rattle.dds_protocol.proofs.RuledPackets.{numbered_is}
 
 -- ---- rows
@@ -102,28 +101,11 @@ in_peers topic n (x ∷ xs) (suc i) p k r at within of reliable =
     (subst (λ (m : ℕ). Contains (names topic (n + 1) xs) (name_at m (1 + k))) over
     (in_peers topic (n + 1) xs i p k r at within of reliable))
 
--- a reliable reader of the configuration is among those of its topic
-reader_named : (config : Config) (prefix : GuidPrefix) (entity : EntityId) (r : Endpoint)
-    (is : IsReader config prefix entity r) (topic : ℕ) → is.end.topic ≡ topic → is_reliable_reader is.end ≡ true
-    → Contains (names topic 1 config.peers) r
-reader_named config prefix entity r is topic of reliable =
-    let peer = is.at_peer.0 in
-    let number = is.at_reader.0 in
-    let here : name_at (1 + (r.peer - 1)) (1 + (r.number - 1)) ≡ r =
-    same_endpoints (name_at (1 + (r.peer - 1)) (1 + (r.number - 1))) r (omega (arith, peer)) (omega (arith, number)) in
-    subst (λ (e : Endpoint). Contains (names topic 1 config.peers) e) here
-    (in_peers topic 1 config.peers (r.peer - 1) is.peer (r.number - 1) is.end is.at_peer.1 is.at_reader.1 of
-    reliable)
-
 -- ---- a peer's writers
 
 -- a writer of the peer, as the configuration has it
 pub record OwnName (config : Config) (peer : ℕ) (part : Part) (number : ℕ) : Type 0 where
   pub name : IsWriter config (prefix_of config peer) (writer_entity config peer number) (name_at peer number)
-  pub rows : (prefix : GuidPrefix) (entity : EntityId) (r : Endpoint) (is : IsReader config prefix entity r)
-      → is.end.topic ≡ name.end.topic → is_reliable_reader is.end ≡ true
-      → (a : ℕ) × (acknowledged_of (own_writer part number).readers r ≡ Some a)
-  pub lists : map (λ (p : ReaderProxy). p.reader) (own_writer part number).readers ≡ names name.end.topic 1 config.peers
 
 get_some : {X : Type 0} (xs : List X) (i : ℕ) → i < length xs → (x : X) × (slice_get xs i ≡ Some x)
 get_some [] i lt = absurd (omega (arith, lt))
@@ -151,11 +133,6 @@ own_name config peer part of number there =
             (slice_get p.writers (number - 1)) every_reader) o every_reader) of.at.1
             ∙ ap (λ (o : Option WriterConfig). option_map_or (λ (w : WriterConfig). w.entity) o every_reader) found.1);
       };
-      rows = λ prefix entity r is topic reliable.
-          row_found (own_writer part number).readers r
-          (subst (λ (es : List Endpoint). Contains es r) (sym (of.readers number found.0 at))
-          (reader_named config prefix entity r is found.0.topic topic reliable));
-      lists = of.readers number found.0 at;
     }
 
 -- two names of one writer are told of one entry

@@ -9,13 +9,13 @@ use Rattle.dds_machine.specs.declared.call.Call.{Call}
 use Rattle.dds_machine.specs.declared.reply.Reply.{Reply}
 use Rattle.dds_machine.specs.declared.reply.Reply.TheVariants.{Done, Refused}
 use Rattle.dds_machine.specs.Numbered.{numbered}
-use Rattle.dds_machine.specs.Part.{Part, ReaderProxy, Rtps, Writer, no_writer, own_writer, writer_changes}
+use Rattle.dds_machine.specs.Part.{Part, Rtps, Writer, no_writer, own_writer, writer_changes}
 use Rattle.dds_machine.specs.Ticks.{ticked, TickStep}
 use Rattle.dds_machine.specs.Calls.{Effect, nothing, writes, effect, effect_of, with_written, CallStep}
 use Rattle.dds_machine.specs.Watching.{Tests}
 use Rattle.dds_protocol.specs.Dues.{AreTellable, AreSmall, HasSmallChanges, IsPartOf}
-use Rattle.dds_protocol.proofs.DuesGrowth.{SameNames, names_of, is_part_kept}
-use Rattle.dds_protocol.proofs.Growth.{CallStep-grows, CallStep-readers, TickStep-grows, TickStep-acknowledged}
+use Rattle.dds_protocol.proofs.DuesGrowth.{is_part_kept}
+use Rattle.dds_protocol.proofs.Growth.{TickStep-grows}
 use Rattle.dds_machine.proofs.Tables.{length-with_numbered, numbered-map-cases}
 
 -- ---- a call
@@ -25,15 +25,12 @@ effect_count old nothing = refl
 effect_count old (writes w entry) =
     length-with_numbered old.writers w (with_written (numbered old.writers w no_writer) entry)
 
--- a call leaves the writers, and their matched readers
+-- a call leaves the writers
 pub call_part : (config : Config) (peer : ℕ) (tests : Tests) (old : Part) (call : Call) (reply : Reply) (new : Part)
     → CallStep tests old call reply new → IsPartOf config peer old → IsPartOf config peer new
 call_part config peer tests old call reply new h of =
-    let same : SameNames old new = record {
-      count = ap (λ (r : Rtps). length r.writers) h.rtps ∙ effect_count old.rtps (effect_of old call reply);
-      names = λ w. ap (λ (rows : List ReaderProxy). names_of rows) (CallStep-readers tests old call reply new h w);
-    } in
-    is_part_kept config peer old new (CallStep-grows tests old call reply new h) same of
+    is_part_kept config peer old new
+    (ap (λ (r : Rtps). length r.writers) h.rtps ∙ effect_count old.rtps (effect_of old call reply)) of
 
 -- ---- a tick
 
@@ -47,11 +44,7 @@ tick_count old now reply new h = absurd h
 pub tick_part : (config : Config) (peer : ℕ) (old : Part) (now : ℕ) (reply : Reply) (new : Part)
     → TickStep old now reply new → IsPartOf config peer old → IsPartOf config peer new
 tick_part config peer old now reply new h of =
-    let same : SameNames old new = record {
-      count = tick_count old now reply new h;
-      names = λ w. ap (λ (rows : List ReaderProxy). names_of rows) (TickStep-acknowledged old now reply new h w);
-    } in
-    is_part_kept config peer old new (TickStep-grows old now reply new h) same of
+    is_part_kept config peer old new (tick_count old now reply new h) of
 
 ticked_changes : (now : ℕ) (ws : List Writer) (w : ℕ)
     → writer_changes (numbered (map (ticked now) ws) w no_writer) ≡ writer_changes (numbered ws w no_writer)

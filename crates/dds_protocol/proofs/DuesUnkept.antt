@@ -1,5 +1,5 @@
 -- What a writer does not keep, a matched reader has acknowledged, or it is dropped.
-use Rattle.std.proofs.Common.{◌≡◌, ◌⊎◌, ℕ, zero, suc, ◌+◌, ◌<◌, ◌≤◌, Bool, true, false, cond, List, [], ◌∷◌, Option, Some, map, get_or, length, refl, subst, ap, sym, ◌∙◌, inl, inr, ⊎_elim, arith}
+use Rattle.std.proofs.Common.{◌≡◌, ◌⊎◌, ℕ, zero, suc, ◌+◌, ◌<◌, ◌≤◌, Bool, true, false, cond, List, [], ◌∷◌, Option, Some, None, map, get_or, length, refl, subst, ap, sym, ◌∙◌, inl, inr, ⊎_elim, arith}
 use Rattle.std.specs.Prelude.{find, nat_lt}
 use Rattle.std.specs.Option.{option_map, unwrap_or}
 use Rattle.std.proofs.lemmas.Bool.Decides.{nat_tests}
@@ -9,6 +9,7 @@ use Rattle.rtps_writer.proofs.AnswerFacts.{unkept-is-dropped}
 use Rattle.dds_machine.specs.declared.endpoint.Endpoint.{Endpoint}
 use Rattle.dds_machine.specs.Part.{ReaderProxy, Writer, same_endpoint, row_of, acknowledged_of, owed_from, writer_changes, history_of, IsBelow}
 use Rattle.dds_protocol.proofs.Framing.{number_or_not}
+use Rattle.dds_protocol.proofs.Owing.{owed_apart}
 
 -- the acknowledgements of these rows
 abbrev pub counts : List ReaderProxy → List ℕ
@@ -81,10 +82,10 @@ abbrev pub Passes : Writer → Endpoint → ℕ → Type 0
 Passes w r n =
     (is_dropped (history_of w) n ≡ true) ⊎ (n < owed_from w r) ⊎ IsBelow n (acknowledged_of w.readers r)
 
--- a matched reader may pass over the numbers below the first kept one
-pub below_first_passes : (w : Writer) (r : Endpoint) (a n : ℕ) → acknowledged_of w.readers r ≡ Some a → 1 ≤ n
+-- so may one with a row over the numbers below the first kept one
+row_passes : (w : Writer) (r : Endpoint) (a n : ℕ) → acknowledged_of w.readers r ≡ Some a → 1 ≤ n
     → n < first_kept (history_of w) → Passes w r n
-below_first_passes w r a n is low h = by (nat_lt n a) refl
+row_passes w r a n is low h = by (nat_lt n a) refl
   where
     by : (b : Bool) → nat_lt n a ≡ b → Passes w r n
     by true e = let less : n < a = grind (arith, nat_tests) in
@@ -93,3 +94,14 @@ below_first_passes w r a n is low h = by (nat_lt n a) refl
         let most : a ≤ n = grind (arith, nat_tests) in
         let below = below_first (history_of w) n low h in
         inl (unkept_dropped w r a n is most low below.1 below.0)
+
+-- and any other one, which is owed none of them
+pub below_first_passes : (w : Writer) (r : Endpoint) (n : ℕ) → 1 ≤ n → n < first_kept (history_of w) → Passes w r n
+below_first_passes w r n low h = row (acknowledged_of w.readers r) refl
+  where
+    row : (o : Option ℕ) → acknowledged_of w.readers r ≡ o → Passes w r n
+    row None none =
+        let apart = owed_apart w r none in
+        let below = (below_first (history_of w) n low h).1 in
+        inr (inl (omega (arith, apart, below)))
+    row (Some a) is = row_passes w r a n is low h

@@ -39,7 +39,7 @@ use Rattle.dds_protocol.specs.Protocol.{Known, TakesPacket}
 use Rattle.dds_protocol.specs.World.{WorldState, WorldStep, PeerSteps, peer_at, machine_of}
 use Rattle.dds_protocol.specs.Rules.{announcements_due, AreDue, RuledStep}
 use Rattle.dds_protocol.specs.Fresh.{HasHeartbeat, HasAckNack, heartbeats_used_at, tracked_at, acknacks_used_at, HasUsedCounts}
-use Rattle.dds_protocol.proofs.Composed.{parts_at, machine_after, contains_at}
+use Rattle.dds_protocol.proofs.Composed.{parts_at, machine_after, world_after, contains_at}
 use Rattle.dds_protocol.proofs.CountsTaken.{Counting, Counts, packet_counts}
 use Rattle.dds_protocol.proofs.CountsWritten.{plain_beats, plain_asks, plain_data, one_beat, one_beat_asks, each_of}
 use Rattle.dds_protocol.proofs.DuesAssertions.{OfEachTold, told_each, asserted_writer}
@@ -95,9 +95,9 @@ receives_gains config gs peer bytes old report new (inr h) =
     subst (λ (p : Part). Gains old p) (sym h.after) (gains_same old)
 
 -- it grows, and stays that of the configuration
-record Lasts (config : Config) (peer : ℕ) (old new : Part) : Type 0 where
-  grows : Grows old.rtps new.rtps
-  part : IsPartOf config peer old → IsPartOf config peer new
+pub record Lasts (config : Config) (peer : ℕ) (old new : Part) : Type 0 where
+  pub grows : Grows old.rtps new.rtps
+  pub part : IsPartOf config peer old → IsPartOf config peer new
 
 event_lasts : (config : Config) (tests : Tests) (peer : ℕ) (before : Peer) (ev : Event) (reply : Reply) (after : Peer)
     → EventStep config tests before ev reply after → Lasts config peer before.part after.part
@@ -114,7 +114,7 @@ event_lasts config tests peer before (event.Deliver packet) (Reported report) af
     receives_gains config (claimed config before.delivered packet before.part.rtps.readers before.number)
     before.number packet before.part
     report after.part h.0 in
-    record { grows = g.grows; part = is_part_kept config peer before.part after.part g.grows g.same }
+    record { grows = g.grows; part = is_part_kept config peer before.part after.part g.count }
 event_lasts config tests peer before (event.Deliver packet) reply after h = absurd h
 
 -- ---- what it makes of the network
@@ -137,36 +137,41 @@ stays_same config old peer new same = record {
   others = λ p apart. ap (λ (x : WorldState). peer_at x p) same;
 }
 
-pub steps_stays : (config : Config) (tests : Tests) (old : WorldState) (peer : ℕ) (ev : Event) (reply : Reply)
-    (new : WorldState) → PeerSteps config tests old peer ev reply new → Stays config old peer new
-steps_stays config tests old peer ev reply new h = record {
+-- one peer is another, whose part has lasted
+pub stays_with : (config : Config) (old : WorldState) (peer : ℕ) (after : Peer) (posted : List Packet)
+    (new : WorldState) → HasNumber old.peers peer → new ≡ world_after old peer after posted
+    → Lasts config peer (peer_at old peer).part after.part → Stays config old peer new
+stays_with config old peer after posted new within changed lasts = record {
   grows =
       subst (λ (x : Machine). MachineGrows (machine_of old) x)
-      (sym (ap machine_of h.changed ∙ machine_after old peer h.after h.posted))
-      (with_part-grows (machine_of old) peer h.after.part
-      (subst (λ (p : Part). Grows p.rtps h.after.part.rtps) (sym (parts_at old peer)) lasts.grows));
+      (sym (ap machine_of changed ∙ machine_after old peer after posted))
+      (with_part-grows (machine_of old) peer after.part
+      (subst (λ (p : Part). Grows p.rtps after.part.rtps) (sym (parts_at old peer)) lasts.grows));
   parts = λ of p has.
-      subst (λ (x : WorldState). IsPartOf config p (peer_at x p).part) (sym h.changed)
+      subst (λ (x : WorldState). IsPartOf config p (peer_at x p).part) (sym changed)
       (⊎_elim (λ e. subst (λ (x : Peer). IsPartOf config p x.part) (sym e) (of p (before p has)))
       (λ s.
       subst (λ (x : Peer). IsPartOf config p x.part) (sym s.1)
-      (subst (λ (n : ℕ). IsPartOf config n h.after.part) (sym s.0) (lasts.part (of peer h.within))))
-      (numbered-cases old.peers peer h.after p no_peer));
+      (subst (λ (n : ℕ). IsPartOf config n after.part) (sym s.0) (lasts.part (of peer within))))
+      (numbered-cases old.peers peer after p no_peer));
   others = λ p apart.
-      ap (λ (x : WorldState). peer_at x p) h.changed
-      ∙ ⊎_elim (λ e. e) (λ s. absurd (apart s.0)) (numbered-cases old.peers peer h.after p no_peer);
+      ap (λ (x : WorldState). peer_at x p) changed
+      ∙ ⊎_elim (λ e. e) (λ s. absurd (apart s.0)) (numbered-cases old.peers peer after p no_peer);
 }
   where
-    lasts : Lasts config peer (peer_at old peer).part h.after.part
-    lasts = event_lasts config tests peer (peer_at old peer) ev h.output.reply h.after h.step.step
-
     before : (p : ℕ) → HasNumber new.peers p → HasNumber old.peers p
     before p has =
         let low = has.0 in
         let high = has.1 in
-        let same = ap (λ (x : WorldState). length x.peers) h.changed in
-        let count = length-with_numbered old.peers peer h.after in
+        let same = ap (λ (x : WorldState). length x.peers) changed in
+        let count = length-with_numbered old.peers peer after in
         (omega (arith, low), omega (arith, high, same, count))
+
+pub steps_stays : (config : Config) (tests : Tests) (old : WorldState) (peer : ℕ) (ev : Event) (reply : Reply)
+    (new : WorldState) → PeerSteps config tests old peer ev reply new → Stays config old peer new
+steps_stays config tests old peer ev reply new h =
+    stays_with config old peer h.after h.posted new h.within h.changed
+    (event_lasts config tests peer (peer_at old peer) ev h.output.reply h.after h.step.step)
 
 -- a writer that grows has used no fewer counts
 used_more : (old new : Writer) → WriterGrows old new → heartbeats_used old ≤ heartbeats_used new
@@ -179,20 +184,20 @@ used_more old new g =
     omega (arith, longer, sum)
 
 -- what an event does to counts
-record Uses (config : Config) (old : WorldState) (packets : List Packet) (new : WorldState) : Type 0 where
-  parts : (p : ℕ) → HasNumber new.peers p → IsPartOf config p (peer_at new p).part
-  grows : MachineGrows (machine_of old) (machine_of new)
-  asked : (w r : Endpoint) → acknacks_used_at old w r ≤ acknacks_used_at new w r
-  taken : (w r : Endpoint) (count : ℤ) → (tracked_at new w r).count ≡ Some count
+pub record Uses (config : Config) (old : WorldState) (packets : List Packet) (new : WorldState) : Type 0 where
+  pub parts : (p : ℕ) → HasNumber new.peers p → IsPartOf config p (peer_at new p).part
+  pub grows : MachineGrows (machine_of old) (machine_of new)
+  pub asked : (w r : Endpoint) → acknacks_used_at old w r ≤ acknacks_used_at new w r
+  pub taken : (w r : Endpoint) (count : ℤ) → (tracked_at new w r).count ≡ Some count
       → ((tracked_at old w r).count ≡ Some count) ⊎ (count ≤ℤ pos (heartbeats_used_at old w))
-  answered : (w r : Endpoint) (count : ℤ) → (peer_at new w.peer).known.answered w.number r ≡ Some count
+  pub answered : (w r : Endpoint) (count : ℤ) → (peer_at new w.peer).known.answered w.number r ≡ Some count
       → ((peer_at old w.peer).known.answered w.number r ≡ Some count) ⊎ (count ≤ℤ pos (acknacks_used_at old w r))
-  beats : (p : Packet) (w : Endpoint) (count : ℤ) → Contains packets p → HasHeartbeat config p.bytes w count
+  pub beats : (p : Packet) (w : Endpoint) (count : ℤ) → Contains packets p → HasHeartbeat config p.bytes w count
       → count ≤ℤ pos (heartbeats_used_at new w)
-  asks : (p : Packet) (w r : Endpoint) (count : ℤ) → Contains packets p → HasAckNack config p.bytes w r count
+  pub asks : (p : Packet) (w r : Endpoint) (count : ℤ) → Contains packets p → HasAckNack config p.bytes w r count
       → count ≤ℤ pos (acknacks_used_at new w r)
 
-uses_used : (config : Config) (old : WorldState) (packets : List Packet) (new : WorldState)
+pub uses_used : (config : Config) (old : WorldState) (packets : List Packet) (new : WorldState)
     → new.sent ≡ old.sent ++ packets → HasUsedCounts config old → Uses config old packets new → HasUsedCounts config new
 uses_used config old packets new sent h u = record {
   of_config = u.parts;
@@ -220,7 +225,7 @@ uses_used config old packets new sent h u = record {
 
 -- ---- a call or a tick: what is known is as it was
 
-uses_knowing : (config : Config) (old : WorldState) (packets : List Packet) (new : WorldState) (peer : ℕ)
+pub uses_knowing : (config : Config) (old : WorldState) (packets : List Packet) (new : WorldState) (peer : ℕ)
     → Stays config old peer new → HasUsedCounts config old
     → ((p : ℕ) → (peer_at new p).known ≡ (peer_at old p).known)
     → ((p : Packet) (w : Endpoint) (count : ℤ) → Contains packets p → HasHeartbeat config p.bytes w count

@@ -28,12 +28,11 @@ use Rattle.dds_protocol.specs.Claims.{Claim, ChangeIs, MayPass, PlaceReached, As
 use Rattle.dds_machine.specs.Machine.{Machine, part_at, writer_at, place_at}
 use Rattle.dds_protocol.specs.World.{Holds}
 use Rattle.dds_protocol.proofs.Owing.{changes-more, no_fewer, owed_same, owed_acknowledged}
-use Rattle.dds_machine.proofs.Tables.{numbered-cases, numbered-map-cases, append_nothing, slice_get-append, place-cases, begun-cases, place-heard, no_less_same, no_less_on, at_most_on, below_on}
+use Rattle.dds_machine.proofs.Tables.{numbered-cases, numbered-map-cases, append_nothing, slice_get-append, place-cases, begun-cases, place-heard, no_less_same, no_less_on, none_on, at_most_on, below_on}
 
 pub record WriterGrows (old new : Writer) : Type 0 where
   pub policy : new.policy ≡ old.policy
   pub values : new.max_value ≡ old.max_value
-  pub matched : new.matched ≡ old.matched
   pub more : List Written
   pub written : new.written ≡ more ++ old.written
   pub owed : (r : Endpoint) → owed_from old r ≤ owed_from new r
@@ -47,7 +46,6 @@ pub writer_same : (w : Writer) → WriterGrows w w
 writer_same w = record {
   policy = refl;
   values = refl;
-  matched = refl;
   more = [];
   written = refl;
   owed = λ r. omega arith;
@@ -57,12 +55,17 @@ pub writer_on : (a b c : Writer) → WriterGrows a b → WriterGrows b c → Wri
 writer_on a b c f g = record {
   policy = g.policy ∙ f.policy;
   values = g.values ∙ f.values;
-  matched = g.matched ∙ f.matched;
   more = g.more ++ f.more;
   written =
       g.written ∙ (ap (λ (xs : List Written). g.more ++ xs) f.written ∙ sym (append_assoc g.more f.more a.written));
   owed = λ r. let first = f.owed r in let second = g.owed r in omega (arith, first, second);
 }
+
+-- what has no row later had none
+pub none_before : (old new : Rtps) → Grows old new → (r : ℕ) (w : Endpoint)
+    → place_of (numbered new.readers r []) w ≡ None → place_of (numbered old.readers r []) w ≡ None
+none_before old new g r w e =
+    none_on (place_of (numbered old.readers r []) w) (place_of (numbered new.readers r []) w) (g.places r w) e
 
 pub grows_same : (r : Rtps) → Grows r r
 grows_same r =
@@ -151,7 +154,6 @@ IsMove-grows g old (Acknowledged w r to) new h =
     subst (λ (q : Part). Grows old.rtps q.rtps) (sym h.after) (set_writer-grows old.rtps w after (record {
       policy = refl;
       values = refl;
-      matched = refl;
       more = [];
       written = refl;
       owed = λ v. owed_acknowledged before r to v;
@@ -181,7 +183,6 @@ pub entered-grows : (w : Writer) (entry : Written) → WriterGrows w (with_writt
 entered-grows w entry = record {
   policy = refl;
   values = refl;
-  matched = refl;
   more = entry ∷ [];
   written = refl;
   owed = λ r. owed_same w (with_written w entry) refl (no_fewer entry w.written) r;

@@ -80,6 +80,20 @@ handle_step : (n place : ℕ) (p : WriterProxy) (ps : List WriterProxy) (w : End
 handle_step n place p ps w true h f = (n, refl)
 handle_step n place p ps w false h f = f h
 
+append_step : (n k : ℕ) (p : WriterProxy) (ps : List WriterProxy) (x : WriterProxy) (w : Endpoint) (b : Bool)
+    → (publication_from (n + 1) ps w ≡ Some k → publication_from (n + 1) (ps ++ x ∷ []) w ≡ Some k)
+    → cond b (Some n) (publication_from (n + 1) ps w) ≡ Some k
+    → cond b (Some n) (publication_from (n + 1) (ps ++ x ∷ []) w) ≡ Some k
+append_step n k p ps x w true f h = h
+append_step n k p ps x w false f h = f h
+
+-- a row more at the end leaves the handles that there are
+pub publication_append : (n k : ℕ) (rows : List WriterProxy) (x : WriterProxy) (w : Endpoint)
+    → publication_from n rows w ≡ Some k → publication_from n (rows ++ x ∷ []) w ≡ Some k
+publication_append n k [] x w h = cc
+publication_append n k (p ∷ ps) x w h =
+    append_step n k p ps x w (same_endpoint p.writer w) (λ e. publication_append (n + 1) k ps x w e) h
+
 -- who has a place has a handle
 pub publication_there : (n place : ℕ) (rows : List WriterProxy) (w : Endpoint) → place_of rows w ≡ Some place
     → (k : ℕ) × (publication_from n rows w ≡ Some k)

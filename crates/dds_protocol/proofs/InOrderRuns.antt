@@ -27,7 +27,7 @@ use Rattle.dds_base.specs.declared.happening.PassedRun.{PassedRun}
 use Rattle.dds_machine.specs.declared.reply.Reply.{Reply}
 use Rattle.dds_machine.specs.declared.reply.Reply.TheVariants.{Done, Reported, Refused}
 use Rattle.dds_machine.specs.Numbered.{numbered, with_numbered, HasNumber}
-use Rattle.dds_machine.specs.Part.{Begun, same_endpoint, WriterProxy, Reader, Dds, Part, no_reader, no_part, own_writer, own_proxies, own_reader, at_reader, at_writer, row_of, place_of, with_place, with_begun, with_heard, with_acknowledged, publication_among, writer_changes}
+use Rattle.dds_machine.specs.Part.{Begun, same_endpoint, WriterProxy, Reader, Dds, Part, no_reader, no_part, own_writer, own_proxies, own_reader, at_reader, at_writer, row_of, place_of, with_place, with_begun, with_heard, with_acknowledged, publication_among, owed_from, writer_changes}
 use Rattle.dds_machine.specs.Moves.{Grounds, as_to, match_of, position_at, AreMoves, Begins as PlaceBegins, Places, Hears, DeliveryStep}
 use Rattle.dds_machine.specs.Ticks.{TickStep, reader_ticked}
 use Rattle.dds_machine.specs.Calls.{Effect, nothing, writes, effect, effect_of, Answers, CallStep}
@@ -44,15 +44,15 @@ use Rattle.dds_machine.proofs.Tables.{begun-cases, numbered-cases, numbered-map-
 use Rattle.dds_protocol.proofs.Growth.{CallStep-grows, TickStep-rows, TickStep-readers, TickStep-grows, DeliveryStep-grows, MachineGrows, with_part-grows, writer-changes}
 use Rattle.dds_protocol.proofs.Policies.{IsReliableAt, still_reliable, Step-qos}
 use Rattle.dds_protocol.proofs.CallChanges.{CallChange, unchanged, reads, takes, looks, watches, changes_of}
-use Rattle.dds_protocol.specs.Closed.{IsClosed, closed_grounds_of}
+use Rattle.dds_protocol.specs.Closed.{IsClosed}
 use Rattle.dds_protocol.proofs.Closed.{opens_closed, stays_closed}
-use Rattle.dds_protocol.proofs.ClosedSteps.{delivery_closed}
+use Rattle.dds_protocol.proofs.ClosedSteps.{owed_all}
 use Rattle.dds_protocol.proofs.RunLaws.{keeps_all, Step-policy}
 use Rattle.dds_machine.specs.Noticing.{machine_ended}
 use Rattle.dds_protocol.proofs.EndsBeside.{ended_alike, ended_policy, ended_writer}
 use Rattle.dds_protocol.proofs.InOrder.{same_self, passes_none, publication_kept, publication_there, Along, along_as, RestsOn, goes_along, others_go, different}
 
-has_with : {X : Type 0} (xs : List X) (i : ℕ) (x : X) (j : ℕ) → HasNumber xs j → HasNumber (with_numbered xs i x) j
+pub has_with : {X : Type 0} (xs : List X) (i : ℕ) (x : X) (j : ℕ) → HasNumber xs j → HasNumber (with_numbered xs i x) j
 has_with xs i x j h =
     let e = length-with_numbered xs i x in let low = h.0 in let high = h.1 in
     (omega (arith, low), omega (arith, e, high))
@@ -62,18 +62,18 @@ numbered-other : {X : Type 0} (xs : List X) (i : ℕ) (x : X) (j : ℕ) (d : X) 
 numbered-other xs i x j d f = ⊎_elim (λ s. s) (λ o. absurd (f o.0)) (numbered-cases xs i x j d)
 
 -- a writer has this publication handle at the peer's reader, which is at this place in its list
-record HasPlace (part : Part) (w : Endpoint) (r publication place : ℕ) : Type 0 where
-  handle : publication_among (own_proxies part r) w ≡ Some publication
-  at : place_of (own_proxies part r) w ≡ Some place
+pub record HasPlace (part : Part) (w : Endpoint) (r publication place : ℕ) : Type 0 where
+  pub handle : publication_among (own_proxies part r) w ≡ Some publication
+  pub at : place_of (own_proxies part r) w ≡ Some place
 
 -- what came at a peer's reader from a matched writer with these changes
-record Lane (changes : List Change) (part : Part) (w : Endpoint) (r : ℕ) : Type 0 where
-  rows : HasNumber part.rtps.readers r
-  own : HasNumber part.dds.readers r
-  publication : ℕ
-  place : ℕ
-  matched : HasPlace part w r publication place
-  along : Along changes publication (position_at part r place)
+pub record Lane (changes : List Change) (part : Part) (w : Endpoint) (r : ℕ) : Type 0 where
+  pub rows : HasNumber part.rtps.readers r
+  pub own : HasNumber part.dds.readers r
+  pub publication : ℕ
+  pub place : ℕ
+  pub matched : HasPlace part w r publication place
+  pub along : Along changes publication (position_at part r place)
 
 -- the reader has the same writers and places as before, and was entered what did not come
 lane_as : (changes : List Change) (old new : Part) (w : Endpoint) (r : ℕ) → (l : Lane changes old w r)
@@ -304,14 +304,14 @@ SameCame old new r =
     × ((p : ℕ) → came_from p (numbered new.readers r no_reader).happened
     ≡ came_from p (numbered old.readers r no_reader).happened)
 
-same_came : (old new : Dds) (r : ℕ) → new ≡ old → SameCame old new r
+pub same_came : (old new : Dds) (r : ℕ) → new ≡ old → SameCame old new r
 same_came old new r e = (
   ap (λ (d : Dds). length d.readers) e,
   λ p. ap (λ (d : Dds). came_from p (numbered d.readers r no_reader).happened) e,
 )
 
 -- the reader of number k has changed, but the same changes came at it
-changed_reader : (old : Part) (new : Dds) (k : ℕ) (reader : Reader) (r : ℕ)
+pub changed_reader : (old : Part) (new : Dds) (k : ℕ) (reader : Reader) (r : ℕ)
     → ((p : ℕ) → came_from p reader.happened ≡ came_from p (own_reader old k).happened)
     → new ≡ record old.dds { readers = with_numbered old.dds.readers k reader } → SameCame old.dds new r
 changed_reader old new k reader r same e = (
@@ -350,7 +350,7 @@ effect_rows old new nothing h = ap (λ x. x.readers) h
 effect_rows old new (writes v entry) h = ap (λ x. x.readers) h
 
 -- the rows of all readers are as before
-lane_same : (changes : List Change) (old new : Part) (w : Endpoint) (r : ℕ) → (l : Lane changes old w r)
+pub lane_same : (changes : List Change) (old new : Part) (w : Endpoint) (r : ℕ) → (l : Lane changes old w r)
     → new.rtps.readers ≡ old.rtps.readers → HasNumber new.dds.readers r
     → came_from l.publication (own_reader new r).happened ≡ came_from l.publication (own_reader old r).happened
     → Lane changes new w r
@@ -421,24 +421,32 @@ lane_longer changes later part w r l =
 
 -- the machine
 
-record InOrder (m : Machine) (w r : Endpoint) : Type 0 where
-  all : (writer_at m w).policy ≡ KeepAll
-  reliable : IsReliableAt (part_at m r.peer) r.number
-  lane : Lane (writer_changes (writer_at m w)) (part_at m r.peer) w r.number
+pub record InOrder (m : Machine) (w r : Endpoint) : Type 0 where
+  pub all : (writer_at m w).policy ≡ KeepAll
+  pub reliable : IsReliableAt (part_at m r.peer) r.number
+  pub lane : Lane (writer_changes (writer_at m w)) (part_at m r.peer) w r.number
 
 rests_on : (m : Machine) (peer : ℕ) (w : Endpoint) (r : ℕ) → (writer_at m w).policy ≡ KeepAll
-    → RestsOn (writer_changes (writer_at m w)) (as_to (closed_grounds_of m peer) w r)
-rests_on m peer w r all = (λ n c h. h, λ n h. keeps_all (writer_at m w).policy m w n refl all h)
+    → owed_from (writer_at m w) (record { peer = peer; number = r }) ≤ 1
+    → RestsOn (writer_changes (writer_at m w)) (as_to (grounds_of m peer) w r)
+rests_on m peer w r all owed = (
+  λ n c h. h,
+  λ n h.
+      ⊎_elim (λ d. keeps_all (writer_at m w).policy m w n refl all d)
+      (λ q. let from = q.from in let below = q.below in absurd (omega (arith, owed, from, below))) h,
+)
 
--- one part has changed
-at_peer : (m : Machine) (peer : ℕ) (after : Part) (new : Machine) (w r : Endpoint)
+-- one part has changed, where all is owed
+pub at_peer : (m : Machine) (peer : ℕ) (after : Part) (new : Machine) (w r : Endpoint)
     → new ≡ record { parts = with_numbered m.parts peer after }
     → MachineGrows m (record { parts = with_numbered m.parts peer after })
     → (writer_at new w).policy ≡ (writer_at m w).policy
     → (own_reader (part_at new r.peer) r.number).qos ≡ (own_reader (part_at m r.peer) r.number).qos
-    → ((k : ℕ) → IsReliableAt (part_at m peer) k → Lane (writer_changes (writer_at m w)) (part_at m peer) w k
+    → owed_from (writer_at m w) r ≤ 1
+    → ((k : ℕ) → IsReliableAt (part_at m peer) k → owed_from (writer_at m w) (record { peer = peer; number = k }) ≤ 1
+    → Lane (writer_changes (writer_at m w)) (part_at m peer) w k
     → Lane (writer_changes (writer_at m w)) after w k) → InOrder m w r → InOrder new w r
-at_peer m peer after new w r changed grows policy qos f o =
+at_peer m peer after new w r changed grows policy qos owed f o =
     let with : Machine = record { parts = with_numbered m.parts peer after } in
     let longer = writer-changes (writer_at m w) (writer_at with w) (grows.writers w) in
     let written : writer_changes (writer_at new w) ≡ writer_changes (writer_at m w) ++ longer.0 =
@@ -447,6 +455,7 @@ at_peer m peer after new w r changed grows policy qos f o =
     ⊎_elim (λ s. subst (λ (x : Part). Lane (writer_changes (writer_at m w)) x w r.number) (sym s) o.lane)
     (λ h. subst (λ (x : Part). Lane (writer_changes (writer_at m w)) x w r.number) (sym h.1)
     (f r.number (subst (λ (j : ℕ). IsReliableAt (part_at m j) r.number) h.0 o.reliable)
+    (subst (λ (j : ℕ). owed_from (writer_at m w) (record { peer = j; number = r.number }) ≤ 1) h.0 owed)
     (subst (λ (j : ℕ). Lane (writer_changes (writer_at m w)) (part_at m j) w r.number) h.0 o.lane)))
     (numbered-cases m.parts peer after r.peer no_part) in
     record {
@@ -458,39 +467,41 @@ at_peer m peer after new w r changed grows policy qos f o =
           (part_at with r.peer) w r.number lane));
     }
 
-step_in_order : (tests : AllTests) (sent : ℕ) (m : Machine) (ev : WorldEvent) (reply : Reply) (new : Machine)
-    (w r : Endpoint) → IsClosed m → Step tests sent m ev reply new → InOrder m w r → InOrder new w r
-step_in_order tests sent m (world.Call peer c) reply new w r closed (inl h) o =
+pub step_in_order : (tests : AllTests) (sent : ℕ) (m : Machine) (ev : WorldEvent) (reply : Reply) (new : Machine)
+    (w r : Endpoint) → owed_from (writer_at m w) r ≤ 1 → Step tests sent m ev reply new → InOrder m w r → InOrder new w r
+step_in_order tests sent m (world.Call peer c) reply new w r owed (inl h) o =
     at_peer m peer h.after new w r h.changed
     (with_part-grows m peer h.after (CallStep-grows (tests peer) (part_at m peer) c reply h.after h.step))
     (Step-policy w tests sent m (world.Call peer c) reply new (inl h))
     (Step-qos tests sent m (world.Call peer c) reply new r (inl h))
-    (λ k reliable l. lane_call (writer_changes (writer_at m w)) (tests peer) (part_at m peer) w k c reply h.after l h.step) o
-step_in_order tests sent m (world.Call peer c) reply new w r closed (inr h) o =
+    owed
+    (λ k reliable all l. lane_call (writer_changes (writer_at m w)) (tests peer) (part_at m peer) w k c reply h.after l h.step) o
+step_in_order tests sent m (world.Call peer c) reply new w r owed (inr h) o =
     subst (λ (x : Machine). InOrder x w r) (sym h.1.1) o
-step_in_order tests sent m (world.Tick peer now) reply new w r closed (inl h) o =
+step_in_order tests sent m (world.Tick peer now) reply new w r owed (inl h) o =
     at_peer m peer h.after new w r h.changed
     (with_part-grows m peer h.after (TickStep-grows (part_at m peer) now reply h.after h.step))
     (Step-policy w tests sent m (world.Tick peer now) reply new (inl h))
     (Step-qos tests sent m (world.Tick peer now) reply new r (inl h))
-    (λ k reliable l. lane_tick (writer_changes (writer_at m w)) (part_at m peer) w k now reply h.after l h.step) o
-step_in_order tests sent m (world.Tick peer now) reply new w r closed (inr h) o =
+    owed
+    (λ k reliable all l. lane_tick (writer_changes (writer_at m w)) (part_at m peer) w k now reply h.after l h.step) o
+step_in_order tests sent m (world.Tick peer now) reply new w r owed (inr h) o =
     subst (λ (x : Machine). InOrder x w r) (sym h.1.1) o
-step_in_order tests sent m (world.Deliver peer packet) reply new w r closed (inl h) o =
+step_in_order tests sent m (world.Deliver peer packet) reply new w r owed (inl h) o =
     at_peer m peer h.2.after new w r h.2.changed
     (with_part-grows m peer h.2.after
     (DeliveryStep-grows (grounds_of m peer) (part_at m peer) reply h.2.after h.2.step))
     (Step-policy w tests sent m (world.Deliver peer packet) reply new (inl h))
     (Step-qos tests sent m (world.Deliver peer packet) reply new r (inl h))
-    (λ k reliable l.
-    lane_delivery (writer_changes (writer_at m w)) (closed_grounds_of m peer) (part_at m peer) w k reply h.2.after
-    (rests_on m peer w k o.all) reliable l
-    (delivery_closed m peer reply h.2.after closed h.2.step)) o
-step_in_order tests sent m (world.Deliver peer packet) reply new w r closed (inr h) o =
+    owed
+    (λ k reliable all l.
+    lane_delivery (writer_changes (writer_at m w)) (grounds_of m peer) (part_at m peer) w k reply h.2.after
+    (rests_on m peer w k o.all all) reliable l h.2.step) o
+step_in_order tests sent m (world.Deliver peer packet) reply new w r owed (inr h) o =
     subst (λ (x : Machine). InOrder x w r) (sym h.1.1) o
 
 -- the end of an event
-ended_in_order : (before : Machine) (e : WorldEvent) (m : Machine) (w r : Endpoint) → InOrder m w r
+pub ended_in_order : (before : Machine) (e : WorldEvent) (m : Machine) (w r : Endpoint) → InOrder m w r
     → InOrder (machine_ended before e m) w r
 ended_in_order before e m w r o =
     let old : Part = part_at m r.peer in
@@ -510,6 +521,12 @@ ended_in_order before e m w r o =
           (ap (λ (h : List Happening). came_from o.lane.publication h) (alike.happened r.number)));
     }
 
+-- where nobody comes or goes all is owed
+closed_owed : (m : Machine) (w r : Endpoint) → IsClosed m → InOrder m w r → owed_from (writer_at m w) r ≤ 1
+closed_owed m w r closed o =
+    owed_all m closed w r
+    (closed.known w r (ap (λ (x : Option ℕ). is_some x) o.lane.matched.at) o.reliable)
+
 run_in_order : (tests : AllTests) (m after : Machine) (events : List WorldEvent)
     (replies : List Reply) (sent last : ℕ) (w r : Endpoint) → IsClosed m → Run tests sent m events replies last after
     → InOrder m w r → InOrder after w r
@@ -517,7 +534,8 @@ run_in_order tests m after [] [] sent last w r closed run o = subst (λ (x : Mac
 run_in_order tests m after (e ∷ es) (p ∷ ps) sent last w r closed run o =
     run_in_order tests (machine_ended m e run.0) after es ps run.1 last w r
     (stays_closed tests sent m e p run.0 closed run.2) run.4
-    (ended_in_order m e run.0 w r (step_in_order tests sent m e p run.0 w r closed run.2 o))
+    (ended_in_order m e run.0 w r
+    (step_in_order tests sent m e p run.0 w r (closed_owed m w r closed o) run.2 o))
 run_in_order tests m after [] (p ∷ ps) sent last w r closed run o = absurd run
 run_in_order tests m after (e ∷ es) [] sent last w r closed run o = absurd run
 
@@ -649,23 +667,36 @@ lane_opens config w changes peer number =
     subst (λ (m : Machine). IsSome (place_of (own_proxies (part_at m peer) number) w)
     → Lane changes (part_at m peer) w number) (opening_is config) (lane_begins config w changes peer number)
 
+-- at the opening nothing came
+pub opens_in_order : (config : Config) (w r : Endpoint) → (writer_at (opening config) w).policy ≡ KeepAll
+    → is_reliable (own_reader (part_at (opening config) r.peer) r.number).qos.reliability ≡ true
+    → IsSome (place_at (opening config) r w) → InOrder (opening config) w r
+opens_in_order config w r all reliable placed = record {
+  all = all;
+  reliable = reliable;
+  lane = lane_opens config w (writer_changes (writer_at (opening config) w)) r.peer r.number placed;
+}
+
+-- what came in order did so
+pub came_in_order : (m : Machine) (w r : Endpoint) → InOrder m w r → CameInOrder m w r
+came_in_order m w r o =
+    let l = o.lane in
+    record {
+      publication = l.publication;
+      matched = l.matched.handle;
+      came = came_from l.publication (own_reader (part_at m r.peer) r.number).happened;
+      came_at = refl;
+      rest = l.along.rest;
+      first = l.along.first;
+      place = l.matched.at ∙ ap (λ (n : ℕ). Some n) (sym l.along.count);
+    }
+
 pub changes_come_in_order : (config : Config) (tests : AllTests) (w r : Endpoint) (events : List WorldEvent)
     (replies : List Reply) (last : ℕ) (after : Machine) → (writer_at (opening config) w).policy ≡ KeepAll
     → is_reliable (own_reader (part_at (opening config) r.peer) r.number).qos.reliability ≡ true
     → IsSome (place_at (opening config) r w) → Run tests 0 (opening config) events replies last after
     → CameInOrder after w r
 changes_come_in_order config tests w r events replies last after all reliable placed run =
-    let lane = lane_opens config w (writer_changes (writer_at (opening config) w)) r.peer r.number placed in
-    let o =
-    run_in_order tests (opening config) after events replies 0 last w r (opens_closed config) run
-    (record { all = all; reliable = reliable; lane = lane }) in
-    let l = o.lane in
-    record {
-      publication = l.publication;
-      matched = l.matched.handle;
-      came = came_from l.publication (own_reader (part_at after r.peer) r.number).happened;
-      came_at = refl;
-      rest = l.along.rest;
-      first = l.along.first;
-      place = l.matched.at ∙ ap (λ (n : ℕ). Some n) (sym l.along.count);
-    }
+    came_in_order after w r
+    (run_in_order tests (opening config) after events replies 0 last w r (opens_closed config) run
+    (opens_in_order config w r all reliable placed))

@@ -110,7 +110,7 @@ owed_delivery m i w r packet old (Reported report) new events replies bound all 
 )
 owed_delivery m i w r packet old reply new events replies bound all owed reliable h rest = absurd h
 
-owed_step : (w r : Endpoint) (tests : AllTests) (sent : ℕ) (m : Machine) (ev : WorldEvent) (reply : Reply)
+pub owed_step : (w r : Endpoint) (tests : AllTests) (sent : ℕ) (m : Machine) (ev : WorldEvent) (reply : Reply)
     (new : Machine) (events : List WorldEvent) (replies : List Reply) (bound : ℕ) → (writer_at m w).policy ≡ KeepAll
     → owed_from (writer_at m w) r ≤ bound
     → IsReliableAt (part_at m r.peer) r.number → Step tests sent m ev reply new
@@ -124,14 +124,14 @@ owed_step w r tests sent m (world.Deliver peer packet) reply new events replies 
     subst (λ (x : Reply). LosesNoneFrom bound w r (world.Deliver peer packet ∷ events) (x ∷ replies)) (sym h.1.0) rest
 
 -- the policies of the two stay
-next_reliable : (tests : AllTests) (sent : ℕ) (m : Machine) (ev : WorldEvent) (reply : Reply) (new : Machine)
+pub next_reliable : (tests : AllTests) (sent : ℕ) (m : Machine) (ev : WorldEvent) (reply : Reply) (new : Machine)
     (r : Endpoint) → Step tests sent m ev reply new → IsReliableAt (part_at m r.peer) r.number
     → IsReliableAt (part_at (machine_ended m ev new) r.peer) r.number
 next_reliable tests sent m ev reply new r h reliable =
     ap (λ (q : ReaderQos). is_reliable q.reliability)
     ((ended_alike m ev new r.peer).qos r.number ∙ Step-qos tests sent m ev reply new r h) ∙ reliable
 
-next_policy : (tests : AllTests) (sent : ℕ) (m : Machine) (ev : WorldEvent) (reply : Reply) (new : Machine)
+pub next_policy : (tests : AllTests) (sent : ℕ) (m : Machine) (ev : WorldEvent) (reply : Reply) (new : Machine)
     (w : Endpoint) → Step tests sent m ev reply new → (writer_at m w).policy ≡ KeepAll
     → (writer_at (machine_ended m ev new) w).policy ≡ KeepAll
 next_policy tests sent m ev reply new w h all =

@@ -75,3 +75,5 @@ pub mod Ends
 pub mod EndsOpened
 pub mod Closed
 pub mod ClosedSteps
+pub mod Tellings
+pub mod ToldRuns

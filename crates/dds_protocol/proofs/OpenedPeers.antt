@@ -111,6 +111,7 @@ backed : (config : Config) (number : ℕ) (p : Peer) → IsFresh p → IsBacked 
 backed config number p f = record {
   place = λ w r n h.
       ap (λ (k : Known). (k.tracked w r).place) f.known ∙ fresh_place (own_proxies p.part r) w n (f.proxies r) h;
+  unknown = λ w r h. ap (λ (k : Known). (k.tracked w r).place) f.known;
   claimed = λ w r.
       record {
         from = let e = ap (λ (k : Known). (k.tracked w r).place) f.known in omega (arith, e);

@@ -1,13 +1,14 @@
 -- What a writer owes a reader begins no lower later, whatever happens there.
-use Rattle.std.proofs.Common.{◌≡◌, ℕ, ◌+◌, ◌≤◌, Option, None, Some, List, [], ◌∷◌, ◌++◌, length, length-append, append_assoc, refl, ap, sym, ◌∙◌, subst, inl, inr, ⊎_elim, arith}
+use Rattle.std.proofs.Common.{◌≡◌, ℕ, ◌+◌, ◌≤◌, ◌⊎◌, Bool, true, false, not, cond, Option, None, Some, List, [], ◌∷◌, ◌++◌, filter, length, length-append, append_assoc, refl, ap, sym, ◌∙◌, subst, inl, inr, ⊎_elim, arith}
 use Rattle.std.specs.Prelude.{min}
 use Rattle.std.specs.Option.{option_map, option_map_or}
 use Rattle.std.proofs.Math.Nat.{min-le_left, min-le_right, le-min}
 use Rattle.dds_base.specs.declared.change.Change.{Change}
 use Rattle.dds_base.specs.Written.{Written, Registered, Changed, Asserted, LookedAt, StrengthSet, Ticked, changes_of}
 use Rattle.dds_machine.specs.declared.endpoint.Endpoint.{Endpoint}
-use Rattle.dds_machine.specs.Part.{acknowledged_of, IsAtMost, IsCovered, NoLess, ReaderProxy, Writer, row_of, with_acknowledged, owed_from, writer_changes}
-use Rattle.dds_machine.proofs.Tables.{acknowledged-cases, append_nothing, at_most_on, row-cases}
+use Rattle.dds_machine.specs.Matching.{joined, left, new_row}
+use Rattle.dds_machine.specs.Part.{same_endpoint, acknowledged_of, IsAtMost, IsCovered, NoLess, ReaderProxy, Writer, row_of, with_acknowledged, owed_from, writer_changes}
+use Rattle.dds_machine.proofs.Tables.{acknowledged-cases, append_nothing, at_most_on, row-append, row-cases, same_is}
 
 -- changes grow at their end
 
@@ -61,10 +62,16 @@ firsts_same : (o : Option ReaderProxy) (n n' : ℕ) → n ≤ n' → FirstsOn o 
 firsts_same None n n' le a h k = omega (arith, le, k)
 firsts_same (Some p) n n' le a h k = h
 
+firsts_gone : (o : Option ReaderProxy) (n n' : ℕ) → n ≤ n' → FirstsOn o n None n'
+firsts_gone o n n' le a h k = omega (arith, le, k)
+
 firsts_acknowledged : (o : Option ReaderProxy) (to n : ℕ)
     → FirstsOn o n (option_map (λ (p : ReaderProxy). record p { acknowledged = to }) o) n
 firsts_acknowledged None to n a h k = h
 firsts_acknowledged (Some p) to n a h k = h
+
+firsts_new : (n : ℕ) (p : ReaderProxy) → p.first ≡ n + 1 → FirstsOn None n (Some p) n
+firsts_new n p is a h k = omega (arith, is, k)
 
 -- where the rows are the same
 pub owed_same : (old new : Writer) → new.readers ≡ old.readers
@@ -90,9 +97,82 @@ owed_acknowledged w v to r =
     (owed_on (row w.readers v) (option_map change (row w.readers v)) n n le (firsts_acknowledged (row w.readers v) to n))))
     (row-cases (λ (p : ReaderProxy). p.reader) change (λ p. refl) w.readers v r)
 
+-- where the writer is told of a reader
+pub owed_joined : (w : Writer) (v : Endpoint) (reliable : Bool) (r : Endpoint)
+    → owed_from w r ≤ owed_from (joined w v reliable) r
+owed_joined w v false r =
+    let n = length (writer_changes w) in
+    let le : n ≤ n = omega arith in
+    owed_on (row w.readers r) (row w.readers r) n n le (firsts_same (row w.readers r) n n le)
+owed_joined w v true r =
+    let n = length (writer_changes w) in
+    let le : n ≤ n = omega arith in
+    let new : ReaderProxy = new_row w v in
+    let goal : Option ReaderProxy → Type 0 = λ o. owed_from w r ≤ min (first_or o (n + 1)) (n + 1) in
+    ⊎_elim (λ e. subst goal (sym e) (owed_on (row w.readers r) (row w.readers r) n n le (firsts_same (row w.readers r) n n le)))
+    (λ s.
+    subst goal (sym s.1)
+    (subst (λ (o : Option ReaderProxy). min (first_or o (n + 1)) (n + 1) ≤ min (first_or (Some new) (n + 1)) (n + 1)) (sym s.0)
+    (owed_on None (Some new) n n le (firsts_new n new refl))))
+    (row-append (λ (p : ReaderProxy). p.reader) w.readers new r)
+
+-- rows without those of one reader
+
+abbrev without : List ReaderProxy → Endpoint → List ReaderProxy
+without rows v = filter (λ (p : ReaderProxy). not (same_endpoint p.reader v)) rows
+
+row-none : (xs : List ReaderProxy) (v : Endpoint) → row (without xs v) v ≡ None
+row-none [] v = refl
+row-none (x ∷ xs) v = by (same_endpoint x.reader v) refl (row-none xs v)
+  where
+    by : (b : Bool) → same_endpoint x.reader v ≡ b → row (without xs v) v ≡ None
+        → row (cond (not b) (x ∷ without xs v) (without xs v)) v ≡ None
+    by true is h = h
+    by false is h = ap (λ (c : Bool). cond c (Some x) (row (without xs v) v)) is ∙ h
+
+row-filter : (xs : List ReaderProxy) (v r : Endpoint)
+    → (row (without xs v) r ≡ row xs r) ⊎ (row (without xs v) r ≡ None)
+row-filter [] v r = inl refl
+row-filter (x ∷ xs) v r = by (same_endpoint x.reader v) (same_endpoint x.reader r) refl refl (row-filter xs v r)
+  where
+    by : (b c : Bool) → same_endpoint x.reader v ≡ b → same_endpoint x.reader r ≡ c
+        → (row (without xs v) r ≡ row xs r) ⊎ (row (without xs v) r ≡ None)
+        → (row (cond (not b) (x ∷ without xs v) (without xs v)) r ≡ cond c (Some x) (row xs r))
+        ⊎ (row (cond (not b) (x ∷ without xs v) (without xs v)) r ≡ None)
+    by false true is here h = inl (ap (λ (d : Bool). cond d (Some x) (row (without xs v) r)) here)
+    by false false is here h =
+        ⊎_elim (λ e. inl (ap (λ (d : Bool). cond d (Some x) (row (without xs v) r)) here ∙ e))
+        (λ e. inr (ap (λ (d : Bool). cond d (Some x) (row (without xs v) r)) here ∙ e)) h
+    by true false is here h = h
+    by true true is here h =
+        let same : r ≡ v = sym (same_is x.reader r here) ∙ same_is x.reader v is in
+        inr (ap (λ (e : Endpoint). row (without xs v) e) same ∙ row-none xs v)
+
+-- where it is told that one has left
+pub owed_left : (w : Writer) (v r : Endpoint) → owed_from w r ≤ owed_from (left w v) r
+owed_left w v r =
+    let n = length (writer_changes w) in
+    let le : n ≤ n = omega arith in
+    let goal : Option ReaderProxy → Type 0 = λ o. owed_from w r ≤ min (first_or o (n + 1)) (n + 1) in
+    ⊎_elim (λ e. subst goal (sym e) (owed_on (row w.readers r) (row w.readers r) n n le (firsts_same (row w.readers r) n n le)))
+    (λ e. subst goal (sym e) (owed_on (row w.readers r) None n n le (firsts_gone (row w.readers r) n n le)))
+    (row-filter w.readers v r)
+
 -- nothing is owed that is not made, or made next
 pub owed_within : (w : Writer) (r : Endpoint) → owed_from w r ≤ length (writer_changes w) + 1
 owed_within w r = min-le_right (first_or (row w.readers r) (length (writer_changes w) + 1)) (length (writer_changes w) + 1)
+
+-- to a reader without a row nothing is owed that is made
+pub owed_apart : (w : Writer) (r : Endpoint) → acknowledged_of w.readers r ≡ None
+    → length (writer_changes w) + 1 ≤ owed_from w r
+owed_apart w r none = by (row w.readers r) none
+  where
+    n : ℕ
+    n = length (writer_changes w)
+
+    by : (o : Option ReaderProxy) → acks o ≡ None → n + 1 ≤ min (first_or o (n + 1)) (n + 1)
+    by None e = let all : n + 1 ≤ n + 1 = omega arith in le-min all all
+    by (Some p) e = cc
 
 -- ---- what is acknowledged is not owed, or the reader has it
 
@@ -116,6 +196,33 @@ pub covered_same : (old new : Writer) (r : Endpoint) (place : Option ℕ) → ne
 covered_same old new r place rows le self h =
     subst (λ (xs : List ReaderProxy). IsCovered (acknowledged_of xs r) (owed_from new r) place) (sym rows)
     (covered_on (acknowledged_of old.readers r) (owed_from old r) (owed_from new r) place place le self h)
+
+pub covered_joined : (w : Writer) (v : Endpoint) (reliable : Bool) (r : Endpoint) (place : Option ℕ)
+    → NoLess place place → Covered w r place → Covered (joined w v reliable) r place
+covered_joined w v false r place self h =
+    covered_same w (joined w v false) r place refl (owed_joined w v false r) self h
+covered_joined w v true r place self h =
+    let n = length (writer_changes w) in
+    let new : ReaderProxy = new_row w v in
+    let owed = owed_from (joined w v true) r in
+    ⊎_elim (λ e. subst (λ (o : Option ReaderProxy). IsCovered (acks o) owed place) (sym e)
+    (covered_on (acknowledged_of w.readers r) (owed_from w r) owed place place (owed_joined w v true r) self h))
+    (λ s.
+    let all : n + 1 ≤ n + 1 = omega arith in
+    let is : owed_from (joined w v true) r ≡ min (first_or (Some new) (n + 1)) (n + 1) =
+    ap (λ (o : Option ReaderProxy). min (first_or o (n + 1)) (n + 1)) s.1 in
+    let covers : n + 1 ≤ min (first_or (Some new) (n + 1)) (n + 1) = le-min all all in
+    subst (λ (o : Option ReaderProxy). IsCovered (acks o) owed place) (sym s.1) (inl (omega (arith, is, covers))))
+    (row-append (λ (p : ReaderProxy). p.reader) w.readers new r)
+
+pub covered_left : (w : Writer) (v r : Endpoint) (place : Option ℕ)
+    → NoLess place place → Covered w r place → Covered (left w v) r place
+covered_left w v r place self h =
+    let owed = owed_from (left w v) r in
+    ⊎_elim (λ e. subst (λ (o : Option ReaderProxy). IsCovered (acks o) owed place) (sym e)
+    (covered_on (acknowledged_of w.readers r) (owed_from w r) owed place place (owed_left w v r) self h))
+    (λ e. subst (λ (o : Option ReaderProxy). IsCovered (acks o) owed place) (sym e) tt)
+    (row-filter w.readers v r)
 
 -- where a reader acknowledges no more than it has
 pub covered_acknowledged : (w : Writer) (v : Endpoint) (from to : ℕ) (r : Endpoint) (place : Endpoint → Option ℕ)

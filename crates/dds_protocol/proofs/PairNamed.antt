@@ -5,9 +5,11 @@ use Rattle.std.proofs.lemmas.List.Elements.{Contains-append_cases}
 use Rattle.dds_base.specs.declared.config.Config.{Config}
 use Rattle.dds_base.specs.declared.config.PeerConfig.{PeerConfig}
 use Rattle.dds_base.specs.declared.config.ReaderConfig.{ReaderConfig}
+use Rattle.dds_base.specs.declared.config.WriterConfig.{WriterConfig}
 use Rattle.dds_base.specs.Matched.{is_reliable_reader, same_topic}
 use Rattle.dds_machine.specs.declared.endpoint.Endpoint.{Endpoint}
 use Rattle.dds_machine.specs.Part.{Part, ReaderProxy, same_endpoint, row_of, own_writer, acknowledged_of}
+use Rattle.dds_protocol.specs.Claims.{IsNumbered}
 use Rattle.dds_protocol.specs.DueMessages.{writer_entity}
 use Rattle.dds_protocol.specs.Dues.{IsPartOf}
 use Rattle.dds_protocol.specs.Repair.{IsPair}
@@ -133,9 +135,17 @@ pub record PairOf (config : Config) (writer reader : Endpoint) : Type 0 where
   pub pair : IsPair config writer reader
   pub writer_is : pair.writer_entity ≡ writer_entity config writer.peer writer.number
 
+-- the writer of the peer has rows for the reliable readers of its topic, in the order of the configuration
+abbrev pub HasConfigured : Config → Endpoint → Part → Type 0
+HasConfigured config writer part = (p : PeerConfig) (w : WriterConfig) → IsNumbered config.peers writer.peer p
+    → IsNumbered p.writers writer.number w
+    → map (λ (q : ReaderProxy). q.reader) (own_writer part writer.number).readers ≡ names w.topic 1 config.peers
+
+-- whoever has a row there is matched with it by the configuration
 pub pair_named : (config : Config) (writer reader : Endpoint) (part : Part) (a : ℕ) → IsPartOf config writer.peer part
+    → HasConfigured config writer part
     → acknowledged_of (own_writer part writer.number).readers reader ≡ Some a → PairOf config writer reader
-pair_named config writer reader part a of row =
+pair_named config writer reader part a of configured row =
     record {
       pair = record {
         writer_entity = writer_entity config writer.peer writer.number;
@@ -162,7 +172,8 @@ pair_named config writer reader part a of row =
 
     among : Contains (names own.name.end.topic 1 config.peers) reader
     among =
-        subst (λ (es : List Endpoint). Contains es reader) (own.lists)
+        subst (λ (es : List Endpoint). Contains es reader)
+        (configured own.name.peer own.name.end own.name.at_peer own.name.at_writer)
         (named_row (own_writer part writer.number).readers reader a row)
 
     found : IsEndOf own.name.end.topic 1 config.peers reader

@@ -63,7 +63,7 @@ delivery_qos g old reply new r h = absurd h
 -- ---- calls
 
 -- the reader of number k has changed, and has the same policies
-changed_qos : (old : Part) (new : Dds) (k : ℕ) (reader : Reader) (r : ℕ) → reader.qos ≡ (own_reader old k).qos
+pub changed_qos : (old : Part) (new : Dds) (k : ℕ) (reader : Reader) (r : ℕ) → reader.qos ≡ (own_reader old k).qos
     → new ≡ record old.dds { readers = with_numbered old.dds.readers k reader }
     → (numbered new.readers r no_reader).qos ≡ (own_reader old r).qos
 changed_qos old new k reader r same e =
@@ -105,7 +105,7 @@ tick_qos old now reply new h r = absurd h
 -- ---- the machine
 
 -- the policies of a reader stay
-reader_qos_at : (m : Machine) (peer : ℕ) (after : Part) (new : Machine) (r : Endpoint)
+pub reader_qos_at : (m : Machine) (peer : ℕ) (after : Part) (new : Machine) (r : Endpoint)
     → new ≡ record { parts = with_numbered m.parts peer after }
     → ((k : ℕ) → (own_reader after k).qos ≡ (own_reader (part_at m peer) k).qos)
     → (own_reader (part_at new r.peer) r.number).qos ≡ (own_reader (part_at m r.peer) r.number).qos

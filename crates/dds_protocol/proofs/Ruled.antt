@@ -32,6 +32,7 @@ use Rattle.dds_machine.proofs.Tables.{numbered-same, place-hits}
 pub record BackedAt (config : Config) (peer : ℕ) (packets : List (List ℕ)) (deliveries : List Delivery) (w : Endpoint)
     (r : ℕ) (state : State) : Type 0 where
   pub place : (p : ℕ) → place_of (own_proxies state.part r) w ≡ Some p → (state.known.tracked w r).place ≡ p
+  pub unknown : place_of (own_proxies state.part r) w ≡ None → (state.known.tracked w r).place ≡ 1
   pub claimed : IsClaimed config peer packets w r (state.known.tracked w r)
   pub newest : TookNone config peer deliveries w r (state.known.tracked w r)
   pub heard : (count : ℤ) → heard_of (own_proxies state.part r) w ≡ Some (Some count)
@@ -49,6 +50,14 @@ backed_on config peer packets deliveries v k old new f b h = record {
       (subst (λ (x : Endpoint). place_of (own_proxies new.part r) x ≡ Some p) same.0 e)))))
       (λ apart. ap (λ (t : Tracked). t.place) (f.tracked w r apart)
       ∙ b.place w r p (before (λ xs. place_of xs w) w r (f.places w) apart (number_or_not r k) ∙ e))
+      (pair_or_not w r v k);
+  unknown = λ w r e.
+      ⊎_elim (λ same. subst (λ (x : Endpoint). (new.known.tracked x r).place ≡ 1) (sym same.0)
+      (subst (λ (n : ℕ). (new.known.tracked v n).place ≡ 1) (sym same.1)
+      (h.unknown (subst (λ (n : ℕ). place_of (own_proxies new.part n) v ≡ None) same.1
+      (subst (λ (x : Endpoint). place_of (own_proxies new.part r) x ≡ None) same.0 e)))))
+      (λ apart. ap (λ (t : Tracked). t.place) (f.tracked w r apart)
+      ∙ b.unknown w r (before (λ xs. place_of xs w) w r (f.places w) apart (number_or_not r k) ∙ e))
       (pair_or_not w r v k);
   claimed = λ w r.
       ⊎_elim (λ same. subst (λ (x : Endpoint). IsClaimed config peer packets x r (new.known.tracked x r)) (sym same.0)
@@ -182,6 +191,10 @@ goes_backed config peer packets deliveries old w r t moves new k newest heard h 
           sym (ap (λ (xs : List WriterProxy). place_of xs w) rows
           ∙ place-hits (own_proxies old.part r) w h.place h.to h.matched.at) ∙ e in
           ap (λ (x : Tracked). x.place) here ∙ (h.advances.place ∙ same_Some h.to p at);
+      unknown = λ e.
+          absurd (let no : Some h.to ≡ None =
+          sym (ap (λ (xs : List WriterProxy). place_of xs w) rows
+          ∙ place-hits (own_proxies old.part r) w h.place h.to h.matched.at) ∙ e in cc);
       claimed = subst (λ (x : Tracked). IsClaimed config peer packets w r x) (sym here)
           (gone_claimed config peer packets w r t h.to h.known k h.advances);
       newest = λ d count among applied. ap (λ (x : Option ℤ). is_later x count) counts ∙ newest d count among applied;

@@ -23,6 +23,7 @@ use Rattle.dds_protocol.proofs.Framing.{Frames, has_found, frames_at, frames_non
 use Rattle.dds_protocol.proofs.Knowing.{heartbeat_claimed, answered_claimed, answered_same}
 use Rattle.dds_protocol.proofs.Ways.{goes_went}
 use Rattle.dds_protocol.proofs.Ruled.{BackedAt, backed_on, goes_moves, way_frames, goes_backed, later_on, not_later_than_itself, earlier}
+use Rattle.dds_protocol.proofs.Growth.{AreMoves-grows, none_before}
 use Rattle.dds_machine.proofs.Tables.{numbered-same, place-heard}
 use Rattle.dds_protocol.proofs.RuledReaders.{Backs, Coming, IsStarted, IsTakenAt, Met, deliveries, grounds, not_started, nothing_taken, packets, starts_at, tracked_by, writer_is}
 
@@ -239,6 +240,10 @@ heartbeat_takes c h s is w r entity old made dues new b to heard_so k =
           ap (λ (x : Tracked). x.place) known_is
           ∙ ((answered_same k.answer (k.there.known.tracked w r)).0
           ∙ gone.place p (ap (λ (q : Part). place_of (own_proxies q r) w) (sym part) ∙ e));
+      unknown = λ e.
+          ap (λ (x : Tracked). x.place) known_is
+          ∙ ((answered_same k.answer (k.there.known.tracked w r)).0
+          ∙ gone.unknown (ap (λ (q : Part). place_of (own_proxies q r) w) (sym part) ∙ e));
       claimed =
           subst (λ (x : Tracked). IsClaimed c.config c.peer (packets c) w r x) (sym known_is)
           (answered_claimed c.config c.peer (packets c) w r k.answer (k.there.known.tracked w r) gone.claimed);
@@ -317,6 +322,13 @@ heard_alone c h is w r old made new b to there k = record {
           ap (λ (x : Tracked). x.place) known_is
           ∙ (ap (λ (x : Known). (x.tracked w r).place) heard.known
           ∙ b.place w r p (heard.place p (ap (λ (q : Part). place_of (own_proxies q r) w) (sym part) ∙ e)));
+      unknown = λ e.
+          ap (λ (x : Tracked). x.place) known_is
+          ∙ (ap (λ (x : Known). (x.tracked w r).place) heard.known
+          ∙ b.unknown w r
+          (none_before old.part.rtps k.heard.part.rtps
+          (AreMoves-grows (grounds c) old.part made k.heard.part heard.moves) r w
+          (ap (λ (q : Part). place_of (own_proxies q r) w) (sym part) ∙ e)));
       claimed = subst (λ (x : Tracked). IsClaimed c.config c.peer (packets c) w r x) (sym known_is)
           (record { from = known.from; change = known.change; pass = known.pass });
       newest = λ d n among applied.

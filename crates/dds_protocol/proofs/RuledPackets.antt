@@ -234,6 +234,7 @@ rebacked : (p : Packet) (old new : Option ℕ) (s : State)
     → Backed p old s → Backed p new s
 rebacked p old new s f b = record {
   place = b.place;
+  unknown = b.unknown;
   claimed = b.claimed;
   newest = λ w r has d count among h.
       newest_by p (refused_at new) w r (s.known.tracked w r).count
@@ -383,6 +384,7 @@ follows_up p index at (s ∷ ss) rest old moves refused dues new b met (inr h) =
 pub begun : (p : Packet) (s : State) → IsBacked p.config p.peer (packets_of p.before) p.before s → Backed p (Some 0) s
 begun p s b = record {
   place = b.place;
+  unknown = b.unknown;
   claimed = λ w r.
       claimed_on p.config p.peer (packets_of p.before) (p.bytes ∷ packets_of p.before) w r (s.known.tracked w r)
       (b.claimed w r)
@@ -411,6 +413,7 @@ pub reported : (p : Packet) (report : Report) (s : State) → Backed p report.re
     (record { packet = p.bytes; rows = p.rows; report = report } ∷ p.before) s
 reported p report s b = record {
   place = b.place;
+  unknown = b.unknown;
   claimed = b.claimed;
   newest = λ w r has d count among h.
       newest_by p report w r (s.known.tracked w r).count
@@ -439,6 +442,9 @@ unread_backed config peer before bytes old new report taken same b = record {
   place =
       λ w r p e. ap (λ (k : Known). (k.tracked w r).place) same
       ∙ b.place w r p (ap (λ (q : Part). place_of (own_proxies q r) w) (sym taken.after) ∙ e);
+  unknown =
+      λ w r e. ap (λ (k : Known). (k.tracked w r).place) same
+      ∙ b.unknown w r (ap (λ (q : Part). place_of (own_proxies q r) w) (sym taken.after) ∙ e);
   claimed = λ w r.
       subst (λ (k : Known). IsClaimed config peer (bytes ∷ packets_of before) w r (k.tracked w r)) (sym same)
       (claimed_on config peer (packets_of before) (bytes ∷ packets_of before) w r (old.known.tracked w r)

@@ -47,6 +47,7 @@ use Rattle.dds_protocol.proofs.Knowing.{data_claimed, gap_claimed}
 use Rattle.dds_protocol.proofs.Ways.{Went, goes_went, change_went, jumps_go}
 use Rattle.dds_protocol.proofs.Ruled.{BackedAt, backed_on, way_moves, goes_moves, way_frames, goes_backed}
 use Rattle.dds_protocol.proofs.Policies.{at_reader-qos}
+use Rattle.dds_protocol.proofs.Growth.{AreMoves-grows, none_before}
 use Rattle.dds_machine.proofs.Tables.{begun-hits, numbered-same, row-hits}
 
 -- a submessage of a packet, which comes to a peer after these deliveries, and found these rows
@@ -374,6 +375,7 @@ pub record IsStarted (c : Coming) (w : Endpoint) (r : ℕ) (old : State) (made :
   pub frames : Frames old w r new
   pub claimed : IsClaimed c.config c.peer (packets c) w r (tracked_by new w r)
   pub place : (p : ℕ) → place_of (own_proxies new.part r) w ≡ Some p → (tracked_by new w r).place ≡ p
+  pub unknown : place_of (own_proxies new.part r) w ≡ None → (tracked_by new w r).place ≡ (tracked_by old w r).place
   pub count : (tracked_by new w r).count ≡ (tracked_by old w r).count
   pub counts : (n : ℤ) → heard_of (own_proxies new.part r) w ≡ Some (Some n)
       → heard_of (own_proxies old.part r) w ≡ Some (Some n)
@@ -390,6 +392,7 @@ not_started c w r old made new k place h = record {
   place = λ p e.
       ap (λ (s : State). (tracked_by s w r).place) h.1
       ∙ place p (ap (λ (s : State). place_of (own_proxies s.part r) w) (sym h.1) ∙ e);
+  unknown = λ e. ap (λ (s : State). (tracked_by s w r).place) h.1;
   count = ap (λ (s : State). (tracked_by s w r).count) h.1;
   counts = λ n e. ap (λ (s : State). heard_of (own_proxies s.part r) w) (sym h.1) ∙ e;
 }
@@ -440,6 +443,10 @@ starts_at c w r number old made new k place may h =
           ap (λ (x : Tracked). x.place) known_is
           ∙ same_Some to p (sym (begun-hits rows w h.place to h.at)
           ∙ (ap (λ (xs : List WriterProxy). place_of xs w) (sym proxies) ∙ e));
+      unknown = λ e.
+          absurd (let no : Some to ≡ None =
+          sym (begun-hits rows w h.place to h.at)
+          ∙ (ap (λ (xs : List WriterProxy). place_of xs w) (sym proxies) ∙ e) in cc);
       count = ap (λ (x : Tracked). x.count) known_is;
       counts = λ n e.
           sym (ap (λ (o : Option WriterProxy). option_map (λ (p : WriterProxy). p.heard) o)
@@ -455,6 +462,10 @@ started_backed : (c : Coming) (w : Endpoint) (r : ℕ) (old : State) (made : Lis
 started_backed c w r old made new b there s =
     backed_on c.config c.peer (packets c) (deliveries c) w r old new s.frames b (record {
       place = s.place;
+      unknown = λ e.
+          s.unknown e
+          ∙ b.unknown w r
+          (none_before old.part.rtps new.part.rtps (AreMoves-grows (grounds c) old.part made new.part s.moves) r w e);
       claimed = s.claimed;
       newest = λ d n among applied.
           ap (λ (o : Option ℤ). is_later o n) s.count ∙ b.newest w r there d n among applied;

@@ -49,7 +49,13 @@ acknack_takes c a this writer reader old made dues new b is h = record {
   moves = by (nat_lt h.acknowledged base) refl;
   backed =
       subst (λ (x : State). Backs c x) (sym h.after)
-      (record { place = b.place; claimed = b.claimed; newest = b.newest; heard = b.heard });
+      (record {
+        place = b.place;
+        unknown = b.unknown;
+        claimed = b.claimed;
+        newest = b.newest;
+        heard = b.heard;
+      });
   readers = ap (λ (x : State). length x.part.rtps.readers) h.after;
 }
   where

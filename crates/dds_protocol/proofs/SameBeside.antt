@@ -10,7 +10,7 @@ use Rattle.dds_notices.specs.Listeners.{Place}
 use Rattle.dds_machine.specs.declared.endpoint.Endpoint.{Endpoint}
 use Rattle.dds_protocol.specs.declared.event.Packet.{Packet}
 use Rattle.dds_machine.specs.Numbered.{numbered, with_numbered, HasNumber}
-use Rattle.dds_machine.specs.Part.{Part, Writer, ReaderProxy, WriterProxy, heartbeats_used, own_writer, place_of, NoLess}
+use Rattle.dds_machine.specs.Part.{Part, Writer, WriterProxy, heartbeats_used, place_of, NoLess}
 use Rattle.dds_protocol.specs.Protocol.{Known}
 use Rattle.dds_protocol.specs.Peer.{Peer, Delivery, no_peer}
 use Rattle.dds_protocol.specs.Bounds.{IsBounded}
@@ -100,16 +100,7 @@ bounded_beside old new s bounded r w p h =
 
 part_beside : (config : Config) (peer : ℕ) (old new : Part) → AlikeParts old new → IsPartOf config peer old
     → IsPartOf config peer new
-part_beside config peer old new same h = record {
-  here = h.here;
-  at = h.at;
-  writers = same.count ∙ h.writers;
-  matched = λ number w at. (same.writers number).grows.matched ∙ h.matched number w at;
-  readers = λ number w at.
-      ap (λ (rows : List ReaderProxy). map (λ (p : ReaderProxy). p.reader) rows)
-      (alike_readers (own_writer old number) (own_writer new number) (same.writers number))
-      ∙ h.readers number w at;
-}
+part_beside config peer old new same h = record { here = h.here; at = h.at; writers = same.count ∙ h.writers }
 
 beats_alike : (old new : Writer) → AlikeWriters old new → heartbeats_used new ≡ heartbeats_used old
 beats_alike old new h = ap (λ (bs : List Bool). length bs) h.counts

@@ -2,7 +2,7 @@
 --
 -- A notion of this project, of what a reader knows by RTPS 2.5, 8.4.10 (WriterProxy, ChangeFromWriter), and a
 -- packet says by 8.3.8.
-use Rattle.std.specs.Prelude.{◌≡◌, ℕ, ◌≤◌, true, false, List, Some, ℤ, Contains}
+use Rattle.std.specs.Prelude.{◌≡◌, ℕ, ◌≤◌, true, false, List, None, Some, ℤ, Contains}
 use Rattle.dds_base.specs.declared.change.Change.{Change}
 use Rattle.dds_base.specs.declared.config.Config.{Config}
 use Rattle.dds_base.specs.Counts.{is_later}
@@ -33,11 +33,14 @@ TookNone config peer deliveries writer reader t =
     (delivery : Delivery) (count : ℤ) → Contains deliveries delivery
     → IsApplied config delivery writer (reader_at peer reader) count → is_later t.count count ≡ false
 
--- all that a peer knows is claimed by these packets, and these deliveries told nothing newer
+-- all that a peer knows is claimed by these packets, and these deliveries told nothing newer; the place that it knows is
+-- that of the row, and 1 where there is none
 pub record IsBacked (config : Config) (peer : ℕ) (packets : List (List ℕ)) (deliveries : List Delivery)
     (state : State) : Type 0 where
   pub place : (w : Endpoint) (r p : ℕ) → place_of (own_proxies state.part r) w ≡ Some p
       → (state.known.tracked w r).place ≡ p
+  pub unknown : (w : Endpoint) (r : ℕ) → place_of (own_proxies state.part r) w ≡ None
+      → (state.known.tracked w r).place ≡ 1
   pub claimed : (w : Endpoint) (r : ℕ) → IsClaimed config peer packets w r (state.known.tracked w r)
   pub newest : (w : Endpoint) (r : ℕ) → HasNumber state.part.rtps.readers r
       → TookNone config peer deliveries w r (state.known.tracked w r)

@@ -2,7 +2,7 @@
 --
 -- A notion of this project, of the messages of RTPS 2.5, 8.4.9 (reliable StatefulWriter) and 8.4.12 (reliable
 -- StatefulReader); 8.3.8 has what each submessage means.
-use Rattle.std.specs.Prelude.{◌≡◌, ℕ, ◌<◌, ◌≤◌, List, length, map, Some}
+use Rattle.std.specs.Prelude.{◌≡◌, ℕ, ◌<◌, ◌≤◌, List, length, Some}
 use Rattle.std.specs.List.{All, AllByRecursion}
 use Rattle.dds_base.specs.declared.change.Change.{Change}
 use Rattle.dds_base.specs.declared.config.Config.{Config}
@@ -11,15 +11,13 @@ use Rattle.dds_base.specs.declared.config.ReaderConfig.{ReaderConfig}
 use Rattle.dds_base.specs.declared.config.WriterConfig.{WriterConfig}
 use Rattle.dds_base.specs.Bounds.{end_of_moments, greatest_value, key_octets, max_sn, window_width}
 use Rattle.dds_base.specs.Kept.{change_at}
-use Rattle.dds_base.specs.Matched.{of_reliable_readers}
 use Rattle.rtps_wire.specs.declared.submessage.Submessage.{Submessage}
 use Rattle.rtps_wire.specs.declared.submessage.Submessage.TheVariants.{AckNack}
 use Rattle.rtps_wire.specs.Content.{IsEmptyUnlessWrite}
 use Rattle.rtps_wire.specs.Data.{IsStrength}
 use Rattle.rtps_wire.specs.Fields.{IsEntityId}
 use Rattle.rtps_wire.specs.Messages.{IsWritable, spelling_of}
-use Rattle.dds_machine.specs.Opening.{matched_readers}
-use Rattle.dds_machine.specs.Part.{Part, ReaderProxy, own_writer, writer_changes}
+use Rattle.dds_machine.specs.Part.{Part, own_writer, writer_changes}
 use Rattle.dds_protocol.specs.Claims.{IsNumbered, Claim, Claims}
 use Rattle.dds_protocol.specs.Peer.{IsTrueAt}
 use Rattle.dds_protocol.specs.DueMessages.{Due}
@@ -34,18 +32,11 @@ abbrev pub AreTellable : Part → Type 0
 AreTellable part = (writer number : ℕ) (change : Change)
     → change_at (writer_changes (own_writer part writer)) number ≡ Some change → IsTellable change
 
--- the part is that of the configuration's peer of this number: it has the writers of the peer, and each of them has the
--- readers of its topic for its matched readers, and knows of the reliable ones among them, in the order of the
--- configuration
+-- the part is that of the configuration's peer of this number: it has that peer's writers, whoever is matched with them
 pub record IsPartOf (config : Config) (peer : ℕ) (part : Part) : Type 0 where
   pub here : PeerConfig
   pub at : IsNumbered config.peers peer here
   pub writers : length part.rtps.writers ≡ length here.writers
-  pub matched : (number : ℕ) (w : WriterConfig) → IsNumbered here.writers number w
-      → (own_writer part number).matched ≡ matched_readers w.topic 1 config.peers
-  pub readers : (number : ℕ) (w : WriterConfig) → IsNumbered here.writers number w
-      → map (λ (p : ReaderProxy). p.reader) (own_writer part number).readers
-      ≡ of_reliable_readers (λ i p k r. record { peer = i; number = k }) w.topic 1 config.peers
 
 -- what the message claims, once it is written, is true of the peer's own lists and places
 abbrev pub IsTruthful : Config → ℕ → Part → Due → Type 0

@@ -19,3 +19,4 @@ pub mod CatchUp
 pub mod Repair
 pub mod Filters
 pub mod Noticing
+pub mod Tellings

@@ -13,6 +13,7 @@ ghost use Rattle.dds_protocol.specs.InOrder.{ChangesComeInOrder};
 ghost use Rattle.dds_protocol.specs.Laws.{AnswersAreTrue, AnswersCanBeWritten, AssertionsAreTrue, AssertionsCanBeWritten, Composes, ComposesRuns, HeartbeatsAreTrue, KeepAllIsKept, OpensBacked, OpensSound, OwnersExist, ReadersTellWritersApart, RulesRestOnClaims};
 ghost use Rattle.dds_protocol.specs.Protocol.{answers_per};
 ghost use Rattle.dds_protocol.specs.Repair.{AnswersAreFew, AsksAreSent, BeatsAreSent, PairCatchesUp, packets_for};
+ghost use Rattle.dds_protocol.specs.Tellings.{StepsOweNoMore, TellingsBacked, TellingsBounded, TellingsCompose, TellingsOweNoMore, TellingsStayDue, TellingsUsed, TurnsComeInOrder, TurnsKeepAll};
 ghost use Rattle.dds_protocol.specs.declared.event.Packet.{Packet};
 
 use crate::event::{Event, Output};
@@ -61,6 +62,31 @@ pub fn nobody_comes_or_goes()
     ensures acknowledged { ClosedAcknowledges }
     // What is not owed is nothing to a best-effort reader, whoever came or left.
     ensures best_effort { BestEffortAsDropped }
+{}
+
+/// A peer may be told at any moment that a writer and a reader are matched from now on, or no longer, whatever the other
+/// side knows: all that holds of networks by the rules holds on.
+///
+/// RTPS 2.5, 8.4.7.4, 8.4.10.3.
+pub fn whoever_comes_or_goes()
+    // Claims stay true, and the machine without packets is told the same.
+    ensures composes { TellingsCompose }
+    // What is owed begins no earlier after an event,
+    ensures event { StepsOweNoMore }
+    // and after a telling.
+    ensures owed { TellingsOweNoMore }
+    // Places stay within the lists,
+    ensures bounded { TellingsBounded }
+    // and counts are used.
+    ensures used { TellingsUsed }
+    // What a peer knows stays what packets claimed,
+    ensures backed { TellingsBacked }
+    // and what it has to send is true, and can be written, as before.
+    ensures due { TellingsStayDue }
+    // Whoever is told what between events, what a writer that keeps all owes at the end was passed over nowhere,
+    ensures kept { TurnsKeepAll }
+    // and what came is the beginning of its list where it owes all.
+    ensures order { TurnsComeInOrder }
 {}
 
 /// After every run, the changes of a writer that keeps all that came at a matched reader are the first ones of its
