@@ -1,3 +1,4 @@
 pub mod Tables
 mod WorkedNotices
 mod WorkedConditions
+mod WorkedMatching

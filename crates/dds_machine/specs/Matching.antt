@@ -4,7 +4,7 @@
 -- RTPS 2.5, 8.4.7.4 (StatefulWriter, matched_reader_add, matched_reader_remove), 8.4.10.3 (StatefulReader,
 -- matched_writer_add, matched_writer_remove); DDS 1.4, 2.2.3 (DURABILITY: VOLATILE), 2.2.4.1
 -- (PUBLICATION_MATCHED, SUBSCRIPTION_MATCHED), 2.2.1.1 (return codes).
-use Rattle.std.specs.Prelude.{◌≡◌, ℕ, ◌+◌, ◌-◌, ◌^◌, ◌<◌, Bool, true, false, not, if◌then◌else◌, List, [], ◌∷◌, ◌++◌, length, filter, count_by, Option, Some, None, is_some}
+use Rattle.std.specs.Prelude.{◌≡◌, ℕ, ◌+◌, ◌-◌, ◌^◌, ◌<◌, min, pos, ◌-ℤ◌, Bool, true, false, not, if◌then◌else◌, List, [], ◌∷◌, ◌++◌, length, filter, count_by, Option, Some, None, is_some}
 use Rattle.std.specs.List.{list_any}
 use Rattle.dds_base.specs.declared.code.Code.{Code}
 use Rattle.dds_base.specs.declared.code.Code.TheVariants.{BadParameter, Memory, PreconditionNotMet}
@@ -12,6 +12,7 @@ use Rattle.dds_base.specs.declared.happening.Happening.{Happening}
 use Rattle.dds_base.specs.Liveliness.{after_parting}
 use Rattle.dds_base.specs.Refusal.{Refuses}
 use Rattle.dds_machine.specs.declared.endpoint.Endpoint.{Endpoint}
+use Rattle.dds_machine.specs.declared.reply.MatchedStatus.{MatchedStatus}
 use Rattle.dds_machine.specs.Numbered.{has_element, numbered, with_numbered}
 use Rattle.dds_machine.specs.Part.{Attachment, Away, Waiting, Matches, ReaderProxy, WriterProxy, Writer, Reader, Rtps, Dds, Part, no_writer, own_writer, own_proxies, own_reader, writer_changes, same_endpoint, row_of, with_row, how_of, is_attached, publication_among}
 
@@ -87,6 +88,26 @@ reader_joined r writer = record r { matches = match_made r.matches writer }
 abbrev pub reader_left : Reader → Endpoint → List Happening → Reader
 reader_left r writer happened = record r { happened = happened; matches = match_ended r.matches writer }
 
+-- ---- statuses
+
+-- the matches, of which there are so many, once the application has looked at them
+abbrev pub seen_matches : Matches → ℕ → Matches
+seen_matches matches here = record matches { made_seen = matches.made; here_seen = here }
+
+-- a number of matches as the statuses tell it: in 64 bits, where it stays at the greatest number
+abbrev pub told_matches : ℕ → ℕ
+told_matches n = min n (2 ^ 64 - 1)
+
+-- the status of these matches, of which there are so many (DDS 1.4, 2.2.4.1)
+abbrev pub matched_status : Matches → ℕ → MatchedStatus
+matched_status matches here = record {
+  total_count = told_matches matches.made;
+  total_count_change = told_matches matches.made - told_matches matches.made_seen;
+  current_count = pos here;
+  current_count_change = pos here -ℤ pos matches.here_seen;
+  last = matches.last;
+}
+
 -- ---- tellings
 
 -- what a peer is told: its writer of a reader, which is reliable or not, or that a reader has left; its reader of a
@@ -129,7 +150,8 @@ after_telling old (UnmatchWriter reader writer) =
 -- what has happened at the peer's reader once this writer left
 abbrev pub parted_at : Part → ℕ → Endpoint → List Happening
 parted_at part reader writer =
-    happened_after (publication_among (own_proxies part reader) writer) part.dds.moment (own_reader part reader).happened
+    happened_after (publication_among (own_proxies part reader) writer) part.dds.moment
+    (own_reader part reader).happened
 
 -- what it does to what the peer's own calls see
 abbrev pub seen_after_telling : Part → Telling → Dds

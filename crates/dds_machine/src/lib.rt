@@ -16,4 +16,4 @@ pub use call::Call;
 pub use dds_base::{LivelinessChangedStatus, LivelinessLostStatus, PassedRun, SampleLostStatus};
 pub use endpoint::Endpoint;
 pub use event::WorldEvent;
-pub use reply::{Move, Reply, Report};
+pub use reply::{MatchedStatus, Move, Reply, Report};

@@ -33,8 +33,8 @@ TookNone config peer deliveries writer reader t =
     (delivery : Delivery) (count : ℤ) → Contains deliveries delivery
     → IsApplied config delivery writer (reader_at peer reader) count → is_later t.count count ≡ false
 
--- all that a peer knows is claimed by these packets, and these deliveries told nothing newer; the place that it knows is
--- that of the row, and 1 where there is none
+-- all that a peer knows is claimed by these packets, and these deliveries told nothing newer; the place that it knows
+-- is that of the row, and 1 where there is none
 pub record IsBacked (config : Config) (peer : ℕ) (packets : List (List ℕ)) (deliveries : List Delivery)
     (state : State) : Type 0 where
   pub place : (w : Endpoint) (r p : ℕ) → place_of (own_proxies state.part r) w ≡ Some p
