@@ -7,7 +7,7 @@ use Rattle.rtps_wire.specs.declared.submessage.Submessage.{Submessage}
 use Rattle.dds_protocol.specs.Claims.{Receiver}
 use Rattle.dds_core.specs.declared.delivery.FirstNamed.{FirstNamed}
 use Rattle.dds_core.specs.declared.effects.Effects.{Effects}
-use Rattle.dds_core.specs.declared.reader_end.Ready.{Ready}
+use Rattle.dds_core.specs.declared.reader_told.Ready.{Ready}
 use Rattle.dds_core.specs.Kept.{ReaderKept, PeerKept}
 use Rattle.dds_core.specs.Readiness.{AreReady, IsAlike, IsFirstNamed, IsPrepared, IsReadyFor}
 use Rattle.dds_core.specs.Receiving.{TakesAll, TakesAt, StandsAsWell, only_last}

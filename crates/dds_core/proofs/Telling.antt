@@ -10,9 +10,9 @@ use Rattle.rtps_reader.specs.declared.step.Step.{Step}
 use Rattle.rtps_reader.specs.Tracked.{Tracked}
 use Rattle.rtps_reader.specs.Answer.{IsIdle}
 use Rattle.rtps_reader.specs.Reader.{Tracks, OthersStay, match_at, TakesHeartbeat}
-use Rattle.dds_core.specs.declared.reader_end.Ready.{Ready}
-use Rattle.dds_core.specs.declared.reader_end.Told.{Told}
-use Rattle.dds_core.specs.declared.reader_end.Told.TheVariants as told
+use Rattle.dds_core.specs.declared.reader_told.Ready.{Ready}
+use Rattle.dds_core.specs.declared.reader_told.Told.{Told}
+use Rattle.dds_core.specs.declared.reader_told.Told.TheVariants as told
 use Rattle.dds_core.specs.Kept.{ReaderKept}
 use Rattle.dds_core.specs.Readiness.{TakesTold, TellsSo}
 use Rattle.dds_core.specs.Storing.{Holds}

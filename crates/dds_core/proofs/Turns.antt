@@ -37,9 +37,9 @@ use Rattle.dds_core.specs.declared.delivery.FirstNamed.{FirstNamed}
 use Rattle.dds_core.specs.declared.matching.WriterName.{WriterName}
 use Rattle.dds_core.specs.declared.effects.Effects.{Effects}
 use Rattle.dds_core.specs.declared.sending.Announced.{Announced}
-use Rattle.dds_core.specs.declared.reader_end.Ready.{Ready}
-use Rattle.dds_core.specs.declared.reader_end.Told.{Told}
-use Rattle.dds_core.specs.declared.reader_end.Told.TheVariants as told
+use Rattle.dds_core.specs.declared.reader_told.Ready.{Ready}
+use Rattle.dds_core.specs.declared.reader_told.Told.{Told}
+use Rattle.dds_core.specs.declared.reader_told.Told.TheVariants as told
 use Rattle.dds_core.specs.Identity.{reliable_in}
 use Rattle.dds_core.specs.Kept.{ReaderKept, PeerKept}
 use Rattle.dds_core.proofs.Names.{own_reader_is}

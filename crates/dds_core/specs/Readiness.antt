@@ -30,9 +30,9 @@ use Rattle.dds_protocol.specs.Protocol.{heard_as, may_do}
 use Rattle.dds_core.specs.Identity.{reliable_in}
 use Rattle.dds_core.specs.declared.delivery.FirstNamed.{FirstNamed}
 use Rattle.dds_core.specs.declared.matching.WriterName.{WriterName}
-use Rattle.dds_core.specs.declared.reader_end.Ready.{Ready}
-use Rattle.dds_core.specs.declared.reader_end.Told.{Told}
-use Rattle.dds_core.specs.declared.reader_end.Told.TheVariants as told
+use Rattle.dds_core.specs.declared.reader_told.Ready.{Ready}
+use Rattle.dds_core.specs.declared.reader_told.Told.{Told}
+use Rattle.dds_core.specs.declared.reader_told.Told.TheVariants as told
 use Rattle.dds_core.specs.declared.receiver.MessageReceiver.{MessageReceiver}
 use Rattle.dds_core.specs.Kept.{ReaderKept}
 use Rattle.dds_core.specs.Storing.{Holds}

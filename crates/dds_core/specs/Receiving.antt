@@ -25,7 +25,7 @@ use Rattle.dds_protocol.specs.DueMessages.{Due, AreSent, acknacks_due}
 use Rattle.dds_protocol.specs.Protocol.{State, InTurn, ReaderTakes, Takes, MayNeedMemory, FollowsMessage, TakesPacket}
 use Rattle.dds_core.specs.declared.effects.Effects.{Effects}
 use Rattle.dds_core.specs.declared.matching.WriterName.{WriterName}
-use Rattle.dds_core.specs.declared.reader_end.Ready.{Ready}
+use Rattle.dds_core.specs.declared.reader_told.Ready.{Ready}
 use Rattle.dds_core.specs.declared.sending.Announced.{Announced}
 use Rattle.dds_core.specs.Beating.{AddsTo}
 use Rattle.dds_core.specs.Sending.{AreMessages}

@@ -1,6 +1,6 @@
 use Rattle.std.proofs.Common.{◌≡◌, ℕ, Some, drop, slice_get, length}
 use Rattle.std.specs.Prelude.{Option}
-use Rattle.dds_core.specs.declared.reader_end.Ready.{Ready}
+use Rattle.dds_core.specs.declared.reader_told.Ready.{Ready}
 use Rattle.dds_core.specs.Kept.{ReaderKept}
 use Rattle.dds_core.specs.Readiness.{receiver_at, IsReadyFor, AreAlike}
 use Rattle.dds_core.proofs.delivery.prepare.Given as goal

@@ -1,5 +1,5 @@
 use Rattle.std.proofs.Common.{refl}
-use Rattle.dds_core.specs.declared.reader_end.Told.TheVariants as told
+use Rattle.dds_core.specs.declared.reader_told.Told.TheVariants as told
 use Rattle.dds_core.specs.Readiness.{change_ready}
 use Rattle.dds_core.proofs.Telling.{answer_told}
 use Rattle.dds_core.proofs.reader_end.ReaderEnd.take_change.Goals as goal

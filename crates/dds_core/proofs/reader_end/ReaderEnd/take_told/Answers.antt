@@ -1,4 +1,4 @@
-use Rattle.dds_core.specs.declared.reader_end.Told.TheVariants as told
+use Rattle.dds_core.specs.declared.reader_told.Told.TheVariants as told
 use Rattle.dds_core.proofs.Results.{ok_if}
 use Rattle.dds_core.proofs.Telling.{answer_told, heartbeat_told, nothing_told}
 use Rattle.dds_core.proofs.reader_end.ReaderEnd.take_told.Goals as goal
