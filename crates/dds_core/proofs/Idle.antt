@@ -6,10 +6,15 @@ use Rattle.dds_base.specs.declared.change.Change.{Change}
 use Rattle.dds_base.specs.declared.happening.Happening.{Happening}
 use Rattle.dds_base.specs.Places.{Match, coming}
 use Rattle.dds_base.specs.Presence.{has_room}
+use Rattle.rtps_reader.specs.declared.step.Step.{Step}
 use Rattle.rtps_reader.specs.Tracked.{Slot, Missing, Held, Irrelevant, Tracked, is_missing, is_open, is_passable_slot, is_waiting, may_take, with_data}
 use Rattle.rtps_reader.specs.Jump.{JumpsIf, jumped_to}
 use Rattle.rtps_reader.specs.Reader.{MovesOn, JumpsOn}
 use Rattle.rtps_reader.proofs.MoveLaws.{same_is}
+
+-- what is done where nothing is
+abbrev pub idle_step : Tracked → Step
+idle_step t = record { begun = None; to = t.place; passed = []; heard = false; acknack = None }
 
 both_of : (a b : Bool) → (not a || b) ≡ false → (a ≡ true) × (b ≡ false)
 both_of true false is = (refl, refl)
@@ -53,13 +58,12 @@ nothing_known number change t closed =
 -- so a reliable reader stays where it is
 pub stays_with : (number : ℕ) (change : Change) (match : Match) (t : Tracked) (h : List Happening)
     (Knows : Tracked → Type 0) (Has : List Happening → Type 0) → may_take t number ≡ false → Knows t → Has h
-    → MovesOn match (with_data number change t) h (record { to = t.place; passed = []; heard = false; acknack = None })
-    Knows Has
+    → MovesOn match (with_data number change t) h (idle_step t) Knows Has
 stays_with number change match t h Knows Has is knows has =
     let both = both_of (is_waiting t) (is_open t number) is in
     let waits = and_of (is_missing (t.slot t.place)) (nat_le t.first t.place) both.0 in
     subst (λ (x : Tracked).
-    MovesOn match x h (record { to = t.place; passed = []; heard = false; acknack = None }) Knows Has)
+    MovesOn match x h (idle_step t) Knows Has)
     (sym (nothing_known number change t both.1)) (record {
       new = t;
       after = h;
@@ -82,7 +86,7 @@ stays_with number change match t h Knows Has is knows has =
 -- a change below the place does nothing at a best-effort reader
 pub jumps_nowhere : (number : ℕ) (change : Change) (match : Match) (t : Tracked) (h : List Happening)
     (Knows : Tracked → Type 0) (Has : List Happening → Type 0) → nat_le t.place number ≡ false → Knows t → Has h
-    → JumpsOn match t h number change (record { to = t.place; passed = []; heard = false; acknack = None }) Knows Has
+    → JumpsOn match t h number change (idle_step t) Knows Has
 jumps_nowhere number change match t h Knows Has is knows has = record {
   new = t;
   after = h;

@@ -37,6 +37,7 @@ pub mod Turns
 pub mod Ready
 pub mod LastReader
 pub mod ReaderEnds
+pub mod BegunPlaces
 pub mod Telling
 pub mod Taking
 pub mod EffectsLaws

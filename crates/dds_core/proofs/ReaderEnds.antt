@@ -18,7 +18,7 @@ use Rattle.dds_machine.specs.Part.{Begun, WriterProxy, same_endpoint, row_of, pl
 use Rattle.dds_protocol.proofs.OwnGuids.{as_many}
 use Rattle.dds_core.specs.declared.matching.WriterName.{WriterName}
 use Rattle.dds_core.proofs.Rows.{AllBegun}
-use Rattle.dds_core.specs.Identity.{FitsWriters, reliable_in}
+use Rattle.dds_core.specs.Identity.{FitsWriters, HaveBegun, reliable_in}
 use Rattle.dds_core.specs.EndNames.{writer_name, matched_writer}
 use Rattle.dds_core.specs.OpeningEnds.{OpensReader}
 use Rattle.dds_core.specs.Stored.{StoreKept}
@@ -153,8 +153,8 @@ pub rows_fit : (peers : List PeerConfig) (r : ReaderConfig) (names : List Writer
     (reader : Proxies) (store : StoreKept) → names ≡ of_matched_writers writer_name r.topic 1 peers
     → writers ≡ of_matched_writers matched_writer r.topic 1 peers → count_of reader ≡ length names
     → qos_of store.cache ≡ qos_with r writers → length writers ≤ 256 → (reliable : Bool)
-    → reliable ≡ is_reliable_reader r → FitsWriters names reader store reliable
-rows_fit peers r names writers reader store matched told count qos many reliable is =
+    → reliable ≡ is_reliable_reader r → HaveBegun reader → FitsWriters names reader store reliable
+rows_fit peers r names writers reader store matched told count qos many reliable is begun =
     let same = as_many writer_name matched_writer r.topic 1 peers in
     let a : length names ≡ length (of_matched_writers writer_name r.topic 1 peers) =
     ap (λ (ns : List WriterName). length ns) matched in
@@ -166,4 +166,5 @@ rows_fit peers r names writers reader store matched told count qos many reliable
       count = count;
       fits = omega (arith, same, a, b);
       many = omega (arith, c, many);
+      begun = begun;
     }

@@ -16,7 +16,7 @@ use Rattle.dds_cache.specs.Standing.{qos_of}
 use Rattle.rtps_reader.specs.declared.step.AckNackDue.{AckNackDue}
 use Rattle.rtps_reader.specs.declared.step.Step.{Step}
 use Rattle.rtps_reader.specs.declared.step.HeartbeatSeen.{HeartbeatSeen}
-use Rattle.rtps_reader.specs.declared.writer_proxy.WriterProxy.{WriterProxy as RtpsProxy}
+use Rattle.rtps_reader.specs.declared.known_writer.KnownWriter.{KnownWriter}
 use Rattle.rtps_reader.specs.Proxy.{tracked}
 use Rattle.rtps_reader.specs.Tracked.{Tracked, with_data, with_gap}
 use Rattle.rtps_reader.proofs.MoveLaws.{same_is}
@@ -44,7 +44,7 @@ use Rattle.dds_core.specs.Identity.{reliable_in}
 use Rattle.dds_core.specs.Kept.{ReaderKept, PeerKept}
 use Rattle.dds_core.proofs.Names.{own_reader_is}
 use Rattle.dds_core.specs.Readiness.{IsReadyWith, IsReadyFor, IsNamedAt, IsUnnamed, AreReady, IsFirstNamed, NamesNone, NamedBy, IsToldBy, SameReader, TellsSo, moves_of, seen_in, writer_guid}
-use Rattle.dds_core.proofs.Idle.{jumps_nowhere, stays_with}
+use Rattle.dds_core.proofs.Idle.{idle_step, jumps_nowhere, stays_with}
 use Rattle.dds_base.specs.Places.{Match}
 use Rattle.dds_base.specs.declared.happening.Happening.{Happening}
 use Rattle.dds_core.specs.Moved.{MovesKept}
@@ -363,7 +363,7 @@ telling config peer kept at s i k row stands at_k is = record {
 tracks_one : (reader : Proxies) (row : ℕ) (t u : Tracked) → Tracks reader row t → Tracks reader row u → t ≡ u
 tracks_one reader row t u a b =
     same_is _ _ a.2
-    ∙ (ap (λ (p : RtpsProxy). tracked p) (same_Some a.0 b.0 (sym a.1 ∙ b.1)) ∙ sym (same_is _ _ b.2))
+    ∙ (ap (λ (w : KnownWriter). tracked w.proxy) (same_Some a.0 b.0 (sym a.1 ∙ b.1)) ∙ sym (same_is _ _ b.2))
 
 -- the reader of this index took up what was ready for it
 took : (config : Config) (peer : Peer) (kept new : PeerKept) (at : Receiver) (s : Submessage) (i : ℕ) (k : ReaderKept)
@@ -448,10 +448,6 @@ said_of false at (Data d) = told.Jump d.writer_sn (change_in d.content at.timest
 said_of reliable at (Heartbeat h) = told.Heartbeat (seen_in (heard_as reliable h))
 said_of reliable at s = told.Nothing
 
--- what it then does
-abbrev idle_step : Tracked → Step
-idle_step t = record { to = t.place; passed = []; heard = false; acknack = None }
-
 -- a submessage that can do nothing is told so, and nothing was done
 says_idle : (reliable : Bool) (at : Receiver) (s : Submessage) (reader_id writer_id : EntityId) (match : Match)
     (t : Tracked) (h : List Happening) (Knows : Tracked → Type 0) (Has : List Happening → Type 0)
@@ -466,12 +462,12 @@ says_idle false at (Data d) reader_id writer_id match t h Knows Has by is knows 
 says_idle true at (Gap g) reader_id writer_id match t h Knows Has by is knows has =
     absurd (let clash : true ≡ false = is in cc)
 says_idle false at (Gap g) reader_id writer_id match t h Knows Has by is knows has =
-    (refl, (record { to = refl; passed = refl; heard = refl; acknack = refl }, knows, has))
+    (refl, (record { begun = refl; to = refl; passed = refl; heard = refl; acknack = refl }, knows, has))
 says_idle reliable at (Heartbeat b) reader_id writer_id match t h Knows Has by is knows has = (
   refl,
   inr (
     ap (λ (n : ℤ). is_later t.count n) (heard_count reliable b) ∙ is,
-    record { to = refl; passed = refl; heard = refl; acknack = refl },
+    record { begun = refl; to = refl; passed = refl; heard = refl; acknack = refl },
     knows,
     has,
   ),

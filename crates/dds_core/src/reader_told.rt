@@ -192,6 +192,7 @@ impl ReaderEnd {
         Step {
             to: self.reader.place(row),
             passed: Sequence::from_vec(Vec::new(self.alloc)),
+            begun: None,
             heard: false,
             acknack: None,
         }

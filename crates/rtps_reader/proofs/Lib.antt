@@ -4,5 +4,6 @@ pub mod KeptLaws
 pub mod MoveLaws
 pub mod RoomLaws
 pub mod JumpLaws
+pub mod BeginLaws
 pub mod NextLaws
 pub mod ReaderLaws

@@ -87,7 +87,7 @@ step_over match t h runs now mid happened false forward back below passable way 
           (end_below_on runs now (mid + 1) (omega (arith, same)) below),
     )
 
-stays_on : (t now new : Tracked) → now.place ≤ new.place → Stays t now → Stays now new → Stays t new
+pub stays_on : (t now new : Tracked) → now.place ≤ new.place → Stays t now → Stays now new → Stays t new
 stays_on t now new forward first second = record {
   slots = λ n high. second.slots n high ∙ first.slots n (omega (arith, forward, high));
   first = second.first ∙ first.first;

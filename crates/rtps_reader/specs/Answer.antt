@@ -68,6 +68,7 @@ pub record Accepts (match : Match) (t : Tracked) (h : List Happening) (heartbeat
 
 -- nothing happened, at this place
 pub record IsIdle (place : ℕ) (step : Step) : Type 0 where
+  pub begun : step.begun ≡ None
   pub to : step.to ≡ place
   pub passed : step.passed ≡ []
   pub heard : step.heard ≡ false

@@ -5,6 +5,7 @@ pub mod HeldChanges
 pub mod Proxy
 pub mod Answer
 pub mod Reader
+pub mod Attached
 pub mod Entering
 pub mod Moving
 pub mod Sound

@@ -1,15 +1,19 @@
--- What a reader knows of each of its matched writers, which are named by index from 0, and what a submessage did.
+-- What a reader knows of each of its writers, which are named by index from 0, how it stands to them, and what a
+-- submessage did.
 --
 -- RTPS 2.5, 8.4.10 (StatefulReader: matched_writers), 8.4.12.
 use Rattle.std.specs.Prelude.{◌≡◌, ◌≢◌, ℕ, ◌+◌, List, length, false, None, Some, slice_get}
-use Rattle.std.specs.Prelude.{Result, OnErr, IsOk, IfOk, IfErr, IfSome}
+use Rattle.std.specs.Prelude.{Result, OnErr, IsOk, IfOk, IfErr, IfSome, is_some, if◌then◌else◌}
+use Rattle.std.specs.Option.{option_map_or}
 use Rattle.dds_base.specs.declared.change.Change.{Change}
 use Rattle.dds_base.specs.declared.code.Code.{Code}
 use Rattle.dds_base.specs.declared.code.Code.TheVariants.{Memory}
 use Rattle.dds_base.specs.declared.happening.Happening.{Happening}
 use Rattle.dds_base.specs.declared.qos.ReaderQos.{ReaderQos}
 use Rattle.dds_base.specs.Places.{Match}
-use Rattle.rtps_reader.specs.declared.writer_proxy.WriterProxy.{WriterProxy}
+use Rattle.rtps_reader.specs.declared.attachment.Attachment.{Attachment}
+use Rattle.rtps_reader.specs.declared.attachment.Attachment.TheVariants.{Away, Begun}
+use Rattle.rtps_reader.specs.declared.known_writer.KnownWriter.{KnownWriter}
 use Rattle.rtps_reader.specs.declared.step.HeartbeatSeen.{HeartbeatSeen}
 use Rattle.rtps_reader.specs.declared.step.Step.{Step}
 use Rattle.rtps_reader.specs.Tracked.{Tracked, SameTracked}
@@ -18,25 +22,46 @@ use Rattle.rtps_reader.specs.Jump.{Jumps}
 use Rattle.rtps_reader.specs.Answer.{Accepts, IsSayable}
 use Rattle.rtps_reader.specs.Proxy.{tracked, IsProxyReady}
 
--- what a reader keeps; callers see it through Tracks, count_of, IsReady and IsReadyAt
+-- what a reader keeps; callers see it through Tracks, how_at, count_of, IsReady and IsReadyAt
 pub record Proxies : Type 0 where
-  pub proxies : List WriterProxy
+  pub writers : List KnownWriter
 
 -- this is what the reader knows of its writer of this index
 abbrev pub Tracks : Proxies → ℕ → Tracked → Type 0
-Tracks reader index t = (p : WriterProxy) × (slice_get reader.proxies index ≡ Some p) × SameTracked (tracked p) t
+Tracks reader index t = (w : KnownWriter) × (slice_get reader.writers index ≡ Some w) × SameTracked (tracked w.proxy) t
 
--- how many writers are matched
+-- how many writers it knows
 abbrev pub count_of : Proxies → ℕ
-count_of reader = length reader.proxies
+count_of reader = length reader.writers
+
+-- how the reader stands to its writer of this index; to one that it does not know it is away
+abbrev pub how_at : Proxies → ℕ → Attachment
+how_at reader index = option_map_or (λ (w : KnownWriter). w.how) (slice_get reader.writers index) Away
 
 -- with a sink of so much spare memory the next submessage of this writer can't fail
 abbrev pub IsReadyAt : Proxies → ℕ → ℕ → Type 0
-IsReadyAt reader writer spare = (p : WriterProxy) → slice_get reader.proxies writer ≡ Some p → IsProxyReady p spare
+IsReadyAt reader writer spare =
+    (w : KnownWriter) → slice_get reader.writers writer ≡ Some w → IsProxyReady w.proxy spare
 
 -- with a sink of so much spare memory the next submessage, of any of the writers, can't fail
 abbrev pub IsReady : Proxies → ℕ → Type 0
 IsReady reader spare = (index : ℕ) → IsReadyAt reader index spare
+
+-- what could not fail can't
+abbrev pub AllReady : Proxies → Proxies → Type 0
+AllReady old new = (index spare : ℕ) → IsReadyAt old index spare → IsReadyAt new index spare
+
+-- it stands to all writers as before
+abbrev pub AllStand : Proxies → Proxies → Type 0
+AllStand old new = (index : ℕ) → how_at new index ≡ how_at old index
+
+-- it stands to all other writers as before
+abbrev pub OthersStand : ℕ → Proxies → Proxies → Type 0
+OthersStand writer old new = (index : ℕ) → index ≢ writer → how_at new index ≡ how_at old index
+
+-- how it stands to a writer of which a submessage did this: where the place began, it has begun
+abbrev pub how_after : Attachment → Step → Attachment
+how_after how step = if is_some step.begun then Begun else how
 
 -- of all writers the same is known
 abbrev pub AllStay : Proxies → Proxies → Type 0
@@ -89,12 +114,18 @@ pub record KeepsRest {S : Type 0} (Stands : S → List Happening → Type 0) (po
   pub sayable : IfOk answer (λ step. IfSome step.acknack IsSayable)
   -- nothing becomes known of other writers
   pub others : OthersStay writer old new
+  -- the place has begun, where the step says so
+  pub how : IfOk answer (λ step. how_at new writer ≡ how_after (how_at old writer) step)
+  -- it stands to all other writers as before
+  pub others_how : OthersStand writer old new
   -- the writers stay
   pub count : count_of new ≡ count_of old
   -- the policies stay
   pub qos : policies after ≡ policies before
   -- a refusal leaves all that is known as it was
   pub err : OnErr answer (AllStay old new)
+  -- and so how it stands to each
+  pub err_how : OnErr answer (AllStand old new)
   -- a refusal leaves what happened as it was
   pub err_sink : OnErr answer ((h : List Happening) → Stands before h → Stands after h)
   -- it is refused for want of memory alone

@@ -17,7 +17,10 @@ use Rattle.rtps_reader.specs.declared.writer_proxy.WriterProxy.{WriterProxy}
 use Rattle.rtps_reader.specs.HeldChanges.{held_at}
 use Rattle.rtps_reader.specs.Tracked.{SameTracked}
 use Rattle.rtps_reader.specs.Answer.{IsSayable}
+use Rattle.rtps_reader.specs.declared.attachment.Attachment.{Attachment}
+use Rattle.rtps_reader.specs.declared.known_writer.KnownWriter.{KnownWriter}
 use Rattle.rtps_reader.specs.Proxy.{tracked, IsProxyReady}
+use Rattle.rtps_reader.specs.Reader.{how_after}
 
 -- the mark says that a change is held
 abbrev pub says_held : Option Mark → Bool
@@ -38,9 +41,14 @@ pub record IsSound (p : WriterProxy) : Type 0 where
   pub place_is_small : window_place p.window ≤ max_sn + window_width
   pub first_is_small : p.first ≤ max_sn
 
--- each proxy is sound
-abbrev pub AreSound : List WriterProxy → Type 0
-AreSound proxies = (index : ℕ) (p : WriterProxy) → slice_get proxies index ≡ Some p → IsSound p
+-- the proxy of each writer is sound
+abbrev pub AreSound : List KnownWriter → Type 0
+AreSound writers = (index : ℕ) (w : KnownWriter) → slice_get writers index ≡ Some w → IsSound w.proxy
+
+-- how the reader stands to the writer once a submessage did this
+pub record KeepsHow (old new : Attachment) (answer : Result Step Code) : Type 0 where
+  pub ok : IfOk answer (λ step. new ≡ how_after old step)
+  pub err : OnErr answer (new ≡ old)
 
 -- what any submessage leaves alone, and how it may be refused: at the proxy, and at the sink, as KeepsRest has it of a
 -- reader

@@ -103,8 +103,9 @@ impl HeldChanges {
 
     /// Lets go of the change at the place of a number, if one is held there.
     fn forget(&mut self, number: Sn)
-        ensures { (n : ℕ) → held_at self.new n ≡
+        ensures each { (n : ℕ) → held_at self.new n ≡
             (if n % window_width == number % window_width then None else held_at self.old n) }
+        ensures count { count_held self.new ≤ count_held self.old }
     {
         if !self.has(number) {
             return;
@@ -117,8 +118,9 @@ impl HeldChanges {
 pub fn forget_below(held: &mut HeldChanges, from: u64, to: u64)
     requires forward { from ≤ to }
     requires small { from ≤ max_sn + window_width }
-    ensures { (n : ℕ) → from ≤ n → n < from + window_width
+    ensures each { (n : ℕ) → from ≤ n → n < from + window_width
         → held_at held.new n ≡ (if nat_lt n to then None else held_at held.old n) }
+    ensures count { count_held held.new ≤ count_held held.old }
 {
     for number in from..u64::min(to, from + WIDTH) {
         held.forget(Sn::new(number));

@@ -1,31 +1,35 @@
-//! A reader and its matched writers.
+//! A reader and the writers that it knows.
 //!
 //! RTPS 2.5, 8.4.10 (StatefulReader), 8.4.11, 8.4.12.
 
-ghost use Rattle.std.specs.Prelude.{◌≡◌, ℕ, ◌+◌, ◌-◌, ◌^◌, ◌<◌, ◌≤◌, List, length, true, false, OnOk, IsOk, IfOk, IfErr};
+ghost use Rattle.std.specs.Prelude.{◌≡◌, ℕ, ◌+◌, ◌-◌, ◌^◌, ◌<◌, ◌≤◌, List, length, true, false, OnOk, OnErr, IsOk, IfOk, IfErr};
 ghost use Rattle.dds_base.specs.Bounds.{max_sn};
 ghost use Rattle.dds_base.specs.declared.code.Code.TheVariants.{Memory};
 ghost use Rattle.dds_base.specs.declared.happening.Happening.{Happening};
 ghost use Rattle.dds_base.specs.Counts.{is_later};
 ghost use Rattle.rtps_reader.specs.Tracked.{Tracked, fresh, may_take, with_data, with_gap};
 ghost use Rattle.rtps_reader.specs.Answer.{IsIdle};
-ghost use Rattle.rtps_reader.specs.Reader.{Tracks, count_of, IsReady, IsReadyAt, AllStay, match_at, MovesOn, JumpsOn, TakesHeartbeat, KeepsRest};
+ghost use Rattle.rtps_reader.specs.declared.attachment.Attachment.TheVariants.{Away, Waiting, Begun};
+ghost use Rattle.rtps_reader.specs.Reader.{Tracks, how_at, count_of, IsReady, IsReadyAt, AllStay, AllStand, match_at, KeepsRest};
+ghost use Rattle.rtps_reader.specs.Attached.{StandsNow, HasOneMore, MeetsNews, MeetsChange, MeetsHeartbeat, MeetsBeat};
 
+use crate::attachment::Attachment;
+use crate::known_writer::KnownWriter;
 use crate::sink::Sink;
 use crate::step::{HeartbeatSeen, Step};
-use crate::writer_proxy::{Source, WriterProxy};
+use crate::writer_proxy::Source;
 use dds_base::{Change, Code, Handle, Moment, Sn};
 use rtps_sets::SnSet;
 use std::alloc::Global;
 use std::marker::Model;
 
-/// A reader: for each of its matched writers, named by index from 0, its place there and what it knows from the place
-/// on. A writer's publication handle is its index plus 1.
+/// A reader: for each writer that it knows, named by index from 0, how it stands to it, its place there, and what it knows
+/// from the place on. A writer's publication handle is its index plus 1.
 ///
 /// RTPS 2.5, 8.4.10 (StatefulReader).
 #[derive(Drop)]
 pub struct StatefulReader {
-    proxies: Vec<WriterProxy>,
+    writers: Vec<KnownWriter>,
 }
 
 impl Model for StatefulReader {
@@ -34,9 +38,9 @@ impl Model for StatefulReader {
 
     ghost Value = { Proxies };
 
-    ghost view = { λ r. record { proxies = r.proxies.items } };
+    ghost view = { λ r. record { writers = r.writers.items } };
 
-    ghost invariant = { λ r. AreSound r.proxies.items };
+    ghost invariant = { λ r. AreSound r.writers.items };
 }
 
 /// Which writer is heard, and when.
@@ -51,7 +55,7 @@ fn source_of(writer: usize, moment: Moment) -> Source
 }
 
 impl StatefulReader {
-    /// A reader with so many matched writers, of which nothing was heard.
+    /// A reader with so many matched writers, of which nothing was heard. Its places have begun.
     ///
     /// # Errors
     ///
@@ -62,15 +66,18 @@ impl StatefulReader {
         // Of each nothing was heard.
         ensures fresh { IfOk result
             (λ reader. (index : ℕ) → index < writers → Tracks reader index fresh) }
+        // Each place has begun.
+        ensures begun { IfOk result
+            (λ reader. (index : ℕ) → index < writers → how_at reader index ≡ Begun) }
         // It is refused for want of memory alone.
         ensures memory { IfErr result (λ code. code ≡ Memory) }
     {
-        let mut proxies = Vec::new(alloc);
+        let mut known = Vec::new(alloc);
         for _ in 0..writers {
-            let proxy = WriterProxy::open(alloc)?;
-            proxies.push(proxy)?;
+            let writer = KnownWriter::open(alloc, Attachment::Begun)?;
+            known.push(writer)?;
         }
-        Ok(StatefulReader { proxies })
+        Ok(StatefulReader { writers: known })
     }
 
     /// The place at a writer: the number of its next change.
@@ -82,7 +89,63 @@ impl StatefulReader {
         // Something is known of it.
         ensures known { (t : Tracked) × Tracks self.now writer t }
     {
-        self.proxies[writer].place()
+        self.writers[writer].proxy.place()
+    }
+
+    /// How it stands to a writer.
+    pub fn how(&self, writer: usize) -> Attachment
+        // The writer is a known one.
+        requires matched { writer < count_of self.now }
+        // It is so.
+        ensures how { result ≡ how_at self.now writer }
+    {
+        let known = &self.writers[writer];
+        known.how
+    }
+
+    /// The reader is matched with a writer that it knows. Its place there stays where it is, and waits.
+    ///
+    /// RTPS 2.5, 8.4.10 (StatefulReader: matched_writer_add).
+    pub fn attach(&mut self, writer: usize)
+        // The writer is a known one.
+        requires known { writer < count_of self.old }
+        // The place waits, and nothing else changes.
+        ensures waits { StandsNow self.old writer Waiting self.new }
+    {
+        self.writers[writer].how = Attachment::Waiting;
+    }
+
+    /// The reader is no longer matched with a writer. Its place there stays where it is.
+    ///
+    /// RTPS 2.5, 8.4.10 (StatefulReader: matched_writer_remove).
+    pub fn detach(&mut self, writer: usize)
+        // The writer is a known one.
+        requires known { writer < count_of self.old }
+        // The reader is away, and nothing else changes.
+        ensures away { StandsNow self.old writer Away self.new }
+    {
+        self.writers[writer].how = Attachment::Away;
+    }
+
+    /// The reader is matched with a writer that it never knew: it comes after all others, with the next index, and the
+    /// place there, 1, waits.
+    ///
+    /// # Errors
+    ///
+    /// `Memory` where a growth was refused; the reader is then as it was.
+    ///
+    /// RTPS 2.5, 8.4.10 (StatefulReader: matched_writer_add).
+    pub fn append(&mut self, alloc: Global) -> Result<(), Code>
+        // It comes after all others, which stay.
+        ensures ok { OnOk result (HasOneMore self.old self.new) }
+        // A refusal changes nothing.
+        ensures err { OnErr result (self.new ≡ self.old) }
+        // It is refused for want of memory alone.
+        ensures memory { IfErr result (λ code. code ≡ Memory) }
+    {
+        let writer = KnownWriter::open(alloc, Attachment::Waiting)?;
+        self.writers.push(writer)?;
+        Ok(())
     }
 
     /// Whether a change of this number of a writer does something at a reliable reader: it is held, or the place may go
@@ -95,7 +158,7 @@ impl StatefulReader {
         // It is so by what is known of the writer.
         ensures takes { (t : Tracked) → Tracks self.now writer t → result ≡ may_take t number }
     {
-        self.proxies[writer].may_take(number)
+        self.writers[writer].proxy.may_take(number)
     }
 
     /// Whether a HEARTBEAT of a writer with this count would be taken: one that was taken before does nothing.
@@ -107,7 +170,7 @@ impl StatefulReader {
         // It is so by what is known of the writer.
         ensures later { (t : Tracked) → Tracks self.now writer t → result ≡ is_later t.count count }
     {
-        self.proxies[writer].is_later(count)
+        self.writers[writer].proxy.is_later(count)
     }
 
     /// Makes all memory that the next submessage may take, here and at the sink. It changes that alone.
@@ -118,6 +181,8 @@ impl StatefulReader {
     pub fn reserve<S: Sink>(&mut self, sink: &mut S) -> Result<(), Code>
         // Nothing becomes known.
         ensures same { AllStay self.old self.new }
+        // It stands to each writer as before.
+        ensures how { AllStand self.old self.new }
         // The writers stay.
         ensures count { count_of self.new ≡ count_of self.old }
         // Nothing happens.
@@ -133,9 +198,9 @@ impl StatefulReader {
         // It is refused for want of memory alone.
         ensures memory { IfErr result (λ code. code ≡ Memory) }
     {
-        for at in 0..self.proxies.len() {
-            let proxy = &mut self.proxies[at];
-            proxy.reserve(sink)?;
+        for at in 0..self.writers.len() {
+            let known = &mut self.writers[at];
+            known.proxy.reserve(sink)?;
         }
         Ok(())
     }
@@ -151,6 +216,8 @@ impl StatefulReader {
         requires matched { writer < count_of self.old }
         // Nothing becomes known.
         ensures same { AllStay self.old self.new }
+        // It stands to each writer as before.
+        ensures how { AllStand self.old self.new }
         // The writers stay.
         ensures count { count_of self.new ≡ count_of self.old }
         // Nothing happens.
@@ -166,7 +233,7 @@ impl StatefulReader {
         // It is refused for want of memory alone.
         ensures memory { IfErr result (λ code. code ≡ Memory) }
     {
-        self.proxies[writer].reserve(sink)
+        self.writers[writer].proxy.reserve(sink)
     }
 
     /// A change of a writer was received: it is held, if its number is one of the window of which nothing is known, and
@@ -194,20 +261,20 @@ impl StatefulReader {
         requires writers { count_of self.old ≤ length (S.qos sink.old).writers }
         // The number is one that the wire has.
         requires number { number ≤ max_sn }
-        // The place goes on from what is known with the change.
-        ensures moves { IfOk result (λ step. (t : Tracked) (h : List Happening)
+        // Where the place has begun it goes on from what is known with the change, else nothing is done.
+        ensures meets { IfOk result (λ step. (t : Tracked) (h : List Happening)
             → Tracks self.old writer t → S.stands sink.old h
-            → MovesOn (match_at (S.qos sink.old) writer moment) (with_data number change t) h step
-            (Tracks self.new writer) (S.stands sink.new)) }
+            → MeetsNews (how_at self.old writer) (match_at (S.qos sink.old) writer moment)
+            (with_data number change) t h step (Tracks self.new writer) (S.stands sink.new)) }
         // It passes over 257 runs at most.
         ensures few { IfOk result (λ step. length step.passed ≤ 257) }
         // Nothing else changes; a refusal, for want of memory alone, changes nothing at all.
         ensures keeps { KeepsRest S.stands S.qos S.spare writer
             self.old self.new sink.old sink.new result }
     {
-        let proxy = &mut self.proxies[writer];
+        let known = &mut self.writers[writer];
         let source = source_of(writer, moment);
-        proxy.on_data(sink, &source, number, change)
+        known.on_data(sink, &source, number, change)
     }
 
     /// A change of a writer was received, and the reader is a best-effort one: where the number is not below the place,
@@ -235,20 +302,20 @@ impl StatefulReader {
         requires writers { count_of self.old ≤ length (S.qos sink.old).writers }
         // The number is one that the wire has.
         requires number { number ≤ max_sn }
-        // The change comes, over all before it, or nothing happens.
-        ensures jumps { IfOk result (λ step. (t : Tracked) (h : List Happening)
+        // The change comes, over all before it, or nothing happens; a place that waits begins at one that comes.
+        ensures meets { IfOk result (λ step. (t : Tracked) (h : List Happening)
             → Tracks self.old writer t → S.stands sink.old h
-            → JumpsOn (match_at (S.qos sink.old) writer moment) t h number change step
-            (Tracks self.new writer) (S.stands sink.new)) }
+            → MeetsChange (how_at self.old writer) (match_at (S.qos sink.old) writer moment)
+            t h number change step (Tracks self.new writer) (S.stands sink.new)) }
         // It passes over one run at most.
         ensures few { IfOk result (λ step. length step.passed ≤ 1) }
         // Nothing else changes; a refusal, for want of memory alone, changes nothing at all.
         ensures keeps { KeepsRest S.stands S.qos S.spare writer
             self.old self.new sink.old sink.new result }
     {
-        let proxy = &mut self.proxies[writer];
+        let known = &mut self.writers[writer];
         let source = source_of(writer, moment);
-        proxy.on_best_effort_data(sink, &source, number, change)
+        known.on_best_effort_data(sink, &source, number, change)
     }
 
     /// A GAP of a writer was received: the numbers from `start` to below the list's base, and those of the list, are
@@ -277,20 +344,20 @@ impl StatefulReader {
         requires writers { count_of self.old ≤ length (S.qos sink.old).writers }
         // The base is one that the wire has.
         requires base { list.now.base ≤ max_sn }
-        // The place goes on from what is known with the GAP.
-        ensures moves { IfOk result (λ step. (t : Tracked) (h : List Happening)
+        // Where the place has begun it goes on from what is known with the GAP, else nothing is done.
+        ensures meets { IfOk result (λ step. (t : Tracked) (h : List Happening)
             → Tracks self.old writer t → S.stands sink.old h
-            → MovesOn (match_at (S.qos sink.old) writer moment) (with_gap start list.now t) h step
-            (Tracks self.new writer) (S.stands sink.new)) }
+            → MeetsNews (how_at self.old writer) (match_at (S.qos sink.old) writer moment)
+            (with_gap start list.now) t h step (Tracks self.new writer) (S.stands sink.new)) }
         // It passes over 257 runs at most.
         ensures few { IfOk result (λ step. length step.passed ≤ 257) }
         // Nothing else changes; a refusal, for want of memory alone, changes nothing at all.
         ensures keeps { KeepsRest S.stands S.qos S.spare writer
             self.old self.new sink.old sink.new result }
     {
-        let proxy = &mut self.proxies[writer];
+        let known = &mut self.writers[writer];
         let source = source_of(writer, moment);
-        proxy.on_gap(sink, &source, start, list)
+        known.on_gap(sink, &source, start, list)
     }
 
     /// A HEARTBEAT of a writer was received. It is accepted if its count is greater than those before: then the writer
@@ -319,12 +386,12 @@ impl StatefulReader {
         requires writers { count_of self.old ≤ length (S.qos sink.old).writers }
         // firstSN is one that the wire has.
         requires first { heartbeat.now.first ≤ max_sn }
-        // One of a greater count is heard, moves the place, and is answered.
+        // One of a greater count is heard, begins a place that waits, moves it, and is answered.
         ensures accepted { IfOk result (λ step. (t : Tracked) (h : List Happening)
             → Tracks self.old writer t → S.stands sink.old h
             → is_later t.count heartbeat.now.count ≡ true
-            → TakesHeartbeat (match_at (S.qos sink.old) writer moment) t h heartbeat.now step
-            (Tracks self.new writer) (S.stands sink.new)) }
+            → MeetsHeartbeat (how_at self.old writer) (match_at (S.qos sink.old) writer moment)
+            t h heartbeat.now step (Tracks self.new writer) (S.stands sink.new)) }
         // Any other does nothing.
         ensures repeated { (t : Tracked) (h : List Happening)
             → Tracks self.old writer t → S.stands sink.old h
@@ -338,8 +405,57 @@ impl StatefulReader {
         ensures keeps { KeepsRest S.stands S.qos S.spare writer
             self.old self.new sink.old sink.new result }
     {
-        let proxy = &mut self.proxies[writer];
+        let known = &mut self.writers[writer];
         let source = source_of(writer, moment);
-        proxy.on_heartbeat(sink, &source, heartbeat)
+        known.on_heartbeat(sink, &source, heartbeat)
+    }
+
+    /// A HEARTBEAT of a writer was received, and the reader is a best-effort one. It is accepted if its count is greater
+    /// than those before: then the writer is heard, if it asserts its liveliness. A place that waits goes on waiting, and
+    /// at one that has begun it does what it does at a reliable reader. One that is repeated does nothing.
+    ///
+    /// firstSN is at most 2^62.
+    ///
+    /// # Errors
+    ///
+    /// `Memory` where a growth was refused, and never after `reserve`, or `reserve_for` of this writer; what is known
+    /// and what happened is as it was.
+    ///
+    /// RTPS 2.5, 8.4.11 (best-effort StatefulReader), 8.3.8 (Heartbeat: count); DDS 1.4, 2.2.3 (LIVELINESS).
+    pub fn on_best_effort_heartbeat<S: Sink>(
+        &mut self,
+        sink: &mut S,
+        writer: usize,
+        heartbeat: &HeartbeatSeen,
+        moment: Moment,
+    ) -> Result<Step, Code>
+        // The writer is a matched one.
+        requires matched { writer < count_of self.old }
+        // The sink knows the matched writers.
+        requires writers { count_of self.old ≤ length (S.qos sink.old).writers }
+        // firstSN is one that the wire has.
+        requires first { heartbeat.now.first ≤ max_sn }
+        // One of a greater count is heard, and a place that waits goes on waiting.
+        ensures accepted { IfOk result (λ step. (t : Tracked) (h : List Happening)
+            → Tracks self.old writer t → S.stands sink.old h
+            → is_later t.count heartbeat.now.count ≡ true
+            → MeetsBeat (how_at self.old writer) (match_at (S.qos sink.old) writer moment)
+            t h heartbeat.now step (Tracks self.new writer) (S.stands sink.new)) }
+        // Any other does nothing.
+        ensures repeated { (t : Tracked) (h : List Happening)
+            → Tracks self.old writer t → S.stands sink.old h
+            → is_later t.count heartbeat.now.count ≡ false
+            → IsOk result
+            × IfOk result
+            (λ step. IsIdle t.place step × Tracks self.new writer t × S.stands sink.new h) }
+        // It passes over 257 runs at most.
+        ensures few { IfOk result (λ step. length step.passed ≤ 257) }
+        // Nothing else changes; a refusal, for want of memory alone, changes nothing at all.
+        ensures keeps { KeepsRest S.stands S.qos S.spare writer
+            self.old self.new sink.old sink.new result }
+    {
+        let known = &mut self.writers[writer];
+        let source = source_of(writer, moment);
+        known.on_best_effort_heartbeat(sink, &source, heartbeat)
     }
 }

@@ -38,12 +38,14 @@ pub struct AckNackDue {
     pub is_final: bool,
 }
 
-/// What a submessage of a writer did at a reader: how far the reader's place went, over what, and what it then sends
-/// back.
+/// What a submessage of a writer did at a reader: where the reader's place began, if it waited, how far it went, over
+/// what, and what the reader then sends back.
 ///
 /// RTPS 2.5, 8.4.10 (WriterProxy), 8.4.12 (behaviour of a reliable StatefulReader).
 #[derive(Drop)]
 pub struct Step {
+    /// Where the place began, if it did.
+    pub begun: Option<Sn>,
     /// The place: the number of the next change.
     pub to: Sn,
     /// The numbers that were passed over, in order; all others up to the place came.

@@ -131,7 +131,7 @@ fn passed_of(alloc: Global, runs: Vec<PassedRun>, room: &mut Vec<PassedRun>) -> 
 }
 
 /// Enters that the writer's liveliness was asserted, if it was.
-fn hear_if<S: Sink>(sink: &mut S, source: &Source, liveliness: bool)
+pub fn hear_if<S: Sink>(sink: &mut S, source: &Source, liveliness: bool)
     requires matched { IsMatched (S.qos sink.old) source.now.publication }
     requires spare { 1 ≤ S.spare sink.old }
     ensures entered { (h : List Happening) → S.stands sink.old h
@@ -145,7 +145,7 @@ fn hear_if<S: Sink>(sink: &mut S, source: &Source, liveliness: bool)
 }
 
 /// The arrival of a change.
-fn arrival_of(source: &Source, number: Sn, change: Change) -> Arrival
+pub fn arrival_of(source: &Source, number: Sn, change: Change) -> Arrival
     ensures { result ≡ record {
       writer = source.now.publication;
       number = number;
@@ -407,6 +407,17 @@ impl WriterProxy {
         self.count = Some(heartbeat.count);
     }
 
+    /// Notes the count of an accepted HEARTBEAT.
+    pub fn note_count(&mut self, heartbeat: &HeartbeatSeen)
+        requires sound { IsSound self.old }
+        ensures sound { IsSound self.new }
+        ensures tells { tracked self.new
+            ≡ record (tracked self.old) { count = Some heartbeat.now.count } }
+        ensures runs { self.new.runs ≡ self.old.runs }
+    {
+        self.count = Some(heartbeat.count);
+    }
+
     /// What to answer to an accepted HEARTBEAT. It uses up a count.
     fn acknowledge(&mut self, last: Sn, is_final: bool) -> Option<AckNackDue>
         requires sound { IsSound self.old }
@@ -441,7 +452,7 @@ impl WriterProxy {
         requires memory { CanMove (count_held self.old.held) (vec_capacity self.old.runs)
             (S.spare sink.old) }
         ensures sound { IsSound self.new }
-        ensures quiet { (result.heard ≡ false) × (result.acknack ≡ None) }
+        ensures quiet { (result.heard ≡ false) × (result.acknack ≡ None) × (result.begun ≡ None) }
         ensures qos { S.qos sink.new ≡ S.qos sink.old }
         ensures moves { Moves (match_of (S.qos sink.old) source.now) (S.stands sink.old)
             (S.stands sink.new)
@@ -455,6 +466,7 @@ impl WriterProxy {
         Step {
             to: self.window.place(),
             passed,
+            begun: None,
             heard: false,
             acknack: None,
         }
@@ -487,7 +499,7 @@ impl WriterProxy {
         requires small { number ≤ max_sn }
         requires spare { 1 ≤ S.spare sink.old }
         ensures sound { IsSound self.new }
-        ensures quiet { (result.heard ≡ false) × (result.acknack ≡ None) }
+        ensures quiet { (result.heard ≡ false) × (result.acknack ≡ None) × (result.begun ≡ None) }
         ensures qos { S.qos sink.new ≡ S.qos sink.old }
         ensures moves { Moves (match_of (S.qos sink.old) source.now) (S.stands sink.old)
             (S.stands sink.new)
@@ -520,7 +532,8 @@ impl WriterProxy {
             (λ step. Moves (match_of (S.qos sink.old) source.now) (S.stands sink.old)
             (S.stands sink.new)
             (with_data number change (tracked self.old)) step.to step.passed (tracked self.new)) }
-        ensures quiet { IfOk result (λ step. (step.heard ≡ false) × (step.acknack ≡ None)) }
+        ensures quiet { IfOk result
+            (λ step. (step.heard ≡ false) × (step.acknack ≡ None) × (step.begun ≡ None)) }
         ensures few { IfOk result (λ step. length step.passed ≤ 257) }
         ensures keeps { ProxyKeepsRest S.stands S.qos S.spare
             self.old self.new sink.old sink.new result }
@@ -534,12 +547,13 @@ impl WriterProxy {
     }
 
     /// Nothing was done.
-    fn idle(&self) -> Step
+    pub fn idle(&self) -> Step
         ensures { IsIdle (tracked self.now).place result }
     {
         Step {
             to: self.window.place(),
             passed: Sequence::from_vec(Vec::new(self.alloc)),
+            begun: None,
             heard: false,
             acknack: None,
         }
@@ -547,20 +561,22 @@ impl WriterProxy {
 
     /// Moves the place up to a number, whatever is known of those below, and lets go of the changes that are held
     /// there.
-    fn jump(&mut self, to: Sn)
+    pub fn jump(&mut self, to: Sn)
         requires sound { IsSound self.old }
         requires forward { window_place self.old.window ≤ to }
         requires small { to ≤ max_sn + window_width }
         ensures sound { IsSound self.new }
         ensures place { window_place self.new.window ≡ to }
         ensures stays { Stays (tracked self.old) (tracked self.new) }
+        ensures held { count_held self.new.held ≤ count_held self.old.held }
+        ensures runs { self.new.runs ≡ self.old.runs }
     {
         forget_below(&mut self.held, self.window.place().number(), to.number());
         self.window.pass(to);
     }
 
     /// A change comes over all numbers before its own, which are entered as a run.
-    fn come_over<S: Sink>(&mut self, sink: &mut S, source: &Source, arrival: Arrival) -> Step
+    pub fn come_over<S: Sink>(&mut self, sink: &mut S, source: &Source, arrival: Arrival) -> Step
         requires sound { IsSound self.old }
         requires matched { IsMatched (S.qos sink.old) source.now.publication }
         requires forward { window_place self.old.window ≤ arrival.number }
@@ -570,7 +586,7 @@ impl WriterProxy {
         requires runs { 1 ≤ vec_capacity self.old.runs }
         requires spare { 2 ≤ S.spare sink.old }
         ensures sound { IsSound self.new }
-        ensures quiet { (result.heard ≡ false) × (result.acknack ≡ None) }
+        ensures quiet { (result.heard ≡ false) × (result.acknack ≡ None) × (result.begun ≡ None) }
         ensures qos { S.qos sink.new ≡ S.qos sink.old }
         ensures moved { HasMoved (match_of (S.qos sink.old) source.now) (S.stands sink.old)
             (S.stands sink.new)
@@ -589,6 +605,7 @@ impl WriterProxy {
         Step {
             to: self.window.place(),
             passed,
+            begun: None,
             heard: false,
             acknack: None,
         }
@@ -609,7 +626,8 @@ impl WriterProxy {
             (λ step. JumpMoves (match_of (S.qos sink.old) source.now) (S.stands sink.old)
             (S.stands sink.new)
             (tracked self.old) number change step.to step.passed (tracked self.new)) }
-        ensures quiet { IfOk result (λ step. (step.heard ≡ false) × (step.acknack ≡ None)) }
+        ensures quiet { IfOk result
+            (λ step. (step.heard ≡ false) × (step.acknack ≡ None) × (step.begun ≡ None)) }
         ensures few { IfOk result (λ step. length step.passed ≤ 1) }
         ensures keeps { ProxyKeepsRest S.stands S.qos S.spare
             self.old self.new sink.old sink.new result }
@@ -640,7 +658,8 @@ impl WriterProxy {
             (λ step. Moves (match_of (S.qos sink.old) source.now) (S.stands sink.old)
             (S.stands sink.new)
             (with_gap start list.now (tracked self.old)) step.to step.passed (tracked self.new)) }
-        ensures quiet { IfOk result (λ step. (step.heard ≡ false) × (step.acknack ≡ None)) }
+        ensures quiet { IfOk result
+            (λ step. (step.heard ≡ false) × (step.acknack ≡ None) × (step.begun ≡ None)) }
         ensures few { IfOk result (λ step. length step.passed ≤ 257) }
         ensures keeps { ProxyKeepsRest S.stands S.qos S.spare
             self.old self.new sink.old sink.new result }
@@ -663,6 +682,7 @@ impl WriterProxy {
         ensures moves { IfOk result
             (λ step. HeartbeatMoves (match_of (S.qos sink.old) source.now) (S.stands sink.old)
             (S.stands sink.new) (tracked self.old) heartbeat.now step (tracked self.new)) }
+        ensures begun { IfOk result (λ step. step.begun ≡ None) }
         ensures repeated { is_later self.old.count heartbeat.now.count ≡ false
             → (self.new ≡ self.old)
             × (sink.new ≡ sink.old) × IsOk result

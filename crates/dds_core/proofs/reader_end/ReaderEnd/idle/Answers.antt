@@ -6,6 +6,7 @@ use Rattle.dds_core.proofs.reader_end.ReaderEnd.idle.Goals as goal
 pub returns-clause-idle : goal.returns-clause-idle
 returns-clause-idle c =
     λ t tracks. record {
+      begun = refl;
       to = c.place.ensures.place t
           (subst (λ (k : ReaderKept). Tracks k.reader c.args.row t) (sym c.self.view_is) tracks);
       passed = c.from_vec.ensures.elements ∙ c.new.ensures.items;

@@ -1,5 +1,5 @@
 use mir.Val.{SFits}
-use Rattle.std.proofs.Common.{◌≡◌, ◌∙◌, ℕ, ◌<◌, ap, rules, sym, subst}
+use Rattle.std.proofs.Common.{◌≡◌, ◌∙◌, ℕ, ◌<◌, ap, arith, rules, sym, subst}
 use Rattle.std.specs.Prelude.{ℤ}
 use Rattle.std.specs.Int.{w32}
 use Rattle.std.proofs.lemmas.Int.{to_z-of_z}
@@ -27,6 +27,7 @@ invariant_of-result c =
     ∙ qos_as c.args.config.now c.limit_of.result c.limit_of-2.result _ c.in_ok-names.field-0.qos.items (limits c).0
     (limits c).1 c.from_vec.ensures.elements) c.in_ok-names.ensures.many
     c.is_reliable.result c.is_reliable.ensures.reliable
+    (λ row within. c.in-Ok.ensures.begun row (let count = c.in-Ok.ensures.count in omega (arith, within, count)))
 
 pub returns : goal.returns
 returns c =

@@ -1,26 +1,28 @@
 use Rattle.rtps_reader.specs.Tracked.{with_gap}
-use Rattle.rtps_reader.proofs.ReaderLaws.{Opened, opened, moves_all, keeps_all, sound_here, sound_set}
+use Rattle.rtps_reader.specs.Attached.{MeetsNews}
+use Rattle.rtps_reader.proofs.ReaderLaws.{Opened, opened, lifted, news_map, keeps_all, sound_here, sound_set}
 use Rattle.rtps_reader.proofs.stateful_reader.StatefulReader.on_gap.Given as given
 use Rattle.rtps_reader.proofs.stateful_reader.StatefulReader.on_gap.Goals as goal
 
--- the writer's proxy, of the reader that is open
+-- the writer's row, of the reader that is open
 here : (g : given.Over) (c : goal.After-self-1 g)
-    → Opened c.args.self.now c.self.inside.proxies.items c.args.writer c.index_mut-proxy.result.now
-here g c = opened c.self.view_is c.requires.matched c.index_mut-proxy.ensures.value
+    → Opened c.args.self.now c.self.inside.writers.items c.args.writer c.index_mut-known.result.now
+here g c = opened c.self.view_is c.requires.matched c.index_mut-known.ensures.value
 
 pub on_gap-requires-clause-sound : goal.on_gap-requires-clause-sound
 on_gap-requires-clause-sound g c =
-    sound_here c.self.invariant (opened c.self.view_is c.requires.matched c.index_mut-proxy.ensures.value)
+    sound_here c.self.invariant (opened c.self.view_is c.requires.matched c.index_mut-known.ensures.value)
 
 pub invariant_of-self : goal.invariant_of-self
 invariant_of-self g c = sound_set _ _ _ c.self.invariant c.on_gap.ensures.keeps.sound
 
-pub returns-clause-moves : goal.returns-clause-moves
-returns-clause-moves g c =
-    moves_all (here g c) (g.S.Sink.qos c.args.sink.now) c.source_of-source.result c.args.moment
-    (with_gap c.args.start c.args.list.now) (g.S.Sink.stands c.args.sink.now)
-    (g.S.Sink.stands c.on_gap.new.sink) c.on_gap.new.self c.on_gap.result c.source_of-source.ensures
-    c.on_gap.ensures.moves c.on_gap.ensures.quiet
+pub returns-clause-meets : goal.returns-clause-meets
+returns-clause-meets g c =
+    lifted (here g c) (λ how match t h step Knows. MeetsNews how match (with_gap c.args.start c.args.list.now) t h step Knows
+    (g.S.Sink.stands c.on_gap.new.sink))
+    (news_map (with_gap c.args.start c.args.list.now) (g.S.Sink.stands c.on_gap.new.sink)) (g.S.Sink.qos c.args.sink.now)
+    c.source_of-source.result c.args.moment (g.S.Sink.stands c.args.sink.now) c.on_gap.new.self c.on_gap.result
+    c.source_of-source.ensures c.on_gap.ensures.meets
 
 pub returns-clause-keeps : goal.returns-clause-keeps
-returns-clause-keeps g c = keeps_all (here g c) c.on_gap.ensures.keeps
+returns-clause-keeps g c = keeps_all (here g c) c.on_gap.ensures.how c.on_gap.ensures.keeps

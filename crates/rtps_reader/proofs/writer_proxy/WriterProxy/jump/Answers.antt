@@ -14,7 +14,7 @@ returns-clause-sound c =
       kept = keeps_jumped w c.pass.new.self c.args.self.now.held c.forget_below.new.held c.args.to was.kept
           (jumps_over w c.pass.new.self c.args.self.now.held c.forget_below.new.held c.number.result c.number-2.result
           c.args.to (c.number.ensures.number ∙ c.place.ensures.place) c.number-2.ensures.number c.requires.forward at
-          c.pass.ensures.marks c.forget_below.ensures);
+          c.pass.ensures.marks c.forget_below.ensures.each);
       from = omega (arith, at, from, c.requires.forward);
       unmarked = λ n high. none_stays (nat_le c.args.to n) _ _ (c.pass.ensures.marks n) (was.unmarked n high);
       place_is_small = omega (arith, at, c.requires.small);
@@ -29,7 +29,7 @@ returns-clause-stays c =
       slots = λ n low. slot_jumped w c.pass.new.self c.args.self.now.held c.forget_below.new.held c.args.to n
           (jumps_over w c.pass.new.self c.args.self.now.held c.forget_below.new.held c.number.result c.number-2.result
           c.args.to (c.number.ensures.number ∙ c.place.ensures.place) c.number-2.ensures.number c.requires.forward at
-          c.pass.ensures.marks c.forget_below.ensures) (omega (arith, low, at));
+          c.pass.ensures.marks c.forget_below.ensures.each) (omega (arith, low, at));
       first = refl;
       count = refl;
       acknacks = refl;
