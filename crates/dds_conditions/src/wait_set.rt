@@ -121,14 +121,14 @@ impl WaitSet {
     }
 
     /// The attached conditions whose trigger value is true, in the order in which they were attached. `is_true` tells
-    /// the trigger value of each.
+    /// the trigger value of each, and is asked once of each.
     ///
     /// DDS 1.4, 2.2.2.1 (wait: active_conditions; get_trigger_value).
     ///
     /// # Errors
     ///
-    /// `Memory` where a growth was refused, which only one that has conditions needs.
-    pub fn active<T: FnMut(&Cond) -> bool>(&self, is_true: T) -> Result<Sequence<Cond>, Code>
+    /// `Memory` where a growth was refused, which only one needs that has a condition that is true.
+    pub fn active<T: FnMut(&Cond) -> bool>(&self, mut is_true: T) -> Result<Sequence<Cond>, Code>
         // The test can be called at any time.
         requires callable { T.IsAlwaysCallable is_true }
         // If the test tells these trigger values, and stays the same, they are those that are true by these.
@@ -138,14 +138,20 @@ impl WaitSet {
             → IfOk result (λ active. active ≡ active_of trigger self.now) }
         // Where none is attached, it is never refused.
         ensures none { self.now ≡ [] → IsOk result }
+        // If the test tells these trigger values, and stays the same, it is refused only where one is true by these.
+        ensures some { (trigger : Cond → Bool)
+            → ((c : Cond) (answer : Bool) (after : T) → CalledAt T.FnMut is_true c answer after
+            → (answer ≡ trigger c) × (after ≡ is_true))
+            → IfErr result (λ code. list_any trigger self.now ≡ true) }
         // The only refusal is for want of memory.
         ensures memory { IfErr result (λ code. code ≡ Memory) }
     {
-        if self.conditions.is_empty() {
-            return Ok(Sequence::from_vec(Vec::new(*self.conditions.allocator())));
+        let mut active = Vec::new(*self.conditions.allocator());
+        for condition in &self.conditions {
+            if is_true(condition) {
+                active.push(*condition)?;
+            }
         }
-        let mut active = Vec::from_slice(*self.conditions.allocator(), &self.conditions)?;
-        active.retain(is_true);
         Ok(Sequence::from_vec(active))
     }
 }

@@ -535,11 +535,11 @@ impl Watch {
     }
 
     /// The conditions of a WaitSet whose trigger value is true, in the order in which they were attached; none where
-    /// there is no such WaitSet. `is_true` tells the trigger value of each.
+    /// there is no such WaitSet. `is_true` tells the trigger value of each, and is asked once of each.
     ///
     /// # Errors
     ///
-    /// `Memory` where a growth was refused, which only a WaitSet that has conditions needs.
+    /// `Memory` where a growth was refused, which only a WaitSet needs that has a condition that is true.
     ///
     /// DDS 1.4, 2.2.2.1 (wait: active_conditions).
     pub fn active<T: FnMut(&Cond) -> bool>(
@@ -556,6 +556,11 @@ impl Watch {
             → IfOk result (λ active. active ≡ active_of trigger (conditions_of self.now number)) }
         // Where none is attached, it is never refused.
         ensures none { conditions_of self.now number ≡ [] → IsOk result }
+        // If the test tells these trigger values, and stays the same, it is refused only where one is true by these.
+        ensures some { (trigger : CondOf → Bool)
+            → ((c : CondOf) (answer : Bool) (after : T) → CalledAt T.FnMut is_true c answer after
+            → (answer ≡ trigger c) × (after ≡ is_true))
+            → IfErr result (λ code. list_any trigger (conditions_of self.now number) ≡ true) }
         // The only refusal is for want of memory.
         ensures memory { IfErr result (λ code. code ≡ Memory) }
     {
