@@ -1,7 +1,8 @@
 -- What the conditions of a peer tell, and accesses by them.
-use Rattle.std.proofs.Common.{◌≡◌, ℕ, Bool, true, false, cond, ◌||◌, List, [], ◌∷◌, Option, Some, None, refl, ap, sym, ◌∙◌, subst, inl, inr}
+use Rattle.std.proofs.Common.{◌≡◌, ℕ, Bool, true, false, cond, ◌||◌, ◌==◌, List, [], ◌∷◌, Option, Some, None, length, refl, ap, sym, ◌∙◌, subst, inl, inr, arith}
 use Rattle.std.specs.Prelude.{filter}
 use Rattle.std.specs.List.{list_any}
+use Rattle.std.proofs.lemmas.Bool.Decides.{nat_tests}
 use Rattle.dds_base.specs.declared.code.Code.{Code}
 use Rattle.dds_base.specs.declared.code.Code.TheVariants.{Memory, Timeout}
 use Rattle.dds_base.specs.declared.config.Config.{Config}
@@ -54,16 +55,20 @@ not_accessed_by {tests} Taking kept config peer s reader scope condition code so
 
 -- ---- a look at a WaitSet
 
-filter_none : (b : Bool) (c : Cond) (rest : List Cond) (any : Bool) → (any ≡ false → rest ≡ []) → (b || any) ≡ false
-    → cond b (c ∷ rest) rest ≡ []
-filter_none true c rest any then is = absurd cc
-filter_none false c rest any then is = then is
+several : (c : Cond) (cs : List Cond) → (length (c ∷ cs) == 0) ≡ false
+several c cs = grind (arith, nat_tests)
 
--- none is active where no trigger value is true
-none_active : (trigger : Cond → Bool) (cs : List Cond) → list_any trigger cs ≡ false → active_of trigger cs ≡ []
-none_active trigger [] is = refl
-none_active trigger (c ∷ cs) is =
-    filter_none (trigger c) c (filter trigger cs) (list_any trigger cs) (none_active trigger cs) is
+-- a list that has no element, as is told
+pub is_nil : (cs active : List Cond) (told : Bool) → cs ≡ active → told ≡ (length cs == 0) → told ≡ true → active ≡ []
+is_nil [] active told same is e = sym same
+is_nil (c ∷ cs) active told same is e = absurd (let clash : true ≡ false = sym e ∙ (is ∙ several c cs) in cc)
+
+-- and one that has some
+pub not_nil : (cs active : List Cond) (told : Bool) → cs ≡ active → told ≡ (length cs == 0) → told ≡ false
+    → active ≡ [] → ⊥
+not_nil cs active told same is e nil =
+    let clash : true ≡ false =
+    sym (ap (λ (xs : List Cond). length xs == 0) (same ∙ nil)) ∙ (sym is ∙ e) in cc
 
 filter_some : (b : Bool) (c : Cond) (rest : List Cond) (any : Bool) → (any ≡ true → rest ≡ [] → ⊥) → (b || any) ≡ true
     → cond b (c ∷ rest) rest ≡ [] → ⊥
@@ -71,7 +76,7 @@ filter_some true c rest any then is nil = absurd cc
 filter_some false c rest any then is nil = then is nil
 
 -- some are active where a trigger value is true
-some_active : (trigger : Cond → Bool) (cs : List Cond) → list_any trigger cs ≡ true → active_of trigger cs ≡ [] → ⊥
+pub some_active : (trigger : Cond → Bool) (cs : List Cond) → list_any trigger cs ≡ true → active_of trigger cs ≡ [] → ⊥
 some_active trigger [] is nil = absurd cc
 some_active trigger (c ∷ cs) is nil =
     filter_some (trigger c) c (filter trigger cs) (list_any trigger cs) (some_active trigger cs) is nil
@@ -123,30 +128,28 @@ look_is_refused (c ∷ cs) timed_out part wait_set code some =
 
 -- the wait goes on
 pub waits_on : {tests : Tests} (kept : PeerKept) (config : Config) (peer : Peer) → StandsFor kept config peer
-    → (wait_set : ℕ)
-    → false ≡ list_any (trigger_value tests peer.part) (conditions_of peer.part.dds.watch wait_set)
+    → (wait_set : ℕ) (active : List Cond)
+    → active ≡ active_of (trigger_value tests peer.part) (conditions_of peer.part.dds.watch wait_set) → active ≡ []
     → is_timed_out (at_number kept.watch.wait_sets wait_set) kept.moment ≡ false → used_by kept.watch wait_set ≡ None
     → FollowsBy tests kept config peer (event.Call (call.WaitLook wait_set)) (silent Waiting)
-waits_on {tests} kept config peer s wait_set none early used =
+waits_on {tests} kept config peer s wait_set active is none early used =
     unchanging_call kept config peer s (call.WaitLook wait_set) Waiting refl
-    (look_goes_on _ _ peer.part wait_set
-    (none_active (trigger_value tests peer.part) (conditions_of peer.part.dds.watch wait_set) (sym none))
+    (look_goes_on _ _ peer.part wait_set (sym is ∙ none)
     (ap (λ (w : Watched). is_timed_out (at_number w.wait_sets wait_set) peer.part.dds.moment) s.watch
     ∙ (ap (λ (m : ℕ). is_timed_out (at_number kept.watch.wait_sets wait_set) m) s.moment ∙ early))
     (ap (λ (w : Watched). used_by w wait_set) s.watch ∙ used))
 
 -- it ends at its deadline
 pub times_out : {tests : Tests} (kept : PeerKept) (new : Watched) (config : Config) (peer : Peer)
-    → StandsFor kept config peer → (wait_set : ℕ)
-    → false ≡ list_any (trigger_value tests peer.part) (conditions_of peer.part.dds.watch wait_set)
+    → StandsFor kept config peer → (wait_set : ℕ) (active : List Cond)
+    → active ≡ active_of (trigger_value tests peer.part) (conditions_of peer.part.dds.watch wait_set) → active ≡ []
     → is_timed_out (at_number kept.watch.wait_sets wait_set) kept.moment ≡ true → used_by kept.watch wait_set ≡ None
     → new ≡ with_deadline kept.watch wait_set None
     → FollowsBy tests (record kept { watch = new }) config peer (event.Call (call.WaitLook wait_set))
     (silent (Refused Timeout))
-times_out {tests} kept new config peer s wait_set none late used ended =
+times_out {tests} kept new config peer s wait_set active is none late used ended =
     watched_call kept new config peer s (call.WaitLook wait_set) (Refused Timeout) refl
-    (look_times_out _ _ peer.part wait_set new
-    (none_active (trigger_value tests peer.part) (conditions_of peer.part.dds.watch wait_set) (sym none))
+    (look_times_out _ _ peer.part wait_set new (sym is ∙ none)
     (ap (λ (w : Watched). is_timed_out (at_number w.wait_sets wait_set) peer.part.dds.moment) s.watch
     ∙ (ap (λ (m : ℕ). is_timed_out (at_number kept.watch.wait_sets wait_set) m) s.moment ∙ late))
     (ap (λ (w : Watched). used_by w wait_set) s.watch ∙ used)
@@ -162,16 +165,14 @@ no_wait {tests} kept config peer s wait_set code some =
 
 -- it ends with the active conditions
 pub is_over_with : {tests : Tests} (kept : PeerKept) (new : Watched) (config : Config) (peer : Peer)
-    → StandsFor kept config peer → (wait_set : ℕ) (active : List Cond)
-    → true ≡ list_any (trigger_value tests peer.part) (conditions_of peer.part.dds.watch wait_set)
+    → StandsFor kept config peer → (wait_set : ℕ) (active : List Cond) → (active ≡ [] → ⊥)
     → active ≡ active_of (trigger_value tests peer.part) (conditions_of peer.part.dds.watch wait_set)
     → used_by kept.watch wait_set ≡ None → new ≡ with_deadline kept.watch wait_set None
     → FollowsBy tests (record kept { watch = new }) config peer (event.Call (call.WaitLook wait_set))
     (silent (Active active))
 is_over_with {tests} kept new config peer s wait_set active some is used ended =
     watched_call kept new config peer s (call.WaitLook wait_set) (Active active) refl
-    (look_is_active _ _ peer.part wait_set _ _
-    (some_active (trigger_value tests peer.part) (conditions_of peer.part.dds.watch wait_set) (sym some))
+    (look_is_active _ _ peer.part wait_set _ _ (λ nil. some (is ∙ nil))
     (inl (subst (λ (o : Option Code). IsAnsweredWatching o
     (Active (active_of (trigger_value tests peer.part) (conditions_of peer.part.dds.watch wait_set)))
     (with_deadline peer.part.dds.watch wait_set None) peer.part (Active active)
@@ -184,12 +185,13 @@ is_over_with {tests} kept new config peer s wait_set active some is used ended =
 
 -- or finds no memory for them
 pub lacks_memory : {tests : Tests} (kept : PeerKept) (config : Config) (peer : Peer) → StandsFor kept config peer
-    → (wait_set : ℕ)
-    → true ≡ list_any (trigger_value tests peer.part) (conditions_of peer.part.dds.watch wait_set)
+    → (wait_set : ℕ) (code : Code) → code ≡ Memory
+    → (active_of (trigger_value tests peer.part) (conditions_of peer.part.dds.watch wait_set) ≡ [] → ⊥)
     → used_by kept.watch wait_set ≡ None
-    → FollowsBy tests kept config peer (event.Call (call.WaitLook wait_set)) (silent (Refused Memory))
-lacks_memory {tests} kept config peer s wait_set some used =
-    unchanging_call kept config peer s (call.WaitLook wait_set) (Refused Memory) refl
-    (look_is_active _ _ peer.part wait_set _ _
-    (some_active (trigger_value tests peer.part) (conditions_of peer.part.dds.watch wait_set) (sym some))
-    (inr (ap (λ (w : Watched). used_by w wait_set) s.watch ∙ used, refl, refl, refl)))
+    → FollowsBy tests kept config peer (event.Call (call.WaitLook wait_set)) (silent (Refused code))
+lacks_memory {tests} kept config peer s wait_set code is some used =
+    subst (λ (x : Code). FollowsBy tests kept config peer (event.Call (call.WaitLook wait_set)) (silent (Refused x)))
+    (sym is)
+    (unchanging_call kept config peer s (call.WaitLook wait_set) (Refused Memory) refl
+    (look_is_active _ _ peer.part wait_set _ _ some
+    (inr (ap (λ (w : Watched). used_by w wait_set) s.watch ∙ used, refl, refl, refl))))

@@ -110,6 +110,19 @@ fn asked_for(
     }
 }
 
+/// These conditions, and once more where two replies are asked for.
+fn told_twice(active: Sequence<Cond>, twin: &mut Twin) -> Result<Sequence<Cond>, Code>
+    ensures ok { IfOk result (λ conditions. conditions ≡ active) }
+    ensures memory { IfErr result (λ code. code ≡ Memory) }
+    ensures twin { Twins twin.old (active_reply result) twin.new }
+{
+    if twin.is_asked() {
+        let again = active.copied()?;
+        *twin = Twin::Kept(Reply::Active(again));
+    }
+    Ok(active)
+}
+
 impl Peer {
     pub(crate) fn create_read_condition(&mut self, reader: u8, masks: Masks) -> Output
         ensures step { Steps self.old
@@ -412,22 +425,11 @@ impl Peer {
         answered(self.alloc, reply_to_access(samples))
     }
 
-    /// Whether a condition of a WaitSet is true.
-    fn is_active<T: Filters>(&self, filters: &T, wait_set: u32) -> bool
-        ensures { TellsActive (T.meaning filters.now) self.now wait_set result }
-    {
-        let is_true = |condition: &Cond|
-            ensures trigger { TellsTrigger
-                (T.meaning filters.entry.now) self.entry.now condition.entry.now result }
-            ensures same { (self.exit ≡ self.entry) × (filters.exit ≡ filters.entry) }
-        { self.trigger_of(filters, *condition) };
-        self.watch.is_active(wait_set, is_true)
-    }
-
-    /// The conditions of a WaitSet that are true.
+    /// The conditions of a WaitSet that are true. Each is asked once.
     fn active<T: Filters>(&self, filters: &T, wait_set: u32) -> Result<Sequence<Cond>, Code>
         ensures ok { IfOk result (AreActive (T.meaning filters.now) self.now wait_set) }
         ensures memory { IfErr result (λ code. code ≡ Memory) }
+        ensures some { IfErr result (λ code. TellsActive (T.meaning filters.now) self.now wait_set true) }
     {
         let is_true = |condition: &Cond|
             ensures trigger { TellsTrigger
@@ -435,43 +437,6 @@ impl Peer {
             ensures same { (self.exit ≡ self.entry) × (filters.exit ≡ filters.entry) }
         { self.trigger_of(filters, *condition) };
         self.watch.active(wait_set, is_true)
-    }
-
-    /// The conditions of a WaitSet that are true, and once more where two replies are asked for.
-    fn active_with<T: Filters>(
-        &self,
-        filters: &T,
-        wait_set: u32,
-        twin: &mut Twin,
-    ) -> Result<Sequence<Cond>, Code>
-        ensures ok { IfOk result (AreActive (T.meaning filters.now) self.now wait_set) }
-        ensures memory { IfErr result (λ code. code ≡ Memory) }
-        ensures twin { Twins twin.old (active_reply result) twin.new }
-    {
-        let active = self.active(filters, wait_set)?;
-        if twin.is_asked() {
-            let again = active.copied()?;
-            *twin = Twin::Kept(Reply::Active(again));
-        }
-        Ok(active)
-    }
-
-    /// The true conditions of a WaitSet, of which there is one: the wait is over.
-    fn end_active<T: Filters>(&mut self, filters: &T, wait_set: u32, twin: &mut Twin) -> Output
-        requires used { use_refusal (at_number self.old.watch.wait_sets wait_set) ≡ None }
-        requires active { TellsActive (T.meaning filters.now) self.old wait_set true }
-        ensures step { StepsBy (T.meaning filters.now) self.old
-            (event.Call (call.WaitLook wait_set)) result self.new }
-        ensures sends { SendsNothing result }
-        ensures twin { Twins twin.old result.reply twin.new }
-    {
-        match self.active_with(filters, wait_set, twin) {
-            Ok(active) => {
-                let _ = self.watch.end(wait_set);
-                answered(self.alloc, Reply::Active(active))
-            }
-            Err(code) => self.refused(code),
-        }
     }
 
     pub(crate) fn wait_look<T: Filters>(
@@ -489,13 +454,23 @@ impl Peer {
             Ok(deadline) => deadline,
             Err(code) => return self.refused(code),
         };
-        if self.is_active(filters, wait_set) {
-            return self.end_active(filters, wait_set, twin);
+        let active = match self.active(filters, wait_set) {
+            Ok(active) => active,
+            Err(code) => return self.refused(code),
+        };
+        if active.as_slice().is_empty() {
+            if self.moment.units() < deadline.units() {
+                return answered(self.alloc, Reply::Waiting);
+            }
+            let _ = self.watch.end(wait_set);
+            return self.refused(Code::Timeout);
         }
-        if self.moment.units() < deadline.units() {
-            return answered(self.alloc, Reply::Waiting);
+        match told_twice(active, twin) {
+            Ok(active) => {
+                let _ = self.watch.end(wait_set);
+                answered(self.alloc, Reply::Active(active))
+            }
+            Err(code) => self.refused(code),
         }
-        let _ = self.watch.end(wait_set);
-        self.refused(Code::Timeout)
     }
 }
