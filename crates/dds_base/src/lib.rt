@@ -90,5 +90,5 @@ pub use sample::{InstanceState, Picked, Sample, SampleInfo, SampleState, ViewSta
 pub use selection::{Scope, Selection};
 pub use sequence::Sequence;
 pub use sn::{MAX_SN, Sn};
-pub use spare::Spare;
+pub use spare::{Spare, reserve_few};
 pub use status::{LivelinessChangedStatus, LivelinessLostStatus, SampleLostStatus};

@@ -1,8 +1,8 @@
 //! Lists that were given back, kept for their memory.
 
-ghost use Rattle.std.specs.Prelude.{◌≡◌, [], vec_len};
+ghost use Rattle.std.specs.Prelude.{◌≡◌, ◌+◌, ◌≤◌, [], OnOk, vec_len, vec_capacity};
 
-use std::alloc::Global;
+use std::alloc::{AllocError, Global};
 use std::mem;
 
 /// A list of more places than these is not kept, so that what is kept stays small after a large one.
@@ -44,4 +44,22 @@ impl<T: Drop> Spare<T> {
             self.list = list;
         }
     }
+}
+
+/// Makes room for so many more in a list: for just these in one that has no memory, as most answers have few.
+#[inline(always)]
+pub fn reserve_few<T>(list: &mut Vec<T>, count: usize) -> Result<(), AllocError>
+    // What stands in it stays.
+    ensures items { list.new.items ≡ list.old.items }
+    // So does how much that is.
+    ensures len { vec_len list.new ≡ vec_len list.old }
+    // There is room for so many more.
+    ensures ok { OnOk result (vec_len list.new + count ≤ vec_capacity list.new) }
+    // There is no less room than before.
+    ensures capacity { vec_capacity list.old ≤ vec_capacity list.new }
+{
+    if list.capacity() == 0 {
+        return list.reserve_exact(count);
+    }
+    list.reserve(count)
 }
