@@ -71,14 +71,17 @@ any_of : (X : Type 0) (count : ℕ) → list_any (λ (o : Option X). is_some o) 
 any_of X zero = refl
 any_of X (suc count) = any_of X count
 
+-- where nobody is, nothing stands
+pub nobody_is_none : (X : Type 0) (writers readers : ℕ) → is_any {X = X} (nobody writers readers) ≡ false
+nobody_is_none X writers readers =
+    ap (λ (b : Bool). b || list_any (λ (o : Option X). is_some o) (replicate readers None)) (any_of X writers)
+    ∙ any_of X readers
+
 -- where nobody is, nobody takes a status
 pub nobody_is_told : (writers readers : ℕ) → NobodyTakes (nobody writers readers)
 nobody_is_told writers readers entity status =
     let places : Places = nobody writers readers in
-    let none : is_any places ≡ false =
-    ap (λ (b : Bool). b || list_any (λ (o : Option Place). is_some o) (replicate readers None)) (any_of Place writers)
-    ∙ any_of Place readers in
-    rw (none_entity places none entity) refl
+    rw (none_entity places (nobody_is_none Place writers readers) entity) refl
 
 module _ {L : Type 0} (notices : L → List Notice) (capacity : L → ℕ) (becomes : L → Notice → L → Type 0) where
   -- nobody stands for nobody

@@ -24,14 +24,19 @@ use std::marker::Model;
 #[derive(Drop)]
 pub struct Slots<L> {
     slots: EachEntity<Option<Slot<L>>>,
+    /// Whether one was ever set or taken away: before, nobody is looked for.
+    was_set: bool,
 }
 
 impl<L> Model for Slots<L> {
-    ghost use Rattle.dds_notices.specs.Listeners.{Slotted};
+    ghost use Rattle.std.specs.Prelude.{◌≡◌, false};
+    ghost use Rattle.dds_notices.specs.Listeners.{Slotted, is_any};
 
     ghost Value = { Slotted L };
 
     ghost view = { λ s. s.slots };
+
+    ghost invariant = { λ s. s.was_set ≡ false → is_any s.slots ≡ false };
 }
 
 /// Whether somebody is there.
@@ -39,6 +44,17 @@ fn is_any<L: Listener>(slots: &[Option<Slot<L>>]) -> bool
     ensures { result ≡ list_any is_some slots.now }
 {
     slots.iter().any(|slot| slot.is_some())
+}
+
+/// Nobody, of a peer with so many writers and readers.
+fn unset<L: Listener>(
+    alloc: Global,
+    writers: usize,
+    readers: usize,
+) -> Result<EachEntity<Option<Slot<L>>>, AllocError>
+    ensures { IfOk result (λ slots. slots ≡ nobody writers readers) }
+{
+    Ok(EachEntity::open(alloc, writers, readers, || None)?)
 }
 
 impl<L: Listener> Slots<L> {
@@ -52,13 +68,22 @@ impl<L: Listener> Slots<L> {
         ensures nobody { IfOk result (λ slots. slots ≡ nobody writers readers) }
     {
         Ok(Slots {
-            slots: EachEntity::open(alloc, writers, readers, || None)?,
+            slots: unset(alloc, writers, readers)?,
+            was_set: false,
         })
     }
 
     /// Whether a listener is set at some entity.
     pub fn has_listeners(&self) -> bool
         ensures listeners { result ≡ is_any self.now }
+    {
+        self.was_set && self.is_any_set()
+    }
+
+    /// The same, once one was set or taken away.
+    #[inline(never)]
+    fn is_any_set(&self) -> bool
+        ensures { result ≡ is_any self.now }
     {
         self.at(Entity::Participant).is_some()
             || is_any(self.slots.writers())
@@ -161,6 +186,7 @@ impl<L: Listener> Slots<L> {
         ensures old { result ≡ at_entity self.old entity }
         ensures new { self.new ≡ with_entity self.old entity slot }
     {
+        self.was_set = true;
         self.slots.replace(entity, slot)
     }
 
