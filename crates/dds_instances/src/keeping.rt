@@ -264,6 +264,7 @@ fn is_left(index: &KeyIndex, tracks: &[InstanceTrack], key: Key) -> bool
 }
 
 /// Whether nobody is registered for the instance of some of these samples.
+#[inline(always)]
 pub fn is_any_left(index: &KeyIndex, tracks: &[InstanceTrack], samples: &[SamplePosition]) -> bool
     requires indexed { index.now.keys ≡ map key_of tracks.now }
     ensures { (q : ReaderQos) (h : List Happening) → Follows q h tracks.now

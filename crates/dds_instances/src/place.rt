@@ -144,15 +144,14 @@ fn is_that(absent: &Option<Key>, key: Key) -> bool
     }
 }
 
-/// The place of a key, if it is there.
-pub fn find(index: &KeyIndex, key: Key) -> Option<usize>
+/// The place of a key, if it is there, most likely not where one was expected last.
+// It needs more registers than a look at the latest, which so saves none.
+#[inline(never)]
+fn find_other(index: &KeyIndex, key: Key) -> Option<usize>
     ensures { MatchOption result (list_any (same_key key) index.now.keys
         ≡ false) (IsPlaceOf index.now.keys key) }
 {
     let _ = index.set.len(); // its contract says that no two keys are one
-    if is_at(&index.set, index.latest, key) {
-        return Some(index.latest);
-    }
     if is_that(&index.absent, key) {
         return None;
     }
@@ -162,6 +161,19 @@ pub fn find(index: &KeyIndex, key: Key) -> Option<usize>
         return Some(following);
     }
     index.set.get_index_of(&key)
+}
+
+/// The place of a key, if it is there.
+#[inline(always)]
+pub fn find(index: &KeyIndex, key: Key) -> Option<usize>
+    ensures { MatchOption result (list_any (same_key key) index.now.keys
+        ≡ false) (IsPlaceOf index.now.keys key) }
+{
+    let _ = index.set.len(); // its contract says that no two keys are one
+    if is_at(&index.set, index.latest, key) {
+        return Some(index.latest);
+    }
+    find_other(index, key)
 }
 
 /// Puts an instance last, in the room that there is.
