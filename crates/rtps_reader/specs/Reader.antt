@@ -47,7 +47,7 @@ IsReadyAt reader writer spare =
 abbrev pub IsReady : Proxies → ℕ → Type 0
 IsReady reader spare = (index : ℕ) → IsReadyAt reader index spare
 
--- what could not fail can't
+-- what could not fail for want of memory still can't
 abbrev pub AllReady : Proxies → Proxies → Type 0
 AllReady old new = (index spare : ℕ) → IsReadyAt old index spare → IsReadyAt new index spare
 

@@ -82,7 +82,7 @@ impl StatefulReader {
 
     /// The place at a writer: the number of its next change.
     pub fn place(&self, writer: usize) -> Sn
-        // The writer is a matched one.
+        // The writer is a known one.
         requires matched { writer < count_of self.now }
         // It is what is known of the writer.
         ensures place { (t : Tracked) → Tracks self.now writer t → result ≡ t.place }
@@ -153,7 +153,7 @@ impl StatefulReader {
     ///
     /// RTPS 2.5, 8.4.12 (received_change_set).
     pub fn may_take(&self, writer: usize, number: Sn) -> bool
-        // The writer is a matched one.
+        // The writer is a known one.
         requires matched { writer < count_of self.now }
         // It is so by what is known of the writer.
         ensures takes { (t : Tracked) → Tracks self.now writer t → result ≡ may_take t number }
@@ -165,7 +165,7 @@ impl StatefulReader {
     ///
     /// RTPS 2.5, 8.3.8 (Heartbeat: count).
     pub fn is_later(&self, writer: usize, count: i32) -> bool
-        // The writer is a matched one.
+        // The writer is a known one.
         requires matched { writer < count_of self.now }
         // It is so by what is known of the writer.
         ensures later { (t : Tracked) → Tracks self.now writer t → result ≡ is_later t.count count }
@@ -212,7 +212,7 @@ impl StatefulReader {
     ///
     /// `Memory` where a growth was refused.
     pub fn reserve_for<S: Sink>(&mut self, writer: usize, sink: &mut S) -> Result<(), Code>
-        // The writer is a matched one.
+        // The writer is a known one.
         requires matched { writer < count_of self.old }
         // Nothing becomes known.
         ensures same { AllStay self.old self.new }
@@ -236,8 +236,8 @@ impl StatefulReader {
         self.writers[writer].proxy.reserve(sink)
     }
 
-    /// A change of a writer was received: it is held, if its number is one of the window of which nothing is known, and
-    /// then the place goes as far as it can.
+    /// A change of a writer was received, at a place that has begun: it is held, if its number is one of the window of
+    /// which nothing is known, and then the place goes as far as it can. At any other place nothing is done.
     ///
     /// The number is at most 2^62.
     ///
@@ -255,7 +255,7 @@ impl StatefulReader {
         change: Change,
         moment: Moment,
     ) -> Result<Step, Code>
-        // The writer is a matched one.
+        // The writer is a known one.
         requires matched { writer < count_of self.old }
         // The sink knows the matched writers.
         requires writers { count_of self.old ≤ length (S.qos sink.old).writers }
@@ -278,7 +278,8 @@ impl StatefulReader {
     }
 
     /// A change of a writer was received, and the reader is a best-effort one: where the number is not below the place,
-    /// and there is room for the change, it comes, and all numbers before it are passed over; else nothing happens.
+    /// and there is room for the change, it comes, and all numbers before it are passed over; else nothing happens. A
+    /// place that waits begins at such a change, over all before it, none of which is then passed over.
     ///
     /// The number is at most 2^62.
     ///
@@ -296,7 +297,7 @@ impl StatefulReader {
         change: Change,
         moment: Moment,
     ) -> Result<Step, Code>
-        // The writer is a matched one.
+        // The writer is a known one.
         requires matched { writer < count_of self.old }
         // The sink knows the matched writers.
         requires writers { count_of self.old ≤ length (S.qos sink.old).writers }
@@ -318,9 +319,9 @@ impl StatefulReader {
         known.on_best_effort_data(sink, &source, number, change)
     }
 
-    /// A GAP of a writer was received: the numbers from `start` to below the list's base, and those of the list, are
-    /// irrelevant, as far as they are of the window and nothing is known of them; then the place goes as far as it
-    /// can.
+    /// A GAP of a writer was received, at a place that has begun: the numbers from `start` to below the list's base, and
+    /// those of the list, are irrelevant, as far as they are of the window and nothing is known of them; then the place
+    /// goes as far as it can. At any other place nothing is done.
     ///
     /// The list's base is at most 2^62.
     ///
@@ -338,7 +339,7 @@ impl StatefulReader {
         list: &SnSet,
         moment: Moment,
     ) -> Result<Step, Code>
-        // The writer is a matched one.
+        // The writer is a known one.
         requires matched { writer < count_of self.old }
         // The sink knows the matched writers.
         requires writers { count_of self.old ≤ length (S.qos sink.old).writers }
@@ -360,10 +361,10 @@ impl StatefulReader {
         known.on_gap(sink, &source, start, list)
     }
 
-    /// A HEARTBEAT of a writer was received. It is accepted if its count is greater than those before: then the writer
-    /// is heard, if it asserts its liveliness, the place goes as far as it can, and an ACKNACK is due, unless the
-    /// HEARTBEAT is final and nothing is missing, the place is above 2^62, or 2^31 - 1 counts were used. One that is
-    /// repeated does nothing.
+    /// A HEARTBEAT of a matched writer was received. It is accepted if its count is greater than those before: then the
+    /// writer is heard, if it asserts its liveliness, a place that waits begins at firstSN, or where it was, if that is
+    /// further, the place goes as far as it can, and an ACKNACK is due, unless the HEARTBEAT is final and nothing is
+    /// missing, the place is above 2^62, or 2^31 - 1 counts were used. One that is repeated does nothing.
     ///
     /// firstSN is at most 2^62.
     ///
@@ -380,7 +381,7 @@ impl StatefulReader {
         heartbeat: &HeartbeatSeen,
         moment: Moment,
     ) -> Result<Step, Code>
-        // The writer is a matched one.
+        // The writer is a known one.
         requires matched { writer < count_of self.old }
         // The sink knows the matched writers.
         requires writers { count_of self.old ≤ length (S.qos sink.old).writers }
@@ -429,7 +430,7 @@ impl StatefulReader {
         heartbeat: &HeartbeatSeen,
         moment: Moment,
     ) -> Result<Step, Code>
-        // The writer is a matched one.
+        // The writer is a known one.
         requires matched { writer < count_of self.old }
         // The sink knows the matched writers.
         requires writers { count_of self.old ≤ length (S.qos sink.old).writers }
