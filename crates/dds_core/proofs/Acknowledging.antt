@@ -1,21 +1,21 @@
 -- A writer's state once it took an ACKNACK of one of its readers, by the rows of the machine.
-use Rattle.std.proofs.Common.{◌≡◌, ℕ, zero, suc, ◌+◌, ◌<◌, ◌≤◌, Bool, true, false, cond, ◌&&◌, List, [], ◌∷◌, Option, Some, None, map, set, max, length, get_or, slice_get, refl, ap, sym, ◌∙◌, subst, arith, nat_lt}
+use Rattle.std.proofs.Common.{◌≡◌, ℕ, zero, suc, ◌+◌, ◌<◌, ◌≤◌, Bool, true, false, cond, ◌&&◌, List, [], ◌∷◌, Option, Some, None, map, set, max, min, length, get_or, slice_get, refl, ap, sym, ◌∙◌, subst, arith, nat_lt}
 use Rattle.std.specs.Prelude.{ℤ, if◌then◌else◌, nat_le, slice_index, All}
 use Rattle.std.specs.List.{AllByRecursion}
-use Rattle.std.proofs.Math.Nat.{min-le_left}
 use Rattle.std.proofs.lemmas.Bool.Decides.{nat_tests}
 use Rattle.std.proofs.lemmas.List.{length-map}
 use Rattle.std.proofs.lemmas.List.Elements.{All-from_recursion, recursion_from_All}
 use Rattle.std.proofs.lemmas.Option.{same_Some}
 use Rattle.rtps_writer.specs.Acknack.{applied, is_applied, if_later, newly_acknowledged}
-use Rattle.rtps_writer.specs.WriterState.{WriterState, acknowledged_by}
+use Rattle.rtps_writer.specs.Answers.{answered_from as rtps_answered_from}
+use Rattle.rtps_writer.specs.WriterState.{WriterState, acknowledged_by, owed_from as rtps_owed_from}
 use Rattle.dds_machine.specs.declared.endpoint.Endpoint.{Endpoint}
 use Rattle.std.specs.Option.{option_map}
 use Rattle.dds_base.specs.Counts.{is_later}
 use Rattle.dds_machine.specs.declared.reply.Move.TheVariants.{Acknowledged}
 use Rattle.dds_machine.specs.Part.{ReaderProxy, Writer, same_endpoint, row_of, acknowledged_of, with_acknowledged, owed_from, writer_changes}
 use Rattle.dds_core.specs.Answering.{acknowledged_moves}
-use Rattle.dds_protocol.specs.Protocol.{acknowledging}
+use Rattle.dds_protocol.specs.Protocol.{acknowledging, answered_from}
 use Rattle.dds_protocol.proofs.InOrder.{same_self}
 use Rattle.dds_protocol.proofs.Owing.{first_or}
 use Rattle.dds_machine.proofs.Tables.{same_is}
@@ -101,6 +101,18 @@ readers_same (q ∷ qs) e to = by (same_endpoint q.reader e) (readers_same qs e 
     by true h = refl
     by false h = ap (λ (es : List Endpoint). q.reader ∷ es) h
 
+-- and owe from where they owed
+firsts_same : (rows : List ReaderProxy) (e : Endpoint) (to : ℕ)
+    → map (λ (x : ReaderProxy). x.first) (with_acknowledged rows e to) ≡ map (λ (x : ReaderProxy). x.first) rows
+firsts_same [] e to = refl
+firsts_same (q ∷ qs) e to = by (same_endpoint q.reader e) (firsts_same qs e to)
+  where
+    by : (b : Bool) → map (λ (x : ReaderProxy). x.first) (with_acknowledged qs e to)
+        ≡ map (λ (x : ReaderProxy). x.first) qs → map (λ (x : ReaderProxy). x.first) (set_row q qs e to b)
+        ≡ q.first ∷ map (λ (x : ReaderProxy). x.first) qs
+    by true h = refl
+    by false h = ap (λ (ns : List ℕ). q.first ∷ ns) h
+
 map_readers : (f : Endpoint → Option ℤ) (rows : List ReaderProxy)
     → map (λ (x : ReaderProxy). f x.reader) rows ≡ map f (map (λ (x : ReaderProxy). x.reader) rows)
 map_readers f [] = refl
@@ -155,7 +167,7 @@ begun_on (q ∷ qs) e to low h = by (same_endpoint q.reader e) (begun_on qs e to
   where
     by : (b : Bool) → AllByRecursion CountsFrom1 (with_acknowledged qs e to)
         → AllByRecursion CountsFrom1 (set_row q qs e to b)
-    by true k = ((low, h.0.1), h.1)
+    by true k = (low, h.1)
     by false k = (h.0, k)
 
 pub still_begun : (rows : List ReaderProxy) (e : Endpoint) (to : ℕ) → 1 ≤ to
@@ -167,10 +179,11 @@ still_begun rows e to low h =
 
 -- ---- the state
 
--- a state in which what was acknowledged and the counts are others
-pub state_as : (s : WriterState) (a b : List ℕ) (c d : List (Option ℤ)) → a ≡ b → c ≡ d
-    → ◌≡◌ {A = WriterState} (record s { acknowledged = a; counts = c }) (record s { acknowledged = b; counts = d })
-state_as s a b c d e f = cc
+-- a state in which the rows are others
+pub state_as : (s : WriterState) (f g a b : List ℕ) (c d : List (Option ℤ)) → f ≡ g → a ≡ b → c ≡ d
+    → ◌≡◌ {A = WriterState} (record s { firsts = f; acknowledged = a; counts = c })
+    (record s { firsts = g; acknowledged = b; counts = d })
+state_as s f g a b c d i j k = cc
 
 -- what the writer knows of a reader of which this ACKNACK is taken
 pub record IsCounted (old new : Endpoint → Option ℤ) (e : Endpoint) (count : ℤ) : Type 0 where
@@ -184,7 +197,7 @@ state_applied w answered new e n p base count only counted =
     let rows : List ReaderProxy = w.readers in
     let at : slice_index (map (λ (x : ReaderProxy). x.acknowledged) rows) n ≡ p.acknowledged =
     acknowledged_at rows e n p only in
-    state_as (state_of w answered) _ _ _ _
+    state_as (state_of w answered) _ _ _ _ _ _ (firsts_same rows e (max p.acknowledged base))
     (acknowledged_set rows e n p (max p.acknowledged base) only
     ∙ ap (λ (m : ℕ). set (map (λ (x : ReaderProxy). x.acknowledged) rows) n (max m base)) (sym at))
     (counts_set answered new rows e n p (max p.acknowledged base) (Some count) counted.here counted.others only)
@@ -256,28 +269,46 @@ low_of rows e n p base only begun =
     lowest : (rows : List ReaderProxy) (n : ℕ) (p : ReaderProxy)
         → AllByRecursion CountsFrom1 rows → IsOnly rows e n p → 1 ≤ p.acknowledged
     lowest [] n p h k = absurd k
-    lowest (q ∷ qs) zero p h k = subst (λ (x : ReaderProxy). 1 ≤ x.acknowledged) k.0 h.0.0
+    lowest (q ∷ qs) zero p h k = subst (λ (x : ReaderProxy). 1 ≤ x.acknowledged) k.0 h.0
     lowest (q ∷ qs) (suc n) p h k = lowest qs n p h.1 k.1
 
--- a reader of the rows is owed all
-pub owed_all : (w : Writer) (e : Endpoint) (a : ℕ) → acknowledged_of w.readers e ≡ Some a → All CountsFrom1 w.readers
-    → owed_from w e ≤ 1
-owed_all w e a row begun =
-    let n = length (writer_changes w) in
-    let first = least w.readers (n + 1) (recursion_from_All CountsFrom1 w.readers begun) row in
-    let most = min-le_left (first_or (row_of (λ (x : ReaderProxy). x.reader) w.readers e) (n + 1)) (n + 1) in
-    omega (arith, first, most)
-  where
-    by : (q : ReaderProxy) (rest : Option ReaderProxy) (none : ℕ) (b : Bool) → CountsFrom1 q
-        → option_map (λ (x : ReaderProxy). x.acknowledged) (cond b (Some q) rest) ≡ Some a
-        → (option_map (λ (x : ReaderProxy). x.acknowledged) rest ≡ Some a → first_or rest none ≤ 1)
-        → first_or (cond b (Some q) rest) none ≤ 1
-    by q rest none true h k later = h.1
-    by q rest none false h k later = later k
+-- ---- what is owed
 
-    least : (rows : List ReaderProxy) (none : ℕ) → AllByRecursion CountsFrom1 rows → acknowledged_of rows e ≡ Some a
-        → first_or (row_of (λ (x : ReaderProxy). x.reader) rows e) none ≤ 1
-    least [] none h k = cc
-    least (q ∷ qs) none h k =
-        by q (row_of (λ (x : ReaderProxy). x.reader) qs e) none (same_endpoint q.reader e) h.0 k
-        (λ j. least qs none h.1 j)
+first_at : (rows : List ReaderProxy) (e : Endpoint) (n : ℕ) (p : ReaderProxy) → IsOnly rows e n p
+    → slice_index (map (λ (x : ReaderProxy). x.first) rows) n ≡ p.first
+first_at [] e n p h = absurd h
+first_at (q ∷ qs) e zero p h = ap (λ (x : ReaderProxy). x.first) h.0
+first_at (q ∷ qs) e (suc n) p h = first_at qs e n p h.1
+
+first_hits : (rows : List ReaderProxy) (e : Endpoint) (n : ℕ) (p : ReaderProxy) (to none : ℕ) → IsOnly rows e n p
+    → first_or (row_of (λ (x : ReaderProxy). x.reader) (with_acknowledged rows e to) e) none ≡ p.first
+first_hits [] e n p to none h = absurd h
+first_hits (q ∷ qs) e zero p to none h =
+    let here = first_row q e p h.0 h.1 in
+    ap (λ (b : Bool). first_or (row_of (λ (x : ReaderProxy). x.reader) (set_row q qs e to b) e) none) here
+    ∙ (ap (λ (b : Bool). first_or (cond b (Some (record q { acknowledged = to }))
+    (row_of (λ (x : ReaderProxy). x.reader) qs e)) none) here
+    ∙ ap (λ (x : ReaderProxy). x.first) h.0)
+first_hits (q ∷ qs) e (suc n) p to none h =
+    let other = not_same q.reader e h.0 in
+    ap (λ (b : Bool). first_or (row_of (λ (x : ReaderProxy). x.reader) (set_row q qs e to b) e) none) other
+    ∙ (ap (λ (b : Bool). first_or (cond b (Some q)
+    (row_of (λ (x : ReaderProxy). x.reader) (with_acknowledged qs e to) e)) none) other
+    ∙ first_hits qs e n p to none h.1)
+
+-- the row owes from where the writer owes its reader
+pub owed_same : (w : Writer) (answered : Endpoint → Option ℤ) (e : Endpoint) (n : ℕ) (p : ReaderProxy) (to : ℕ)
+    → IsOnly w.readers e n p
+    → rtps_owed_from (state_of (acknowledging w e to) answered) n ≡ owed_from (acknowledging w e to) e
+owed_same w answered e n p to only =
+    let next : ℕ = length (writer_changes w) + 1 in
+    ap (λ (ns : List ℕ). min (slice_index ns n) next) (firsts_same w.readers e to)
+    ∙ (ap (λ (k : ℕ). min k next) (first_at w.readers e n p only)
+    ∙ sym (ap (λ (k : ℕ). min k next) (first_hits w.readers e n p to next only)))
+
+-- an ACKNACK is answered from where it is by what was acknowledged before
+pub answered_then : (owed acknowledged base : ℕ) → rtps_answered_from owed (max acknowledged base) base
+    ≡ answered_from owed acknowledged base
+answered_then owed acknowledged base =
+    let same : max (max acknowledged base) base ≡ max acknowledged base = omega arith in
+    ap (λ (n : ℕ). if nat_lt 1 owed && nat_lt base owed then base else n) same

@@ -17,7 +17,7 @@ use Rattle.dds_machine.specs.Calls.{CallStep}
 use Rattle.dds_machine.specs.Numbered.{has_element}
 use Rattle.dds_conditions.specs.NoFilters.{no_filters}
 use Rattle.dds_machine.specs.declared.endpoint.Endpoint.{Endpoint}
-use Rattle.dds_machine.specs.Part.{Writer, has_readers, heartbeats_used, own_writer, peers_of}
+use Rattle.dds_machine.specs.Part.{Writer, heartbeats_used, own_writer}
 use Rattle.dds_protocol.specs.Peer.{Peer}
 use Rattle.dds_protocol.specs.DueMessages.{Due, AreSent, assertion_message, assertions_due, writer_entity}
 use Rattle.dds_protocol.specs.Receipt.{prefix_of}
@@ -38,32 +38,17 @@ use Rattle.dds_core.proofs.Tellable.{tellable_entered}
 pub assertions_are : (config : Config) (peer : ℕ) (prefix : GuidPrefix) (number : ℕ) (k : WriterKept) (w : Writer)
     → IsNamed config peer prefix number k w
     → assertions_of prefix k w ≡ assertions_due config (record { peer = peer; number = number }) w
-assertions_are config peer prefix number k w is = by w.matched refl
-  where
-    by : (es : List Endpoint) → w.matched ≡ es → assertions_of prefix k w
-        ≡ assertions_due config (record { peer = peer; number = number }) w
-    by [] none =
-        ap (λ (es : List Endpoint). if nat_lt 0 (length es) then map
-        (λ (d : Destination). due_to d.peer (assertion_message prefix d.prefix k.entity w)) k.destinations else [])
-        none
-        ∙ sym (ap (λ (es : List Endpoint). map
-        (λ (to : ℕ). due_to to (assertion_message (prefix_of config peer) (prefix_of config to)
-        (writer_entity config peer number) w)) (peers_of es)) none)
-    by (e ∷ es) some =
-        let lengths = ap (λ (all : List Endpoint). length all) some in
-        let matched : has_readers w ≡ true = grind (arith, nat_tests, lengths) in
-        let ds : List Destination = k.destinations in
-        let own : GuidPrefix = prefix_of config peer in
-        let entity : EntityId = writer_entity config peer number in
-        ap (λ (b : Bool). if b then map
-        (λ (d : Destination). due_to d.peer (assertion_message prefix d.prefix k.entity w)) ds else []) matched
-        ∙ sym (ap (λ (ns : List ℕ). map (λ (to : ℕ). due_to to (assertion_message own (prefix_of config to) entity w))
-        ns) (sends_to is.topic config.peers w.matched ds is.matched is.sent_to)
-        ∙ (by_number config (λ to. assertion_message own to entity w) ds (all_named config is.topic ds is.sent_to)
-        ∙ (ap (λ (x : GuidPrefix). map (λ (d : Destination). due_to d.peer (assertion_message x d.prefix entity w)) ds)
-        is.own
-        ∙ ap (λ (x : EntityId). map (λ (d : Destination). due_to d.peer (assertion_message prefix d.prefix x w)) ds)
-        is.entity)))
+assertions_are config peer prefix number k w is =
+    let ds : List Destination = k.destinations in
+    let own : GuidPrefix = prefix_of config peer in
+    let entity : EntityId = writer_entity config peer number in
+    sym (ap (λ (ns : List ℕ). map (λ (to : ℕ). due_to to (assertion_message own (prefix_of config to) entity w)) ns)
+    (sends_to is.topic config.peers w.matched ds is.matched is.sent_to)
+    ∙ (by_number config (λ to. assertion_message own to entity w) ds (all_named config is.topic ds is.sent_to)
+    ∙ (ap (λ (x : GuidPrefix). map (λ (d : Destination). due_to d.peer (assertion_message x d.prefix entity w)) ds)
+    is.own
+    ∙ ap (λ (x : EntityId). map (λ (d : Destination). due_to d.peer (assertion_message prefix d.prefix x w)) ds)
+    is.entity)))
 
 -- the peer's writer of this index, and what is told of it
 told_at : (kept : PeerKept) (i : ℕ) (k : WriterKept) (config : Config) (peer : Peer)

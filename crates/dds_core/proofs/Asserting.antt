@@ -14,7 +14,7 @@ use Rattle.rtps_writer.specs.WriterState.{WriterState, counts_due, last_of, hist
 use Rattle.rtps_writer.specs.declared.heartbeat.HeartbeatDue.{HeartbeatDue}
 use Rattle.dds_machine.specs.declared.endpoint.Endpoint.{Endpoint}
 use Rattle.dds_protocol.specs.declared.event.Packet.{Packet}
-use Rattle.dds_machine.specs.Part.{Writer, has_readers, heartbeats_used}
+use Rattle.dds_machine.specs.Part.{Writer, heartbeats_used}
 use Rattle.dds_protocol.specs.DueMessages.{Due, AreSent, assertion_message}
 use Rattle.dds_core.specs.declared.heartbeat.Beat.{Beat}
 use Rattle.dds_core.specs.declared.matching.Destination.{Destination}
@@ -44,9 +44,9 @@ told_more beat ds i d p q m n lt h k =
 
 some_told : (b : Bool) (xs : List Bool) (make : ℕ → HeartbeatDue) (due : HeartbeatDue)
     → (if b then Some (make (length (xs ++ true ∷ []))) else None) ≡ Some due
-    → (b ≡ true) × (due ≡ make (length xs + 1))
+    → due ≡ make (length xs + 1)
 some_told true xs make due is =
-    (refl, sym (same_Some (make (length (xs ++ true ∷ []))) due is) ∙ ap make (length-append xs (true ∷ [])))
+    sym (same_Some (make (length (xs ++ true ∷ []))) due is) ∙ ap make (length-append xs (true ∷ []))
 some_told false xs make due is = absurd cc
 
 none_told : (b : Bool) (due : HeartbeatDue) → (if b then Some due else None) ≡ None → b ≡ false
@@ -54,34 +54,31 @@ none_told true due is = absurd cc
 none_told false due is = refl
 
 -- the HEARTBEATs that are sent are those of the writer
-pub told_are : (prefix : GuidPrefix) (kept : WriterKept) (w : Writer) (answered : Endpoint → Option ℤ) (now : ℕ)
-    (due : HeartbeatDue)
-    → heartbeat_asserted (state_of w answered) now ≡ Some due
+pub told_are : (prefix : GuidPrefix) (kept : WriterKept) (w : Writer) (answered : Endpoint → Option ℤ)
+    (is_matched : Bool) (now : ℕ) (due : HeartbeatDue)
+    → heartbeat_asserted (state_of w answered) is_matched now ≡ Some due
     → told_to (record { prefix = prefix; entity = kept.entity; due = due; asserts = true }) kept.destinations
     ≡ assertions_of prefix kept w
-told_are prefix kept w answered now due is =
-    let d = some_told (has_readers w) (counts_of w.written) (due_by w) due is in
+told_are prefix kept w answered is_matched now due is =
+    let d = some_told is_matched (counts_of w.written) (due_by w) due is in
     ap (λ (x : HeartbeatDue). told_to
-    (record { prefix = prefix; entity = kept.entity; due = x; asserts = true }) kept.destinations) d.1
-    ∙ sym (ap (λ (b : Bool). if b then map
-    (λ (e : Destination). due_to e.peer (assertion_message prefix e.prefix kept.entity w)) kept.destinations
-    else []) d.0)
+    (record { prefix = prefix; entity = kept.entity; due = x; asserts = true }) kept.destinations) d
 
-pub told_none : (prefix : GuidPrefix) (kept : WriterKept) (w : Writer) (answered : Endpoint → Option ℤ) (now : ℕ)
-    → heartbeat_asserted (state_of w answered) now ≡ None → [] ≡ assertions_of prefix kept w
-told_none prefix kept w answered now is =
-    let nobody = none_told (has_readers w) (due_by w (length (counts_of w.written ++ true ∷ []))) is in
-    sym (ap (λ (b : Bool). if b then map
-    (λ (e : Destination). due_to e.peer (assertion_message prefix e.prefix kept.entity w)) kept.destinations
-    else []) nobody)
+pub told_none : (prefix : GuidPrefix) (kept : WriterKept) (w : Writer) (answered : Endpoint → Option ℤ)
+    (is_matched : Bool) (now : ℕ) → (is_matched ≡ false → kept.destinations ≡ [])
+    → heartbeat_asserted (state_of w answered) is_matched now ≡ None → [] ≡ assertions_of prefix kept w
+told_none prefix kept w answered is_matched now nowhere is =
+    let nobody = none_told is_matched (due_by w (length (counts_of w.written ++ true ∷ []))) is in
+    sym (ap (λ (ds : List Destination). map
+    (λ (e : Destination). due_to e.peer (assertion_message prefix e.prefix kept.entity w)) ds) (nowhere nobody))
 
 -- it can be written
-pub valid_told : (kept : Kept) (s : WriterState) (now : ℕ) (due : HeartbeatDue) → RtpsStandsFor kept s
-    → heartbeat_asserted s now ≡ Some due → IsHeartbeatValid due
-valid_told kept s now due stands is =
+pub valid_told : (kept : Kept) (s : WriterState) (is_matched : Bool) (now : ℕ) (due : HeartbeatDue)
+    → RtpsStandsFor kept s → heartbeat_asserted s is_matched now ≡ Some due → IsHeartbeatValid due
+valid_told kept s is_matched now due stands is =
     let count : ℤ = pos (counts_due (asserted s now)) in
     subst (λ (d : HeartbeatDue). IsHeartbeatValid d)
-    (made_is s.matched
+    (made_is is_matched
     (record { first = first_kept (rtps_history_of s); last = last_of s; count = count }) due is)
     (valid_next kept s count stands)
 

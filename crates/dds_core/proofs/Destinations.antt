@@ -169,28 +169,3 @@ is_reader config topic es reader names among =
     (λ i p n r. name_at i n r) topic f.0 reader there in
     subst (λ (e : Endpoint). IsReaderOf config topic e) t.told
     (record { peer = t.peer; at_peer = t.at_peer; end = t.end; at_reader = t.at_end; same_topic = t.same_topic })
-
--- a writer is matched where there is a peer that it sends to
-pub matched_so : (topic : ℕ) (peers : List PeerConfig)
-    → nat_lt 0 (length (destinations topic 1 peers)) ≡ nat_lt 0 (length (matched_readers topic 1 peers))
-matched_so topic peers =
-    let same = ap (λ (ns : List ℕ). length ns) (peers_are topic 1 peers) in
-    let count = length-map (destinations topic 1 peers) (λ (d : Destination). d.peer) in
-    ap (λ (n : ℕ). nat_lt 0 n) (sym count ∙ sym same) ∙ some_peer (matched_readers topic 1 peers)
-  where
-    positive : (n : ℕ) → nat_lt 0 (suc n) ≡ true
-    positive n = grind (arith, nat_tests)
-
-    some_there : (test : ℕ → Bool) (ns : List ℕ) → list_any test ns ≡ true → nat_lt 0 (length ns) ≡ true
-    some_there test [] is = cc
-    some_there test (n ∷ ns) is = positive (length ns)
-
-    some_peer : (es : List Endpoint) → nat_lt 0 (length (peers_of es)) ≡ nat_lt 0 (length es)
-    some_peer [] = refl
-    some_peer (e ∷ es) =
-        by (list_any (λ peer. peer == e.peer) (peers_of es)) refl ∙ sym (positive (length es))
-      where
-        by : (b : Bool) → list_any (λ peer. peer == e.peer) (peers_of es) ≡ b
-            → nat_lt 0 (length (if b then peers_of es else e.peer ∷ peers_of es)) ≡ true
-        by true is = some_there (λ peer. peer == e.peer) (peers_of es) is
-        by false is = positive (length (peers_of es))

@@ -65,6 +65,9 @@ sound_at_end config before peer sound =
       place =
           λ w r p h. sound.place w r p
           (ap (λ (xs : List (List WriterProxy)). reader_place (numbered xs r []) w) (sym rows) ∙ h);
+      unknown =
+          λ w r h. sound.unknown w r
+          (ap (λ (xs : List (List WriterProxy)). reader_place (numbered xs r []) w) (sym rows) ∙ h);
       claimed = sound.claimed;
       newest = λ w r h. sound.newest w r (subst (λ (xs : List (List WriterProxy)). HasNumber xs r) rows h);
       heard =
@@ -227,7 +230,13 @@ module _ {F L : Type 0} (notices : L → List Notice) (capacity : L → ℕ) (be
                 };
             listeners = r.1;
           },
-          λ sound. record { place = sound.place; claimed = sound.claimed; newest = sound.newest; heard = sound.heard },
+          λ sound. record {
+            place = sound.place;
+            unknown = sound.unknown;
+            claimed = sound.claimed;
+            newest = sound.newest;
+            heard = sound.heard;
+          },
         );
   }
 

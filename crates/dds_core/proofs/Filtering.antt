@@ -71,7 +71,13 @@ adds old filter number new filters left is kept more = record {
               (sym kept) stands;
           filters = omega (arith, before, total, longer);
         },
-        λ sound. record { place = sound.place; claimed = sound.claimed; newest = sound.newest; heard = sound.heard },
+        λ sound. record {
+          place = sound.place;
+          unknown = sound.unknown;
+          claimed = sound.claimed;
+          newest = sound.newest;
+          heard = sound.heard;
+        },
       );
 }
 

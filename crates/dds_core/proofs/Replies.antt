@@ -25,10 +25,10 @@ use Rattle.rtps_wire.proofs.ContentLaws.{content_octets, content_valid}
 use Rattle.rtps_wire.proofs.LengthLaws.{short_writable}
 use Rattle.rtps_writer.specs.declared.answer.Answer.{Answer}
 use Rattle.rtps_writer.specs.declared.answer.Answer.TheVariants.{Data as AnswersData, Gap as AnswersGap}
-use Rattle.rtps_writer.specs.Acknack.{acknack_answers, after_acknack, answers_after, applied, is_applied, newly_acknowledged}
+use Rattle.rtps_writer.specs.Acknack.{acknack_answers, after_acknack, answers_after, applied, asked_from, has_for, is_applied, newly_acknowledged}
 use Rattle.rtps_writer.specs.Answers.{IsBetween, IsRight, answer_before, answers_to, is_requested, requested}
 use Rattle.rtps_writer.specs.Standing.{Kept, StandsFor as RtpsStandsFor}
-use Rattle.rtps_writer.specs.WriterState.{WriterState, acknowledged_by, history_of, last_of}
+use Rattle.rtps_writer.specs.WriterState.{WriterState, history_of, last_of, owed_from}
 use Rattle.rtps_writer.proofs.AnswerFacts.{answers_after-right}
 use Rattle.dds_protocol.specs.Claims.{Receiver}
 use Rattle.dds_protocol.specs.DueMessages.{Due, data_of, submessages_of}
@@ -292,13 +292,20 @@ number_from set n is = first (nat_le set.base n) refl is
     first false e h = absurd cc
 
 -- a right answer can be given
-right_answerable : (most : ℕ) (s : WriterState) (row : ℕ) (set : NumberSet) → AreShort most (changes_of s.written) → 1 ≤ set.base
-    → length (changes_of s.written) < 2 ^ 62 → (a : Answer)
-    → IsRight (λ n. is_kept (history_of s) n) (IsBetween set (acknowledged_by s row) (last_of s)) a → IsAnswerableIn most s a
-right_answerable most s row set short low few (AnswersData n) right = found (change_at (changes_of s.written) n) refl
+right_answerable : (most : ℕ) (s : WriterState) (row from : ℕ) (set : NumberSet) → AreShort most (changes_of s.written)
+    → 1 ≤ set.base → length (changes_of s.written) < 2 ^ 62 → (a : Answer)
+    → IsRight (has_for s row) (IsBetween set from (last_of s)) a → IsAnswerableIn most s a
+right_answerable most s row from set short low few (AnswersData n) right = found (change_at (changes_of s.written) n) refl
   where
+    first_of : (a b : Bool) → (a && b) ≡ true → a ≡ true
+    first_of true b h = refl
+    first_of false b h = absurd cc
+
+    kept : is_kept (history_of s) n ≡ true
+    kept = first_of (is_kept (history_of s) n) (nat_le (owed_from s row) n) right.0
+
     kept_is : kept_change (history_of s) n ≡ change_at (changes_of s.written) n
-    kept_is = ap (λ (b : Bool). if b then change_at (changes_of s.written) n else None) right.0
+    kept_is = ap (λ (b : Bool). if b then change_at (changes_of s.written) n else None) kept
 
     some_of : (o : Option Change) (b c : Bool) → (is_some o && b && c) ≡ true → is_some o ≡ true
     some_of (Some x) b c h = refl
@@ -310,10 +317,10 @@ right_answerable most s row set short low few (AnswersData n) right = found (cha
     found None e =
         let some : is_some (change_at (changes_of s.written) n) ≡ true =
         some_of (change_at (changes_of s.written) n) (not (is_dropped (history_of s) n))
-        (is_awaited (history_of s) n) right.0 in
+        (is_awaited (history_of s) n) kept in
         let none : is_some (change_at (changes_of s.written) n) ≡ false = ap (λ (o : Option Change). is_some o) e in
         absurd cc
-right_answerable most s row set short low few (AnswersGap first last) right =
+right_answerable most s row from set short low few (AnswersGap first last) right =
     let order = right.0 in
     let least = number_from set first (right.1 first (omega arith) order).1.2 in
     let most = (right.1 last order (omega arith)).1.1 in
@@ -335,13 +342,14 @@ answerable most new s row base set count answers stands short low is = by (is_ap
       stands = subst (λ (b : Bool). RtpsStandsFor new (if b then applied s row base count else s)) e stands;
       few = few;
       each = subst (λ (xs : List Answer). All (IsAnswerableIn most (applied s row base count)) xs)
-          (sym (is ∙ ap (λ (b : Bool). if b then answers_after (applied s row base count) row set else []) e))
-          (All-weaker (IsRight (λ n. is_kept (history_of (applied s row base count)) n)
-          (IsBetween set (acknowledged_by (applied s row base count) row) (last_of s)))
+          (sym (is ∙ ap (λ (b : Bool). if b then answers_after (applied s row base count) row base set else []) e))
+          (All-weaker (IsRight (has_for (applied s row base count) row)
+          (IsBetween set (asked_from (applied s row base count) row base) (last_of s)))
           (IsAnswerableIn most (applied s row base count))
-          (λ a right. right_answerable most (applied s row base count) row set short low few a right)
-          (answers_after (applied s row base count) row set)
-          (answers_after-right (applied s row base count) row set));
+          (λ a right. right_answerable most (applied s row base count) row
+          (asked_from (applied s row base count) row base) set short low few a right)
+          (answers_after (applied s row base count) row base set)
+          (answers_after-right (applied s row base count) row base set));
     }
     by false e = record {
       state = s;
@@ -349,7 +357,7 @@ answerable most new s row base set count answers stands short low is = by (is_ap
       few = few;
       each =
           subst (λ (xs : List Answer). All (IsAnswerableIn most s) xs)
-          (sym (is ∙ ap (λ (b : Bool). if b then answers_after (applied s row base count) row set else []) e))
+          (sym (is ∙ ap (λ (b : Bool). if b then answers_after (applied s row base count) row base set else []) e))
           (All-nil (IsAnswerableIn most s));
     }
 
@@ -379,13 +387,13 @@ few_answers s row base set count = by (is_applied s row base count)
     after = applied s row base count
 
     asked : List ℕ
-    asked = requested set (acknowledged_by after row) (last_of after)
+    asked = requested set (asked_from after row base) (last_of after)
 
-    by : (b : Bool) → length (if b then answers_after after row set else []) ≤ 256
+    by : (b : Bool) → length (if b then answers_after after row base set else []) ≤ 256
     by true =
-        let first = answers_few (λ n. is_kept (history_of after) n) asked in
+        let first = answers_few (has_for after row) asked in
         let second =
-        filter_few (is_requested set (acknowledged_by after row) (last_of after)) (numbers_from set.base 256) in
+        filter_few (is_requested set (asked_from after row base) (last_of after)) (numbers_from set.base 256) in
         let third = count_numbers set.base 256 in
         omega (arith, first, second, third)
     by false = omega arith

@@ -1,6 +1,6 @@
 -- A writer of the peer takes an ACKNACK of one of its matched readers, by the rules of the protocol.
 use Rattle.std.proofs.Common.{◌≡◌, ℕ, suc, ◌+◌, ◌≤◌, ◌==◌, Bool, true, false, cond, ◌&&◌, List, [], ◌∷◌, ◌++◌, Option, Some, None, map, max, take, length, get_or, slice_get, refl, ap, sym, ◌∙◌, subst, arith, inl, inr, length-append, nat_lt, eq-eqb, eqb-true}
-use Rattle.std.specs.Prelude.{ℤ, if◌then◌else◌}
+use Rattle.std.specs.Prelude.{ℤ, if◌then◌else◌, nat_le}
 use Rattle.std.proofs.lemmas.Bool.Decides.{nat_tests}
 use Rattle.dds_base.specs.Matched.{is_reliable_reader}
 use Rattle.dds_base.specs.declared.config.Config.{Config}
@@ -15,7 +15,7 @@ use Rattle.rtps_wire.specs.declared.acknack.AckNack.{AckNack as AckNackBody}
 use Rattle.rtps_wire.specs.declared.submessage.Submessage.TheVariants.{AckNack}
 use Rattle.rtps_writer.specs.declared.answer.Answer.{Answer}
 use Rattle.rtps_writer.specs.Acknack.{acknack_answers, after_acknack, answers_after, applied, is_applied, newly_acknowledged}
-use Rattle.rtps_writer.specs.Answers.{answers_to, requested}
+use Rattle.rtps_writer.specs.Answers.{answered_from as rtps_answered_from, answers_to, requested}
 use Rattle.rtps_writer.specs.Standing.{StandsFor as RtpsStandsFor}
 use Rattle.rtps_writer.specs.WriterState.{WriterState, acknowledged_by}
 use Rattle.dds_machine.specs.declared.endpoint.Endpoint.{Endpoint}
@@ -26,8 +26,6 @@ use Rattle.dds_machine.specs.Part.{Part, ReaderProxy, Writer, no_writer, same_en
 use Rattle.dds_protocol.specs.Peer.{Peer, state_of as network_of}
 use Rattle.dds_protocol.specs.DueMessages.{Due, answer_message}
 use Rattle.dds_protocol.specs.Protocol.{State, Known, WriterTakes, AreGrouped, answers_per, TakesAckNack as TakesByRules, acknowledging, answered_from, has_for, is_taken_up, with_answered}
-use Rattle.dds_machine.proofs.Tables.{acknowledged-hits}
-use Rattle.dds_protocol.proofs.DuesAnswers.{answers_owed_all}
 use Rattle.dds_protocol.proofs.Framing.{with_same}
 use Rattle.dds_protocol.proofs.InOrder.{same_self}
 use Rattle.dds_core.specs.declared.answering.Answering.{Answering}
@@ -40,7 +38,7 @@ use Rattle.dds_core.specs.Identity.{WriterIdentity}
 use Rattle.dds_core.specs.EndNames.{reader_name, reader_names}
 use Rattle.dds_core.specs.Receiving.{with_state, NeedsMemory}
 use Rattle.dds_core.specs.Standing.{StandsFor, WriterStands, state_of}
-use Rattle.dds_core.proofs.Acknowledging.{IsOnly, IsCounted, only_row, acknowledged_is, acknowledged_then, applied_is, low_of, owed_all, moves_then, not_same, readers_same, state_applied, still_begun}
+use Rattle.dds_core.proofs.Acknowledging.{IsOnly, IsCounted, only_row, acknowledged_is, acknowledged_then, answered_then, applied_is, low_of, owed_same, moves_then, not_same, readers_same, state_applied, still_begun}
 use Rattle.dds_core.proofs.Beating.{adds_none}
 use Rattle.dds_core.proofs.Ends.{with_writer, writer_put}
 use Rattle.dds_core.proofs.Lists.{get-map, map-get}
@@ -378,14 +376,6 @@ row_applied turn from is = record {
             low_of (writer_of turn.c).readers turn.c.name.reader turn.c.row (row_of turn).proxy (base_of turn)
             (row_of turn).only (stood turn.c).begun
 
-    owed : owed_from there turn.c.name.reader ≤ 1
-    owed =
-        owed_all there turn.c.name.reader (max (row_of turn).proxy.acknowledged (base_of turn))
-        (acknowledged-hits (writer_of turn.c).readers turn.c.name.reader (row_of turn).proxy.acknowledged
-        (max (row_of turn).proxy.acknowledged (base_of turn))
-        (acknowledged_is (writer_of turn.c).readers turn.c.name.reader turn.c.row (row_of turn).proxy
-        (row_of turn).only)) stands.begun
-
     taken : is_taken_up (network_of turn.c.peer) (suc turn.c.i) turn.c.name.reader turn.a ≡ true
     taken =
         sym (applied_is (writer_of turn.c) (answered_of turn.c) turn.c.name.reader turn.c.row (row_of turn).proxy
@@ -397,16 +387,23 @@ row_applied turn from is = record {
         (answered_from (owed_from there turn.c.name.reader) (row_of turn).proxy.acknowledged (base_of turn))
         (length (writer_changes there)))
     answers_are =
-        ap (λ (b : Bool). if b then answers_after
-        (applied (before turn) turn.c.row (base_of turn) turn.a.count) turn.c.row turn.a.reader_sn_state else []) is
-        ∙ (ap (λ (x : WriterState). answers_after x turn.c.row turn.a.reader_sn_state) (sym state_is)
-        ∙ ap (λ (n : ℕ). answers_to (is_kept (history_of there))
-        (requested turn.a.reader_sn_state n (length (writer_changes there))))
+        let owed : ℕ = owed_from there turn.c.name.reader in
+        let answers : ℕ → ℕ → List Answer =
+        λ from first. answers_to (λ n. is_kept (history_of there) n && nat_le first n)
+        (requested turn.a.reader_sn_state from (length (writer_changes there))) in
+        ap (λ (b : Bool). if b then answers_after (applied (before turn) turn.c.row (base_of turn) turn.a.count)
+        turn.c.row (base_of turn) turn.a.reader_sn_state else []) is
+        ∙ (ap (λ (x : WriterState). answers_after x turn.c.row (base_of turn) turn.a.reader_sn_state) (sym state_is)
+        ∙ (ap (λ (k : ℕ). answers (rtps_answered_from k
+        (acknowledged_by (state_of there (known.answered (suc turn.c.i))) turn.c.row) (base_of turn)) k)
+        (owed_same (writer_of turn.c) (known.answered (suc turn.c.i)) turn.c.name.reader turn.c.row
+        (row_of turn).proxy (max (row_of turn).proxy.acknowledged (base_of turn)) (row_of turn).only)
+        ∙ (ap (λ (n : ℕ). answers (rtps_answered_from owed n (base_of turn)) owed)
         (ap (λ (x : WriterState). acknowledged_by x turn.c.row) state_is
         ∙ acknowledged_then (writer_of turn.c) (answered_of turn.c) turn.c.name.reader turn.c.row
         (row_of turn).proxy (base_of turn) turn.a.count (row_of turn).only)
-        ∙ answers_owed_all there turn.c.name.reader turn.a.reader_sn_state (row_of turn).proxy.acknowledged (base_of turn)
-        owed)
+        ∙ ap (λ (n : ℕ). answers n owed)
+        (answered_then owed (row_of turn).proxy.acknowledged (base_of turn)))))
 
     takes : TakesByRules turn.c.kept.prefix turn.at (network_of turn.c.peer)
         (suc turn.c.i) turn.c.name.reader turn.c.name.guid.entity turn.a
@@ -467,8 +464,8 @@ row_ignored turn is = record {
     grouped : AreGrouped (answers_per turn.c.k.max_value) [] (sends turn).groups
     grouped =
         subst (λ (xs : List Answer). AreGrouped (answers_per turn.c.k.max_value) xs (sends turn).groups)
-        (ap (λ (b : Bool). if b then answers_after
-        (applied (before turn) turn.c.row (base_of turn) turn.a.count) turn.c.row turn.a.reader_sn_state else []) is)
+        (ap (λ (b : Bool). if b then answers_after (applied (before turn) turn.c.row (base_of turn) turn.a.count)
+        turn.c.row (base_of turn) turn.a.reader_sn_state else []) is)
         (sends turn).grouped
 
     no_groups : (groups : List (List Answer)) → AreGrouped (answers_per turn.c.k.max_value) [] groups → groups ≡ []

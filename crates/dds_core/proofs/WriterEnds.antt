@@ -17,7 +17,6 @@ use Rattle.rtps_writer.specs.Standing.{Kept, StandsFor as RtpsStandsFor, reader_
 use Rattle.rtps_writer.specs.WriterState.{WriterState, entering, history_of, is_behind, last_of, opening, ticked}
 use Rattle.dds_machine.specs.declared.endpoint.Endpoint.{Endpoint}
 use Rattle.dds_machine.specs.Opening.{matched_readers, reliable_readers}
-use Rattle.dds_core.proofs.Destinations.{matched_so}
 use Rattle.dds_machine.specs.Part.{Writer, ReaderProxy, writer_changes, history_of as writer_history, is_behind as is_writer_behind}
 use Rattle.dds_base.specs.Checked.{limit_of}
 use Rattle.dds_core.specs.declared.matching.Destination.{Destination}
@@ -42,17 +41,13 @@ identity_as entity autodispose most a b c d e f = cc
 
 -- what looks alike of each row is of one value
 rows_begun : (rows : List ReaderProxy) (count : ℕ) → map (λ (p : ReaderProxy). p.acknowledged) rows ≡ replicate count 1
-    → map (λ (p : ReaderProxy). p.first) rows ≡ replicate count 1 → AllByRecursion CountsFrom1 rows
-rows_begun [] count same owed = tt
-rows_begun (p ∷ ps) zero same owed = absurd cc
-rows_begun (p ∷ ps) (suc count) same owed =
+    → AllByRecursion CountsFrom1 rows
+rows_begun [] count same = tt
+rows_begun (p ∷ ps) zero same = absurd cc
+rows_begun (p ∷ ps) (suc count) same =
     let acknowledged : p.acknowledged ≡ 1 =
     first p.acknowledged (map (λ (q : ReaderProxy). q.acknowledged) ps) (replicate count 1) same in
-    let from : p.first ≡ 1 = first p.first (map (λ (q : ReaderProxy). q.first) ps) (replicate count 1) owed in (
-      (omega (arith, acknowledged), omega (arith, from)),
-      rows_begun ps count (rest p.acknowledged _ _ same)
-          (rest p.first _ _ owed),
-    )
+    (omega (arith, acknowledged), rows_begun ps count (rest p.acknowledged _ _ same))
   where
     first : (a : ℕ) (xs ys : List ℕ) → a ∷ xs ≡ 1 ∷ ys → a ≡ 1
     first a xs ys e = ap (λ (ns : List ℕ). get_or ns 0 0) e
@@ -64,7 +59,7 @@ pub opens_writer : (peers : List PeerConfig) (w : WriterConfig) (ds : List Desti
     (limit : Option ℕ) (strength : Option ℤ) (kept : Kept) (count : ℕ) → count ≡ length names
     → ds ≡ destinations w.topic 1 peers → names ≡ reader_names w.topic peers → limit ≡ limit_of w.max_samples
     → strength ≡ carried w.ownership w.strength
-    → RtpsStandsFor kept (opening w.history limit w.lease strength (nat_lt 0 (length ds)) count)
+    → RtpsStandsFor kept (opening w.history limit w.lease strength count)
     → OpensWriter peers w
     (record {
       entity = w.entity;
@@ -84,9 +79,6 @@ opens_writer peers w ds names limit strength kept count counted sent matched lim
     let owed : map (λ (p : ReaderProxy). p.first) rows ≡ replicate count 1 =
     map-reliable_readers (λ (p : ReaderProxy). p.first) _ w.topic 1 peers
     ∙ (told_alike 1 reader_name w.topic 1 peers ∙ ap (λ (n : ℕ). replicate n 1) many) in
-    let is_matched : Bool = nat_lt 0 (length (matched_readers w.topic 1 peers)) in
-    let told : nat_lt 0 (length ds) ≡ is_matched =
-    ap (λ (xs : List Destination). nat_lt 0 (length xs)) sent ∙ matched_so w.topic peers in
     let none : Option ℤ = None in
     let counts : map (λ (p : ReaderProxy). none) rows ≡ replicate count none =
     map-reliable_readers (λ (p : ReaderProxy). none) _ w.topic 1 peers
@@ -101,15 +93,14 @@ opens_writer peers w ds names limit strength kept count counted sent matched lim
             ∙ map-reliable_readers (λ (n : ReaderName). n.reader) reader_name w.topic 1 peers);
         writer =
             subst (λ (s : WriterState). RtpsStandsFor kept s)
-            (state_as (opening w.history (limit_of w.max_samples) w.lease (carried w.ownership w.strength) is_matched count) (replicate count 1) _
-            (replicate count none) _ (sym acknowledged) (sym counts))
-            (subst (λ (b : Bool). RtpsStandsFor kept
-            (opening w.history (limit_of w.max_samples) w.lease (carried w.ownership w.strength) b count)) told
+            (state_as (opening w.history (limit_of w.max_samples) w.lease (carried w.ownership w.strength) count)
+            (replicate count 1) _ (replicate count 1) _ (replicate count none) _ (sym owed) (sym acknowledged)
+            (sym counts))
             (subst (λ (z : Option ℤ). RtpsStandsFor kept
-            (opening w.history (limit_of w.max_samples) w.lease z (nat_lt 0 (length ds)) count)) carries
+            (opening w.history (limit_of w.max_samples) w.lease z count)) carries
             (subst (λ (o : Option ℕ). RtpsStandsFor kept
-            (opening w.history o w.lease strength (nat_lt 0 (length ds)) count)) limited stands)));
-        begun = All-from_recursion CountsFrom1 rows (rows_begun rows count acknowledged owed);
+            (opening w.history o w.lease strength count)) limited stands));
+        begun = All-from_recursion CountsFrom1 rows (rows_begun rows count acknowledged);
       };
     }
 

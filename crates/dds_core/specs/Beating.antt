@@ -12,7 +12,7 @@ use Rattle.rtps_writer.specs.declared.heartbeat.HeartbeatDue.{HeartbeatDue}
 use Rattle.rtps_writer.specs.Standing.{Kept, StandsFor as RtpsStandsFor}
 use Rattle.dds_machine.specs.declared.endpoint.Endpoint.{Endpoint}
 use Rattle.dds_protocol.specs.declared.event.Packet.{Packet}
-use Rattle.dds_machine.specs.Part.{ReaderProxy, Writer, writer_changes, has_readers, heartbeats_used}
+use Rattle.dds_machine.specs.Part.{ReaderProxy, Writer, writer_changes, heartbeats_used}
 use Rattle.dds_protocol.specs.Claims.{every_reader}
 use Rattle.dds_protocol.specs.DueMessages.{Due, AreSent, assertion_message, heartbeat_message}
 use Rattle.dds_core.specs.declared.heartbeat.Beat.{Beat}
@@ -67,8 +67,7 @@ beats_to beat w ds = told_to beat (peers_behind w ds)
 -- what tells an assertion of a writer, from a peer of this prefix
 abbrev pub assertions_of : GuidPrefix → WriterKept → Writer → List Due
 assertions_of prefix kept w =
-    if has_readers w then map
-    (λ (d : Destination). due_to d.peer (assertion_message prefix d.prefix kept.entity w)) kept.destinations else []
+    map (λ (d : Destination). due_to d.peer (assertion_message prefix d.prefix kept.entity w)) kept.destinations
 
 -- what is due at a tick of a writer, from a peer of this prefix
 abbrev pub beats_of : GuidPrefix → WriterKept → Writer → List Due

@@ -21,7 +21,7 @@ use Rattle.rtps_writer.specs.WriterState.{WriterState}
 use Rattle.dds_machine.specs.declared.endpoint.Endpoint.{Endpoint}
 use Rattle.dds_protocol.specs.Dues.{AreTellable}
 use Rattle.dds_machine.specs.Opening.{matched_readers}
-use Rattle.dds_machine.specs.Part.{Begun, Writer, Reader, ReaderProxy, WriterProxy, has_readers, no_writer, no_reader, own_writer, place_of}
+use Rattle.dds_machine.specs.Part.{Begun, Writer, Reader, ReaderProxy, WriterProxy, no_writer, no_reader, own_writer, place_of}
 use Rattle.dds_protocol.specs.Claims.{IsNumbered}
 use Rattle.dds_protocol.specs.Peer.{Peer}
 use Rattle.dds_protocol.specs.Protocol.{Known}
@@ -39,15 +39,15 @@ state_of w answered = record {
   max_samples = w.max_samples;
   lease = w.lease;
   strength = w.strength;
-  matched = has_readers w;
   written = w.written;
+  firsts = map (λ (p : ReaderProxy). p.first) w.readers;
   acknowledged = map (λ (p : ReaderProxy). p.acknowledged) w.readers;
   counts = map (λ (p : ReaderProxy). answered p.reader) w.readers;
 }
 
--- the reader of a row has acknowledged all below a number from 1 on, and is owed all changes
+-- the reader of a row has acknowledged all below a number from 1 on
 abbrev pub CountsFrom1 : ReaderProxy → Type 0
-CountsFrom1 p = (1 ≤ p.acknowledged) × (p.first ≤ 1)
+CountsFrom1 p = 1 ≤ p.acknowledged
 
 -- a writer of the machine for which what is kept stands, with those counts
 pub record WriterStands (kept : WriterKept) (w : Writer) (answered : Endpoint → Option ℤ) : Type 0 where

@@ -92,10 +92,8 @@ impl WriterEnd {
         let limit = limit_of(config.max_samples);
         let (history, lease) = (config.history, config.lease);
         let strength = config.carried_strength();
-        let (matched, reliable) = (destinations.len() > 0, readers.len());
-        let opened = StatefulWriter::open(
-            alloc, history, limit, lease, strength, matched, reliable,
-        );
+        let reliable = readers.len();
+        let opened = StatefulWriter::open(alloc, history, limit, lease, strength, reliable);
         let Ok(writer) = opened else {
             return Err(AllocError);
         };
@@ -489,7 +487,8 @@ impl WriterEnd {
         ensures messages { IfOk result (λ sent. AreMessages sent.packets.items) }
         ensures err { OnErr result (self.new ≡ self.old) }
     {
-        let Some(due) = self.writer.assert(now)? else {
+        let is_matched = 0 < self.destinations.len();
+        let Some(due) = self.writer.assert(is_matched, now)? else {
             return Ok(Announced {
                 packets: Vec::new(alloc),
                 unsent: 0,

@@ -34,11 +34,11 @@ acknack-stands kept s reader base count held counts given history put =
     record {
       history = history;
       registered = given.registered;
+      firsts = given.firsts;
       counts = put ∙ ap (λ (cs : List (Option ℤ)). set cs reader (Some count)) given.counts;
       counts_used = given.counts_used;
       liveliness = given.liveliness;
       strength = given.strength;
-      matched = given.matched;
     }
 
 -- one that is applied, by what came of it
@@ -55,13 +55,13 @@ newly-applied s reader base count newly is same =
     same ∙ ap (λ (x : WriterState). newly_acknowledged s x reader) (sym (after-applied s reader base count is))
 
 pub answers-applied : (s : WriterState) (reader base : ℕ) (set : NumberSet) (count : ℤ) (answers : List Answer)
-    → is_applied s reader base count ≡ true → answers ≡ answers_after (applied s reader base count) reader set
+    → is_applied s reader base count ≡ true → answers ≡ answers_after (applied s reader base count) reader base set
     → answers ≡ acknack_answers s reader base set count
 answers-applied s reader base set count answers is same =
-    same ∙ ap (λ (b : Bool). if b then answers_after (applied s reader base count) reader set else []) (sym is)
+    same ∙ ap (λ (b : Bool). if b then answers_after (applied s reader base count) reader base set else []) (sym is)
 
 -- one that is not
 pub answers-ignored : (s : WriterState) (reader base : ℕ) (set : NumberSet) (count : ℤ) → is_applied s reader base count
     ≡ false → acknack_answers s reader base set count ≡ []
 answers-ignored s reader base set count is =
-    ap (λ (b : Bool). if b then answers_after (applied s reader base count) reader set else []) is
+    ap (λ (b : Bool). if b then answers_after (applied s reader base count) reader base set else []) is

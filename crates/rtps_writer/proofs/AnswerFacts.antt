@@ -1,8 +1,8 @@
--- What is so of each answer to an ACKNACK: a DATA names a kept number, a GAP names numbers that are not kept, and all
--- lie from what the reader has acknowledged to the last number. Each member of the set there is answered.
-use Rattle.std.proofs.Common.{◌≡◌, ℕ, zero, suc, ◌+◌, ◌-◌, ◌≤◌, ◌<◌, Bool, true, false, not, cond, ◌&&◌, ◌||◌, List, [], ◌∷◌, length, get_or, set, max, ℤ, Option, slice_get, None, refl, ap, sym, subst, ◌∙◌, arith}
+-- What is so of each answer to an ACKNACK: a DATA names a number that is kept and owed, a GAP names numbers that are not,
+-- and all lie from where it is answered to the last number. Each member of the set there is answered.
+use Rattle.std.proofs.Common.{◌≡◌, ℕ, zero, suc, ◌+◌, ◌-◌, ◌≤◌, ◌<◌, Bool, true, false, not, cond, ◌&&◌, ◌||◌, ◌⊎◌, inl, inr, List, [], ◌∷◌, ◌++◌, length, get_or, set, max, ℤ, Option, slice_get, None, refl, ap, sym, subst, ◌∙◌, arith}
 use Rattle.std.specs.Prelude.{nat_le, nat_lt, ◌==◌, is_some, if◌then◌else◌}
-use Rattle.std.specs.List.{All, filter, list_any}
+use Rattle.std.specs.List.{All, filter, list_any, remove}
 use Rattle.std.proofs.lemmas.Bool.{leb-true, le-leb, lt-ltb}
 use Rattle.std.proofs.lemmas.Bool.Decides.{nat_tests}
 use Rattle.std.proofs.lemmas.List.Elements.{All-cons, All-head, All-nil, All-replicate, All-tail, All-weaker, filter_passes}
@@ -14,9 +14,9 @@ use Rattle.rtps_sets.specs.NumberSet.{NumberSet, has_number}
 use Rattle.rtps_writer.proofs.AnswerLaws.{third_of}
 use Rattle.rtps_writer.specs.declared.answer.Answer.{Answer}
 use Rattle.rtps_writer.specs.declared.answer.Answer.TheVariants.{Data, Gap}
-use Rattle.rtps_writer.specs.Acknack.{after_acknack, answers_after, applied, is_applied}
+use Rattle.rtps_writer.specs.Acknack.{after_acknack, answers_after, applied, asked_from, has_for, is_applied}
 use Rattle.rtps_writer.specs.Answers.{GapsAre, IsBetween, IsRight, is_answer_to, answers_to, answer_before, gap_before, is_requested, requested}
-use Rattle.rtps_writer.specs.WriterState.{WriterState, acknowledged_by, history_of, last_of, opening}
+use Rattle.rtps_writer.specs.WriterState.{WriterState, acknowledged_by, history_of, joined, last_of, left, opening, owed_from}
 
 -- a GAP of one number
 one_right : (kept : ℕ → Bool) (IsAsked : ℕ → Type 0) (n : ℕ) → kept n ≡ false → IsAsked n
@@ -97,15 +97,15 @@ requested-between set from to =
     ))
     (requested set from to) (filter_passes (is_requested set from to) (numbers_from set.base 256))
 
--- Each answer is right: what a DATA names is kept, what a GAP names is not, and each is a member that lies from what
--- the reader has acknowledged to the last number.
-pub answers_after-right : (s : WriterState) (reader : ℕ) (set : NumberSet)
-    → All (IsRight (λ n. is_kept (history_of s) n) (IsBetween set (acknowledged_by s reader) (last_of s)))
-    (answers_after s reader set)
-answers_after-right s reader set =
-    answers-right (λ n. is_kept (history_of s) n) (IsBetween set (acknowledged_by s reader) (last_of s))
-    (requested set (acknowledged_by s reader) (last_of s))
-    (requested-between set (acknowledged_by s reader) (last_of s))
+-- Each answer is right: what a DATA names is kept and owed, what a GAP names is not, and each is a member that lies from
+-- where the ACKNACK is answered to the last number.
+pub answers_after-right : (s : WriterState) (reader base : ℕ) (set : NumberSet)
+    → All (IsRight (has_for s reader) (IsBetween set (asked_from s reader base) (last_of s)))
+    (answers_after s reader base set)
+answers_after-right s reader base set =
+    answers-right (has_for s reader) (IsBetween set (asked_from s reader base) (last_of s))
+    (requested set (asked_from s reader base) (last_of s))
+    (requested-between set (asked_from s reader base) (last_of s))
 
 -- ---- what is not kept, and not acknowledged, is dropped
 
@@ -135,24 +135,46 @@ unkept-is-dropped w reader n within from positive to unkept =
     (list_any_at (λ a. nat_le a n) w.acknowledged reader 0 within
     (le-leb (get_or w.acknowledged reader 0) n from)) unkept
 
-gaps_dropped : (s : WriterState) (reader : ℕ) (set : NumberSet) (a : Answer) → reader < length s.acknowledged
-    → 0 < acknowledged_by s reader
-    → IsRight (λ n. is_kept (history_of s) n) (IsBetween set (acknowledged_by s reader) (last_of s)) a
-    → GapsAre (λ n. is_dropped (history_of s) n ≡ true) a
-gaps_dropped s reader set (Data n) within positive right = tt
-gaps_dropped s reader set (Gap first last) within positive right = λ n from to.
-    let is = right.1 n from to in
-    unkept-is-dropped (history_of s) reader n within is.1.0 (omega (arith, positive, is.1.0)) is.1.1 is.0
+first_fails : (a b : Bool) → b ≡ true → (a && b) ≡ false → a ≡ false
+first_fails true b is h = absurd cc
+first_fails false b is h = refl
 
--- each number of a GAP is dropped, where numbers count from 1: the reader itself awaits it
-pub answers_after-dropped : (s : WriterState) (reader : ℕ) (set : NumberSet) → reader < length s.acknowledged
+-- the reader needs no change of this number: it is dropped, or not owed, or acknowledged
+abbrev pub NeedsNot : WriterState → ℕ → ℕ → Type 0
+NeedsNot s reader n =
+    (is_dropped (history_of s) n ≡ true) ⊎ (n < owed_from s reader) ⊎ (n < acknowledged_by s reader)
+
+needs_not : (s : WriterState) (reader n : ℕ) → reader < length s.acknowledged → 0 < acknowledged_by s reader
+    → n ≤ last_of s → has_for s reader n ≡ false → NeedsNot s reader n
+needs_not s reader n within positive to unkept =
+    by (nat_lt n (acknowledged_by s reader)) (nat_le (owed_from s reader) n) refl refl
+  where
+    by : (b c : Bool) → nat_lt n (acknowledged_by s reader) ≡ b → nat_le (owed_from s reader) n ≡ c
+        → NeedsNot s reader n
+    by true c below owed = inr (inr (grind (arith, nat_tests, below)))
+    by false false below owed = inr (inl (grind (arith, nat_tests, owed)))
+    by false true below owed =
+        let from : acknowledged_by s reader ≤ n = grind (arith, nat_tests, below) in
+        inl (unkept-is-dropped (history_of s) reader n within from (omega (arith, positive, from)) to
+        (first_fails (is_kept (history_of s) n) (nat_le (owed_from s reader) n) owed unkept))
+
+gaps_dropped : (s : WriterState) (reader base : ℕ) (set : NumberSet) (a : Answer) → reader < length s.acknowledged
     → 0 < acknowledged_by s reader
-    → All (GapsAre (λ n. is_dropped (history_of s) n ≡ true)) (answers_after s reader set)
-answers_after-dropped s reader set within positive =
-    All-weaker (IsRight (λ n. is_kept (history_of s) n) (IsBetween set (acknowledged_by s reader) (last_of s)))
-    (GapsAre (λ n. is_dropped (history_of s) n ≡ true))
-    (λ a right. gaps_dropped s reader set a within positive right) (answers_after s reader set)
-    (answers_after-right s reader set)
+    → IsRight (has_for s reader) (IsBetween set (asked_from s reader base) (last_of s)) a
+    → GapsAre (NeedsNot s reader) a
+gaps_dropped s reader base set (Data n) within positive right = tt
+gaps_dropped s reader base set (Gap first last) within positive right = λ n from to.
+    let is = right.1 n from to in needs_not s reader n within positive is.1.1 is.0
+
+-- each number of a GAP is one that the reader needs not, where numbers count from 1
+pub answers_after-dropped : (s : WriterState) (reader base : ℕ) (set : NumberSet) → reader < length s.acknowledged
+    → 0 < acknowledged_by s reader
+    → All (GapsAre (NeedsNot s reader)) (answers_after s reader base set)
+answers_after-dropped s reader base set within positive =
+    All-weaker (IsRight (has_for s reader) (IsBetween set (asked_from s reader base) (last_of s)))
+    (GapsAre (NeedsNot s reader))
+    (λ a right. gaps_dropped s reader base set a within positive right) (answers_after s reader base set)
+    (answers_after-right s reader base set)
 
 -- ---- each member is answered, and nothing else
 
@@ -278,11 +300,12 @@ answers-complete kept set from to n few =
     answered-members kept n (requested set from to)
     ∙ (members-numbers p set.base 256 n ∙ in_places set from to n (p n) refl few)
 
--- so it is from what the reader has acknowledged to the last number
-pub answers_after-complete : (s : WriterState) (reader : ℕ) (set : NumberSet) (n : ℕ) → length set.members ≤ 256
-    → list_any (is_answer_to n) (answers_after s reader set) ≡ is_requested set (acknowledged_by s reader) (last_of s) n
-answers_after-complete s reader set n few =
-    answers-complete (λ k. is_kept (history_of s) k) set (acknowledged_by s reader) (last_of s) n few
+-- so it is from where the ACKNACK is answered to the last number
+pub answers_after-complete : (s : WriterState) (reader base : ℕ) (set : NumberSet) (n : ℕ) → length set.members ≤ 256
+    → list_any (is_answer_to n) (answers_after s reader base set)
+    ≡ is_requested set (asked_from s reader base) (last_of s) n
+answers_after-complete s reader base set n few =
+    answers-complete (has_for s reader) set (asked_from s reader base) (last_of s) n few
 
 -- ---- acknowledgements count from 1
 
@@ -311,6 +334,28 @@ acknack-from-1 s reader base count from =
     after_if s (applied s reader base count) (is_applied s reader base count) from
     (moved-from-1 s.acknowledged reader base from)
 
-pub opening-from-1 : (policy : HistoryQos) (most lease : Option ℕ) (strength : Option ℤ) (matched : Bool)
-    (readers : ℕ) → AreFrom1 (opening policy most lease strength matched readers).acknowledged
-opening-from-1 policy most lease strength matched readers = All-replicate (λ n. 0 < n) readers 1 (omega arith)
+pub opening-from-1 : (policy : HistoryQos) (most lease : Option ℕ) (strength : Option ℤ) (readers : ℕ)
+    → AreFrom1 (opening policy most lease strength readers).acknowledged
+opening-from-1 policy most lease strength readers = All-replicate (λ n. 0 < n) readers 1 (omega arith)
+
+one-more-from-1 : (acknowledged : List ℕ) (n : ℕ) → 0 < n → AreFrom1 acknowledged → AreFrom1 (acknowledged ++ n ∷ [])
+one-more-from-1 [] n some from = All-cons (λ n. 0 < n) n [] some from
+one-more-from-1 (a ∷ rest) n some from =
+    All-cons (λ n. 0 < n) a (rest ++ n ∷ []) (All-head (λ n. 0 < n) a rest from)
+    (one-more-from-1 rest n some (All-tail (λ n. 0 < n) a rest from))
+
+pub joined-from-1 : (s : WriterState) (count : Option ℤ) → AreFrom1 s.acknowledged
+    → AreFrom1 (joined s count).acknowledged
+joined-from-1 s count from = one-more-from-1 s.acknowledged (last_of s + 1) (omega arith) from
+
+one-fewer-from-1 : (acknowledged : List ℕ) (reader : ℕ) → AreFrom1 acknowledged
+    → AreFrom1 (remove acknowledged reader)
+one-fewer-from-1 [] zero from = from
+one-fewer-from-1 [] (suc reader) from = from
+one-fewer-from-1 (a ∷ rest) zero from = All-tail (λ n. 0 < n) a rest from
+one-fewer-from-1 (a ∷ rest) (suc reader) from =
+    All-cons (λ n. 0 < n) a (remove rest reader) (All-head (λ n. 0 < n) a rest from)
+    (one-fewer-from-1 rest reader (All-tail (λ n. 0 < n) a rest from))
+
+pub left-from-1 : (s : WriterState) (reader : ℕ) → AreFrom1 s.acknowledged → AreFrom1 (left s reader).acknowledged
+left-from-1 s reader from = one-fewer-from-1 s.acknowledged reader from

@@ -1,5 +1,5 @@
 -- What a tick or an assertion does to a writer, and the HEARTBEAT that it asks for.
-use Rattle.std.proofs.Common.{◌≡◌, ℕ, ◌+◌, ◌-◌, ◌^◌, ◌<◌, ◌≤◌, min, Bool, true, false, ◌&&◌, ◌⊎◌, inl, inr, cond, List, [], ◌∷◌, ◌++◌, length, Option, Some, None, ℤ, pos, refl, ap, ◌∙◌, arith, length-append}
+use Rattle.std.proofs.Common.{◌≡◌, ℕ, ◌+◌, ◌-◌, ◌^◌, ◌<◌, ◌≤◌, min, Bool, true, false, ◌&&◌, ◌⊎◌, inl, inr, cond, List, [], ◌∷◌, ◌++◌, length, Option, Some, None, ℤ, pos, refl, ap, sym, ◌∙◌, arith, length-append}
 use Rattle.std.specs.Prelude.{if◌then◌else◌, nat_le, nat_lt}
 use Rattle.std.specs.Bool.{then_some}
 use Rattle.std.proofs.lemmas.Bool.Decides.{nat_tests}
@@ -32,11 +32,11 @@ stands-ticked : (kept : Kept) (live : Liveliness) (s : WriterState) (now used : 
 stands-ticked kept live s now used given lives is = record {
   history = given.history;
   registered = given.registered;
+  firsts = given.firsts;
   counts = given.counts;
   counts_used = is;
   liveliness = lives;
   strength = given.strength ∙ other-strength s.strength s.written (Ticked now (is_behind s)) (λ configured. refl);
-  matched = given.matched;
 }
 
 none_due : (b c : Bool) (h : HeartbeatDue) → (b && c) ≡ false → (if b && c then Some h else None) ≡ None
@@ -124,11 +124,11 @@ told_if true heartbeat n m same = ap (λ (k : ℕ). Some (heartbeat k)) same
 told_if false heartbeat n m same = refl
 
 -- where a count is left, an assertion is not refused, and where a reader is matched, its HEARTBEAT is due
-pub due-asserted : (kept : Kept) (s : WriterState) (now : ℕ) (heartbeat : HeartbeatDue) → StandsFor kept s
-    → kept.counts_used < 2 ^ 31 - 1
+pub due-asserted : (kept : Kept) (s : WriterState) (is_matched : Bool) (now : ℕ) (heartbeat : HeartbeatDue)
+    → StandsFor kept s → kept.counts_used < 2 ^ 31 - 1
     → heartbeat ≡ record { first = first_kept (history_of s); last = last_of s; count = pos (kept.counts_used + 1) }
-    → (assert_refusal s ≡ None) × (then_some kept.matched heartbeat ≡ heartbeat_asserted s now)
-due-asserted kept s now heartbeat given few is =
+    → (assert_refusal s ≡ None) × (then_some is_matched heartbeat ≡ heartbeat_asserted s is_matched now)
+due-asserted kept s is_matched now heartbeat given few is =
     let used = given.counts_used in
     let left : nat_le (2 ^ 31 - 1) (counts_due s) ≡ false = grind (arith, nat_tests, used, few) in
     let more = counts-asserted s now in
@@ -136,7 +136,6 @@ due-asserted kept s now heartbeat given few is =
     let due : ℕ → HeartbeatDue =
     λ n. record { first = first_kept (history_of s); last = last_of s; count = pos n } in (
       ap (λ (b : Bool). if b then Some OutOfResources else None) left,
-      ap (λ (b : Bool). then_some b heartbeat) given.matched
-          ∙ (ap (λ (h : HeartbeatDue). then_some s.matched h) is
-          ∙ told_if s.matched due (kept.counts_used + 1) (counts_due (asserted s now)) count),
+      ap (λ (h : HeartbeatDue). then_some is_matched h) is
+          ∙ told_if is_matched due (kept.counts_used + 1) (counts_due (asserted s now)) count,
     )

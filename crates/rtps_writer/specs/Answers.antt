@@ -1,5 +1,5 @@
 -- What a reader that asks for changes is answered (RTPS 2.5, 8.4.7: ReaderProxy, requested_changes; 8.3.8: Data, Gap).
-use Rattle.std.specs.Prelude.{◌≡◌, ◌≤◌, ℕ, ◌+◌, ◌==◌, ◌&&◌, Bool, true, false, List, [], ◌∷◌, filter, nat_le, if◌then◌else◌}
+use Rattle.std.specs.Prelude.{◌≡◌, ◌≤◌, ℕ, ◌+◌, ◌==◌, ◌&&◌, Bool, true, false, List, [], ◌∷◌, filter, max, nat_le, nat_lt, if◌then◌else◌}
 use Rattle.dds_base.specs.Bounds.{window_width}
 use Rattle.dds_base.specs.Kept.{numbers_from}
 use Rattle.rtps_sets.specs.NumberSet.{NumberSet, has_number}
@@ -13,6 +13,13 @@ is_requested set from to n = has_number set n && (nat_le from n && nat_le n to)
 -- the members of a set from one number to another, in order: a set has places for 256 numbers
 abbrev pub requested : NumberSet → ℕ → ℕ → List ℕ
 requested set from to = filter (is_requested set from to) (numbers_from set.base window_width)
+
+-- The number from which on an ACKNACK of this base is answered. What is acknowledged is not answered again; but where the
+-- reader is not owed all, and the base lies below what it is owed, it is answered from the base on: so one whose place is
+-- too low is told so, and goes on.
+abbrev pub answered_from : (owed acknowledged base : ℕ) → ℕ
+answered_from owed acknowledged base =
+    if nat_lt 1 owed && nat_lt base owed then base else max acknowledged base
 
 -- the answers with a GAP of this number before them, which is one with a GAP that begins with the next number
 abbrev pub gap_before : ℕ → List Answer → List Answer

@@ -1,5 +1,5 @@
 -- A writer's assertion and its HEARTBEAT (DDS 1.4, 2.2.2.4: assert_liveliness; 2.2.3: LIVELINESS).
-use Rattle.std.specs.Prelude.{ℕ, nat_le, Option, None, Some, pos, if◌then◌else◌}
+use Rattle.std.specs.Prelude.{ℕ, Bool, nat_le, Option, None, Some, pos, if◌then◌else◌}
 use Rattle.dds_base.specs.declared.code.Code.{Code}
 use Rattle.dds_base.specs.declared.code.Code.TheVariants.{OutOfResources}
 use Rattle.dds_base.specs.Bounds.{max_count}
@@ -17,9 +17,9 @@ abbrev pub assert_refusal : WriterState → Option Code
 assert_refusal s = if nat_le max_count (counts_due s) then Some OutOfResources else None
 
 -- the HEARTBEAT by which an assertion is told: none where no reader is matched, of either reliability
-abbrev pub heartbeat_asserted : WriterState → ℕ → Option HeartbeatDue
-heartbeat_asserted s now =
-    if s.matched
+abbrev pub heartbeat_asserted : WriterState → Bool → ℕ → Option HeartbeatDue
+heartbeat_asserted s is_matched now =
+    if is_matched
     then Some (record {
       first = first_kept (history_of s);
       last = last_of s;

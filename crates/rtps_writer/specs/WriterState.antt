@@ -1,6 +1,7 @@
 -- The state of a writer with its matched reliable readers, which are named by an index from 0
 -- (RTPS 2.5, 8.4.7: StatefulWriter, ReaderProxy).
-use Rattle.std.specs.Prelude.{◌≡◌, ◌⊎◌, ℕ, ◌+◌, ◌^◌, ◌&&◌, true, false, Bool, List, [], ◌∷◌, length, replicate, slice_index, nat_le, nat_lt, Option, None, Some, ℤ, pos, if◌then◌else◌}
+use Rattle.std.specs.Prelude.{◌≡◌, ◌⊎◌, ℕ, ◌+◌, ◌^◌, ◌&&◌, true, false, Bool, List, [], ◌∷◌, ◌++◌, length, max, min, replicate, slice_index, nat_le, nat_lt, Option, None, Some, ℤ, pos, if◌then◌else◌}
+use Rattle.std.specs.List.{remove}
 use Rattle.dds_base.specs.declared.qos.HistoryQos.{HistoryQos}
 use Rattle.dds_base.specs.declared.change.Change.{Change}
 use Rattle.dds_base.specs.Happening.{is_unregister}
@@ -9,29 +10,28 @@ use Rattle.dds_base.specs.Written.{Written, Ticked, changes_of, counts_of, is_ke
 use Rattle.rtps_writer.specs.declared.heartbeat.HeartbeatDue.{HeartbeatDue}
 
 -- a writer: its policy, limit and lease, the strength that it was configured with, none of a writer of shared ownership,
--- whether some reader is matched, of either reliability, what happened there, the newest first, and of each matched
--- reliable reader the number below which it has acknowledged all, and the count of the last ACKNACK that was applied
+-- what happened there, the newest first, and of each matched reliable reader the number of the first change that was made
+-- since it was matched, the number below which it has acknowledged all, and the count of the last ACKNACK that was applied
 pub record WriterState : Type 0 where
   pub policy : HistoryQos
   pub max_samples : Option ℕ
   pub lease : Option ℕ
   pub strength : Option ℤ
-  pub matched : Bool
   pub written : List Written
+  pub firsts : List ℕ
   pub acknowledged : List ℕ
   pub counts : List (Option ℤ)
 
--- a writer of this policy, limit, lease and strength, with a matched reader or none, and with so many reliable ones, at
--- which nothing has happened
-abbrev pub opening : HistoryQos → Option ℕ → Option ℕ → Option ℤ → Bool → ℕ → WriterState
-opening policy max_samples lease strength matched readers =
+-- a writer of this policy, limit, lease and strength, with so many matched reliable readers, at which nothing has happened
+abbrev pub opening : HistoryQos → Option ℕ → Option ℕ → Option ℤ → ℕ → WriterState
+opening policy max_samples lease strength readers =
     record {
       policy = policy;
       max_samples = max_samples;
       lease = lease;
       strength = strength;
-      matched = matched;
       written = [];
+      firsts = replicate readers 1;
       acknowledged = replicate readers 1;
       counts = replicate readers None;
     }
@@ -58,6 +58,31 @@ abbrev pub WantsRoom : WriterState → Change → Type 0
 WantsRoom s change =
     (is_kept (appended (history_of s) change) (last_of s + 1) ≡ true)
     ⊎ ((is_unregister change.kind ≡ false) × (is_key_registered change.key s.written ≡ false))
+
+-- the writer once one more reliable reader is matched, of whose ACKNACKs this was the last count that was applied: it comes
+-- last, is owed what is made from now on, and counts as one that has acknowledged what was made
+abbrev pub joined : WriterState → Option ℤ → WriterState
+joined s count = record s {
+  firsts = s.firsts ++ (last_of s + 1) ∷ [];
+  acknowledged = s.acknowledged ++ (last_of s + 1) ∷ [];
+  counts = s.counts ++ count ∷ [];
+}
+
+-- the writer once the reader of this index, from 0, is not matched any more: those behind it move down by one
+abbrev pub left : WriterState → ℕ → WriterState
+left s reader = record s {
+  firsts = remove s.firsts reader;
+  acknowledged = remove s.acknowledged reader;
+  counts = remove s.counts reader;
+}
+
+-- from this number on this reader is owed the changes: those that were made since it was matched
+abbrev pub owed_from : WriterState → ℕ → ℕ
+owed_from s reader = min (slice_index s.firsts reader) (last_of s + 1)
+
+-- the first number that a HEARTBEAT to this reader alone may name: it is owed nothing below, or nothing there is kept
+abbrev pub first_for : WriterState → ℕ → ℕ
+first_for s reader = max (owed_from s reader) (first_kept (history_of s))
 
 -- the number below which this reader has acknowledged all
 abbrev pub acknowledged_by : WriterState → ℕ → ℕ

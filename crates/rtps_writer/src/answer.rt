@@ -6,7 +6,7 @@ ghost use Rattle.std.specs.Prelude.{◌≡◌, ◌≤◌, ◌<◌, ◌+◌, ◌&
 ghost use Rattle.dds_base.specs.Kept.{WriterHistory, is_kept};
 ghost use Rattle.dds_history.specs.Standing.{StandsFor as HistoryStandsFor};
 ghost use Rattle.rtps_sets.specs.NumberSet.{span};
-ghost use Rattle.rtps_writer.specs.Answers.{answer_before, answers_to, requested};
+ghost use Rattle.rtps_writer.specs.Answers.{answer_before, answered_from, answers_to, requested};
 ghost use Rattle.rtps_writer.specs.Gaps.{gap_after};
 
 use dds_base::Sn;
@@ -20,7 +20,7 @@ use rtps_sets::SnSet;
 pub enum Answer {
     /// The change of this number, which is kept.
     Data(Sn),
-    /// The numbers from the first to the last, both of them too, are irrelevant: none is kept.
+    /// The numbers from the first to the last, both of them too, are irrelevant: none is kept, and owed to the reader.
     Gap { first: Sn, last: Sn },
 }
 
@@ -74,6 +74,27 @@ fn put_before(answers: &mut Vec<Answer>, number: Sn, is_kept: bool)
     }
 }
 
+/// The number from which on an ACKNACK of this base is answered, of a reader that is owed the changes from a number on.
+pub fn answered_from(owed: Sn, acknowledged: Sn, base: Sn) -> Sn
+    ensures { result ≡ answered_from owed acknowledged base }
+{
+    if 1 < owed.number() && base < owed {
+        base
+    } else if acknowledged < base {
+        base
+    } else {
+        acknowledged
+    }
+}
+
+/// Whether a number is kept for a reader that is owed the changes from a number on.
+fn has_for(history: &History, owed: Sn, number: Sn) -> bool
+    ensures { (w : WriterHistory) → HistoryStandsFor history.now w
+        → result ≡ (is_kept w number && nat_le owed number) }
+{
+    history.kept(number) && owed <= number
+}
+
 /// Whether the number lies from one number to another.
 fn is_between(from: Sn, to: Sn, number: Sn) -> bool
     ensures { result ≡ (nat_le from number && nat_le number to) }
@@ -81,14 +102,15 @@ fn is_between(from: Sn, to: Sn, number: Sn) -> bool
     from <= number && number <= to
 }
 
-/// Gives the answers for the members of a set from one number to the last, in their order. There is room for them. It
-/// goes over the members alone.
-pub fn put_answers(answers: &mut Vec<Answer>, history: &History, set: &SnSet, from: Sn)
+/// Gives the answers for the members of a set from one number to the last, in their order, to a reader that is owed the
+/// changes from a number on. There is room for them. It goes over the members alone.
+pub fn put_answers(answers: &mut Vec<Answer>, history: &History, set: &SnSet, owed: Sn, from: Sn)
     requires none { answers.old.items ≡ [] }
     requires room { vec_len answers.old + span set.now.members ≤ vec_capacity answers.old }
     ensures { (w : WriterHistory) → HistoryStandsFor history.now w
         → answers.new.items
-        ≡ answers_to (λ n. is_kept w n) (requested set.now from (length w.changes)) }
+        ≡ answers_to (λ n. is_kept w n && nat_le owed n)
+        (requested set.now from (length w.changes)) }
 {
     let base = set.base().number();
     let last = history.last();
@@ -98,7 +120,7 @@ pub fn put_answers(answers: &mut Vec<Answer>, history: &History, set: &SnSet, fr
         bits = set.bits_below(place);
         let number = Sn::new(base.saturating_add(place as u64));
         if is_between(from, last, number) {
-            put_before(answers, number, history.kept(number));
+            put_before(answers, number, has_for(history, owed, number));
         }
     }
 }

@@ -1,8 +1,8 @@
-//! A writer with its matched reliable readers. Of best-effort ones it knows only whether some reader is matched.
+//! A writer with its matched reliable readers. Best-effort ones it does not know.
 //!
 //! RTPS 2.5, 8.4.7 (StatefulWriter, ReaderProxy).
 
-ghost use Rattle.std.specs.Prelude.{◌≡◌, ◌≢◌, ◌≤◌, ◌<◌, ◌+◌, ◌-◌, ◌^◌, pos, true, false, [], nat_lt, length, vec_capacity, None, Some, IfOk, IfErr, OnOk, OnErr};
+ghost use Rattle.std.specs.Prelude.{◌≡◌, ◌≢◌, ◌≤◌, ◌<◌, ◌+◌, ◌-◌, ◌^◌, pos, true, false, [], get_or, nat_lt, length, vec_capacity, None, Some, IfOk, IfErr, OnOk, OnErr};
 ghost use Rattle.std.specs.Option.{option_copied};
 ghost use Rattle.dds_base.specs.declared.code.Code.TheVariants.{Memory, PreconditionNotMet};
 ghost use Rattle.dds_base.specs.Kept.{WriterHistory, append_refusal, first_kept, kept_change};
@@ -14,9 +14,9 @@ ghost use Rattle.rtps_sets.specs.NumberSet.{span};
 ghost use Rattle.rtps_writer.specs.Acknack.{acknack_answers, after_acknack, answers_after, applied, if_later, is_applied, newly_acknowledged};
 ghost use Rattle.rtps_writer.specs.Liveliness.{assert_refusal, asserted, heartbeat_asserted};
 ghost use Rattle.rtps_writer.specs.Standing.{StandsFor, reader_count};
-ghost use Rattle.rtps_writer.specs.WriterState.{WantsRoom, WriterState, entering, heartbeat_due, history_of, is_reader_behind, last_of, opening, ticked};
+ghost use Rattle.rtps_writer.specs.WriterState.{WantsRoom, WriterState, entering, first_for, heartbeat_due, history_of, is_reader_behind, joined, last_of, left, opening, owed_from, ticked};
 
-use crate::answer::{Answer, Answered, put_answers};
+use crate::answer::{Answer, Answered, answered_from, put_answers};
 use crate::heartbeat::HeartbeatDue;
 use crate::liveliness::Liveliness;
 use crate::registration::RegisteredInstances;
@@ -48,6 +48,8 @@ pub struct StatefulWriter {
     history: History,
     /// The instances that it has registered.
     registered: RegisteredInstances,
+    /// Of each reader, the number of the first change that was made since it was matched.
+    firsts: Vec<u64>,
     /// Of each reader, the count of the last ACKNACK that was applied.
     counts: Vec<Option<i32>>,
     /// How many HEARTBEAT counts were used.
@@ -55,8 +57,6 @@ pub struct StatefulWriter {
     liveliness: Liveliness,
     /// `None` of a writer of shared ownership.
     strength: Option<i32>,
-    /// Whether some reader is matched, of either reliability.
-    matched: bool,
 }
 
 impl Model for StatefulWriter {
@@ -69,21 +69,22 @@ impl Model for StatefulWriter {
     ghost view = { λ w. record {
       history = w.history;
       registered = w.registered.keys;
+      firsts = w.firsts.items;
       counts = w.counts.items;
       counts_used = w.counts_used;
       liveliness = w.liveliness;
       strength = w.strength;
-      matched = w.matched;
     } };
 
-    ghost invariant = { λ w. length w.counts.items ≡ history_readers w.history };
+    ghost invariant = { λ w. (length w.counts.items ≡ history_readers w.history)
+        × (length w.firsts.items ≡ history_readers w.history) };
 }
 
 impl StatefulWriter {
     /// A writer at which nothing has happened. `max_samples` is how many numbers it may keep, `None` any; `lease` is in
     /// units of 2^-32 second, `None` never ends (DDS 1.4, 2.2.3, LIVELINESS); `strength` is what its changes carry at
-    /// first, `None` of a writer of shared ownership (OWNERSHIP_STRENGTH); `matched` says whether some reader is matched,
-    /// of either reliability; `readers` is how many matched reliable readers it has, which have acknowledged nothing.
+    /// first, `None` of a writer of shared ownership (OWNERSHIP_STRENGTH); `readers` is how many matched reliable readers
+    /// it has, which have acknowledged nothing.
     ///
     /// A writer without reliable readers keeps nothing and never answers `Timeout`, but uses counts for its assertions.
     ///
@@ -96,30 +97,81 @@ impl StatefulWriter {
         max_samples: Option<u32>,
         lease: Option<u64>,
         strength: Option<i32>,
-        matched: bool,
         readers: usize,
     ) -> Result<StatefulWriter, Code>
         // It stands for a writer at which nothing has happened.
         ensures ok { IfOk result
             (λ writer. StandsFor writer
-            (opening policy max_samples lease strength matched readers)) }
+            (opening policy max_samples lease strength readers)) }
         // It has this many readers.
         ensures readers { IfOk result (λ writer. reader_count writer ≡ readers) }
         // The only refusal is for want of memory.
         ensures memory { IfErr result (λ code. code ≡ Memory) }
     {
         let history = History::open(alloc, policy, max_samples, readers)?;
+        let firsts = vec![in alloc; 1u64; readers]?;
         let counts = vec![in alloc; None; readers]?;
         Ok(StatefulWriter {
             alloc,
             history,
             registered: RegisteredInstances::new(alloc),
+            firsts,
             counts,
             counts_used: 0,
             liveliness: Liveliness::new(lease),
             strength,
-            matched,
         })
+    }
+
+    /// One more reliable reader is matched, of whose ACKNACKs the last that was applied had this count, if one was. Its
+    /// index is the next. It is owed what is made from now on, and counts as one that has acknowledged what was made.
+    ///
+    /// # Errors
+    ///
+    /// `Memory` where a growth was refused; the writer is then as it was.
+    ///
+    /// RTPS 2.5, 8.4.7 (StatefulWriter, matched_reader_add); DDS 1.4, 2.2.3 (DURABILITY: VOLATILE).
+    pub fn join(&mut self, count: Option<i32>) -> Result<(), Code>
+        // It stands for the writer with the reader last.
+        ensures ok { (s : WriterState) → StandsFor self.old s
+            → OnOk result (StandsFor self.new (joined s count)) }
+        // There is one reader more.
+        ensures readers { OnOk result (reader_count self.new ≡ reader_count self.old + 1) }
+        // A refusal leaves the writer as it was.
+        ensures err { OnErr result (self.new ≡ self.old) }
+        // The only refusal is for want of memory.
+        ensures memory { IfErr result (λ code. code ≡ Memory) }
+    {
+        // Before anything changes.
+        self.firsts.reserve(1)?;
+        self.counts.reserve(1)?;
+        let next = self.history.last().number().saturating_add(1);
+        self.history.join()?;
+        self.firsts.push_reserved(next);
+        self.counts.push_reserved(count);
+        Ok(())
+    }
+
+    /// This reader, by its index from 0, is not matched any more, and those behind it move down by one. What it alone had
+    /// not acknowledged is not kept any longer. Gives the count of the last of its ACKNACKs that was applied, for a match
+    /// to come.
+    ///
+    /// RTPS 2.5, 8.4.7 (StatefulWriter, matched_reader_remove).
+    pub fn leave(&mut self, reader: usize) -> Option<i32>
+        // There is such a reader.
+        requires reader { reader < reader_count self.old }
+        // It stands for the writer with the other readers, as they were.
+        ensures stands { (s : WriterState) → StandsFor self.old s
+            → StandsFor self.new (left s reader) }
+        // The count is that of the reader.
+        ensures count { (s : WriterState) → StandsFor self.old s
+            → result ≡ get_or s.counts reader None }
+        // There is one reader fewer.
+        ensures readers { reader_count self.new + 1 ≡ reader_count self.old }
+    {
+        self.history.leave(reader);
+        let _ = self.firsts.remove(reader);
+        self.counts.remove(reader)
     }
 
     /// Whether it has registered the instance.
@@ -238,6 +290,28 @@ impl StatefulWriter {
         self.history.readers()
     }
 
+    /// From which number on this reader is owed the changes.
+    fn owed_from(&self, reader: usize) -> Sn
+        requires reader { reader < reader_count self.now }
+        ensures { (s : WriterState) → StandsFor self.now s → result ≡ owed_from s reader }
+    {
+        let next = self.history.last().number().saturating_add(1);
+        Sn::new(self.firsts[reader].min(next))
+    }
+
+    /// The first number that a HEARTBEAT to this reader alone, by its index from 0, names: the greater of that from which
+    /// on it is owed the changes, and the least that is kept.
+    ///
+    /// RTPS 2.5, 8.3.8 (Heartbeat: firstSN).
+    pub fn first_for(&self, reader: usize) -> Sn
+        // There is such a reader.
+        requires reader { reader < reader_count self.now }
+        ensures first { (s : WriterState) → StandsFor self.now s → result ≡ first_for s reader }
+    {
+        let owed = self.owed_from(reader).number();
+        Sn::new(owed.max(self.history.first().number()))
+    }
+
     /// Whether this reader, by its index from 0, has not acknowledged all changes.
     ///
     /// RTPS 2.5, 8.4.7 (ReaderProxy, unacked_changes).
@@ -270,20 +344,20 @@ impl StatefulWriter {
     }
 
     /// Asserts the writer's liveliness at this moment, by the next count, and gives the HEARTBEAT that tells the readers
-    /// of it; `None` where no reader is matched, of either reliability: the count is used all the same.
+    /// of it; `None` where no reader is matched, of either reliability, as the caller says: the count is used all the same.
     ///
     /// # Errors
     ///
     /// `OutOfResources` where 2^31 - 1 counts were used; the writer is then as it was.
     ///
     /// DDS 1.4, 2.2.2.4 (assert_liveliness); RTPS 2.5, 8.3.8 (Heartbeat: LivelinessFlag).
-    pub fn assert(&mut self, now: Moment) -> Result<Option<HeartbeatDue>, Code>
+    pub fn assert(&mut self, is_matched: bool, now: Moment) -> Result<Option<HeartbeatDue>, Code>
         // The assertion is entered.
         ensures ok { (s : WriterState) → StandsFor self.old s
             → OnOk result (StandsFor self.new (asserted s now)) }
         // There was a count left, and a HEARTBEAT with it is due exactly where a reader is matched.
         ensures accepted { (s : WriterState) → StandsFor self.old s
-            → IfOk result (λ due. (assert_refusal s ≡ None) × (due ≡ heartbeat_asserted s now)) }
+            → IfOk result (λ due. (assert_refusal s ≡ None) × (due ≡ heartbeat_asserted s is_matched now)) }
         // It is refused where no count was left.
         ensures refused { (s : WriterState) → StandsFor self.old s
             → IfErr result (λ code. assert_refusal s ≡ Some code) }
@@ -297,7 +371,7 @@ impl StatefulWriter {
         }
         self.liveliness.assert_at(now);
         let heartbeat = self.next_heartbeat();
-        Ok(self.matched.then_some(heartbeat))
+        Ok(is_matched.then_some(heartbeat))
     }
 
     /// The strength that its next change carries; `None` of a writer of shared ownership.
@@ -433,17 +507,18 @@ impl StatefulWriter {
         if_later(before, after)
     }
 
-    /// The answers to the members of the set from what this reader has acknowledged on. There is room for them.
-    fn answer(&self, reader: usize, set: &SnSet, room: Vec<Answer>) -> Vec<Answer>
+    /// The answers to the members of the set of an ACKNACK of this reader, which has this base. There is room for them.
+    fn answer(&self, reader: usize, base: Sn, set: &SnSet, room: Vec<Answer>) -> Vec<Answer>
         requires reader { reader < reader_count self.now }
         requires none { room.items ≡ [] }
         requires room { span set.now.members ≤ vec_capacity room }
         ensures { (s : WriterState) → StandsFor self.now s
-            → result.items ≡ answers_after s reader set.now }
+            → result.items ≡ answers_after s reader base set.now }
     {
         let mut answers = room;
-        let from = self.history.acknowledged(reader);
-        put_answers(&mut answers, &self.history, set, from);
+        let owed = self.owed_from(reader);
+        let from = answered_from(owed, self.history.acknowledged(reader), base);
+        put_answers(&mut answers, &self.history, set, owed, from);
         answers
     }
 
@@ -472,7 +547,7 @@ impl StatefulWriter {
         ensures acknowledged { (s : WriterState) → StandsFor self.old s
             → result.acknowledged
             ≡ newly_acknowledged s (after_acknack s reader base count) reader }
-        // Each member from there to the last number is answered, in order.
+        // Each member from where it is answered to the last number is, in order.
         ensures answers { (s : WriterState) → StandsFor self.old s
             → result.answers.items ≡ acknack_answers s reader base set.now count }
         // The readers stay the same ones.
@@ -482,7 +557,7 @@ impl StatefulWriter {
             let acknowledged = self.apply(reader, base, count);
             Answered {
                 acknowledged,
-                answers: self.answer(reader, set, room),
+                answers: self.answer(reader, base, set, room),
             }
         } else {
             Answered {
@@ -518,7 +593,7 @@ impl StatefulWriter {
         ensures acknowledged { (s : WriterState) → StandsFor self.old s → IfOk result (λ answered.
             answered.acknowledged
             ≡ newly_acknowledged s (after_acknack s reader base count) reader) }
-        // Each member from there to the last number is answered, in order.
+        // Each member from where it is answered to the last number is, in order.
         ensures answers { (s : WriterState) → StandsFor self.old s → IfOk result (λ answered.
             answered.answers.items ≡ acknack_answers s reader base set.now count) }
         // The readers stay the same ones.

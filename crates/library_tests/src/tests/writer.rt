@@ -102,7 +102,6 @@ fn open(alloc: Global, words: Words<'_>) -> Result<StatefulWriter, Code> {
         words.second.parse().ok(),
         words.third.parse().ok(),
         words.fourth.parse().ok(),
-        true,
         2,
     )
 }
@@ -143,7 +142,7 @@ fn push_tick(text: &mut String, writer: &mut StatefulWriter, now: Moment) {
 }
 
 fn push_assert(text: &mut String, writer: &mut StatefulWriter, now: Moment) {
-    let answer = writer.assert(now);
+    let answer = writer.assert(true, now);
     let _ = write!(text, "{answer:?}");
 }
 
@@ -230,7 +229,7 @@ impl Subject for StatefulWriter {
 
 #[test]
 fn writers_send_what_is_asked_for(rt: HostRuntime) {
-    let opened = StatefulWriter::open(rt.alloc(), HistoryQos::KeepAll, None, None, None, true, 2);
+    let opened = StatefulWriter::open(rt.alloc(), HistoryQos::KeepAll, None, None, None, 2);
     assert!(rt; opened.is_ok(), "no memory");
     if let Ok(mut writer) = opened {
         expect_rows(&rt, rt.alloc(), &mut writer, WRITERS);

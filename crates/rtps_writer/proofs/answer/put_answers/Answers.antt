@@ -1,4 +1,5 @@
-use Rattle.std.proofs.Common.{◌≡◌, ◌+◌, ◌-◌, ◌^◌, ◌≤◌, ℕ, List, min, length, true, ap, sym, subst, ◌∙◌, arith}
+use Rattle.std.proofs.Common.{◌≡◌, ◌&&◌, ◌+◌, ◌-◌, ◌^◌, ◌≤◌, ℕ, List, min, length, true, ap, sym, subst, ◌∙◌, arith}
+use Rattle.std.specs.Prelude.{nat_le}
 use Rattle.dds_base.specs.Kept.{is_kept}
 use Rattle.rtps_sets.specs.NumberSet.{has_number}
 use Rattle.rtps_writer.specs.Answers.{answers_to}
@@ -11,7 +12,7 @@ loop-bits-init c = record {
   member = λ some. c.bits-bits.ensures.last some;
   room = omega (arith, c.requires.room, c.bits-bits.ensures.bits);
   so_far = λ w given. c.requires.none
-      ∙ sym (ap (λ (ns : List ℕ). answers_to (λ n. is_kept w n) ns)
+      ∙ sym (ap (λ (ns : List ℕ). answers_to (λ n. is_kept w n && nat_le c.args.owed n) ns)
       (nothing-past c.bits-bits.result c.args.set.now c.args.from (length w.changes) c.bits-bits.ensures.past));
 }
 
@@ -40,12 +41,12 @@ loop-bits-preserved-then-is_between c =
           (subst (λ (k : ℕ). has_number c.args.set.now (c.args.set.now.base + k - 1) ≡ true) (sym next)
           (it.member (omega (arith, some)))) in
           c.put_before.ensures.items
-          ∙ (step-requested (λ n. is_kept w n) c.loop-bits.bits c.new-number.result c.args.set.now c.args.from
-          (length w.changes) c.kept.result c.loop-bits.answers.items
+          ∙ (step-requested (λ n. is_kept w n && nat_le c.args.owed n) c.loop-bits.bits c.new-number.result c.args.set.now c.args.from
+          (length w.changes) c.has_for.result c.loop-bits.answers.items
           (omega (arith, some)) most number few
           (requested-at c.args.set.now c.args.from _ _ c.new-number.result _ last c.is_between.ensures
-          c.if-is_between.true member) (it.so_far w given) (c.kept.ensures.kept w given)
-          ∙ sym (ap (λ (ns : List ℕ). answers_to (λ n. is_kept w n) ns)
+          c.if-is_between.true member) (it.so_far w given) (c.has_for.ensures w given)
+          ∙ sym (ap (λ (ns : List ℕ). answers_to (λ n. is_kept w n && nat_le c.args.owed n) ns)
           (none-between c.args.set.now c.args.from (length w.changes) c.bits_below-bits.result (c.loop-bits.bits - 1)
           within (omega (arith, most)) below.past)));
     }
@@ -67,13 +68,13 @@ loop-bits-preserved c =
       room = omega (arith, room, within, some);
       so_far = λ w given.
           let last = c.last-last.ensures.last w given in
-          step-other (λ n. is_kept w n) c.loop-bits.bits c.new-number.result c.args.set.now c.args.from
+          step-other (λ n. is_kept w n && nat_le c.args.owed n) c.loop-bits.bits c.new-number.result c.args.set.now c.args.from
           (length w.changes) c.loop-bits.answers.items
           (omega (arith, some)) most number
           (omega (arith, last, c.last-last.ensures.few w given))
           (not-requested-at c.args.set.now c.args.from _ _ c.new-number.result _ last c.is_between.ensures
           c.if-is_between.false) (it.so_far w given)
-          ∙ sym (ap (λ (ns : List ℕ). answers_to (λ n. is_kept w n) ns)
+          ∙ sym (ap (λ (ns : List ℕ). answers_to (λ n. is_kept w n && nat_le c.args.owed n) ns)
           (none-between c.args.set.now c.args.from (length w.changes) c.bits_below-bits.result (c.loop-bits.bits - 1)
           within (omega (arith, most)) below.past));
     }
@@ -82,6 +83,6 @@ pub returns : goal.returns
 returns c = λ w given.
     let none : c.loop-bits.bits ≡ 0 = omega (arith, c.loop-bits-test.false) in
     c.loop-bits.invariant.so_far w given
-    ∙ (ap (λ (p : ℕ). answers_to (λ n. is_kept w n)
+    ∙ (ap (λ (p : ℕ). answers_to (λ n. is_kept w n && nat_le c.args.owed n)
     (requested_from p c.args.set.now c.args.from (length w.changes))) none
-    ∙ ap (λ (ns : List ℕ). answers_to (λ n. is_kept w n) ns) (from-first c.args.set.now c.args.from (length w.changes)))
+    ∙ ap (λ (ns : List ℕ). answers_to (λ n. is_kept w n && nat_le c.args.owed n) ns) (from-first c.args.set.now c.args.from (length w.changes)))

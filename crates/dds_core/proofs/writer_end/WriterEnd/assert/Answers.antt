@@ -1,7 +1,6 @@
 use Rattle.std.proofs.Common.{◌≡◌, true, List, Some, ap, sym, subst, ◌∙◌}
 use Rattle.std.specs.Prelude.{Ok}
 use Rattle.dds_base.specs.Written.{Asserted}
-use Rattle.rtps_writer.specs.Liveliness.{heartbeat_asserted}
 use Rattle.dds_protocol.specs.DueMessages.{Due, AreSent}
 use Rattle.dds_core.specs.declared.heartbeat.Beat.{Beat}
 use Rattle.dds_core.specs.declared.matching.Destination.{Destination}
@@ -15,7 +14,7 @@ use Rattle.dds_core.proofs.writer_end.WriterEnd.assert.Goals as goal
 pub send_to_all-requires-clause-valid : goal.send_to_all-requires-clause-valid
 send_to_all-requires-clause-valid c =
     let whole = c.self.invariant in
-    valid_told c.self.inside.writer whole.state c.args.now c.in-Some.due whole.stands
+    valid_told c.self.inside.writer whole.state _ c.args.now c.in-Some.due whole.stands
     (sym (c.in_ok-due.ensures.accepted whole.state whole.stands).1 ∙ c.in-Some.is)
 
 pub returns-clause-ok : goal.returns-clause-ok
@@ -34,13 +33,12 @@ returns-clause-tells c = λ w answered s.
     let sent = c.send_to_all.result in
     let here = stands_there kept c.args.self.now w answered c.self.view_is s in
     let accepted = c.in_ok-due.ensures.accepted (state_of w answered) here.writer in
-    let due : heartbeat_asserted (state_of w answered) c.args.now ≡ Some c.in-Some.due =
-    sym accepted.1 ∙ c.in-Some.is in (
+    let due = sym accepted.1 ∙ c.in-Some.is in (
       count_left w answered accepted.0,
       subst (λ (k : WriterKept). AreSent (assertions_of c.args.prefix k w) sent.packets.items sent.unsent)
           c.self.view_is
           (subst (λ (dues : List Due). AreSent dues sent.packets.items sent.unsent)
           (ap (λ (ds : List Destination). told_to beat ds) c.as_slice.ensures.value
-          ∙ told_are c.args.prefix kept w answered c.args.now c.in-Some.due due)
+          ∙ told_are c.args.prefix kept w answered _ c.args.now c.in-Some.due due)
           c.send_to_all.ensures.sent),
     )

@@ -13,16 +13,10 @@ pub returns : goal.returns
 returns c =
     let counted : c.len-reliable.result ≡ length c.in_ok-readers.readers.items =
     c.len-reliable.ensures ∙ c.in_ok-readers.readers.ok.0 in
-    let told : c.len.result ≡ length c.in_ok-destinations.destinations.items =
-    c.len.ensures ∙ c.in_ok-destinations.destinations.ok.0 in
     let fits : SFits w32 c.args.config.now.max_samples = search rules in
     let limit =
     c.limit_of-limit.ensures ∙ ap (λ (z : ℤ). limit_of z) (to_z-of_z w32 c.args.config.now.max_samples fits) in
     opens_writer c.args.peers.now c.args.config.now c.in_ok-destinations.destinations.items
     c.in_ok-readers.readers.items c.limit_of-limit.result c.carried_strength-strength.result c.in-Ok.writer
     c.len-reliable.result counted c.in_ok-destinations.ensures.names c.in_ok-readers.ensures.names limit
-    c.carried_strength-strength.ensures.carried
-    (subst (λ (n : ℕ). RtpsStandsFor c.in-Ok.writer
-    (opening c.args.config.now.history c.limit_of-limit.result c.args.config.now.lease
-    c.carried_strength-strength.result (nat_lt 0 n)
-    c.len-reliable.result)) told c.in-Ok.ensures.ok)
+    c.carried_strength-strength.ensures.carried c.in-Ok.ensures.ok

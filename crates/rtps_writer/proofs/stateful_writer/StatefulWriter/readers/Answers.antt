@@ -6,7 +6,7 @@ use Rattle.rtps_writer.proofs.stateful_writer.StatefulWriter.readers.Goals as go
 
 pub returns-clause-readers : goal.returns-clause-readers
 returns-clause-readers c = c.readers.ensures.readers
-    ∙ (sym c.self.invariant ∙ ap (λ (k : Kept). length k.counts) c.self.view_is)
+    ∙ (sym c.self.invariant.0 ∙ ap (λ (k : Kept). length k.counts) c.self.view_is)
 
 pub returns-clause-acknowledged : goal.returns-clause-acknowledged
 returns-clause-acknowledged c =
