@@ -177,6 +177,7 @@ impl Chains {
     }
 
     /// Has the spans of all say of an instance what is said of it here. Returns whether there was memory for that.
+    #[inline(never)]
     fn put_back(&mut self, latest: Latest) -> bool
         ensures spans { result ≡ true → Updates same_key self.old.spans self.new.spans latest.key (Some latest.span) }
         ensures links { self.new.links ≡ self.old.links }
@@ -192,6 +193,7 @@ impl Chains {
 
     /// Has this instance be the latest. What was said of the one before is put among the spans of all; returns whether there
     /// was memory for that.
+    #[inline(always)]
     fn turn_to(&mut self, latest: Latest) -> bool
         ensures spans { result ≡ true → HasSpan self.old latest.key latest.span self.new }
         ensures links { self.new.links ≡ self.old.links }
@@ -205,6 +207,7 @@ impl Chains {
 
     /// Has the last sample of an instance lead to a place behind all, and those of the instance end there, whether or not it
     /// has any. Returns whether there was memory for that.
+    #[inline(never)]
     fn end_at(&mut self, key: Key, place: usize) -> bool
         ensures { result ≡ true → Leads self.old key place self.new }
     {
@@ -222,12 +225,33 @@ impl Chains {
         self.turn_to(Latest { key, span, at })
     }
 
+    /// Whether no instance has samples.
+    fn has_none(&self) -> bool
+        ensures { result ≡ true → (i : Key) → span_of self.now i ≡ None }
+    {
+        self.latest.is_none() && self.spans.is_empty()
+    }
+
+    /// The same as `end_at`, and at once where no instance has samples.
+    #[inline(always)]
+    fn lead_to(&mut self, key: Key, place: usize) -> bool
+        ensures { result ≡ true → Leads self.old key place self.new }
+    {
+        if self.has_none() {
+            let span = Span::of_one(place);
+            let at = usize::MAX;
+            return self.turn_to(Latest { key, span, at });
+        }
+        self.end_at(key, place)
+    }
+
     /// Takes up that a sample of an instance is added as the last, at a place.
+    #[inline(always)]
     pub fn append(&mut self, key: Key, place: usize)
         ensures { (ks : List Kept) (k : Kept) → place ≡ length ks → k.sample.key ≡ key
             → AreChainsOf ks self.old → AreChainsOf (ks ++ k ∷ []) self.new }
     {
-        let has_span = self.end_at(key, place);
+        let has_span = self.lead_to(key, place);
         let has_link = self.links.push(u32::MAX).is_ok();
         self.is_whole &= has_link & has_span;
     }

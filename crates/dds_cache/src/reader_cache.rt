@@ -38,7 +38,7 @@ use crate::sweeping::{let_go, next_sweep, sweep};
 use crate::test::Test;
 use dds_base::{
     Arrival, Code, Handle, Key, Masks, Moment, OwnershipQos, ReaderQos, Sample, SamplePosition,
-    Selection, Sequence, Sn, Spare,
+    Selection, Sequence, Sn, Spare, reserve_few,
 };
 use dds_info::Ranks;
 use dds_instances::Instances;
@@ -647,7 +647,7 @@ impl ReaderCache {
             return None;
         };
         let mut samples = self.collection.take(self.alloc);
-        if samples.reserve(1).is_err() {
+        if reserve_few(&mut samples, 1).is_err() {
             return None;
         }
         let value = take_last(

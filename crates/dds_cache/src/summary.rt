@@ -111,6 +111,7 @@ pub fn let_out(
 }
 
 /// Adds a sample that was not read, in the room that there is.
+#[inline(always)]
 pub fn add(samples: &mut Vec<Kept>, summary: &mut Summary, kept: Kept)
     requires room { vec_len samples.old < vec_capacity samples.old }
     requires unread { kept.is_read ≡ false }

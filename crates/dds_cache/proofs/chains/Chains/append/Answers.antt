@@ -14,16 +14,16 @@ each false b c is = absurd (let clash : false ≡ true = is in cc)
 
 pub returns : goal.returns
 returns c = λ ks k place key chains whole.
-    let led : Chains = c.end_at-has_span.new.self in
-    let all = each led.is_whole c.is_ok-has_link.result c.end_at-has_span.result whole in
+    let led : Chains = c.lead_to-has_span.new.self in
+    let all = each led.is_whole c.is_ok-has_link.result c.lead_to-has_span.result whole in
     let leads : Leads c.args.self.now k.sample.key (length ks) led =
     subst (λ (i : Key). Leads c.args.self.now i (length ks) led) (sym key)
-    (subst (λ (n : ℕ). Leads c.args.self.now c.args.key n led) place (c.end_at-has_span.ensures all.2)) in
+    (subst (λ (n : ℕ). Leads c.args.self.now c.args.key n led) place (c.lead_to-has_span.ensures all.2)) in
     let new : Chains = record {
       links = c.push.new.self;
       spans = led.spans;
       latest = led.latest;
-      is_whole = led.is_whole && (c.is_ok-has_link.result && c.end_at-has_span.result);
+      is_whole = led.is_whole && (c.is_ok-has_link.result && c.lead_to-has_span.result);
     } in
     linked-more ks k c.args.self.now led new 4294967295 (chains (sym leads.whole ∙ all.0)) leads
     (c.push.ensures.items

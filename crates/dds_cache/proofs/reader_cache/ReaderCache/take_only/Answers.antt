@@ -36,7 +36,7 @@ returns-clause-taken g c = λ h stands.
     let samples : c.from_vec.result ≡ sample_alone only c.take_last-value.result ∷ [] =
     c.from_vec.ensures.elements
     ∙ (c.push_reserved.ensures.items
-    ∙ (ap (λ (xs : List Sample). xs ++ c.as_sample.result ∷ []) (c.reserve.ensures.items ∙ c.take-samples.ensures.empty)
+    ∙ (ap (λ (xs : List Sample). xs ++ c.as_sample.result ∷ []) (c.reserve_few.ensures.items ∙ c.take-samples.ensures.empty)
     ∙ ap (λ (x : Sample). x ∷ []) made)) in
     subst (λ (t : Stored). Returns c.args.kind t h c.args.selection.now (g.T.Test.meaning c.args.test.now)
     c.from_vec.result new) c.self.view_is
