@@ -1,0 +1,3 @@
+mod Octets
+mod Saying
+mod Turning

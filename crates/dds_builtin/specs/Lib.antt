@@ -1,0 +1,6 @@
+-- The definitions that contracts cite, by subject.
+pub mod Kinds
+pub mod Turned
+pub mod Builtin
+pub mod Keys
+pub mod Samples
