@@ -1,5 +1,5 @@
 -- Our peer of the network with another participant, and what it does (RTPS 2.5, 8.5.4: SEDP).
-use Rattle.std.specs.Prelude.{◌≡◌, ℕ, List, [], ◌∷◌, negsuc, None}
+use Rattle.std.specs.Prelude.{◌≡◌, ℕ, List, [], negsuc}
 use Rattle.dds_base.specs.declared.guid.GuidPrefix.{GuidPrefix}
 use Rattle.dds_base.specs.declared.mask.Masks.{Masks}
 use Rattle.dds_base.specs.declared.sample.Sample.{Sample}
