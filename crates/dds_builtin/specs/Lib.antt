@@ -4,3 +4,4 @@ pub mod Turned
 pub mod Builtin
 pub mod Keys
 pub mod Samples
+pub mod Sides
