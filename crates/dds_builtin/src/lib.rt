@@ -3,7 +3,7 @@
 //! `network_of` is the configuration of the two peers, and `with_kinds` turns the kinds of builtin entities in a datagram,
 //! so that a peer reads them as those of a user; `turned_in` and `turned_out` are a datagram's way to a peer and back, lists
 //! and kinds together. `hear` acts on a sample of them at the table of endpoints, and
-//! `key_of`, `announcement` are what is written of an endpoint of ours. Not here: peers (`dds_discovery`).
+//! `key_of`, `announcement` are what is written of an endpoint of ours. Not here: peers (`dds_network`).
 //!
 //! RTPS 2.5, 8.5.4 (SEDP), 8.4.13 (the writer liveliness protocol).
 #![tactic(auto)]
