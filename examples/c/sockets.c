@@ -46,7 +46,7 @@ static void send_all(struct side *it) {
 static uint8_t turn(struct side *it, uint64_t now) {
     uint8_t datagram[65536];
     struct pollfd waits = {.fd = it->fd, .events = POLLIN};
-    if (poll(&waits, 1, 1) > 0) {                                       /* a datagram came; it waits for a millisecond at most */
+    if (poll(&waits, 1, 1) > 0) {                                       /* a datagram came, within a millisecond */
         ssize_t len = recv(it->fd, datagram, sizeof datagram, 0);
         CHECK(len >= 0 && cw_deliver(&it->peer, datagram, (size_t)len) == CW_OK); /* an event: a datagram, whatever it is */
         send_all(it);                                                   /* ACKNACKs, and what they ask for */

@@ -19,7 +19,7 @@ def bound() -> socket.socket:
 
 def turn(peer: Peer, sock: socket.socket, other: tuple, now: int) -> list:
     """One turn of a peer behind a socket, and what its reader 1 then gives."""
-    if select.select([sock], [], [], 0.001)[0]:  # a datagram came; it waits for a millisecond at most
+    if select.select([sock], [], [], 0.001)[0]:  # a datagram came, within a millisecond
         for _, packet in peer.deliver(sock.recv(65536)):  # an event: a datagram, whatever it is
             sock.sendto(packet, other)  # ACKNACKs, and what they ask for
     for _, packet in peer.tick(now):  # an event: the time since the opening
