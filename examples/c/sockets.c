@@ -46,14 +46,14 @@ static void send_all(struct side *it) {
 static uint8_t turn(struct side *it, uint64_t now) {
     uint8_t datagram[65536];
     struct pollfd waits = {.fd = it->fd, .events = POLLIN};
-    if (poll(&waits, 1, 1) > 0) {                                       /* a datagram came, within a millisecond */
+    if (poll(&waits, 1, 1) > 0) { /* a datagram came, within a millisecond */
         ssize_t len = recv(it->fd, datagram, sizeof datagram, 0);
-        CHECK(len >= 0 && cw_deliver(&it->peer, datagram, (size_t)len) == CW_OK); /* an event: a datagram, whatever it is */
-        send_all(it);                                                   /* ACKNACKs, and what they ask for */
+        CHECK(len >= 0 && cw_deliver(&it->peer, datagram, (size_t)len) == CW_OK); /* an event: what came, whatever it is */
+        send_all(it); /* what it gave */
     }
-    CHECK(cw_tick(&it->peer, now) == CW_OK);                            /* an event: the time since the opening */
-    send_all(it);                                                       /* HEARTBEATs, while a reader is behind */
-    return cw_take(&it->peer, 1, -1, CW_ANY, CW_ANY, CW_ANY);           /* an event: a call of reader 1 */
+    CHECK(cw_tick(&it->peer, now) == CW_OK); /* an event: the time since the opening */
+    send_all(it); /* HEARTBEATs */
+    return cw_take(&it->peer, 1, -1, CW_ANY, CW_ANY, CW_ANY); /* an event: a call */
 }
 
 static void write_text(struct side *it, const char *text) {

@@ -20,11 +20,11 @@ def bound() -> socket.socket:
 def turn(peer: Peer, sock: socket.socket, other: tuple, now: int) -> list:
     """One turn of a peer behind a socket, and what its reader 1 then gives."""
     if select.select([sock], [], [], 0.001)[0]:  # a datagram came, within a millisecond
-        for _, packet in peer.deliver(sock.recv(65536)):  # an event: a datagram, whatever it is
-            sock.sendto(packet, other)  # ACKNACKs, and what they ask for
+        for _, packet in peer.deliver(sock.recv(65536)):  # an event: what came, whatever it is
+            sock.sendto(packet, other)  # what it gave
     for _, packet in peer.tick(now):  # an event: the time since the opening
-        sock.sendto(packet, other)  # HEARTBEATs, while a reader is behind
-    return peer.take(1)  # an event: a call of reader 1
+        sock.sendto(packet, other)  # HEARTBEATs
+    return peer.take(1)  # an event: a call
 
 
 with Peer(*CONFIG, 1) as first, Peer(*CONFIG, 2) as second, bound() as near, bound() as far:

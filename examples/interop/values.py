@@ -1,4 +1,4 @@
-"""The types of Types.idl: what a topic of each carries, and a value of it as a word of a line and as a payload in CDR.
+"""The types of Types.idl, and of Pose.idl: what a topic of each carries, and a value of it as a word of a line and as a payload in CDR.
 
 The word of a datum is its octets in hexadecimal digits; that of the others is NUMBER,WORDS,VALUE,VALUE.., each value with
 seventeen digits. A payload is representation, options and body, as a product's generated code makes and reads it."""
@@ -116,4 +116,25 @@ class Reading:
         return left.words()
 
 
-TYPES = {"datum": Datum, "text": Text, "reading": Reading}
+class Pose:
+    name, carries, fields = "robot::Pose", Carries.CDR, [KeyField(0, 4)]
+
+    @staticmethod
+    def key(robot: int) -> bytes:
+        return struct.pack(">i12x", robot)
+
+    @staticmethod
+    def number(key: bytes) -> int:
+        return struct.unpack_from(">i", key)[0]
+
+    @staticmethod
+    def payload(robot: int, word: str) -> bytes:
+        return CDR_LE + struct.pack("<i4xdd", robot, *map(float, word.split(",")))
+
+    @staticmethod
+    def word(payload: bytes) -> str:
+        _, x, y = struct.unpack("<i4xdd", payload[4:])
+        return f"{x},{y}"
+
+
+TYPES = {"datum": Datum, "text": Text, "reading": Reading, "pose": Pose}
