@@ -44,6 +44,10 @@ abbrev pub misfit : Endpoint → Endpoint → Option Misfit
 misfit w r =
     option_or (unfit w.policies r.policies) (if offers_representation w r then None else Some DataRepresentation)
 
+-- one topic and type, and a partition of both
+abbrev pub meet : Endpoint → Endpoint → Bool
+meet w r = same_names w r && share_partition w r
+
 -- one topic and type, a partition of both, and no misfit
 abbrev pub fits : Endpoint → Endpoint → Bool
-fits w r = same_names w r && share_partition w r && is_none (misfit w r)
+fits w r = meet w r && is_none (misfit w r)

@@ -26,6 +26,6 @@ mod table;
 
 pub use discovery::{Heard, Participants, Settings, Ticked};
 pub use lease::taken_lease;
-pub use matching::{fits, misfit};
+pub use matching::{fits, meet, misfit};
 pub use packet::Packet;
 pub use row::{Limits, Row, Told};

@@ -7,7 +7,7 @@
 ghost use Rattle.std.specs.Prelude.{◌≡◌, ◌==◌};
 ghost use Rattle.std.specs.List.{list_any};
 ghost use Rattle.std.specs.Str.{bytes_eq};
-ghost use Rattle.rtps_discovery.specs.Fits.{same_names, partitions_of, share_partition, representations_of, first_representation, offers_representation, misfit, fits};
+ghost use Rattle.rtps_discovery.specs.Fits.{same_names, partitions_of, share_partition, representations_of, first_representation, meet, offers_representation, misfit, fits};
 
 use dds_policies::{Misfit, unfit};
 use rtps_announcements::{Endpoint, Name, Partitions, Representations};
@@ -109,6 +109,17 @@ pub fn misfit(writer: &Endpoint, reader: &Endpoint) -> Option<Misfit>
     Some(Misfit::DataRepresentation)
 }
 
+/// Whether a writer and a reader meet: they are of one topic and one type, and a partition is of both. They are matched
+/// then, or there is a misfit.
+///
+/// DDS 1.4, 2.2.3 (PARTITION).
+pub fn meet(writer: &Endpoint, reader: &Endpoint) -> bool
+    // So the definition says.
+    ensures meet { result ≡ meet writer.now reader.now }
+{
+    has_same_names(writer, reader) && shares_partition(writer, reader)
+}
+
 /// Whether a writer and a reader are to be matched: they are of one topic and one type, a partition is of both, and no
 /// policy is a misfit. An endpoint without partitions is in the one without a name; names are octets, and compared as
 /// they stand.
@@ -118,7 +129,5 @@ pub fn fits(writer: &Endpoint, reader: &Endpoint) -> bool
     // So the definition says.
     ensures fits { result ≡ fits writer.now reader.now }
 {
-    has_same_names(writer, reader)
-        && shares_partition(writer, reader)
-        && misfit(writer, reader).is_none()
+    meet(writer, reader) && misfit(writer, reader).is_none()
 }

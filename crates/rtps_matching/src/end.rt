@@ -4,9 +4,11 @@
 
 ghost use Rattle.std.specs.Prelude.{◌≡◌};
 ghost use Rattle.rtps_matching.specs.Matches.{fit_together, is_named};
+ghost use Rattle.rtps_matching.specs.Misfits.{misfit_together};
 
 use crate::owned::Owned;
 use dds_base::Guid;
+use dds_policies::Misfit;
 use rtps_announcements::EndpointKind;
 
 /// A writer or a reader.
@@ -36,6 +38,17 @@ impl End {
             (EndpointKind::Writer, EndpointKind::Reader) => self.endpoint.fits(&other.endpoint),
             (EndpointKind::Reader, EndpointKind::Writer) => other.endpoint.fits(&self.endpoint),
             _ => false,
+        }
+    }
+
+    /// The first policy by which both do not fit, where they meet.
+    pub(crate) fn misfit(&self, other: &End) -> Option<Misfit>
+        ensures { result ≡ misfit_together self.now other.now }
+    {
+        match (self.kind, other.kind) {
+            (EndpointKind::Writer, EndpointKind::Reader) => self.endpoint.misfit(&other.endpoint),
+            (EndpointKind::Reader, EndpointKind::Writer) => other.endpoint.misfit(&self.endpoint),
+            _ => None,
         }
     }
 }

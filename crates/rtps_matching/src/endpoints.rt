@@ -9,13 +9,15 @@ ghost use Rattle.std.specs.List.{count_by, list_any, position};
 ghost use Rattle.std.specs.Option.{option_copied, option_to_list};
 ghost use Rattle.rtps_announcements.specs.declared.endpoint.Endpoint.{Endpoint};
 ghost use Rattle.rtps_matching.specs.declared.far.Far.{Far as FarOf};
+ghost use Rattle.rtps_matching.specs.Misfits.{misfits};
 ghost use Rattle.rtps_matching.specs.Matches.{Announces, announced, changes, is_far, is_named, is_of};
 ghost use Rattle.rtps_matching.specs.Steps.{Announced, Hears, Table, has_far, has_own, is_again, is_asleep, is_full, known_as, meetings_of, meetings_with, partings_of, partings_with, placed, says_again, told_of_own, told_of_waking, told_without, told_without_own, turned, turned_all, with_far, with_own, without, without_own};
 
 use crate::end::End;
 use crate::far::{Far, was_matched};
+use crate::misfits::misfits_of;
 use crate::owned::Owned;
-use crate::told::{Told, change};
+use crate::told::{Misfitting, Told, change};
 use dds_base::{Code, Guid, GuidPrefix, Octets};
 use rtps_announcements::{EndpointKind, read_endpoint};
 use std::alloc::Global;
@@ -364,6 +366,23 @@ impl Endpoints {
         ensures far { result.now ≡ self.now.far }
     {
         &self.far
+    }
+
+    /// Which of our own meet others that they do not fit, and the first policy by which they don't: in the order of ours,
+    /// and of theirs.
+    ///
+    /// # Errors
+    ///
+    /// `Memory` where there is none.
+    ///
+    /// DDS 1.4, 2.2.3 (supported QoS).
+    pub fn misfits(&self, alloc: Global) -> Result<Vec<Misfitting>, Code>
+        // These are all, each once.
+        ensures ok { IfOk result (λ found. found.items ≡ misfits self.now.own self.now.far) }
+        // The only refusal is for want of memory.
+        ensures memory { IfErr result (λ e. e ≡ Code.Memory) }
+    {
+        misfits_of(alloc, &self.own, &self.far)
     }
 
     /// One more of our own; whom it is matched with.

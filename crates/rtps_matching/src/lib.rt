@@ -11,6 +11,7 @@ mod end;
 mod endpoints;
 mod far;
 pub mod laws;
+mod misfits;
 mod owned;
 mod told;
 
@@ -18,4 +19,4 @@ pub use end::End;
 pub use endpoints::Endpoints;
 pub use far::Far;
 pub use owned::Owned;
-pub use told::Told;
+pub use told::{Misfitting, Told};

@@ -4,12 +4,14 @@
 
 ghost use Rattle.std.specs.Prelude.{◌≡◌, ◌≤◌, length, IfOk, IfErr};
 ghost use Rattle.rtps_discovery.specs.Fits.{fits};
+ghost use Rattle.rtps_matching.specs.Misfits.{misfit_of};
 
 use dds_base::{Code, Guid, Octets};
+use dds_policies::Misfit;
 use rtps_announcements::{
     Endpoint, Locator, Locators, Name, Partitions, Policies, Representations,
 };
-use rtps_discovery::fits;
+use rtps_discovery::{fits, meet, misfit};
 use std::alloc::{AllocError, Global};
 use std::marker::Model;
 
@@ -163,5 +165,21 @@ impl Owned {
         ensures fits { result ≡ fits self.now reader.now }
     {
         fits(&self.lend(), &reader.lend())
+    }
+
+    /// The first policy of which this writer offers less than a reader of its topic, type and partition asks for; `None`
+    /// where it offers each, or they do not meet.
+    ///
+    /// DDS 1.4, 2.2.3 (supported QoS).
+    pub fn misfit(&self, reader: &Owned) -> Option<Misfit>
+        // So the definition says.
+        ensures misfit { result ≡ misfit_of self.now reader.now }
+    {
+        let (writer, reader) = (self.lend(), reader.lend());
+        if meet(&writer, &reader) {
+            misfit(&writer, &reader)
+        } else {
+            None
+        }
     }
 }

@@ -6,6 +6,7 @@ ghost use Rattle.std.specs.Prelude.{◌≡◌};
 ghost use Rattle.rtps_matching.specs.Matches.{change};
 
 use dds_base::Guid;
+use dds_policies::Misfit;
 
 /// What changed between one of our endpoints, which is named first, and one of another participant.
 ///
@@ -18,6 +19,19 @@ pub enum Told {
     Unmatched(Guid, Guid),
     /// They were matched, and are; what the other one announces is another, as its strength may be.
     Changed(Guid, Guid),
+}
+
+/// Two endpoints, one of ours and one of another participant, that are of one topic, type and partition and do not fit.
+///
+/// DDS 1.4, 2.2.4.1 (OFFERED_INCOMPATIBLE_QOS, REQUESTED_INCOMPATIBLE_QOS).
+#[derive(Clone, Copy)]
+pub struct Misfitting {
+    /// The one of ours.
+    pub own: Guid,
+    /// The other one.
+    pub far: Guid,
+    /// The first policy by which they do not fit.
+    pub policy: Misfit,
 }
 
 /// What is told of two that were matched or not, and are or not.
