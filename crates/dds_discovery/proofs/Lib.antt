@@ -1,0 +1,7 @@
+mod Apart
+mod Causes
+mod Delivering
+mod Few
+mod Going
+mod Silence
+mod Telling
