@@ -1,0 +1,391 @@
+//! Discovery, asked line by line.
+
+use crate::line::{Line, cause_of, line_of};
+use crate::text::{print_misfit, print_packet, print_presence, print_reply, print_told};
+use dds_base::{Code, EntityId, Guid, GuidPrefix, Octets};
+use dds_discovery::{Discovery, Done, Step};
+use dds_script::{Fault, Lines, Status};
+use rtps_announcements::{Locator, Participant};
+use rtps_discovery::{Heard, Limits, Packet, Settings, Ticked};
+use rtps_matching::{End, Told};
+use std::alloc::{AllocError, Global};
+use std::io::{Read, Write};
+
+/// How many octets a line has at most, with its line feed: those of a datagram of 65,535 octets, with its words.
+const MAX_LINE: u64 = 131_120;
+
+/// How many participants are known, in all and at one address, where no line says it.
+const USUAL_PARTICIPANTS: usize = 64;
+
+/// How many endpoints of a participant are known, where no line says it.
+const USUAL_ENDPOINTS: usize = 128;
+
+/// What lines say before discovery begins.
+#[derive(Drop)]
+struct Beginning {
+    participant: Option<(Participant, u32)>,
+    addresses: Vec<Locator>,
+    limits: Limits,
+    most: usize,
+}
+
+/// How far a session has come.
+#[derive(Drop)]
+enum Stage {
+    /// Who we are is being said.
+    Naming(Beginning),
+    /// Discovery has begun, or was refused: no line is taken any more.
+    Refused,
+    /// Discovery goes on.
+    Open(Discovery),
+}
+
+/// What lines are said to.
+#[derive(Drop)]
+struct Session {
+    alloc: Global,
+    prefix: GuidPrefix,
+    stage: Stage,
+}
+
+fn print_all_told(alloc: Global, told: Vec<Told>, output: &mut impl Write) -> Result<(), Fault> {
+    for one in told {
+        print_told(alloc, one, output)?;
+    }
+    Ok(())
+}
+
+fn print_packets(
+    alloc: Global,
+    packets: Vec<Packet>,
+    output: &mut impl Write,
+) -> Result<(), Fault> {
+    for packet in packets {
+        print_packet(alloc, &packet, output)?;
+    }
+    Ok(())
+}
+
+fn print_done(alloc: Global, done: Done, output: &mut impl Write) -> Result<(), Fault> {
+    let Done { told, packet } = done;
+    print_all_told(alloc, told, output)?;
+    match packet {
+        Some(packet) => print_packet(alloc, &packet, output),
+        None => Ok(()),
+    }
+}
+
+fn print_heard(alloc: Global, heard: Heard, output: &mut impl Write) -> Result<(), Fault> {
+    let Heard { told, packet } = heard;
+    if let Some(told) = told {
+        print_presence(alloc, told, output)?;
+    }
+    match packet {
+        Some(packet) => print_packet(alloc, &packet, output),
+        None => Ok(()),
+    }
+}
+
+fn print_ticked(alloc: Global, ticked: Ticked, output: &mut impl Write) -> Result<(), Fault> {
+    let Ticked { told, packets } = ticked;
+    for one in told {
+        print_presence(alloc, one, output)?;
+    }
+    print_packets(alloc, packets, output)
+}
+
+/// Does what an event leaves to do, and prints it. Answers whether there was memory for it.
+fn settle(
+    alloc: Global,
+    discovery: &mut Discovery,
+    output: &mut impl Write,
+) -> Result<Result<(), Code>, Fault> {
+    for _ in 0..u64::MAX {
+        match discovery.settle(alloc) {
+            Ok(Step::Settled) => break,
+            Ok(Step::Done(done)) => print_done(alloc, done, output)?,
+            Err(code) => return Ok(Err(code)),
+        }
+    }
+    Ok(Ok(()))
+}
+
+/// An endpoint of ours more; prints whom it is matched with.
+fn add(
+    alloc: Global,
+    discovery: &mut Discovery,
+    end: End,
+    output: &mut impl Write,
+) -> Result<Result<(), Code>, Fault> {
+    match discovery.add(alloc, end) {
+        Ok(told) => print_all_told(alloc, told, output)?,
+        Err(code) => return Ok(Err(code)),
+    }
+    settle(alloc, discovery, output)
+}
+
+/// An endpoint of ours goes; prints whom it was matched with.
+fn remove(
+    alloc: Global,
+    discovery: &mut Discovery,
+    guid: &Guid,
+    output: &mut impl Write,
+) -> Result<Result<(), Code>, Fault> {
+    match discovery.remove(alloc, guid) {
+        Ok(told) => print_all_told(alloc, told, output)?,
+        Err(code) => return Ok(Err(code)),
+    }
+    settle(alloc, discovery, output)
+}
+
+/// Time goes on; prints who is gone, and what is sent.
+fn tick(
+    alloc: Global,
+    discovery: &mut Discovery,
+    moment: u64,
+    output: &mut impl Write,
+) -> Result<Result<(), Code>, Fault> {
+    match discovery.tick(alloc, moment) {
+        Ok(ticked) => print_ticked(alloc, ticked, output)?,
+        Err(code) => return Ok(Err(code)),
+    }
+    settle(alloc, discovery, output)
+}
+
+/// A datagram comes; prints what it leads to.
+fn deliver(
+    alloc: Global,
+    discovery: &mut Discovery,
+    moment: u64,
+    address: &[u8; 4],
+    bytes: &[u8],
+    output: &mut impl Write,
+) -> Result<Result<(), Code>, Fault> {
+    match discovery.deliver(alloc, moment, address, bytes) {
+        Ok(heard) => print_heard(alloc, heard, output)?,
+        Err(code) => return Ok(Err(code)),
+    }
+    settle(alloc, discovery, output)
+}
+
+/// Our participant leaves; prints what is sent.
+fn close(
+    alloc: Global,
+    discovery: &Discovery,
+    output: &mut impl Write,
+) -> Result<Result<(), Code>, Fault> {
+    match discovery.close(alloc) {
+        Ok(packets) => {
+            print_packets(alloc, packets, output)?;
+            Ok(Ok(()))
+        }
+        Err(code) => Ok(Err(code)),
+    }
+}
+
+/// Prints which pairs of one topic do not fit.
+fn look(
+    alloc: Global,
+    discovery: &Discovery,
+    output: &mut impl Write,
+) -> Result<Result<(), Code>, Fault> {
+    match discovery.misfits(alloc) {
+        Ok(misfits) => {
+            for misfit in misfits.iter() {
+                print_misfit(alloc, misfit, output)?;
+            }
+            Ok(Ok(()))
+        }
+        Err(code) => Ok(Err(code)),
+    }
+}
+
+impl Beginning {
+    fn new(alloc: Global) -> Self {
+        Beginning {
+            participant: None,
+            addresses: Vec::new(alloc),
+            limits: Limits {
+                of_all: USUAL_PARTICIPANTS,
+                of_one_address: USUAL_PARTICIPANTS,
+            },
+            most: USUAL_ENDPOINTS,
+        }
+    }
+
+    /// One more address.
+    fn tell(&mut self, address: Locator) -> Result<(), AllocError> {
+        self.addresses.push(address)?;
+        Ok(())
+    }
+}
+
+impl Session {
+    fn new(alloc: Global) -> Self {
+        Session {
+            alloc,
+            prefix: GuidPrefix::UNKNOWN,
+            stage: Stage::Naming(Beginning::new(alloc)),
+        }
+    }
+
+    /// The fault of a line that may only stand before the opening.
+    fn too_late(&self, number: u64) -> Fault {
+        let cause = "it may stand before `open` alone";
+        Fault::not_a_command(self.alloc, number, cause)
+    }
+
+    /// Who we are: of several lines the last counts.
+    fn name(&mut self, participant: Participant, domain: u32, number: u64) -> Result<(), Fault> {
+        self.prefix = participant.prefix;
+        let Stage::Naming(beginning) = &mut self.stage else {
+            return Err(self.too_late(number));
+        };
+        beginning.participant = Some((participant, domain));
+        Ok(())
+    }
+
+    /// One more address is told of us.
+    fn tell(&mut self, address: Locator, number: u64) -> Result<(), Fault> {
+        let Stage::Naming(beginning) = &mut self.stage else {
+            return Err(self.too_late(number));
+        };
+        Ok(beginning.tell(address)?)
+    }
+
+    /// How many are known at most: of several lines the last counts.
+    fn limit(&mut self, limits: Limits, most: usize, number: u64) -> Result<(), Fault> {
+        let Stage::Naming(beginning) = &mut self.stage else {
+            return Err(self.too_late(number));
+        };
+        beginning.limits = limits;
+        beginning.most = most;
+        Ok(())
+    }
+
+    /// Discovery begins, once, after our participant was said.
+    fn open(&mut self, number: u64) -> Result<Result<(), Code>, Fault> {
+        let stage = std::mem::replace(&mut self.stage, Stage::Refused);
+        let Stage::Naming(beginning) = stage else {
+            let cause = "discovery has begun";
+            return Err(Fault::not_a_command(self.alloc, number, cause));
+        };
+        let Beginning {
+            participant,
+            addresses,
+            limits,
+            most,
+        } = beginning;
+        let Some((participant, domain)) = participant else {
+            let cause = "a `participant` line stands before it";
+            return Err(Fault::not_a_command(self.alloc, number, cause));
+        };
+        let settings = Settings {
+            participant,
+            domain,
+            addresses,
+            limits,
+        };
+        match Discovery::open(self.alloc, settings, most) {
+            Ok(discovery) => {
+                self.stage = Stage::Open(discovery);
+                Ok(Ok(()))
+            }
+            Err(code) => Ok(Err(code)),
+        }
+    }
+
+    /// Something happens where discovery has begun.
+    fn happen(
+        &mut self,
+        line: Line,
+        number: u64,
+        output: &mut impl Write,
+    ) -> Result<Result<(), Code>, Fault> {
+        let alloc = self.alloc;
+        let Stage::Open(discovery) = &mut self.stage else {
+            let cause = "discovery has not begun; `open` begins it";
+            return Err(Fault::not_a_command(alloc, number, cause));
+        };
+        match line {
+            Line::Add(end) => add(alloc, discovery, end, output),
+            Line::Remove(entity) => {
+                let prefix = self.prefix;
+                remove(alloc, discovery, &Guid { prefix, entity }, output)
+            }
+            Line::Tick(moment) => tick(alloc, discovery, moment, output),
+            Line::Deliver(moment, address, octets) => deliver(
+                alloc,
+                discovery,
+                moment,
+                &address,
+                octets.as_slice(),
+                output,
+            ),
+            Line::Misfits => look(alloc, discovery, output),
+            _ => close(alloc, discovery, output),
+        }
+    }
+
+    /// Does what the line of this number says, and prints what it answers.
+    fn answer(&mut self, line: Line, number: u64, output: &mut impl Write) -> Result<(), Fault> {
+        let answered = match line {
+            Line::Participant(participant, domain) => return self.name(participant, domain, number),
+            Line::Address(address) => return self.tell(address, number),
+            Line::Limits(limits, most) => return self.limit(limits, most, number),
+            Line::Open => self.open(number)?,
+            line => self.happen(line, number, output)?,
+        };
+        print_reply(self.alloc, answered, output)
+    }
+}
+
+/// Reads a line of at most 131,120 octets, and tells what it says; none at the end of the input.
+fn next_line<R: Read + Drop>(
+    alloc: Global,
+    prefix: GuidPrefix,
+    lines: &mut Lines<R>,
+) -> Result<Option<Line>, Fault> {
+    lines.allow(MAX_LINE);
+    if !lines.advance()? {
+        return Ok(None);
+    }
+    match line_of(alloc, prefix, lines.line()) {
+        Ok(Some(line)) => Ok(Some(line)),
+        Ok(None) => {
+            let cause = cause_of(lines.line());
+            Err(Fault::not_a_command(alloc, lines.number(), cause))
+        }
+        Err(_) => Err(Fault::Memory),
+    }
+}
+
+fn answer_lines<R: Read + Drop>(
+    alloc: Global,
+    lines: &mut Lines<R>,
+    output: &mut impl Write,
+) -> Result<(), Fault> {
+    let mut session = Session::new(alloc);
+    for _ in 0..u64::MAX {
+        match next_line(alloc, session.prefix, lines)? {
+            Some(line) => session.answer(line, lines.number(), output)?,
+            None => break,
+        }
+    }
+    Ok(())
+}
+
+/// Answers lines: each is read, done and answered before the next one is looked at.
+///
+/// Nothing ends it early but a line that says nothing or may not stand where it does, one of more than 131,120 octets,
+/// a stream that fails, or want of memory for reading, for the addresses that are told of us, or for printing.
+pub fn answer_all<R: Read + Drop, W: Write + Drop>(
+    alloc: Global,
+    input: R,
+    mut output: W,
+) -> Status {
+    match Lines::open(alloc, input, MAX_LINE) {
+        Ok(mut lines) => Status::of(answer_lines(alloc, &mut lines, &mut output)),
+        Err(fault) => Status::failed(fault),
+    }
+}
