@@ -27,9 +27,8 @@ use Rattle.dds_core.specs.Beating.{HasNoCount, TellsOf, assertions_of, due_to}
 use Rattle.dds_core.specs.Kept.{WriterKept, PeerKept}
 use Rattle.dds_core.specs.Standing.{StandsFor}
 use Rattle.dds_core.specs.Stepping.{Enters}
-use Rattle.dds_core.proofs.BeatsDue.{IsNamed, all_named, by_number, named, part_of, sent_true}
+use Rattle.dds_core.proofs.BeatsDue.{IsNamed, all_named, by_number, named, part_of, sends_to, sent_true}
 use Rattle.dds_core.proofs.CallSteps.{Follows, answered_as, number_is, refused_as, refused_call, there_is}
-use Rattle.dds_core.proofs.Destinations.{sends_to}
 use Rattle.dds_core.proofs.Ends.{with_writer, entered_at, own_writer_stepped, unchanged_with}
 use Rattle.dds_core.proofs.Taking.{silent}
 use Rattle.dds_core.proofs.Tellable.{tellable_entered}
@@ -43,8 +42,8 @@ assertions_are config peer prefix number k w is =
     let own : GuidPrefix = prefix_of config peer in
     let entity : EntityId = writer_entity config peer number in
     sym (ap (λ (ns : List ℕ). map (λ (to : ℕ). due_to to (assertion_message own (prefix_of config to) entity w)) ns)
-    (sends_to is.topic config.peers w.matched ds is.matched is.sent_to)
-    ∙ (by_number config (λ to. assertion_message own to entity w) ds (all_named config is.topic ds is.sent_to)
+    (sends_to config peer prefix number k w is)
+    ∙ (by_number config (λ to. assertion_message own to entity w) ds (all_named config is.topic k.matched ds k.readers is.ends)
     ∙ (ap (λ (x : GuidPrefix). map (λ (d : Destination). due_to d.peer (assertion_message x d.prefix entity w)) ds)
     is.own
     ∙ ap (λ (x : EntityId). map (λ (d : Destination). due_to d.peer (assertion_message prefix d.prefix x w)) ds)

@@ -1,5 +1,5 @@
 -- The HEARTBEATs of a writer at a tick, and those of all writers of a peer.
-use Rattle.std.proofs.Common.{◌≡◌, ◌⊎◌, ℕ, zero, suc, ◌+◌, ◌-◌, ◌^◌, ◌<◌, ◌≤◌, ◌==◌, Bool, true, false, cond, ◌&&◌, ◌||◌, List, [], ◌∷◌, ◌++◌, Option, Some, None, map, take, drop, length, get_or, refl, ap, sym, ◌∙◌, subst, arith, inl, inr, ⊎_elim, length-append, eqb-true, append_assoc, append-nil, Contains}
+use Rattle.std.proofs.Common.{◌≡◌, ◌⊎◌, ℕ, zero, suc, ◌+◌, ◌-◌, ◌^◌, ◌<◌, ◌≤◌, ◌==◌, Bool, true, false, cond, ◌&&◌, ◌||◌, List, [], ◌∷◌, ◌++◌, Option, Some, None, not, map, take, drop, length, get_or, refl, ap, sym, ◌∙◌, subst, arith, inl, inr, ⊎_elim, length-append, eqb-true, append_assoc, append-nil, Contains}
 use Rattle.std.specs.Prelude.{ℤ, pos, find, nat_le, nat_lt, if◌then◌else◌}
 use Rattle.std.specs.List.{list_any}
 use Rattle.std.specs.Option.{unwrap_or}
@@ -24,17 +24,17 @@ use Rattle.dds_core.specs.declared.heartbeat.Beat.{Beat}
 use Rattle.dds_core.specs.declared.matching.Destination.{Destination}
 use Rattle.dds_core.specs.declared.matching.ReaderName.{ReaderName}
 use Rattle.dds_core.specs.declared.sending.Announced.{Announced}
-use Rattle.dds_core.specs.Beating.{IsHeartbeatValid, BeatsOfAll, Adds, Beats, BeatsOf, beats_of, beats_of_all, beats_to, due_to, message_to, is_peer_behind, peers_behind}
+use Rattle.dds_core.specs.Beating.{IsHeartbeatValid, AreReadersOf, BeatsOfAll, Adds, AddsTo, Beats, BeatsOf, beats_of, beats_of_all, beats_to, due_to, message_to, told_to, is_last_behind, is_peer_behind, peer_of, peers_behind}
 use Rattle.dds_core.specs.Kept.{WriterKept}
 use Rattle.dds_core.specs.Sending.{AreMessages}
 use Rattle.dds_core.specs.Announcing.{AddsPacket}
 use Rattle.dds_core.specs.Standing.{WriterStands, WritersStand, state_of}
+use Rattle.dds_core.proofs.Lists.{element}
 use Rattle.dds_core.proofs.Ticking.{TickedTo, untouched}
 
 -- some of these readers is of this peer, and behind the writer
 abbrev pub is_behind_from : Writer → ℕ → List ReaderProxy → Bool
-is_behind_from w peer rows =
-    list_any (λ (p : ReaderProxy). (p.reader.peer == peer) && nat_le p.acknowledged (length (writer_changes w))) rows
+is_behind_from w peer rows = is_peer_behind (length (writer_changes w)) peer rows
 
 -- what is due of the first of these writers
 abbrev pub BeatsTo : GuidPrefix → ℕ → List WriterKept → List Packet → ℕ → Type 0
@@ -194,45 +194,160 @@ other_number a b other = not_same (a == b) refl
     not_same true is = absurd (other (eqb-true a b is))
     not_same false is = is
 
--- ---- one destination more
+-- ---- one row more
 
-beats_one : (beat : Beat) (w : Writer) (ds : List Destination) (d : Destination) (b : Bool)
-    → is_peer_behind w d.peer ≡ b
-    → beats_to beat w (ds ++ d ∷ []) ≡ beats_to beat w ds ++ cond b (due_to d.peer (message_to beat d.prefix) ∷ []) []
-beats_one beat w [] d true is =
-    ap (λ (c : Bool). map (λ (e : Destination). due_to e.peer (message_to beat e.prefix)) (cond c (d ∷ []) [])) is
-beats_one beat w [] d false is =
-    ap (λ (c : Bool). map (λ (e : Destination). due_to e.peer (message_to beat e.prefix)) (cond c (d ∷ []) [])) is
-beats_one beat w (e ∷ es) d b is = one (is_peer_behind w e.peer) (beats_one beat w es d b is)
-  where
-    one : (c : Bool) → beats_to beat w (es ++ d ∷ []) ≡ beats_to beat w es
-        ++ cond b (due_to d.peer (message_to beat d.prefix) ∷ []) []
-        → map (λ (x : Destination). due_to x.peer (message_to beat x.prefix))
-        (cond c (e ∷ peers_behind w (es ++ d ∷ [])) (peers_behind w (es ++ d ∷ [])))
-        ≡ map (λ (x : Destination). due_to x.peer (message_to beat x.prefix))
-        (cond c (e ∷ peers_behind w es) (peers_behind w es))
-        ++ cond b (due_to d.peer (message_to beat d.prefix) ∷ []) []
-    one true h = ap (λ (xs : List Due). due_to e.peer (message_to beat e.prefix) ∷ xs) h
-    one false h = h
+row_head : {X : Type 0} (x : X) (xs : List X) (c b : Bool) → c ≡ b
+    → (if c then x ∷ xs else xs) ≡ cond b (x ∷ []) [] ++ xs
+row_head x xs true true is = refl
+row_head x xs false false is = refl
+row_head x xs true false is = absurd cc
+row_head x xs false true is = absurd cc
 
-pub beats_more : (beat : Beat) (w : Writer) (ds : List Destination) (i : ℕ) (d : Destination) (b : Bool)
-    (p q r : List Packet) (m n o : ℕ) → i < length ds → is_peer_behind w (get_or ds i d).peer ≡ b
-    → Adds (beats_to beat w (take i ds)) p m q n
-    → Adds (cond b (due_to (get_or ds i d).peer (message_to beat (get_or ds i d).prefix) ∷ []) []) q n r o
-    → Adds (beats_to beat w (take (i + 1) ds)) p m r o
-beats_more beat w ds i d b p q r m n o lt is h k =
-    let all : beats_to beat w (take (i + 1) ds) ≡ beats_to beat w (take i ds)
-    ++ cond b (due_to (get_or ds i d).peer (message_to beat (get_or ds i d).prefix) ∷ []) [] =
-    ap (λ (es : List Destination). beats_to beat w es) (take_more ds i d lt)
-    ∙ beats_one beat w (take i ds) (get_or ds i d) b is in
-    subst (λ (dues : List Due). Adds dues p m r o) (sym all) (adds_on _ _ p q r m n o h k)
+-- from a row on: what comes of it, and what comes of those behind it
+peers_at : (last : ℕ) (rows : List ReaderProxy) (names : List ReaderName) (i : ℕ) (d : ReaderName) (b : Bool)
+    → map (λ (p : ReaderProxy). p.reader) rows ≡ map (λ (r : ReaderName). r.reader) names → i < length names
+    → is_last_behind last rows i ≡ b
+    → peers_behind last (drop i rows) (drop i names)
+    ≡ cond b (peer_of (get_or names i d) ∷ []) [] ++ peers_behind last (drop (i + 1) rows) (drop (i + 1) names)
+peers_at last rows [] i d b same lt is = absurd (omega (arith, lt))
+peers_at last [] (n ∷ ns) i d b same lt is =
+    absurd (let c = ap (λ (es : List Endpoint). length es) same in omega (arith, c))
+peers_at last (p ∷ ps) (n ∷ ns) zero d b same lt is =
+    row_head (peer_of n) (peers_behind last ps ns)
+    (nat_le p.acknowledged last && not (is_peer_behind last p.reader.peer ps)) b is
+peers_at last (p ∷ ps) (n ∷ ns) (suc i) d b same lt is =
+    let next : suc i + 1 ≡ suc (i + 1) = omega arith in
+    let tail = ap (λ (es : List Endpoint). drop 1 es) same in
+    peers_at last ps ns i d b tail (omega (arith, lt)) is
+    ∙ ap (λ (k : ℕ). cond b (peer_of (get_or ns i d) ∷ []) []
+    ++ peers_behind last (drop k (p ∷ ps)) (drop k (n ∷ ns))) (sym next)
 
--- what was sent to the first of some destinations
-pub record SentTo (beat : Beat) (kept : Kept) (readers : List ReaderName) (ds : List Destination) (n : ℕ)
-    (old new : Announced) : Type 0 where
-  pub few : new.unsent ≤ old.unsent + n
-  pub beats : Beats beat kept readers ds old.packets.items old.unsent new.packets.items new.unsent
+-- the reader of a row is the last one of its peer that is behind, by what is known of it and of those behind it
+pub last_at : (last : ℕ) (rows : List ReaderProxy) (names : List ReaderName) (row : ℕ) (d : ReaderName) (c : Bool)
+    → map (λ (p : ReaderProxy). p.reader) rows ≡ map (λ (r : ReaderName). r.reader) names → row < length names
+    → c ≡ is_peer_behind last (get_or names row d).reader.peer (drop (row + 1) rows)
+    → (nat_le (get_or (map (λ (p : ReaderProxy). p.acknowledged) rows) row 0) last && not c)
+    ≡ is_last_behind last rows row
+last_at last rows [] row d c same lt is = absurd (omega (arith, lt))
+last_at last [] (n ∷ ns) row d c same lt is =
+    absurd (let size = ap (λ (es : List Endpoint). length es) same in omega (arith, size))
+last_at last (p ∷ ps) (n ∷ ns) zero d c same lt is =
+    let head : n.reader ≡ p.reader = ap (λ (es : List Endpoint). get_or es 0 p.reader) (sym same) in
+    ap (λ (x : Bool). nat_le p.acknowledged last && not x)
+    (is ∙ ap (λ (e : Endpoint). is_peer_behind last e.peer ps) head)
+last_at last (p ∷ ps) (n ∷ ns) (suc row) d c same lt is =
+    let next : suc row + 1 ≡ suc (row + 1) = omega arith in
+    last_at last ps ns row d c (ap (λ (es : List Endpoint). drop 1 es) same) (omega (arith, lt))
+    (is ∙ ap (λ (k : ℕ). is_peer_behind last (get_or ns row d).reader.peer (drop k (p ∷ ps))) next)
+
+-- it is not, where it is not behind
+pub not_behind : (last : ℕ) (rows : List ReaderProxy) (row : ℕ)
+    → nat_le (get_or (map (λ (p : ReaderProxy). p.acknowledged) rows) row 0) last ≡ false
+    → is_last_behind last rows row ≡ false
+not_behind last [] row is = refl
+not_behind last (p ∷ ps) zero is = ap (λ (b : Bool). b && not (is_peer_behind last p.reader.peer ps)) is
+not_behind last (p ∷ ps) (suc row) is = not_behind last ps row is
+
+-- some of all that is due was added, and this is left
+pub record AddsBut (left all : List Due) (old new : Announced) : Type 0 where
+  pub done : List Due
+  pub adds : AddsTo done old new
+  pub rest : done ++ left ≡ all
+
+-- what was sent to the peers that come of the rows before this one
+pub record SentBefore (beat : Beat) (kept : Kept) (names : List ReaderName) (row : ℕ) (old new : Announced)
+    : Type 0 where
+  pub few : new.unsent ≤ old.unsent + row
+  pub beats : (w : Writer) (answered : Endpoint → Option ℤ) → AreReadersOf w names
+      → RtpsStandsFor kept (state_of w answered)
+      → AddsBut
+      (told_to beat (peers_behind (length (writer_changes w)) (drop row w.readers) (drop row names)))
+      (beats_to beat w names) old new
   pub messages : AreMessages old.packets.items → AreMessages new.packets.items
+
+-- before the first row
+pub sent_none : (beat : Beat) (kept : Kept) (names : List ReaderName) (old : Announced)
+    → SentBefore beat kept names 0 old old
+sent_none beat kept names old = record {
+  few = omega arith;
+  beats = λ w answered same stands. record {
+    done = [];
+    adds = adds_none old.packets.items old.unsent;
+    rest = refl;
+  };
+  messages = λ h. h;
+}
+
+told_head : (beat : Beat) (d : Destination) (ds : List Destination) (b : Bool)
+    → told_to beat (cond b (d ∷ []) [] ++ ds)
+    ≡ cond b (due_to d.peer (message_to beat d.prefix) ∷ []) [] ++ told_to beat ds
+told_head beat d ds true = refl
+told_head beat d ds false = refl
+
+pub beats_more : (beat : Beat) (w : Writer) (names : List ReaderName) (i : ℕ) (n : ReaderName) (b : Bool)
+    (old mid new : Announced) → AreReadersOf w names → i < length names
+    → is_last_behind (length (writer_changes w)) w.readers i ≡ b
+    → AddsBut (told_to beat (peers_behind (length (writer_changes w)) (drop i w.readers) (drop i names)))
+    (beats_to beat w names) old mid
+    → AddsTo (cond b (due_to (get_or names i n).reader.peer (message_to beat (get_or names i n).guid.prefix) ∷ []) [])
+    mid new
+    → AddsBut (told_to beat (peers_behind (length (writer_changes w)) (drop (i + 1) w.readers) (drop (i + 1) names)))
+    (beats_to beat w names) old new
+beats_more beat w names i n b old mid new same lt is h k =
+    let d : Destination = peer_of (get_or names i n) in
+    let one : List Due = cond b (due_to d.peer (message_to beat d.prefix) ∷ []) [] in
+    let ds : List Destination =
+    peers_behind (length (writer_changes w)) (drop (i + 1) w.readers) (drop (i + 1) names) in
+    let split : told_to beat (peers_behind (length (writer_changes w)) (drop i w.readers) (drop i names))
+    ≡ one ++ told_to beat ds =
+    ap (λ (es : List Destination). told_to beat es)
+    (peers_at (length (writer_changes w)) w.readers names i n b same lt is)
+    ∙ told_head beat d ds b in
+    record {
+      done = h.done ++ one;
+      adds =
+          adds_on h.done one old.packets.items mid.packets.items new.packets.items old.unsent mid.unsent new.unsent
+          h.adds k;
+      rest =
+          append_assoc h.done one (told_to beat ds)
+          ∙ (ap (λ (dues : List Due). h.done ++ dues) (sym split) ∙ h.rest);
+    }
+
+-- where nothing comes of the row
+pub beats_same : (beat : Beat) (w : Writer) (names : List ReaderName) (i : ℕ) (old new : Announced)
+    → AreReadersOf w names → i < length names
+    → is_last_behind (length (writer_changes w)) w.readers i ≡ false
+    → AddsBut (told_to beat (peers_behind (length (writer_changes w)) (drop i w.readers) (drop i names)))
+    (beats_to beat w names) old new
+    → AddsBut (told_to beat (peers_behind (length (writer_changes w)) (drop (i + 1) w.readers) (drop (i + 1) names)))
+    (beats_to beat w names) old new
+beats_same beat w names i old new same lt is h =
+    let n = (element names i lt).0 in
+    beats_more beat w names i n false old new new same lt is h (adds_none new.packets.items new.unsent)
+
+nothing_past : {X : Type 0} (xs : List X) (n : ℕ) → length xs ≤ n → drop n xs ≡ []
+nothing_past [] zero le = refl
+nothing_past [] (suc n) le = refl
+nothing_past (x ∷ xs) zero le = absurd (omega (arith, le))
+nothing_past (x ∷ xs) (suc n) le = nothing_past xs n (omega (arith, le))
+
+nameless : (last : ℕ) (rows : List ReaderProxy) → peers_behind last rows [] ≡ []
+nameless last [] = refl
+nameless last (p ∷ ps) = refl
+
+-- behind the last row
+pub sent_all : (beat : Beat) (kept : Kept) (names : List ReaderName) (row : ℕ) (old new : Announced)
+    → length names ≤ row → SentBefore beat kept names row old new
+    → Beats beat kept names old.packets.items old.unsent new.packets.items new.unsent
+sent_all beat kept names row old new le s w answered same stands =
+    let h = s.beats w answered same stands in
+    let last : ℕ = length (writer_changes w) in
+    let none : told_to beat (peers_behind last (drop row w.readers) (drop row names)) ≡ [] =
+    ap (λ (ns : List ReaderName). told_to beat (peers_behind last (drop row w.readers) ns)) (nothing_past names row le)
+    ∙ ap (λ (ds : List Destination). told_to beat ds) (nameless last (drop row w.readers)) in
+    let is : h.done ≡ beats_to beat w names =
+    sym (append-nil h.done) ∙ (ap (λ (dues : List Due). h.done ++ dues) (sym none) ∙ h.rest) in
+    subst (λ (dues : List Due). Adds dues old.packets.items old.unsent new.packets.items new.unsent) is h.adds
 
 -- ---- what is due at a tick of a writer
 
@@ -273,35 +388,31 @@ due_is w answered now due is =
 -- so the HEARTBEATs to its peers are those of the writer
 pub beats_are : (prefix : GuidPrefix) (kept : WriterKept) (w : Writer) (answered : Endpoint → Option ℤ) (now : ℕ)
     (due : HeartbeatDue) → heartbeat_due (state_of w answered) now ≡ Some due
-    → beats_to (record { prefix = prefix; entity = kept.entity; due = due; asserts = false }) w kept.destinations
+    → beats_to (record { prefix = prefix; entity = kept.entity; due = due; asserts = false }) w kept.readers
     ≡ beats_of prefix kept w
 beats_are prefix kept w answered now due is =
     let d = due_is w answered now due is in
     ap (λ (x : HeartbeatDue). beats_to
-    (record { prefix = prefix; entity = kept.entity; due = x; asserts = false }) w kept.destinations) d.1
+    (record { prefix = prefix; entity = kept.entity; due = x; asserts = false }) w kept.readers) d.1
     ∙ sym (ap (λ (b : Bool). if b then map
     (λ (e : Destination). due_to e.peer (heartbeat_message prefix e.prefix kept.entity w))
-    (peers_behind w kept.destinations) else []) d.0)
+    (peers_behind (length (writer_changes w)) w.readers kept.readers) else []) d.0)
 
 -- where nobody is behind, no peer is
-nobody_behind : (w : Writer) (peer : ℕ) (rows : List ReaderProxy)
-    → list_any (λ a. nat_le a (length (writer_changes w))) (map (λ (p : ReaderProxy). p.acknowledged) rows) ≡ false
-    → is_behind_from w peer rows ≡ false
-nobody_behind w peer [] none = refl
-nobody_behind w peer (p ∷ ps) none =
-    one (p.reader.peer == peer) (nat_le p.acknowledged (length (writer_changes w)))
-    (list_any (λ a. nat_le a (length (writer_changes w))) (map (λ (q : ReaderProxy). q.acknowledged) ps)) _ none
-    (nobody_behind w peer ps)
+no_peers : (last : ℕ) (rows : List ReaderProxy) (names : List ReaderName)
+    → list_any (λ a. nat_le a last) (map (λ (p : ReaderProxy). p.acknowledged) rows) ≡ false
+    → peers_behind last rows names ≡ []
+no_peers last [] names none = refl
+no_peers last (p ∷ ps) [] none = refl
+no_peers last (p ∷ ps) (n ∷ ns) none =
+    one (nat_le p.acknowledged last)
+    (list_any (λ a. nat_le a last) (map (λ (q : ReaderProxy). q.acknowledged) ps)) none (no_peers last ps ns)
   where
-    one : (a b rest all : Bool) → (b || rest) ≡ false → (rest ≡ false → all ≡ false) → ((a && b) || all) ≡ false
-    one a true rest all h k = absurd cc
-    one true false rest all h k = k h
-    one false false rest all h k = k h
-
-no_peers : (w : Writer) (ds : List Destination) → ((peer : ℕ) → is_peer_behind w peer ≡ false) → peers_behind w ds ≡ []
-no_peers w [] none = refl
-no_peers w (d ∷ ds) none =
-    ap (λ (b : Bool). cond b (d ∷ peers_behind w ds) (peers_behind w ds)) (none d.peer) ∙ no_peers w ds none
+    one : (b rest : Bool) → (b || rest) ≡ false → (rest ≡ false → peers_behind last ps ns ≡ [])
+        → (if b && not (is_peer_behind last p.reader.peer ps) then peer_of n ∷ peers_behind last ps ns
+        else peers_behind last ps ns) ≡ []
+    one true rest h k = absurd cc
+    one false rest h k = k h
 
 no_due : (b c : Bool) (n before : ℕ) (due : HeartbeatDue) → n ≡ before + cond b 1 0 → nat_lt n (2 ^ 31) ≡ c
     → (if b && c then Some due else None) ≡ None → (b ≡ false) ⊎ (nat_lt before (2 ^ 31 - 1) ≡ false)
@@ -322,9 +433,10 @@ beats_none prefix kept w answered now is =
     λ ds. map (λ (e : Destination). due_to e.peer (heartbeat_message prefix e.prefix kept.entity w)) ds in
     ⊎_elim
     (λ nobody. sym (ap (λ (ds : List Destination). if nat_lt (counts_before w) (2 ^ 31 - 1) then make ds else [])
-    (no_peers w kept.destinations (λ peer. nobody_behind w peer w.readers nobody))
+    (no_peers (length (writer_changes w)) w.readers kept.readers nobody)
     ∙ both_none (nat_lt (counts_before w) (2 ^ 31 - 1)) [] refl))
-    (λ out. sym (ap (λ (b : Bool). if b then make (peers_behind w kept.destinations) else []) out))
+    (λ out. sym (ap (λ (b : Bool). if b then make
+    (peers_behind (length (writer_changes w)) w.readers kept.readers) else []) out))
     (no_due (is_behind (state_of w answered)) (nat_lt counts (2 ^ 31)) counts (counts_before w) (due_by w counts)
     (counts_now w answered now) refl is)
 

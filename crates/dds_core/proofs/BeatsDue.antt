@@ -1,9 +1,8 @@
 -- What a peer sends at a tick is what is due, and it is true.
-use Rattle.std.proofs.Common.{◌≡◌, ℕ, zero, suc, ◌+◌, ◌-◌, ◌^◌, Bool, true, false, cond, List, [], ◌∷◌, ◌++◌, Option, Some, None, map, length, get_or, slice_get, refl, ap, sym, ◌∙◌, subst, arith, inl, inr, ⊎_elim, Contains}
-use Rattle.std.specs.Prelude.{filter, nat_le, nat_lt, if◌then◌else◌}
+use Rattle.std.proofs.Common.{◌≡◌, ℕ, zero, suc, ◌+◌, ◌-◌, ◌^◌, Bool, true, false, not, ◌&&◌, List, [], ◌∷◌, ◌++◌, Option, Some, None, map, length, get_or, slice_get, refl, ap, sym, ◌∙◌, subst, arith, inl, inr, ⊎_elim, Contains}
+use Rattle.std.specs.Prelude.{nat_le, nat_lt, if◌then◌else◌}
 use Rattle.std.specs.Option.{option_map_or}
 use Rattle.std.proofs.lemmas.List.{length-map}
-use Rattle.std.proofs.lemmas.Option.{same_Some}
 use Rattle.dds_base.specs.declared.config.Config.{Config}
 use Rattle.dds_base.specs.declared.config.PeerConfig.{PeerConfig}
 use Rattle.dds_base.specs.declared.config.WriterConfig.{WriterConfig}
@@ -14,7 +13,7 @@ use Rattle.dds_machine.specs.declared.endpoint.Endpoint.{Endpoint}
 use Rattle.dds_protocol.specs.declared.event.Packet.{Packet}
 use Rattle.dds_machine.specs.declared.reply.Reply.TheVariants.{Done}
 use Rattle.dds_machine.specs.Ticks.{TickStep, tick_refusal, after_tick}
-use Rattle.dds_protocol.specs.Claims.{Claim, Claims, IsNumbered, every_reader}
+use Rattle.dds_protocol.specs.Claims.{Claim, Claims, every_reader}
 use Rattle.dds_protocol.specs.Dues.{IsPartOf, AreTruthful}
 use Rattle.dds_machine.specs.Part.{Part, ReaderProxy, Writer, no_writer, own_writer, acknowledged_of, peers_of, writer_changes, NoLess}
 use Rattle.dds_protocol.specs.Peer.{Peer, IsTrueAt}
@@ -26,16 +25,13 @@ use Rattle.dds_protocol.proofs.Growth.{TickStep-acknowledged, TickStep-grows}
 use Rattle.dds_machine.proofs.Tables.{no_less_same}
 use Rattle.dds_core.specs.declared.matching.Destination.{Destination}
 use Rattle.dds_core.specs.declared.matching.ReaderName.{ReaderName}
-use Rattle.dds_core.specs.Beating.{BeatsOfAll, beats_of, beats_of_all, due_to, peers_behind}
+use Rattle.dds_core.specs.Beating.{BeatsOfAll, beats_of, beats_of_all, due_to, is_peer_behind, peer_of, peers_behind}
 use Rattle.dds_core.specs.Kept.{WriterKept, PeerKept}
-use Rattle.dds_core.specs.Identity.{WriterIdentity, writer_identity, configured_writer}
-use Rattle.dds_core.specs.Matching.{destinations}
-use Rattle.dds_core.specs.EndNames.{reader_names}
-use Rattle.dds_core.specs.Standing.{WriterStands, StandsFor}
-use Rattle.dds_machine.specs.Opening.{matched_readers}
-use Rattle.dds_core.proofs.Destinations.{ends_of_names, is_peer, reader_ends}
-use Rattle.dds_core.proofs.Lists.{element, get-map, get-within, map-get}
-use Rattle.dds_core.proofs.PeersBehind.{peers_passed}
+use Rattle.dds_core.specs.Identity.{WriterIdentity, writer_identity}
+use Rattle.dds_core.specs.MatchedEnds.{AreMatchedNow, IsReliableName, readers_of}
+use Rattle.dds_core.specs.Standing.{StandsFor}
+use Rattle.dds_core.proofs.Names.{configured}
+use Rattle.dds_core.proofs.PeersBehind.{peers_are_behind}
 use Rattle.dds_core.proofs.Sent.{contains_cases}
 use Rattle.dds_core.proofs.Taking.{numbered_prefix, prefix_is}
 
@@ -72,15 +68,21 @@ unfolding AreNamed
 named_each config [] each = tt
 named_each config (d ∷ ds) each = (each zero d refl, named_each config ds (λ k e at. each (suc k) e at))
 
-named_filtered : (config : Config) (b : Destination → Bool) (ds : List Destination) → AreNamed config ds
-    → AreNamed config (filter b ds)
+-- those of a writer's readers that are behind are so
+named_behind : (config : Config) (last : ℕ) (rows : List ReaderProxy) (names : List ReaderName)
+    → ((k : ℕ) (n : ReaderName) → slice_get names k ≡ Some n → prefix_of config n.reader.peer ≡ n.guid.prefix)
+    → AreNamed config (peers_behind last rows names)
 unfolding AreNamed
-named_filtered config b [] h = tt
-named_filtered config b (d ∷ ds) h = one (b d) (named_filtered config b ds h.1)
+named_behind config last [] names each = tt
+named_behind config last (p ∷ ps) [] each = tt
+named_behind config last (p ∷ ps) (n ∷ ns) each =
+    one (nat_le p.acknowledged last && not (is_peer_behind last p.reader.peer ps)) (each zero n refl)
+    (named_behind config last ps ns (λ k m at. each (suc k) m at))
   where
-    one : (c : Bool) → AreNamed config (filter b ds) → AreNamed config (cond c (d ∷ filter b ds) (filter b ds))
-    one true k = (h.0, k)
-    one false k = k
+    one : (b : Bool) → prefix_of config n.reader.peer ≡ n.guid.prefix → AreNamed config (peers_behind last ps ns)
+        → AreNamed config (if b then peer_of n ∷ peers_behind last ps ns else peers_behind last ps ns)
+    one true h k = (h, k)
+    one false h k = k
 
 pub by_number : (config : Config) (message : GuidPrefix → _) (ds : List Destination) → AreNamed config ds
     → map (λ (to : ℕ). due_to to (message (prefix_of config to))) (map (λ (d : Destination). d.peer) ds)
@@ -93,23 +95,22 @@ by_number config message (d ∷ ds) h =
     ∙ ap (λ (dues : List Due). due_to d.peer (message d.prefix) ∷ dues) (by_number config message ds h.1)
 
 -- those of a writer are so
-pub all_named : (config : Config) (topic : ℕ) (ds : List Destination) → ds ≡ destinations topic 1 config.peers
-    → AreNamed config ds
-all_named config topic ds is =
+pub all_named : (config : Config) (topic : ℕ) (es : List ReaderName) (ds : List Destination) (names : List ReaderName)
+    → AreMatchedNow config.peers topic es ds names → AreNamed config ds
+all_named config topic es ds names ends =
     named_each config ds
     (λ j d at.
-    let p = is_peer config.peers topic j d (subst (λ (xs : List Destination). slice_get xs j ≡ Some d) is at) in
-    numbered_prefix config.peers d.peer p.peer p.at ∙ p.prefix)
+    let p = ends.prefixes j d at in numbered_prefix config.peers d.peer p.peer p.at ∙ p.prefix)
 
--- the writer of this number, by its configuration
+-- the writer of this number, by its configuration, with those that it is matched with now
 pub record IsNamed (config : Config) (peer : ℕ) (prefix : GuidPrefix) (number : ℕ) (k : WriterKept)
     (w : Writer) : Type 0 where
   pub own : prefix_of config peer ≡ prefix
   pub entity : writer_entity config peer number ≡ k.entity
   pub topic : ℕ
-  pub sent_to : k.destinations ≡ destinations topic 1 config.peers
-  pub readers : map (λ (p : ReaderProxy). p.reader) w.readers ≡ reader_ends topic config.peers
-  pub matched : w.matched ≡ matched_readers topic 1 config.peers
+  pub ends : AreMatchedNow config.peers topic k.matched k.destinations k.readers
+  pub readers : map (λ (p : ReaderProxy). p.reader) w.readers ≡ map (λ (n : ReaderName). n.reader) k.readers
+  pub matched : w.matched ≡ readers_of k.matched
 
 -- the same of another value of that identity
 pub named_again : (config : Config) (peer : ℕ) (prefix : GuidPrefix) (number : ℕ) (k k' : WriterKept) (w : Writer)
@@ -119,30 +120,39 @@ named_again config peer prefix number k k' w same is = record {
   own = is.own;
   entity = is.entity ∙ ap (λ (x : WriterIdentity). x.entity) (sym same);
   topic = is.topic;
-  sent_to = ap (λ (x : WriterIdentity). x.destinations) same ∙ is.sent_to;
-  readers = is.readers;
-  matched = is.matched;
+  ends =
+      subst (λ (x : WriterIdentity). AreMatchedNow config.peers is.topic x.matched x.destinations x.readers) (sym same)
+      is.ends;
+  readers = is.readers ∙ ap (λ (x : WriterIdentity). map (λ (n : ReaderName). n.reader) x.readers) (sym same);
+  matched = is.matched ∙ ap (λ (x : WriterIdentity). readers_of x.matched) (sym same);
 }
+
+-- the peers of its matched readers are those that it sends to
+pub sends_to : (config : Config) (peer : ℕ) (prefix : GuidPrefix) (number : ℕ) (k : WriterKept) (w : Writer)
+    → IsNamed config peer prefix number k w → peers_of w.matched ≡ map (λ (d : Destination). d.peer) k.destinations
+sends_to config peer prefix number k w is =
+    ap (λ (es : List Endpoint). peers_of es) is.matched ∙ is.ends.sent_to
 
 beats_due_of : (config : Config) (peer : ℕ) (prefix : GuidPrefix) (number : ℕ) (k : WriterKept) (w : Writer)
     → IsNamed config peer prefix number k w → beats_of prefix k w ≡ heartbeats_of config peer number w
 beats_due_of config peer prefix number k w is =
     let message =
     λ (to : GuidPrefix). heartbeat_message (prefix_of config peer) to (writer_entity config peer number) w in
-    let passed =
-    peers_passed is.topic config.peers w.readers k.destinations
-    (λ (p : ReaderProxy). nat_le p.acknowledged (length (writer_changes w))) is.readers is.sent_to in
-    let named = all_named config is.topic k.destinations is.sent_to in
+    let ds : List Destination = peers_behind (length (writer_changes w)) w.readers k.readers in
+    let passed : peers_of (readers_behind w) ≡ map (λ (d : Destination). d.peer) ds =
+    sym (peers_are_behind (length (writer_changes w)) w.readers k.readers is.readers) in
+    let named : AreNamed config ds =
+    named_behind config (length (writer_changes w)) w.readers k.readers
+    (λ j n at.
+    let name = (is.ends.named j n at).name_is in
+    numbered_prefix config.peers n.reader.peer name.is.peer name.is.at_peer ∙ name.same_prefix) in
     let all : map (λ (to : ℕ). due_to to (message (prefix_of config to))) (peers_of (readers_behind w))
-    ≡ map (λ (d : Destination). due_to d.peer (heartbeat_message prefix d.prefix k.entity w))
-    (peers_behind w k.destinations) =
+    ≡ map (λ (d : Destination). due_to d.peer (heartbeat_message prefix d.prefix k.entity w)) ds =
     ap (λ (ns : List ℕ). map (λ (to : ℕ). due_to to (message (prefix_of config to))) ns) passed
-    ∙ (by_number config message (peers_behind w k.destinations) (named_filtered config _ k.destinations named)
+    ∙ (by_number config message ds named
     ∙ (ap (λ (p : GuidPrefix). map
-    (λ (d : Destination). due_to d.peer (heartbeat_message p d.prefix (writer_entity config peer number) w))
-    (peers_behind w k.destinations)) is.own
-    ∙ ap (λ e. map (λ (d : Destination). due_to d.peer (heartbeat_message prefix d.prefix e w))
-    (peers_behind w k.destinations)) is.entity)) in
+    (λ (d : Destination). due_to d.peer (heartbeat_message p d.prefix (writer_entity config peer number) w)) ds) is.own
+    ∙ ap (λ e. map (λ (d : Destination). due_to d.peer (heartbeat_message prefix d.prefix e w)) ds) is.entity)) in
     ap (λ (dues : List Due). if nat_lt (length (counts_of w.written)) (2 ^ 31 - 1) then dues else [])
     (sym all)
 
@@ -166,38 +176,15 @@ beats_due_from config peer prefix n (k ∷ ks) (w ∷ ws) count each =
 
 -- ---- what is due of a peer
 
--- a writer of the configuration, and what is kept of it
-record IsConfigured (config : Config) (kept : PeerKept) (own : PeerConfig) (j : ℕ) (k : WriterKept) : Type 0 where
-  end : WriterConfig
-  at : slice_get own.writers j ≡ Some end
-  is : writer_identity k ≡ configured_writer config.peers end
-
-configured : (config : Config) (peer : Peer) (kept : PeerKept) (s : StandsFor kept config peer) (j : ℕ) (k : WriterKept)
-    → slice_get kept.writers j ≡ Some k → IsConfigured config kept s.is_peer.own j k
-configured config peer kept s j k at =
-    let f = get-map (configured_writer config.peers) s.is_peer.own.writers j (writer_identity k)
-    (subst (λ (xs : List WriterIdentity). slice_get xs j ≡ Some (writer_identity k)) s.is_peer.writers
-    (map-get writer_identity kept.writers j k at)) in
-    record { end = f.0; at = f.1; is = sym f.2 }
-
-readers_configured : (config : Config) (k : WriterKept) (w : Writer) (answered : Endpoint → _) (end : WriterConfig)
-    → WriterStands k w answered → writer_identity k ≡ configured_writer config.peers end
-    → map (λ (p : ReaderProxy). p.reader) w.readers ≡ reader_ends end.topic config.peers
-readers_configured config k w answered end s is =
-    s.readers ∙ (ap (λ (x : WriterIdentity). map (λ (n : ReaderName). n.reader) x.readers) is
-    ∙ ends_of_names end.topic config.peers)
-
 pub named : (config : Config) (peer : Peer) (kept : PeerKept) (s : StandsFor kept config peer) (j : ℕ) (k : WriterKept)
     → slice_get kept.writers j ≡ Some k
     → IsNamed config peer.number kept.prefix (1 + j) k (get_or peer.part.rtps.writers j no_writer)
 named config peer kept s j k at =
-    let c = configured config peer kept s j k at in
+    let c = configured config peer.number kept s.is_peer j k at in
     let index : 1 + j - 1 ≡ j = omega arith in
     let there : slice_get s.is_peer.own.writers (1 + j - 1) ≡ Some c.end =
     subst (λ (m : ℕ). slice_get s.is_peer.own.writers m ≡ Some c.end) (sym index) c.at in
-    let next_index : suc j - 1 ≡ j = omega arith in
-    let next : slice_get s.is_peer.own.writers (suc j - 1) ≡ Some c.end =
-    subst (λ (m : ℕ). slice_get s.is_peer.own.writers m ≡ Some c.end) (sym next_index) c.at in
+    let stands = s.writers.each j k at in
     record {
       own = prefix_is kept config peer s;
       entity =
@@ -205,13 +192,11 @@ named config peer kept s j k at =
           (λ (p : PeerConfig). option_map_or (λ (w : WriterConfig). w.entity)
           (slice_get p.writers (1 + j - 1)) every_reader) o every_reader) s.is_peer.at.1
           ∙ (ap (λ (o : Option WriterConfig). option_map_or (λ (w : WriterConfig). w.entity) o every_reader) there
-          ∙ ap (λ (x : WriterIdentity). x.entity) (sym c.is));
+          ∙ sym c.is.entity);
       topic = c.end.topic;
-      sent_to = ap (λ (x : WriterIdentity). x.destinations) c.is;
-      readers =
-          readers_configured config k (get_or peer.part.rtps.writers j no_writer) (peer.known.answered (suc j)) c.end
-          (s.writers.each j k at) c.is;
-      matched = s.matched s.is_peer.own (suc j) c.end s.is_peer.at (omega arith, next);
+      ends = c.is.ends;
+      readers = stands.readers;
+      matched = stands.matched;
     }
 
 -- the name of a writer, and of those that it is matched with
@@ -220,11 +205,10 @@ pub writer_named : (config : Config) (peer : Peer) (kept : PeerKept) → StandsF
 writer_named config peer kept s j k at = (named config peer kept s j k at).entity
 
 pub readers_named : (config : Config) (peer : Peer) (kept : PeerKept) → StandsFor kept config peer
-    → (j : ℕ) (k : WriterKept) → slice_get kept.writers j ≡ Some k
-    → (topic : ℕ) × (k.readers ≡ reader_names topic config.peers)
+    → (j : ℕ) (k : WriterKept) → slice_get kept.writers j ≡ Some k → (topic : ℕ)
+    × ((row : ℕ) (n : ReaderName) → slice_get k.readers row ≡ Some n → IsReliableName config.peers topic n)
 readers_named config peer kept s j k at =
-    let c = configured config peer kept s j k at in
-    (c.end.topic, ap (λ (x : WriterIdentity). x.readers) c.is)
+    let c = configured config peer.number kept s.is_peer j k at in (c.end.topic, c.is.ends.named)
 
 beats_due : (config : Config) (peer : Peer) (kept : PeerKept) → StandsFor kept config peer
     → beats_of_all kept.prefix kept.writers peer.part.rtps.writers ≡ heartbeats_due config peer.number peer.part
@@ -242,45 +226,14 @@ due_sent config peer kept packets unsent s beats =
 
 -- ---- it is true
 
-own_readers : (config : Config) (peer : Peer) (kept : PeerKept) (s : StandsFor kept config peer) (number : ℕ)
-    (w : WriterConfig) → IsNumbered s.is_peer.own.writers number w
-    → map (λ (p : ReaderProxy). p.reader) (own_writer peer.part number).readers ≡ reader_ends w.topic config.peers
-own_readers config peer kept s zero w at = let low = at.0 in absurd (omega (arith, low))
-own_readers config peer kept s (suc n) w at =
-    let index : suc n - 1 ≡ n = omega arith in
-    let there : slice_get s.is_peer.own.writers n ≡ Some w =
-    subst (λ (m : ℕ). slice_get s.is_peer.own.writers m ≡ Some w) index at.1 in
-    let lt = get-within s.is_peer.own.writers n w there in
-    let sizes = ap (λ (xs : List WriterIdentity). length xs) s.is_peer.writers in
-    let first = length-map kept.writers writer_identity in
-    let second = length-map s.is_peer.own.writers (configured_writer config.peers) in
-    let found = element kept.writers n (omega (arith, lt, sizes, first, second)) in
-    let c = configured config peer kept s n found.0 found.1 in
-    let same : c.end ≡ w = same_Some c.end w (sym c.at ∙ there) in
-    readers_configured config found.0 (get_or peer.part.rtps.writers n no_writer) (peer.known.answered (suc n)) c.end
-    (s.writers.each n found.0 found.1) c.is ∙ ap (λ (x : WriterConfig). reader_ends x.topic config.peers) same
-
 pub part_of : (config : Config) (peer : Peer) (kept : PeerKept) → StandsFor kept config peer
     → IsPartOf config peer.number peer.part
 part_of config peer kept s = record {
   here = s.is_peer.own;
   at = s.is_peer.at;
   writers =
-      s.writers.count ∙ (sym (length-map kept.writers writer_identity)
-      ∙ (ap (λ (xs : List WriterIdentity). length xs) s.is_peer.writers
-      ∙ length-map s.is_peer.own.writers (configured_writer config.peers)));
+      s.writers.count ∙ (sym (length-map kept.writers writer_identity) ∙ s.is_peer.count);
 }
-
--- each writer has rows for the reliable readers of its topic, in the order of the configuration
-pub configured_of : (config : Config) (peer : Peer) (kept : PeerKept) → StandsFor kept config peer → (n : ℕ)
-    → peer.number ≡ n → (number : ℕ) (p : PeerConfig) (w : WriterConfig) → IsNumbered config.peers n p
-    → IsNumbered p.writers number w
-    → map (λ (q : ReaderProxy). q.reader) (own_writer peer.part number).readers ≡ reader_ends w.topic config.peers
-configured_of config peer kept s n same number p w at there =
-    let one : p ≡ s.is_peer.own =
-    same_Some p s.is_peer.own
-    (sym at.1 ∙ (ap (λ (k : ℕ). slice_get config.peers (k - 1)) (sym same) ∙ s.is_peer.at.1)) in
-    own_readers config peer kept s number w (subst (λ (x : PeerConfig). IsNumbered x.writers number w) one there)
 
 -- what a peer sends at a tick is true afterwards
 pub due_true : (config : Config) (peer : Peer) (kept : PeerKept) (now : ℕ) (packets : List Packet) (unsent : ℕ)

@@ -25,7 +25,6 @@ use Rattle.dds_machine.specs.Refusals.{writer_refusal, write_refusal, dispose_re
 use Rattle.dds_machine.specs.Calls.{Effect, nothing, writes, effect, effect_of, liveliness_lost_at, IsAnswered, IsAnsweredWatching, IsDoneUnless, Answers, CallStep}
 use Rattle.dds_machine.specs.Numbered.{has_element, numbered}
 use Rattle.dds_conditions.specs.NoFilters.{no_filters}
-use Rattle.dds_machine.proofs.Tables.{numbered-map-cases}
 use Rattle.dds_machine.specs.Part.{Part, Dds, Writer, no_writer, own_writer}
 use Rattle.dds_protocol.specs.Peer.{Peer, PeerStep}
 use Rattle.dds_machine.specs.Watching.{Tests}
@@ -378,14 +377,6 @@ same_peer kept config number writers readers ws rs h =
     (subst (λ (is : List WriterIdentity). IsPeerOf config number
     (record { prefix = kept.prefix; writers = is; readers = map reader_identity kept.readers })) (sym ws) h)
 
--- a tick leaves whom each writer is matched with
-ticked_matched : (now : ℕ) (ws : List Writer) (number : ℕ)
-    → (numbered (map (ticked now) ws) number no_writer).matched ≡ (numbered ws number no_writer).matched
-ticked_matched now ws number =
-    ⊎_elim (λ same. ap (λ (w : Writer). w.matched) same)
-    (λ none. ap (λ (w : Writer). w.matched) (none.0 ∙ sym none.1))
-    (numbered-map-cases (ticked now) ws number no_writer)
-
 pub ticks : (kept : PeerKept) (writers : List WriterKept) (readers : List ReaderKept) (config : Config) (peer : Peer)
     → StandsFor kept config peer → (now : ℕ) → kept.moment ≤ now → now < 2 ^ 63 → AllTick kept.writers now writers
     → AllExpire kept.readers now readers → (output : Output) → output.reply ≡ Done
@@ -408,8 +399,6 @@ ticks kept writers readers config peer s now on early all expired output done be
         is_peer =
             same_peer kept config peer.number writers readers (same_names now kept.writers writers all)
             (expired_names now kept.readers readers expired) s.is_peer;
-        matched = λ own number w at_own at_w.
-            ticked_matched now peer.part.rtps.writers number ∙ s.matched own number w at_own at_w;
         moment = refl;
         early = early;
         watch = s.watch;

@@ -16,8 +16,7 @@ use Rattle.dds_core.specs.declared.sending.Sender.{Sender}
 use Rattle.dds_core.specs.Beating.{due_to}
 use Rattle.dds_core.specs.Kept.{WriterKept}
 use Rattle.dds_core.specs.Announcing.{announcement, AreAnnouncements}
-use Rattle.dds_core.proofs.BeatsDue.{IsNamed, all_named, by_number}
-use Rattle.dds_core.proofs.Destinations.{sends_to}
+use Rattle.dds_core.proofs.BeatsDue.{IsNamed, all_named, by_number, sends_to}
 
 -- a packet is what it is addressed to and its bytes
 packet_as : (p : Packet) (to : ℕ) (bytes : List ℕ) → p.to ≡ to → p.bytes ≡ bytes → p ≡ record { to = to; bytes = bytes }
@@ -74,11 +73,11 @@ change_sent config peer prefix number sn k w change packets unsent is are count 
     let message = λ (own : GuidPrefix) (entity : EntityId) (to : GuidPrefix). change_message own to entity sn change in
     let own : GuidPrefix = prefix_of config peer in
     let entity : EntityId = writer_entity config peer number in
-    let peers = sends_to is.topic config.peers w.matched ds is.matched is.sent_to in
+    let peers = sends_to config peer prefix number k w is in
     let all : changes_due config (record { peer = peer; number = number }) w.matched sn change
     ≡ map (λ (d : Destination). due_to d.peer (message prefix k.entity d.prefix)) ds =
     ap (λ (ns : List ℕ). map (λ (to : ℕ). due_to to (message own entity (prefix_of config to))) ns) peers
-    ∙ (by_number config (message own entity) ds (all_named config is.topic ds is.sent_to)
+    ∙ (by_number config (message own entity) ds (all_named config is.topic k.matched ds k.readers is.ends)
     ∙ (ap (λ (p : GuidPrefix). map (λ (d : Destination). due_to d.peer (message p entity d.prefix)) ds) is.own
     ∙ ap (λ (e : EntityId). map (λ (d : Destination). due_to d.peer (message prefix e d.prefix)) ds) is.entity)) in
     subst (λ (dues : List Due). AreSent dues packets unsent) (sym all)

@@ -2,38 +2,26 @@
 use Rattle.std.proofs.Common.{◌≡◌, ℕ, zero, suc, ◌+◌, ◌<◌, ◌==◌, Bool, true, false, cond, ◌||◌, List, [], ◌∷◌, ◌++◌, Some, Contains, map, length, slice_get, refl, ap, sym, ◌∙◌, subst, arith, ⊎_elim, eqb-true, eq-eqb}
 use Rattle.std.proofs.lemmas.Bool.Decides.{nat_tests}
 use Rattle.std.specs.Prelude.{if◌then◌else◌, nat_lt}
-use Rattle.std.proofs.lemmas.List.{length-map}
+use Rattle.std.proofs.lemmas.Option.{same_Some}
 use Rattle.std.specs.List.{list_any}
-use Rattle.dds_base.specs.declared.config.Config.{Config}
 use Rattle.dds_base.specs.declared.config.PeerConfig.{PeerConfig}
 use Rattle.dds_base.specs.declared.config.ReaderConfig.{ReaderConfig}
-use Rattle.dds_base.specs.Matched.{any_reader, same_topic, of_ends_in, of_reliable_readers}
+use Rattle.dds_base.specs.Matched.{any_reader, of_ends_in, same_topic}
 use Rattle.dds_machine.specs.Opening.{matched_readers}
 use Rattle.dds_machine.specs.declared.endpoint.Endpoint.{Endpoint}
-use Rattle.dds_protocol.specs.Claims.{IsNumbered}
 use Rattle.dds_machine.specs.Part.{peers_of}
 use Rattle.dds_protocol.proofs.Composed.{front_or_rest}
 use Rattle.dds_core.specs.declared.matching.Destination.{Destination}
-use Rattle.dds_core.specs.declared.matching.ReaderName.{ReaderName}
 use Rattle.dds_core.specs.Matching.{has_reader, destinations}
-use Rattle.dds_core.specs.EndNames.{reader_name, reader_names}
-use Rattle.dds_core.proofs.Tables.{map-reliable_readers}
-use Rattle.dds_core.proofs.Numbered.{IsRest, rest_whole, rest_first, rest_later, cond_get, is_told}
+use Rattle.dds_core.specs.MatchedEnds.{IsPeer}
+use Rattle.dds_core.proofs.Numbered.{IsRest, rest_whole, rest_first, rest_later, cond_get}
 
 -- a reader, by the numbers of its peer and its own
-abbrev pub name_at : ℕ → ℕ → ReaderConfig → Endpoint
+abbrev name_at : ℕ → ℕ → ReaderConfig → Endpoint
 name_at peer number r = record { peer = peer; number = number }
 
--- the readers of the topic, by their numbers
-abbrev pub reader_ends : ℕ → List PeerConfig → List Endpoint
-reader_ends topic peers = of_reliable_readers (λ i p k r. name_at i k r) topic 1 peers
-
-pub ends_of_names : (topic : ℕ) (peers : List PeerConfig)
-    → map (λ (n : ReaderName). n.reader) (reader_names topic peers) ≡ reader_ends topic peers
-ends_of_names topic peers = map-reliable_readers (λ (n : ReaderName). n.reader) reader_name topic 1 peers
-
 -- the readers of the topic among those of one peer, reliable or not
-abbrev pub ends_in : ℕ → ℕ → ℕ → List ReaderConfig → List Endpoint
+abbrev ends_in : ℕ → ℕ → ℕ → List ReaderConfig → List Endpoint
 ends_in topic peer n rs = of_ends_in any_reader (λ (r : ReaderConfig). r.topic) (name_at peer) topic n rs
 
 -- the number of a peer before or after its readers
@@ -98,7 +86,8 @@ map-cond : (b : Bool) (d : Destination) (ds : List Destination)
 map-cond true d ds = refl
 map-cond false d ds = refl
 
-peers_are : (topic n : ℕ) (ps : List PeerConfig) → peers_of (matched_readers topic n ps)
+-- the peers of a writer's matched readers are those that it sends to
+pub peers_are : (topic n : ℕ) (ps : List PeerConfig) → peers_of (matched_readers topic n ps)
     ≡ map (λ (d : Destination). d.peer) (destinations topic n ps)
 peers_are topic n [] = refl
 peers_are topic n (p ∷ ps) =
@@ -111,21 +100,7 @@ peers_are topic n (p ∷ ps) =
     ∙ map-cond (has_reader topic p.readers) (record { peer = n; prefix = p.prefix })
     (destinations topic (n + 1) ps))
 
--- the peers of a writer's matched readers are those that it sends to
-pub sends_to : (topic : ℕ) (peers : List PeerConfig) (es : List Endpoint) (ds : List Destination)
-    → es ≡ matched_readers topic 1 peers → ds ≡ destinations topic 1 peers
-    → peers_of es ≡ map (λ (d : Destination). d.peer) ds
-sends_to topic peers es ds names is =
-    ap (λ (xs : List Endpoint). peers_of xs) names
-    ∙ (peers_are topic 1 peers ∙ ap (λ (xs : List Destination). map (λ (d : Destination). d.peer) xs) (sym is))
-
 -- a destination is a peer of the configuration
-
--- a peer of this number and prefix
-pub record IsPeer (peers : List PeerConfig) (d : Destination) : Type 0 where
-  pub peer : PeerConfig
-  pub at : IsNumbered peers d.peer peer
-  pub prefix : peer.prefix ≡ d.prefix
 
 peers_from : (all : List PeerConfig) (topic n : ℕ) (ps : List PeerConfig) → IsRest all n ps → (k : ℕ) (d : Destination)
     → slice_get (destinations topic n ps) k ≡ Some d → IsPeer all d
@@ -142,30 +117,16 @@ pub is_peer : (peers : List PeerConfig) (topic k : ℕ) (d : Destination)
     → slice_get (destinations topic 1 peers) k ≡ Some d → IsPeer peers d
 is_peer peers topic k d at = peers_from peers topic 1 peers (rest_whole peers) k d at
 
--- a matched reader is one of the topic
-
-pub record IsReaderOf (config : Config) (topic : ℕ) (reader : Endpoint) : Type 0 where
-  pub peer : PeerConfig
-  pub at_peer : IsNumbered config.peers reader.peer peer
-  pub end : ReaderConfig
-  pub at_reader : IsNumbered peer.readers reader.number end
-  pub same_topic : end.topic ≡ topic
-
 -- where an element stands
-at_some : {X : Type 0} (xs : List X) (x : X) → Contains xs x → (k : ℕ) × (slice_get xs k ≡ Some x)
+pub at_some : {X : Type 0} (xs : List X) (x : X) → Contains xs x → (k : ℕ) × (slice_get xs k ≡ Some x)
 at_some [] x among = let lt = among.1 in absurd (omega (arith, lt))
 at_some {X = X} (y ∷ ys) x among =
     ⊎_elim (λ e. (zero, ap (λ (z : X). Some z) e)) (λ later. let f = at_some ys x later in (suc f.0, f.1))
     (front_or_rest y ys x among.0 among.1 among.2)
 
-pub is_reader : (config : Config) (topic : ℕ) (es : List Endpoint) (reader : Endpoint)
-    → es ≡ matched_readers topic 1 config.peers → Contains es reader → IsReaderOf config topic reader
-is_reader config topic es reader names among =
-    let f = at_some es reader among in
-    let there : slice_get (matched_readers topic 1 config.peers) f.0 ≡ Some reader =
-    subst (λ (xs : List Endpoint). slice_get xs f.0 ≡ Some reader) names f.1 in
-    let t =
-    is_told config.peers (λ (p : PeerConfig). p.readers) any_reader (λ (r : ReaderConfig). r.topic)
-    (λ i p n r. name_at i n r) topic f.0 reader there in
-    subst (λ (e : Endpoint). IsReaderOf config topic e) t.told
-    (record { peer = t.peer; at_peer = t.at_peer; end = t.end; at_reader = t.at_end; same_topic = t.same_topic })
+-- an element of a list is among it
+pub among_at : {X : Type 0} (xs : List X) (k : ℕ) (x : X) → slice_get xs k ≡ Some x → Contains xs x
+among_at [] k x at = absurd cc
+among_at (y ∷ ys) zero x at = (zero, omega arith, same_Some y x at)
+among_at (y ∷ ys) (suc k) x at =
+    let c = among_at ys k x at in let lt = c.1 in (suc c.0, omega (arith, lt), c.2)

@@ -7,7 +7,6 @@ use Rattle.dds_machine.specs.declared.endpoint.Endpoint.{Endpoint}
 use Rattle.dds_protocol.specs.Dues.{AreTellable}
 use Rattle.dds_machine.specs.Numbered.{with_numbered}
 use Rattle.dds_machine.specs.Part.{Part, Dds, Writer, Reader, ReaderProxy, WriterProxy, no_writer, no_reader, at_writer, own_proxies, own_writer}
-use Rattle.dds_machine.proofs.Tables.{numbered-cases}
 use Rattle.dds_machine.specs.Calls.{writes, effect, with_written}
 use Rattle.dds_protocol.specs.Peer.{Peer}
 use Rattle.dds_protocol.specs.Protocol.{Known}
@@ -17,7 +16,7 @@ use Rattle.rtps_writer.specs.Standing.{StandsFor as RtpsStandsFor}
 use Rattle.dds_core.specs.Kept.{WriterKept, ReaderKept, PeerKept}
 use Rattle.dds_core.specs.Identity.{Identity, WriterIdentity, ReaderIdentity, writer_identity, reader_identity, identity_of, IsPeerOf}
 use Rattle.dds_core.specs.Receiving.{with_state}
-use Rattle.dds_core.specs.Standing.{WriterStands, WritersStand, ReaderStands, AreMatched, StandsFor, state_of}
+use Rattle.dds_core.specs.Standing.{WriterStands, WritersStand, ReaderStands, StandsFor, state_of}
 use Rattle.dds_core.specs.Stepping.{Enters}
 use Rattle.dds_core.proofs.Lists.{each_set_at, map-set_same, set_back}
 
@@ -64,11 +63,14 @@ writer_stands_on : (k : WriterKept) (w : Writer) (old new : Endpoint → Option 
 writer_stands_on k w old new same s = record {
   autodispose = s.autodispose;
   values = s.values;
+  matched = s.matched;
   readers = s.readers;
   writer =
       subst (λ (cs : List (Option ℤ)). RtpsStandsFor k.writer (record (state_of w old) { counts = cs }))
       (sym (counts w.readers)) s.writer;
   begun = s.begun;
+  rows = s.rows;
+  counted = λ reader none. same reader ∙ s.counted reader none;
 }
   where
     counts : (rows : List ReaderProxy) → map (λ (p : ReaderProxy). new p.reader) rows
@@ -78,33 +80,22 @@ writer_stands_on k w old new same s = record {
         ap (λ (o : Option ℤ). o ∷ map (λ (q : ReaderProxy). new q.reader) ps) (same p.reader)
         ∙ ap (λ (os : List (Option ℤ)). old p.reader ∷ os) (counts ps)
 
--- a writer is matched with whom it was
-matched_put : (config : Config) (peer : Peer) (i : ℕ) (w : Writer)
-    → w.matched ≡ (own_writer peer.part (suc i)).matched → AreMatched config peer
-    → AreMatched config (record peer { part = at_writer peer.part (suc i) w })
-matched_put config peer i w same all own number end at_own at_end =
-    ⊎_elim (λ e. ap (λ (x : Writer). x.matched) e ∙ all own number end at_own at_end)
-    (λ o. ap (λ (x : Writer). x.matched) o.1
-    ∙ (same ∙ (ap (λ (j : ℕ). (own_writer peer.part j).matched) (sym o.0) ∙ all own number end at_own at_end)))
-    (numbered-cases peer.part.rtps.writers (suc i) w number no_writer)
-
 -- own writer n has become another one, and what is known of its readers has changed
 pub writer_put : (config : Config) (peer : Peer) (kept : PeerKept) → StandsFor kept config peer
     → (i : ℕ) (k k' : WriterKept) → slice_get kept.writers i ≡ Some k → writer_identity k' ≡ writer_identity k
     → (w : Writer) (answered : ℕ → Endpoint → Option ℤ)
-    → w.matched ≡ (own_writer peer.part (suc i)).matched → WriterStands k' w (answered (suc i))
+    → WriterStands k' w (answered (suc i))
     → ((j : ℕ) → (j ≡ i → ⊥) → (r : Endpoint) → answered (suc j) r ≡ peer.known.answered (suc j) r)
     → AreTellable (at_writer peer.part (suc i) w)
     → StandsFor (with_writer kept i k') config
     (with_state peer
     (record { part = at_writer peer.part (suc i) w; known = record peer.known { answered = answered } }))
-writer_put config peer kept s i k k' at same w answered matched stands others tellable =
+writer_put config peer kept s i k k' at same w answered stands others tellable =
     let ws : List Writer = peer.part.rtps.writers in
     record {
       is_peer =
           subst (λ (x : Identity). IsPeerOf config peer.number x)
           (sym (same_with_writer kept i k k' at same)) s.is_peer;
-      matched = matched_put config peer i w matched s.matched;
       moment = s.moment;
       early = s.early;
       watch = s.watch;
@@ -127,7 +118,7 @@ pub own_writer_stepped : (kept : PeerKept) (i : ℕ) (k k' : WriterKept) (entry 
     → StandsFor (with_writer kept i k') config (entered_at peer (suc i) entry)
 own_writer_stepped kept i k k' entry config peer s at enters tellable =
     let w : Writer = get_or peer.part.rtps.writers i no_writer in
-    writer_put config peer kept s i k k' at enters.same (with_written w entry) peer.known.answered refl
+    writer_put config peer kept s i k k' at enters.same (with_written w entry) peer.known.answered
     (enters.stands w (peer.known.answered (suc i)) (s.writers.each i k at)) (λ j apart r. refl) tellable
 
 -- the part of a peer with another reader of this number
@@ -165,7 +156,6 @@ own_reader_stepped kept i k k' proxies r known config peer s at same counts othe
       is_peer =
           subst (λ (x : Identity). IsPeerOf config peer.number x)
           (sym (same_with_reader kept i k k' at same)) s.is_peer;
-      matched = s.matched;
       moment = s.moment;
       early = s.early;
       watch = s.watch;

@@ -49,6 +49,8 @@ pub mod ReadersAnswer
 pub mod Replies
 pub mod Acknowledging
 pub mod Once
+pub mod MatchedAt
+pub mod KnownPairs
 pub mod RowsAnswered
 pub mod Requesting
 pub mod Pairs

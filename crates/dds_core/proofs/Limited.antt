@@ -1,5 +1,5 @@
 -- How long the values of a peer's writer may be: a configuration that is taken sets a limit to them.
-use Rattle.std.proofs.Common.{◌≡◌, ℕ, zero, suc, ◌≤◌, ◌==◌, Bool, true, false, not, ◌||◌, length, List, [], ◌∷◌, Option, Some, None, slice_get, refl, subst, ap, arith}
+use Rattle.std.proofs.Common.{◌≡◌, ℕ, zero, suc, ◌≤◌, ◌==◌, Bool, true, false, not, ◌||◌, length, List, [], ◌∷◌, Option, Some, None, slice_get, refl, subst, ap, sym, arith}
 use Rattle.std.specs.Prelude.{if◌then◌else◌, nat_lt}
 use Rattle.std.specs.List.{list_any}
 use Rattle.std.proofs.lemmas.Bool.Decides.{nat_tests}
@@ -12,9 +12,9 @@ use Rattle.dds_base.specs.declared.config.WriterConfig.{WriterConfig}
 use Rattle.dds_base.specs.declared.config.ReaderConfig.{ReaderConfig}
 use Rattle.dds_base.specs.Bounds.{max_ends, max_peers}
 use Rattle.dds_base.specs.Checked.{check_refusal, entity_count, has_bad_parameter, has_kind, has_no_depth, is_bad_lease, is_bad_peer, is_bad_reader, is_bad_writer, is_maximum, prefix_count, same_prefix, unknown_prefix}
-use Rattle.dds_core.specs.Identity.{WriterIdentity, IsPeerOf, configured_writer, identity_of, writer_identity}
+use Rattle.dds_core.specs.Identity.{IsPeerOf, identity_of}
 use Rattle.dds_core.specs.Kept.{PeerKept, WriterKept}
-use Rattle.dds_core.proofs.Lists.{get-map, map-get}
+use Rattle.dds_core.proofs.Names.{configured}
 
 or_left : (a b : Bool) → (a || b) ≡ false → a ≡ false
 or_left true b h = absurd cc
@@ -72,9 +72,5 @@ limited peers checked n p at i w there =
 pub value_limited : (config : Config) (number : ℕ) (kept : PeerKept) → IsPeerOf config number (identity_of kept)
     → (i : ℕ) (k : WriterKept) → slice_get kept.writers i ≡ Some k → k.max_value ≤ 65000
 value_limited config number kept is i k at =
-    let there = map-get writer_identity kept.writers i k at in
-    let f =
-    get-map (configured_writer config.peers) is.own.writers i (writer_identity k)
-    (subst (λ (xs : List WriterIdentity). slice_get xs i ≡ Some (writer_identity k)) is.writers there) in
-    let same : f.0.max_value ≡ k.max_value = ap (λ (x : WriterIdentity). x.max_value) f.2 in
-    subst (λ (m : ℕ). m ≤ 65000) same (limited config.peers is.checked _ is.own is.at.1 i f.0 f.1)
+    let c = configured config number kept is i k at in
+    subst (λ (m : ℕ). m ≤ 65000) (sym c.is.max_value) (limited config.peers is.checked _ is.own is.at.1 i c.end c.at)

@@ -29,9 +29,9 @@ use Rattle.dds_protocol.proofs.OwnGuids.{one_writer}
 use Rattle.dds_core.specs.declared.matching.Destination.{Destination}
 use Rattle.dds_core.specs.declared.sending.Sender.{Sender}
 use Rattle.dds_core.specs.Kept.{WriterKept, PeerKept}
-use Rattle.dds_core.specs.Identity.{WriterIdentity, writer_identity, configured_writer, identity_of, IsPeerOf}
+use Rattle.dds_core.specs.Identity.{WriterIdentity, writer_identity, identity_of, IsPeerOf, IsWriterOf}
 use Rattle.dds_core.specs.Making.{IsMade, IsNotMade, IsValueOf, entered}
-use Rattle.dds_core.specs.Matching.{destinations}
+use Rattle.dds_core.specs.MatchedEnds.{AreMatchedNow}
 use Rattle.dds_core.specs.Sending.{SendsChange}
 use Rattle.dds_core.specs.Announcing.{AreAnnouncements}
 use Rattle.dds_core.specs.Standing.{WriterStands, StandsFor}
@@ -40,8 +40,9 @@ use Rattle.dds_core.proofs.BeatsDue.{IsNamed, named, named_again}
 use Rattle.dds_core.proofs.ChangesDue.{change_sent}
 use Rattle.dds_core.proofs.Ends.{with_writer, own_writer_stepped, unchanged_with}
 use Rattle.dds_core.proofs.Tellable.{tellable_entered}
-use Rattle.dds_core.proofs.Lists.{get-map, map-get, get-within}
-use Rattle.dds_core.proofs.Sent.{IsOnly, IsThere, IsMatched, sends_change, sent_true}
+use Rattle.dds_core.proofs.Lists.{get-within}
+use Rattle.dds_core.proofs.Names.{configured}
+use Rattle.dds_core.proofs.Sent.{IsOnly, IsThere, sends_change, sent_true}
 
 -- the writer of this index, as the peer that is open has it
 pub writer_at : {inside kept : PeerKept} {i : ℕ} {k : WriterKept} → inside ≡ kept → i < length kept.writers
@@ -67,31 +68,28 @@ set_get [] i x y at = absurd cc
 set_get (a ∷ xs) zero x y at = refl
 set_get (a ∷ xs) (suc i) x y at = set_get xs i x y at
 
--- a peer's own writer, as the configuration has it
+-- a peer's own writer, as the configuration has it, with those that it is matched with now
 pub record IsOwnWriter (config : Config) (kept : PeerKept) (number i : ℕ) (k : WriterKept) : Type 0 where
   pub end : WriterConfig
-  pub is : writer_identity k ≡ configured_writer config.peers end
+  pub is : IsWriterOf config.peers end (writer_identity k)
   pub from : IsWriter config kept.prefix k.entity (record { peer = number; number = suc i })
   pub same_topic : from.end.topic ≡ end.topic
 
 pub own_writer_is : (config : Config) (number : ℕ) (kept : PeerKept) (is : IsPeerOf config number (identity_of kept))
     (i : ℕ) (k : WriterKept) → slice_get kept.writers i ≡ Some k → IsOwnWriter config kept number i k
 own_writer_is config number kept is i k at =
-    let there = map-get writer_identity kept.writers i k at in
-    let f =
-    get-map (configured_writer config.peers) is.own.writers i (writer_identity k)
-    (subst (λ (xs : List WriterIdentity). slice_get xs i ≡ Some (writer_identity k)) is.writers there) in
+    let c = configured config number kept is i k at in
     let index : suc i - 1 ≡ i = omega arith in
     record {
-      end = f.0;
-      is = sym f.2;
+      end = c.end;
+      is = c.is;
       from = record {
         peer = is.own;
         at_peer = is.at;
         same_prefix = sym is.prefix;
-        end = f.0;
-        at_writer = (omega arith, subst (λ (m : ℕ). slice_get is.own.writers m ≡ Some f.0) (sym index) f.1);
-        same_entity = ap (λ (x : WriterIdentity). x.entity) f.2;
+        end = c.end;
+        at_writer = (omega arith, subst (λ (m : ℕ). slice_get is.own.writers m ≡ Some c.end) (sym index) c.at);
+        same_entity = sym c.is.entity;
       };
       same_topic = refl;
     }
@@ -159,21 +157,23 @@ made_there old i k k' kind key value strength number output config peer s at ent
     let named' : IsNamed config peer.number old.prefix (suc i) k' w =
     named_again config peer.number old.prefix (suc i) k k' w enters.same
     (subst (λ (n : ℕ). IsNamed config peer.number old.prefix n k w) index (named config peer old s i k at)) in
-    let matched : IsMatched config own.from.end.topic w.matched k'.destinations =
-    record {
-      names = s.matched own.from.peer (suc i) own.from.end own.from.at_peer own.from.at_writer;
-      sent_to =
-          ap (λ (x : WriterIdentity). x.destinations) own.is
-          ∙ ap (λ (t : ℕ). destinations t 1 config.peers) (sym own.same_topic);
-    } in
+    let matched : AreMatchedNow config.peers own.from.end.topic k'.matched k'.destinations k'.readers =
+    subst (λ (t : ℕ). AreMatchedNow config.peers t k'.matched k'.destinations k'.readers) (sym own.same_topic)
+    own.is.ends in
     let due : AreSent (changes_due config endpoint w.matched number change) output.packets output.unsent =
     change_sent config peer.number old.prefix
     (suc i) number k' w change output.packets output.unsent named' are counted in
     let sends : SendsChange config endpoint w.matched number (change_in (content_of change) old.moment) output =
-    sends_change config sender endpoint own.from.end.topic w.matched k'.destinations number (content_of change) output
+    subst (λ (es : List Endpoint). SendsChange config endpoint es number (change_in (content_of change) old.moment)
+    output) (sym named'.matched)
+    (sends_change config sender endpoint own.from.end.topic k'.matched k'.destinations k'.readers number
+    (content_of change) output
     (record { from = own.from; same_topic = refl }) matched s.early are counted
+    (subst (λ (es : List Endpoint). AreSent
+    (changes_due config endpoint es number (change_in (content_of change) old.moment)) output.packets output.unsent)
+    named'.matched
     (subst (λ (x : Change). AreSent (changes_due config endpoint w.matched number x) output.packets output.unsent)
-    (sym means) due) in
+    (sym means) due))) in
     let only : IsOnly config sender endpoint =
     λ e name. one_writer config old.prefix k'.entity e endpoint s.is_peer.checked name own.from in
     let count = s.writers.count in

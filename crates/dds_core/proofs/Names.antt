@@ -1,5 +1,6 @@
 -- What the configuration says of the names that a peer keeps.
-use Rattle.std.proofs.Common.{◌≡◌, Bool, ℕ, suc, ◌-◌, List, Some, slice_get, refl, ap, sym, ◌∙◌, subst, arith}
+use Rattle.std.proofs.Common.{◌≡◌, Bool, ℕ, suc, ◌-◌, List, Some, length, slice_get, refl, ap, sym, ◌∙◌, subst, arith}
+use Rattle.std.proofs.lemmas.List.{length-map}
 use Rattle.dds_base.specs.declared.config.Config.{Config}
 use Rattle.dds_base.specs.declared.config.PeerConfig.{PeerConfig}
 use Rattle.dds_base.specs.declared.config.WriterConfig.{WriterConfig}
@@ -12,10 +13,11 @@ use Rattle.dds_machine.specs.declared.endpoint.Endpoint.{Endpoint}
 use Rattle.dds_protocol.specs.Claims.{IsNumbered}
 use Rattle.dds_core.specs.declared.matching.ReaderName.{ReaderName}
 use Rattle.dds_core.specs.declared.matching.WriterName.{WriterName}
-use Rattle.dds_core.specs.Kept.{ReaderKept, PeerKept}
-use Rattle.dds_core.specs.Identity.{ReaderIdentity, reader_identity, reliable_in, configured_reader, identity_of, IsPeerOf}
+use Rattle.dds_core.specs.Kept.{WriterKept, ReaderKept, PeerKept}
+use Rattle.dds_core.specs.Identity.{ReaderIdentity, writer_identity, reader_identity, reliable_in, configured_reader, identity_of, IsPeerOf, IsWriterOf}
+use Rattle.dds_core.specs.MatchedEnds.{IsNameOf}
 use Rattle.dds_core.specs.EndNames.{writer_name, writer_names}
-use Rattle.dds_core.proofs.Lists.{get-map, map-get}
+use Rattle.dds_core.proofs.Lists.{element, get-map, get-within, map-get}
 use Rattle.dds_core.proofs.Numbered.{is_told, same_end}
 
 -- an end of the topic has this number, and this GUID
@@ -114,3 +116,35 @@ own_reader_is config number kept is i k at =
           (sym (ap (λ (x : ReaderIdentity). x.writers) f.2)) in_names);
       all = sym (ap (λ (x : ReaderIdentity). x.writers) f.2);
     }
+
+-- a peer's own writer, with those that it is matched with now
+pub record IsConfigured (config : Config) (own : PeerConfig) (j : ℕ) (k : WriterKept) : Type 0 where
+  pub end : WriterConfig
+  pub at : slice_get own.writers j ≡ Some end
+  pub is : IsWriterOf config.peers end (writer_identity k)
+
+pub configured : (config : Config) (number : ℕ) (kept : PeerKept) (is : IsPeerOf config number (identity_of kept))
+    (j : ℕ) (k : WriterKept) → slice_get kept.writers j ≡ Some k → IsConfigured config is.own j k
+configured config number kept is j k at =
+    let lt = get-within kept.writers j k at in
+    let many = length-map kept.writers writer_identity in
+    let count = is.count in
+    let f = element is.own.writers j (omega (arith, lt, many, count)) in
+    record {
+      end = f.0;
+      at = f.1;
+      is = is.writers j f.0 (writer_identity k) f.1 (map-get writer_identity kept.writers j k at);
+    }
+
+-- a reliable reader that is matched is a reader of the topic of that name
+pub name_is : (config : Config) (topic : ℕ) (name : ReaderName) → IsNameOf config.peers topic name
+    → IsReaderNamed config topic name
+name_is config topic name n = record {
+  peer = n.is.peer;
+  at_peer = n.is.at_peer;
+  same_prefix = n.same_prefix;
+  end = n.is.end;
+  at_end = n.is.at_reader;
+  same_entity = n.same_entity;
+  same_topic = n.is.same_topic;
+}

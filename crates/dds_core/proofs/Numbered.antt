@@ -47,19 +47,24 @@ append_get [] ys k y at = inr (k, at)
 append_get (x ∷ xs) ys zero y at = inl (zero, at)
 append_get (x ∷ xs) ys (suc k) y at = ⊎_elim (λ f. inl (suc f.0, f.1)) (λ f. inr f) (append_get xs ys k y at)
 
+first_true : (a b : Bool) → (a && b) ≡ true → a ≡ true
+first_true true b both = refl
+first_true false b both = absurd cc
+
 second_true : (a b : Bool) → (a && b) ≡ true → b ≡ true
 second_true true b both = both
 second_true false b both = absurd cc
 
 -- what is told of matched ends is told of one of the topic
-pub record IsTold {E X : Type 0} (all : List PeerConfig) (ends : PeerConfig → List E) (topic_of : E → ℕ)
-    (tell : ℕ → PeerConfig → ℕ → E → X) (topic : ℕ) (x : X) : Type 0 where
+pub record IsTold {E X : Type 0} (all : List PeerConfig) (ends : PeerConfig → List E) (is_wanted : E → Bool)
+    (topic_of : E → ℕ) (tell : ℕ → PeerConfig → ℕ → E → X) (topic : ℕ) (x : X) : Type 0 where
   pub number : ℕ
   pub peer : PeerConfig
   pub at_peer : IsNumbered all number peer
   pub end_number : ℕ
   pub end : E
   pub at_end : IsNumbered (ends peer) end_number end
+  pub wanted : is_wanted end ≡ true
   pub same_topic : topic_of end ≡ topic
   pub told : tell number peer end_number end ≡ x
 
@@ -67,7 +72,7 @@ told_in : {E X : Type 0} (all : List PeerConfig) (ends : PeerConfig → List E) 
     (topic_of : E → ℕ) (tell : ℕ → PeerConfig → ℕ → E → X) (topic i : ℕ) (p : PeerConfig) (n : ℕ) (es : List E) → IsNumbered all i p
     → IsRest (ends p) n es
     → (k : ℕ) (x : X) → slice_get (of_ends_in is_wanted topic_of (tell i p) topic n es) k ≡ Some x
-    → IsTold all ends topic_of tell topic x
+    → IsTold all ends is_wanted topic_of tell topic x
 told_in all ends is_wanted topic_of tell topic i p n [] here rest k x at = absurd cc
 told_in all ends is_wanted topic_of tell topic i p n (e ∷ es) here rest k x at =
     ⊎_elim (λ f. record {
@@ -78,6 +83,7 @@ told_in all ends is_wanted topic_of tell topic i p n (e ∷ es) here rest k x at
       end = e;
       at_end = rest_first
           (ends p) n e es rest;
+      wanted = first_true (is_wanted e) (same_topic (topic_of e) topic) f.0;
       same_topic = eqb-true (topic_of e) topic (second_true (is_wanted e) (same_topic (topic_of e) topic) f.0);
       told = f.1;
     })
@@ -88,7 +94,7 @@ told_in all ends is_wanted topic_of tell topic i p n (e ∷ es) here rest k x at
 told_from : {E X : Type 0} (all : List PeerConfig) (ends : PeerConfig → List E) (is_wanted : E → Bool)
     (topic_of : E → ℕ) (tell : ℕ → PeerConfig → ℕ → E → X) (topic i : ℕ) (ps : List PeerConfig) → IsRest all i ps
     → (k : ℕ) (x : X) → slice_get (of_matched_ends ends is_wanted topic_of tell topic i ps) k ≡ Some x
-    → IsTold all ends topic_of tell topic x
+    → IsTold all ends is_wanted topic_of tell topic x
 told_from all ends is_wanted topic_of tell topic i [] rest k x at = absurd cc
 told_from all ends is_wanted topic_of tell topic i (p ∷ ps) rest k x at =
     ⊎_elim (λ f. told_in all ends is_wanted topic_of tell topic i p 1 (ends p) (rest_first all i p ps rest)
@@ -100,7 +106,7 @@ told_from all ends is_wanted topic_of tell topic i (p ∷ ps) rest k x at =
 pub is_told : {E X : Type 0} (all : List PeerConfig) (ends : PeerConfig → List E) (is_wanted : E → Bool)
     (topic_of : E → ℕ) (tell : ℕ → PeerConfig → ℕ → E → X) (topic k : ℕ) (x : X)
     → slice_get (of_matched_ends ends is_wanted topic_of tell topic 1 all) k ≡ Some x
-    → IsTold all ends topic_of tell topic x
+    → IsTold all ends is_wanted topic_of tell topic x
 is_told all ends is_wanted topic_of tell topic k x at = told_from all ends is_wanted topic_of tell topic 1 all (rest_whole all) k x at
 
 -- two ends of one number are one

@@ -9,17 +9,17 @@ use Rattle.dds_base.specs.Checked.{check_refusal}
 use Rattle.dds_conditions.specs.Watched.{Watched, opened}
 use Rattle.dds_machine.specs.Opening.{opening_reader, opening_writer, matched_writers, opening_part}
 use Rattle.dds_protocol.specs.Opening.{opening_peers}
-use Rattle.dds_protocol.specs.Claims.{IsNumbered}
-use Rattle.dds_protocol.proofs.CountsOpened.{matched_opened}
 use Rattle.dds_machine.specs.Part.{Writer, Reader, WriterProxy, no_writer, no_reader}
 use Rattle.rtps_reader.specs.Tracked.{fresh}
 use Rattle.dds_protocol.specs.Protocol.{knows_nothing}
 use Rattle.dds_protocol.specs.Peer.{Peer, no_peer}
 use Rattle.dds_core.specs.Kept.{WriterKept, ReaderKept}
-use Rattle.dds_core.specs.Identity.{writer_identity, reader_identity, configured_writer, configured_reader}
+use Rattle.dds_core.specs.Identity.{WriterIdentity, writer_identity, reader_identity, configured_writer, configured_reader, IsWriterOf}
 use Rattle.dds_core.specs.Opening.{opening_peer}
 use Rattle.dds_core.specs.OpeningEnds.{OpensWriter, OpensReader, OpensEach, OpensCore}
 use Rattle.dds_core.specs.Standing.{WriterStands, ReaderStands, WritersStand, ReadersStand, StandsFor}
+use Rattle.dds_core.proofs.Lists.{get-map}
+use Rattle.dds_core.proofs.MatchedAt.{ends_opened}
 use Rattle.dds_core.proofs.Ready.{last-cases, partner}
 use Rattle.dds_core.proofs.Tellable.{tellable_opening}
 
@@ -151,6 +151,11 @@ is_numbered : (peers : List PeerConfig) (index : ℕ) (own : PeerConfig) → sli
 is_numbered peers index own at =
     let same : index ≡ 1 + index - 1 = omega arith in subst (λ (k : ℕ). slice_get peers k ≡ Some own) same at
 
+-- a writer at its opening is one of the configuration
+opened_is : (peers : List PeerConfig) (w : WriterConfig) → IsWriterOf peers w (configured_writer peers w)
+opened_is peers w =
+    record { entity = refl; autodispose = refl; max_value = refl; ends = ends_opened peers w.topic }
+
 stands_begun : (peers : List PeerConfig) (index moment : ℕ) (own : PeerConfig) (writers : List WriterKept)
     (readers : List ReaderKept) (watch : Watched) → check_refusal peers ≡ None → slice_get peers index ≡ Some own
     → moment ≡ 0
@@ -164,18 +169,15 @@ stands_begun peers index moment own writers readers watch checked at begins watc
     own = own;
     at = (omega arith, is_numbered peers index own at);
     prefix = refl;
-    writers =
-        same_maps (configured_writer peers) writer_identity own.writers writers ws.count
-        (λ i w k at_w at_k. (ws.each i w k at_w at_k).identity);
+    count = length-map writers writer_identity ∙ ws.count;
+    writers = λ i w x at_w at_x.
+        let f = get-map writer_identity writers i x at_x in
+        subst (λ (y : WriterIdentity). IsWriterOf peers w y) (sym (ws.each i w f.0 at_w f.1).identity ∙ f.2)
+        (opened_is peers w);
     readers =
         same_maps (configured_reader peers) reader_identity own.readers readers rs.count
         (λ i r k at_r at_k. (rs.each i r k at_r at_k).identity);
   };
-  matched = λ here number w at_here at_w.
-      let same : here ≡ own =
-      same_Some here own (sym at_here.1 ∙ is_numbered peers index own at) in
-      matched_opened peers own number w
-      (subst (λ (p : PeerConfig). IsNumbered p.writers number w) same at_w);
   moment = sym begins;
   early = subst (λ (m : ℕ). m < 2 ^ 63) (sym begins) (omega arith);
   writers = writers_stand peers own.writers writers ws;

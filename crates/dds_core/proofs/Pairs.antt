@@ -4,7 +4,6 @@ use Rattle.std.specs.Prelude.{◌&&◌, nat_lt, nat_le, IsSome, slice_index}
 use Rattle.std.specs.Option.{option_map, option_map_or}
 use Rattle.std.proofs.lemmas.Bool.Decides.{nat_tests}
 use Rattle.std.proofs.lemmas.Option.{same_Some}
-use Rattle.dds_base.specs.Matched.{is_reliable_reader}
 use Rattle.dds_base.specs.declared.config.Config.{Config}
 use Rattle.dds_base.specs.declared.config.PeerConfig.{PeerConfig}
 use Rattle.dds_base.specs.declared.config.ReaderConfig.{ReaderConfig}
@@ -21,13 +20,12 @@ use Rattle.dds_core.specs.declared.matching.ReaderName.{ReaderName}
 use Rattle.dds_core.specs.declared.matching.WriterName.{WriterName}
 use Rattle.dds_core.specs.declared.pairing.Pair.{Pair}
 use Rattle.dds_core.specs.Kept.{PeerKept, ReaderKept, WriterKept}
-use Rattle.dds_core.specs.EndNames.{reader_name, reader_names}
+use Rattle.dds_core.specs.MatchedEnds.{IsNameOf}
 use Rattle.dds_core.specs.Pairs.{IsPair, reader_entity}
 use Rattle.dds_core.specs.Readiness.{IsPlaceAt}
 use Rattle.dds_core.specs.Standing.{StandsFor, WriterStands, IsFirstReader, IsFirstRow}
 use Rattle.dds_core.proofs.BeatsDue.{writer_named, readers_named}
 use Rattle.dds_core.proofs.Lists.{get-map, map-get, past_end}
-use Rattle.dds_core.proofs.Numbered.{is_told}
 use Rattle.dds_core.proofs.Rows.{IsFirstOf, is_first_of, no_row, place_there, proxied}
 
 -- rows of matched readers
@@ -126,18 +124,16 @@ not_among kept i number k reader is at none config peer s =
     let next : suc i ≡ number = omega (arith, is) in
     subst (λ (m : ℕ). IsPair config peer m reader None) next nobody
 
-named_reader : (config : Config) (topic j : ℕ) (n : ReaderName) → slice_get (reader_names topic config.peers) j ≡ Some n
+named_reader : (config : Config) (topic : ℕ) (n : ReaderName) → IsNameOf config.peers topic n
     → n.guid.entity ≡ reader_entity config n.reader.peer n.reader.number
-named_reader config topic j n at =
-    let t =
-    is_told config.peers (λ (p : PeerConfig). p.readers) is_reliable_reader (λ (r : ReaderConfig). r.topic) reader_name topic j n at in
-    let configured : reader_entity config t.number t.end_number ≡ t.end.entity =
+named_reader config topic n name =
+    let is = name.is in
+    let configured : reader_entity config n.reader.peer n.reader.number ≡ is.end.entity =
     ap (λ (o : Option PeerConfig). option_map_or
     (λ (p : PeerConfig). option_map_or (λ (r : ReaderConfig). r.entity)
-    (slice_get p.readers (t.end_number - 1)) every_reader) o every_reader) t.at_peer.1
-    ∙ ap (λ (o : Option ReaderConfig). option_map_or (λ (r : ReaderConfig). r.entity) o every_reader) t.at_end.1 in
-    subst (λ (x : ReaderName). x.guid.entity ≡ reader_entity config x.reader.peer x.reader.number) t.told
-    (sym configured)
+    (slice_get p.readers (n.reader.number - 1)) every_reader) o every_reader) is.at_peer.1
+    ∙ ap (λ (o : Option ReaderConfig). option_map_or (λ (r : ReaderConfig). r.entity) o every_reader) is.at_reader.1 in
+    sym (configured ∙ name.same_entity)
 
 -- a pair, by what the peer keeps of the writer
 abbrev pair_of : WriterKept → EntityId → Bool → ℕ → Pair
@@ -176,8 +172,7 @@ is_among kept i number k reader row behind last is at f is_behind is_last config
     (sym (writer_named config peer kept s i k at)) in
     let far : f.name.guid.entity ≡ reader_entity config reader.peer reader.number =
     subst (λ (e : Endpoint). f.name.guid.entity ≡ reader_entity config e.peer e.number) f.is
-    (named_reader config names.0 row f.name
-    (subst (λ (ns : List ReaderName). slice_get ns row ≡ Some f.name) names.1 f.at)) in
+    (named_reader config names.0 f.name (names.1 row f.name f.at).name_is) in
     let still : behind ≡ is_reader_behind w reader =
     is_behind w (peer.known.answered (suc i)) stands
     ∙ sym (behind_at w.readers reader row (length (writer_changes w)) there none) in

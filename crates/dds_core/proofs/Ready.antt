@@ -298,7 +298,6 @@ alike_core kept readers h config peer s =
       is_peer =
           subst (λ (x : Identity). IsPeerOf config peer.number x)
           (sym (ap identity (same_identities kept.readers readers h))) s.is_peer;
-      matched = s.matched;
       moment = s.moment;
       early = s.early;
       watch = s.watch;

@@ -2,7 +2,6 @@
 use Rattle.std.proofs.Common.{◌≡◌, ℕ, suc, ◌+◌, ◌≤◌, ◌==◌, Bool, true, false, cond, ◌&&◌, List, [], ◌∷◌, ◌++◌, Option, Some, None, map, max, take, length, get_or, slice_get, refl, ap, sym, ◌∙◌, subst, arith, inl, inr, length-append, nat_lt, eq-eqb, eqb-true}
 use Rattle.std.specs.Prelude.{ℤ, if◌then◌else◌, nat_le}
 use Rattle.std.proofs.lemmas.Bool.Decides.{nat_tests}
-use Rattle.dds_base.specs.Matched.{is_reliable_reader}
 use Rattle.dds_base.specs.declared.config.Config.{Config}
 use Rattle.dds_base.specs.declared.config.PeerConfig.{PeerConfig}
 use Rattle.dds_base.specs.declared.config.ReaderConfig.{ReaderConfig}
@@ -35,17 +34,18 @@ use Rattle.dds_core.specs.Answering.{IsFrom, IsAskedWriter, IsUnaskedAt, RowTook
 use Rattle.dds_core.specs.Beating.{AddsTo, due_to}
 use Rattle.dds_core.specs.Kept.{WriterKept, PeerKept}
 use Rattle.dds_core.specs.Identity.{WriterIdentity}
-use Rattle.dds_core.specs.EndNames.{reader_name, reader_names}
+use Rattle.dds_core.specs.MatchedEnds.{AreRows, is_named, last_count, readers_of}
 use Rattle.dds_core.specs.Receiving.{with_state, NeedsMemory}
 use Rattle.dds_core.specs.Standing.{StandsFor, WriterStands, state_of}
 use Rattle.dds_core.proofs.Acknowledging.{IsOnly, IsCounted, only_row, acknowledged_is, acknowledged_then, answered_then, applied_is, low_of, owed_same, moves_then, not_same, readers_same, state_applied, still_begun}
 use Rattle.dds_core.proofs.Beating.{adds_none}
 use Rattle.dds_core.proofs.Ends.{with_writer, writer_put}
 use Rattle.dds_core.proofs.Lists.{get-map, map-get}
+use Rattle.dds_core.proofs.MatchedAt.{not_named, once_at}
 use Rattle.dds_core.proofs.Makes.{IsOwnWriter, own_writer_is}
-use Rattle.dds_core.proofs.Names.{IsReaderNamed, of_named}
+use Rattle.dds_core.proofs.Names.{IsReaderNamed, name_is}
 use Rattle.dds_core.proofs.Numbered.{same_end}
-use Rattle.dds_core.proofs.Once.{Once, named_once}
+use Rattle.dds_core.proofs.Once.{Once}
 use Rattle.dds_core.proofs.Tellable.{tellable_put}
 
 -- ---- whom an ACKNACK is from, by the configuration
@@ -53,7 +53,7 @@ use Rattle.dds_core.proofs.Tellable.{tellable_put}
 -- what the configuration says of a writer of the peer, and of the readers that it knows
 pub record IsOwn (config : Config) (kept : PeerKept) (number i : ℕ) (k : WriterKept) : Type 0 where
   pub own : IsOwnWriter config kept number i k
-  pub all : k.readers ≡ reader_names own.end.topic config.peers
+  pub once : Once (λ (n : ReaderName). n.reader) k.readers
   pub named : (row : ℕ) (name : ReaderName) → slice_get k.readers row ≡ Some name
       → IsReaderNamed config own.end.topic name
 
@@ -61,14 +61,10 @@ pub own_is : (config : Config) (peer : Peer) (kept : PeerKept) → StandsFor kep
     → slice_get kept.writers i ≡ Some k → IsOwn config kept peer.number i k
 own_is config peer kept s i k at =
     let own : IsOwnWriter config kept peer.number i k = own_writer_is config peer.number kept s.is_peer i k at in
-    let all : k.readers ≡ reader_names own.end.topic config.peers = ap (λ (x : WriterIdentity). x.readers) own.is in
     record {
       own = own;
-      all = all;
-      named = λ row name there. of_named (λ (p : PeerConfig). p.readers) is_reliable_reader (λ (r : ReaderConfig). r.topic)
-          (λ (r : ReaderConfig). r.entity) reader_name (λ (x : ReaderName). IsReaderNamed config own.end.topic x)
-          config.peers own.end.topic row name (λ peer p number r is. is)
-          (subst (λ (ns : List ReaderName). slice_get ns row ≡ Some name) all there);
+      once = once_at k.readers (s.writers.each i k at).rows.once;
+      named = λ row name there. name_is config own.end.topic name (own.is.ends.named row name there).name_is;
     }
 
 abbrev pub own_end : Peer → ℕ → Endpoint
@@ -205,9 +201,7 @@ row_is c o =
     ap (λ (es : List Endpoint). slice_get es c.row) (stood c).readers
     ∙ map-get (λ (n : ReaderName). n.reader) c.k.readers c.row c.name c.at_name in
     let f = get-map (λ (p : ReaderProxy). p.reader) rows c.row c.name.reader there in
-    let once : Once (λ (n : ReaderName). n.reader) c.k.readers =
-    subst (λ (ns : List ReaderName). Once (λ (n : ReaderName). n.reader) ns) (sym o.all)
-    (named_once o.own.end.topic c.config.peers) in
+    let once : Once (λ (n : ReaderName). n.reader) c.k.readers = o.once in
     record {
       proxy = f.0;
       only = only_row rows c.name.reader c.row f.0 f.1 f.2 (λ j q at_q of_q.
@@ -270,6 +264,11 @@ GoesOn turn new =
 abbrev with_next : Turn → PeerKept
 with_next turn = with_writer turn.c.kept turn.c.i turn.t.writer
 
+-- its readers are named as they were
+rows_again : (turn : Turn) → AreRows turn.t.writer.matched turn.t.writer.readers turn.t.writer.counts
+rows_again turn =
+    subst (λ (x : WriterIdentity). AreRows x.matched x.readers x.counts) (sym turn.t.same) (stood turn.c).rows
+
 -- an ACKNACK that is taken
 row_applied : (turn : Turn) → IsFrom turn.c.kept.prefix turn.c.k.entity turn.at turn.a turn.c.name
     → is_taken turn ≡ true → GoesOn turn (with_next turn)
@@ -279,7 +278,7 @@ row_applied turn from is = record {
   takes = inl (to, taken, takes);
   stands =
       writer_put turn.c.config turn.c.peer turn.c.kept turn.c.stands turn.c.i turn.c.k turn.t.writer turn.c.at_k
-      turn.t.same there known.answered refl stands others
+      turn.t.same there known.answered stands others
       (tellable_put turn.c.peer.part (suc turn.c.i) there turn.c.stands.tellable refl);
   adds = subst (λ (ds : List Due). AddsTo ds turn.sent turn.gone) (same_dues (sends turn).groups) (sends turn).adds;
 }
@@ -358,6 +357,7 @@ row_applied turn from is = record {
     stands = record {
       autodispose = (stood turn.c).autodispose ∙ ap (λ (x : WriterIdentity). x.autodispose) (sym turn.t.same);
       values = (stood turn.c).values ∙ ap (λ (x : WriterIdentity). x.max_value) (sym turn.t.same);
+      matched = (stood turn.c).matched ∙ ap (λ (x : WriterIdentity). readers_of x.matched) (sym turn.t.same);
       readers =
           readers_same (writer_of turn.c).readers turn.c.name.reader
           (max (row_of turn).proxy.acknowledged (base_of turn))
@@ -369,6 +369,13 @@ row_applied turn from is = record {
       begun =
           still_begun (writer_of turn.c).readers turn.c.name.reader
           (max (row_of turn).proxy.acknowledged (base_of turn)) most (stood turn.c).begun;
+      rows = rows_again turn;
+      counted =
+          subst (λ (x : WriterIdentity). (reader : Endpoint) → is_named x.readers reader ≡ false
+          → known.answered (suc turn.c.i) reader ≡ last_count x.counts reader) (sym turn.t.same)
+          (λ reader none. counted.others reader
+          (λ e. not_named turn.c.k.readers turn.c.row turn.c.name reader turn.c.at_name (sym e) none)
+          ∙ (stood turn.c).counted reader none);
     }
       where
         most : 1 ≤ max (row_of turn).proxy.acknowledged (base_of turn)
@@ -453,7 +460,7 @@ row_ignored turn is = record {
       subst (λ (p : Part). StandsFor (with_writer turn.c.kept turn.c.i turn.t.writer) turn.c.config
       (record turn.c.peer { part = p })) part_is
       (writer_put turn.c.config turn.c.peer turn.c.kept turn.c.stands turn.c.i turn.c.k turn.t.writer turn.c.at_k
-      turn.t.same (writer_of turn.c) turn.c.peer.known.answered refl stands (λ j apart e. refl)
+      turn.t.same (writer_of turn.c) turn.c.peer.known.answered stands (λ j apart e. refl)
       (tellable_put turn.c.peer.part (suc turn.c.i) (writer_of turn.c) turn.c.stands.tellable refl));
   adds =
       subst (λ (ds : List Due). AddsTo ds turn.sent turn.gone)
@@ -499,11 +506,17 @@ row_ignored turn is = record {
     stands = record {
       autodispose = (stood turn.c).autodispose ∙ ap (λ (x : WriterIdentity). x.autodispose) (sym turn.t.same);
       values = (stood turn.c).values ∙ ap (λ (x : WriterIdentity). x.max_value) (sym turn.t.same);
+      matched = (stood turn.c).matched ∙ ap (λ (x : WriterIdentity). readers_of x.matched) (sym turn.t.same);
       readers =
           (stood turn.c).readers ∙ ap (λ (x : WriterIdentity). map (λ (n : ReaderName). n.reader) x.readers)
           (sym turn.t.same);
       writer = subst (λ (x : WriterState). RtpsStandsFor turn.t.writer.writer x) after_is (took turn).stands;
       begun = (stood turn.c).begun;
+      rows = rows_again turn;
+      counted =
+          subst (λ (x : WriterIdentity). (reader : Endpoint) → is_named x.readers reader ≡ false
+          → turn.c.peer.known.answered (suc turn.c.i) reader ≡ last_count x.counts reader) (sym turn.t.same)
+          (stood turn.c).counted;
     }
 
 -- a reader that the ACKNACK is from is answered

@@ -1,7 +1,7 @@
 -- What is sent: it claims the change to each matched reader, and nothing but the truth.
-use Rattle.std.proofs.Common.{◌≡◌, ◌≢◌, ◌⊎◌, ℕ, zero, suc, ◌+◌, ◌-◌, ◌^◌, ◌<◌, ◌≤◌, Bool, true, false, cond, ◌||◌, List, [], ◌∷◌, Some, map, length, slice_get, refl, ap, sym, ◌∙◌, subst, arith, inl, inr, ⊎_elim, Contains}
+use Rattle.std.proofs.Common.{◌≡◌, ◌≢◌, ◌⊎◌, ℕ, zero, suc, ◌+◌, ◌-◌, ◌^◌, ◌<◌, ◌≤◌, Bool, true, false, cond, ◌||◌, List, [], ◌∷◌, Some, map, length, slice_get, refl, ap, sym, ◌∙◌, subst, arith, inl, inr, ⊎_elim, Contains, ◌==◌, eq-eqb}
 use Rattle.std.specs.Prelude.{nat_lt, nat_eq, if◌then◌else◌, AllPairs}
-use Rattle.std.specs.List.{AllByRecursion}
+use Rattle.std.specs.List.{AllByRecursion, list_any}
 use Rattle.std.proofs.lemmas.Bool.Decides.{nat_tests, Decides-eqb}
 use Rattle.std.proofs.lemmas.Slice.Eq.{slice_eq-Decides}
 use Rattle.std.proofs.lemmas.List.Elements.{All-from_recursion}
@@ -24,18 +24,19 @@ use Rattle.rtps_wire.proofs.SpellingLaws.{message_again}
 use Rattle.dds_machine.specs.declared.endpoint.Endpoint.{Endpoint}
 use Rattle.dds_protocol.specs.declared.event.Packet.{Packet}
 use Rattle.dds_protocol.specs.declared.event.Output.{Output}
-use Rattle.dds_machine.specs.Opening.{matched_readers}
-use Rattle.dds_machine.specs.Part.{Part, own_writer, writer_changes}
+use Rattle.dds_machine.specs.Part.{Part, own_writer, peers_of, writer_changes}
 use Rattle.dds_protocol.specs.Claims.{Claim, ChangeIs, MayPass, PlaceReached, Asserts, Receiver, receiver_of, every_peer, every_reader, is_for, stamp_of, after_submessage, StandsAt, StandsIn, IsWriter, IsReader, IsToReader, Says, Claims}
 use Rattle.dds_protocol.specs.Peer.{IsTrueAt}
 use Rattle.dds_protocol.proofs.Dues.{stands_in, told, dst_says, ts_says}
 use Rattle.dds_protocol.specs.DueMessages.{AreSent, changes_due}
 use Rattle.dds_core.specs.declared.matching.Destination.{Destination}
+use Rattle.dds_core.specs.declared.matching.ReaderName.{ReaderName}
 use Rattle.dds_core.specs.declared.sending.Sender.{Sender}
-use Rattle.dds_core.specs.Matching.{has_reader, destinations}
+use Rattle.dds_core.specs.MatchedEnds.{AreMatchedNow, IsNameOf, IsPeer, IsReaderOf, readers_of}
+use Rattle.dds_core.proofs.Destinations.{at_some}
+use Rattle.dds_core.proofs.Lists.{get-map}
 use Rattle.dds_core.specs.Sending.{AreMessages, SendsChange}
 use Rattle.dds_core.specs.Announcing.{announcement, IsAnnouncement, AreAnnouncements}
-use Rattle.dds_core.proofs.Destinations.{IsPeer, is_peer, IsReaderOf, is_reader, sends_to}
 
 abbrev data_of : Sender → ℕ → DataContent → Submessage
 data_of sender number content =
@@ -146,7 +147,7 @@ pub record IsSender (config : Config) (sender : Sender) (own : Endpoint) (topic 
 -- the announcement claims the change to a reader of the topic at the peer that it goes to
 announces : (config : Config) (sender : Sender) (to : Destination) (own reader : Endpoint) (topic number : ℕ)
     (content : DataContent) (packet : Packet) → IsSender config sender own topic → IsPeer config.peers to
-    → IsReaderOf config topic reader
+    → IsReaderOf config.peers topic reader
     → reader.peer ≡ to.peer → sender.moment < 2 ^ 63 → IsAnnouncement sender to number content packet
     → Claims config packet.bytes (ChangeIs own reader number (change_in content sender.moment))
 announces config sender to own reader topic number content packet from there of same early is =
@@ -237,56 +238,60 @@ target sender number content (d ∷ ds) (p ∷ ps) (inl f) packet among =
 target sender number content (d ∷ ds) (p ∷ ps) (inr g) packet among =
     later d ds (target sender number content ds (p ∷ ps) g packet among)
 
--- destinations in the order of their numbers
-AreFrom : ℕ → List Destination → Type 0
-AreFrom n [] = Unit {0}
-AreFrom n (d ∷ ds) = (n ≤ d.peer) × AreFrom (d.peer + 1) ds
+-- numbers of which each stands once
+abbrev has : ℕ → List ℕ → Bool
+has m ns = list_any (λ n. n == m) ns
 
-from_less : (m n : ℕ) (ds : List Destination) → m ≤ n → AreFrom n ds → AreFrom m ds
-unfolding AreFrom
-from_less m n [] le h = tt
-from_less m n (d ∷ ds) le h = let low = h.0 in (omega (arith, le, low), h.1)
+abbrev AreOnce : List ℕ → Type 0
+AreOnce [] = Unit {0}
+AreOnce (n ∷ ns) = (has n ns ≡ false) × AreOnce ns
 
-one_from : (b : Bool) (n : ℕ) (prefix : GuidPrefix) (ds : List Destination) → AreFrom (n + 1) ds
-    → AreFrom n (cond b (record { peer = n; prefix = prefix } ∷ ds) ds)
-unfolding AreFrom
-one_from true n prefix ds h = (omega arith, h)
-one_from false n prefix ds h = from_less n (n + 1) ds (omega arith) h
+once_peers : (es : List Endpoint) → AreOnce (peers_of es)
+once_peers [] = tt
+once_peers (e ∷ es) = one (has e.peer (peers_of es)) refl (once_peers es)
+  where
+    one : (b : Bool) → has e.peer (peers_of es) ≡ b → AreOnce (peers_of es)
+        → AreOnce (if b then peers_of es else e.peer ∷ peers_of es)
+    one true is k = k
+    one false is k = (is, k)
 
-all_from : (topic n : ℕ) (ps : List PeerConfig) → AreFrom n (destinations topic n ps)
-unfolding AreFrom
-all_from topic n [] = tt
-all_from topic n (p ∷ ps) =
-    one_from (has_reader topic p.readers) n p.prefix (destinations topic (n + 1) ps) (all_from topic (n + 1) ps)
+neither : (a b : Bool) → (a || b) ≡ false → (a ≡ false) × (b ≡ false)
+neither true b h = absurd cc
+neither false b h = (refl, h)
 
-others : (sender : Sender) (number : ℕ) (content : DataContent) (m n : ℕ) (ds : List Destination) (ps : List Packet)
-    → m < n → AreFrom n ds → AreAnnouncements sender number content ds ps → AllByRecursion (λ (q : Packet). m ≢ q.to) ps
-unfolding AreFrom
-others sender number content m n ds [] lt from h = tt
-others sender number content m n [] (p ∷ ps) lt from h = absurd h
-others sender number content m n (d ∷ ds) (p ∷ ps) lt from (inl f) =
-    let to =
-    f.0.to_is in let low = from.0 in (
-      λ same. omega (arith, same, to, low, lt),
-      others sender number content m (d.peer + 1) ds ps
-          (omega (arith, low, lt)) from.1 f.1,
+not_both : (b : Bool) → b ≡ false → b ≡ true → ⊥
+not_both true f g = absurd cc
+not_both false f g = absurd cc
+
+abbrev peers_to : List Destination → List ℕ
+peers_to ds = map (λ (d : Destination). d.peer) ds
+
+others : (sender : Sender) (number : ℕ) (content : DataContent) (m : ℕ) (ds : List Destination) (ps : List Packet)
+    → has m (peers_to ds) ≡ false → AreAnnouncements sender number content ds ps
+    → AllByRecursion (λ (q : Packet). m ≢ q.to) ps
+others sender number content m ds [] none h = tt
+others sender number content m [] (p ∷ ps) none h = absurd h
+others sender number content m (d ∷ ds) (p ∷ ps) none (inl f) =
+    let apart = neither (d.peer == m) (has m (peers_to ds)) none in (
+      λ same. not_both (d.peer == m) apart.0 (eq-eqb d.peer m (sym (same ∙ f.0.to_is))),
+      others sender number content m ds ps apart.1 f.1,
     )
-others sender number content m n (d ∷ ds) (p ∷ ps) lt from (inr g) =
-    let low = from.0 in others sender number content m (d.peer + 1) ds (p ∷ ps) (omega (arith, low, lt)) from.1 g
+others sender number content m (d ∷ ds) (p ∷ ps) none (inr g) =
+    others sender number content m ds (p ∷ ps) (neither (d.peer == m) (has m (peers_to ds)) none).1 g
 
-different : (sender : Sender) (number : ℕ) (content : DataContent) (n : ℕ) (ds : List Destination) (ps : List Packet)
-    → AreFrom n ds → AreAnnouncements sender number content ds ps → AllPairs (λ (a b : Packet). a.to ≢ b.to) ps
-unfolding AreFrom
-different sender number content n ds [] from h = λ i j d lt within. absurd (omega (arith, within))
-different sender number content n [] (p ∷ ps) from h = absurd h
-different sender number content n (d ∷ ds) (p ∷ ps) from (inl f) =
-    let to = f.0.to_is in
+different : (sender : Sender) (number : ℕ) (content : DataContent) (ds : List Destination) (ps : List Packet)
+    → AreOnce (peers_to ds) → AreAnnouncements sender number content ds ps
+    → AllPairs (λ (a b : Packet). a.to ≢ b.to) ps
+different sender number content ds [] once h = λ i j d lt within. absurd (omega (arith, within))
+different sender number content [] (p ∷ ps) once h = absurd h
+different sender number content (d ∷ ds) (p ∷ ps) once (inl f) =
     AllPairs-cons (λ (a b : Packet). a.to ≢ b.to) p ps
     (All-from_recursion (λ (q : Packet). p.to ≢ q.to) ps
-    (others sender number content p.to (d.peer + 1) ds ps (omega (arith, to)) from.1 f.1))
-    (different sender number content (d.peer + 1) ds ps from.1 f.1)
-different sender number content n (d ∷ ds) (p ∷ ps) from (inr g) =
-    different sender number content (d.peer + 1) ds (p ∷ ps) from.1 g
+    (others sender number content p.to ds ps
+    (subst (λ (m : ℕ). has m (peers_to ds) ≡ false) (sym f.0.to_is) once.0) f.1))
+    (different sender number content ds ps once.1 f.1)
+different sender number content (d ∷ ds) (p ∷ ps) once (inr g) =
+    different sender number content ds (p ∷ ps) once.1 g
 
 contains_map : (ds : List Destination) (k : ℕ) (d : Destination) → slice_get ds k ≡ Some d
     → Contains (map (λ (x : Destination). x.peer) ds) d.peer
@@ -294,22 +299,24 @@ contains_map [] k d at = absurd cc
 contains_map (x ∷ xs) zero d at = (zero, omega arith, ap (λ (y : Destination). y.peer) (same_Some x d at))
 contains_map (x ∷ xs) (suc k) d at = let c = contains_map xs k d at in let lt = c.1 in (suc c.0, omega (arith, lt), c.2)
 
--- whom a writer is matched with, and those that it sends to
-pub record IsMatched (config : Config) (topic : ℕ) (es : List Endpoint) (ds : List Destination) : Type 0 where
-  pub names : es ≡ matched_readers topic 1 config.peers
-  pub sent_to : ds ≡ destinations topic 1 config.peers
+-- a matched reader is one of the topic
+reader_is : (peers : List PeerConfig) (topic : ℕ) (names : List ReaderName) (reader : Endpoint)
+    → ((k : ℕ) (n : ReaderName) → slice_get names k ≡ Some n → IsNameOf peers topic n)
+    → Contains (readers_of names) reader → IsReaderOf peers topic reader
+reader_is peers topic names reader named among =
+    let f = at_some (readers_of names) reader among in
+    let n = get-map (λ (x : ReaderName). x.reader) names f.0 reader f.1 in
+    subst (λ (e : Endpoint). IsReaderOf peers topic e) n.2 (named f.0 n.0 n.1).is
 
-pub sends_change : (config : Config) (sender : Sender) (own : Endpoint) (topic : ℕ) (es : List Endpoint)
-    (ds : List Destination) (number : ℕ) (content : DataContent) (output : Output) → IsSender config sender own topic
-    → IsMatched config topic es ds
+pub sends_change : (config : Config) (sender : Sender) (own : Endpoint) (topic : ℕ) (all : List ReaderName)
+    (ds : List Destination) (names : List ReaderName) (number : ℕ) (content : DataContent) (output : Output)
+    → IsSender config sender own topic → AreMatchedNow config.peers topic all ds names
     → sender.moment < 2 ^ 63 → AreAnnouncements sender number content ds output.packets
     → length output.packets + output.unsent ≡ length ds
-    → AreSent (changes_due config own es number (change_in content sender.moment)) output.packets output.unsent
-    → SendsChange config own es number (change_in content sender.moment) output
-sends_change config sender own topic es ds number content output from matched early are counted are_sent =
-    let peers = sends_to topic config.peers es ds matched.names matched.sent_to in
-    let ordered : AreFrom 1 ds =
-    subst (λ (xs : List Destination). AreFrom 1 xs) (sym matched.sent_to) (all_from topic 1 config.peers) in
+    → AreSent (changes_due config own (readers_of all) number (change_in content sender.moment)) output.packets
+    output.unsent → SendsChange config own (readers_of all) number (change_in content sender.moment) output
+sends_change config sender own topic all ds names number content output from matched early are counted are_sent =
+    let peers = matched.sent_to in
     record {
       counted =
           counted ∙ (sym (length-map ds (λ (d : Destination). d.peer)) ∙ ap (λ (ns : List ℕ). length ns) (sym peers));
@@ -322,10 +329,11 @@ sends_change config sender own topic es ds number content output from matched ea
       says = λ packet reader among same there.
           let t = target sender number content ds output.packets are packet among in
           announces config sender t.to own reader topic number content packet from
-          (is_peer config.peers topic t.index t.to
-          (subst (λ (xs : List Destination). slice_get xs t.index ≡ Some t.to) matched.sent_to t.at))
-          (is_reader config topic es reader matched.names there) (same ∙ t.is.to_is) early t.is;
-      different = different sender number content 1 ds output.packets ordered are;
+          (matched.prefixes t.index t.to t.at)
+          (reader_is config.peers topic all reader matched.readers there) (same ∙ t.is.to_is) early t.is;
+      different =
+          different sender number content ds output.packets
+          (subst (λ (ns : List ℕ). AreOnce ns) peers (once_peers (readers_of all))) are;
     }
 
 -- what is sent claims the truth

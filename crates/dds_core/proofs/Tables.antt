@@ -4,7 +4,7 @@ use Rattle.std.proofs.lemmas.List.{map-append}
 use Rattle.dds_base.specs.declared.config.PeerConfig.{PeerConfig}
 use Rattle.dds_base.specs.declared.config.WriterConfig.{WriterConfig}
 use Rattle.dds_base.specs.declared.config.ReaderConfig.{ReaderConfig}
-use Rattle.dds_base.specs.Matched.{same_topic, any_writer, is_reliable_reader, of_ends_in, of_matched_ends, of_matched_writers, of_reliable_readers}
+use Rattle.dds_base.specs.Matched.{same_topic, any_reader, any_writer, is_reliable_reader, of_ends_in, of_matched_ends, of_matched_readers, of_matched_writers, of_reliable_readers}
 
 map-cond : {X Y : Type 0} (f : X → Y) (b : Bool) (x : X) (xs : List X) (ys : List Y) → map f xs ≡ ys
     → map f (cond b (x ∷ xs) xs) ≡ cond b (f x ∷ ys) ys
@@ -34,6 +34,11 @@ pub map-reliable_readers : {X Y : Type 0} (f : X → Y) (tell : ℕ → PeerConf
     (ps : List PeerConfig)
     → map f (of_reliable_readers tell topic n ps) ≡ of_reliable_readers (λ i p k r. f (tell i p k r)) topic n ps
 map-reliable_readers = map-matched_ends (λ (p : PeerConfig). p.readers) is_reliable_reader (λ (r : ReaderConfig). r.topic)
+
+pub map-matched_readers : {X Y : Type 0} (f : X → Y) (tell : ℕ → PeerConfig → ℕ → ReaderConfig → X) (topic n : ℕ)
+    (ps : List PeerConfig)
+    → map f (of_matched_readers tell topic n ps) ≡ of_matched_readers (λ i p k r. f (tell i p k r)) topic n ps
+map-matched_readers = map-matched_ends (λ (p : PeerConfig). p.readers) any_reader (λ (r : ReaderConfig). r.topic)
 
 pub map-matched_writers : {X Y : Type 0} (f : X → Y) (tell : ℕ → PeerConfig → ℕ → WriterConfig → X) (topic n : ℕ)
     (ps : List PeerConfig)

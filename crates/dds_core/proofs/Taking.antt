@@ -64,7 +64,6 @@ pub stands_beside : (kept : PeerKept) (new watched : Watched) (places : Places) 
     })
 stands_beside kept new watched places delivered config peer same s = record {
   is_peer = s.is_peer;
-  matched = s.matched;
   moment = s.moment;
   early = s.early;
   writers = s.writers;

@@ -1,6 +1,7 @@
 -- Whether a submessage concerns somebody at a peer: by the rows that the peer keeps, and by the configuration.
 use Rattle.std.proofs.Common.{◌≡◌, ℕ, suc, ◌+◌, ◌-◌, List, Some, None, Option, true, false, map, get_or, slice_get, subst, sym, ◌∙◌, refl, inl, inr, arith}
 use Rattle.std.specs.Prelude.{IsSome}
+use Rattle.std.proofs.lemmas.List.{length-map}
 use Rattle.std.proofs.lemmas.Option.{same_Some}
 use Rattle.dds_base.specs.declared.config.Config.{Config}
 use Rattle.dds_base.specs.declared.config.PeerConfig.{PeerConfig}
@@ -16,13 +17,13 @@ use Rattle.dds_machine.specs.Part.{ReaderProxy, Writer, acknowledged_of, no_writ
 use Rattle.dds_protocol.specs.Claims.{Receiver, is_for, IsNumbered, IsToReader, IsToWriter}
 use Rattle.dds_protocol.specs.Peer.{Peer}
 use Rattle.dds_core.specs.declared.matching.ReaderName.{ReaderName}
-use Rattle.dds_core.specs.Identity.{ReaderIdentity, WriterIdentity, reader_identity, writer_identity, configured_reader, configured_writer}
+use Rattle.dds_core.specs.Identity.{ReaderIdentity, reader_identity, writer_identity, configured_reader}
 use Rattle.dds_core.specs.Kept.{PeerKept, ReaderKept, WriterKept}
 use Rattle.dds_core.specs.Observing.{ConcernsPeer, speaks}
 use Rattle.dds_core.specs.ObservingKept.{IsNamedReader, NamesNoReader, IsNamedWriter, NamesNoWriter, ToNobodyOf}
 use Rattle.dds_core.specs.Readiness.{NamedBy, NamesNobody}
 use Rattle.dds_core.specs.Standing.{StandsFor}
-use Rattle.dds_core.proofs.Lists.{get-map, map-get}
+use Rattle.dds_core.proofs.Lists.{element, get-map, get-within, map-get}
 use Rattle.dds_core.proofs.Named.{is_to, row_of_writer}
 use Rattle.dds_core.proofs.Pairs.{not_among, some_row}
 use Rattle.dds_core.proofs.RowsAnswered.{IsOwn, own_is, own_end, to_writer, from_reader}
@@ -174,12 +175,10 @@ own_kept_writer config peer kept s number p end at_peer at_end =
     let same : p ≡ s.is_peer.own = same_Some p s.is_peer.own (sym at_peer.1 ∙ s.is_peer.at.1) in
     let there : slice_get s.is_peer.own.writers (number - 1) ≡ Some end =
     subst (λ (o : PeerConfig). slice_get o.writers (number - 1) ≡ Some end) same at_end.1 in
-    let found =
-    get-map writer_identity kept.writers (number - 1) (configured_writer config.peers end)
-    (subst (λ (xs : List WriterIdentity). slice_get xs (number - 1) ≡ Some (configured_writer config.peers end))
-    (sym s.is_peer.writers)
-    (map-get (configured_writer config.peers) s.is_peer.own.writers (number - 1) end there)) in
-    (found.0, found.1)
+    let lt = get-within s.is_peer.own.writers (number - 1) end there in
+    let many = length-map kept.writers writer_identity in
+    let count = s.is_peer.count in
+    element kept.writers (number - 1) (omega (arith, lt, many, count))
 
 not_some : (o : Option ℕ) → o ≡ None → IsSome o → ⊥
 not_some None is h = cc

@@ -1,6 +1,6 @@
 -- A writer at its opening, and after what happens there.
-use Rattle.std.proofs.Common.{◌≡◌, ℕ, zero, suc, ◌-◌, ◌⊎◌, ⊎_elim, inl, inr, Bool, true, false, List, [], ◌∷◌, ◌++◌, Option, None, Some, slice_get, map, replicate, length, get_or, refl, ap, sym, ◌∙◌, subst, arith}
-use Rattle.std.specs.Prelude.{◌+◌, ◌||◌, nat_le, nat_lt, if◌then◌else◌, ℤ, Result, Ok, Err, IfOk, IfErr, OnErr, OnOk}
+use Rattle.std.proofs.Common.{◌≡◌, ℕ, zero, suc, ◌-◌, ◌⊎◌, ⊎_elim, inl, inr, Bool, true, false, List, [], ◌∷◌, ◌++◌, Option, None, Some, slice_get, map, replicate, length, get_or, refl, ap, sym, ◌∙◌, subst, arith, Contains}
+use Rattle.std.specs.Prelude.{◌+◌, ◌≤◌, ◌||◌, nat_le, nat_lt, if◌then◌else◌, ℤ, Result, Ok, Err, IfOk, IfErr, OnErr, OnOk}
 use Rattle.std.specs.List.{AllByRecursion, list_any}
 use Rattle.std.proofs.lemmas.List.Elements.{All-from_recursion}
 use Rattle.std.proofs.lemmas.Option.{same_Some}
@@ -17,27 +17,72 @@ use Rattle.rtps_writer.specs.Standing.{Kept, StandsFor as RtpsStandsFor, reader_
 use Rattle.rtps_writer.specs.WriterState.{WriterState, entering, history_of, is_behind, last_of, opening, ticked}
 use Rattle.dds_machine.specs.declared.endpoint.Endpoint.{Endpoint}
 use Rattle.dds_machine.specs.Opening.{matched_readers, reliable_readers}
-use Rattle.dds_machine.specs.Part.{Writer, ReaderProxy, writer_changes, history_of as writer_history, is_behind as is_writer_behind}
+use Rattle.dds_machine.specs.Part.{Writer, ReaderProxy, peers_of, same_endpoint, writer_changes, history_of as writer_history, is_behind as is_writer_behind}
 use Rattle.dds_base.specs.Checked.{limit_of}
+use Rattle.dds_protocol.proofs.InOrder.{same_self}
 use Rattle.dds_core.specs.declared.matching.Destination.{Destination}
+use Rattle.dds_core.specs.declared.matching.LastCount.{LastCount}
 use Rattle.dds_core.specs.declared.matching.ReaderName.{ReaderName}
 use Rattle.dds_core.specs.Kept.{WriterKept}
 use Rattle.dds_core.specs.Identity.{WriterIdentity, writer_identity}
 use Rattle.dds_core.specs.Matching.{destinations}
-use Rattle.dds_core.specs.EndNames.{reader_name, reader_names}
+use Rattle.dds_core.specs.EndNames.{all_names, reader_name, reader_names}
+use Rattle.dds_core.specs.MatchedEnds.{AreRows, first_count, has_count, is_named, last_count, readers_of}
 use Rattle.dds_core.specs.OpeningEnds.{OpensWriter}
 use Rattle.dds_core.specs.Standing.{AreShort, CountsFrom1, IsShort, IsWhole, WriterStands, state_of}
 use Rattle.dds_core.specs.Stepping.{Enters, Ticks}
 use Rattle.dds_core.proofs.Acknowledging.{state_as}
-use Rattle.dds_core.proofs.Tables.{map-reliable_readers, told_alike}
+use Rattle.dds_core.proofs.MatchedAt.{ends_opened, matched_opened, named_at, named_is, once_named}
+use Rattle.dds_core.proofs.Once.{named_once}
+use Rattle.dds_core.proofs.Tables.{map-matched_readers, map-reliable_readers, told_alike}
 
 -- a writer at its opening
 
-identity_as : (entity : EntityId) (autodispose : Bool) (most : ℕ) (a b : List Destination) (c d : List ReaderName)
-    → a ≡ b → c ≡ d → ◌≡◌ {A = WriterIdentity}
-    (record { entity = entity; autodispose = autodispose; max_value = most; destinations = a; readers = c })
-    (record { entity = entity; autodispose = autodispose; max_value = most; destinations = b; readers = d })
-identity_as entity autodispose most a b c d e f = cc
+abbrev identity_of : WriterConfig → List ReaderName → List Destination → List ReaderName → List LastCount
+    → WriterIdentity
+identity_of w matched destinations readers counts = record {
+  entity = w.entity;
+  autodispose = w.autodispose;
+  max_value = w.max_value;
+  matched = matched;
+  destinations = destinations;
+  readers = readers;
+  counts = counts;
+}
+
+identity_as : (w : WriterConfig) (es fs : List ReaderName) (a b : List Destination) (c d : List ReaderName)
+    (ms ns : List LastCount) → es ≡ fs → a ≡ b → c ≡ d → ms ≡ ns → identity_of w es a c ms ≡ identity_of w fs b d ns
+identity_as w es fs a b c d ms ns e f g h = cc
+
+-- of a reader that never left there is no count, and a place for one
+never_left : (names : List ReaderName) (reader : Endpoint) → None ≡ last_count (map first_count names) reader
+never_left [] reader = refl
+never_left (n ∷ ns) reader = by (same_endpoint n.reader reader) (never_left ns reader)
+  where
+    by : (b : Bool) → None ≡ last_count (map first_count ns) reader
+        → None ≡ (if b then None else last_count (map first_count ns) reader)
+    by true h = refl
+    by false h = h
+
+count_there : (names : List ReaderName) (reader : Endpoint) → is_named names reader ≡ true
+    → has_count (map first_count names) reader ≡ true
+count_there names reader is = same names ∙ is
+  where
+    same : (ns : List ReaderName) → has_count (map first_count ns) reader ≡ is_named ns reader
+    same [] = refl
+    same (n ∷ ns) = ap (λ (b : Bool). same_endpoint n.reader reader || b) (same ns)
+
+rows_opened : (peers : List PeerConfig) (topic : ℕ)
+    → AreRows (all_names topic peers) (reader_names topic peers) (map first_count (reader_names topic peers))
+rows_opened peers topic = record {
+  once = once_named (reader_names topic peers) (named_once topic peers);
+  among = λ reader is.
+      let f = named_at (reader_names topic peers) reader is in
+      named_is (all_names topic peers) reader
+      (subst (λ (e : Endpoint). Contains (readers_of (all_names topic peers)) e) f.3
+      (matched_opened peers topic f.0 f.1 f.2));
+  places = λ reader is. count_there (reader_names topic peers) reader is;
+}
 
 -- what looks alike of each row is of one value
 rows_begun : (rows : List ReaderProxy) (count : ℕ) → map (λ (p : ReaderProxy). p.acknowledged) rows ≡ replicate count 1
@@ -55,9 +100,9 @@ rows_begun (p ∷ ps) (suc count) same =
     rest : (a : ℕ) (xs ys : List ℕ) → a ∷ xs ≡ 1 ∷ ys → xs ≡ ys
     rest a xs ys e = cc
 
-pub opens_writer : (peers : List PeerConfig) (w : WriterConfig) (ds : List Destination) (names : List ReaderName)
-    (limit : Option ℕ) (strength : Option ℤ) (kept : Kept) (count : ℕ) → count ≡ length names
-    → ds ≡ destinations w.topic 1 peers → names ≡ reader_names w.topic peers → limit ≡ limit_of w.max_samples
+pub opens_writer : (peers : List PeerConfig) (w : WriterConfig) (es : List ReaderName) (ds : List Destination)
+    (names : List ReaderName) (lasts : List LastCount) (limit : Option ℕ) (strength : Option ℤ) (kept : Kept) (count : ℕ) → count ≡ length names
+    → es ≡ all_names w.topic peers → lasts ≡ map first_count names → ds ≡ destinations w.topic 1 peers → names ≡ reader_names w.topic peers → limit ≡ limit_of w.max_samples
     → strength ≡ carried w.ownership w.strength
     → RtpsStandsFor kept (opening w.history limit w.lease strength count)
     → OpensWriter peers w
@@ -65,11 +110,13 @@ pub opens_writer : (peers : List PeerConfig) (w : WriterConfig) (ds : List Desti
       entity = w.entity;
       autodispose = w.autodispose;
       max_value = w.max_value;
+      matched = es;
       destinations = ds;
       readers = names;
+      counts = lasts;
       writer = kept;
     })
-opens_writer peers w ds names limit strength kept count counted sent matched limited carries stands =
+opens_writer peers w es ds names lasts limit strength kept count counted ends first sent matched limited carries stands =
     let rows : List ReaderProxy = reliable_readers w.topic 1 peers in
     let many : length (reader_names w.topic peers) ≡ count =
     sym (counted ∙ ap (λ (ns : List ReaderName). length ns) matched) in
@@ -84,10 +131,15 @@ opens_writer peers w ds names limit strength kept count counted sent matched lim
     map-reliable_readers (λ (p : ReaderProxy). none) _ w.topic 1 peers
     ∙ (told_alike none reader_name w.topic 1 peers ∙ ap (λ (n : ℕ). replicate n none) many) in
     record {
-      identity = identity_as w.entity w.autodispose w.max_value ds _ names _ sent matched;
+      identity =
+          identity_as w es _ ds _ names _ lasts _ ends sent matched
+          (first ∙ ap (λ (ns : List ReaderName). map first_count ns) matched);
       stands = record {
         autodispose = refl;
         values = refl;
+        matched =
+            sym (ap (λ (ns : List ReaderName). readers_of ns) ends
+            ∙ map-matched_readers (λ (n : ReaderName). n.reader) reader_name w.topic 1 peers);
         readers = map-reliable_readers (λ (p : ReaderProxy). p.reader) _ w.topic 1 peers
             ∙ sym (ap (λ (ns : List ReaderName). map (λ (n : ReaderName). n.reader) ns) matched
             ∙ map-reliable_readers (λ (n : ReaderName). n.reader) reader_name w.topic 1 peers);
@@ -101,17 +153,54 @@ opens_writer peers w ds names limit strength kept count counted sent matched lim
             (subst (λ (o : Option ℕ). RtpsStandsFor kept
             (opening w.history o w.lease strength count)) limited stands));
         begun = All-from_recursion CountsFrom1 rows (rows_begun rows count acknowledged);
+        rows =
+            subst (λ (ns : List ReaderName). AreRows ns names lasts) (sym ends)
+            (subst (λ (ns : List ReaderName). AreRows (all_names w.topic peers) ns lasts) (sym matched)
+            (subst (λ (ls : List LastCount). AreRows (all_names w.topic peers) (reader_names w.topic peers) ls)
+            (sym (first ∙ ap (λ (ns : List ReaderName). map first_count ns) matched))
+            (rows_opened peers w.topic)));
+        counted = λ reader none. never_left names reader ∙ ap (λ (ls : List LastCount). last_count ls reader) (sym first);
       };
     }
 
+-- a writer that has written nothing is whole
+
+nothing_short : (most : ℕ) → AreShort most []
+nothing_short most number change at = by (nat_lt 0 number) (slice_get [] (number - 1)) refl at
+  where
+    by : (b : Bool) (o : Option Change) → o ≡ None → (if b then o else None) ≡ Some change → IsShort most change.value
+    by true o none h = absurd cc
+    by false o none h = absurd cc
+
+pub whole_opened : (peers : List PeerConfig) (w : WriterConfig) (es : List ReaderName) (ds : List Destination)
+    (names : List ReaderName) (limit : Option ℕ) (strength : Option ℤ) (kept : Kept) (count : ℕ)
+    → es ≡ all_names w.topic peers → ds ≡ destinations w.topic 1 peers → length ds ≤ 16 → length names ≤ 256
+    → reader_count kept ≡ count → count ≡ length names
+    → RtpsStandsFor kept (opening w.history limit w.lease strength count)
+    → IsWhole w.max_value es ds names kept
+whole_opened peers w es ds names limit strength kept count ends sent few many rows counted stands = record {
+  told =
+      ap (λ (ns : List ReaderName). peers_of (readers_of ns)) ends
+      ∙ ((ends_opened peers w.topic).sent_to ∙ sym (ap (λ (xs : List Destination). map (λ (d : Destination). d.peer) xs) sent));
+  few = omega (arith, few);
+  many = many;
+  count = rows ∙ counted;
+  state = opening w.history limit w.lease strength count;
+  stands = stands;
+  short = nothing_short w.max_value;
+}
+
 -- a writer, by what its end has once it is open
-abbrev pub kept_as : EntityId → Bool → ℕ → List Destination → List ReaderName → Kept → WriterKept
-kept_as entity autodispose most destinations readers writer = record {
+abbrev pub kept_as : EntityId → Bool → ℕ → List ReaderName → List Destination → List ReaderName → List LastCount → Kept
+    → WriterKept
+kept_as entity autodispose most matched destinations readers counts writer = record {
   entity = entity;
   autodispose = autodispose;
   max_value = most;
+  matched = matched;
   destinations = destinations;
   readers = readers;
+  counts = counts;
   writer = writer;
 }
 
@@ -131,10 +220,13 @@ enters kept entry after more = record {
       λ w answered s. record {
         autodispose = s.autodispose;
         values = s.values;
+        matched = s.matched;
         readers = s.readers;
         writer = more
             (state_of w answered) s.writer;
         begun = s.begun;
+        rows = s.rows;
+        counted = s.counted;
       };
 }
 
@@ -189,11 +281,14 @@ ticks kept current now after same more = record {
       record {
         autodispose = here.autodispose;
         values = here.values;
+        matched = here.matched;
         readers = here.readers;
         writer =
             subst (λ (b : Bool). RtpsStandsFor after (entering state (Ticked now b))) (behind_same w answered)
             (more state here.writer);
         begun = here.begun;
+        rows = here.rows;
+        counted = here.counted;
       };
 }
 
@@ -218,12 +313,14 @@ short_more most cs c short last = λ number x at. one (nat_lt 0 number) (number 
         ⊎_elim (λ there. old there) (λ is. subst (λ (y : Change). IsShort most y.value) is last) (last_or cs c x k at)
     one false k x old at = absurd cc
 
-pub whole_if : (result : Result ℕ Code) (most : ℕ) (destinations : List Destination) (readers : List ReaderName)
-    (old after : Kept) (change : Change) → IsWhole most destinations readers old → IsShort most change.value
+pub whole_if : (result : Result ℕ Code) (most : ℕ) (matched : List ReaderName) (destinations : List Destination)
+    (readers : List ReaderName) (old after : Kept) (change : Change)
+    → IsWhole most matched destinations readers old → IsShort most change.value
     → reader_count after ≡ reader_count old
     → ((s : WriterState) → RtpsStandsFor old s → OnOk result (RtpsStandsFor after (entering s (Changed change))))
-    → OnErr result (after ≡ old) → IsWhole most destinations readers after
-whole_if (Ok n) most destinations readers old after change whole short counted more same = record {
+    → OnErr result (after ≡ old) → IsWhole most matched destinations readers after
+whole_if (Ok n) most matched destinations readers old after change whole short counted more same = record {
+  told = whole.told;
   few = whole.few;
   many = whole.many;
   count = counted ∙ whole.count;
@@ -231,5 +328,5 @@ whole_if (Ok n) most destinations readers old after change whole short counted m
   stands = more whole.state whole.stands;
   short = short_more most (changes_of whole.state.written) change whole.short short;
 }
-whole_if (Err e) most destinations readers old after change whole short counted more same =
-    subst (λ (k : Kept). IsWhole most destinations readers k) (sym same) whole
+whole_if (Err e) most matched destinations readers old after change whole short counted more same =
+    subst (λ (k : Kept). IsWhole most matched destinations readers k) (sym same) whole

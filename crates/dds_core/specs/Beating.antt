@@ -2,7 +2,7 @@
 -- cite this: nothing here has to be believed.
 --
 -- RTPS 2.5, 8.4.9 (reliable StatefulWriter: heartbeatPeriod), 8.3.8 (Heartbeat).
-use Rattle.std.specs.Prelude.{◌≡◌, ℕ, ◌+◌, ◌≤◌, ◌==◌, ◌&&◌, Bool, if◌then◌else◌, nat_lt, nat_le, true, false, List, [], ◌∷◌, ◌++◌, length, map, filter, Option, ℤ}
+use Rattle.std.specs.Prelude.{◌≡◌, ℕ, zero, suc, ◌+◌, ◌≤◌, ◌==◌, ◌&&◌, Bool, not, if◌then◌else◌, nat_lt, nat_le, true, false, List, [], ◌∷◌, ◌++◌, length, map, Option, ℤ}
 use Rattle.std.specs.List.{list_any}
 use Rattle.dds_base.specs.declared.guid.GuidPrefix.{GuidPrefix}
 use Rattle.dds_base.specs.Bounds.{max_changes, max_count}
@@ -51,18 +51,33 @@ due_to to message = record { to = to; message = message }
 abbrev pub told_to : Beat → List Destination → List Due
 told_to beat ds = map (λ (d : Destination). due_to d.peer (message_to beat d.prefix)) ds
 
--- some matched reader of this peer has not acknowledged all changes of the writer
-abbrev pub is_peer_behind : Writer → ℕ → Bool
-is_peer_behind w peer = list_any
-    (λ (p : ReaderProxy). (p.reader.peer == peer) && nat_le p.acknowledged (length (writer_changes w))) w.readers
+-- some of these readers of a writer that has made so many changes is of this peer, and has not acknowledged all
+abbrev pub is_peer_behind : ℕ → ℕ → List ReaderProxy → Bool
+is_peer_behind last peer rows = list_any
+    (λ (p : ReaderProxy). (p.reader.peer == peer) && nat_le p.acknowledged last) rows
 
--- those of these peers with a reader that is behind
-abbrev pub peers_behind : Writer → List Destination → List Destination
-peers_behind w ds = filter (λ (d : Destination). is_peer_behind w d.peer) ds
+-- the reader of this row, from 0, is the last one of its peer that has not
+abbrev pub is_last_behind : ℕ → List ReaderProxy → ℕ → Bool
+is_last_behind last [] row = false
+is_last_behind last (p ∷ ps) zero = nat_le p.acknowledged last && not (is_peer_behind last p.reader.peer ps)
+is_last_behind last (p ∷ ps) (suc row) = is_last_behind last ps row
 
--- the HEARTBEAT to each of those
-abbrev pub beats_to : Beat → Writer → List Destination → List Due
-beats_to beat w ds = told_to beat (peers_behind w ds)
+-- the peer of a reader
+abbrev pub peer_of : ReaderName → Destination
+peer_of name = record { peer = name.reader.peer; prefix = name.guid.prefix }
+
+-- the peers of those of these readers, by their rows and names, that are behind, each where its last one is
+abbrev pub peers_behind : ℕ → List ReaderProxy → List ReaderName → List Destination
+peers_behind last [] names = []
+peers_behind last (p ∷ ps) [] = []
+peers_behind last (p ∷ ps) (n ∷ ns) =
+    if nat_le p.acknowledged last && not (is_peer_behind last p.reader.peer ps)
+    then peer_of n ∷ peers_behind last ps ns
+    else peers_behind last ps ns
+
+-- the HEARTBEAT to each of the peers of a writer's readers, of these names, that are behind
+abbrev pub beats_to : Beat → Writer → List ReaderName → List Due
+beats_to beat w names = told_to beat (peers_behind (length (writer_changes w)) w.readers names)
 
 -- what tells an assertion of a writer, from a peer of this prefix
 abbrev pub assertions_of : GuidPrefix → WriterKept → Writer → List Due
@@ -74,7 +89,7 @@ abbrev pub beats_of : GuidPrefix → WriterKept → Writer → List Due
 beats_of prefix kept w =
     if nat_lt (heartbeats_used w) max_count
     then map (λ (d : Destination). due_to d.peer (heartbeat_message prefix d.prefix kept.entity w))
-    (peers_behind w kept.destinations)
+    (peers_behind (length (writer_changes w)) w.readers kept.readers)
     else []
 
 -- what is due at a tick of these writers, in their order
@@ -99,10 +114,11 @@ AddsTo dues old new = Adds dues old.packets.items old.unsent new.packets.items n
 abbrev pub AreReadersOf : Writer → List ReaderName → Type 0
 AreReadersOf w readers = map (λ (p : ReaderProxy). p.reader) w.readers ≡ map (λ (r : ReaderName). r.reader) readers
 
--- for each writer that a writer's parts stand for, the HEARTBEATs to these peers are added
-abbrev pub Beats : Beat → Kept → List ReaderName → List Destination → List Packet → ℕ → List Packet → ℕ → Type 0
-Beats beat kept readers ds old before new after = (w : Writer) (answered : Endpoint → Option ℤ)
-    → AreReadersOf w readers → RtpsStandsFor kept (state_of w answered) → Adds (beats_to beat w ds) old before new after
+-- for each writer that a writer's parts stand for, the HEARTBEATs to the peers that are behind are added
+abbrev pub Beats : Beat → Kept → List ReaderName → List Packet → ℕ → List Packet → ℕ → Type 0
+Beats beat kept names old before new after = (w : Writer) (answered : Endpoint → Option ℤ)
+    → AreReadersOf w names → RtpsStandsFor kept (state_of w answered)
+    → Adds (beats_to beat w names) old before new after
 
 -- for each writer that is stood for, what is due at its tick is added
 abbrev pub BeatsOf : GuidPrefix → WriterKept → List Packet → ℕ → List Packet → ℕ → Type 0

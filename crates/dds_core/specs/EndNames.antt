@@ -5,7 +5,7 @@
 use Rattle.std.specs.Prelude.{ℕ, List}
 use Rattle.dds_base.specs.declared.config.PeerConfig.{PeerConfig}
 use Rattle.dds_base.specs.declared.config.ReaderConfig.{ReaderConfig}
-use Rattle.dds_base.specs.Matched.{of_matched_writers, of_reliable_readers}
+use Rattle.dds_base.specs.Matched.{any_reader, of_ends_in, of_matched_readers, of_matched_writers, of_reliable_readers}
 use Rattle.dds_base.specs.declared.config.WriterConfig.{WriterConfig}
 use Rattle.dds_base.specs.declared.qos.MatchedWriter.{MatchedWriter}
 use Rattle.dds_core.specs.declared.matching.ReaderName.{ReaderName}
@@ -16,7 +16,16 @@ abbrev pub reader_name : ℕ → PeerConfig → ℕ → ReaderConfig → ReaderN
 reader_name peer p number r =
     record { reader = record { peer = peer; number = number }; guid = record { prefix = p.prefix; entity = r.entity } }
 
--- the readers of the topic, in the order of the configuration
+-- the readers of the topic among those of one peer, reliable or not; the first of these has this number
+abbrev pub all_names_in : ℕ → PeerConfig → ℕ → ℕ → List ReaderConfig → List ReaderName
+all_names_in peer p topic number rs =
+    of_ends_in any_reader (λ (r : ReaderConfig). r.topic) (reader_name peer p) topic number rs
+
+-- the readers of the topic, reliable or not, in the order of the configuration
+abbrev pub all_names : ℕ → List PeerConfig → List ReaderName
+all_names topic peers = of_matched_readers reader_name topic 1 peers
+
+-- the reliable readers of the topic, in the order of the configuration
 abbrev pub reader_names : ℕ → List PeerConfig → List ReaderName
 reader_names topic peers = of_reliable_readers reader_name topic 1 peers
 

@@ -1,8 +1,8 @@
--- What never changes of what a peer keeps, and what the configuration says of it. Inner functions alone cite this:
--- nothing here has to be believed.
+-- What stays of what a peer keeps, and what the configuration says of it. Inner functions alone cite this: nothing here
+-- has to be believed.
 --
 -- RTPS 2.5, 8.2 (Participant, Endpoint).
-use Rattle.std.specs.Prelude.{◌≡◌, ◌≤◌, ◌<◌, ℕ, Bool, List, length, map, None}
+use Rattle.std.specs.Prelude.{◌≡◌, ◌≤◌, ◌<◌, ℕ, Bool, List, length, map, slice_get, None, Some}
 use Rattle.dds_base.specs.declared.config.Config.{Config}
 use Rattle.dds_base.specs.declared.config.PeerConfig.{PeerConfig}
 use Rattle.dds_base.specs.declared.config.WriterConfig.{WriterConfig}
@@ -18,10 +18,12 @@ use Rattle.rtps_reader.specs.Reader.{Proxies, count_of, how_at}
 use Rattle.dds_core.specs.Stored.{StoreKept}
 use Rattle.dds_protocol.specs.Claims.{IsNumbered}
 use Rattle.dds_core.specs.declared.matching.Destination.{Destination}
+use Rattle.dds_core.specs.declared.matching.LastCount.{LastCount}
 use Rattle.dds_core.specs.declared.matching.ReaderName.{ReaderName}
 use Rattle.dds_core.specs.declared.matching.WriterName.{WriterName}
 use Rattle.dds_core.specs.Matching.{destinations}
-use Rattle.dds_core.specs.EndNames.{reader_names, writer_names}
+use Rattle.dds_core.specs.MatchedEnds.{AreMatchedNow, first_count}
+use Rattle.dds_core.specs.EndNames.{all_names, reader_names, writer_names}
 use Rattle.dds_core.specs.Kept.{WriterKept, ReaderKept, PeerKept}
 
 -- the store is that of a reliable reader, by its policies
@@ -41,14 +43,17 @@ pub record FitsWriters (names : List WriterName) (reader : Proxies) (store : Sto
   pub many : length (qos_of store.cache).writers ≤ max_readers
   pub begun : HaveBegun reader
 
--- what never changes of a writer: its name, whether an unregister disposes too, how long its values may be, to which
--- peers it sends, and the names of its matched readers
+-- what stays of a writer while nobody comes or goes: its name, whether an unregister disposes too, and how long its
+-- values may be, which never change; and whom it is matched with, to which peers it sends, the names of its reliable
+-- readers, and the last counts of those that were matched before
 pub record WriterIdentity : Type 0 where
   pub entity : EntityId
   pub autodispose : Bool
   pub max_value : ℕ
+  pub matched : List ReaderName
   pub destinations : List Destination
   pub readers : List ReaderName
+  pub counts : List LastCount
 
 -- what never changes of a reader: its name, those of its matched writers, and whether it is a reliable one
 pub record ReaderIdentity : Type 0 where
@@ -56,20 +61,22 @@ pub record ReaderIdentity : Type 0 where
   pub writers : List WriterName
   pub reliable : Bool
 
--- what never changes of a peer: its name, and that of its writers and its readers
+-- what stays of a peer while nobody comes or goes: its name, and that of its writers and its readers
 pub record Identity : Type 0 where
   pub prefix : GuidPrefix
   pub writers : List WriterIdentity
   pub readers : List ReaderIdentity
 
--- what never changes of this writer
+-- what stays of this writer
 abbrev pub writer_identity : WriterKept → WriterIdentity
 writer_identity w = record {
   entity = w.entity;
   autodispose = w.autodispose;
   max_value = w.max_value;
+  matched = w.matched;
   destinations = w.destinations;
   readers = w.readers;
+  counts = w.counts;
 }
 
 -- what never changes of this reader
@@ -77,21 +84,30 @@ abbrev pub reader_identity : ReaderKept → ReaderIdentity
 reader_identity r =
     record { entity = r.entity; writers = r.writers; reliable = reliable_in r.store }
 
--- what never changes of this peer
+-- what stays of this peer
 abbrev pub identity_of : PeerKept → Identity
 identity_of kept = record
     { prefix = kept.prefix; writers = map writer_identity kept.writers; readers = map reader_identity kept.readers }
 
--- what never changes of a writer, as the configuration says it
+-- a writer at its opening, as the configuration says it
 abbrev pub configured_writer : List PeerConfig → WriterConfig → WriterIdentity
 configured_writer peers w =
     record {
       entity = w.entity;
       autodispose = w.autodispose;
       max_value = w.max_value;
+      matched = all_names w.topic peers;
       destinations = destinations w.topic 1 peers;
       readers = reader_names w.topic peers;
+      counts = map first_count (reader_names w.topic peers);
     }
+
+-- a writer of the configuration, with those that it is matched with now
+pub record IsWriterOf (peers : List PeerConfig) (w : WriterConfig) (is : WriterIdentity) : Type 0 where
+  pub entity : is.entity ≡ w.entity
+  pub autodispose : is.autodispose ≡ w.autodispose
+  pub max_value : is.max_value ≡ w.max_value
+  pub ends : AreMatchedNow peers w.topic is.matched is.destinations is.readers
 
 -- what never changes of a reader, as the configuration says it
 abbrev pub configured_reader : List PeerConfig → ReaderConfig → ReaderIdentity
@@ -104,5 +120,7 @@ pub record IsPeerOf (config : Config) (number : ℕ) (identity : Identity) : Typ
   pub own : PeerConfig
   pub at : IsNumbered config.peers number own
   pub prefix : identity.prefix ≡ own.prefix
-  pub writers : identity.writers ≡ map (configured_writer config.peers) own.writers
+  pub count : length identity.writers ≡ length own.writers
+  pub writers : (i : ℕ) (w : WriterConfig) (is : WriterIdentity) → slice_get own.writers i ≡ Some w
+      → slice_get identity.writers i ≡ Some is → IsWriterOf config.peers w is
   pub readers : identity.readers ≡ map (configured_reader config.peers) own.readers

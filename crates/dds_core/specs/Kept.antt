@@ -11,17 +11,20 @@ use Rattle.rtps_writer.specs.Standing.{Kept}
 use Rattle.dds_core.specs.Stored.{StoreKept}
 use Rattle.dds_machine.specs.Part.{Seen}
 use Rattle.dds_core.specs.declared.matching.Destination.{Destination}
+use Rattle.dds_core.specs.declared.matching.LastCount.{LastCount}
 use Rattle.dds_core.specs.declared.matching.ReaderName.{ReaderName}
 use Rattle.dds_core.specs.declared.matching.WriterName.{WriterName}
 
--- a writer: how long its values may be, whom it sends to, its matched readers by their names, and what it keeps of its
--- changes and of those readers
+-- a writer: how long its values may be, its matched readers, to whose peers it sends, the reliable ones by their names,
+-- what it keeps of those that were matched before, and of its changes and its reliable readers
 pub record WriterKept : Type 0 where
   pub entity : EntityId
   pub autodispose : Bool
   pub max_value : ℕ
+  pub matched : List ReaderName
   pub destinations : List Destination
   pub readers : List ReaderName
+  pub counts : List LastCount
   pub writer : Kept
 
 -- a reader: its matched writers, what it knows of them, what it stores, and what was seen of its statuses

@@ -1,6 +1,7 @@
 pub mod Matching
 pub mod EndNames
 pub mod Kept
+pub mod MatchedEnds
 pub mod Lending
 pub mod Identity
 pub mod Standing

@@ -1,16 +1,14 @@
 -- What a peer stands for: each of its writers for a writer of the machine, each of its readers for a reader, and what
--- never changes for what the configuration says of it. What a value stands for need not be believed: the contracts say
+-- stays while nobody comes or goes for what the configuration says of it. What a value stands for need not be believed: the contracts say
 -- all that matters of it.
 --
 -- RTPS 2.5, 8.4.7 (StatefulWriter, ReaderProxy), 8.4.10 (StatefulReader, WriterProxy): the machine has them
 -- without packets.
-use Rattle.std.specs.Prelude.{◌≡◌, ℕ, suc, ◌<◌, ◌≤◌, List, [], map, length, get_or, slice_get, Option, Some, ℤ, All}
+use Rattle.std.specs.Prelude.{◌≡◌, ℕ, suc, ◌<◌, ◌≤◌, List, [], map, length, get_or, slice_get, Option, Some, ℤ, All, false}
 use Rattle.std.specs.List.{AllByRecursion}
 use Rattle.dds_base.specs.declared.config.Config.{Config}
-use Rattle.dds_base.specs.declared.config.PeerConfig.{PeerConfig}
-use Rattle.dds_base.specs.declared.config.WriterConfig.{WriterConfig}
 use Rattle.dds_base.specs.declared.change.Change.{Change}
-use Rattle.dds_base.specs.Bounds.{end_of_moments, greatest_value, max_peers, max_readers}
+use Rattle.dds_base.specs.Bounds.{end_of_moments, greatest_value, max_readers}
 use Rattle.dds_base.specs.Kept.{change_at}
 use Rattle.dds_base.specs.Written.{changes_of}
 use Rattle.dds_cache.specs.Standing.{qos_of}
@@ -20,9 +18,7 @@ use Rattle.rtps_writer.specs.Standing.{Kept, reader_count, StandsFor as RtpsStan
 use Rattle.rtps_writer.specs.WriterState.{WriterState}
 use Rattle.dds_machine.specs.declared.endpoint.Endpoint.{Endpoint}
 use Rattle.dds_protocol.specs.Dues.{AreTellable}
-use Rattle.dds_machine.specs.Opening.{matched_readers}
-use Rattle.dds_machine.specs.Part.{Begun, Writer, Reader, ReaderProxy, WriterProxy, no_writer, no_reader, own_writer, place_of}
-use Rattle.dds_protocol.specs.Claims.{IsNumbered}
+use Rattle.dds_machine.specs.Part.{Begun, Writer, Reader, ReaderProxy, WriterProxy, no_writer, no_reader, peers_of, place_of}
 use Rattle.dds_protocol.specs.Peer.{Peer}
 use Rattle.dds_protocol.specs.Protocol.{Known}
 use Rattle.dds_core.specs.declared.matching.Destination.{Destination}
@@ -30,6 +26,7 @@ use Rattle.dds_core.specs.declared.matching.ReaderName.{ReaderName}
 use Rattle.dds_core.specs.declared.matching.WriterName.{WriterName}
 use Rattle.dds_core.specs.Storing.{Holds}
 use Rattle.dds_core.specs.Kept.{WriterKept, ReaderKept, PeerKept}
+use Rattle.dds_core.specs.MatchedEnds.{AreRows, is_named, last_count, readers_of}
 use Rattle.dds_core.specs.Identity.{identity_of, IsPeerOf}
 
 -- the state of a writer of the machine, with the count of the last ACKNACK that it took of each matched reader
@@ -49,13 +46,17 @@ state_of w answered = record {
 abbrev pub CountsFrom1 : ReaderProxy → Type 0
 CountsFrom1 p = 1 ≤ p.acknowledged
 
--- a writer of the machine for which what is kept stands, with those counts
+-- a writer of the machine for which what is kept stands, with those counts; that of a reader without a row is kept beside
 pub record WriterStands (kept : WriterKept) (w : Writer) (answered : Endpoint → Option ℤ) : Type 0 where
   pub autodispose : w.autodispose ≡ kept.autodispose
   pub values : w.max_value ≡ kept.max_value
+  pub matched : w.matched ≡ readers_of kept.matched
   pub readers : map (λ (p : ReaderProxy). p.reader) w.readers ≡ map (λ (r : ReaderName). r.reader) kept.readers
   pub writer : RtpsStandsFor kept.writer (state_of w answered)
   pub begun : All CountsFrom1 w.readers
+  pub rows : AreRows kept.matched kept.readers kept.counts
+  pub counted : (reader : Endpoint) → is_named kept.readers reader ≡ false
+      → answered reader ≡ last_count kept.counts reader
 
 -- a value has at most so many octets, and no more than a datagram takes
 abbrev pub IsShort : ℕ → List ℕ → Type 0
@@ -66,11 +67,13 @@ abbrev pub AreShort : ℕ → List Change → Type 0
 AreShort most changes = (number : ℕ) (change : Change) → change_at changes number ≡ Some change
     → IsShort most change.value
 
--- what is so of each writer: it sends to at most 16 peers with at most 256 readers, its readers are those of what it
--- keeps, and that stands for some state, of changes as short as its values are to be
-pub record IsWhole (most : ℕ) (destinations : List Destination) (readers : List ReaderName) (writer : Kept)
-    : Type 0 where
-  pub few : length destinations ≤ max_peers
+-- what is so of each writer: it sends to the peers of its matched readers, of which there are at most 256, as there are
+-- reliable readers, those are the ones of what it keeps, and that stands for some state, of changes as short as its
+-- values are to be
+pub record IsWhole (most : ℕ) (matched : List ReaderName) (destinations : List Destination) (readers : List ReaderName)
+    (writer : Kept) : Type 0 where
+  pub told : peers_of (readers_of matched) ≡ map (λ (d : Destination). d.peer) destinations
+  pub few : length destinations ≤ max_readers
   pub many : length readers ≤ max_readers
   pub count : reader_count writer ≡ length readers
   pub state : WriterState
@@ -117,16 +120,9 @@ pub record ReadersStand (kept : List ReaderKept) (proxies : List (List WriterPro
   pub each : (i : ℕ) (k : ReaderKept) → slice_get kept i ≡ Some k
       → ReaderStands k (get_or proxies i []) (get_or rs i no_reader) (λ w. known.tracked w (suc i))
 
--- each writer of the peer is matched with the readers of its topic
-abbrev pub AreMatched : Config → Peer → Type 0
-AreMatched config peer =
-    (own : PeerConfig) (number : ℕ) (w : WriterConfig) → IsNumbered config.peers peer.number own
-    → IsNumbered own.writers number w → (own_writer peer.part number).matched ≡ matched_readers w.topic 1 config.peers
-
 -- a state of the peer for which what is kept stands
 pub record StandsFor (kept : PeerKept) (config : Config) (peer : Peer) : Type 0 where
   pub is_peer : IsPeerOf config peer.number (identity_of kept)
-  pub matched : AreMatched config peer
   pub moment : peer.part.dds.moment ≡ kept.moment
   pub early : kept.moment < end_of_moments
   pub writers : WritersStand kept.writers peer.part.rtps.writers peer.known.answered

@@ -3,14 +3,14 @@
 //!
 //! RTPS 2.5, 8.4.9 (reliable StatefulWriter: heartbeatPeriod), 8.3.8 (Heartbeat), 8.7.2.2 (LIVELINESS).
 
-ghost use Rattle.std.specs.Prelude.{◌≡◌, ◌+◌, ◌<◌, ◌≤◌, ◌∷◌, [], ℤ, Option, length};
-ghost use Rattle.dds_base.specs.Bounds.{max_peers};
+ghost use Rattle.std.specs.Prelude.{◌≡◌, ◌+◌, ◌<◌, ◌≤◌, ◌∷◌, [], ℤ, Option, drop, length};
+ghost use Rattle.dds_base.specs.Bounds.{max_readers};
 ghost use Rattle.rtps_wire.specs.Messages.{IsWritable};
 ghost use Rattle.rtps_writer.specs.Standing.{reader_count, StandsFor as RtpsStandsFor};
 ghost use Rattle.dds_machine.specs.declared.endpoint.Endpoint.{Endpoint};
-ghost use Rattle.dds_machine.specs.Part.{Writer};
+ghost use Rattle.dds_machine.specs.Part.{Writer, writer_changes};
 ghost use Rattle.dds_protocol.specs.DueMessages.{AreSent};
-ghost use Rattle.dds_core.specs.Beating.{IsHeartbeatValid, AddsTo, due_to, message_to, told_to, is_peer_behind, AreReadersOf, Beats};
+ghost use Rattle.dds_core.specs.Beating.{IsHeartbeatValid, AddsTo, due_to, message_to, told_to, is_last_behind, is_peer_behind, AreReadersOf, Beats};
 ghost use Rattle.dds_core.specs.Sending.{AreMessages, max_unsent};
 ghost use Rattle.dds_core.specs.Standing.{state_of};
 
@@ -63,22 +63,38 @@ fn message(alloc: Global, beat: &Beat, to: GuidPrefix) -> Message<'static>
     }
 }
 
-/// Whether some reader of this peer, among these readers of a writer, has not acknowledged all changes.
+/// Whether some reader of this peer, among these readers of a writer from this row on, has not acknowledged all changes.
 ///
 /// RTPS 2.5, 8.4.7 (ReaderProxy, unacked_changes).
-fn is_peer_behind(writer: &StatefulWriter, readers: &[ReaderName], peer: u8) -> bool
-    requires { reader_count writer.now ≡ length readers.now }
+fn is_peer_behind(writer: &StatefulWriter, readers: &[ReaderName], from: usize, peer: u8) -> bool
+    requires count { reader_count writer.now ≡ length readers.now }
+    requires from { from ≤ length readers.now }
     ensures { (w : Writer) (answered : Endpoint → Option ℤ)
         → AreReadersOf w readers.now
         → RtpsStandsFor writer.now (state_of w answered)
-        → result ≡ is_peer_behind w peer }
+        → result ≡ is_peer_behind (length (writer_changes w)) peer (drop from w.readers) }
 {
-    for (index, name) in readers.iter().enumerate() {
-        if name.reader.peer == peer && writer.is_behind(index) {
+    for row in from..readers.len() {
+        let name = readers[row];
+        if name.reader.peer == peer && writer.is_behind(row) {
             return true;
         }
     }
     false
+}
+
+/// Whether the reader of this row is the last one of its peer, among these readers of a writer, that has not acknowledged
+/// all changes.
+fn is_last_behind(writer: &StatefulWriter, readers: &[ReaderName], row: usize) -> bool
+    requires count { reader_count writer.now ≡ length readers.now }
+    requires row { row < length readers.now }
+    ensures { (w : Writer) (answered : Endpoint → Option ℤ)
+        → AreReadersOf w readers.now
+        → RtpsStandsFor writer.now (state_of w answered)
+        → result ≡ is_last_behind (length (writer_changes w)) w.readers row }
+{
+    let peer = readers[row].reader.peer;
+    writer.is_behind(row) && !is_peer_behind(writer, readers, row + 1, peer)
 }
 
 /// Sends a HEARTBEAT to a peer.
@@ -95,27 +111,28 @@ fn send_beat(alloc: Global, beat: &Beat, destination: &Destination, sent: &mut A
     send(alloc, sent, &message, destination.peer);
 }
 
-/// Sends a HEARTBEAT to each of these peers with a reader that is behind, among these readers of a writer.
+/// Sends a HEARTBEAT to each peer with a reader that is behind, among these readers of a writer, in the order of the last
+/// such reader of each.
 pub fn send_beats(
     alloc: Global,
     beat: &Beat,
     writer: &StatefulWriter,
     readers: &[ReaderName],
-    destinations: &[Destination],
     sent: &mut Announced,
 )
     requires valid { IsHeartbeatValid beat.now.due }
     requires count { reader_count writer.now ≡ length readers.now }
-    requires few { length destinations.now ≤ max_peers }
-    requires room { sent.old.unsent ≤ 256 }
-    ensures few { sent.new.unsent ≤ sent.old.unsent + 16 }
-    ensures beats { Beats beat.now writer.now readers.now destinations.now sent.old.packets.items
-        sent.old.unsent sent.new.packets.items sent.new.unsent }
+    requires few { length readers.now ≤ max_readers }
+    requires room { sent.old.unsent ≤ 4096 }
+    ensures few { sent.new.unsent ≤ sent.old.unsent + max_readers }
+    ensures beats { Beats beat.now writer.now readers.now sent.old.packets.items sent.old.unsent
+        sent.new.packets.items sent.new.unsent }
     ensures messages { AreMessages sent.old.packets.items → AreMessages sent.new.packets.items }
 {
-    for destination in destinations {
-        if is_peer_behind(writer, readers, destination.peer) {
-            send_beat(alloc, beat, destination, sent);
+    for row in 0..readers.len() {
+        if is_last_behind(writer, readers, row) {
+            let destination = readers[row].peer();
+            send_beat(alloc, beat, &destination, sent);
         }
     }
 }
@@ -123,9 +140,9 @@ pub fn send_beats(
 /// Sends a HEARTBEAT to each of these peers.
 pub fn send_to_all(alloc: Global, beat: &Beat, destinations: &[Destination]) -> Announced
     requires valid { IsHeartbeatValid beat.now.due }
-    requires few { length destinations.now ≤ max_peers }
+    requires few { length destinations.now ≤ max_readers }
     ensures sent { AreSent (told_to beat.now destinations.now) result.packets.items result.unsent }
-    ensures few { result.unsent ≤ max_peers }
+    ensures few { result.unsent ≤ max_readers }
     ensures messages { AreMessages result.packets.items }
 {
     let mut sent = Announced {

@@ -2,13 +2,15 @@
 //!
 //! RTPS 2.5, 8.4.7 (StatefulWriter, matched_readers), 8.4.10 (StatefulReader, matched_writers).
 
-ghost use Rattle.std.specs.Prelude.{◌≡◌, ◌+◌, ◌++◌, ◌≤◌, length, IfOk, OnOk, None};
+ghost use Rattle.std.specs.Prelude.{◌≡◌, ◌+◌, ◌++◌, ◌≤◌, length, map, IfOk, OnOk, None};
 ghost use Rattle.dds_base.specs.Bounds.{max_ends, max_peers, max_readers};
 ghost use Rattle.dds_base.specs.Checked.{check_refusal};
 ghost use Rattle.dds_base.specs.Matched.{of_matched_writers};
 ghost use Rattle.dds_base.specs.MatchedAt.{of_readers_in, of_writers_in};
+ghost use Rattle.dds_core.specs.Beating.{peer_of};
 ghost use Rattle.dds_core.specs.Matching.{has_reader, destinations};
-ghost use Rattle.dds_core.specs.EndNames.{reader_name, reader_names, writer_name, matched_writer};
+ghost use Rattle.dds_core.specs.MatchedEnds.{first_count};
+ghost use Rattle.dds_core.specs.EndNames.{all_names, all_names_in, reader_name, reader_names, writer_name, matched_writer};
 
 use dds_base::{Guid, GuidPrefix, MatchedWriter, PeerConfig};
 use dds_machine::Endpoint;
@@ -26,6 +28,26 @@ pub struct Destination {
 pub struct ReaderName {
     pub reader: Endpoint,
     pub guid: Guid,
+}
+
+impl ReaderName {
+    /// Its peer.
+    pub fn peer(&self) -> Destination
+        ensures { result ≡ peer_of self.now }
+    {
+        Destination {
+            peer: self.reader.peer,
+            prefix: self.guid.prefix,
+        }
+    }
+}
+
+/// A reliable reader that a writer is or was matched with, and the count of the last of its ACKNACKs that was applied
+/// before it left, if it did.
+#[derive(Clone, Copy)]
+pub struct LastCount {
+    pub reader: Endpoint,
+    pub count: Option<i32>,
 }
 
 /// A writer that a reader is matched with, by its number and by its name.
@@ -60,6 +82,65 @@ pub fn destinations(
                 prefix: peer.prefix,
             })?;
         }
+    }
+    Ok(all)
+}
+
+/// Adds the readers of the topic among those of a peer, reliable or not.
+fn push_all_readers(
+    all: &mut Vec<ReaderName>,
+    number: u8,
+    peer: &PeerConfig,
+    topic: u32,
+) -> Result<(), AllocError>
+    requires few { length peer.now.readers ≤ max_ends }
+    ensures names { OnOk result
+        (all.new.items
+        ≡ all.old.items ++ all_names_in number peer.now topic 1 peer.now.readers) }
+{
+    for (index, reader) in peer.readers.as_slice().iter().enumerate() {
+        if reader.topic == topic {
+            all.push(ReaderName {
+                reader: Endpoint {
+                    peer: number,
+                    number: (index + 1) as u8,
+                },
+                guid: Guid {
+                    prefix: peer.prefix,
+                    entity: reader.entity,
+                },
+            })?;
+        }
+    }
+    Ok(())
+}
+
+/// The readers that a writer of the topic is matched with, reliable or not.
+pub fn matched_readers(
+    alloc: Global,
+    peers: &[PeerConfig],
+    topic: u32,
+) -> Result<Vec<ReaderName>, AllocError>
+    requires checked { check_refusal peers.now ≡ None }
+    ensures names { IfOk result (λ all. all.items ≡ all_names topic peers.now) }
+{
+    let mut all = Vec::new(alloc);
+    for (index, peer) in peers.iter().enumerate() {
+        push_all_readers(&mut all, (index + 1) as u8, peer, topic)?;
+    }
+    Ok(all)
+}
+
+/// For each of these readers, that it never left.
+pub fn first_counts(alloc: Global, readers: &[ReaderName]) -> Result<Vec<LastCount>, AllocError>
+    ensures { IfOk result (λ all. all.items ≡ map first_count readers.now) }
+{
+    let mut all = Vec::new(alloc);
+    for name in readers {
+        all.push(LastCount {
+            reader: name.reader,
+            count: None,
+        })?;
     }
     Ok(all)
 }

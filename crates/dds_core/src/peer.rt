@@ -90,7 +90,7 @@ impl Peer {
         ensures step { Steps self.old (event.Tick now) result self.new }
         ensures sends { Sends self.old (event.Tick now) result }
         ensures messages { AreMessages result.packets }
-        ensures few { result.unsent ≤ 256 }
+        ensures few { result.unsent ≤ 4096 }
         ensures plain { IsPlain result.reply }
     {
         if now.units() < self.moment.units() || MOMENT_END <= now.units() {

@@ -3,7 +3,7 @@
 //! RTPS 2.5, 8.4.7 (StatefulWriter); DDS 1.4, 2.2.2.4 (DataWriter).
 
 ghost use Rattle.std.specs.Prelude.{◌≡◌, ◌≢◌, ◌+◌, ◌^◌, ◌<◌, ◌≤◌, ◌⊎◌, ℤ, [], Option, length, map, nat_le, slice_get, slice_index, Some, None, true, false, IfSome, IfNone, IfOk, IfErr, OnOk, OnErr};
-ghost use Rattle.dds_base.specs.Bounds.{greatest_value, max_changes, max_ends, max_peers, max_readers, window_width};
+ghost use Rattle.dds_base.specs.Bounds.{greatest_value, max_changes, max_ends, max_readers, window_width};
 ghost use Rattle.dds_base.specs.Checked.{check_refusal};
 ghost use Rattle.dds_base.specs.declared.code.Code.TheVariants.{Memory, OutOfResources, PreconditionNotMet};
 ghost use Rattle.dds_base.specs.Kept.{append_refusal};
@@ -29,7 +29,10 @@ ghost use Rattle.dds_core.specs.Stepping.{Enters, Ticks, AllTick};
 use crate::answering::{Answering, Room, is_from, rooms, send_answers};
 use crate::heartbeat::{Beat, send_beats, send_to_all};
 use crate::limits::limit_of;
-use crate::matching::{Destination, ReaderName, destinations, reliable_readers};
+use crate::matching::{
+    Destination, LastCount, ReaderName, destinations, first_counts, matched_readers,
+    reliable_readers,
+};
 use crate::receiver::MessageReceiver;
 use crate::sending::{Announced, Sender, announce};
 use crate::status_bits::bit_if;
@@ -52,9 +55,14 @@ pub struct WriterEnd {
     entity: EntityId,
     autodispose: bool,
     max_value: u32,
+    /// Its matched readers, reliable or not, in the order in which they came.
+    matched: Vec<ReaderName>,
+    /// Their peers.
     destinations: Vec<Destination>,
     /// Its matched reliable readers, in the order of their indices in `writer`.
     readers: Vec<ReaderName>,
+    /// Of each reliable reader that it is or was matched with.
+    counts: Vec<LastCount>,
     writer: StatefulWriter,
 }
 
@@ -69,12 +77,15 @@ impl Model for WriterEnd {
       entity = w.entity;
       autodispose = w.autodispose;
       max_value = w.max_value;
+      matched = w.matched.items;
       destinations = w.destinations.items;
       readers = w.readers.items;
+      counts = w.counts.items;
       writer = w.writer;
     } };
 
-    ghost invariant = { λ w. IsWhole w.max_value w.destinations.items w.readers.items w.writer };
+    ghost invariant = { λ w. IsWhole w.max_value w.matched.items w.destinations.items w.readers.items
+        w.writer };
 }
 
 impl WriterEnd {
@@ -87,8 +98,10 @@ impl WriterEnd {
         requires checked { check_refusal peers.now ≡ None }
         ensures { IfOk result (OpensWriter peers.now config.now) }
     {
+        let matched = matched_readers(alloc, peers, config.topic)?;
         let destinations = destinations(alloc, peers, config.topic)?;
         let readers = reliable_readers(alloc, peers, config.topic)?;
+        let counts = first_counts(alloc, readers.as_slice())?;
         let limit = limit_of(config.max_samples);
         let (history, lease) = (config.history, config.lease);
         let strength = config.carried_strength();
@@ -101,8 +114,10 @@ impl WriterEnd {
             entity: config.entity,
             autodispose: config.autodispose,
             max_value: config.max_value,
+            matched,
             destinations,
             readers,
+            counts,
             writer,
         })
     }
@@ -305,7 +320,7 @@ impl WriterEnd {
         requires short { length change.now.value ≤ greatest_value }
         ensures counted { length result.packets.items + result.unsent
             ≡ length self.now.destinations }
-        ensures few { result.unsent ≤ max_peers }
+        ensures few { result.unsent ≤ max_readers }
         ensures announces { AreAnnouncements
             (record { prefix = prefix; entity = self.now.entity; moment = moment }) number
             (content_of change.now) self.now.destinations result.packets.items }
@@ -482,7 +497,7 @@ impl WriterEnd {
         ensures ok { OnOk result (Enters self.old (Asserted now) self.new) }
         ensures tells { IfOk result
             (λ sent. TellsOf prefix self.old sent.packets.items sent.unsent) }
-        ensures few { IfOk result (λ sent. sent.unsent ≤ max_peers) }
+        ensures few { IfOk result (λ sent. sent.unsent ≤ max_readers) }
         ensures refused { IfErr result (λ code. (code ≡ OutOfResources) × HasNoCount self.old) }
         ensures messages { IfOk result (λ sent. AreMessages sent.packets.items) }
         ensures err { OnErr result (self.new ≡ self.old) }
@@ -507,8 +522,8 @@ impl WriterEnd {
     ///
     /// RTPS 2.5, 8.4.9 (reliable StatefulWriter: heartbeatPeriod).
     pub fn tick(&mut self, alloc: Global, prefix: GuidPrefix, now: Moment, sent: &mut Announced)
-        requires room { sent.old.unsent ≤ 256 }
-        ensures few { sent.new.unsent ≤ sent.old.unsent + 16 }
+        requires room { sent.old.unsent ≤ 4096 }
+        ensures few { sent.new.unsent ≤ sent.old.unsent + max_readers }
         ensures ticks { Ticks self.old now self.new }
         ensures beats { BeatsOf prefix self.old sent.old.packets.items sent.old.unsent
             sent.new.packets.items sent.new.unsent }
@@ -523,8 +538,7 @@ impl WriterEnd {
             due,
             asserts: false,
         };
-        let (readers, destinations) = (self.readers.as_slice(), self.destinations.as_slice());
-        send_beats(alloc, &beat, &self.writer, readers, destinations, sent);
+        send_beats(alloc, &beat, &self.writer, self.readers.as_slice(), sent);
     }
 }
 
@@ -538,7 +552,7 @@ pub fn tick_all(
     requires few { length writers.old ≤ max_ends }
     ensures ticks { AllTick writers.old now writers.new }
     ensures beats { BeatsOfAll prefix writers.old result.packets.items result.unsent }
-    ensures few { result.unsent ≤ 256 }
+    ensures few { result.unsent ≤ 4096 }
     ensures messages { AreMessages result.packets.items }
 {
     let mut sent = Announced {

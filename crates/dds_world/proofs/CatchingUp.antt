@@ -39,11 +39,11 @@ use Rattle.dds_protocol.proofs.PairBegun.{Begun, the_begun, writer_is, place_is}
 use Rattle.dds_protocol.proofs.PairCaughtUp.{pair_catches_up, answers_are_few}
 use Rattle.dds_protocol.proofs.PairEnded.{leaves_ended}
 use Rattle.dds_protocol.proofs.PairFound.{beat_found, beat_sought, ask_found_among}
-use Rattle.dds_protocol.proofs.PairNamed.{PairOf, pair_named}
+use Rattle.dds_protocol.proofs.PairNamed.{PairOf}
 use Rattle.dds_protocol.proofs.PairTicked.{TickLeaves, tick_leaves, ticks_there}
 use Rattle.dds_protocol.proofs.DuesMatched.{own_name}
 use Rattle.dds_core.specs.Pairs.{reader_entity}
-use Rattle.dds_core.proofs.BeatsDue.{configured_of}
+use Rattle.dds_core.proofs.KnownPairs.{pair_kept}
 use Rattle.dds_world.specs.declared.round.Matched.{Matched}
 use Rattle.dds_world.specs.declared.round.Round.{Round}
 use Rattle.dds_world.specs.declared.round.RoundReply.{RoundReply}
@@ -230,9 +230,10 @@ here t = has_writer (part t) t.m.writer.number t.m.reader (acknowledged t, own_r
 
 pair : {hearing : Hearing} → (t : Tick hearing) → PairOf t.config t.m.writer t.m.reader
 pair t =
-    pair_named t.config t.m.writer t.m.reader (part t) (acknowledged t) (of t)
-    (λ p w at has. configured_of t.config (peer_at t.network t.m.writer.peer) (core t).core (core t).stands
-    t.m.writer.peer (t.s.sound.number t.m.writer.peer (there t)) t.m.writer.number p w at has) (own_row t)
+    subst (λ (n : ℕ). PairOf t.config (record { peer = n; number = t.m.writer.number }) t.m.reader)
+    (t.s.sound.number t.m.writer.peer (there t))
+    (pair_kept t.config (peer_at t.network t.m.writer.peer) (core t).core (core t).stands t.m.writer.number t.m.reader
+    (acknowledged t) (own_row t))
 
 stands : {hearing : Hearing} → (t : Tick hearing) → StandsAt t.network t.m.writer t.m.reader t.place (acknowledged t)
 stands t =

@@ -1,44 +1,41 @@
-use Rattle.std.proofs.Common.{◌+◌, take, sym, subst, ◌∙◌, arith, true, false}
+use Rattle.std.proofs.Common.{◌+◌, ◌<◌, [], ◌∷◌, length, sym, subst, ◌∙◌, arith, rules, true, false}
+use Rattle.dds_core.specs.declared.matching.Destination.{Destination}
 use Rattle.dds_core.specs.declared.sending.Announced.{Announced}
-use Rattle.dds_core.proofs.Beating.{SentTo, adds_none, beats_more}
+use Rattle.dds_core.specs.Beating.{AddsTo, due_to, message_to}
+use Rattle.dds_core.proofs.Beating.{SentBefore, beats_more, beats_same}
 use Rattle.dds_core.proofs.heartbeat.send_beats.Goals as goal
-use Rattle.dds_core.proofs.heartbeat.send_beats.Goals.{then-is_peer_behind, else-is_peer_behind}
+use Rattle.dds_core.proofs.heartbeat.send_beats.Goals.{then-is_last_behind, else-is_last_behind}
 
-pub loop-destination-preserved : goal.loop-destination-preserved
-loop-destination-preserved c =
+pub loop-row-preserved : goal.loop-row-preserved
+loop-row-preserved c =
     let beat = c.args.beat.now in
-    let ds = c.args.destinations.now in
-    let i = c.loop-destination.destination-index in
-    let before = c.loop-destination.invariant in
+    let names = c.args.readers.now in
+    let row = c.loop-row.row in
+    let before = c.loop-row.invariant in
     let few = before.few in
-    elim c.if-is_peer_behind.branch [
-      | then-is_peer_behind v ↦
+    let lt : row < length names = search rules in
+    elim c.if-is_last_behind.branch [
+      | then-is_last_behind v ↦
           let more = v.send_beat.ensures.few in
-          subst (λ (x : Announced). SentTo beat c.args.writer.now c.args.readers.now (take (i + 1) ds)
-          (i + 1) c.args.sent.now x) (sym v.sent-is)
+          subst (λ (x : Announced). SentBefore beat c.args.writer.now names (row + 1) c.args.sent.now x) (sym v.sent-is)
           (record {
             few = omega (arith, few, more);
             beats = λ w answered same stands.
-                beats_more beat w ds i _ true c.args.sent.now.packets.items c.loop-destination.sent.packets.items
-                v.send_beat.new.sent.packets.items c.args.sent.now.unsent c.loop-destination.sent.unsent
-                v.send_beat.new.sent.unsent
-                c.loop-destination-test.true (sym (c.is_peer_behind.ensures w answered same stands)
-                ∙ v.if-is_peer_behind.true) (before.beats w answered same stands)
-                v.send_beat.ensures.adds;
+                beats_more beat w names row _ true c.args.sent.now c.loop-row.sent v.send_beat.new.sent same lt
+                (sym (c.is_last_behind.ensures w answered same stands) ∙ v.if-is_last_behind.true)
+                (before.beats w answered same stands)
+                (subst (λ (d : Destination). AddsTo (due_to d.peer (message_to beat d.prefix) ∷ []) c.loop-row.sent
+                v.send_beat.new.sent) v.peer-destination.ensures v.send_beat.ensures.adds);
             messages = λ h. v.send_beat.ensures.messages (before.messages h);
           })
-      | else-is_peer_behind v ↦
-          subst (λ (x : Announced). SentTo beat c.args.writer.now c.args.readers.now (take (i + 1) ds)
-          (i + 1) c.args.sent.now x) (sym v.sent-is)
+      | else-is_last_behind v ↦
+          subst (λ (x : Announced). SentBefore beat c.args.writer.now names (row + 1) c.args.sent.now x) (sym v.sent-is)
           (record {
             few = omega (arith, few);
             beats = λ w answered same stands.
-                beats_more beat w ds i _ false c.args.sent.now.packets.items c.loop-destination.sent.packets.items
-                c.loop-destination.sent.packets.items c.args.sent.now.unsent c.loop-destination.sent.unsent
-                c.loop-destination.sent.unsent
-                c.loop-destination-test.true (sym (c.is_peer_behind.ensures w answered same stands)
-                ∙ v.if-is_peer_behind.false) (before.beats w answered same stands)
-                (adds_none c.loop-destination.sent.packets.items c.loop-destination.sent.unsent);
+                beats_same beat w names row c.args.sent.now c.loop-row.sent same lt
+                (sym (c.is_last_behind.ensures w answered same stands) ∙ v.if-is_last_behind.false)
+                (before.beats w answered same stands);
             messages = before.messages;
           })
     ]

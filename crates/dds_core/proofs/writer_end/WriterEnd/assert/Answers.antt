@@ -26,8 +26,8 @@ returns-clause-ok c =
 pub returns-clause-tells : goal.returns-clause-tells
 returns-clause-tells c = λ w answered s.
     let kept : WriterKept =
-    kept_as c.self.inside.entity c.self.inside.autodispose c.self.inside.max_value c.self.inside.destinations.items
-    c.self.inside.readers.items c.self.inside.writer in
+    kept_as c.self.inside.entity c.self.inside.autodispose c.self.inside.max_value c.self.inside.matched.items
+    c.self.inside.destinations.items c.self.inside.readers.items c.self.inside.counts.items c.self.inside.writer in
     let beat : Beat =
     record { prefix = c.args.prefix; entity = c.self.inside.entity; due = c.in-Some.due; asserts = true } in
     let sent = c.send_to_all.result in

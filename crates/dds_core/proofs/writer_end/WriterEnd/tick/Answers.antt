@@ -3,7 +3,6 @@ use Rattle.rtps_writer.specs.WriterState.{heartbeat_due}
 use Rattle.dds_machine.specs.Ticks.{ticked}
 use Rattle.dds_protocol.specs.DueMessages.{Due}
 use Rattle.dds_core.specs.declared.heartbeat.Beat.{Beat}
-use Rattle.dds_core.specs.declared.matching.Destination.{Destination}
 use Rattle.dds_core.specs.declared.matching.ReaderName.{ReaderName}
 use Rattle.dds_core.specs.Beating.{Adds, beats_of, beats_to}
 use Rattle.dds_core.specs.Kept.{WriterKept}
@@ -39,8 +38,8 @@ returns-clause-beats c = λ w answered s.
     let old = c.args.sent.now in
     let new = c.send_beats.new.sent in
     let kept : WriterKept =
-    kept_as c.self.inside.entity c.self.inside.autodispose c.self.inside.max_value c.self.inside.destinations.items
-    c.self.inside.readers.items c.self.inside.writer in
+    kept_as c.self.inside.entity c.self.inside.autodispose c.self.inside.max_value c.self.inside.matched.items
+    c.self.inside.destinations.items c.self.inside.readers.items c.self.inside.counts.items c.self.inside.writer in
     let beat : Beat =
     record { prefix = c.args.prefix; entity = c.self.inside.entity; due = c.in-Some.due; asserts = false } in
     let here = stands_there kept c.args.self.now w answered c.self.view_is s in
@@ -51,9 +50,9 @@ returns-clause-beats c = λ w answered s.
     let sent =
     c.send_beats.ensures.beats (ticked c.args.now w) answered
     (here.readers ∙ ap (λ (ns : List ReaderName). map (λ (n : ReaderName). n.reader) ns)
-    (sym c.as_slice-readers.ensures.value)) after.writer in
+    (sym c.as_slice.ensures.value)) after.writer in
     subst (λ (k : WriterKept). Adds (beats_of c.args.prefix k w) old.packets.items old.unsent new.packets.items
     new.unsent) c.self.view_is
     (subst (λ (dues : List Due). Adds dues old.packets.items old.unsent new.packets.items new.unsent)
-    (ap (λ (ds : List Destination). beats_to beat w ds) c.as_slice-destinations.ensures.value
+    (ap (λ (ns : List ReaderName). beats_to beat w ns) c.as_slice.ensures.value
     ∙ beats_are c.args.prefix kept w answered c.args.now c.in-Some.due due) sent)
