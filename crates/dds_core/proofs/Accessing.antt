@@ -38,7 +38,7 @@ use Rattle.dds_machine.specs.Watching.{Test, Tests, condition_refusal, condition
 use Rattle.dds_core.specs.Accesses.{access_call, condition_call}
 use Rattle.dds_core.specs.declared.watching.Asked.{Asked}
 use Rattle.dds_core.specs.declared.matching.WriterName.{WriterName}
-use Rattle.rtps_reader.specs.Reader.{Proxies, Tracks}
+use Rattle.rtps_reader.specs.Reader.{Proxies, Tracks, how_at}
 use Rattle.rtps_reader.specs.Tracked.{Tracked}
 use Rattle.dds_lease.specs.Standing.{Kept as Leased, StandsFor as LeasesStandFor}
 use Rattle.dds_core.specs.Stored.{StoreKept}
@@ -47,7 +47,7 @@ use Rattle.dds_machine.specs.declared.endpoint.Endpoint.{Endpoint}
 use Rattle.dds_core.proofs.Rows.{writers_of}
 use Rattle.dds_core.specs.Kept.{ReaderKept, PeerKept}
 use Rattle.dds_core.specs.Looking.{TakesOnly, access_reply}
-use Rattle.dds_core.specs.Standing.{IsFirstRow, ReaderStands, StandsFor}
+use Rattle.dds_core.specs.Standing.{IsFirstRow, ReaderStands, StandsFor, stood_as}
 use Rattle.dds_core.proofs.CallSteps.{FollowsBy, follows_as, refused_call, still_stands, there_is}
 use Rattle.dds_core.proofs.Ends.{with_reader, own_reader_changed}
 use Rattle.dds_core.proofs.Taking.{silent}
@@ -149,7 +149,9 @@ one_entered entry quiet k k' proxies r tracked samples same s stands = record {
     turned_is = same.turned ∙ (s.holds.turned_is ∙ sym (quiet.turned samples r.happened));
   };
   seen_is = s.seen_is ∙ sym same.seen;
-  begun = s.begun;
+  hows = λ w n f.
+      s.hows w n (subst (λ (ns : List WriterName). IsFirstRow ns w n) same.writers f)
+      ∙ ap (λ (x : Proxies). stood_as (how_at x n)) (sym same.reader);
 }
 
 -- the part after an access

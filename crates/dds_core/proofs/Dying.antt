@@ -122,7 +122,7 @@ expires kept now store qos died = record {
     holds =
         subst (λ (q : ReaderQos). Holds store (after_deaths q now r.happened)) (sym s.qos_is) (died r.happened s.holds);
     seen_is = s.seen_is;
-    begun = s.begun;
+    hows = s.hows;
   };
 }
 

@@ -138,7 +138,7 @@ reader_stands_on k proxies r old new same s = record {
   qos_is = s.qos_is;
   holds = s.holds;
   seen_is = s.seen_is;
-  begun = s.begun;
+  hows = s.hows;
 }
 
 -- own reader n stepped, and knows what it knows now

@@ -31,13 +31,14 @@ pub mod WriterEnds
 pub mod Named
 pub mod Rows
 pub mod Takes
+pub mod Meeting
 pub mod TakenSoFar
 pub mod Idle
 pub mod Turns
 pub mod Ready
 pub mod LastReader
 pub mod ReaderEnds
-pub mod BegunPlaces
+pub mod Fitting
 pub mod Telling
 pub mod Taking
 pub mod EffectsLaws

@@ -59,7 +59,7 @@ looked c kept i k reply seen config peer s at is =
         qos_is = rs.qos_is;
         holds = rs.holds;
         seen_is = refl;
-        begun = rs.begun;
+        hows = rs.hows;
       }),
     )
 

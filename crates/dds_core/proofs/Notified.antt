@@ -332,7 +332,7 @@ sees_so k k' status seen is so proxies r tracked s =
       qos_is = s.qos_is;
       holds = s.holds;
       seen_is = sym (so r s.holds s.qos_is s.seen_is);
-      begun = s.begun;
+      hows = s.hows;
     })
 
 pub sees_lost : (k k' : ReaderKept) (status : Status) (x v : SampleLostStatus) (now : Seen) → status ≡ SampleLost x

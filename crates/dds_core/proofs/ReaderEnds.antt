@@ -1,5 +1,5 @@
 -- A reader at its opening.
-use Rattle.std.proofs.Common.{◌≡◌, ℕ, ◌+◌, ◌<◌, ◌≤◌, true, cond, Bool, false, List, [], ◌∷◌, ◌++◌, Option, None, Some, map, length, refl, ap, sym, ◌∙◌, arith}
+use Rattle.std.proofs.Common.{◌≡◌, ℕ, ◌+◌, ◌<◌, ◌≤◌, true, cond, Bool, false, List, [], ◌∷◌, ◌++◌, Option, None, Some, map, length, refl, ap, sym, ◌∙◌, subst, arith}
 use Rattle.std.specs.Option.{option_map}
 use Rattle.dds_base.specs.declared.config.PeerConfig.{PeerConfig}
 use Rattle.dds_base.specs.declared.config.ReaderConfig.{ReaderConfig}
@@ -8,7 +8,9 @@ use Rattle.dds_base.specs.declared.qos.MatchedWriter.{MatchedWriter}
 use Rattle.dds_base.specs.declared.qos.ReaderQos.{ReaderQos}
 use Rattle.dds_base.specs.Matched.{same_topic, is_reliable, is_reliable_reader, of_matched_writers}
 use Rattle.dds_cache.specs.Standing.{qos_of}
-use Rattle.rtps_reader.specs.Reader.{Proxies, Tracks, count_of}
+use Rattle.rtps_reader.specs.declared.attachment.Attachment.{Attachment as AttachmentOf}
+use Rattle.rtps_reader.specs.declared.attachment.Attachment.TheVariants as standing
+use Rattle.rtps_reader.specs.Reader.{Proxies, Tracks, count_of, how_at}
 use Rattle.rtps_reader.specs.Tracked.{fresh}
 use Rattle.dds_machine.specs.declared.endpoint.Endpoint.{Endpoint}
 use Rattle.dds_base.specs.Checked.{limit_of}
@@ -17,10 +19,11 @@ use Rattle.dds_machine.specs.Opening.{matched_writers}
 use Rattle.dds_machine.specs.Part.{Begun, WriterProxy, same_endpoint, row_of, place_of, nothing_seen}
 use Rattle.dds_protocol.proofs.OwnGuids.{as_many}
 use Rattle.dds_core.specs.declared.matching.WriterName.{WriterName}
-use Rattle.dds_core.proofs.Rows.{AllBegun}
-use Rattle.dds_core.specs.Identity.{FitsWriters, HaveBegun, reliable_in}
+use Rattle.dds_core.proofs.Rows.{AllBegun, IsFirstOf, how_there, is_first_of, proxied, writers_of}
+use Rattle.dds_core.specs.Identity.{FitsWriters, reliable_in}
 use Rattle.dds_core.specs.EndNames.{writer_name, matched_writer}
 use Rattle.dds_core.specs.OpeningEnds.{OpensReader}
+use Rattle.dds_core.specs.Standing.{stood_as}
 use Rattle.dds_core.specs.Stored.{StoreKept}
 use Rattle.dds_core.specs.Storing.{Holds}
 use Rattle.dds_core.proofs.Identities.{identity_as}
@@ -127,34 +130,43 @@ pub opens_reader : (peers : List PeerConfig) (r : ReaderConfig) (names : List Wr
     → names ≡ of_matched_writers writer_name r.topic 1 peers
     → writers ≡ of_matched_writers matched_writer r.topic 1 peers
     → ((index : ℕ) → index < length names → Tracks reader index fresh)
+    → ((index : ℕ) → index < length names → how_at reader index ≡ standing.Begun)
     → qos_of store.cache ≡ qos_with r writers → Holds store []
     → OpensReader peers r
     (record { entity = r.entity; writers = names; reader = reader; store = store; seen = nothing_seen })
-opens_reader peers r names writers reader store matched told nothing qos stands =
+opens_reader peers r names writers reader store matched told nothing begun qos stands =
     record {
       identity =
           identity_as r.entity r.entity names _ (reliable_in store) (is_reliable_reader r) refl matched
           (ap (λ (q : ReaderQos). is_reliable q.reliability) qos);
       stands = record {
-        writers_are = map-matched_writers (λ (p : WriterProxy). p.writer) _ r.topic 1 peers
-            ∙ sym (ap (λ (ns : List WriterName). map (λ (n : WriterName). n.writer) ns) matched
-            ∙ map-matched_writers (λ (n : WriterName). n.writer) writer_name r.topic 1 peers);
+        writers_are = same;
         places = λ w k h. place_is_one (matched_writers r.topic 1 peers) w k (are_ones r.topic 1 peers) h;
         knows = λ w k f. nothing k (get-within names k f.name f.at);
         qos_is = sym (qos ∙ ap (λ (ws : List MatchedWriter). qos_with r ws) told);
         holds = stands;
         seen_is = refl;
-        begun = all_begun r.topic 1 peers;
+        hows = λ w k f.
+            how_there (matched_writers r.topic 1 peers) w k
+            (subst (λ (es : List Endpoint). IsFirstOf es w k) (sym same) (is_first_of names w k f))
+            (all_begun r.topic 1 peers)
+            ∙ sym (ap (λ (x : AttachmentOf). stood_as x) (begun k (get-within names k f.name f.at)));
       };
     }
+  where
+    same : proxied (matched_writers r.topic 1 peers) ≡ writers_of names
+    same =
+        map-matched_writers (λ (p : WriterProxy). p.writer) _ r.topic 1 peers
+        ∙ sym (ap (λ (ns : List WriterName). map (λ (n : WriterName). n.writer) ns) matched
+        ∙ map-matched_writers (λ (n : WriterName). n.writer) writer_name r.topic 1 peers)
 
 -- there are as many rows as writers in the policies
 pub rows_fit : (peers : List PeerConfig) (r : ReaderConfig) (names : List WriterName) (writers : List MatchedWriter)
     (reader : Proxies) (store : StoreKept) → names ≡ of_matched_writers writer_name r.topic 1 peers
     → writers ≡ of_matched_writers matched_writer r.topic 1 peers → count_of reader ≡ length names
     → qos_of store.cache ≡ qos_with r writers → length writers ≤ 256 → (reliable : Bool)
-    → reliable ≡ is_reliable_reader r → HaveBegun reader → FitsWriters names reader store reliable
-rows_fit peers r names writers reader store matched told count qos many reliable is begun =
+    → reliable ≡ is_reliable_reader r → FitsWriters names reader store reliable
+rows_fit peers r names writers reader store matched told count qos many reliable is =
     let same = as_many writer_name matched_writer r.topic 1 peers in
     let a : length names ≡ length (of_matched_writers writer_name r.topic 1 peers) =
     ap (λ (ns : List WriterName). length ns) matched in
@@ -166,5 +178,4 @@ rows_fit peers r names writers reader store matched told count qos many reliable
       count = count;
       fits = omega (arith, same, a, b);
       many = omega (arith, c, many);
-      begun = begun;
     }

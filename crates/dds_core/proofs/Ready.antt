@@ -6,7 +6,8 @@ use Rattle.dds_base.specs.declared.happening.Happening.{Happening}
 use Rattle.dds_cache.specs.Standing.{qos_of}
 use Rattle.dds_base.specs.declared.guid.EntityId.{EntityId}
 use Rattle.rtps_reader.specs.Tracked.{Tracked}
-use Rattle.rtps_reader.specs.Reader.{Proxies, Tracks, AllStay}
+use Rattle.rtps_reader.specs.Reader.{Proxies, Tracks, AllStay, AllStand}
+use Rattle.rtps_reader.specs.declared.attachment.Attachment.{Attachment as AttachmentOf}
 use Rattle.rtps_reader.specs.declared.step.HeartbeatSeen.{HeartbeatSeen}
 use Rattle.rtps_wire.specs.declared.submessage.Submessage.{Submessage}
 use Rattle.rtps_wire.specs.declared.submessage.Submessage.TheVariants.{Data, Heartbeat, Gap}
@@ -29,7 +30,7 @@ use Rattle.dds_core.specs.Identity.{ReaderIdentity, Identity, reader_identity, r
 use Rattle.dds_core.specs.Readiness.{IsNamedAt, IsFirstName, IsRowOf, IsFirstNamed, IsPrepared, IsReadyFor, IsReadyWith, AreReady, IsAlike, AreAlike, CanTake, TakesTold, SameReader, moves_of, IsBounded, IsToldBounded, IsToldBy, writer_guid}
 use Rattle.dds_core.specs.Receiving.{AllCanTake, TookAt, TakesAll, ReadersTake, StandsAsWell}
 use Rattle.dds_core.proofs.TakenSoFar.{TakesSome}
-use Rattle.dds_core.specs.Standing.{IsFirstRow, ReaderStands}
+use Rattle.dds_core.specs.Standing.{IsFirstRow, ReaderStands, stood_as}
 use Rattle.dds_core.specs.Stored.{StoreKept}
 use Rattle.dds_core.specs.Storing.{Holds}
 use Rattle.dds_core.proofs.Identities.{same_identity}
@@ -60,16 +61,24 @@ last-cases (a ∷ xs) x (suc j) y at =
     ⊎_elim (λ s. inl (ap suc s.0, s.1)) (λ o. let lt = o.0 in inr (omega (arith, lt), o.1)) (last-cases xs x j y at)
 
 pub alike_self : (k : ReaderKept) → IsAlike k k
-alike_self k = record { entity = refl; writers = refl; reader = λ i t h. h; qos = refl; seen = refl; holds = λ h s. s }
+alike_self k = record {
+  entity = refl;
+  writers = refl;
+  reader = λ i t h. h;
+  how = λ i. refl;
+  qos = refl;
+  seen = refl;
+  holds = λ h s. s;
+}
 
 -- the reader that is open has more memory in what it knows and in what it holds
 pub alike_as : {inside old : ReaderKept} {reader : Proxies} {store : StoreKept} → inside ≡ old
-    → AllStay inside.reader reader → qos_of store.cache ≡ qos_of inside.store.cache
+    → AllStay inside.reader reader → AllStand inside.reader reader → qos_of store.cache ≡ qos_of inside.store.cache
     → ((h : List Happening) → Holds inside.store h → Holds store h)
     → IsAlike old (record inside { reader = reader; store = store })
-alike_as {inside} {reader = reader} {store} view same qos holds =
+alike_as {inside} {reader = reader} {store} view same how qos holds =
     subst (λ (k : ReaderKept). IsAlike k (record inside { reader = reader; store = store })) view
-    (record { entity = refl; writers = refl; reader = same; qos = qos; seen = refl; holds = holds })
+    (record { entity = refl; writers = refl; reader = same; how = how; qos = qos; seen = refl; holds = holds })
 
 pub all_alike_self : (ks : List ReaderKept) → AreAlike ks ks
 all_alike_self ks =
@@ -86,6 +95,7 @@ alike_on a b c x y =
       writers = y.writers
           ∙ x.writers;
       reader = λ i t h. y.reader i t (x.reader i t h);
+      how = λ i. y.how i ∙ x.how i;
       qos = y.qos ∙ x.qos;
       seen = y.seen
           ∙ x.seen;
@@ -216,10 +226,10 @@ told_bounded reliable at (Data d) (told.Jump number change) b is = let same = is
 told_bounded reliable at (Gap g) (told.Gap start list) b is =
     let same = ap (λ (x : NumberSet). x.base) is.2 in omega (arith, same, b)
 told_bounded reliable at (Gap g) told.Nothing b is = tt
-told_bounded true at (Heartbeat h) (told.Heartbeat seen) b is =
-    let same = ap (λ (x : HeartbeatSeen). x.first) is in omega (arith, same, b)
-told_bounded false at (Heartbeat h) (told.Heartbeat seen) b is =
-    let same = ap (λ (x : HeartbeatSeen). x.first) is in omega (arith, same)
+told_bounded reliable at (Heartbeat h) (told.Heartbeat seen) b is =
+    let same = ap (λ (x : HeartbeatSeen). x.first) is.1 in omega (arith, same, b)
+told_bounded reliable at (Heartbeat h) (told.Beat seen) b is =
+    let same = ap (λ (x : HeartbeatSeen). x.first) is.1 in omega (arith, same)
 told_bounded reliable at s said b is = absurd is
 
 -- the element of the same index
@@ -272,7 +282,9 @@ alike_stands a b proxies r tracked h s = record {
   qos_is = s.qos_is ∙ sym h.qos;
   holds = h.holds r.happened s.holds;
   seen_is = s.seen_is ∙ sym h.seen;
-  begun = s.begun;
+  hows = λ w k f.
+      s.hows w k (subst (λ (ns : List WriterName). IsFirstRow ns w k) h.writers f)
+      ∙ ap (λ (x : AttachmentOf). stood_as x) (sym (h.how k));
 }
 
 same_identities : (old new : List ReaderKept) → AreAlike old new → map reader_identity new ≡ map reader_identity old

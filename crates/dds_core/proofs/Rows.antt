@@ -115,18 +115,6 @@ how_there (p ∷ ps) e (suc k) first all =
     (miss (same_endpoint p.writer e) (Some p) (row_of (λ (q : WriterProxy). q.writer) ps e) first.0)
     ∙ how_there ps e k first.1 all.1
 
--- after a change that leaves it so, each still has
-pub begun_kept : (change : WriterProxy → WriterProxy) → ((p : WriterProxy) → (change p).how ≡ p.how)
-    → (rows : List WriterProxy) (w : Endpoint) → AllBegun rows
-    → AllBegun (with_row (λ (p : WriterProxy). p.writer) change rows w)
-begun_kept change kept [] w all = all
-begun_kept change kept (p ∷ ps) w all = by (same_endpoint p.writer w) (begun_kept change kept ps w all.1)
-  where
-    by : (b : Bool) → AllBegun (with_row (λ (q : WriterProxy). q.writer) change ps w)
-        → AllBegun (cond b (change p ∷ ps) (p ∷ with_row (λ (q : WriterProxy). q.writer) change ps w))
-    by true rest = (kept p ∙ all.0, all.1)
-    by false rest = (all.0, rest)
-
 -- a changed row is still of its writer
 kept_step : (change : WriterProxy → WriterProxy) (p : WriterProxy) (ps qs : List WriterProxy) (b : Bool)
     → (change p).writer ≡ p.writer → proxied qs ≡ proxied ps

@@ -1,6 +1,6 @@
 -- The peer's readers take a submessage up, one after the other, by the rules of the protocol.
 use Rattle.std.proofs.Common.{◌≡◌, ℕ, ℤ, zero, suc, ◌+◌, ◌<◌, ◌≤◌, Bool, true, false, List, [], ◌∷◌, ◌++◌, Option, Some, None, drop, length, slice_get, refl, ap, sym, ◌∙◌, subst, arith, inl, inr, append_assoc, nat_lt}
-use Rattle.std.specs.Prelude.{IfSome, if◌then◌else◌}
+use Rattle.std.specs.Prelude.{IfSome, nat_le, ◌&&◌, if◌then◌else◌}
 use Rattle.std.proofs.lemmas.Option.{same_Some}
 use Rattle.std.proofs.lemmas.List.{append-nil}
 use Rattle.dds_base.specs.declared.change.Change.{Change}
@@ -13,14 +13,19 @@ use Rattle.dds_base.specs.Kept.{numbers_from}
 use Rattle.dds_base.specs.Matched.{is_reliable, is_reliable_reader}
 use Rattle.dds_base.specs.Counts.{is_later}
 use Rattle.dds_cache.specs.Standing.{qos_of}
+use Rattle.rtps_reader.specs.declared.attachment.Attachment.{Attachment as AttachmentOf}
+use Rattle.rtps_reader.specs.declared.attachment.Attachment.TheVariants as standing
 use Rattle.rtps_reader.specs.declared.step.AckNackDue.{AckNackDue}
 use Rattle.rtps_reader.specs.declared.step.Step.{Step}
 use Rattle.rtps_reader.specs.declared.step.HeartbeatSeen.{HeartbeatSeen}
 use Rattle.rtps_reader.specs.declared.known_writer.KnownWriter.{KnownWriter}
 use Rattle.rtps_reader.specs.Proxy.{tracked}
-use Rattle.rtps_reader.specs.Tracked.{Tracked, with_data, with_gap}
+use Rattle.rtps_reader.specs.Tracked.{Tracked, may_take, with_data, with_gap}
 use Rattle.rtps_reader.proofs.MoveLaws.{same_is}
-use Rattle.rtps_reader.specs.Reader.{Proxies, Tracks, OthersStay, match_at, MovesOn, JumpsOn}
+use Rattle.rtps_reader.specs.Attached.{BeginsIf as BeginsIfTold, MeetsChange as ChangeTold, MeetsNews, Rests}
+use Rattle.rtps_reader.specs.Jump.{comes}
+use Rattle.rtps_reader.specs.Reader.{Proxies, Tracks, how_at, match_at}
+use Rattle.rtps_wire.specs.declared.data.Data.{Data as DataBody}
 use Rattle.rtps_wire.specs.declared.gap.Gap.{Gap as GapBody}
 use Rattle.rtps_wire.specs.declared.heartbeat.Heartbeat.{Heartbeat as HeartbeatBody}
 use Rattle.rtps_wire.specs.declared.submessage.Submessage.{Submessage}
@@ -32,7 +37,7 @@ use Rattle.dds_machine.specs.declared.reply.Move.TheVariants.{Place, Heard}
 use Rattle.dds_protocol.specs.Claims.{Receiver, IsToReader, Names}
 use Rattle.dds_protocol.specs.Peer.{Peer, state_of}
 use Rattle.dds_protocol.specs.DueMessages.{Due, acknacks_due}
-use Rattle.dds_protocol.specs.Protocol.{State, InTurn, MayNeedMemory, TakesChange, TakesGap, heard_as, TakesHeartbeat, TakesOrNot, ReaderTakes, may_do, MeetsChange, MeetsGap, MeetsHeartbeat, stands_to}
+use Rattle.dds_protocol.specs.Protocol.{State, InTurn, MayNeedMemory, heard_as, ReaderTakes, may_do, MeetsChange, MeetsGap, MeetsHeartbeat, stands_to}
 use Rattle.dds_core.specs.declared.delivery.FirstNamed.{FirstNamed}
 use Rattle.dds_core.specs.declared.matching.WriterName.{WriterName}
 use Rattle.dds_core.specs.declared.effects.Effects.{Effects}
@@ -43,7 +48,7 @@ use Rattle.dds_core.specs.declared.reader_told.Told.TheVariants as told
 use Rattle.dds_core.specs.Identity.{reliable_in}
 use Rattle.dds_core.specs.Kept.{ReaderKept, PeerKept}
 use Rattle.dds_core.proofs.Names.{own_reader_is}
-use Rattle.dds_core.specs.Readiness.{IsReadyWith, IsReadyFor, IsNamedAt, IsUnnamed, AreReady, IsFirstNamed, NamesNone, NamedBy, IsToldBy, SameReader, TellsSo, moves_of, seen_in, writer_guid}
+use Rattle.dds_core.specs.Readiness.{IsReadyWith, IsReadyFor, IsNamedAt, IsUnnamed, AreReady, IsFirstNamed, NamesNone, NamedBy, IsToldBy, TellsSo, moves_of, seen_in, writer_guid}
 use Rattle.dds_core.proofs.Idle.{idle_step, jumps_nowhere, stays_with}
 use Rattle.dds_base.specs.Places.{Match}
 use Rattle.dds_base.specs.declared.happening.Happening.{Happening}
@@ -51,17 +56,16 @@ use Rattle.dds_core.specs.Moved.{MovesKept}
 use Rattle.dds_core.specs.Receiving.{TakesAt, TookAt, with_state, NeedsMemory, ReadersTook, TakesAll, TellsReaders, StandsAsWell}
 use Rattle.dds_core.proofs.TakenSoFar.{TakesSome}
 use Rattle.dds_core.specs.Beating.{AddsTo}
-use Rattle.dds_core.specs.Standing.{IsFirstRow, StandsFor}
+use Rattle.dds_core.specs.Standing.{IsFirstRow, StandsFor, stood_as}
 use Rattle.dds_core.proofs.Beating.{adds_none, adds_on}
 use Rattle.dds_core.specs.Storing.{Holds}
-use Rattle.dds_core.proofs.Ends.{with_reader, with_read}
+use Rattle.dds_core.proofs.Ends.{with_reader}
 use Rattle.dds_core.proofs.Lists.{element, left_at, left_more, drop_set, set_back}
 use Rattle.dds_core.proofs.Named.{first_row, is_to, row_of_writer}
 use Rattle.std.proofs.lemmas.Bool.Decides.{nat_tests}
-use Rattle.dds_machine.specs.Numbered.{with_numbered}
-use Rattle.dds_machine.specs.Part.{Attachment, no_reader}
-use Rattle.dds_protocol.proofs.Framing.{with_same}
-use Rattle.dds_core.proofs.Takes.{Telling, begun_here, known_of, proxies_of, reader_of, part_of, stood, stands_after, moves_on, heartbeat_on, jumps_on, after_step}
+use Rattle.dds_machine.specs.Part.{Attachment}
+use Rattle.dds_core.proofs.Takes.{Telling, known_of, reader_of, stood, stands_here}
+use Rattle.dds_core.proofs.Meeting.{Took, Met, NowKnows, NowHas, told_match, moves_at, due_to, change_met, gap_met, nothing_met, jump_met, heartbeat_met, beat_met, repeated_met}
 
 -- what one reader did, by the rules, and what was then due
 pub record ReaderTook (config : Config) (own : GuidPrefix) (at : Receiver) (s : Submessage) (reader : ℕ) (peer : Peer)
@@ -70,36 +74,10 @@ pub record ReaderTook (config : Config) (own : GuidPrefix) (at : Receiver) (s : 
   pub takes : ReaderTakes config own peer.number at s reader (state_of peer) made dues state
   pub stands : StandsFor new config (with_state peer state)
 
--- the same reader, told something that it idles at
-idles_after : (c : Telling) (k' : ReaderKept) → SameReader c.k k' → OthersStay c.row c.k.reader k'.reader
-    → Tracks k'.reader c.row (known_of c) → Holds k'.store (reader_of c).happened
-    → StandsFor (with_reader c.kept c.i k') c.config (with_state c.peer (state_of c.peer))
-idles_after c k' same others knows holds =
-    subst (λ p. StandsFor (with_reader c.kept c.i k') c.config (record c.peer { part = p; known = c.peer.known }))
-    part_same
-    (stands_after c k' (known_of c) (reader_of c).happened
-    (proxies_of c) c.peer.known refl (record { same = same; others = others; knows = knows; holds = holds })
-    refl (stood c).begun ((stood c).places c.writer) (λ w p apart e. e) refl (λ w n apart. refl))
-  where
-    part_same : with_read (part_of c) (suc c.i) (proxies_of c)
-        (record (reader_of c) { happened = (reader_of c).happened }) ≡ part_of c
-    part_same =
-        ap (λ all. record (part_of c) {
-          rtps = record (part_of c).rtps { readers = all };
-          dds = record (part_of c).dds
-              { readers = with_numbered c.peer.part.dds.readers (suc c.i) (reader_of c) };
-        })
-        (with_same c.peer.part.rtps.readers (suc c.i) [])
-        ∙ ap (λ all. record (part_of c) { dds = record (part_of c).dds { readers = all } })
-        (with_same c.peer.part.dds.readers (suc c.i) no_reader)
-
-no_moves : (writer : Endpoint) (reader from : ℕ) (step : Step) → step.heard ≡ false → step.to ≡ from
-    → moves_of writer reader from step ≡ []
-no_moves writer reader from step quiet still =
-    ap (λ b. (if b then Heard writer reader ∷ [] else [])
-    ++ (if nat_lt from step.to then Place writer reader step.to step.passed ∷ [] else [])) quiet
-    ∙ (ap (λ n. if nat_lt from n then Place writer reader step.to step.passed ∷ [] else []) still
-    ∙ ap (λ b. if b then Place writer reader step.to step.passed ∷ [] else []) (not_less from))
+-- where nothing was done, nothing moved
+idle_moves : (writer : Endpoint) (reader : ℕ) (t : Tracked) → moves_of writer reader t.place (idle_step t) ≡ []
+idle_moves writer reader t =
+    ap (λ b. if b then Place writer reader t.place [] ∷ [] else []) (not_less t.place)
   where
     not_less : (n : ℕ) → nat_lt n n ≡ false
     not_less n = grind (arith, nat_tests)
@@ -125,219 +103,191 @@ named_as c own at a b d e f g to = record {
   matched = to.matched;
 }
 
--- what is due to the writer once a submessage was told
-abbrev answer_to : (c : Telling) (own : GuidPrefix) (at : Receiver) (entity writer_id : EntityId) → Step → List Due
-answer_to c own at entity writer_id step =
-    acknacks_due own at.source_guid_prefix c.writer.peer entity writer_id step.acknack
-
 no_answer : (c : Telling) (own : GuidPrefix) (at : Receiver) (entity writer_id : EntityId) (step : Step)
-    → step.acknack ≡ None → answer_to c own at entity writer_id step ≡ []
+    → step.acknack ≡ None → due_to c own at entity writer_id step ≡ []
 no_answer c own at entity writer_id step none =
     ap (λ (o : Option AckNackDue). acknacks_due own at.source_guid_prefix c.writer.peer entity writer_id o) none
 
--- the reader moves on from what it then knows
-abbrev MovesTo : Telling → ReaderKept → Step → Tracked → Type 0
-MovesTo c k' step t =
-    MovesOn (match_at (qos_of c.k.store.cache) c.row c.kept.moment) t (reader_of c).happened step
-    (Tracks k'.reader c.row) (λ h. Holds k'.store h)
+-- how the rules have it that the reader stands to the writer, and what its reliability is
+rules_so : (c : Telling) (Meets : Attachment → Bool → State → Type 0) (k' : ReaderKept) (a : AttachmentOf)
+    (reliable policy : Bool) → how_at c.k.reader c.row ≡ a → policy ≡ reliable
+    → Met c k' (λ s. Meets (stood_as a) reliable s)
+    → Met c k' (λ s. Meets (stands_to (state_of c.peer) c.writer (suc c.i)) policy s)
+rules_so c Meets k' a reliable policy is same m =
+    let stands : stands_to (state_of c.peer) c.writer (suc c.i) ≡ stood_as a =
+    stands_here c ∙ ap (λ (x : AttachmentOf). stood_as x) is in
+    record {
+      state = m.state;
+      meets =
+          subst (λ (b : Bool). Meets (stands_to (state_of c.peer) c.writer (suc c.i)) b m.state) (sym same)
+          (subst (λ (x : Attachment). Meets x reliable m.state) (sym stands) m.meets);
+      stands = m.stands;
+    }
 
--- the reader jumps to the change of this number
-abbrev JumpsTo : Telling → ReaderKept → Step → ℕ → Change → Type 0
-JumpsTo c k' step number change =
-    JumpsOn (match_at (qos_of c.k.store.cache) c.row c.kept.moment) (known_of c) (reader_of c).happened number change
-    step (Tracks k'.reader c.row) (λ h. Holds k'.store h)
+-- a DATA was told
+data_told : (c : Telling) (own : GuidPrefix) (at : Receiver) (d : DataBody) (k' : ReaderKept) (from : ℕ)
+    (step : Step) (reader_id writer_id : EntityId) → NamedBy (Data d) reader_id writer_id
+    → (to : IsToReader c.config own at reader_id writer_id c.writer (record { peer = c.peer.number; number = suc c.i }))
+    → (a : AttachmentOf) (reliable : Bool) → how_at c.k.reader c.row ≡ a → is_reliable_reader to.to.end ≡ reliable
+    → step.acknack ≡ None
+    → Met c k' (λ s. MeetsChange (stood_as a) reliable (state_of c.peer) c.writer (suc c.i) d.writer_sn
+    (change_in d.content at.timestamp) (moves_at c from step) s)
+    → ReaderTook c.config own at (Data d) (suc c.i) c.peer (moves_at c from step)
+    (due_to c own at to.entity writer_id step) (with_reader c.kept c.i k')
+data_told c own at d k' from step reader_id writer_id by to a reliable is policy silent met =
+    let to_it = named_as c own at reader_id writer_id d.reader_id d.writer_id by.0 by.1 to in
+    let m =
+    rules_so c
+    (λ x b s. MeetsChange x b (state_of c.peer) c.writer (suc c.i) d.writer_sn (change_in d.content at.timestamp)
+    (moves_at c from step) s) k' a reliable (is_reliable_reader to.to.end) is policy met in
+    record {
+      state = m.state;
+      takes = inl (c.writer, to_it, (m.meets, no_answer c own at to.entity writer_id step silent));
+      stands = m.stands;
+    }
 
--- what a reader hears of a HEARTBEAT has its count, and is of its writer
-heard_count : (b : Bool) (h : HeartbeatBody) → (heard_as b h).count ≡ h.count
-heard_count true h = refl
-heard_count false h = refl
+-- a GAP was told
+gap_told : (c : Telling) (own : GuidPrefix) (at : Receiver) (g : GapBody) (k' : ReaderKept) (from : ℕ)
+    (step : Step) (reader_id writer_id : EntityId) → NamedBy (Gap g) reader_id writer_id
+    → (to : IsToReader c.config own at reader_id writer_id c.writer (record { peer = c.peer.number; number = suc c.i }))
+    → (a : AttachmentOf) (reliable : Bool) → how_at c.k.reader c.row ≡ a → is_reliable_reader to.to.end ≡ reliable
+    → step.acknack ≡ None
+    → Met c k' (λ s. MeetsGap (stood_as a) reliable (state_of c.peer) c.writer (suc c.i) g (moves_at c from step) s)
+    → ReaderTook c.config own at (Gap g) (suc c.i) c.peer (moves_at c from step)
+    (due_to c own at to.entity writer_id step) (with_reader c.kept c.i k')
+gap_told c own at g k' from step reader_id writer_id by to a reliable is policy silent met =
+    let to_it = named_as c own at reader_id writer_id g.reader_id g.writer_id by.0 by.1 to in
+    let m =
+    rules_so c (λ x b s. MeetsGap x b (state_of c.peer) c.writer (suc c.i) g (moves_at c from step) s) k' a reliable
+    (is_reliable_reader to.to.end) is policy met in
+    record {
+      state = m.state;
+      takes = inl (c.writer, to_it, (m.meets, no_answer c own at to.entity writer_id step silent));
+      stands = m.stands;
+    }
 
-heard_writer : (b : Bool) (h : HeartbeatBody) → (heard_as b h).writer_id ≡ h.writer_id
-heard_writer true h = refl
-heard_writer false h = refl
+-- a HEARTBEAT was told
+heartbeat_told : (c : Telling) (own : GuidPrefix) (at : Receiver) (h : HeartbeatBody) (k' : ReaderKept) (from : ℕ)
+    (step : Step) (reader_id writer_id : EntityId) → NamedBy (Heartbeat h) reader_id writer_id
+    → (to : IsToReader c.config own at reader_id writer_id c.writer (record { peer = c.peer.number; number = suc c.i }))
+    → (a : AttachmentOf) (reliable : Bool) → how_at c.k.reader c.row ≡ a → is_reliable_reader to.to.end ≡ reliable
+    → Met c k' (λ s. MeetsHeartbeat (stood_as a) reliable own at (state_of c.peer) c.writer (suc c.i) to.entity h
+    (moves_at c from step) (due_to c own at to.entity h.writer_id step) s)
+    → ReaderTook c.config own at (Heartbeat h) (suc c.i) c.peer (moves_at c from step)
+    (due_to c own at to.entity writer_id step) (with_reader c.kept c.i k')
+heartbeat_told c own at h k' from step reader_id writer_id by to a reliable is policy met =
+    let to_it = named_as c own at reader_id writer_id h.reader_id h.writer_id by.0 by.1 to in
+    let m =
+    rules_so c
+    (λ x b s. MeetsHeartbeat x b own at (state_of c.peer) c.writer (suc c.i) to.entity h (moves_at c from step)
+    (due_to c own at to.entity h.writer_id step) s) k' a reliable (is_reliable_reader to.to.end) is policy met in
+    record {
+      state = m.state;
+      takes = inl (
+        c.writer,
+        to_it,
+        subst (λ (w : EntityId).
+            MeetsHeartbeat (stands_to (state_of c.peer) c.writer (suc c.i)) (is_reliable_reader to.to.end) own at
+            (state_of c.peer) c.writer (suc c.i) to.entity h (moves_at c from step)
+            (due_to c own at to.entity w step) m.state) (sym by.1) m.meets,
+      );
+      stands = m.stands;
+    }
 
--- its place has begun, so what comes is taken as ever
-change_met : (c : Telling) (reliable : Bool) (number : ℕ) (change : Change) (moves : List Move) (new : State)
-    → TakesChange reliable (state_of c.peer) c.writer (suc c.i) number change moves new
-    → MeetsChange (stands_to (state_of c.peer) c.writer (suc c.i)) reliable (state_of c.peer) c.writer (suc c.i) number
-    change moves new
-change_met c reliable number change moves new takes =
-    subst (λ (a : Attachment). MeetsChange a reliable (state_of c.peer) c.writer (suc c.i) number change moves new)
-    (sym (begun_here c)) takes
+-- where a DATA or a GAP was told, nothing is answered
+news_silent : (a : AttachmentOf) (match : Match) (with_it : Tracked → Tracked) (t : Tracked) (h : List Happening)
+    (step : Step) (Knows : Tracked → Type 0) (Has : List Happening → Type 0)
+    → MeetsNews a match with_it t h step Knows Has → step.acknack ≡ None
+news_silent standing.Begun match with_it t h step Knows Has m = m.1.acknack
+news_silent standing.Waiting match with_it t h step Knows Has m = m.0.acknack
+news_silent standing.Away match with_it t h step Knows Has m = m.0.acknack
 
-gap_met : (c : Telling) (reliable : Bool) (g : GapBody) (moves : List Move) (new : State)
-    → TakesGap reliable (state_of c.peer) c.writer (suc c.i) g moves new
-    → MeetsGap (stands_to (state_of c.peer) c.writer (suc c.i)) reliable (state_of c.peer) c.writer (suc c.i) g moves new
-gap_met c reliable g moves new takes =
-    subst (λ (a : Attachment). MeetsGap a reliable (state_of c.peer) c.writer (suc c.i) g moves new)
-    (sym (begun_here c)) takes
+begins_silent : (b : Bool) (match : Match) (t : Tracked) (h : List Happening) (number : ℕ) (change : Change)
+    (step : Step) (Knows : Tracked → Type 0) (Has : List Happening → Type 0)
+    → BeginsIfTold b match t h number change step Knows Has → step.acknack ≡ None
+begins_silent true match t h number change step Knows Has m = m.1.acknack
+begins_silent false match t h number change step Knows Has m = m.0.acknack
 
-heartbeat_met : (c : Telling) (own : GuidPrefix) (at : Receiver) (reliable : Bool) (entity : EntityId)
-    (h : HeartbeatBody) (moves : List Move) (dues : List Due) (new : State)
-    → TakesOrNot own at (state_of c.peer) c.writer (suc c.i) entity (heard_as reliable h) moves dues new
-    → MeetsHeartbeat (stands_to (state_of c.peer) c.writer (suc c.i)) reliable own at (state_of c.peer) c.writer
-    (suc c.i) entity h moves dues new
-heartbeat_met c own at reliable entity h moves dues new takes =
-    subst (λ (a : Attachment). MeetsHeartbeat a reliable own at (state_of c.peer) c.writer (suc c.i) entity h moves dues
-    new) (sym (begun_here c)) takes
+change_silent : (a : AttachmentOf) (match : Match) (t : Tracked) (h : List Happening) (number : ℕ) (change : Change)
+    (step : Step) (Knows : Tracked → Type 0) (Has : List Happening → Type 0)
+    → ChangeTold a match t h number change step Knows Has → step.acknack ≡ None
+change_silent standing.Begun match t h number change step Knows Has m = m.1.acknack
+change_silent standing.Waiting match t h number change step Knows Has m =
+    begins_silent (nat_le t.place number && comes match number h number change) match t h number change step Knows Has m
+change_silent standing.Away match t h number change step Knows Has m = m.0.acknack
 
 -- what is ready for a reader is told, by the reader's reliability, which is that of the configuration
 told_so : (c : Telling) (own : GuidPrefix) (at : Receiver) (s : Submessage) (said : Told) (k' : ReaderKept) (from : ℕ)
     (step : Step) (reader_id writer_id : EntityId) → NamedBy s reader_id writer_id
     → IsToldBy (reliable_in c.k.store) at s said
     → (to : IsToReader c.config own at reader_id writer_id c.writer (record { peer = c.peer.number; number = suc c.i }))
-    → is_reliable_reader to.to.end ≡ reliable_in c.k.store
-    → SameReader c.k k' → OthersStay c.row c.k.reader k'.reader → from ≡ (known_of c).place
-    → TellsSo (match_at (qos_of c.k.store.cache) c.row c.kept.moment) said (known_of c) (reader_of c).happened step
-    (Tracks k'.reader c.row) (λ h. Holds k'.store h)
-    → ReaderTook c.config own at s (suc c.i) c.peer (moves_of c.writer (c.i + 1) from step)
-    (answer_to c own at to.entity writer_id step) (with_reader c.kept c.i k')
-told_so c own at (Data d) (told.Change number change) k' from step reader_id writer_id by is to policy same others place
-    m =
-    let n : MovesTo c k' step (with_data d.writer_sn (change_in d.content at.timestamp) (known_of c)) =
-    subst (λ x. MovesTo c k' step (with_data d.writer_sn x (known_of c))) is.2
-    (subst (λ x. MovesTo c k' step (with_data x change (known_of c))) is.1 m) in
-    let r = moves_on c k' _ from step same others place n in
-    let to_it = named_as c own at reader_id writer_id d.reader_id d.writer_id by.0 by.1 to in
-    let takes : TakesChange (is_reliable_reader to_it.to.end) (state_of c.peer) c.writer (suc c.i) d.writer_sn
-    (change_in d.content at.timestamp) (moves_of c.writer (c.i + 1) from step) (after_step c step n.new n.after) =
-    subst (λ (b : Bool). TakesChange b (state_of c.peer) c.writer (suc c.i) d.writer_sn
-    (change_in d.content at.timestamp) (moves_of c.writer (c.i + 1) from step) (after_step c step n.new n.after))
-    (sym (policy ∙ is.0)) r.0 in
-    record {
-      state = after_step c step n.new n.after;
-      takes = inl (
-        c.writer,
-        to_it,
-        (
-          change_met c (is_reliable_reader to_it.to.end) d.writer_sn (change_in d.content at.timestamp) _ _ takes,
-          no_answer c own at to.entity writer_id step m.acknack,
-        ),
-      );
-      stands = r.1;
-    }
-told_so c own at (Data d) (told.Jump number change) k' from step reader_id writer_id by is to policy same others place
-    m =
-    let n : JumpsTo c k' step d.writer_sn (change_in d.content at.timestamp) =
-    subst (λ x. JumpsTo c k' step d.writer_sn x) is.2 (subst (λ x. JumpsTo c k' step x change) is.1 m) in
-    let r = jumps_on c k' d.writer_sn (change_in d.content at.timestamp) from step same others place n in
-    let to_it = named_as c own at reader_id writer_id d.reader_id d.writer_id by.0 by.1 to in
+    → is_reliable_reader to.to.end ≡ reliable_in c.k.store → Took c k' from step
+    → (a : AttachmentOf) → how_at c.k.reader c.row ≡ a
+    → TellsSo a (told_match c) said (known_of c) (reader_of c).happened step (λ t. NowKnows c k' t) (λ h. NowHas k' h)
+    → ReaderTook c.config own at s (suc c.i) c.peer (moves_at c from step)
+    (due_to c own at to.entity writer_id step) (with_reader c.kept c.i k')
+told_so c own at (Data d) (told.Change number change) k' from step reader_id writer_id by is to policy took a stands m =
+    let n : MeetsNews a (told_match c) (with_data d.writer_sn (change_in d.content at.timestamp)) (known_of c)
+    (reader_of c).happened step (λ t. NowKnows c k' t) (λ h. NowHas k' h) =
+    subst (λ x. MeetsNews a (told_match c) (with_data d.writer_sn x) (known_of c) (reader_of c).happened step
+    (λ t. NowKnows c k' t) (λ h. NowHas k' h)) is.2
+    (subst (λ x. MeetsNews a (told_match c) (with_data x change) (known_of c) (reader_of c).happened step
+    (λ t. NowKnows c k' t) (λ h. NowHas k' h)) is.1 m) in
+    data_told c own at d k' from step reader_id writer_id by to a true stands (policy ∙ is.0)
+    (news_silent a (told_match c) (with_data d.writer_sn (change_in d.content at.timestamp)) (known_of c)
+    (reader_of c).happened step (λ t. NowKnows c k' t) (λ h. NowHas k' h) n)
+    (change_met c k' from step d.writer_sn (change_in d.content at.timestamp) a took stands n)
+told_so c own at (Data d) (told.Jump number change) k' from step reader_id writer_id by is to policy took a stands m =
+    let n : ChangeTold a (told_match c) (known_of c) (reader_of c).happened d.writer_sn
+    (change_in d.content at.timestamp) step (λ t. NowKnows c k' t) (λ h. NowHas k' h) =
+    subst (λ x. ChangeTold a (told_match c) (known_of c) (reader_of c).happened d.writer_sn x step (λ t. NowKnows c k' t)
+    (λ h. NowHas k' h)) is.2
+    (subst (λ x. ChangeTold a (told_match c) (known_of c) (reader_of c).happened x change step (λ t. NowKnows c k' t)
+    (λ h. NowHas k' h)) is.1 m) in
     let other : is_reliable (reader_of c).qos.reliability ≡ false =
     ap (λ (q : ReaderQos). is_reliable q.reliability) (stood c).qos_is ∙ is.0 in
-    let takes : TakesChange (is_reliable_reader to_it.to.end) (state_of c.peer) c.writer (suc c.i) d.writer_sn
-    (change_in d.content at.timestamp) (moves_of c.writer (c.i + 1) from step) (after_step c step n.new n.after) =
-    subst (λ (b : Bool). TakesChange b (state_of c.peer) c.writer (suc c.i) d.writer_sn
-    (change_in d.content at.timestamp) (moves_of c.writer (c.i + 1) from step) (after_step c step n.new n.after))
-    (sym (policy ∙ is.0)) (other, r.0) in
-    record {
-      state = after_step c step n.new n.after;
-      takes = inl (
-        c.writer,
-        to_it,
-        (
-          change_met c (is_reliable_reader to_it.to.end) d.writer_sn (change_in d.content at.timestamp) _ _ takes,
-          no_answer c own at to.entity writer_id step m.acknack,
-        ),
-      );
-      stands = r.1;
-    }
-told_so c own at (Gap g) (told.Gap start list) k' from step reader_id writer_id by is to policy same others place m =
-    let n : MovesTo c k' step (with_gap g.gap_start g.gap_list (known_of c)) =
-    subst (λ x. MovesTo c k' step (with_gap g.gap_start x (known_of c))) is.2
-    (subst (λ x. MovesTo c k' step (with_gap x list (known_of c))) is.1 m) in
-    let r = moves_on c k' _ from step same others place n in
-    let to_it = named_as c own at reader_id writer_id g.reader_id g.writer_id by.0 by.1 to in
-    let takes : TakesGap (is_reliable_reader to_it.to.end) (state_of c.peer) c.writer (suc c.i) g
-    (moves_of c.writer (c.i + 1) from step) (after_step c step n.new n.after) =
-    subst (λ (b : Bool). TakesGap b (state_of c.peer) c.writer (suc c.i) g (moves_of c.writer (c.i + 1) from step)
-    (after_step c step n.new n.after)) (sym (policy ∙ is.0)) r.0 in
-    record {
-      state = after_step c step n.new n.after;
-      takes = inl (
-        c.writer,
-        to_it,
-        (
-          gap_met c (is_reliable_reader to_it.to.end) g _ _ takes,
-          no_answer c own at to.entity writer_id step m.acknack,
-        ),
-      );
-      stands = r.1;
-    }
-told_so c own at (Gap g) told.Nothing k' from step reader_id writer_id by is to policy same others place m =
-    let to_it = named_as c own at reader_id writer_id g.reader_id g.writer_id by.0 by.1 to in
-    let none = no_moves c.writer (c.i + 1) from step m.0.heard (m.0.to ∙ sym place) in
-    let takes : TakesGap (is_reliable_reader to_it.to.end) (state_of c.peer) c.writer (suc c.i) g
-    (moves_of c.writer (c.i + 1) from step) (state_of c.peer) =
-    subst (λ (b : Bool). TakesGap b (state_of c.peer) c.writer (suc c.i) g (moves_of c.writer (c.i + 1) from step)
-    (state_of c.peer)) (sym (policy ∙ is)) (none, refl) in
-    record {
-      state = state_of c.peer;
-      takes = inl (
-        c.writer,
-        to_it,
-        (
-          gap_met c (is_reliable_reader to_it.to.end) g _ _ takes,
-          no_answer c own at to.entity writer_id step m.0.acknack,
-        ),
-      );
-      stands = idles_after c k' same others m.1 m.2;
-    }
-told_so c own at (Heartbeat h) (told.Heartbeat seen) k' from step reader_id writer_id by is to policy same others place
-    (inl m) =
-    let heard : HeartbeatBody = heard_as (reliable_in c.k.store) h in
-    let to_it = named_as c own at reader_id writer_id h.reader_id h.writer_id by.0 by.1 to in
-    let later : is_later (known_of c).count heard.count ≡ true =
-    subst (λ (x : HeartbeatSeen). is_later (known_of c).count x.count ≡ true) is m.0 in
-    let r = heartbeat_on c own at to.entity k' heard seen from step is same others place later m.1 in
-    let dues : List Due = answer_to c own at to.entity writer_id step in
-    let takes : TakesHeartbeat own at (state_of c.peer) c.writer (suc c.i) to.entity heard
-    (moves_of c.writer (c.i + 1) from step) dues r.0 =
-    subst (λ (ds : List Due). TakesHeartbeat own at (state_of c.peer) c.writer (suc c.i) to.entity heard
-    (moves_of c.writer (c.i + 1) from step) ds r.0)
-    (ap (λ (w : EntityId). answer_to c own at to.entity w step)
-    (heard_writer (reliable_in c.k.store) h ∙ sym by.1)) r.1 in
-    let either : TakesOrNot own at (state_of c.peer) c.writer (suc c.i) to.entity
-    (heard_as (is_reliable_reader to_it.to.end) h) (moves_of c.writer (c.i + 1) from step) dues r.0 =
-    subst (λ (b : Bool). TakesOrNot own at (state_of c.peer) c.writer (suc c.i) to.entity (heard_as b h)
-    (moves_of c.writer (c.i + 1) from step) dues r.0) (sym policy) (inl takes) in
-    record {
-      state = r.0;
-      takes = inl (
-        c.writer,
-        to_it,
-        heartbeat_met c own at (is_reliable_reader to_it.to.end) to.entity h (moves_of c.writer (c.i + 1) from step) dues
-            r.0 either,
-      );
-      stands = r.2;
-    }
-told_so c own at (Heartbeat h) (told.Heartbeat seen) k' from step reader_id writer_id by is to policy same others place
-    (inr m) =
-    let to_it = named_as c own at reader_id writer_id h.reader_id h.writer_id by.0 by.1 to in
-    let repeated : is_later (known_of c).count (heard_as (is_reliable_reader to_it.to.end) h).count ≡ false =
-    ap (λ (n : ℤ). is_later (known_of c).count n)
-    (heard_count (is_reliable_reader to_it.to.end) h
-    ∙ (sym (heard_count (reliable_in c.k.store) h) ∙ sym (ap (λ (x : HeartbeatSeen). x.count) is))) ∙ m.0 in
-    record {
-      state = state_of c.peer;
-      takes =
-          inl (
-            c.writer,
-            to_it,
-            heartbeat_met c own at (is_reliable_reader to_it.to.end) to_it.entity h
-                (moves_of c.writer (c.i + 1) from step) (answer_to c own at to.entity writer_id step) (state_of c.peer)
-                (inr (
-                  repeated,
-                  (
-                    no_moves c.writer (c.i + 1) from step m.1.heard
-                        (m.1.to ∙ sym place),
-                    no_answer c own at to.entity writer_id step m.1.acknack,
-                    refl,
-                  ),
-                )),
-          );
-      stands = idles_after c k' same others m.2 m.3;
-    }
-told_so c own at s said k' from step reader_id writer_id by is to policy same others place m = absurd is
+    data_told c own at d k' from step reader_id writer_id by to a false stands (policy ∙ is.0)
+    (change_silent a (told_match c) (known_of c) (reader_of c).happened d.writer_sn (change_in d.content at.timestamp)
+    step (λ t. NowKnows c k' t) (λ h. NowHas k' h) n)
+    (jump_met c k' from step d.writer_sn (change_in d.content at.timestamp) a took stands other n)
+told_so c own at (Gap g) (told.Gap start list) k' from step reader_id writer_id by is to policy took a stands m =
+    let n : MeetsNews a (told_match c) (with_gap g.gap_start g.gap_list) (known_of c) (reader_of c).happened step
+    (λ t. NowKnows c k' t) (λ h. NowHas k' h) =
+    subst (λ x. MeetsNews a (told_match c) (with_gap g.gap_start x) (known_of c) (reader_of c).happened step
+    (λ t. NowKnows c k' t) (λ h. NowHas k' h)) is.2
+    (subst (λ x. MeetsNews a (told_match c) (with_gap x list) (known_of c) (reader_of c).happened step
+    (λ t. NowKnows c k' t) (λ h. NowHas k' h)) is.1 m) in
+    gap_told c own at g k' from step reader_id writer_id by to a true stands (policy ∙ is.0)
+    (news_silent a (told_match c) (with_gap g.gap_start g.gap_list) (known_of c) (reader_of c).happened step
+    (λ t. NowKnows c k' t) (λ h. NowHas k' h) n) (gap_met c k' from step g a took stands n)
+told_so c own at (Gap g) told.Nothing k' from step reader_id writer_id by is to policy took a stands m =
+    gap_told c own at g k' from step reader_id writer_id by to a false stands (policy ∙ is) m.0.acknack
+    (nothing_met c k' from step g a took m)
+told_so c own at (Heartbeat h) (told.Heartbeat seen) k' from step reader_id writer_id by is to policy took a stands m =
+    heartbeat_told c own at h k' from step reader_id writer_id by to a true stands (policy ∙ is.0)
+    (by_count (subst (λ (x : HeartbeatSeen). TellsSo a (told_match c) (told.Heartbeat x) (known_of c)
+    (reader_of c).happened step (λ t. NowKnows c k' t) (λ h. NowHas k' h)) is.1 m))
+  where
+    by_count : TellsSo a (told_match c) (told.Heartbeat (seen_in h)) (known_of c) (reader_of c).happened step
+        (λ t. NowKnows c k' t) (λ h. NowHas k' h)
+        → Met c k' (λ s. MeetsHeartbeat (stood_as a) true own at (state_of c.peer) c.writer (suc c.i) to.entity h
+        (moves_at c from step) (due_to c own at to.entity h.writer_id step) s)
+    by_count (inl n) = heartbeat_met c own at to.entity k' h from step a took stands n.0 n.1
+    by_count (inr n) =
+        repeated_met c own at to.entity k' h from step a true took n.0 n.1
+told_so c own at (Heartbeat h) (told.Beat seen) k' from step reader_id writer_id by is to policy took a stands m =
+    heartbeat_told c own at h k' from step reader_id writer_id by to a false stands (policy ∙ is.0)
+    (by_count (subst (λ (x : HeartbeatSeen). TellsSo a (told_match c) (told.Beat x) (known_of c) (reader_of c).happened
+    step (λ t. NowKnows c k' t) (λ h. NowHas k' h)) is.1 m))
+  where
+    by_count : TellsSo a (told_match c) (told.Beat (seen_in (heard_as false h))) (known_of c) (reader_of c).happened
+        step (λ t. NowKnows c k' t) (λ h. NowHas k' h)
+        → Met c k' (λ s. MeetsHeartbeat (stood_as a) false own at (state_of c.peer) c.writer (suc c.i) to.entity h
+        (moves_at c from step) (due_to c own at to.entity h.writer_id step) s)
+    by_count (inl n) = beat_met c own at to.entity k' h from step a took stands n.0 n.1
+    by_count (inr n) =
+        repeated_met c own at to.entity k' h from step a false took n.0 n.1
+told_so c own at s said k' from step reader_id writer_id by is to policy took a stands m = absurd is
 
 -- what is due to a writer of this name, from a reader that keeps this
 abbrev pub answer_due : GuidPrefix → ReaderKept → WriterName → Step → List Due
@@ -395,9 +345,13 @@ took config peer kept new at s i k ready moves sent after gone stands at_k is t 
     let knows : Tracks k.reader ready.row (known_of c) = (stood c).knows own_name.writer ready.row first in
     let r =
     told_so c kept.prefix at s ready.told t.reader t.from t.step is.reader_id is.writer_id is.by is.told to
-    (own_reader_is config peer.number kept stands.is_peer i k at_k).reliable t.same t.told.others
-    (t.place (known_of c) knows)
-    (t.told.told (known_of c) (reader_of c).happened knows (stood c).holds) in
+    (own_reader_is config peer.number kept stands.is_peer i k at_k).reliable (record {
+      same = t.same;
+      others = t.told.others;
+      how = t.told.how;
+      others_how = t.told.others_how;
+      from_is = t.place (known_of c) knows;
+    }) (how_at k.reader ready.row) refl (t.told.told (known_of c) (reader_of c).happened knows (stood c).holds) in
     let guid : own_name.guid ≡ writer_guid at is.writer_id = is.named.first.named in
     let there : ReaderTook config kept.prefix at s (suc i) peer (moves_of own_name.writer (i + 1) t.from t.step)
     (answer_due kept.prefix k own_name t.step) (with_reader kept i t.reader) =
@@ -445,34 +399,56 @@ unnamed config peer kept at s i k stands at_k none = (refl, refl, refl)
 said_of : Bool → Receiver → Submessage → Told
 said_of true at (Data d) = told.Change d.writer_sn (change_in d.content at.timestamp)
 said_of false at (Data d) = told.Jump d.writer_sn (change_in d.content at.timestamp)
-said_of reliable at (Heartbeat h) = told.Heartbeat (seen_in (heard_as reliable h))
+said_of true at (Heartbeat h) = told.Heartbeat (seen_in h)
+said_of false at (Heartbeat h) = told.Beat (seen_in (heard_as false h))
 said_of reliable at s = told.Nothing
 
+-- nothing was done
+rested : (t : Tracked) (h : List Happening) (Knows : Tracked → Type 0) (Has : List Happening → Type 0) → Knows t → Has h
+    → Rests t h (idle_step t) Knows Has
+rested t h Knows Has knows has =
+    (record { begun = refl; to = refl; passed = refl; heard = refl; acknack = refl }, knows, has)
+
+-- so it is at a reliable reader, however it stands to the writer, where a change can do nothing
+news_idle : (a : AttachmentOf) (number : ℕ) (change : Change) (match : Match) (t : Tracked) (h : List Happening)
+    (Knows : Tracked → Type 0) (Has : List Happening → Type 0) → may_take t number ≡ false → Knows t → Has h
+    → MeetsNews a match (with_data number change) t h (idle_step t) Knows Has
+news_idle standing.Begun number change match t h Knows Has is knows has =
+    (refl, stays_with number change match t h Knows Has is knows has)
+news_idle standing.Waiting number change match t h Knows Has is knows has = rested t h Knows Has knows has
+news_idle standing.Away number change match t h Knows Has is knows has = rested t h Knows Has knows has
+
+-- and at a best-effort one
+change_idle : (a : AttachmentOf) (number : ℕ) (change : Change) (match : Match) (t : Tracked) (h : List Happening)
+    (Knows : Tracked → Type 0) (Has : List Happening → Type 0) → nat_le t.place number ≡ false → Knows t → Has h
+    → ChangeTold a match t h number change (idle_step t) Knows Has
+change_idle standing.Begun number change match t h Knows Has is knows has =
+    (refl, jumps_nowhere number change match t h Knows Has is knows has)
+change_idle standing.Waiting number change match t h Knows Has is knows has =
+    subst (λ (b : Bool). BeginsIfTold b match t h number change (idle_step t) Knows Has)
+    (sym (ap (λ (b : Bool). b && comes match number h number change) is)) (rested t h Knows Has knows has)
+change_idle standing.Away number change match t h Knows Has is knows has = rested t h Knows Has knows has
+
 -- a submessage that can do nothing is told so, and nothing was done
-says_idle : (reliable : Bool) (at : Receiver) (s : Submessage) (reader_id writer_id : EntityId) (match : Match)
-    (t : Tracked) (h : List Happening) (Knows : Tracked → Type 0) (Has : List Happening → Type 0)
+says_idle : (a : AttachmentOf) (reliable : Bool) (at : Receiver) (s : Submessage) (reader_id writer_id : EntityId)
+    (match : Match) (t : Tracked) (h : List Happening) (Knows : Tracked → Type 0) (Has : List Happening → Type 0)
     → NamedBy s reader_id writer_id → may_do reliable t s ≡ false → Knows t → Has h
     → IsToldBy reliable at s (said_of reliable at s)
-    × TellsSo match (said_of reliable at s) t h (idle_step t) Knows Has
+    × TellsSo a match (said_of reliable at s) t h (idle_step t) Knows Has
 unfolding said_of
-says_idle true at (Data d) reader_id writer_id match t h Knows Has by is knows has =
-    ((refl, refl, refl), stays_with d.writer_sn (change_in d.content at.timestamp) match t h Knows Has is knows has)
-says_idle false at (Data d) reader_id writer_id match t h Knows Has by is knows has =
-    ((refl, refl, refl), jumps_nowhere d.writer_sn (change_in d.content at.timestamp) match t h Knows Has is knows has)
-says_idle true at (Gap g) reader_id writer_id match t h Knows Has by is knows has =
+says_idle a true at (Data d) reader_id writer_id match t h Knows Has by is knows has =
+    ((refl, refl, refl), news_idle a d.writer_sn (change_in d.content at.timestamp) match t h Knows Has is knows has)
+says_idle a false at (Data d) reader_id writer_id match t h Knows Has by is knows has =
+    ((refl, refl, refl), change_idle a d.writer_sn (change_in d.content at.timestamp) match t h Knows Has is knows has)
+says_idle a true at (Gap g) reader_id writer_id match t h Knows Has by is knows has =
     absurd (let clash : true ≡ false = is in cc)
-says_idle false at (Gap g) reader_id writer_id match t h Knows Has by is knows has =
-    (refl, (record { begun = refl; to = refl; passed = refl; heard = refl; acknack = refl }, knows, has))
-says_idle reliable at (Heartbeat b) reader_id writer_id match t h Knows Has by is knows has = (
-  refl,
-  inr (
-    ap (λ (n : ℤ). is_later t.count n) (heard_count reliable b) ∙ is,
-    record { begun = refl; to = refl; passed = refl; heard = refl; acknack = refl },
-    knows,
-    has,
-  ),
-)
-says_idle reliable at s reader_id writer_id match t h Knows Has by is knows has = absurd by
+says_idle a false at (Gap g) reader_id writer_id match t h Knows Has by is knows has =
+    (refl, rested t h Knows Has knows has)
+says_idle a true at (Heartbeat b) reader_id writer_id match t h Knows Has by is knows has =
+    ((refl, refl), inr (is, rested t h Knows Has knows has))
+says_idle a false at (Heartbeat b) reader_id writer_id match t h Knows Has by is knows has =
+    ((refl, refl), inr (is, rested t h Knows Has knows has))
+says_idle a reliable at s reader_id writer_id match t h Knows Has by is knows has = absurd by
 
 -- nothing is ready for it, and so it does nothing
 idles : (config : Config) (peer : Peer) (kept : PeerKept) (at : Receiver) (s : Submessage) (i : ℕ) (k : ReaderKept)
@@ -491,19 +467,24 @@ idles config peer kept at s i k stands at_k (inr idle) =
     subst (λ (t : Tracked). may_do (reliable_in k.store) t s ≡ false)
     (tracks_one k.reader idle.row idle.idle.known (known_of c) idle.idle.tracks knows) idle.idle.does in
     let said =
-    says_idle (reliable_in k.store) at s is.reader_id is.writer_id
+    says_idle (how_at k.reader idle.row) (reliable_in k.store) at s is.reader_id is.writer_id
     (match_at (qos_of k.store.cache) idle.row kept.moment) (known_of c) (reader_of c).happened
     (Tracks k.reader idle.row) (λ h. Holds k.store h) is.by may knows (stood c).holds in
     let r =
     told_so c kept.prefix at s (said_of (reliable_in k.store) at s) k (known_of c).place (idle_step (known_of c))
     is.reader_id is.writer_id is.by said.0
     (is_to config peer kept stands i k at_k at is.reader_id is.writer_id idle.row is.named)
-    (own_reader_is config peer.number kept stands.is_peer i k at_k).reliable
-    (record { entity = refl; writers = refl; qos = refl; seen = refl }) (λ j t apart h. h) refl said.1 in
+    (own_reader_is config peer.number kept stands.is_peer i k at_k).reliable (record {
+      same = record { entity = refl; writers = refl; qos = refl; seen = refl };
+      others = λ j t apart h. h;
+      how = refl;
+      others_how = λ j apart. refl;
+      from_is = refl;
+    }) (how_at k.reader idle.row) refl said.1 in
     subst (λ (x : PeerKept). ReaderTook config kept.prefix at s (suc i) peer [] [] x)
     (ap (λ (rs : List ReaderKept). record kept { readers = rs }) (set_back kept.readers i k k at_k refl))
     (subst (λ (ms : List Move). ReaderTook config kept.prefix at s (suc i) peer ms [] (with_reader kept i k))
-    (no_moves c.writer (i + 1) (known_of c).place (idle_step (known_of c)) refl refl) r)
+    (idle_moves c.writer (i + 1) (known_of c)) r)
 
 -- ---- one reader after the other
 

@@ -2,7 +2,7 @@
 -- has to be believed.
 --
 -- RTPS 2.5, 8.2 (Participant, Endpoint).
-use Rattle.std.specs.Prelude.{◌≡◌, ◌≤◌, ◌<◌, ℕ, Bool, List, length, map, slice_get, None, Some}
+use Rattle.std.specs.Prelude.{◌≡◌, ◌≤◌, ℕ, Bool, List, length, map, slice_get, None, Some}
 use Rattle.dds_base.specs.declared.config.Config.{Config}
 use Rattle.dds_base.specs.declared.config.PeerConfig.{PeerConfig}
 use Rattle.dds_base.specs.declared.config.WriterConfig.{WriterConfig}
@@ -13,8 +13,7 @@ use Rattle.dds_base.specs.Bounds.{max_readers}
 use Rattle.dds_base.specs.Checked.{check_refusal}
 use Rattle.dds_base.specs.Matched.{is_reliable, is_reliable_reader}
 use Rattle.dds_cache.specs.Standing.{qos_of}
-use Rattle.rtps_reader.specs.declared.attachment.Attachment.TheVariants.{Begun}
-use Rattle.rtps_reader.specs.Reader.{Proxies, count_of, how_at}
+use Rattle.rtps_reader.specs.Reader.{Proxies, count_of}
 use Rattle.dds_core.specs.Stored.{StoreKept}
 use Rattle.dds_protocol.specs.Claims.{IsNumbered}
 use Rattle.dds_core.specs.declared.matching.Destination.{Destination}
@@ -30,18 +29,13 @@ use Rattle.dds_core.specs.Kept.{WriterKept, ReaderKept, PeerKept}
 abbrev pub reliable_in : StoreKept → Bool
 reliable_in store = is_reliable (qos_of store.cache).reliability
 
--- the reader is matched with each of its writers, and its place there has begun
-abbrev pub HaveBegun : Proxies → Type 0
-HaveBegun reader = (row : ℕ) → row < count_of reader → how_at reader row ≡ Begun
-
 -- each matched writer is known, and is among those of the policies, of which there are 256 at most; by these the reader is
--- a reliable one or not; and each of its places has begun
+-- a reliable one or not
 pub record FitsWriters (names : List WriterName) (reader : Proxies) (store : StoreKept) (reliable : Bool) : Type 0 where
   pub policy : reliable_in store ≡ reliable
   pub count : count_of reader ≡ length names
   pub fits : length names ≤ length (qos_of store.cache).writers
   pub many : length (qos_of store.cache).writers ≤ max_readers
-  pub begun : HaveBegun reader
 
 -- what stays of a writer while nobody comes or goes: its name, whether an unregister disposes too, and how long its
 -- values may be, which never change; and whom it is matched with, to which peers it sends, the names of its reliable

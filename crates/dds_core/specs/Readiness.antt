@@ -13,18 +13,19 @@ use Rattle.dds_base.specs.Bounds.{max_sn}
 use Rattle.dds_base.specs.Places.{Match}
 use Rattle.dds_base.specs.Counts.{is_later}
 use Rattle.dds_cache.specs.Standing.{qos_of, room_of}
+use Rattle.rtps_reader.specs.declared.attachment.Attachment.{Attachment}
 use Rattle.rtps_reader.specs.declared.step.HeartbeatSeen.{HeartbeatSeen}
 use Rattle.rtps_reader.specs.declared.step.Step.{Step}
 use Rattle.rtps_reader.specs.Tracked.{Tracked, with_data, with_gap}
-use Rattle.rtps_reader.specs.Answer.{IsIdle}
-use Rattle.rtps_reader.specs.Reader.{Tracks, IsReadyAt, AllStay, OthersStay, match_at, MovesOn, JumpsOn, TakesHeartbeat}
+use Rattle.rtps_reader.specs.Attached.{MeetsNews, MeetsChange, MeetsHeartbeat, MeetsBeat, Rests}
+use Rattle.rtps_reader.specs.Reader.{Tracks, IsReadyAt, AllStay, AllStand, OthersStay, OthersStand, match_at, how_at, how_after}
 use Rattle.rtps_wire.specs.declared.heartbeat.Heartbeat.{Heartbeat as HeartbeatBody}
 use Rattle.rtps_wire.specs.declared.submessage.Submessage.{Submessage}
 use Rattle.rtps_wire.specs.declared.submessage.Submessage.TheVariants.{Data, Heartbeat, AckNack, Gap}
 use Rattle.rtps_wire.specs.Content.{change_in}
 use Rattle.dds_machine.specs.declared.endpoint.Endpoint.{Endpoint}
 use Rattle.dds_machine.specs.declared.reply.Move.{Move}
-use Rattle.dds_machine.specs.declared.reply.Move.TheVariants.{Place, Heard}
+use Rattle.dds_machine.specs.declared.reply.Move.TheVariants.{Place, Heard, Begun as HasBegun}
 use Rattle.dds_protocol.specs.Claims.{Receiver, is_for, Names}
 use Rattle.dds_protocol.specs.Protocol.{heard_as, may_do}
 use Rattle.dds_core.specs.Identity.{reliable_in}
@@ -119,7 +120,8 @@ IsToldBy reliable at (Data d) (told.Jump number change) =
     (reliable ≡ false) × (number ≡ d.writer_sn) × (change ≡ change_in d.content at.timestamp)
 IsToldBy reliable at (Gap g) (told.Gap start list) = (reliable ≡ true) × (start ≡ g.gap_start) × (list ≡ g.gap_list)
 IsToldBy reliable at (Gap g) told.Nothing = reliable ≡ false
-IsToldBy reliable at (Heartbeat h) (told.Heartbeat seen) = seen ≡ seen_in (heard_as reliable h)
+IsToldBy reliable at (Heartbeat h) (told.Heartbeat seen) = (reliable ≡ true) × (seen ≡ seen_in h)
+IsToldBy reliable at (Heartbeat h) (told.Beat seen) = (reliable ≡ false) × (seen ≡ seen_in (heard_as false h))
 IsToldBy reliable at submessage other = ⊥
 
 -- its numbers are such that the wire has
@@ -137,6 +139,7 @@ IsToldBounded (told.Jump number change) = number ≤ max_sn
 IsToldBounded told.Nothing = Unit {0}
 IsToldBounded (told.Gap start list) = list.base ≤ max_sn
 IsToldBounded (told.Heartbeat seen) = seen.first ≤ max_sn
+IsToldBounded (told.Beat seen) = seen.first ≤ max_sn
 
 -- ---- what is ready
 
@@ -214,6 +217,7 @@ pub record IsAlike (old new : ReaderKept) : Type 0 where
   pub entity : new.entity ≡ old.entity
   pub writers : new.writers ≡ old.writers
   pub reader : AllStay old.reader new.reader
+  pub how : AllStand old.reader new.reader
   pub qos : qos_of new.store.cache ≡ qos_of old.store.cache
   pub seen : new.seen ≡ old.seen
   pub holds : (h : List Happening) → Holds old.store h → Holds new.store h
@@ -231,17 +235,21 @@ pub record CanTake (kept : ReaderKept) (ready : Ready) : Type 0 where
 
 -- ---- what a reader does
 
--- what it knows of the writer, and what happened, go on by what it is told
-abbrev pub TellsSo : Match → Told → Tracked → List Happening → Step → (Tracked → Type 0) → (List Happening → Type 0)
-    → Type 0
-TellsSo match (told.Change number change) t h step Knows Has =
-    MovesOn match (with_data number change t) h step Knows Has
-TellsSo match (told.Jump number change) t h step Knows Has = JumpsOn match t h number change step Knows Has
-TellsSo match told.Nothing t h step Knows Has = IsIdle t.place step × Knows t × Has h
-TellsSo match (told.Gap start list) t h step Knows Has = MovesOn match (with_gap start list t) h step Knows Has
-TellsSo match (told.Heartbeat seen) t h step Knows Has =
-    ((is_later t.count seen.count ≡ true) × TakesHeartbeat match t h seen step Knows Has)
-    ⊎ ((is_later t.count seen.count ≡ false) × IsIdle t.place step × Knows t × Has h)
+-- what it knows of the writer, to which it stands so, and what happened, go on by what it is told
+abbrev pub TellsSo : Attachment → Match → Told → Tracked → List Happening → Step → (Tracked → Type 0)
+    → (List Happening → Type 0) → Type 0
+TellsSo how match (told.Change number change) t h step Knows Has =
+    MeetsNews how match (with_data number change) t h step Knows Has
+TellsSo how match (told.Jump number change) t h step Knows Has = MeetsChange how match t h number change step Knows Has
+TellsSo how match told.Nothing t h step Knows Has = Rests t h step Knows Has
+TellsSo how match (told.Gap start list) t h step Knows Has =
+    MeetsNews how match (with_gap start list) t h step Knows Has
+TellsSo how match (told.Heartbeat seen) t h step Knows Has =
+    ((is_later t.count seen.count ≡ true) × MeetsHeartbeat how match t h seen step Knows Has)
+    ⊎ ((is_later t.count seen.count ≡ false) × Rests t h step Knows Has)
+TellsSo how match (told.Beat seen) t h step Knows Has =
+    ((is_later t.count seen.count ≡ true) × MeetsBeat how match t h seen step Knows Has)
+    ⊎ ((is_later t.count seen.count ≡ false) × Rests t h step Knows Has)
 
 -- nothing but what is known and what happened has changed
 pub record SameReader (old new : ReaderKept) : Type 0 where
@@ -253,16 +261,29 @@ pub record SameReader (old new : ReaderKept) : Type 0 where
 -- the reader was told, at this moment
 pub record TakesTold (old : ReaderKept) (ready : Ready) (moment : ℕ) (step : Step) (new : ReaderKept) : Type 0 where
   pub told : (t : Tracked) (h : List Happening) → Tracks old.reader ready.row t → Holds old.store h
-      → TellsSo (match_at (qos_of old.store.cache) ready.row moment) ready.told t h step (Tracks new.reader ready.row)
-      (Holds new.store)
+      → TellsSo (how_at old.reader ready.row) (match_at (qos_of old.store.cache) ready.row moment) ready.told t h step
+      (Tracks new.reader ready.row) (Holds new.store)
   pub others : OthersStay ready.row old.reader new.reader
+  pub how : how_at new.reader ready.row ≡ how_after (how_at old.reader ready.row) step
+  pub others_how : OthersStand ready.row old.reader new.reader
 
 -- the place at the writer of this row
 abbrev pub IsPlaceAt : ReaderKept → ℕ → Tracked → ℕ → Type 0
 IsPlaceAt kept row t place = Tracks kept.reader row t → place ≡ t.place
 
+-- the place at this number begins, if it does
+abbrev pub begun_moves : Endpoint → ℕ → ℕ → Option ℕ → List Move
+begun_moves writer reader from None = []
+begun_moves writer reader from (Some to) = HasBegun writer reader from to ∷ []
+
+-- from here the place goes on: from where it began, or else from where it was
+abbrev pub begins_at : ℕ → Option ℕ → ℕ
+begins_at from None = from
+begins_at from (Some to) = to
+
 -- what a step moves, from this place on
 abbrev pub moves_of : Endpoint → ℕ → ℕ → Step → List Move
 moves_of writer reader from step =
     (if step.heard then Heard writer reader ∷ [] else [])
-    ++ (if nat_lt from step.to then Place writer reader step.to step.passed ∷ [] else [])
+    ++ (begun_moves writer reader from step.begun
+    ++ (if nat_lt (begins_at from step.begun) step.to then Place writer reader step.to step.passed ∷ [] else []))

@@ -5,20 +5,21 @@
 -- RTPS 2.5, 8.4.7 (StatefulWriter, ReaderProxy), 8.4.10 (StatefulReader, WriterProxy): the machine has them
 -- without packets.
 use Rattle.std.specs.Prelude.{◌≡◌, ℕ, suc, ◌<◌, ◌≤◌, List, [], map, length, get_or, slice_get, Option, Some, ℤ, All, false}
-use Rattle.std.specs.List.{AllByRecursion}
 use Rattle.dds_base.specs.declared.config.Config.{Config}
 use Rattle.dds_base.specs.declared.change.Change.{Change}
 use Rattle.dds_base.specs.Bounds.{end_of_moments, greatest_value, max_readers}
 use Rattle.dds_base.specs.Kept.{change_at}
 use Rattle.dds_base.specs.Written.{changes_of}
 use Rattle.dds_cache.specs.Standing.{qos_of}
+use Rattle.rtps_reader.specs.declared.attachment.Attachment.{Attachment as AttachmentOf}
+use Rattle.rtps_reader.specs.declared.attachment.Attachment.TheVariants as standing
 use Rattle.rtps_reader.specs.Tracked.{Tracked}
-use Rattle.rtps_reader.specs.Reader.{Tracks}
+use Rattle.rtps_reader.specs.Reader.{Tracks, how_at}
 use Rattle.rtps_writer.specs.Standing.{Kept, reader_count, StandsFor as RtpsStandsFor}
 use Rattle.rtps_writer.specs.WriterState.{WriterState}
 use Rattle.dds_machine.specs.declared.endpoint.Endpoint.{Endpoint}
 use Rattle.dds_protocol.specs.Dues.{AreTellable}
-use Rattle.dds_machine.specs.Part.{Begun, Writer, Reader, ReaderProxy, WriterProxy, no_writer, no_reader, peers_of, place_of}
+use Rattle.dds_machine.specs.Part.{Attachment, Away, Waiting, Begun, how_of, Writer, Reader, ReaderProxy, WriterProxy, no_writer, no_reader, peers_of, place_of}
 use Rattle.dds_protocol.specs.Peer.{Peer}
 use Rattle.dds_protocol.specs.Protocol.{Known}
 use Rattle.dds_core.specs.declared.matching.Destination.{Destination}
@@ -95,7 +96,14 @@ pub record IsFirstReader (names : List ReaderName) (reader : Endpoint) (k : ℕ)
   pub is : name.reader ≡ reader
   pub first : (j : ℕ) (n : ReaderName) → j < k → slice_get names j ≡ Some n → n.reader ≡ reader → ⊥
 
--- a reader of the machine, with its matched writers and what is known of them, for which what is kept stands
+-- how a reader stands to a writer, as the machine has it
+abbrev pub stood_as : AttachmentOf → Attachment
+stood_as standing.Away = Away
+stood_as standing.Waiting = Waiting
+stood_as standing.Begun = Begun
+
+-- a reader of the machine, with its matched writers, how it stands to them, and what is known of them, for which what is
+-- kept stands
 pub record ReaderStands (kept : ReaderKept) (proxies : List WriterProxy) (r : Reader)
     (tracked : Endpoint → Tracked) : Type 0 where
   pub writers_are : map (λ (p : WriterProxy). p.writer) proxies ≡ map (λ (n : WriterName). n.writer) kept.writers
@@ -104,7 +112,7 @@ pub record ReaderStands (kept : ReaderKept) (proxies : List WriterProxy) (r : Re
   pub qos_is : r.qos ≡ qos_of kept.store.cache
   pub holds : Holds kept.store r.happened
   pub seen_is : r.seen ≡ kept.seen
-  pub begun : AllByRecursion (λ (p : WriterProxy). p.how ≡ Begun) proxies
+  pub hows : (w : Endpoint) (k : ℕ) → IsFirstRow kept.writers w k → how_of proxies w ≡ stood_as (how_at kept.reader k)
 
 -- each of a peer's writers stands for the one of its number, with the counts of the last ACKNACKs that it took
 pub record WritersStand (kept : List WriterKept) (ws : List Writer) (answered : ℕ → Endpoint → Option ℤ) : Type 0 where

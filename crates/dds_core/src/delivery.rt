@@ -11,7 +11,7 @@ ghost use Rattle.dds_protocol.specs.declared.event.Event.TheVariants as event;
 ghost use Rattle.rtps_wire.specs.declared.submessage.Submessage.TheVariants as submessage_of;
 ghost use Rattle.dds_core.specs.Stepping.{SoundSteps};
 ghost use Rattle.dds_core.specs.Sending.{AreMessages, max_unsent};
-ghost use Rattle.dds_core.specs.Readiness.{receiver_at, change_ready, IsReliableAt, IsBounded, AreReady, AreAlike, IsFirstNamed, IsNamedAt, IsReadyFor, IsRowOf, NamedBy, NamesNone, moves_of};
+ghost use Rattle.dds_core.specs.Readiness.{receiver_at, change_ready, IsReliableAt, IsBounded, AreReady, AreAlike, IsFirstNamed, IsNamedAt, IsReadyFor, IsRowOf, NamedBy, NamesNone, begins_at, begun_moves, moves_of};
 ghost use Rattle.dds_core.specs.Receiving.{only_last, CanTakeAt, TakesAt, AllCanTake, TakesAll, TellsReaders, TakesOneMore, TakesFrame, KeepsPeer, NeedsMemory, FrameNeedsMemory, GoOn, NothingDone, Announces, TakesBody, StandsAsWell, ReceivesPacket};
 ghost use Rattle.dds_core.specs.Twins.{Twins, wants_two};
 
@@ -127,15 +127,39 @@ fn prepare(
     Ok(())
 }
 
+/// Adds that a reader's place, which was at this number, began, if it did: there is room for it. Says from where the place
+/// goes on.
+fn push_begun(moves: &mut Moves, writer: Endpoint, reader: u8, from: Sn, begun: Option<Sn>) -> Sn
+    requires room { 1 ≤ moves.old.room }
+    ensures moved { moves.new.items ≡ moves.old.items ++ begun_moves writer reader from begun }
+    ensures start { result ≡ begins_at from begun }
+    ensures twice { moves.new.twice ≡ moves.old.twice }
+    ensures room { moves.old.room ≤ moves.new.room + 1 }
+{
+    match begun {
+        Some(to) => {
+            moves.push_reserved(Move::Begun {
+                writer,
+                reader,
+                from,
+                to,
+            });
+            to
+        }
+        None => from,
+    }
+}
+
 /// Adds what a reader's step moved, for which there is room: the place in a writer's list goes on from this number.
 fn push_moves(moves: &mut Moves, writer: Endpoint, reader: u8, from: Sn, step: Step)
     requires few { length step.passed ≤ 257 }
-    requires room { 2 ≤ moves.old.room }
+    requires room { 3 ≤ moves.old.room }
     ensures moved { moves.new.items ≡ moves.old.items ++ moves_of writer reader from step }
     ensures twice { moves.new.twice ≡ moves.old.twice }
-    ensures room { moves.old.room ≤ moves.new.room + 2 }
+    ensures room { moves.old.room ≤ moves.new.room + 3 }
 {
     let Step {
+        begun,
         to,
         passed,
         heard,
@@ -144,7 +168,8 @@ fn push_moves(moves: &mut Moves, writer: Endpoint, reader: u8, from: Sn, step: S
     if heard {
         moves.push_reserved(Move::Heard { writer, reader });
     }
-    if from.number() < to.number() {
+    let start = push_begun(moves, writer, reader, from, begun);
+    if start.number() < to.number() {
         moves.push_reserved(Move::Place {
             writer,
             reader,
@@ -159,10 +184,10 @@ impl Peer {
     /// for which there is room.
     fn take_at<T: Telling>(&mut self, effects: &mut Effects, index: usize, ready: T)
         requires can { CanTakeAt self.old.readers index (T.ready ready) }
-        requires room { 2 ≤ effects.old.moves.room }
+        requires room { 3 ≤ effects.old.moves.room }
         requires low { effects.old.sent.unsent < max_unsent }
         ensures takes { TakesAt self.old index (T.ready ready) effects.old self.new effects.new }
-        ensures room { effects.old.moves.room ≤ effects.new.moves.room + 2 }
+        ensures room { effects.old.moves.room ≤ effects.new.moves.room + 3 }
         ensures on { GoOn 1 effects.old effects.new }
     {
         let (alloc, prefix, moment) = (self.alloc, self.prefix, self.moment);
@@ -192,7 +217,7 @@ impl Peer {
     fn take_all(&mut self, effects: &mut Effects, ready: &mut SmallVec<Option<Ready>, FEW_READERS>)
         requires can { AllCanTake self.old.readers ready.old.items }
         requires count { length ready.old.items ≡ length self.old.readers }
-        requires room { 2 * length ready.old.items ≤ effects.old.moves.room }
+        requires room { 3 * length ready.old.items ≤ effects.old.moves.room }
         requires few { length ready.old.items ≤ max_ends }
         requires low { effects.old.sent.unsent < 2 ^ 60 }
         ensures takes { TakesAll self.old ready.old.items effects.old self.new effects.new }
@@ -274,7 +299,7 @@ impl Peer {
     fn take_last_one<T: Telling>(&mut self, effects: &mut Effects, index: usize, one: T)
         requires can { CanTakeAt self.old.readers index (T.ready one) }
         requires last { index + 1 ≡ length self.old.readers }
-        requires room { 2 ≤ effects.old.moves.room }
+        requires room { 3 ≤ effects.old.moves.room }
         requires low { effects.old.sent.unsent < 2 ^ 60 }
         ensures takes { TakesAll self.old (only_last index (Some (T.ready one))) effects.old
             self.new effects.new }
@@ -288,7 +313,7 @@ impl Peer {
     fn take_last(&mut self, effects: &mut Effects, index: usize, ready: Option<Ready>)
         requires can { AllCanTake self.old.readers (only_last index ready) }
         requires last { index + 1 ≡ length self.old.readers }
-        requires room { 2 ≤ effects.old.moves.room }
+        requires room { 3 ≤ effects.old.moves.room }
         requires low { effects.old.sent.unsent < 2 ^ 60 }
         ensures takes { TakesAll self.old (only_last index ready) effects.old self.new effects.new }
         ensures prefix { self.new.prefix ≡ self.old.prefix }
@@ -344,7 +369,7 @@ impl Peer {
         ensures keeps { KeepsPeer 16 self.old effects.old self.new effects.new result }
     {
         let ready = self.make_change_ready(first, receiver, body)?;
-        effects.moves.reserve(2)?;
+        effects.moves.reserve(3)?;
         self.take_last_one(effects, first.index, ready);
         Ok(())
     }
@@ -373,7 +398,7 @@ impl Peer {
             }
         }
         let ready = self.make_last_ready(first, receiver, submessage)?;
-        effects.moves.reserve(2)?;
+        effects.moves.reserve(3)?;
         self.take_last(effects, first.index, ready);
         Ok(())
     }
@@ -397,7 +422,7 @@ impl Peer {
     {
         let mut ready = SmallVec::with_capacity(self.alloc, self.readers.len())?;
         self.make_ready(&mut ready, first, receiver, submessage)?;
-        effects.moves.reserve(2 * ready.len())?;
+        effects.moves.reserve(3 * ready.len())?;
         self.take_all(effects, &mut ready);
         Ok(())
     }

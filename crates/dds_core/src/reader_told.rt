@@ -33,7 +33,10 @@ pub enum Told {
     Jump { number: Sn, change: Change },
     /// A GAP, at a reliable reader.
     Gap { start: Sn, list: SnSet },
+    /// A HEARTBEAT, at a reliable reader.
     Heartbeat(HeartbeatSeen),
+    /// A HEARTBEAT, at a best-effort reader.
+    Beat(HeartbeatSeen),
     /// A GAP, at a best-effort reader.
     Nothing,
 }
@@ -115,16 +118,20 @@ fn told_by_heartbeat(is_reliable: bool, receiver: &MessageReceiver, body: &Heart
     ensures { IsToldBy is_reliable
         (receiver_at receiver.now) (submessage.Heartbeat body.now) result }
 {
-    let (first, last, is_final) = if is_reliable {
-        (body.first_sn, body.last_sn, body.final_flag)
-    } else {
-        (Sn::new(0), Sn::new(0), true)
-    };
-    Told::Heartbeat(HeartbeatSeen {
-        first,
-        last,
+    if is_reliable {
+        return Told::Heartbeat(HeartbeatSeen {
+            first: body.first_sn,
+            last: body.last_sn,
+            count: body.count,
+            is_final: body.final_flag,
+            liveliness: body.liveliness_flag,
+        });
+    }
+    Told::Beat(HeartbeatSeen {
+        first: Sn::new(0),
+        last: Sn::new(0),
         count: body.count,
-        is_final,
+        is_final: true,
         liveliness: body.liveliness_flag,
     })
 }
@@ -187,6 +194,7 @@ impl ReaderEnd {
         requires { row < length self.now.writers }
         ensures idle { (t : Tracked) → Tracks self.now.reader row t → IsIdle t.place result }
         ensures passed { result.passed ≡ [] }
+        ensures begun { result.begun ≡ None }
         ensures silent { result.acknack ≡ None }
     {
         Step {
@@ -357,6 +365,9 @@ impl ReaderEnd {
             Told::Heartbeat(heartbeat) => self
                 .reader
                 .on_heartbeat(&mut self.store, row, &heartbeat, moment),
+            Told::Beat(heartbeat) => self
+                .reader
+                .on_best_effort_heartbeat(&mut self.store, row, &heartbeat, moment),
         }
     }
 

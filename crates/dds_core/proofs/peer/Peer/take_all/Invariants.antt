@@ -10,5 +10,5 @@ invariant-loop-index l = record {
   rest : drop l.index l.ready.items ≡ drop l.index l.initial.ready.items;
   count : length l.ready.items ≡ length l.initial.ready.items;
   on : GoOn l.index l.initial.effects l.effects;
-  room : 2 * length l.initial.ready.items ≤ l.effects.moves.room + 2 * l.index;
+  room : 3 * length l.initial.ready.items ≤ l.effects.moves.room + 3 * l.index;
 }

@@ -1,5 +1,5 @@
 use mir.Val.{SFits}
-use Rattle.std.proofs.Common.{◌≡◌, ◌∙◌, ℕ, ◌<◌, ap, arith, rules, sym, subst}
+use Rattle.std.proofs.Common.{◌≡◌, ◌∙◌, ℕ, ◌<◌, ap, rules, sym, subst}
 use Rattle.std.specs.Prelude.{ℤ}
 use Rattle.std.specs.Int.{w32}
 use Rattle.std.proofs.lemmas.Int.{to_z-of_z}
@@ -27,7 +27,6 @@ invariant_of-result c =
     ∙ qos_as c.args.config.now c.limit_of.result c.limit_of-2.result _ c.in_ok-names.field-0.qos.items (limits c).0
     (limits c).1 c.from_vec.ensures.elements) c.in_ok-names.ensures.many
     c.is_reliable.result c.is_reliable.ensures.reliable
-    (λ row within. c.in-Ok.ensures.begun row (let count = c.in-Ok.ensures.count in omega (arith, within, count)))
 
 pub returns : goal.returns
 returns c =
@@ -35,6 +34,7 @@ returns c =
     opens_reader c.args.peers.now c.args.config.now c.in_ok-names.field-0.names.items c.in_ok-names.field-0.qos.items
     c.in-Ok.reader c.in-Ok-open.store c.in_ok-names.ensures.names c.in_ok-names.ensures.qos
     (λ index within. c.in-Ok.ensures.fresh index (subst (λ (n : ℕ). index < n) (sym count) within))
+    (λ index within. c.in-Ok.ensures.begun index (subst (λ (n : ℕ). index < n) (sym count) within))
     (c.in-Ok-open.ensures.qos
     ∙ qos_as c.args.config.now c.limit_of.result c.limit_of-2.result _ c.in_ok-names.field-0.qos.items (limits c).0
     (limits c).1 c.from_vec.ensures.elements) c.in-Ok-open.ensures.opening
