@@ -8,6 +8,7 @@ pub mod CallSteps
 pub mod AssertSteps
 pub mod StrengthSteps
 pub mod Dying
+pub mod Parting
 pub mod ChangesDue
 pub mod Destinations
 pub mod Ends

@@ -22,6 +22,7 @@ pub mod Answering
 pub mod Pairs
 pub mod Accesses
 pub mod Expiring
+pub mod Parting
 pub mod Watching
 pub mod Filtering
 pub mod FilteredSteps

@@ -60,6 +60,7 @@ mod pairing;
 mod peer;
 mod reader_asked;
 mod reader_end;
+mod reader_matching;
 mod reader_told;
 mod receiver;
 mod requests;

@@ -2,18 +2,21 @@
 //!
 //! RTPS 2.5, 8.2 (HistoryCache of a reader); DDS 1.4, 2.2.3 (RESOURCE_LIMITS, LIVELINESS).
 
-ghost use Rattle.std.specs.Prelude.{◌≡◌, ◌+◌, ◌-◌, ◌^◌, ◌<◌, ◌≤◌, true, false, List, [], Some, if◌then◌else◌, IfOk, IfErr, length};
+ghost use Rattle.std.specs.Prelude.{◌≡◌, ◌+◌, ◌-◌, ◌^◌, ◌<◌, ◌≤◌, ◌∷◌, true, false, List, [], Some, if◌then◌else◌, IfOk, IfErr, OnOk, OnErr, length};
 ghost use Rattle.dds_base.specs.declared.code.Code.TheVariants.{Memory};
 ghost use Rattle.dds_base.specs.declared.happening.Happening.{Happening};
+ghost use Rattle.dds_base.specs.declared.happening.Happening.TheVariants.{Died};
 ghost use Rattle.dds_base.specs.Access.{handle_of, has_match, instance_of};
-ghost use Rattle.dds_base.specs.Liveliness.{after_deaths, dead_at};
+ghost use Rattle.dds_base.specs.Liveliness.{after_deaths, after_parting, dead_at};
+ghost use Rattle.dds_base.specs.Ownership.{IsMatched};
 ghost use Rattle.dds_base.specs.Statuses.{lost_count};
 ghost use Rattle.dds_base.specs.StatusFlags.{data_available_at, turned_at};
-ghost use Rattle.dds_cache.specs.Standing.{qos_of, AccessAnswers, AfterAccess, StandsFor as CacheStandsFor};
+ghost use Rattle.dds_cache.specs.Standing.{qos_of, deaths_of, AccessAnswers, AfterAccess, StandsFor as CacheStandsFor};
 ghost use Rattle.dds_lease.specs.Standing.{writer_count};
 ghost use Rattle.dds_machine.specs.Passing.{passed_at};
 ghost use Rattle.dds_core.specs.Expiring.{HasRoomForDeaths};
 ghost use Rattle.dds_core.specs.Looking.{access_reply};
+ghost use Rattle.dds_core.specs.Parting.{parting_entries};
 ghost use Rattle.dds_core.specs.Stored.{StoreKept};
 ghost use Rattle.dds_core.specs.Storing.{Holds, Loses};
 ghost use Rattle.dds_core.specs.Twins.{Twins};
@@ -53,6 +56,27 @@ impl Model for Store {
     ghost view = { λ s. record { lost = s.lost; passed = s.passed; turned = s.turned; leases = s.leases; cache = s.cache } };
 
     ghost invariant = { λ s. (s.lost < 2 ^ 64) × (writer_count s.leases ≡ length (qos_of s.cache).writers) };
+}
+
+/// How many entries a parting makes of a writer that is alive, or is not: the death of one that is comes first.
+fn parting_entries(alive: bool) -> usize
+    ensures { result ≡ parting_entries alive }
+{
+    if alive { 2 } else { 1 }
+}
+
+/// A writer that leaves dies first, if it is alive. The entries of its parting can be counted.
+fn die_first(cache: &mut ReaderCache, writer: Handle, now: Moment, alive: bool)
+    requires matched { IsMatched (qos_of cache.old) writer }
+    requires counted { parting_entries alive ≤ deaths_of cache.old }
+    ensures died { (h : List Happening) → CacheStandsFor cache.old h
+        → CacheStandsFor cache.new (if alive then Died writer now ∷ h else h) }
+    ensures counted { 1 ≤ deaths_of cache.new }
+    ensures qos { qos_of cache.new ≡ qos_of cache.old }
+{
+    if alive {
+        cache.died(writer, now).unwrap();
+    }
 }
 
 impl Store {
@@ -189,6 +213,35 @@ impl Store {
             self.turned = Some(self.cache.happened());
             after = writer;
         }
+    }
+
+    /// A matched writer left at this moment. One that is alive dies first, so it is registered for nothing any more. It
+    /// takes no memory.
+    ///
+    /// # Errors
+    ///
+    /// `Memory` where with it more than 2^64 - 1 entries would have happened; the store is then as it was.
+    ///
+    /// RTPS 2.5, 8.4.10.3 (matched_writer_remove); DDS 1.4, 2.2.4.1 (LivelinessChangedStatus: not_alive_count).
+    pub fn leave(&mut self, writer: Handle, now: Moment) -> Result<(), Code>
+        requires matched { IsMatched (qos_of self.old.cache) writer }
+        ensures left { OnOk result ((h : List Happening) → Holds self.old h
+            → Holds self.new (after_parting writer now h)) }
+        ensures past { OnErr result ((h : List Happening) → Holds self.old h
+            → 2 ^ 64 - 1 < length (after_parting writer now h)) }
+        ensures err { OnErr result (self.new ≡ self.old) }
+        ensures memory { IfErr result (λ code. code ≡ Memory) }
+        ensures qos { qos_of self.new.cache ≡ qos_of self.old.cache }
+    {
+        let alive = self.leases.is_alive(writer);
+        if !self.cache.counts_deaths(parting_entries(alive)) {
+            return Err(Code::Memory);
+        }
+        die_first(&mut self.cache, writer, now, alive);
+        self.cache.leave(writer, now).unwrap();
+        let turns = self.leases.leave(writer, now);
+        self.turn_if(turns);
+        Ok(())
     }
 
     /// Reads or takes samples that pass the test, as the cache does, and gives them once more where two replies are asked

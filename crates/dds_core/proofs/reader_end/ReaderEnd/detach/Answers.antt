@@ -1,0 +1,39 @@
+use Rattle.std.proofs.Common.{◌≡◌, ◌+◌, ◌-◌, ◌^◌, ◌<◌, ℕ, List, length, subst}
+use Rattle.dds_base.specs.declared.happening.Happening.{Happening}
+use Rattle.dds_base.specs.Liveliness.{after_parting}
+use Rattle.dds_core.specs.Kept.{ReaderKept}
+use Rattle.dds_core.specs.Parting.{Detaches, IsPastParting}
+use Rattle.dds_core.specs.Storing.{Holds}
+use Rattle.dds_core.proofs.Parting.{detaches, past_parting, so_on_error}
+use Rattle.dds_core.proofs.reader_end.ReaderEnd.detach.Goals as goal
+
+pub returns-in_err-leave-clause-past : goal.returns-in_err-leave-clause-past
+returns-in_err-leave-clause-past c =
+    let kept : ReaderKept = record {
+      entity = c.self.inside.entity;
+      writers = c.self.inside.writers.items;
+      reader = c.self.inside.reader;
+      store = c.self.inside.store;
+      seen = c.self.inside.seen;
+    } in
+    so_on_error c.from_residual.result (IsPastParting c.args.self.now c.args.row c.args.now)
+    (subst (λ (k : ReaderKept). IsPastParting k c.args.row c.args.now) c.self.view_is
+    (past_parting kept c.args.row c.args.now
+    (λ h s. subst (λ (n : ℕ). 2 ^ 64 - 1 < length (after_parting n c.args.now h)) c.new.ensures.number
+    (c.in_err-leave.ensures.past h s))))
+
+pub returns-clause-ok : goal.returns-clause-ok
+returns-clause-ok c =
+    let kept : ReaderKept = record {
+      entity = c.self.inside.entity;
+      writers = c.self.inside.writers.items;
+      reader = c.self.inside.reader;
+      store = c.self.inside.store;
+      seen = c.self.inside.seen;
+    } in
+    subst (λ (k : ReaderKept). Detaches k c.args.row c.args.now
+    (record kept { reader = c.detach.new.self; store = c.leave.new.self })) c.self.view_is
+    (detaches kept c.args.row c.args.now c.detach.new.self c.leave.new.self c.detach.ensures.away
+    c.in_ok-leave.ensures.qos
+    (λ h s. subst (λ (n : ℕ). Holds c.leave.new.self (after_parting n c.args.now h)) c.new.ensures.number
+    (c.in_ok-leave.ensures.left h s)))
