@@ -77,3 +77,4 @@ pub mod Closed
 pub mod ClosedSteps
 pub mod Tellings
 pub mod ToldRuns
+pub mod GoesOn
