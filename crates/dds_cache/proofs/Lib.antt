@@ -26,3 +26,4 @@ pub mod DeathLaws
 pub mod SweepLaws
 pub mod HoldLaws
 pub mod OnlyLaws
+pub mod SameLaws
