@@ -399,6 +399,20 @@ impl Watch {
         Ok(Sequence::from_vec(conditions))
     }
 
+    /// The conditions of a WaitSet where they stand, in the order in which they were attached; none where there is no
+    /// such WaitSet. It takes no memory.
+    ///
+    /// DDS 1.4, 2.2.2.1 (get_conditions).
+    pub fn attached(&self, number: u32) -> &[Cond]
+        // They are those that are attached to it.
+        ensures conditions { result.now ≡ conditions_of self.now number }
+    {
+        match self.wait_set(number) {
+            Some(waiting) => waiting.conditions.conditions(),
+            None => &[],
+        }
+    }
+
     /// The WaitSet of this number, if there is one.
     fn wait_set(&self, number: u32) -> Option<&Waiting>
         ensures { option_copied result ≡ at_number self.now.wait_sets number }
