@@ -51,6 +51,7 @@ mod lent_event;
 mod limits;
 mod marks;
 mod matching;
+mod misses;
 mod moves;
 mod noticing;
 mod observing;
