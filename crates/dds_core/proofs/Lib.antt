@@ -53,6 +53,10 @@ pub mod Acknowledging
 pub mod Once
 pub mod MatchedAt
 pub mod KnownPairs
+pub mod Leaving
+pub mod Joining
+pub mod Leaves
+pub mod Joins
 pub mod RowsAnswered
 pub mod Requesting
 pub mod Pairs

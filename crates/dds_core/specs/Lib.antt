@@ -5,6 +5,7 @@ pub mod MatchedEnds
 pub mod Lending
 pub mod Identity
 pub mod Standing
+pub mod Coming
 pub mod Ruling
 pub mod Stepping
 pub mod Opening

@@ -42,6 +42,7 @@ mod answering;
 mod application;
 mod by_filter;
 mod calls;
+mod coming;
 mod delivery;
 mod effects;
 mod expiring;

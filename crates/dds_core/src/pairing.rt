@@ -31,7 +31,7 @@ pub struct Pair {
 }
 
 /// The first row of this reader, if it is among these.
-fn row_among(names: &[ReaderName], reader: Endpoint) -> Option<usize>
+pub fn row_among(names: &[ReaderName], reader: Endpoint) -> Option<usize>
     ensures { MatchOption result
         ((k : ℕ) (n : NameOf) → slice_get names.now k ≡ Some n → n.reader ≡ reader → ⊥)
         (IsFirstReader names.now reader) }

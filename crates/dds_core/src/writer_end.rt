@@ -17,6 +17,7 @@ ghost use Rattle.dds_machine.specs.Part.{ReaderProxy, Writer, history_of, writer
 ghost use Rattle.dds_core.specs.declared.matching.ReaderName.{ReaderName as NameOf};
 ghost use Rattle.dds_core.specs.Answering.{HasRoom, AreRooms, IsAskedAt, IsUnaskedAt, IsUnasked, TakesAckNack};
 ghost use Rattle.dds_core.specs.Beating.{BeatsOf, BeatsOfAll, HasNoCount, TellsOf};
+ghost use Rattle.dds_core.specs.Coming.{ForgetsRow, Joins, Leaves};
 ghost use Rattle.dds_core.specs.Identity.{writer_identity};
 ghost use Rattle.dds_core.specs.Noticing.{MarksWriter};
 ghost use Rattle.dds_core.specs.OpeningEnds.{OpensWriter};
@@ -27,12 +28,14 @@ ghost use Rattle.dds_core.specs.Standing.{IsShort, WriterStands};
 ghost use Rattle.dds_core.specs.Stepping.{Enters, Ticks, AllTick};
 
 use crate::answering::{Answering, Room, is_from, rooms, send_answers};
+use crate::coming::{MAX_READERS, add_row, remove_name, set_count, set_peers};
 use crate::heartbeat::{Beat, send_beats, send_to_all};
 use crate::limits::limit_of;
 use crate::matching::{
     Destination, LastCount, ReaderName, destinations, first_counts, matched_readers,
     reliable_readers,
 };
+use crate::pairing::row_among;
 use crate::receiver::MessageReceiver;
 use crate::sending::{Announced, Sender, announce};
 use crate::status_bits::bit_if;
@@ -539,6 +542,64 @@ impl WriterEnd {
             asserts: false,
         };
         send_beats(alloc, &beat, &self.writer, self.readers.as_slice(), sent);
+    }
+
+    /// Has no row of this reader any more, but the count of the last of its ACKNACKs that was applied, for a match to come.
+    fn forget_row(&mut self, reader: Endpoint)
+        ensures { ForgetsRow self.old reader self.new }
+    {
+        let Some(row) = row_among(self.readers.as_slice(), reader) else {
+            return;
+        };
+        let count = self.writer.leave(row);
+        let _ = self.readers.remove(row);
+        set_count(self.counts.as_mut_slice(), reader, count);
+    }
+
+    /// It is told that it is no longer matched with this reader: it has nothing more of that one, and what that one alone
+    /// had not acknowledged is not kept any longer. It sends no more to that one's peer, unless another reader there is
+    /// matched. No memory is wanted.
+    ///
+    /// RTPS 2.5, 8.4.7.4 (StatefulWriter, matched_reader_remove).
+    pub fn leave(&mut self, reader: Endpoint)
+        ensures { Leaves self.old reader self.new }
+    {
+        self.forget_row(reader);
+        remove_name(&mut self.matched, reader);
+        set_peers(&mut self.destinations, self.matched.as_slice());
+    }
+
+    /// It is told that it is matched with the reader of this name, which is reliable or not, where it was not: the reader
+    /// comes last. It is owed what is made from now on, and what was made counts as acknowledged.
+    ///
+    /// # Errors
+    ///
+    /// `Memory` where a growth was refused, or where it would send to more than 256 peers, or have more than 256 reliable
+    /// readers, which no configuration has; the writer is then as it was.
+    ///
+    /// RTPS 2.5, 8.4.7.4 (StatefulWriter, matched_reader_add); DDS 1.4, 2.2.3 (DURABILITY: VOLATILE).
+    pub fn join(&mut self, name: ReaderName, is_reliable: bool) -> Result<(), Code>
+        ensures ok { OnOk result (Joins self.old name is_reliable self.new) }
+        ensures err { OnErr result (self.new ≡ self.old) }
+        ensures memory { IfErr result (λ code. code ≡ Memory) }
+    {
+        if MAX_READERS <= self.destinations.len() {
+            return Err(Code::Memory);
+        }
+        // Before anything changes.
+        self.matched.reserve(1)?;
+        self.destinations.reserve(1)?;
+        add_row(
+            &mut self.readers,
+            &mut self.counts,
+            &mut self.writer,
+            name,
+            is_reliable,
+        )?;
+        self.matched.push_reserved(name);
+        self.destinations.push_reserved(name.peer());
+        set_peers(&mut self.destinations, self.matched.as_slice());
+        Ok(())
     }
 }
 

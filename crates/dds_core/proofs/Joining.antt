@@ -1,0 +1,292 @@
+-- Lists of readers with one more, and what is read of them.
+use Rattle.std.proofs.Common.{◌≡◌, ℕ, zero, suc, ◌+◌, ◌<◌, ◌≤◌, ◌==◌, Bool, true, false, not, cond, ◌&&◌, ◌||◌, List, [], ◌∷◌, ◌++◌, Option, Some, None, map, take, drop, set, length, get_or, slice_get, refl, ap, sym, ◌∙◌, arith, append_assoc, length-append}
+use Rattle.std.specs.Prelude.{ℤ, filter, if◌then◌else◌}
+use Rattle.std.specs.List.{list_any}
+use Rattle.std.proofs.lemmas.List.{length-take}
+use Rattle.std.proofs.lemmas.Option.{same_Some}
+use Rattle.dds_machine.specs.declared.endpoint.Endpoint.{Endpoint}
+use Rattle.dds_machine.specs.Part.{ReaderProxy, same_endpoint}
+use Rattle.dds_machine.proofs.Tables.{same_is}
+use Rattle.dds_protocol.proofs.InOrder.{same_self}
+use Rattle.dds_core.specs.declared.matching.Destination.{Destination}
+use Rattle.dds_core.specs.declared.matching.LastCount.{LastCount}
+use Rattle.dds_core.specs.declared.matching.ReaderName.{ReaderName}
+use Rattle.dds_core.specs.Beating.{peer_of}
+use Rattle.dds_core.specs.Coming.{is_last_of, last_peers, set_count, with_place}
+use Rattle.dds_core.specs.MatchedEnds.{AreNamedOnce, has_count, is_named, last_count}
+
+-- what is read where there is no row
+abbrev pub no_name : ReaderName
+no_name =
+    record {
+      reader = record { peer = 0; number = 0 };
+      guid = record { prefix = record { 0 = [] }; entity = record { 0 = [] } };
+    }
+
+abbrev pub no_count : LastCount
+no_count = record { reader = record { peer = 0; number = 0 }; count = None }
+
+-- ---- the peers of readers, written one after the other
+
+pub is_last_at : (names : List ReaderName) (row : ℕ) (d : ReaderName) → row < length names
+    → is_last_of names row
+    ≡ not (list_any (λ (m : ReaderName). m.reader.peer == (get_or names row d).reader.peer) (drop (row + 1) names))
+is_last_at [] row d lt = absurd (omega (arith, lt))
+is_last_at (n ∷ ns) zero d lt = refl
+is_last_at (n ∷ ns) (suc row) d lt =
+    let next : suc row + 1 ≡ suc (row + 1) = omega arith in
+    is_last_at ns row d (omega (arith, lt))
+    ∙ ap (λ (k : ℕ). not (list_any (λ (m : ReaderName). m.reader.peer == (get_or ns row d).reader.peer)
+    (drop k (n ∷ ns)))) (sym next)
+
+row_first : {X : Type 0} (x : X) (xs : List X) (a b : Bool) → not a ≡ b
+    → (if a then xs else x ∷ xs) ≡ cond b (x ∷ []) [] ++ xs
+row_first x xs true true is = absurd cc
+row_first x xs true false is = refl
+row_first x xs false true is = refl
+row_first x xs false false is = absurd cc
+
+pub peers_from : (names : List ReaderName) (row : ℕ) (d : ReaderName) (b : Bool) → row < length names
+    → is_last_of names row ≡ b
+    → last_peers (drop row names) ≡ cond b (peer_of (get_or names row d) ∷ []) [] ++ last_peers (drop (row + 1) names)
+peers_from [] row d b lt is = absurd (omega (arith, lt))
+peers_from (n ∷ ns) zero d b lt is =
+    row_first (peer_of n) (last_peers ns) (list_any (λ (m : ReaderName). m.reader.peer == n.reader.peer) ns) b is
+peers_from (n ∷ ns) (suc row) d b lt is =
+    let next : suc row + 1 ≡ suc (row + 1) = omega arith in
+    peers_from ns row d b (omega (arith, lt)) is
+    ∙ ap (λ (k : ℕ). cond b (peer_of (get_or ns row d) ∷ []) [] ++ last_peers (drop k (n ∷ ns))) (sym next)
+
+pub put_next : {X : Type 0} (xs : List X) (k : ℕ) (x : X) → k < length xs
+    → take (k + 1) (set xs k x) ≡ take k xs ++ x ∷ []
+put_next [] k x lt = absurd (omega (arith, lt))
+put_next (y ∷ ys) zero x lt = refl
+put_next (y ∷ ys) (suc k) x lt =
+    let next : suc k + 1 ≡ suc (k + 1) = omega arith in
+    ap (λ (m : ℕ). take m (set (y ∷ ys) (suc k) x)) next
+    ∙ ap (λ zs. y ∷ zs) (put_next ys k x (omega (arith, lt)))
+
+-- so many were written, and there is a place for one more
+pub has_place : {X : Type 0} (xs rest all : List X) (k : ℕ) (x : X) → k ≤ length xs
+    → take k xs ++ x ∷ rest ≡ all → length all ≤ length xs → k < length xs
+has_place xs rest all k x le is few =
+    let size = ap (λ ys. length ys) is in
+    let sum = length-append (take k xs) (x ∷ rest) in
+    let first = length-take k xs in
+    omega (arith, le, few, size, sum, first)
+
+pub written_on : {X : Type 0} (xs : List X) (k : ℕ) (x : X) (rest all : List X) → k < length xs
+    → take k xs ++ x ∷ rest ≡ all → take (k + 1) (set xs k x) ++ rest ≡ all
+written_on xs k x rest all lt is =
+    ap (λ ys. ys ++ rest) (put_next xs k x lt) ∙ (append_assoc (take k xs) (x ∷ []) rest ∙ is)
+
+-- ---- what is left
+
+pub left_from : {X : Type 0} (b : X → Bool) (xs : List X) (k : ℕ) (x : X) → slice_get (filter b xs) k ≡ Some x
+    → (j : ℕ) × (slice_get xs j ≡ Some x)
+left_from b [] k x at = absurd cc
+left_from b (y ∷ ys) k x at = by (b y) k at (λ i h. left_from b ys i x h)
+  where
+    more : (j : ℕ) × (slice_get ys j ≡ Some x) → (j : ℕ) × (slice_get (y ∷ ys) j ≡ Some x)
+    more f = (suc f.0, f.1)
+
+    by : (c : Bool) (i : ℕ) → slice_get (cond c (y ∷ filter b ys) (filter b ys)) i ≡ Some x
+        → ((i : ℕ) → slice_get (filter b ys) i ≡ Some x → (j : ℕ) × (slice_get ys j ≡ Some x))
+        → (j : ℕ) × (slice_get (y ∷ ys) j ≡ Some x)
+    by true zero h later = (zero, h)
+    by true (suc i) h later = more (later i h)
+    by false i h later = more (later i h)
+
+pub none_left : (reader : Endpoint) (es : List Endpoint)
+    → list_any (λ e. same_endpoint e reader) (filter (λ e. not (same_endpoint e reader)) es) ≡ false
+none_left reader [] = refl
+none_left reader (e ∷ es) = by (same_endpoint e reader) refl (none_left reader es)
+  where
+    by : (b : Bool) → same_endpoint e reader ≡ b
+        → list_any (λ x. same_endpoint x reader) (filter (λ x. not (same_endpoint x reader)) es) ≡ false
+        → list_any (λ x. same_endpoint x reader)
+        (cond (not b) (e ∷ filter (λ x. not (same_endpoint x reader)) es)
+        (filter (λ x. not (same_endpoint x reader)) es)) ≡ false
+    by true is h = h
+    by false is h =
+        ap (λ (c : Bool). c || list_any (λ x. same_endpoint x reader) (filter (λ x. not (same_endpoint x reader)) es)) is
+        ∙ h
+
+-- ---- one more
+
+pub any_more : {X : Type 0} (f : X → Bool) (xs : List X) (x : X) → list_any f (xs ++ x ∷ []) ≡ (list_any f xs || f x)
+any_more f [] x = by (f x)
+  where
+    by : (b : Bool) → (b || false) ≡ b
+    by true = refl
+    by false = refl
+any_more f (y ∷ ys) x = by (f y) (any_more f ys x)
+  where
+    by : (b : Bool) → list_any f (ys ++ x ∷ []) ≡ (list_any f ys || f x)
+        → (b || list_any f (ys ++ x ∷ [])) ≡ ((b || list_any f ys) || f x)
+    by true h = refl
+    by false h = h
+
+pub once_more : (names : List ReaderName) (name : ReaderName) → AreNamedOnce names → is_named names name.reader ≡ false
+    → AreNamedOnce (names ++ name ∷ [])
+once_more [] name once none = (refl, tt)
+once_more (n ∷ ns) name once none =
+    by (same_endpoint n.reader name.reader) refl none (λ h. once_more ns name once.1 h)
+  where
+    other : (b : Bool) → same_endpoint name.reader n.reader ≡ b → same_endpoint n.reader name.reader ≡ false
+        → same_endpoint name.reader n.reader ≡ false
+    other false is apart = is
+    other true is apart =
+        let same : same_endpoint n.reader name.reader ≡ true =
+        ap (λ (e : Endpoint). same_endpoint n.reader e) (same_is name.reader n.reader is) ∙ same_self n.reader in absurd cc
+
+    by : (b : Bool) → same_endpoint n.reader name.reader ≡ b → (b || is_named ns name.reader) ≡ false
+        → (is_named ns name.reader ≡ false → AreNamedOnce (ns ++ name ∷ []))
+        → AreNamedOnce (n ∷ ns ++ name ∷ [])
+    by true is h later = absurd cc
+    by false is h later = (
+      any_more (λ (m : ReaderName). same_endpoint m.reader n.reader) ns name
+          ∙ (ap (λ (b : Bool). b || same_endpoint name.reader n.reader) once.0
+          ∙ other (same_endpoint name.reader n.reader) refl is),
+      later h,
+    )
+
+-- ---- places of counts
+
+pub place_there : (counts : List LastCount) (reader e : Endpoint)
+    → has_count (with_place counts reader) e ≡ (has_count counts e || same_endpoint reader e)
+place_there counts reader e = by (has_count counts reader) refl
+  where
+    late : (b : Bool) → (b || true) ≡ true
+    late true = refl
+    late false = refl
+
+    none : (b : Bool) → (b || false) ≡ b
+    none true = refl
+    none false = refl
+
+    also : (c : Bool) → same_endpoint reader e ≡ c → has_count counts reader ≡ true
+        → has_count counts e ≡ (has_count counts e || c)
+    also false apart is = sym (none (has_count counts e))
+    also true same is =
+        ap (λ (x : Endpoint). has_count counts x) (sym (same_is reader e same)) ∙ (is ∙ sym (late (has_count counts e)))
+
+    by : (b : Bool) → has_count counts reader ≡ b
+        → has_count (if b then counts else counts ++ record { reader = reader; count = None } ∷ []) e
+        ≡ (has_count counts e || same_endpoint reader e)
+    by true is = also (same_endpoint reader e) refl is
+    by false is =
+        any_more (λ (c : LastCount). same_endpoint c.reader e) counts (record { reader = reader; count = None })
+
+pub counts_stay : (counts : List LastCount) (reader e : Endpoint)
+    → last_count (with_place counts reader) e ≡ last_count counts e
+counts_stay counts reader e = by (has_count counts reader)
+  where
+    more : (cs : List LastCount) → last_count (cs ++ record { reader = reader; count = None } ∷ []) e ≡ last_count cs e
+    more [] = one (same_endpoint reader e)
+      where
+        nobody : Option ℤ
+        nobody = None
+
+        one : (b : Bool) → (if b then nobody else nobody) ≡ nobody
+        one true = refl
+        one false = refl
+    more (c ∷ cs) = ap (λ (o : Option ℤ). if same_endpoint c.reader e then c.count else o) (more cs)
+
+    by : (b : Bool) → last_count (if b then counts else counts ++ record { reader = reader; count = None } ∷ []) e
+        ≡ last_count counts e
+    by true = refl
+    by false = more counts
+
+pub answered_at : (answered : Endpoint → Option ℤ) (rows : List ReaderProxy) (row : ℕ) (reader : Endpoint)
+    → slice_get (map (λ (p : ReaderProxy). p.reader) rows) row ≡ Some reader
+    → get_or (map (λ (p : ReaderProxy). answered p.reader) rows) row None ≡ answered reader
+answered_at answered [] row reader at = absurd cc
+answered_at answered (p ∷ ps) zero reader at = ap answered (same_Some p.reader reader at)
+answered_at answered (p ∷ ps) (suc row) reader at = answered_at answered ps row reader at
+
+-- ---- counts, one after the other
+
+pub count_from : (counts : List LastCount) (row : ℕ) (reader : Endpoint) (d : LastCount) (b : Bool)
+    → row < length counts → same_endpoint (get_or counts row d).reader reader ≡ b
+    → last_count (drop row counts) reader
+    ≡ (if b then (get_or counts row d).count else last_count (drop (row + 1) counts) reader)
+count_from [] row reader d b lt is = absurd (omega (arith, lt))
+count_from (c ∷ cs) zero reader d b lt is =
+    ap (λ (x : Bool). if x then c.count else last_count cs reader) is
+count_from (c ∷ cs) (suc row) reader d b lt is =
+    let next : suc row + 1 ≡ suc (row + 1) = omega arith in
+    count_from cs row reader d b (omega (arith, lt)) is
+    ∙ ap (λ (k : ℕ). if b then (get_or cs row d).count else last_count (drop k (c ∷ cs)) reader) (sym next)
+
+abbrev counted_as : LastCount → Option ℤ → LastCount
+counted_as c count = record c { count = count }
+
+pub set_here : (counts : List LastCount) (row : ℕ) (reader : Endpoint) (count : Option ℤ) (d : LastCount)
+    → row < length counts → same_endpoint (get_or counts row d).reader reader ≡ true
+    → take row counts ++ set_count (drop row counts) reader count
+    ≡ set counts row (counted_as (get_or counts row d) count)
+set_here [] row reader count d lt is = absurd (omega (arith, lt))
+set_here (c ∷ cs) zero reader count d lt is =
+    ap (λ (x : Bool). if x then counted_as c count ∷ cs else c ∷ set_count cs reader count) is
+set_here (c ∷ cs) (suc row) reader count d lt is =
+    ap (λ (xs : List LastCount). c ∷ xs) (set_here cs row reader count d (omega (arith, lt)) is)
+
+pub set_later : (counts : List LastCount) (row : ℕ) (reader : Endpoint) (count : Option ℤ) (d : LastCount)
+    → row < length counts → same_endpoint (get_or counts row d).reader reader ≡ false
+    → take row counts ++ set_count (drop row counts) reader count
+    ≡ take (row + 1) counts ++ set_count (drop (row + 1) counts) reader count
+set_later [] row reader count d lt is = absurd (omega (arith, lt))
+set_later (c ∷ cs) zero reader count d lt is =
+    ap (λ (x : Bool). if x then counted_as c count ∷ cs else c ∷ set_count cs reader count) is
+set_later (c ∷ cs) (suc row) reader count d lt is =
+    let next : suc row + 1 ≡ suc (row + 1) = omega arith in
+    ap (λ (xs : List LastCount). c ∷ xs) (set_later cs row reader count d (omega (arith, lt)) is)
+    ∙ ap (λ (k : ℕ). take k (c ∷ cs) ++ set_count (drop k (c ∷ cs)) reader count) (sym next)
+
+pub nothing_left : {X : Type 0} (xs : List X) (n : ℕ) → length xs ≤ n → drop n xs ≡ []
+nothing_left [] zero le = refl
+nothing_left [] (suc n) le = refl
+nothing_left (x ∷ xs) zero le = absurd (omega (arith, le))
+nothing_left (x ∷ xs) (suc n) le = nothing_left xs n (omega (arith, le))
+
+-- ---- what is written, and what is read
+
+pub same_by_parts : (a b : Endpoint) → same_endpoint a b ≡ (a.peer == b.peer && a.number == b.number)
+same_by_parts a b = by (a.peer == b.peer) (a.number == b.number)
+  where
+    by : (p q : Bool) → (if p then q else false) ≡ (p && q)
+    by true q = refl
+    by false q = refl
+
+pub as_many_counts : (counts : List LastCount) (reader : Endpoint) (count : Option ℤ)
+    → length (set_count counts reader count) ≡ length counts
+as_many_counts [] reader count = refl
+as_many_counts (c ∷ cs) reader count = by (same_endpoint c.reader reader) (as_many_counts cs reader count)
+  where
+    by : (b : Bool) → length (set_count cs reader count) ≡ length cs
+        → length (if b then counted_as c count ∷ cs else c ∷ set_count cs reader count) ≡ suc (length cs)
+    by true h = refl
+    by false h = ap (λ (n : ℕ). suc n) h
+
+-- the peer of the next reader, the last of its peer, is written
+pub one_written : (names : List ReaderName) (row : ℕ) (peers : List Destination) (count : ℕ) (x : Destination)
+    → row < length names → is_last_of names row ≡ true → x ≡ peer_of (get_or names row no_name)
+    → count ≤ length peers → take count peers ++ last_peers (drop row names) ≡ last_peers names
+    → length (last_peers names) ≤ length peers
+    → (count < length peers)
+    × (take (count + 1) (set peers count x) ++ last_peers (drop (row + 1) names) ≡ last_peers names)
+one_written names row peers count x within last is le written room =
+    let next =
+    peers_from names row no_name true within last
+    ∙ ap (λ (d : Destination). d ∷ last_peers (drop (row + 1) names)) (sym is) in
+    let all = ap (λ (ds : List Destination). take count peers ++ ds) (sym next) ∙ written in
+    let place = has_place peers (last_peers (drop (row + 1) names)) (last_peers names) count x le all room in
+    (place, written_on peers count x (last_peers (drop (row + 1) names)) (last_peers names) place all)
+
+-- that of a reader which is not the last of its peer is not
+pub none_written : (names : List ReaderName) (row : ℕ) (peers : List Destination) → row < length names
+    → is_last_of names row ≡ false → peers ++ last_peers (drop row names) ≡ last_peers names
+    → peers ++ last_peers (drop (row + 1) names) ≡ last_peers names
+none_written names row peers within last written =
+    ap (λ (ds : List Destination). peers ++ ds) (sym (peers_from names row no_name false within last)) ∙ written
