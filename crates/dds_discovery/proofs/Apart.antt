@@ -1,6 +1,6 @@
 -- An event of one participant leaves what is known of every other as it was.
-use Rattle.std.proofs.Common.{◌≡◌, ◌⊎◌, ◌∙◌, ◌++◌, ◌∷◌, ℕ, ◌<◌, Bool, true, false, cond, length, List, [], map, get_or, set, Contains, MatchOption, Option, Some, None, refl, sym, ap, subst, inl, inr, ⊎_elim, arith}
-use Rattle.std.specs.Prelude.{◌&&◌, filter, nat_eq, nat_lt, not, position, max}
+use Rattle.std.proofs.Common.{◌≡◌, ◌⊎◌, ◌∙◌, ◌++◌, ◌∷◌, ℕ, ◌<◌, Bool, true, false, cond, length, List, [], map, get_or, set, Contains, MatchOption, Option, Some, None, refl, sym, ap, subst, inl, inr, ⊎_elim}
+use Rattle.std.specs.Prelude.{◌&&◌, filter, nat_eq, nat_lt, not, position}
 use Rattle.std.specs.List.{list_any, position_or_len}
 use Rattle.std.proofs.lemmas.Bool.{ltb-true}
 use Rattle.std.proofs.lemmas.Bool.Decides.{Decides-eqb}
@@ -22,8 +22,8 @@ use Rattle.rtps_discovery.specs.Rows.{is_row_at}
 use Rattle.rtps_discovery.proofs.Members.{from_filter, from_map, from_set, into_filter, into_map, into_set}
 use Rattle.rtps_matching.specs.declared.far.Far.{Far}
 use Rattle.rtps_matching.specs.declared.told.Told.{Told}
-use Rattle.rtps_matching.specs.Matches.{is_far, is_of, same_guid}
-use Rattle.rtps_matching.specs.Steps.{Table, WhereSo, turned, turned_all, with_awake, without}
+use Rattle.rtps_matching.specs.Matches.{is_far, is_of}
+use Rattle.rtps_matching.specs.Steps.{Table, WhereSo, turned, with_awake}
 use Rattle.rtps_matching.specs.Laws.{OthersStay}
 use Rattle.dds_builtin.specs.Keys.{guid_of}
 use Rattle.dds_builtin.specs.Samples.{HearsSample, LetsGo, Nothing, TakesUp}
@@ -34,7 +34,7 @@ use Rattle.dds_discovery.specs.declared.due.Due.TheVariants.{Forget, Leave, Open
 use Rattle.dds_discovery.specs.declared.link.Link.{Link}
 use Rattle.dds_discovery.specs.Chores.{DoesChore, HearsFirst, IsOpenLink, TurnsTable, CantBeOpened}
 use Rattle.dds_discovery.specs.Dues.{is_link}
-use Rattle.dds_discovery.specs.Events.{IsFor, Takes, place_at}
+use Rattle.dds_discovery.specs.Events.{IsFor, Takes}
 use Rattle.dds_discovery.specs.Laws.{DeliveriesAreApart, StepsAreApart}
 use Rattle.dds_discovery.specs.States.{State, having}
 use Rattle.dds_discovery.specs.Steps.{Does, with_links}

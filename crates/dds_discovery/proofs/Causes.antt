@@ -1,5 +1,5 @@
 -- Why no network is opened.
-use Rattle.std.proofs.Common.{◌≡◌, ◌⊎◌, Bool, true, Option, Some, None, refl, inl, inr}
+use Rattle.std.proofs.Common.{◌≡◌, ◌⊎◌, true, Option, Some, None, refl, inl, inr}
 use Rattle.std.specs.Prelude.{is_some}
 use Rattle.dds_base.specs.declared.code.Code.{Code}
 use Rattle.dds_base.specs.declared.code.Code.TheVariants.{Memory}

@@ -1,5 +1,5 @@
 -- A datagram speaks for its sender, and then comes at a link.
-use Rattle.std.proofs.Common.{◌≡◌, ◌⊎◌, ℕ, List, Option, Some, None, sym, ap, subst, inl, inr}
+use Rattle.std.proofs.Common.{ℕ, List, Option, Some, None, sym, ap, subst, inl, inr}
 use Rattle.dds_base.specs.declared.mask.Masks.{Masks}
 use Rattle.rtps_discovery.specs.declared.packet.Packet.{Packet}
 use Rattle.rtps_discovery.specs.declared.row.Told.{Told}

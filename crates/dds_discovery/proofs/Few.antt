@@ -1,27 +1,22 @@
 -- How many participants, links and endpoints there are.
-use Rattle.std.proofs.Common.{◌≡◌, ◌⊎◌, ◌∙◌, ℕ, suc, ◌+◌, ◌-◌, ◌<◌, ◌≤◌, Bool, true, false, cond, List, [], ◌∷◌, ◌++◌, length, take, drop, map, set, Option, Some, None, MatchOption, refl, sym, ap, subst, inl, inr, arith}
+use Rattle.std.proofs.Common.{◌≡◌, ◌⊎◌, ◌∙◌, ℕ, suc, ◌+◌, ◌-◌, ◌≤◌, Bool, true, false, cond, List, [], ◌∷◌, ◌++◌, length, take, drop, map, set, Option, Some, None, MatchOption, refl, sym, ap, subst, inl, inr, arith}
 use Rattle.std.specs.Prelude.{◌&&◌, filter, max, nat_lt, not, position, remove}
 use Rattle.std.specs.List.{count_by}
 use Rattle.std.specs.Option.{option_map, option_or}
 use Rattle.std.proofs.lemmas.Bool.{ltb-true}
 use Rattle.std.proofs.lemmas.List.{length-append, length-drop, length-map, length-set, length-take, length_push}
 use Rattle.std.proofs.lemmas.List.Sums.{sum_by-cons}
-use Rattle.dds_base.specs.declared.guid.Guid.{Guid}
 use Rattle.dds_base.specs.declared.guid.GuidPrefix.{GuidPrefix}
 use Rattle.dds_base.specs.declared.mask.Masks.{Masks}
 use Rattle.dds_base.specs.declared.sample.Sample.{Sample}
 use Rattle.dds_base.specs.Checked.{same_prefix}
-use Rattle.rtps_announcements.specs.declared.locator.Locator.{Locator}
-use Rattle.rtps_announcements.specs.declared.participant.Participant.{Participant}
 use Rattle.rtps_announcements.specs.declared.qos.EndpointKind.{EndpointKind}
 use Rattle.rtps_announcements.specs.declared.qos.EndpointKind.TheVariants.{Reader, Writer}
 use Rattle.rtps_discovery.specs.declared.packet.Packet.{Packet}
-use Rattle.rtps_discovery.specs.declared.row.Limits.{Limits}
 use Rattle.rtps_discovery.specs.declared.row.Row.{Row}
 use Rattle.rtps_discovery.specs.Laws.{FewAreKnown}
 use Rattle.rtps_discovery.specs.Laws.{IsFew as FewParticipants}
 use Rattle.rtps_discovery.specs.Steps.{State as Participants}
-use Rattle.rtps_matching.specs.declared.end.End.{End}
 use Rattle.rtps_matching.specs.declared.far.Far.{Far}
 use Rattle.rtps_matching.specs.declared.told.Told.{Told}
 use Rattle.rtps_matching.specs.Laws.{AnnouncesFew}
@@ -36,9 +31,9 @@ use Rattle.dds_discovery.specs.declared.due.Due.{Due}
 use Rattle.dds_discovery.specs.declared.due.Due.TheVariants.{Forget, Leave, Open, Serve}
 use Rattle.dds_discovery.specs.declared.link.Link.{Link}
 use Rattle.dds_discovery.specs.Chores.{CantBeOpened, DoesChore, HearsFirst, IsOpenLink, TurnsTable}
-use Rattle.dds_discovery.specs.Dues.{is_busy, is_forgotten, is_left, is_new}
+use Rattle.dds_discovery.specs.Dues.{is_forgotten, is_left, is_new}
 use Rattle.dds_discovery.specs.Events.{Takes, link_anew, link_gone_on, speaks}
-use Rattle.dds_discovery.specs.Laws.{Delivery, FewEndpoints, FewLinks, FewRows, IsFew, Stepping}
+use Rattle.dds_discovery.specs.Laws.{Delivery, FewEndpoints, FewLinks, FewRows, IsFew}
 use Rattle.dds_discovery.specs.States.{State, busy, due, having, newcomer}
 use Rattle.dds_discovery.specs.Steps.{Does, with_links}
 use Rattle.dds_discovery.specs.Tasks.{Having}

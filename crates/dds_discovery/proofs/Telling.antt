@@ -1,6 +1,5 @@
 -- What is told is so, by the laws of the table of endpoints.
 use Rattle.std.proofs.Common.{◌≡◌, ◌⊎◌, ◌∙◌, ◌++◌, ◌∷◌, ℕ, Bool, true, false, length, List, [], Contains, MatchOption, Option, Some, None, refl, sym, ap, subst, inl, inr, arith}
-use Rattle.dds_base.specs.declared.guid.Guid.{Guid}
 use Rattle.dds_base.specs.declared.guid.GuidPrefix.{GuidPrefix}
 use Rattle.dds_base.specs.declared.mask.Masks.{Masks}
 use Rattle.dds_base.specs.declared.sample.Sample.{Sample}

@@ -1,5 +1,5 @@
 -- Whether a builtin reader of a participant begins: then it has nothing of us (RTPS 2.5, 9.4.5: AckNack; 9.3.1: entity ids of SEDP).
-use Rattle.std.specs.Prelude.{◌≡◌, ◌⊎◌, ℕ, ◌==◌, ◌&&◌, ◌||◌, Bool, true, false, not, nat_le, unwrap_or, List, [], ◌∷◌, Option, Some, None, if◌then◌else◌}
+use Rattle.std.specs.Prelude.{◌≡◌, ◌⊎◌, ℕ, ◌==◌, ◌&&◌, ◌||◌, Bool, false, not, nat_le, unwrap_or, List, [], ◌∷◌, Option, Some}
 use Rattle.std.specs.Int.{w32}
 use Rattle.std.specs.List.{list_any}
 use Rattle.std.specs.Str.{bytes_eq}

@@ -1,5 +1,5 @@
 -- What events lead to (RTPS 2.5, 8.5: discovery; 8.4.13: participant messages).
-use Rattle.std.specs.Prelude.{◌≡◌, ◌≢◌, ◌⊎◌, ℕ, ◌+◌, ◌-◌, ◌/◌, ◌^◌, ◌++◌, ◌∷◌, Bool, true, false, not, nat_lt, min, max, List, [], find, map, length, position, slice_index_or, slice_set, Option, None, Some, MatchOption, if◌then◌else◌}
+use Rattle.std.specs.Prelude.{◌≡◌, ◌⊎◌, ℕ, ◌+◌, ◌-◌, ◌/◌, ◌^◌, ◌++◌, ◌∷◌, Bool, not, nat_lt, min, max, List, [], find, map, position, slice_index_or, slice_set, Option, None, Some, MatchOption, if◌then◌else◌}
 use Rattle.std.specs.List.{list_any}
 use Rattle.std.specs.Option.{option_map}
 use Rattle.dds_base.specs.declared.guid.Guid.{Guid}
@@ -23,7 +23,6 @@ use Rattle.dds_builtin.specs.Sides.{IsTooLongIn, TurnsIn}
 use Rattle.dds_network.specs.declared.work.Work.{Work}
 use Rattle.dds_network.specs.Works.{gone_on, turned_work}
 use Rattle.dds_discovery.specs.declared.link.Link.{Link}
-use Rattle.dds_discovery.specs.declared.link.Removed.{Removed}
 use Rattle.dds_discovery.specs.Again.{BeginsAgain}
 use Rattle.dds_discovery.specs.Chores.{LinkTakesIn}
 use Rattle.dds_discovery.specs.Dues.{is_link}

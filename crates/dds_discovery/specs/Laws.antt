@@ -1,5 +1,5 @@
 -- What holds of the machine, whatever comes (RTPS 2.5, 8.5: discovery).
-use Rattle.std.specs.Prelude.{◌≡◌, ◌≤◌, ◌+◌, ℕ, Bool, false, List, length, Any, Contains, IfSome, Option, Some}
+use Rattle.std.specs.Prelude.{◌≡◌, ◌≤◌, ◌+◌, ℕ, false, List, length, Any, Contains, IfSome, Option, Some}
 use Rattle.dds_base.specs.declared.guid.Guid.{Guid}
 use Rattle.dds_base.specs.declared.guid.GuidPrefix.{GuidPrefix}
 use Rattle.dds_base.specs.declared.mask.Masks.{Masks}

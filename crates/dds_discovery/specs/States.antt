@@ -1,6 +1,6 @@
 -- What the discovery machine knows, and which step is next (RTPS 2.5, 8.5: discovery).
 use Rattle.std.specs.Prelude.{ℕ, ◌-◌, ◌&&◌, ◌<◌, List, length, position, nat_lt, Option, None, if◌then◌else◌}
-use Rattle.std.specs.Option.{is_none, option_map, option_or}
+use Rattle.std.specs.Option.{option_map, option_or}
 use Rattle.dds_base.specs.declared.guid.GuidPrefix.{GuidPrefix}
 use Rattle.rtps_discovery.specs.Steps.{State as Participants}
 use Rattle.rtps_matching.specs.Steps.{Table}

@@ -1,5 +1,5 @@
 -- What a step leads to (RTPS 2.5, 8.5: discovery).
-use Rattle.std.specs.Prelude.{◌≡◌, ◌⊎◌, ℕ, ◌<◌, ◌++◌, ◌∷◌, List, [], length, remove, slice_index_or, slice_set, Option, None, Some}
+use Rattle.std.specs.Prelude.{◌≡◌, ◌⊎◌, ℕ, ◌++◌, ◌∷◌, List, [], length, remove, slice_index_or, slice_set, Option, None, Some}
 use Rattle.rtps_discovery.specs.declared.packet.Packet.{Packet}
 use Rattle.rtps_discovery.specs.declared.row.Row.{Row}
 use Rattle.rtps_discovery.specs.Rows.{is_there}

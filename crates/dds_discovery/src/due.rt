@@ -5,7 +5,7 @@
 ghost use Rattle.std.specs.Prelude.{◌≡◌, ◌<◌, length, IfSome};
 ghost use Rattle.std.specs.List.{position};
 ghost use Rattle.rtps_discovery.specs.Rows.{has_row, is_row, is_there};
-ghost use Rattle.dds_discovery.specs.Dues.{chore_of, has_link, is_among, is_busy, is_forgotten, is_left, is_link, is_new, turn_of};
+ghost use Rattle.dds_discovery.specs.Dues.{chore_of, has_link, is_among, is_busy, is_forgotten, is_left, is_new, turn_of};
 
 use crate::link::Link;
 use dds_base::GuidPrefix;
