@@ -67,5 +67,3 @@ pub mod Notified
 pub mod Ended
 pub mod Counted
 pub mod ToNobody
-pub mod MissLaws
-pub mod Remembered

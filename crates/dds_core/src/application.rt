@@ -25,7 +25,6 @@ ghost use Rattle.dds_base.specs.declared.config.Config.{Config as ConfigOf};
 use crate::filtered_peer::FilteredPeer;
 use crate::lent_event::LentEvent;
 use crate::marks::Marks;
-use crate::misses::Misses;
 use crate::observing::Observed;
 use crate::pairing::Pair;
 use crate::twin::{Twin, pair_of};
@@ -40,25 +39,19 @@ use std::marker::Model;
 /// A peer, with the filters and the listeners that its application handed it: boxes, unless `F` and `L` name types of
 /// the application's own.
 #[derive(Drop)]
-pub struct Core<F: Filter = Box<dyn Filter + Send>, L: Listener = Box<dyn Listener + Send>> {
+pub struct Core<F = Box<dyn Filter + Send>, L = Box<dyn Listener + Send>> {
     filtered: FilteredPeer<F>,
     listeners: Slots<L>,
     // Of the step that is being made. They stand here, as a step without listeners needs no place for them.
     marks: Marks,
-    /// No answer depends on it.
-    misses: Misses,
 }
 
-impl<F: Filter, L: Listener> Model for Core<F, L> {
+impl<F, L> Model for Core<F, L> {
     ghost use Rattle.dds_core.specs.Listening.{CoreKept};
-    ghost use Rattle.dds_core.specs.Remembering.{Remembers};
 
     ghost Value = { CoreKept F L };
 
     ghost view = { λ c. record { filtered = c.filtered; listeners = c.listeners } };
-
-    ghost invariant = { λ c. Remembers L.notices L.capacity L.becomes F.meaning
-        (record { filtered = c.filtered; listeners = c.listeners }) c.misses };
 }
 
 impl<F: Filter, L: Listener> Core<F, L> {
@@ -89,7 +82,6 @@ impl<F: Filter, L: Listener> Core<F, L> {
             filtered,
             listeners,
             marks: Marks::NOTHING,
-            misses: Misses::new(alloc),
         })
     }
 
@@ -192,7 +184,7 @@ impl<F: Filter, L: Listener> Core<F, L> {
         if is_told {
             self.filtered.mark(&mut self.marks);
         }
-        let output = self.filtered.step(event, twin, &mut self.misses);
+        let output = self.filtered.step(event, twin);
         if is_told {
             self.filtered.end(&mut self.listeners, &self.marks);
         }
@@ -230,13 +222,7 @@ impl<F: Filter, L: Listener> Core<F, L> {
         // A refusal changes nothing.
         ensures err { OnErr result (self.new ≡ self.old) }
     {
-        match self.filtered.add_filter(filter) {
-            Ok(number) => {
-                self.misses.forget();
-                Ok(number)
-            }
-            Err(refused) => Err(refused),
-        }
+        self.filtered.add_filter(filter)
     }
 
     /// Sets the listener of an entity, with the statuses that it is told of, and hands back the one that was set

@@ -52,7 +52,6 @@ mod lent_event;
 mod limits;
 mod marks;
 mod matching;
-mod misses;
 mod moves;
 mod noticing;
 mod observing;

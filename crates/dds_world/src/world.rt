@@ -39,14 +39,14 @@ use std::marker::Model;
 /// It keeps each packet, so that it can be delivered at any time and again: its memory grows with what is sent, without
 /// a bound, and is given back when the network is dropped.
 #[derive(Drop)]
-pub struct World<F: Filter = Box<dyn Filter + Send>, L: Listener = Box<dyn Listener + Send>> {
+pub struct World<F = Box<dyn Filter + Send>, L = Box<dyn Listener + Send>> {
     pub(crate) alloc: Global,
     pub(crate) peers: Vec<Core<F, L>>,
     pub(crate) sent: Vec<Packet>,
     pub(crate) unsent: u64,
 }
 
-impl<F: Filter, L: Listener> Model for World<F, L> {
+impl<F, L> Model for World<F, L> {
     ghost use Rattle.std.specs.Prelude.{◌<◌, ◌^◌};
     ghost use Rattle.dds_world.specs.Holding.{Held};
 

@@ -49,7 +49,7 @@ unset 2 participant 0 => [Reader(1) DataAvailable]
 
 /// A network, and the listeners that are at hand: the last one is set next.
 #[derive(Drop)]
-struct Told<F: Filter, L: Listener> {
+struct Told<F, L> {
     world: WorldOf<F, L>,
     at_hand: Vec<L>,
 }

@@ -1,48 +1,26 @@
-use Rattle.std.proofs.Common.{List, ap, subst, sym, ◌∙◌}
-use Rattle.dds_core.specs.declared.misses.Miss.{Miss}
-use Rattle.dds_core.specs.Filtering.{FilteredKept}
+use Rattle.std.proofs.Common.{subst}
+use Rattle.std.specs.Prelude.{IfErr, IfOk}
 use Rattle.dds_core.specs.Listening.{Adds, CoreKept, RefusesFilter}
-use Rattle.dds_core.specs.Remembering.{Remembers}
 use Rattle.dds_core.proofs.Ended.{adds, refuses}
-use Rattle.dds_core.proofs.Remembered.{remembers_filter}
+use Rattle.dds_core.proofs.Results.{err_as, ok_as}
 use Rattle.dds_core.proofs.application.Core.add_filter.Goals as goal
 
-pub returns-in-Ok-clause-ok : goal.returns-in-Ok-clause-ok
-returns-in-Ok-clause-ok g c =
+pub returns-clause-ok : goal.returns-clause-ok
+returns-clause-ok g c =
     let kept : CoreKept g.row.F.Denot g.row.L.Denot =
     record { filtered = c.self.inside.filtered; listeners = c.self.inside.listeners } in
-    subst (λ (k : CoreKept g.row.F.Denot g.row.L.Denot).
-    Adds g.L.Listener.notices g.L.Listener.capacity g.L.Listener.becomes k c.args.filter c.in-Ok.number
-    (record { filtered = c.add_filter.new.self; listeners = c.self.inside.listeners }))
-    c.self.view_is
-    (adds g.L.Listener.notices g.L.Listener.capacity g.L.Listener.becomes kept c.args.filter c.in-Ok.number
-    c.add_filter.new.self c.in-Ok.ensures.ok)
+    subst (λ (k : CoreKept g.row.F.Denot g.row.L.Denot). IfOk c.add_filter.result
+    (λ number. Adds g.L.Listener.notices g.L.Listener.capacity g.L.Listener.becomes k c.args.filter number
+    (record { filtered = c.add_filter.new.self; listeners = c.self.inside.listeners })))
+    c.self.view_is (ok_as c.add_filter.result
+    (λ number. adds g.L.Listener.notices g.L.Listener.capacity g.L.Listener.becomes kept c.args.filter number c.add_filter.new.self)
+    c.add_filter.ensures.ok)
 
-pub invariant_of-self : goal.invariant_of-self
-invariant_of-self g c =
+pub returns-clause-refused : goal.returns-clause-refused
+returns-clause-refused g c =
     let kept : CoreKept g.row.F.Denot g.row.L.Denot =
     record { filtered = c.self.inside.filtered; listeners = c.self.inside.listeners } in
-    let new : CoreKept g.row.F.Denot g.row.L.Denot =
-    record { filtered = c.add_filter.new.self; listeners = c.self.inside.listeners } in
-    subst (λ (ms : List Miss). Remembers g.L.Listener.notices g.L.Listener.capacity g.L.Listener.becomes
-    g.F.Filter.meaning new ms) (sym c.forget.ensures)
-    (remembers_filter g.L.Listener.notices g.L.Listener.capacity g.L.Listener.becomes g.F.Filter.meaning kept
-    c.self.inside.misses c.args.filter c.in-Ok.number new c.self.invariant
-    (adds g.L.Listener.notices g.L.Listener.capacity g.L.Listener.becomes kept c.args.filter c.in-Ok.number
-    c.add_filter.new.self c.in-Ok.ensures.ok))
-
-pub returns-in-Err-clause-refused : goal.returns-in-Err-clause-refused
-returns-in-Err-clause-refused g c =
-    let kept : CoreKept g.row.F.Denot g.row.L.Denot =
-    record { filtered = c.self.inside.filtered; listeners = c.self.inside.listeners } in
-    subst (λ (k : CoreKept g.row.F.Denot g.row.L.Denot).
-    RefusesFilter g.L.Listener.notices g.L.Listener.capacity g.L.Listener.becomes k c.in-Err.refused.0)
-    c.self.view_is
-    (refuses g.L.Listener.notices g.L.Listener.capacity g.L.Listener.becomes kept c.in-Err.refused.0
-    c.in-Err.ensures.refused)
-
-pub invariant_of-self-in-Err : goal.invariant_of-self-in-Err
-invariant_of-self-in-Err g c =
-    subst (λ (f : FilteredKept g.row.F.Denot). Remembers g.L.Listener.notices g.L.Listener.capacity
-    g.L.Listener.becomes g.F.Filter.meaning (record { filtered = f; listeners = c.self.inside.listeners })
-    c.self.inside.misses) (sym c.in-Err.ensures.err) c.self.invariant
+    subst (λ (k : CoreKept g.row.F.Denot g.row.L.Denot). IfErr c.add_filter.result
+    (λ e. RefusesFilter g.L.Listener.notices g.L.Listener.capacity g.L.Listener.becomes k e.0))
+    c.self.view_is (err_as c.add_filter.result
+    (λ e. refuses g.L.Listener.notices g.L.Listener.capacity g.L.Listener.becomes kept e.0) c.add_filter.ensures.refused)

@@ -2,7 +2,6 @@ use Rattle.std.proofs.Common.{subst}
 use Rattle.std.specs.Prelude.{IfErr, IfOk}
 use Rattle.dds_core.specs.Listening.{CoreKept, RefusesListener, Sets}
 use Rattle.dds_core.proofs.Ended.{refuses_listener, sets}
-use Rattle.dds_core.proofs.Remembered.{remembers_set}
 use Rattle.dds_core.proofs.Results.{err_as, ok_as}
 use Rattle.dds_core.proofs.application.Core.set_listener.Goals as goal
 
@@ -28,13 +27,3 @@ returns-clause-refused g c =
     (err_as c.set.result
     (λ e. refuses_listener g.L.Listener.notices g.L.Listener.capacity g.L.Listener.becomes kept c.args.entity c.args.listener e.0)
     c.set.ensures.refused)
-
-pub invariant_of-self : goal.invariant_of-self
-invariant_of-self g c =
-    let kept : CoreKept g.row.F.Denot g.row.L.Denot =
-    record { filtered = c.self.inside.filtered; listeners = c.self.inside.listeners } in
-    remembers_set g.L.Listener.notices g.L.Listener.capacity g.L.Listener.becomes g.F.Filter.meaning kept
-    c.self.inside.misses c.args.entity c.args.mask c.args.listener c.set.new.self c.set.result c.self.invariant
-    (ok_as c.set.result
-    (λ handed. sets g.L.Listener.notices g.L.Listener.capacity g.L.Listener.becomes kept c.args.entity c.args.mask c.args.listener handed
-    c.set.new.self) c.set.ensures.ok) c.set.ensures.err
