@@ -2,6 +2,7 @@
 //!
 //! DDS 1.4, 2.2.4.1.
 
+use crate::endpoint::Endpoint;
 use crate::handle::Handle;
 
 /// How many changes a reader passed over: those of its matched writers that will never come at it.
@@ -41,4 +42,21 @@ pub struct LivelinessLostStatus {
     pub total_count: u64,
     /// How much oftener than when the status was looked at last; at the first look, all of them.
     pub total_count_change: u64,
+}
+
+/// PUBLICATION_MATCHED of a writer, or SUBSCRIPTION_MATCHED of a reader: how many matches there were and are.
+///
+/// DDS 1.4, 2.2.4.1 (PublicationMatchedStatus, SubscriptionMatchedStatus).
+#[derive(Clone, Copy, Debug, PartialEq, Eq)]
+pub struct MatchedStatus {
+    /// How many there were. It stays at 2^64 - 1.
+    pub total_count: u64,
+    /// How many more than when the status was looked at last.
+    pub total_count_change: u64,
+    /// How many there are.
+    pub current_count: i64,
+    /// How many more than when the status was looked at last; below 0 where there are fewer.
+    pub current_count_change: i64,
+    /// The reader or writer with which the last one was made or ended; `None` before that.
+    pub last: Option<Endpoint>,
 }

@@ -2,7 +2,7 @@
 use Rattle.std.proofs.Common.{◌≡◌, ℕ, zero, suc, ◌==◌, ◌⊎◌, Option, None, ℤ, Bool, true, false, cond, List, [], ◌∷◌, ◌++◌, Some, refl, ap, sym, subst, ◌∙◌, inl, inr, ⊎_elim, arith, length, slice_get, get_or, set, map, eqb-true, length-set, get_or-set_same}
 use Rattle.std.specs.Option.{option_map}
 use Rattle.std.proofs.lemmas.List.{map-set}
-use Rattle.dds_machine.specs.declared.endpoint.Endpoint.{Endpoint}
+use Rattle.dds_base.specs.declared.endpoint.Endpoint.{Endpoint}
 use Rattle.dds_machine.specs.Numbered.{numbered, with_numbered, HasNumber}
 use Rattle.dds_machine.specs.Matching.{with_how}
 use Rattle.dds_machine.specs.Part.{Attachment, Begun, with_begun, same_endpoint, ReaderProxy, WriterProxy, row_of, with_row, acknowledged_of, with_acknowledged, place_of, with_place, with_heard, IsBelow, IsAtMost, NoLess}

@@ -7,9 +7,9 @@ use Rattle.dds_base.specs.declared.change.ChangeKind.TheVariants.{Write as Write
 use Rattle.dds_base.specs.declared.code.Code.TheVariants.{BadParameter, PreconditionNotMet}
 use Rattle.dds_base.specs.declared.happening.Happening.TheVariants.{Died, Heard, Left}
 use Rattle.dds_base.specs.Written.{Changed}
-use Rattle.dds_machine.specs.declared.endpoint.Endpoint.{Endpoint}
-use Rattle.dds_machine.specs.Matching.{MatchReader, MatchWriter, UnmatchReader, UnmatchWriter, after_telling, attached_count, happened_after, is_matched, joined, left, matched_status, seen_matches, telling_refusal, with_how, with_match}
-use Rattle.dds_machine.specs.Part.{Away, Begun, Matches, Waiting, Part, Writer, WriterProxy, acknowledged_of, has_readers, how_of, no_part, no_writer, owed_from, own_writer, place_of, publication_among}
+use Rattle.dds_base.specs.declared.endpoint.Endpoint.{Endpoint}
+use Rattle.dds_machine.specs.Matching.{MatchReader, MatchWriter, UnmatchReader, UnmatchWriter, after_telling, attached_count, happened_after, is_matched, joined, knows_reliable, left, matched_status, seen_matches, telling_refusal, with_how, with_match}
+use Rattle.dds_machine.specs.Part.{Away, Begun, Matches, Waiting, Part, Writer, WriterProxy, acknowledged_of, has_readers, how_of, no_part, no_writer, opened_with, owed_from, own_writer, place_of, publication_among}
 
 abbrev r1 : Endpoint
 r1 = record { peer = 2; number = 1 }
@@ -99,6 +99,20 @@ status-left : matched_status (left (record two_here { matches = looked }) r1).ma
     }
 status-left = refl
 
+-- before that, of two that the opening made, the last of these is named, and nothing is new
+status-opened : matched_status (opened_with (r1 ∷ r2 ∷ [])) 2
+    ≡ record {
+      total_count = 2;
+      total_count_change = 0;
+      current_count = pos 2;
+      current_count_change = pos 0;
+      last = Some r2;
+    }
+status-opened = refl
+
+status-of_nobody : (matched_status (opened_with []) 0).last ≡ None
+status-of_nobody = refl
+
 -- ---- a reader
 
 abbrev w1 : Endpoint
@@ -147,15 +161,30 @@ parting-unheard = refl
 
 -- ---- refusals
 
--- a peer with this writer
+-- a peer with this writer, of whose topic r1 and r2 are
 abbrev part : Writer → Part
-part w = record no_part { rtps = record no_part.rtps { writers = w ∷ [] } }
+part w = record no_part {
+  rtps = record no_part.rtps {
+    writers = record w {
+      known = record { reader = r1; reliable = true } ∷ record { reader = r2; reliable = false } ∷ [];
+    } ∷ [];
+  };
+}
 
 refused-no_writer : telling_refusal (part no_writer) (MatchReader 2 r1 true) ≡ Some BadParameter
 refused-no_writer = refl
 
 refused-no_reader : telling_refusal (part no_writer) (MatchWriter 1 w1) ≡ Some BadParameter
 refused-no_reader = refl
+
+refused-unknown : telling_refusal (part no_writer) (MatchReader 1 w2 true) ≡ Some BadParameter
+refused-unknown = refl
+
+reliable-known : knows_reliable (own_writer (part no_writer) 1) r1 ≡ true
+reliable-known = refl
+
+best_effort-known : knows_reliable (own_writer (part no_writer) 1) r2 ≡ false
+best_effort-known = refl
 
 refused-twice : telling_refusal (part two_here) (MatchReader 1 r1 true) ≡ Some PreconditionNotMet
 refused-twice = refl

@@ -51,7 +51,7 @@ part written seen happened places = record {
           { ownership = Shared; reliability = Reliable; history = KeepAll; max_samples = None; max_instances = None; max_arrivals = usual_arrivals; writers = leased ∷ [] };
       happened = happened;
       seen = seen;
-      matches = opened_with 1;
+      matches = opened_with (record { peer = 1; number = 1 } ∷ []);
     } ∷ [];
     watch = nothing_watched 1 1;
     listeners = places;

@@ -2,12 +2,14 @@
 -- a growth was refused.
 --
 -- DDS 1.4, 2.2.2.4 (register_instance, write, dispose, unregister_instance, assert_liveliness,
--- get_liveliness_lost_status), 2.2.2.5 (the forms of read and take, get_key_value, lookup_instance,
--- get_sample_lost_status, get_liveliness_changed_status), 2.2.1.1 (return codes).
+-- get_liveliness_lost_status, get_publication_matched_status), 2.2.2.5 (the forms of read and take, get_key_value,
+-- lookup_instance, get_sample_lost_status, get_liveliness_changed_status, get_subscription_matched_status), 2.2.1.1
+-- (return codes); RTPS 2.5, 8.4.7.4, 8.4.10.3 (matched_reader_add, matched_writer_add and their removals).
 use Rattle.std.specs.Prelude.{◌≡◌, ◌≢◌, ◌⊎◌, ℕ, ◌+◌, ◌-◌, ◌^◌, ◌≤◌, nat_lt, not, Bool, true, false, List, [], ◌∷◌, length, Option, Some, None, is_some}
 use Rattle.dds_base.specs.declared.change.ChangeKind.TheVariants as kind
 use Rattle.dds_base.specs.declared.code.Code.{Code}
 use Rattle.dds_base.specs.declared.code.Code.TheVariants.{Memory, NoData, Timeout}
+use Rattle.dds_base.specs.declared.endpoint.Endpoint.{Endpoint}
 use Rattle.dds_base.specs.declared.happening.Happening.{Happening}
 use Rattle.dds_base.specs.declared.happening.Happening.TheVariants.{Read as HasRead, Took}
 use Rattle.dds_base.specs.declared.happening.SamplePosition.{SamplePosition}
@@ -24,16 +26,17 @@ use Rattle.dds_base.specs.Statuses.{lost_count, sample_lost_status}
 use Rattle.dds_base.specs.Written.{Written, Registered, Changed, Asserted, LookedAt, StrengthSet, is_key_registered, liveliness_lost_status}
 use Rattle.dds_base.specs.Number.{at_number}
 use Rattle.dds_machine.specs.declared.call.Call.{Call}
-use Rattle.dds_machine.specs.declared.call.Call.TheVariants.{Register, Write, Dispose, Unregister, AssertLiveliness, SetStrength, Read, Take, GetKeyValue, LookupInstance, GetSampleLost, GetLivelinessChanged, GetLivelinessLost, ReadByCondition, TakeByCondition, CreateReadCondition, CreateQueryCondition, CreateGuardCondition, SetTriggerValue, DeleteCondition, GetTriggerValue, CreateWaitSet, DeleteWaitSet, AttachCondition, DetachCondition, GetConditions, WaitBegin, WaitLook, WaitEnd, SetEnabledStatuses, GetStatusChanges}
+use Rattle.dds_machine.specs.declared.call.Call.TheVariants.{Register, Write, Dispose, Unregister, AssertLiveliness, SetStrength, Read, Take, GetKeyValue, LookupInstance, GetSampleLost, GetLivelinessChanged, GetLivelinessLost, ReadByCondition, TakeByCondition, CreateReadCondition, CreateQueryCondition, CreateGuardCondition, SetTriggerValue, DeleteCondition, GetTriggerValue, CreateWaitSet, DeleteWaitSet, AttachCondition, DetachCondition, GetConditions, WaitBegin, WaitLook, WaitEnd, SetEnabledStatuses, GetStatusChanges, MatchReader, UnmatchReader, MatchWriter, UnmatchWriter, GetPublicationMatched, GetSubscriptionMatched}
 use Rattle.dds_machine.specs.declared.reply.Reply.{Reply}
-use Rattle.dds_machine.specs.declared.reply.Reply.TheVariants.{Done, Samples, KeyValue, InstanceHandle, SampleLost, LivelinessChanged, LivelinessLost, Created, TriggerValue, Conditions, Active, Waiting, StatusChanges, Refused}
+use Rattle.dds_machine.specs.declared.reply.Reply.TheVariants.{Done, Samples, KeyValue, InstanceHandle, SampleLost, LivelinessChanged, LivelinessLost, Matched, Created, TriggerValue, Conditions, Active, Waiting, StatusChanges, Refused}
 use Rattle.dds_conditions.specs.declared.condition.Cond.{Cond}
 use Rattle.dds_conditions.specs.declared.condition.Condition.TheVariants.{Guard, Samples as OfSamples}
 use Rattle.dds_conditions.specs.Attached.{active_of, is_attached}
 use Rattle.dds_conditions.specs.Watched.{Watched, attach_refusal, conditions_of, detaching_refusal, free_refusal, guard_refusal, is_timed_out, knows, knows_entity, number_refusal, unless_there, use_refusal, with_attached, with_condition, with_condition_at, with_deadline, with_detached, with_enabled, with_wait_set, with_wait_set_at, without_condition}
+use Rattle.dds_machine.specs.Matching.{Telling, MatchReader as HasReader, UnmatchReader as HasReaderNoMore, MatchWriter as HasWriter, UnmatchWriter as HasWriterNoMore, TellingMayWantMemory, after_telling, handle_among, knows_reliable, publication_matched, reader_looked_at, seen_after_telling, subscription_matched, telling_refusal, writer_looked_at}
 use Rattle.dds_machine.specs.Numbered.{numbered, with_numbered}
 use Rattle.dds_machine.specs.Watching.{Test, Tests, condition_refusal, condition_selection, condition_test, query_condition_refusal, read_condition_refusal, status_changes, trigger_value}
-use Rattle.dds_machine.specs.Part.{Part, Rtps, Dds, Seen, Reader, Writer, no_writer, own_writer, own_reader}
+use Rattle.dds_machine.specs.Part.{Part, Rtps, Dds, Seen, Reader, Writer, no_writer, own_writer, own_proxies, own_reader}
 use Rattle.dds_machine.specs.Refusals.{change_made, unregister_kind, writer_refusal, write_refusal, dispose_refusal, unregister_refusal, assert_refusal, strength_refusal, access_refusal, key_of, key_refusal, reader_refusal}
 
 -- the samples that an access of the peer's reader returns
@@ -47,6 +50,14 @@ after_look part reader seen =
     record part.dds {
       readers = with_numbered part.dds.readers reader
           (record (own_reader part reader) { seen = seen });
+    }
+
+-- what a peer's calls see once SUBSCRIPTION_MATCHED of its reader was looked at
+abbrev pub after_matches_look : Part → ℕ → Dds
+after_matches_look part reader =
+    record part.dds {
+      readers = with_numbered part.dds.readers reader
+          (reader_looked_at (own_proxies part reader) (own_reader part reader));
     }
 
 -- what is seen of a reader's statuses once its SAMPLE_LOST was looked at
@@ -85,16 +96,19 @@ liveliness_at r = liveliness_changed_status r.qos r.happened r.seen.alive r.seen
 abbrev pub liveliness_lost_at : Writer → LivelinessLostStatus
 liveliness_lost_at w = liveliness_lost_status w.lease w.written
 
--- What a call enters at a writer of its peer, if anything.
+-- What a call does to its peer's writers and places, if anything: it enters something at a writer, tells a writer or a
+-- reader who is matched with it, or looks at a writer's matches.
 pub data Effect : Type 0 where
   nothing : Effect
   writes : (writer : ℕ) (entry : Written) → Effect
+  tells : (telling : Telling) → Effect
+  looks_at_matches : (writer : ℕ) → Effect
 
 -- a writer, after one more thing happened there
 abbrev pub with_written : Writer → Written → Writer
 with_written w entry = record w { written = entry ∷ w.written }
 
--- a peer's writers and places after an effect: one more thing has happened at one writer, or nothing
+-- a peer's writers and places after an effect
 abbrev pub effect : Rtps → Effect → Rtps
 effect old nothing = old
 effect old (writes writer entry) =
@@ -102,8 +116,17 @@ effect old (writes writer entry) =
       writers = with_numbered old.writers writer
           (with_written (numbered old.writers writer no_writer) entry);
     }
+effect old (tells telling) = after_telling old telling
+effect old (looks_at_matches writer) =
+    record old {
+      writers = with_numbered old.writers writer (writer_looked_at (numbered old.writers writer no_writer));
+    }
 
--- what a call that is answered so enters at the peer's writer
+-- what the call tells of a reader: whether it is a reliable one, the writer knows
+abbrev pub reader_told : Part → ℕ → Endpoint → Telling
+reader_told part writer reader = HasReader writer reader (knows_reliable (own_writer part writer) reader)
+
+-- what a call that is answered so does to the peer's writers and places
 abbrev pub effect_of : Part → Call → Reply → Effect
 effect_of part (Register writer key) Done = writes writer (Registered key)
 effect_of part (Write writer key value) Done = writes writer (Changed (change_made part writer kind.Write key value))
@@ -113,6 +136,11 @@ effect_of part (Unregister writer key) Done =
 effect_of part (AssertLiveliness writer) Done = writes writer (Asserted part.dds.moment)
 effect_of part (SetStrength writer strength) Done = writes writer (StrengthSet strength)
 effect_of part (GetLivelinessLost writer) (LivelinessLost status) = writes writer LookedAt
+effect_of part (MatchReader writer reader) Done = tells (reader_told part writer reader)
+effect_of part (UnmatchReader writer reader) Done = tells (HasReaderNoMore writer reader)
+effect_of part (MatchWriter reader writer) (InstanceHandle handle) = tells (HasWriter reader writer)
+effect_of part (UnmatchWriter reader writer) Done = tells (HasWriterNoMore reader writer)
+effect_of part (GetPublicationMatched writer) (Matched status) = looks_at_matches writer
 effect_of part call reply = nothing
 
 -- A call that the first cause refuses, if there is one, or want of memory: else it is done. What was `old` is then
@@ -178,6 +206,14 @@ abbrev pub AnswersByCondition : (List SamplePosition → Happening) → Option C
 AnswersByCondition entry (Some code) test old reader selection reply dds = (reply ≡ Refused code) × (dds ≡ old.dds)
 AnswersByCondition entry None test old reader selection reply dds =
     AnswersAccess entry test old reader selection reply dds
+
+-- A call that tells a peer's writer or reader who is matched with it: the first cause refuses it, or want of memory
+-- where there is none, and nothing changes; or it is answered so.
+abbrev pub AnswersTelling : Telling → Reply → Part → Reply → Dds → Type 0
+AnswersTelling telling answer old (Refused code) dds =
+    Refuses (telling_refusal old telling) code × (code ≡ Memory → TellingMayWantMemory old telling) × (dds ≡ old.dds)
+AnswersTelling telling answer old reply dds =
+    (telling_refusal old telling ≡ None) × (reply ≡ answer) × (dds ≡ seen_after_telling old telling)
 
 -- What a call answers, and what it does to what the peer's own calls see. A look at a status, a key, a handle and an
 -- assertion need no memory. These are the calls ..
@@ -278,6 +314,22 @@ Answers tests old (SetEnabledStatuses entity mask) reply dds =
 Answers tests old (GetStatusChanges entity) reply dds =
     IsAnsweredWatching (unless_there (knows_entity old.dds.watch entity))
     (StatusChanges (status_changes old entity)) old.dds.watch old reply dds
+-- .. of who is matched with a writer or a reader
+Answers tests old (MatchReader writer reader) reply dds =
+    AnswersTelling (reader_told old writer reader) Done old reply dds
+Answers tests old (UnmatchReader writer reader) reply dds =
+    AnswersTelling (HasReaderNoMore writer reader) Done old reply dds
+Answers tests old (MatchWriter reader writer) reply dds =
+    AnswersTelling (HasWriter reader writer) (InstanceHandle (handle_among (own_proxies old reader) writer)) old
+    reply dds
+Answers tests old (UnmatchWriter reader writer) reply dds =
+    AnswersTelling (HasWriterNoMore reader writer) Done old reply dds
+Answers tests old (GetPublicationMatched writer) reply dds =
+    IsAnswered (writer_refusal old writer) (Matched (publication_matched (own_writer old writer))) old.dds old reply dds
+Answers tests old (GetSubscriptionMatched reader) reply dds =
+    IsAnswered (reader_refusal old reader)
+    (Matched (subscription_matched (own_proxies old reader) (own_reader old reader))) (after_matches_look old reader) old
+    reply dds
 
 -- one call at a peer
 pub record CallStep (tests : Tests) (old : Part) (call : Call) (reply : Reply) (new : Part) : Type 0 where

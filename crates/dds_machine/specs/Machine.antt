@@ -8,14 +8,14 @@ use Rattle.std.specs.Prelude.{◌≡◌, ◌⊎◌, ℕ, ◌<◌, ◌≤◌, tru
 use Rattle.dds_base.specs.declared.code.Code.TheVariants.{BadParameter}
 use Rattle.dds_base.specs.Kept.{change_at, is_dropped}
 use Rattle.dds_base.specs.Matched.{is_reliable}
-use Rattle.dds_machine.specs.declared.endpoint.Endpoint.{Endpoint}
+use Rattle.dds_base.specs.declared.endpoint.Endpoint.{Endpoint}
 use Rattle.dds_machine.specs.declared.event.WorldEvent.{WorldEvent}
 use Rattle.dds_machine.specs.declared.event.WorldEvent.TheVariants as event
 use Rattle.dds_machine.specs.declared.reply.Reply.{Reply}
 use Rattle.dds_machine.specs.declared.reply.Reply.TheVariants.{Refused}
 use Rattle.dds_machine.specs.Numbered.{numbered, with_numbered, HasNumber}
 use Rattle.dds_machine.specs.Part.{Part, Writer, no_part, own_writer, own_proxies, own_reader, place_of, writer_changes, history_of, is_assertion, owed_from, IsAtMost}
-use Rattle.dds_machine.specs.Moves.{Grounds, DeliveryStep}
+use Rattle.dds_machine.specs.Moves.{Grounds, DeliveryStep, ResumeStep}
 use Rattle.dds_machine.specs.Ticks.{TickStep}
 use Rattle.dds_machine.specs.Calls.{CallStep}
 use Rattle.dds_machine.specs.Watching.{Tests}
@@ -43,7 +43,7 @@ pub record IsNotOwed (m : Machine) (writer reader : Endpoint) (number : ℕ) : T
   pub from : 1 ≤ number
   pub below : number < owed_from (writer_at m writer) reader
 
--- what a delivery at the peer of this number may rest on: the far lists, what they have dropped or don't owe, and the
+-- what moves at the peer of this number may rest on: the far lists, what they have dropped or don't owe, and the
 -- far places
 abbrev pub grounds_of : Machine → ℕ → Grounds
 grounds_of m peer = record {
@@ -70,7 +70,8 @@ abbrev pub AllTests : Type 0
 AllTests = ℕ → Tests
 
 -- From old, when so many packets were sent, the machine may give this reply to the event and go on to new. Which moves
--- a delivery makes is its choice among the legal ones; every other reply is determined.
+-- a delivery makes, and a reader whose places are tried again, is its choice among the legal ones; every other reply is
+-- determined.
 abbrev pub Step : AllTests → ℕ → Machine → WorldEvent → Reply → Machine → Type 0
 Step tests sent old (event.Call peer call) reply new =
     AtPeer old peer (λ after. CallStep (tests peer) (part_at old peer) call reply after) new
@@ -82,3 +83,6 @@ Step tests sent old (event.Deliver peer packet) reply new =
     ((1 ≤ packet) × (packet ≤ sent)
     × AtPeer old peer (λ after. DeliveryStep (grounds_of old peer) (part_at old peer) reply after) new)
     ⊎ (((packet ≡ 0) ⊎ (sent < packet) ⊎ (HasNumber old.parts peer → ⊥)) × IsRefused old reply new)
+Step tests sent old (event.Resume peer reader) reply new =
+    AtPeer old peer (λ after. ResumeStep (grounds_of old peer) (part_at old peer) reader reply after) new
+    ⊎ ((HasNumber old.parts peer → ⊥) × IsRefused old reply new)

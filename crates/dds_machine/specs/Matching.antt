@@ -4,23 +4,33 @@
 -- RTPS 2.5, 8.4.7.4 (StatefulWriter, matched_reader_add, matched_reader_remove), 8.4.10.3 (StatefulReader,
 -- matched_writer_add, matched_writer_remove); DDS 1.4, 2.2.3 (DURABILITY: VOLATILE), 2.2.4.1
 -- (PUBLICATION_MATCHED, SUBSCRIPTION_MATCHED), 2.2.1.1 (return codes).
-use Rattle.std.specs.Prelude.{◌≡◌, ℕ, ◌+◌, ◌-◌, ◌^◌, ◌<◌, min, pos, ◌-ℤ◌, Bool, true, false, not, if◌then◌else◌, List, [], ◌∷◌, ◌++◌, length, filter, count_by, Option, Some, None, is_some}
+use Rattle.std.specs.Prelude.{◌≡◌, ℕ, ◌+◌, ◌-◌, ◌^◌, ◌<◌, ◌==◌, ◌||◌, nat_lt, min, pos, ◌-ℤ◌, Bool, true, false, not, if◌then◌else◌, List, [], ◌∷◌, ◌++◌, length, filter, count_by, Option, Some, None, is_some}
 use Rattle.std.specs.List.{list_any}
+use Rattle.std.specs.Option.{option_map_or}
 use Rattle.dds_base.specs.declared.code.Code.{Code}
 use Rattle.dds_base.specs.declared.code.Code.TheVariants.{BadParameter, Memory, PreconditionNotMet}
 use Rattle.dds_base.specs.declared.happening.Happening.{Happening}
 use Rattle.dds_base.specs.Liveliness.{after_parting}
 use Rattle.dds_base.specs.Refusal.{Refuses}
-use Rattle.dds_machine.specs.declared.endpoint.Endpoint.{Endpoint}
-use Rattle.dds_machine.specs.declared.reply.MatchedStatus.{MatchedStatus}
-use Rattle.dds_machine.specs.Numbered.{has_element, numbered, with_numbered}
-use Rattle.dds_machine.specs.Part.{Attachment, Away, Waiting, Matches, ReaderProxy, WriterProxy, Writer, Reader, Rtps, Dds, Part, no_writer, own_writer, own_proxies, own_reader, writer_changes, same_endpoint, row_of, with_row, how_of, is_attached, publication_among}
+use Rattle.dds_base.specs.declared.endpoint.Endpoint.{Endpoint}
+use Rattle.dds_base.specs.declared.status.MatchedStatus.{MatchedStatus}
+use Rattle.dds_machine.specs.Numbered.{numbered, with_numbered}
+use Rattle.dds_machine.specs.Part.{Attachment, Away, Waiting, Matches, ReaderProxy, TopicReader, WriterProxy, Writer, Reader, Rtps, Dds, Part, no_writer, own_writer, own_proxies, own_reader, writer_changes, same_endpoint, row_of, with_row, how_of, is_attached, publication_among}
 
 -- ---- at a writer
 
 -- the writer is matched with the reader
 abbrev pub is_matched : Writer → Endpoint → Bool
 is_matched w reader = list_any (λ e. same_endpoint e reader) w.matched
+
+-- the reader is one of the writer's topic
+abbrev pub knows_reader : Writer → Endpoint → Bool
+knows_reader w reader = is_some (row_of (λ (k : TopicReader). k.reader) w.known reader)
+
+-- and it is a reliable one
+abbrev pub knows_reliable : Writer → Endpoint → Bool
+knows_reliable w reader =
+    option_map_or (λ (k : TopicReader). k.reliable) (row_of (λ (k : TopicReader). k.reader) w.known reader) false
 
 -- one match more, with this end
 abbrev pub match_made : Matches → Endpoint → Matches
@@ -71,6 +81,10 @@ with_match rows writer =
     if is_known rows writer then with_how rows writer Waiting
     else rows ++ record { writer = writer; place = 1; heard = None; how = Waiting } ∷ []
 
+-- the publication handle of the writer; NIL where the reader doesn't know it
+abbrev pub handle_among : List WriterProxy → Endpoint → ℕ
+handle_among rows writer = option_map_or (λ handle. handle) (publication_among rows writer) 0
+
 -- how many writers the reader is matched with
 abbrev pub attached_count : List WriterProxy → ℕ
 attached_count rows = count_by (λ (p : WriterProxy). is_attached p.how) rows
@@ -108,6 +122,27 @@ matched_status matches here = record {
   last = matches.last;
 }
 
+-- PUBLICATION_MATCHED of a writer
+abbrev pub publication_matched : Writer → MatchedStatus
+publication_matched w = matched_status w.matches (length w.matched)
+
+-- SUBSCRIPTION_MATCHED of a reader that knows these writers
+abbrev pub subscription_matched : List WriterProxy → Reader → MatchedStatus
+subscription_matched rows r = matched_status r.matches (attached_count rows)
+
+-- one of the counts of these matches, of which there are so many, has changed since the application looked at them
+abbrev pub is_match_flagged : Matches → ℕ → Bool
+is_match_flagged matches here =
+    nat_lt (told_matches matches.made_seen) (told_matches matches.made) || not (here == matches.here_seen)
+
+-- a writer, once the application has looked at its matches
+abbrev pub writer_looked_at : Writer → Writer
+writer_looked_at w = record w { matches = seen_matches w.matches (length w.matched) }
+
+-- a reader that knows these writers, once the application has looked at its matches
+abbrev pub reader_looked_at : List WriterProxy → Reader → Reader
+reader_looked_at rows r = record r { matches = seen_matches r.matches (attached_count rows) }
+
 -- ---- tellings
 
 -- what a peer is told: its writer of a reader, which is reliable or not, or that a reader has left; its reader of a
@@ -118,21 +153,23 @@ pub data Telling : Type 0 where
   MatchWriter : (reader : ℕ) (writer : Endpoint) → Telling
   UnmatchWriter : (reader : ℕ) (writer : Endpoint) → Telling
 
--- there is no such end here; or the two are matched already, or are not, as the telling has it
+-- the end knows none of that name; or the two are matched already, or are not, as the telling has it
 abbrev pub matching_refusal : Bool → Bool → Option Code
-matching_refusal here as_told =
-    if not here then Some BadParameter else (if as_told then Some PreconditionNotMet else None)
+matching_refusal known as_told =
+    if not known then Some BadParameter else (if as_told then Some PreconditionNotMet else None)
 
--- why a telling is refused: no such writer or reader, or the two are matched there already, or are not
+-- why a telling is refused: no such writer or reader here, or none of its topic of that name; or the two are matched
+-- there already, or are not
 abbrev pub telling_refusal : Part → Telling → Option Code
 telling_refusal part (MatchReader writer reader reliable) =
-    matching_refusal (has_element part.rtps.writers writer) (is_matched (own_writer part writer) reader)
+    matching_refusal (knows_reader (own_writer part writer) reader) (is_matched (own_writer part writer) reader)
 telling_refusal part (UnmatchReader writer reader) =
-    matching_refusal (has_element part.rtps.writers writer) (not (is_matched (own_writer part writer) reader))
+    matching_refusal (knows_reader (own_writer part writer) reader) (not (is_matched (own_writer part writer) reader))
 telling_refusal part (MatchWriter reader writer) =
-    matching_refusal (has_element part.dds.readers reader) (is_attached (how_of (own_proxies part reader) writer))
+    matching_refusal (is_known (own_proxies part reader) writer) (is_attached (how_of (own_proxies part reader) writer))
 telling_refusal part (UnmatchWriter reader writer) =
-    matching_refusal (has_element part.dds.readers reader) (not (is_attached (how_of (own_proxies part reader) writer)))
+    matching_refusal (is_known (own_proxies part reader) writer)
+    (not (is_attached (how_of (own_proxies part reader) writer)))
 
 -- what a telling does to a peer's writers and to the rows of its readers
 abbrev pub after_telling : Rtps → Telling → Rtps

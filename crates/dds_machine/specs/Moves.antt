@@ -1,19 +1,21 @@
 -- What a delivery may do at a peer: a reader's place begins, and goes on over changes that come and changes that are
 -- passed over, a reader acknowledges changes, and a writer is heard to assert its liveliness (RTPS 2.5, 8.4: reliable
--- StatefulWriter and StatefulReader; 8.7.2.2, LIVELINESS).
+-- StatefulWriter and StatefulReader; 8.7.2.2, LIVELINESS). A reader's places go on so too where they are tried again.
 use Rattle.std.specs.Prelude.{◌≡◌, ℕ, ◌<◌, ◌≤◌, true, List, [], ◌∷◌, Option, Some, None, ℤ, ◌<ℤ◌}
 use Rattle.dds_base.specs.declared.change.Change.{Change}
+use Rattle.dds_base.specs.declared.code.Code.TheVariants.{BadParameter}
 use Rattle.dds_base.specs.declared.happening.Happening.TheVariants.{Heard as WasHeard}
 use Rattle.dds_base.specs.declared.happening.PassedRun.{PassedRun}
 use Rattle.dds_base.specs.Places.{WriterGrounds, Match, PlaceWith, GoesTo, MayPassOver}
-use Rattle.dds_machine.specs.declared.endpoint.Endpoint.{Endpoint}
+use Rattle.dds_base.specs.declared.endpoint.Endpoint.{Endpoint}
 use Rattle.dds_machine.specs.declared.reply.Move.{Move}
 use Rattle.dds_machine.specs.declared.reply.Move.TheVariants.{Place, Acknowledged, Heard, Begun as HasBegun}
 use Rattle.dds_machine.specs.declared.reply.Reply.{Reply}
-use Rattle.dds_machine.specs.declared.reply.Reply.TheVariants.{Reported}
+use Rattle.dds_machine.specs.declared.reply.Reply.TheVariants.{Refused, Reported}
+use Rattle.dds_machine.specs.Numbered.{HasNumber}
 use Rattle.dds_machine.specs.Part.{is_attached, Waiting, Begun, how_of, with_begun, Part, own_writer, own_proxies, own_reader, acknowledged_of, with_acknowledged, place_of, with_place, heard_of, with_heard, publication_among, at_reader, at_writer}
 
--- What a delivery at one peer may rest on. A far end is an endpoint, an own one a number.
+-- What moves at one peer may rest on. A far end is an endpoint, an own one a number.
 pub record Grounds : Type 1 where
   -- the writer's change of this number, which is for the reader, is this
   pub is_change : Endpoint → ℕ → ℕ → Change → Type 0
@@ -111,3 +113,18 @@ AreMoves grounds old (m ∷ ms) new = (mid : Part) × IsMove grounds old m mid �
 abbrev pub DeliveryStep : Grounds → Part → Reply → Part → Type 0
 DeliveryStep grounds old (Reported report) new = AreMoves grounds old report.moves new
 DeliveryStep grounds old reply new = ⊥
+
+-- each of these moves is of a place of the peer's reader of this number
+abbrev pub ArePlaces : ℕ → List Move → Type 0
+ArePlaces reader [] = Unit {0}
+ArePlaces reader (Place writer r to passed ∷ moves) = (r ≡ reader) × ArePlaces reader moves
+ArePlaces reader (m ∷ moves) = ⊥
+
+-- where the places of a reader are tried again it is answered by a report of legal moves of these alone, or refused, as
+-- there is no such reader
+abbrev pub ResumeStep : Grounds → Part → ℕ → Reply → Part → Type 0
+ResumeStep grounds old reader (Reported report) new =
+    HasNumber old.dds.readers reader × ArePlaces reader report.moves × AreMoves grounds old report.moves new
+ResumeStep grounds old reader (Refused code) new =
+    (HasNumber old.dds.readers reader → ⊥) × (code ≡ BadParameter) × (new ≡ old)
+ResumeStep grounds old reader reply new = ⊥

@@ -4,7 +4,7 @@
 --
 -- DDS 1.4, 2.2.4.1 (communication statuses), 2.2.4.2.1 (changes in plain communication status), 2.2.4.3 (access through
 -- listeners).
-use Rattle.std.specs.Prelude.{ℕ, zero, suc, nat_lt, length, Option, None, Some, if◌then◌else◌}
+use Rattle.std.specs.Prelude.{ℕ, zero, suc, ◌==◌, nat_lt, List, length, Option, None, Some, if◌then◌else◌}
 use Rattle.dds_base.specs.declared.entity.Entity.{Entity}
 use Rattle.dds_base.specs.declared.entity.Entity.TheVariants as entity
 use Rattle.dds_base.specs.Liveliness.{liveliness_changed_status}
@@ -12,12 +12,13 @@ use Rattle.dds_base.specs.StatusFlags.{data_available_at, is_after, turned_at}
 use Rattle.dds_base.specs.Statuses.{sample_lost_status}
 use Rattle.dds_base.specs.Written.{LookedAt, liveliness_lost_status}
 use Rattle.dds_notices.specs.declared.notice.Status.{Status}
-use Rattle.dds_notices.specs.declared.notice.Status.TheVariants.{SampleLost, DataAvailable, LivelinessLost, LivelinessChanged}
+use Rattle.dds_notices.specs.declared.notice.Status.TheVariants.{SampleLost, DataAvailable, LivelinessLost, LivelinessChanged, PublicationMatched, SubscriptionMatched}
 use Rattle.dds_notices.specs.Listeners.{Place, after_notice, taker_of, with_entity}
-use Rattle.dds_machine.specs.Part.{Part, Reader, Seen, Writer, own_reader, own_writer}
-use Rattle.dds_machine.specs.Calls.{after_look, effect, seen_liveliness, seen_lost, writes}
+use Rattle.dds_machine.specs.Part.{Part, Reader, Seen, Writer, WriterProxy, own_proxies, own_reader, own_writer}
+use Rattle.dds_machine.specs.Calls.{Effect, after_look, after_matches_look, effect, looks_at_matches, seen_liveliness, seen_lost, writes}
 use Rattle.dds_machine.specs.declared.event.WorldEvent.{WorldEvent}
 use Rattle.dds_machine.specs.declared.event.WorldEvent.TheVariants as event
+use Rattle.dds_machine.specs.Matching.{attached_count, publication_matched, subscription_matched}
 use Rattle.dds_machine.specs.Numbered.{with_numbered}
 use Rattle.dds_machine.specs.Passing.{passed_at}
 use Rattle.dds_machine.specs.Machine.{Machine, part_at}
@@ -50,19 +51,36 @@ abbrev pub loss_raised : Writer → Writer → Option Status
 loss_raised before w = if nat_lt (losses_of before) (losses_of w)
     then Some (LivelinessLost (liveliness_lost_status w.lease w.written)) else None
 
+-- PUBLICATION_MATCHED of a writer, if more or fewer readers are matched with it
+abbrev pub publication_raised : Writer → Writer → Option Status
+publication_raised before w =
+    if length w.matched == length before.matched then None else Some (PublicationMatched (publication_matched w))
+
+-- SUBSCRIPTION_MATCHED of a reader that knew those writers and knows these, if it is matched with more or fewer
+abbrev pub subscription_raised : List WriterProxy → List WriterProxy → Reader → Option Status
+subscription_raised before rows r =
+    if attached_count rows == attached_count before then None
+    else Some (SubscriptionMatched (subscription_matched rows r))
+
 -- ---- what is told of it
 
--- what is seen of a reader's statuses once this one was looked at
+-- what is seen of a reader's other statuses once this one was looked at
 abbrev pub seen_by : Reader → Status → Seen
 seen_by r (SampleLost values) = seen_lost r
 seen_by r DataAvailable = record r.seen { entries_at_data = length r.happened }
 seen_by r (LivelinessChanged values) = seen_liveliness r
-seen_by r (LivelinessLost values) = r.seen
+seen_by r other = r.seen
+
+-- what a look at this status of a writer does there
+abbrev pub look_of : ℕ → Status → Effect
+look_of n (PublicationMatched values) = looks_at_matches n
+look_of n other = writes n LookedAt
 
 -- a part, once a status of an entity was looked at
 abbrev pub looked_at : Part → Entity → Status → Part
 looked_at part entity.Participant status = part
-looked_at part (entity.Writer n) status = record part { rtps = effect part.rtps (writes n LookedAt) }
+looked_at part (entity.Writer n) status = record part { rtps = effect part.rtps (look_of n status) }
+looked_at part (entity.Reader n) (SubscriptionMatched values) = record part { dds = after_matches_look part n }
 looked_at part (entity.Reader n) status = record part { dds = after_look part n (seen_by (own_reader part n) status) }
 
 -- a part, once a listener was told of a status of an entity, and it was looked at
@@ -94,13 +112,28 @@ data_told before n part = told part (entity.Reader n) (data_raised (own_reader b
 abbrev pub turn_told : Part → ℕ → Part → Part
 turn_told before n part = told part (entity.Reader n) (turn_raised (own_reader before n) (own_reader part n))
 
+-- a part, once SUBSCRIPTION_MATCHED of the reader of this number was told, if it was raised since the part was as before
+abbrev pub subscription_told : Part → ℕ → Part → Part
+subscription_told before n part = told part (entity.Reader n)
+    (subscription_raised (own_proxies before n) (own_proxies part n) (own_reader part n))
+
 -- a part, once the raised statuses of the reader of this number were told, by ascending bit (2.3.3)
 abbrev pub reader_told : Part → ℕ → Part → Part
-reader_told before n part = turn_told before n (data_told before n (lost_told before n part))
+reader_told before n part =
+    subscription_told before n (turn_told before n (data_told before n (lost_told before n part)))
 
 -- a part, once LIVELINESS_LOST of the writer of this number was told, if it was raised since the part was as before
+abbrev pub loss_told : Part → ℕ → Part → Part
+loss_told before n part = told part (entity.Writer n) (loss_raised (own_writer before n) (own_writer part n))
+
+-- a part, once PUBLICATION_MATCHED of the writer of this number was told, if it was raised since the part was as before
+abbrev pub publication_told : Part → ℕ → Part → Part
+publication_told before n part =
+    told part (entity.Writer n) (publication_raised (own_writer before n) (own_writer part n))
+
+-- a part, once the raised statuses of the writer of this number were told, by ascending bit (2.3.3)
 abbrev pub writer_told : Part → ℕ → Part → Part
-writer_told before n part = told part (entity.Writer n) (loss_raised (own_writer before n) (own_writer part n))
+writer_told before n part = publication_told before n (loss_told before n part)
 
 -- the first so many entities, in their order
 abbrev pub each_told : (ℕ → Part → Part) → ℕ → Part → Part
@@ -119,6 +152,7 @@ abbrev pub peer_of : WorldEvent → ℕ
 peer_of (event.Call peer call) = peer
 peer_of (event.Tick peer now) = peer
 peer_of (event.Deliver peer packet) = peer
+peer_of (event.Resume peer reader) = peer
 
 -- the machine at the end of what came to the peer of this number, as the machine was before
 abbrev pub peer_ended : Machine → ℕ → Machine → Machine

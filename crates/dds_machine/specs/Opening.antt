@@ -13,15 +13,20 @@ use Rattle.dds_base.specs.declared.qos.ReaderQos.{ReaderQos}
 use Rattle.dds_conditions.specs.Watched.{opened as nothing_watched}
 use Rattle.dds_notices.specs.Listeners.{nobody}
 use Rattle.dds_base.specs.Ownership.{carried}
-use Rattle.dds_base.specs.Matched.{of_matched_writers, of_matched_readers, of_reliable_readers}
-use Rattle.dds_machine.specs.declared.endpoint.Endpoint.{Endpoint}
-use Rattle.dds_machine.specs.Part.{ReaderProxy, WriterProxy, Begun, Writer, Reader, Part, nothing_seen, opened_with}
+use Rattle.dds_base.specs.Matched.{is_reliable_reader, of_matched_writers, of_matched_readers, of_reliable_readers}
+use Rattle.dds_base.specs.declared.endpoint.Endpoint.{Endpoint}
+use Rattle.dds_machine.specs.Part.{ReaderProxy, TopicReader, WriterProxy, Begun, Writer, Reader, Part, nothing_seen, opened_with}
 use Rattle.dds_base.specs.Checked.{limit_of}
 use Rattle.dds_machine.specs.Machine.{Machine}
 
 -- the matched readers of a writer of the topic; the first of these peers has this number
 abbrev pub matched_readers : ℕ → ℕ → List PeerConfig → List Endpoint
 matched_readers topic peer ps = of_matched_readers (λ i p n r. record { peer = i; number = n }) topic peer ps
+
+-- the readers of the topic, and whether each is a reliable one; the first of these peers has this number
+abbrev pub topic_readers : ℕ → ℕ → List PeerConfig → List TopicReader
+topic_readers topic peer ps = of_matched_readers
+    (λ i p n r. record { reader = record { peer = i; number = n }; reliable = is_reliable_reader r }) topic peer ps
 
 -- what a writer of the topic has of its matched reliable readers; the first of these peers has this number
 abbrev pub reliable_readers : ℕ → ℕ → List PeerConfig → List ReaderProxy
@@ -67,10 +72,11 @@ opening_writer peers w =
       strength = carried w.ownership w.strength;
       autodispose = w.autodispose;
       max_value = w.max_value;
+      known = topic_readers w.topic 1 peers;
       written = [];
       matched = matched_readers w.topic 1 peers;
       readers = reliable_readers w.topic 1 peers;
-      matches = opened_with (length (matched_readers w.topic 1 peers));
+      matches = opened_with (matched_readers w.topic 1 peers);
     }
 
 -- a reader at which nothing has happened
@@ -79,7 +85,7 @@ opening_reader peers r = record {
   qos = reader_qos peers r;
   happened = [];
   seen = nothing_seen;
-  matches = opened_with (length (matched_writers r.topic 1 peers));
+  matches = opened_with (map (λ (p : WriterProxy). p.writer) (matched_writers r.topic 1 peers));
 }
 
 -- the part of a peer to which nothing has happened: at moment 0, with nothing watched and no listener

@@ -2,7 +2,7 @@
 -- each matched pair. What other peers may learn of stands apart from what only its own calls ask for.
 --
 -- RTPS 2.5, 8.4.7 (StatefulWriter, ReaderProxy), 8.4.10 (StatefulReader, WriterProxy).
-use Rattle.std.specs.Prelude.{ℕ, ◌+◌, ◌<◌, ◌≤◌, Bool, true, false, if◌then◌else◌, ◌==◌, nat_le, nat_lt, min, ◌⊎◌, List, [], ◌∷◌, length, map, Option, Some, None, ℤ, pos, negsuc}
+use Rattle.std.specs.Prelude.{ℕ, ◌+◌, ◌-◌, ◌<◌, ◌≤◌, Bool, true, false, not, if◌then◌else◌, ◌==◌, nat_le, nat_lt, min, ◌⊎◌, List, [], ◌∷◌, length, map, filter, slice_get, Option, Some, None, ℤ, pos, negsuc}
 use Rattle.std.specs.List.{list_any}
 use Rattle.std.specs.Option.{option_map, option_map_or}
 use Rattle.dds_base.specs.declared.change.Change.{Change}
@@ -17,7 +17,7 @@ use Rattle.dds_base.specs.Written.{Written, changes_of, counts_of}
 use Rattle.dds_base.specs.Kept.{WriterHistory}
 use Rattle.dds_conditions.specs.Watched.{Watched, opened as nothing_watched}
 use Rattle.dds_notices.specs.Listeners.{Places, nobody}
-use Rattle.dds_machine.specs.declared.endpoint.Endpoint.{Endpoint}
+use Rattle.dds_base.specs.declared.endpoint.Endpoint.{Endpoint}
 use Rattle.dds_machine.specs.Numbered.{numbered, with_numbered}
 
 -- two names are of one endpoint
@@ -37,17 +37,22 @@ pub data Attachment : Type 0 where
   Waiting : Attachment
   Begun : Attachment
 
--- the matches of a writer or a reader: how many there were, with whom the last one was made or ended since the opening,
--- and how many there had been and were when the application looked at them last (DDS 1.4, 2.2.4.1)
+-- the matches of a writer or a reader: how many there were, with whom the last one was made or ended, and how many there
+-- had been and were when the application looked at them last (DDS 1.4, 2.2.4.1)
 pub record Matches : Type 0 where
   pub made : ℕ
   pub last : Option Endpoint
   pub made_seen : ℕ
   pub here_seen : ℕ
 
--- so many, which the opening made, and of which nothing is new
-abbrev pub opened_with : ℕ → Matches
-opened_with count = record { made = count; last = None; made_seen = count; here_seen = count }
+-- the matches with these ends, which the opening made in this order, and of which nothing is new
+abbrev pub opened_with : List Endpoint → Matches
+opened_with ends = record {
+  made = length ends;
+  last = slice_get ends (length ends - 1);
+  made_seen = length ends;
+  here_seen = length ends;
+}
 
 -- what a reader knows of a writer: its place there, the number of the next change; the count of the last HEARTBEAT by
 -- which it heard the writer assert its liveliness, if there was one; and how it stands to it
@@ -57,9 +62,14 @@ pub record WriterProxy : Type 0 where
   pub heard : Option ℤ
   pub how : Attachment
 
+-- a reader of a writer's topic, and whether it is a reliable one
+pub record TopicReader : Type 0 where
+  pub reader : Endpoint
+  pub reliable : Bool
+
 -- a writer: its policy, limit and lease, the strength that it was configured with, none of a writer of shared ownership,
--- whether an unregister disposes too, how many octets a value has at most, what happened there, the newest first, its
--- matched readers, what it knows of those that are reliable, and its matches
+-- whether an unregister disposes too, how many octets a value has at most, the readers of its topic, what happened there,
+-- the newest first, its matched readers, what it knows of those that are reliable, and its matches
 pub record Writer : Type 0 where
   pub policy : HistoryQos
   pub max_samples : Option ℕ
@@ -67,6 +77,7 @@ pub record Writer : Type 0 where
   pub strength : Option ℤ
   pub autodispose : Bool
   pub max_value : ℕ
+  pub known : List TopicReader
   pub written : List Written
   pub matched : List Endpoint
   pub readers : List ReaderProxy
@@ -122,10 +133,11 @@ no_writer = record {
   strength = None;
   autodispose = false;
   max_value = usual_value;
+  known = [];
   written = [];
   matched = [];
   readers = [];
-  matches = opened_with 0;
+  matches = opened_with [];
 }
 
 -- in the place of a reader that is not there: one at which nothing has happened, and that is matched with nobody
@@ -143,7 +155,7 @@ no_reader = record {
   happened =
       [];
   seen = nothing_seen;
-  matches = opened_with 0;
+  matches = opened_with [];
 }
 
 -- in the place of the part of a peer that is not there: it has no writers and no readers
@@ -283,10 +295,10 @@ is_reader_behind w reader =
 abbrev pub is_behind : Writer → Bool
 is_behind w = list_any (λ (p : ReaderProxy). nat_le p.acknowledged (length (writer_changes w))) w.readers
 
--- the peers of these endpoints, each once
+-- the peers of these endpoints, each once, where its first endpoint stands
 abbrev pub peers_of : List Endpoint → List ℕ
 peers_of [] = []
-peers_of (e ∷ es) = if list_any (λ peer. peer == e.peer) (peers_of es) then peers_of es else e.peer ∷ peers_of es
+peers_of (e ∷ es) = e.peer ∷ filter (λ peer. not (peer == e.peer)) (peers_of es)
 
 -- the writer has a matched reader
 abbrev pub has_readers : Writer → Bool

@@ -1,7 +1,7 @@
 -- The statuses that are flagged, the trigger values of conditions, and what an access by a condition asks for.
 --
 -- DDS 1.4, 2.2.2.1 (get_status_changes, get_trigger_value), 2.2.2.5 (ReadCondition), 2.2.4.2 (changes in status).
-use Rattle.std.specs.Prelude.{ℕ, ◌+◌, Bool, false, ◌&&◌, ◌||◌, ◌==◌, not, nat_lt, List, Option, Some, None, is_some, if◌then◌else◌}
+use Rattle.std.specs.Prelude.{ℕ, ◌+◌, Bool, false, ◌&&◌, ◌||◌, ◌==◌, not, nat_lt, List, length, Option, Some, None, is_some, if◌then◌else◌}
 use Rattle.std.specs.Int.RustNames.{bit_and}
 use Rattle.dds_base.specs.declared.code.Code.{Code}
 use Rattle.dds_base.specs.declared.code.Code.TheVariants.{BadParameter, PreconditionNotMet}
@@ -18,15 +18,16 @@ use Rattle.dds_base.specs.StatusFlags.{data_available_at, is_after, turned_at}
 use Rattle.dds_base.specs.Written.{liveliness_lost_status}
 use Rattle.dds_base.specs.Number.{at_number}
 use Rattle.dds_notices.specs.declared.mask.StatusMask.{StatusMask}
-use Rattle.dds_notices.specs.Masks.{sample_lost_bit, data_available_bit, liveliness_lost_bit, liveliness_changed_bit}
+use Rattle.dds_notices.specs.Masks.{sample_lost_bit, data_available_bit, liveliness_lost_bit, liveliness_changed_bit, publication_matched_bit, subscription_matched_bit}
 use Rattle.dds_conditions.specs.declared.condition.Cond.{Cond}
 use Rattle.dds_conditions.specs.declared.condition.Cond.TheVariants.{Status, Made}
 use Rattle.dds_conditions.specs.declared.condition.Condition.{Condition}
 use Rattle.dds_conditions.specs.declared.condition.Condition.TheVariants.{Samples, Guard}
 use Rattle.dds_conditions.specs.Watched.{enabled_of, has_filter, knows_entity, number_refusal}
+use Rattle.dds_machine.specs.Matching.{attached_count, is_match_flagged}
 use Rattle.dds_machine.specs.Numbered.{has_element}
 use Rattle.dds_machine.specs.Passing.{passed_at}
-use Rattle.dds_machine.specs.Part.{Part, Reader, Writer, own_reader, own_writer}
+use Rattle.dds_machine.specs.Part.{Part, Reader, Writer, WriterProxy, own_proxies, own_reader, own_writer}
 
 -- ---- statuses
 
@@ -46,24 +47,31 @@ is_turn_flagged r = is_after r.seen.entries_at_turn (turned_at r.happened)
 abbrev pub bit_if : Bool → ℕ → ℕ
 bit_if b bit = if b then bit else 0
 
--- the flagged statuses of a reader, as a mask: SAMPLE_LOST, DATA_AVAILABLE and LIVELINESS_CHANGED (2.3.3)
-abbrev pub reader_statuses : Reader → StatusMask
-reader_statuses r = record {
+-- the flagged statuses of a reader that knows these writers, as a mask: SAMPLE_LOST, DATA_AVAILABLE, LIVELINESS_CHANGED
+-- and SUBSCRIPTION_MATCHED (2.3.3)
+abbrev pub reader_statuses : List WriterProxy → Reader → StatusMask
+reader_statuses rows r = record {
   0 = bit_if (is_lost_flagged r) sample_lost_bit
-      + (bit_if (is_data_flagged r) data_available_bit + bit_if (is_turn_flagged r) liveliness_changed_bit);
+      + (bit_if (is_data_flagged r) data_available_bit + (bit_if (is_turn_flagged r) liveliness_changed_bit
+      + bit_if (is_match_flagged r.matches (attached_count rows)) subscription_matched_bit));
 }
 
--- the flagged statuses of a writer, as a mask (2.3.3): LIVELINESS_LOST alone, where its liveliness was lost since that was
--- looked at
+-- the writer's liveliness was lost since LIVELINESS_LOST was looked at
+abbrev pub is_loss_flagged : Writer → Bool
+is_loss_flagged w = nat_lt 0 (liveliness_lost_status w.lease w.written).total_count_change
+
+-- the flagged statuses of a writer, as a mask: LIVELINESS_LOST and PUBLICATION_MATCHED (2.3.3)
 abbrev pub writer_statuses : Writer → StatusMask
-writer_statuses w =
-    record { 0 = bit_if (nat_lt 0 (liveliness_lost_status w.lease w.written).total_count_change) liveliness_lost_bit }
+writer_statuses w = record {
+  0 = bit_if (is_loss_flagged w) liveliness_lost_bit
+      + bit_if (is_match_flagged w.matches (length w.matched)) publication_matched_bit;
+}
 
 -- the flagged statuses of an entity; the participant has none of its own (Entity, get_status_changes)
 abbrev pub status_changes : Part → Entity → StatusMask
 status_changes part entity.Participant = record { 0 = 0 }
 status_changes part (entity.Writer writer) = writer_statuses (own_writer part writer)
-status_changes part (entity.Reader reader) = reader_statuses (own_reader part reader)
+status_changes part (entity.Reader reader) = reader_statuses (own_proxies part reader) (own_reader part reader)
 
 -- ---- filters
 

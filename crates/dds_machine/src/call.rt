@@ -4,7 +4,7 @@
 
 ghost use Rattle.std.specs.Prelude.{◌≡◌};
 
-use dds_base::{Entity, Handle, Key, Masks, Moment, Octets, Scope, Selection};
+use dds_base::{Endpoint, Entity, Handle, Key, Masks, Moment, Octets, Scope, Selection};
 use dds_conditions::Cond;
 use dds_notices::StatusMask;
 use std::alloc::AllocError;
@@ -196,6 +196,47 @@ pub enum Call {
     GetStatusChanges {
         entity: Entity,
     },
+    /// A writer is told of a reader of its topic: the two are matched from now on (RTPS 2.5, 8.4.7.4,
+    /// matched_reader_add), and what the writer has made is not owed (DDS 1.4, 2.2.3, DURABILITY: VOLATILE).
+    /// `BadParameter` for a reader that is none of the writer's topic, `PreconditionNotMet` where the two are matched.
+    /// It sends nothing.
+    MatchReader {
+        writer: u8,
+        reader: Endpoint,
+    },
+    /// A writer is told that a reader has left: it keeps nothing for it, waits for it no longer and sends it nothing
+    /// (RTPS 2.5, 8.4.7.4, matched_reader_remove). `BadParameter` for a reader that is none of the writer's topic,
+    /// `PreconditionNotMet` where the two are not matched. It sends nothing, and is never refused for want of memory.
+    UnmatchReader {
+        writer: u8,
+        reader: Endpoint,
+    },
+    /// A reader is told of a writer of its topic: the two are matched from now on, and its place in the writer's list
+    /// begins where it was, or further on, by what comes of that writer (RTPS 2.5, 8.4.10.3, matched_writer_add). It
+    /// answers the publication handle. `BadParameter` for a writer that is none of the reader's topic,
+    /// `PreconditionNotMet` where the two are matched. It sends nothing.
+    MatchWriter {
+        reader: u8,
+        writer: Endpoint,
+    },
+    /// A reader is told that a writer has left: it takes nothing of it, and the writer is no longer registered for any
+    /// instance (RTPS 2.5, 8.4.10.3, matched_writer_remove). `BadParameter` for a writer that is none of the reader's
+    /// topic, `PreconditionNotMet` where the two are not matched; `Memory` only where that can't be counted. It sends
+    /// nothing.
+    UnmatchWriter {
+        reader: u8,
+        writer: Endpoint,
+    },
+    /// Looks at how many matches of a writer there were and are, and since the last look (DDS 1.4, 2.2.2.4,
+    /// get_publication_matched_status). It is never refused for want of memory.
+    GetPublicationMatched {
+        writer: u8,
+    },
+    /// Looks at how many matches of a reader there were and are, and since the last look (DDS 1.4, 2.2.2.5,
+    /// get_subscription_matched_status). It is never refused for want of memory.
+    GetSubscriptionMatched {
+        reader: u8,
+    },
 }
 
 // Arm by arm, so that the copy is equal to the call: `docs/DECISIONS.md`, "What is alike, and stays".
@@ -325,6 +366,28 @@ impl Clone for Call {
                 mask: *mask,
             },
             Call::GetStatusChanges { entity } => Call::GetStatusChanges { entity: *entity },
+            Call::MatchReader { writer, reader } => Call::MatchReader {
+                writer: *writer,
+                reader: *reader,
+            },
+            Call::UnmatchReader { writer, reader } => Call::UnmatchReader {
+                writer: *writer,
+                reader: *reader,
+            },
+            Call::MatchWriter { reader, writer } => Call::MatchWriter {
+                reader: *reader,
+                writer: *writer,
+            },
+            Call::UnmatchWriter { reader, writer } => Call::UnmatchWriter {
+                reader: *reader,
+                writer: *writer,
+            },
+            Call::GetPublicationMatched { writer } => {
+                Call::GetPublicationMatched { writer: *writer }
+            }
+            Call::GetSubscriptionMatched { reader } => {
+                Call::GetSubscriptionMatched { reader: *reader }
+            }
         })
     }
 }

@@ -15,4 +15,8 @@ pub enum WorldEvent {
     Tick { peer: u8, now: Moment },
     /// The packet of this number, counted from 1 among all that were ever sent, comes at a peer.
     Deliver { peer: u8, packet: u64 },
+    /// The places of a peer's reader are tried again, one after another, in the order of the writers' publication
+    /// handles: each that has begun goes on as far as it can by what is known already. The answer is a `Report`, or
+    /// `BadParameter` where there is no such reader.
+    Resume { peer: u8, reader: u8 },
 }

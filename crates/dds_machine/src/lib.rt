@@ -8,12 +8,13 @@
 #![tactic(auto)]
 
 mod call;
-mod endpoint;
 mod event;
 mod reply;
 
 pub use call::Call;
-pub use dds_base::{LivelinessChangedStatus, LivelinessLostStatus, PassedRun, SampleLostStatus};
-pub use endpoint::Endpoint;
+pub use dds_base::{
+    Endpoint, LivelinessChangedStatus, LivelinessLostStatus, MatchedStatus, PassedRun,
+    SampleLostStatus,
+};
 pub use event::WorldEvent;
-pub use reply::{MatchedStatus, Move, Reply, Report};
+pub use reply::{Move, Reply, Report};

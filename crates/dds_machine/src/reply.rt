@@ -2,10 +2,9 @@
 //!
 //! DDS 1.4, 2.2.1.1 (return codes), 2.2.2.4 and 2.2.2.5 (what calls return); RTPS 2.5, 8.4 (behaviour).
 
-use crate::endpoint::Endpoint;
 use dds_base::{
-    Code, Handle, Key, LivelinessChangedStatus, LivelinessLostStatus, PassedRun, Sample,
-    SampleLostStatus, Sequence, Sn,
+    Code, Endpoint, Handle, Key, LivelinessChangedStatus, LivelinessLostStatus, MatchedStatus,
+    PassedRun, Sample, SampleLostStatus, Sequence, Sn,
 };
 use dds_conditions::Cond;
 use dds_notices::StatusMask;
@@ -54,22 +53,6 @@ pub struct Report {
     pub refused: Option<u32>,
 }
 
-/// PUBLICATION_MATCHED of a writer, or SUBSCRIPTION_MATCHED of a reader: how many matches there were and are.
-///
-/// DDS 1.4, 2.2.4.1 (PublicationMatchedStatus, SubscriptionMatchedStatus).
-pub struct MatchedStatus {
-    /// How many there were. It stays at 2^64 - 1.
-    pub total_count: u64,
-    /// How many more than when the status was looked at last.
-    pub total_count_change: u64,
-    /// How many there are.
-    pub current_count: i64,
-    /// How many more than when the status was looked at last; below 0 where there are fewer.
-    pub current_count_change: i64,
-    /// The reader or writer with which the last one was made or ended; `None` before that.
-    pub last: Option<Endpoint>,
-}
-
 /// The answer to an event.
 #[derive(Debug, Drop, PartialEq, Eq)]
 pub enum Reply {
@@ -79,7 +62,7 @@ pub enum Reply {
     Samples(Sequence<Sample>),
     /// The key of a known instance.
     KeyValue(Key),
-    /// The handle of an instance; HANDLE_NIL where it is not known.
+    /// The handle of an instance; HANDLE_NIL where it is not known. Of a match at a reader it is that of the publication.
     InstanceHandle(Handle),
     /// A look at SAMPLE_LOST.
     SampleLost(SampleLostStatus),
@@ -87,6 +70,8 @@ pub enum Reply {
     LivelinessChanged(LivelinessChangedStatus),
     /// A look at LIVELINESS_LOST.
     LivelinessLost(LivelinessLostStatus),
+    /// A look at PUBLICATION_MATCHED of a writer, or at SUBSCRIPTION_MATCHED of a reader.
+    Matched(MatchedStatus),
     /// The number of the condition or of the WaitSet that was made, from 1.
     Created(u32),
     /// Whether a condition is true.

@@ -5,7 +5,7 @@ use Rattle.std.specs.Prelude.{ℕ, Bool}
 use Rattle.dds_base.specs.Access.{has_bit}
 use Rattle.dds_notices.specs.declared.mask.StatusMask.{StatusMask}
 use Rattle.dds_notices.specs.declared.notice.Status.{Status}
-use Rattle.dds_notices.specs.declared.notice.Status.TheVariants.{SampleLost, DataAvailable, LivelinessLost, LivelinessChanged}
+use Rattle.dds_notices.specs.declared.notice.Status.TheVariants.{SampleLost, DataAvailable, LivelinessLost, LivelinessChanged, PublicationMatched, SubscriptionMatched}
 
 -- SAMPLE_LOST_STATUS
 abbrev pub sample_lost_bit : ℕ
@@ -23,12 +23,22 @@ liveliness_lost_bit = 2048
 abbrev pub liveliness_changed_bit : ℕ
 liveliness_changed_bit = 4096
 
+-- PUBLICATION_MATCHED_STATUS
+abbrev pub publication_matched_bit : ℕ
+publication_matched_bit = 8192
+
+-- SUBSCRIPTION_MATCHED_STATUS
+abbrev pub subscription_matched_bit : ℕ
+subscription_matched_bit = 16384
+
 -- the bit of a status, whichever its values are
 abbrev pub status_bit : Status → ℕ
 status_bit (SampleLost values) = sample_lost_bit
 status_bit DataAvailable = data_available_bit
 status_bit (LivelinessLost values) = liveliness_lost_bit
 status_bit (LivelinessChanged values) = liveliness_changed_bit
+status_bit (PublicationMatched values) = publication_matched_bit
+status_bit (SubscriptionMatched values) = subscription_matched_bit
 
 -- the mask names the status
 abbrev pub names : StatusMask → Status → Bool

@@ -19,6 +19,8 @@ bitflag_items! {
         const DATA_AVAILABLE = 1024;
         const LIVELINESS_LOST = 2048;
         const LIVELINESS_CHANGED = 4096;
+        const PUBLICATION_MATCHED = 8192;
+        const SUBSCRIPTION_MATCHED = 16384;
         const ANY = 65535;
     }
 }
@@ -28,7 +30,7 @@ impl Flags for StatusMask {
 
     ghost exact = { ⊤ };
 
-    ghost table = { (codes "SAMPLE_LOST", 128) ∷ (codes "DATA_AVAILABLE", 1024) ∷ (codes "LIVELINESS_LOST", 2048) ∷ (codes "LIVELINESS_CHANGED", 4096) ∷ (codes "ANY", 65535) ∷ [] };
+    ghost table = { (codes "SAMPLE_LOST", 128) ∷ (codes "DATA_AVAILABLE", 1024) ∷ (codes "LIVELINESS_LOST", 2048) ∷ (codes "LIVELINESS_CHANGED", 4096) ∷ (codes "PUBLICATION_MATCHED", 8192) ∷ (codes "SUBSCRIPTION_MATCHED", 16384) ∷ (codes "ANY", 65535) ∷ [] };
 
     ghost set_of = { λ m. m.0 };
 
@@ -59,6 +61,8 @@ impl StatusMask {
             Status::DataAvailable => self.contains(StatusMask::DATA_AVAILABLE),
             Status::LivelinessLost(_) => self.contains(StatusMask::LIVELINESS_LOST),
             Status::LivelinessChanged(_) => self.contains(StatusMask::LIVELINESS_CHANGED),
+            Status::PublicationMatched(_) => self.contains(StatusMask::PUBLICATION_MATCHED),
+            Status::SubscriptionMatched(_) => self.contains(StatusMask::SUBSCRIPTION_MATCHED),
         }
     }
 }

@@ -2,7 +2,9 @@
 //!
 //! DDS 1.4, 2.2.4.1 (communication statuses).
 
-use dds_base::{Entity, LivelinessChangedStatus, LivelinessLostStatus, SampleLostStatus};
+use dds_base::{
+    Entity, LivelinessChangedStatus, LivelinessLostStatus, MatchedStatus, SampleLostStatus,
+};
 
 /// A communication status, with its values.
 ///
@@ -17,6 +19,10 @@ pub enum Status {
     LivelinessLost(LivelinessLostStatus),
     /// LIVELINESS_CHANGED, of a reader.
     LivelinessChanged(LivelinessChangedStatus),
+    /// PUBLICATION_MATCHED, of a writer.
+    PublicationMatched(MatchedStatus),
+    /// SUBSCRIPTION_MATCHED, of a reader.
+    SubscriptionMatched(MatchedStatus),
 }
 
 /// That a status of an entity was raised. The values are those of that moment, and their changes count from the last
