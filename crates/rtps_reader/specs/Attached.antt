@@ -2,18 +2,16 @@
 -- with, nothing. Where its place waits, a HEARTBEAT begins it at a reliable reader, and a DATA at a best-effort one.
 --
 -- RTPS 2.5, 8.4.10 (StatefulReader: matched_writers), 8.4.11, 8.4.12.
-use Rattle.std.specs.Prelude.{◌≡◌, ◌≢◌, ℕ, ◌+◌, ◌==◌, ◌&&◌, Bool, true, false, nat_le, max, if◌then◌else◌, List, [], length, slice_get}
-use Rattle.std.specs.Prelude.{Option, None, Some, is_some}
-use Rattle.std.specs.Option.{option_map_or}
+use Rattle.std.specs.Prelude.{◌≡◌, ◌≢◌, ℕ, ◌+◌, ◌&&◌, Bool, true, false, not, nat_le, max, List, []}
+use Rattle.std.specs.Prelude.{None, Some}
 use Rattle.dds_base.specs.declared.change.Change.{Change}
 use Rattle.dds_base.specs.declared.happening.Happening.{Happening}
 use Rattle.dds_base.specs.Places.{Match}
 use Rattle.rtps_reader.specs.declared.attachment.Attachment.{Attachment}
 use Rattle.rtps_reader.specs.declared.attachment.Attachment.TheVariants.{Away, Waiting, Begun}
-use Rattle.rtps_reader.specs.declared.known_writer.KnownWriter.{KnownWriter}
 use Rattle.rtps_reader.specs.declared.step.HeartbeatSeen.{HeartbeatSeen}
 use Rattle.rtps_reader.specs.declared.step.Step.{Step}
-use Rattle.rtps_reader.specs.Tracked.{Tracked, fresh}
+use Rattle.rtps_reader.specs.Tracked.{Tracked, fresh, is_waiting}
 use Rattle.rtps_reader.specs.Jump.{comes}
 use Rattle.rtps_reader.specs.Answer.{IsIdle, heard_after}
 use Rattle.rtps_reader.specs.Reader.{Proxies, Tracks, count_of, AllStay, AllReady, how_at, MovesOn, JumpsOn, TakesHeartbeat}
@@ -31,6 +29,16 @@ abbrev pub MeetsNews : Attachment → Match → (Tracked → Tracked) → Tracke
     → (List Happening → Type 0) → Type 0
 MeetsNews Begun match with_it t h step Knows Stands = (step.begun ≡ None) × MovesOn match (with_it t) h step Knows Stands
 MeetsNews how match with_it t h step Knows Stands = Rests t h step Knows Stands
+
+-- nothing more becomes known
+abbrev pub no_news : Tracked → Tracked
+no_news t = t
+
+-- at a place at which the reader stands so to the writer something may go on by what is known already: it has begun, and
+-- does not wait for what is not known
+abbrev pub goes_on : Attachment → Tracked → Bool
+goes_on Begun t = not (is_waiting t)
+goes_on how t = false
 
 -- a change of this number came at a best-effort reader whose place waited: it began there, over all before it
 abbrev pub BeginsWith : Match → Tracked → List Happening → ℕ → Change → Step → (Tracked → Type 0)

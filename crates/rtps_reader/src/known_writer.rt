@@ -11,7 +11,7 @@ ghost use Rattle.dds_base.specs.Counts.{is_later};
 ghost use Rattle.rtps_reader.specs.Tracked.{fresh, with_data, with_gap, SameTracked};
 ghost use Rattle.rtps_reader.specs.Answer.{IsIdle};
 ghost use Rattle.rtps_reader.specs.Moving.{match_of};
-ghost use Rattle.rtps_reader.specs.Attached.{MeetsNews, MeetsChange, MeetsHeartbeat, MeetsBeat};
+ghost use Rattle.rtps_reader.specs.Attached.{goes_on, no_news, MeetsNews, MeetsChange, MeetsHeartbeat, MeetsBeat};
 ghost use Rattle.rtps_reader.specs.Proxy.{tracked};
 ghost use Rattle.rtps_reader.specs.Reader.{how_after};
 ghost use Rattle.rtps_reader.specs.Sound.{IsSound, KeepsHow, ProxyKeepsRest};
@@ -137,6 +137,38 @@ impl KnownWriter {
             Attachment::Begun => self.proxy.on_gap(sink, source, start, list),
             Attachment::Waiting => Ok(self.proxy.idle()),
             Attachment::Away => Ok(self.proxy.idle()),
+        }
+    }
+
+    /// The place is tried again: where it has not begun nothing is done.
+    pub fn resume<S: Sink>(&mut self, sink: &mut S, source: &Source) -> Result<Step, Code>
+        requires sound { IsSound self.old.proxy }
+        requires matched { IsMatched (S.qos sink.old) source.now.publication }
+        ensures meets { IfOk result (λ step. (h : List Happening) → S.stands sink.old h
+            → MeetsNews self.old.how (match_of (S.qos sink.old) source.now)
+            no_news (tracked self.old.proxy) h step
+            (SameTracked (tracked self.new.proxy)) (S.stands sink.new)) }
+        ensures few { IfOk result (λ step. length step.passed ≤ 257) }
+        ensures how { KeepsHow self.old.how self.new.how result }
+        ensures keeps { ProxyKeepsRest S.stands S.qos S.spare
+            self.old.proxy self.new.proxy sink.old sink.new result }
+    {
+        match self.how {
+            Attachment::Begun => self.proxy.resume(sink, source),
+            Attachment::Waiting => Ok(self.proxy.idle()),
+            Attachment::Away => Ok(self.proxy.idle()),
+        }
+    }
+
+    /// Whether the place may go on by what is known already: it has begun, and does not wait for what is not known.
+    pub fn may_go_on(&self) -> bool
+        requires sound { IsSound self.now.proxy }
+        ensures { result ≡ goes_on self.now.how (tracked self.now.proxy) }
+    {
+        match self.how {
+            Attachment::Begun => self.proxy.may_go_on(),
+            Attachment::Waiting => false,
+            Attachment::Away => false,
         }
     }
 

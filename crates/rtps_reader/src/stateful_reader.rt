@@ -11,7 +11,7 @@ ghost use Rattle.rtps_reader.specs.Tracked.{Tracked, fresh, may_take, with_data,
 ghost use Rattle.rtps_reader.specs.Answer.{IsIdle};
 ghost use Rattle.rtps_reader.specs.declared.attachment.Attachment.TheVariants.{Away, Waiting, Begun};
 ghost use Rattle.rtps_reader.specs.Reader.{Tracks, how_at, count_of, IsReady, IsReadyAt, AllStay, AllStand, match_at, KeepsRest};
-ghost use Rattle.rtps_reader.specs.Attached.{StandsNow, HasOneMore, MeetsNews, MeetsChange, MeetsHeartbeat, MeetsBeat};
+ghost use Rattle.rtps_reader.specs.Attached.{goes_on, no_news, StandsNow, HasOneMore, MeetsNews, MeetsChange, MeetsHeartbeat, MeetsBeat};
 
 use crate::attachment::Attachment;
 use crate::known_writer::KnownWriter;
@@ -359,6 +359,56 @@ impl StatefulReader {
         let known = &mut self.writers[writer];
         let source = source_of(writer, moment);
         known.on_gap(sink, &source, start, list)
+    }
+
+    /// Whether the place at a writer may go on by what is known already: it has begun, and the number there can be passed
+    /// over, or its change is held. One that can't needs no memory.
+    ///
+    /// RTPS 2.5, 8.4.12 (reliable StatefulReader).
+    pub fn may_go_on(&self, writer: usize) -> bool
+        // The writer is a known one.
+        requires matched { writer < count_of self.now }
+        // It is so by how the reader stands to the writer, and what is known of it.
+        ensures goes_on { (t : Tracked) → Tracks self.now writer t
+            → result ≡ goes_on (how_at self.now writer) t }
+    {
+        let known = &self.writers[writer];
+        known.may_go_on()
+    }
+
+    /// The place at a writer is tried again: where it has begun it goes as far as it can by what is known already, as
+    /// after a change was taken for which there was no room behind it. At any other place nothing is done.
+    ///
+    /// # Errors
+    ///
+    /// `Memory` where a growth was refused, and never after `reserve`, or `reserve_for` of this writer; what is known
+    /// and what happened is as it was.
+    ///
+    /// RTPS 2.5, 8.4.12 (reliable StatefulReader).
+    pub fn resume<S: Sink>(
+        &mut self,
+        sink: &mut S,
+        writer: usize,
+        moment: Moment,
+    ) -> Result<Step, Code>
+        // The writer is a known one.
+        requires matched { writer < count_of self.old }
+        // The sink knows the matched writers.
+        requires writers { count_of self.old ≤ length (S.qos sink.old).writers }
+        // Where the place has begun it goes on from what is known, else nothing is done.
+        ensures meets { IfOk result (λ step. (t : Tracked) (h : List Happening)
+            → Tracks self.old writer t → S.stands sink.old h
+            → MeetsNews (how_at self.old writer) (match_at (S.qos sink.old) writer moment)
+            no_news t h step (Tracks self.new writer) (S.stands sink.new)) }
+        // It passes over 257 runs at most.
+        ensures few { IfOk result (λ step. length step.passed ≤ 257) }
+        // Nothing else changes; a refusal, for want of memory alone, changes nothing at all.
+        ensures keeps { KeepsRest S.stands S.qos S.spare writer
+            self.old self.new sink.old sink.new result }
+    {
+        let known = &mut self.writers[writer];
+        let source = source_of(writer, moment);
+        known.resume(sink, &source)
     }
 
     /// A HEARTBEAT of a matched writer was received. It is accepted if its count is greater than those before: then the

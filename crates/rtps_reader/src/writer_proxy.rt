@@ -2,7 +2,7 @@
 //!
 //! RTPS 2.5, 8.4.10 (WriterProxy, ChangeFromWriter).
 
-ghost use Rattle.std.specs.Prelude.{◌≡◌, ℕ, ◌+◌, ◌-◌, ◌*◌, ◌^◌, ◌<◌, ◌≤◌, ◌&&◌, ◌||◌, ◌==◌, min, List, ◌∷◌, ◌++◌, [], length, true, false, None, Some, if◌then◌else◌, OnOk, IsOk, IfOk, IfErr, IfSome, vec_len, vec_capacity};
+ghost use Rattle.std.specs.Prelude.{◌≡◌, ℕ, ◌+◌, ◌-◌, ◌*◌, ◌^◌, ◌<◌, ◌≤◌, ◌&&◌, ◌||◌, ◌==◌, min, List, ◌∷◌, ◌++◌, [], length, not, true, false, None, Some, if◌then◌else◌, OnOk, IsOk, IfOk, IfErr, IfSome, vec_len, vec_capacity};
 ghost use Rattle.dds_base.specs.Bounds.{max_sn, window_width};
 ghost use Rattle.dds_base.specs.declared.code.Code.TheVariants.{Memory};
 ghost use Rattle.dds_base.specs.declared.happening.Happening.{Happening};
@@ -10,7 +10,7 @@ ghost use Rattle.dds_base.specs.Ownership.{IsMatched};
 ghost use Rattle.dds_base.specs.Counts.{is_later};
 ghost use Rattle.rtps_sets.specs.Window.{mark_of, window_place, can_mark};
 ghost use Rattle.rtps_sets.specs.declared.window.Mark.TheVariants as mark;
-ghost use Rattle.rtps_reader.specs.Tracked.{fresh, is_missing, is_named, is_open, is_passable, may_take, with_data, with_gap, with_heartbeat, SameTracked};
+ghost use Rattle.rtps_reader.specs.Tracked.{fresh, is_missing, is_named, is_open, is_passable, is_waiting, may_take, with_data, with_gap, with_heartbeat, SameTracked};
 ghost use Rattle.rtps_reader.specs.Moving.{ArePassable, FindsNoRoom, IsNext, PassesOver, HandsOn, Moves, HeartbeatMoves, JumpMoves, HasMoved, match_of, mark_named, CanMove};
 ghost use Rattle.rtps_reader.specs.Jump.{run_of, passed_from};
 ghost use Rattle.rtps_reader.specs.Advance.{Stays};
@@ -224,6 +224,15 @@ impl WriterProxy {
         ensures { result ≡ is_later (tracked self.now).count count }
     {
         is_later(self.count, count)
+    }
+
+    /// Whether the place may go on by what is known already.
+    pub fn may_go_on(&self) -> bool
+        requires sound { IsSound self.now }
+        ensures { result ≡ not (is_waiting (tracked self.now)) }
+    {
+        let place = self.window.place().number();
+        !(self.is_missing(place) && self.first <= place)
     }
 
     /// Makes all memory that the next submessage may take, here and at the sink. It changes that alone.
@@ -666,6 +675,24 @@ impl WriterProxy {
     {
         self.reserve(sink)?;
         self.make_irrelevant(start, list);
+        Ok(self.moved(sink, source))
+    }
+
+    /// The place is tried again.
+    pub fn resume<S: Sink>(&mut self, sink: &mut S, source: &Source) -> Result<Step, Code>
+        requires sound { IsSound self.old }
+        requires matched { IsMatched (S.qos sink.old) source.now.publication }
+        ensures moves { IfOk result
+            (λ step. Moves (match_of (S.qos sink.old) source.now) (S.stands sink.old)
+            (S.stands sink.new)
+            (tracked self.old) step.to step.passed (tracked self.new)) }
+        ensures quiet { IfOk result
+            (λ step. (step.heard ≡ false) × (step.acknack ≡ None) × (step.begun ≡ None)) }
+        ensures few { IfOk result (λ step. length step.passed ≤ 257) }
+        ensures keeps { ProxyKeepsRest S.stands S.qos S.spare
+            self.old self.new sink.old sink.new result }
+    {
+        self.reserve(sink)?;
         Ok(self.moved(sink, source))
     }
 
