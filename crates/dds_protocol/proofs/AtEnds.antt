@@ -1,5 +1,5 @@
 -- What the end of an event leaves as it was.
-use Rattle.std.proofs.Common.{◌≡◌, ◌≤◌, ◌+◌, ℕ, zero, suc, Bool, true, false, List, [], ◌∷◌, Option, Some, None, length, arith, refl, ap, ◌∙◌}
+use Rattle.std.proofs.Common.{◌≡◌, ◌≤◌, ◌+◌, ◌==◌, ℕ, zero, suc, Bool, true, false, List, [], ◌∷◌, Option, Some, None, length, arith, refl, ap, ◌∙◌}
 use Rattle.std.specs.Prelude.{nat_lt, if◌then◌else◌}
 use Rattle.std.proofs.lemmas.Bool.Decides.{nat_tests}
 use Rattle.dds_base.specs.declared.entity.Entity.{Entity}
@@ -7,17 +7,19 @@ use Rattle.dds_base.specs.declared.entity.Entity.TheVariants as entity
 use Rattle.dds_base.specs.declared.happening.Happening.{Happening}
 use Rattle.dds_base.specs.declared.happening.Happening.TheVariants.{Came, Died, Heard, Left, Looked, Passed, Read, Took}
 use Rattle.dds_base.specs.declared.qos.ReaderQos.{ReaderQos}
+use Rattle.dds_base.proofs.OwnerLaws.{eqb-refl}
 use Rattle.dds_base.specs.Liveliness.{liveliness_changed_status, turns_alive}
 use Rattle.dds_base.specs.Statuses.{sample_lost_status}
 use Rattle.dds_base.specs.StatusFlags.{brings_sample, data_available_at, is_after, turned_at}
 use Rattle.dds_base.specs.Written.{liveliness_lost_status}
 use Rattle.dds_notices.specs.declared.notice.Status.{Status}
-use Rattle.dds_notices.specs.declared.notice.Status.TheVariants.{SampleLost, DataAvailable, LivelinessLost, LivelinessChanged}
+use Rattle.dds_notices.specs.declared.notice.Status.TheVariants.{SampleLost, DataAvailable, LivelinessLost, LivelinessChanged, PublicationMatched, SubscriptionMatched}
 use Rattle.dds_notices.proofs.ListenerLaws.{NobodyTakes}
 use Rattle.dds_notices.specs.Listeners.{taker_of}
 use Rattle.dds_machine.specs.Passing.{passed_at}
-use Rattle.dds_machine.specs.Part.{Part, Reader, Writer, own_reader, own_writer}
-use Rattle.dds_machine.specs.Noticing.{at_end, data_raised, data_told, each_told, loss_raised, losses_of, lost_raised, lost_told, reader_told, told, told_of, told_to, turn_raised, turn_told, writer_told}
+use Rattle.dds_machine.specs.Part.{Part, Reader, Writer, own_proxies, own_reader, own_writer}
+use Rattle.dds_machine.specs.Matching.{attached_count, publication_matched, subscription_matched}
+use Rattle.dds_machine.specs.Noticing.{at_end, data_raised, data_told, each_told, loss_raised, loss_told, losses_of, lost_raised, lost_told, publication_raised, publication_told, reader_told, subscription_raised, subscription_told, told, told_of, told_to, turn_raised, turn_told, writer_told}
 
 -- ---- what holds of each notice
 
@@ -42,11 +44,22 @@ module _ (R : Part → Part → Type 0) (same : (part : Part) → R part part) (
   reader_so before n part =
       let lost : Part = lost_told before n part in
       let data_too : Part = data_told before n lost in
+      let turn_too : Part = turn_told before n data_too in
       on part lost (reader_told before n part)
       (told_so part (entity.Reader n) (lost_raised (own_reader before n) (own_reader part n)))
       (on lost data_too (reader_told before n part)
       (told_so lost (entity.Reader n) (data_raised (own_reader before n) (own_reader lost n)))
-      (told_so data_too (entity.Reader n) (turn_raised (own_reader before n) (own_reader data_too n))))
+      (on data_too turn_too (reader_told before n part)
+      (told_so data_too (entity.Reader n) (turn_raised (own_reader before n) (own_reader data_too n)))
+      (told_so turn_too (entity.Reader n)
+      (subscription_raised (own_proxies before n) (own_proxies turn_too n) (own_reader turn_too n)))))
+
+  writer_so : (before : Part) (n : ℕ) (part : Part) → R part (writer_told before n part)
+  writer_so before n part =
+      let lost : Part = loss_told before n part in
+      on part lost (writer_told before n part)
+      (told_so part (entity.Writer n) (loss_raised (own_writer before n) (own_writer part n)))
+      (told_so lost (entity.Writer n) (publication_raised (own_writer before n) (own_writer lost n)))
 
   -- what holds of each notice, and of notices in turn, holds of the end of an event
   pub end_so : (before part : Part) → R part (at_end before part)
@@ -54,9 +67,7 @@ module _ (R : Part → Part → Type 0) (same : (part : Part) → R part part) (
   end_so before part =
       let writers : Part = each_told (writer_told before) (length part.rtps.writers) part in
       on part writers (at_end before part)
-      (each_so (writer_told before)
-      (λ n p. told_so p (entity.Writer n) (loss_raised (own_writer before n) (own_writer p n)))
-      (length part.rtps.writers) part)
+      (each_so (writer_told before) (writer_so before) (length part.rtps.writers) part)
       (each_so (reader_told before) (reader_so before) (length part.dds.readers) writers)
 
 -- a value of a part that no notice touches is the same at the end of an event
@@ -69,6 +80,7 @@ end_keeps f same before part =
 watch_same : (part : Part) (e : Entity) (status : Status) → (told_of part e status).dds.watch ≡ part.dds.watch
 watch_same part entity.Participant status = refl
 watch_same part (entity.Writer n) status = refl
+watch_same part (entity.Reader n) (SubscriptionMatched values) = refl
 watch_same part (entity.Reader n) status = refl
 
 -- what is watched
@@ -77,7 +89,9 @@ end_watch before part = end_keeps (λ (p : Part). p.dds.watch) watch_same before
 
 rows_same : (part : Part) (e : Entity) (status : Status) → (told_of part e status).rtps.readers ≡ part.rtps.readers
 rows_same part entity.Participant status = refl
+rows_same part (entity.Writer n) (PublicationMatched values) = refl
 rows_same part (entity.Writer n) status = refl
+rows_same part (entity.Reader n) (SubscriptionMatched values) = refl
 rows_same part (entity.Reader n) status = refl
 
 -- the places of readers
@@ -98,20 +112,27 @@ each_untold tell part one (suc n) = ap (λ (p : Part). tell (suc n) p) (each_unt
 
 reader_untold : (before part : Part) → NobodyTakes part.dds.listeners → (n : ℕ) → reader_told before n part ≡ part
 reader_untold before part nobody n =
-    ap (λ (p : Part). turn_told before n (data_told before n p))
+    ap (λ (p : Part). subscription_told before n (turn_told before n (data_told before n p)))
     (untold part nobody (entity.Reader n) (lost_raised (own_reader before n) (own_reader part n)))
-    ∙ (ap (λ (p : Part). turn_told before n p)
+    ∙ (ap (λ (p : Part). subscription_told before n (turn_told before n p))
     (untold part nobody (entity.Reader n) (data_raised (own_reader before n) (own_reader part n)))
-    ∙ untold part nobody (entity.Reader n) (turn_raised (own_reader before n) (own_reader part n)))
+    ∙ (ap (λ (p : Part). subscription_told before n p)
+    (untold part nobody (entity.Reader n) (turn_raised (own_reader before n) (own_reader part n)))
+    ∙ untold part nobody (entity.Reader n)
+    (subscription_raised (own_proxies before n) (own_proxies part n) (own_reader part n))))
+
+writer_untold : (before part : Part) → NobodyTakes part.dds.listeners → (n : ℕ) → writer_told before n part ≡ part
+writer_untold before part nobody n =
+    ap (λ (p : Part). publication_told before n p)
+    (untold part nobody (entity.Writer n) (loss_raised (own_writer before n) (own_writer part n)))
+    ∙ untold part nobody (entity.Writer n) (publication_raised (own_writer before n) (own_writer part n))
 
 -- an event's end changes nothing then
 pub end_untold : (before part : Part) → NobodyTakes part.dds.listeners → at_end before part ≡ part
 unfolding at_end
 end_untold before part nobody =
     ap (λ (p : Part). each_told (reader_told before) (length part.dds.readers) p)
-    (each_untold (writer_told before) part
-    (λ n. untold part nobody (entity.Writer n) (loss_raised (own_writer before n) (own_writer part n)))
-    (length part.rtps.writers))
+    (each_untold (writer_told before) part (writer_untold before part nobody) (length part.rtps.writers))
     ∙ each_untold (reader_told before) part (reader_untold before part nobody) (length part.dds.readers)
 
 -- ---- where nothing happened
@@ -161,6 +182,9 @@ turned_within (e ∷ h) = none_after (turns_alive h e) (turned_at h) (length h) 
 not_above : (a b : ℕ) → b ≤ a → nat_lt a b ≡ false
 not_above a b le = grind (arith, nat_tests, le)
 
+same_number : (n : ℕ) (status : Option Status) → (if n == n then None else status) ≡ None
+same_number n status = ap (λ (b : Bool). if b then None else status) (eqb-refl n)
+
 not_raised : (raised : Bool) (status : Status) → raised ≡ false → (if raised then Some status else None) ≡ None
 not_raised raised status not = ap (λ (x : Bool). if x then Some status else None) not
 
@@ -177,16 +201,21 @@ reader_quiet part n =
     not_raised (is_after (length r.happened) (turned_at r.happened))
     (LivelinessChanged (liveliness_changed_status r.qos r.happened r.seen.alive r.seen.not_alive))
     (turned_within r.happened) in
-    ap (λ (o : Option Status). turn_told part n (data_told part n (told part (entity.Reader n) o))) lost
-    ∙ (ap (λ (o : Option Status). turn_told part n (told part (entity.Reader n) o)) data_too
-    ∙ ap (λ (o : Option Status). told part (entity.Reader n) o) turned)
+    ap (λ (o : Option Status). subscription_told part n (turn_told part n (data_told part n (told part (entity.Reader n) o))))
+    lost
+    ∙ (ap (λ (o : Option Status). subscription_told part n (turn_told part n (told part (entity.Reader n) o))) data_too
+    ∙ (ap (λ (o : Option Status). subscription_told part n (told part (entity.Reader n) o)) turned
+    ∙ ap (λ (o : Option Status). told part (entity.Reader n) o)
+    (same_number (attached_count (own_proxies part n)) (Some (SubscriptionMatched (subscription_matched (own_proxies part n) r))))))
 
 writer_quiet : (part : Part) (n : ℕ) → writer_told part n part ≡ part
 writer_quiet part n =
     let w : Writer = own_writer part n in
-    ap (λ (o : Option Status). told part (entity.Writer n) o)
+    ap (λ (o : Option Status). publication_told part n (told part (entity.Writer n) o))
     (not_raised (nat_lt (losses_of w) (losses_of w)) (LivelinessLost (liveliness_lost_status w.lease w.written))
     (not_above (losses_of w) (losses_of w) (omega arith)))
+    ∙ ap (λ (o : Option Status). told part (entity.Writer n) o)
+    (same_number (length w.matched) (Some (PublicationMatched (publication_matched w))))
 
 -- an event that changes nothing raises nothing, and nobody is told
 pub end_same : (part : Part) → at_end part part ≡ part

@@ -5,6 +5,7 @@ use Rattle.std.specs.Option.{option_map_or}
 use Rattle.std.proofs.lemmas.Bool.{cases_lt}
 use Rattle.std.proofs.lemmas.Option.{same_Some}
 use Rattle.dds_base.specs.declared.change.Change.{Change}
+use Rattle.dds_base.specs.declared.code.Code.{Code}
 use Rattle.dds_base.specs.declared.config.Config.{Config}
 use Rattle.dds_base.specs.declared.happening.PassedRun.{PassedRun}
 use Rattle.dds_base.specs.declared.qos.HistoryQos.{HistoryQos}
@@ -12,16 +13,16 @@ use Rattle.dds_base.specs.declared.qos.HistoryQos.TheVariants.{KeepAll, KeepLast
 use Rattle.dds_base.specs.Kept.{change_at, is_dropped_by, later_changes}
 use Rattle.dds_base.specs.declared.qos.ReaderQos.{ReaderQos}
 use Rattle.dds_base.specs.Places.{WriterGrounds, Match, PlaceWith, AllCome, GoesTo, MayPassOver}
-use Rattle.dds_machine.specs.declared.endpoint.Endpoint.{Endpoint}
+use Rattle.dds_base.specs.declared.endpoint.Endpoint.{Endpoint}
 use Rattle.dds_machine.specs.declared.event.WorldEvent.{WorldEvent}
 use Rattle.dds_machine.specs.declared.event.WorldEvent.TheVariants as world
 use Rattle.dds_machine.specs.declared.reply.Move.{Move}
 use Rattle.dds_machine.specs.declared.reply.Move.TheVariants.{Place, Acknowledged, Heard, Begun as HasBegun}
 use Rattle.dds_machine.specs.declared.reply.Reply.{Reply}
 use Rattle.dds_machine.specs.declared.reply.Reply.TheVariants.{Reported}
-use Rattle.dds_machine.specs.Part.{WriterProxy, Part, Rtps, no_part, own_proxies, own_reader, place_of, with_place, with_begun, with_heard, writer_changes}
+use Rattle.dds_machine.specs.Part.{WriterProxy, Part, no_part, own_proxies, own_reader, place_of, with_place, with_begun, with_heard, writer_changes}
 use Rattle.dds_machine.specs.Moves.{as_to, match_of, position_at, IsMove, AreMoves, DeliveryStep}
-use Rattle.dds_machine.specs.Calls.{Effect, nothing, writes, effect, effect_of}
+use Rattle.dds_machine.specs.Matching.{Telling, TellStep}
 use Rattle.dds_machine.specs.Machine.{Machine, AllTests, part_at, writer_at, grounds_of, Step}
 use Rattle.dds_machine.specs.Numbered.{numbered, with_numbered}
 use Rattle.dds_protocol.specs.Peer.{Peer, no_peer}
@@ -30,8 +31,10 @@ use Rattle.dds_protocol.specs.Opening.{opening_world}
 use Rattle.dds_machine.specs.Runs.{Run}
 use Rattle.dds_protocol.specs.Bounds.{IsBounded}
 use Rattle.dds_machine.proofs.Tables.{begun-cases, numbered-cases, place-cases, place-heard}
-use Rattle.dds_protocol.proofs.Growth.{MachineGrows, with_part, with_part-grows, CallStep-grows, TickStep-grows, TickStep-rows, DeliveryStep-grows, writer-changes, change_at-within}
+use Rattle.dds_protocol.proofs.Resumed.{as_moves}
+use Rattle.dds_protocol.proofs.Growth.{AreMoves-grows, MachineGrows, with_part, with_part-grows, CallStep-grows, CallStep-rows, TickStep-grows, TickStep-rows, DeliveryStep-grows, writer-changes, change_at-within}
 use Rattle.dds_protocol.proofs.Owing.{owed_within}
+use Rattle.dds_protocol.proofs.Told.{telling_places, told_so, untold_or_told}
 use Rattle.dds_protocol.proofs.Composed.{parts_at}
 use Rattle.dds_machine.specs.Noticing.{machine_ended}
 use Rattle.dds_protocol.proofs.EndsBeside.{ended_bounded}
@@ -173,13 +176,18 @@ delivery_within : (m : Machine) (i : ℕ) (old : Part) (reply : Reply) (new : Pa
 delivery_within m i old (Reported report) new h low = moves_within m i old report.moves new h low
 delivery_within m i old reply new h low = absurd h
 
-effect_rows : (old : Rtps) (e : Effect) → (effect old e).readers ≡ old.readers
-effect_rows old nothing = refl
-effect_rows old (writes w entry) = refl
-
 rows_within : (m : Machine) (old new : Part) → new.rtps.readers ≡ old.rtps.readers → Within m old → Within m new
 rows_within m old new e low r =
     subst (λ (rows : List (List WriterProxy)). RowsWithin m (numbered rows r [])) (sym e) (low r)
+
+-- a telling puts a place at 1, or at none
+pub told_within : (m : Machine) (old : Part) (t : Telling) (refusal : Option Code) (new : Part)
+    → TellStep old t refusal new → Within m old → Within m new
+told_within m old t refusal new h low =
+    told_so (λ a b. Within m a → Within m b) old t (λ x. x) (λ x r w p e.
+    ⊎_elim (λ same. x r w p (sym same ∙ e))
+    (λ fresh. let one : 1 ≡ p = same_Some 1 p (sym fresh.1 ∙ e) in omega (arith, one))
+    (telling_places old.rtps t r w)) refusal new h low
 
 -- the machine with another part of one peer
 pub part_within : (m : Machine) (peer : ℕ) (after : Part) → MachineGrows m (with_part m peer after) → IsBounded m
@@ -200,13 +208,14 @@ part_bounded m i b r w p h = b (record { peer = i; number = r }) w p h
 pub steps_bounded : (tests : AllTests) (sent : ℕ) (m : Machine) (ev : WorldEvent) (reply : Reply) (new : Machine)
     → IsBounded m → Step tests sent m ev reply new → IsBounded new
 steps_bounded tests sent m (world.Call peer call) reply new b (inl h) =
-    let same : h.after.rtps.readers ≡ (part_at m peer).rtps.readers =
-    ap (λ (x : Rtps). x.readers) h.step.rtps ∙ effect_rows (part_at m peer).rtps (effect_of (part_at m peer) call reply)
-    in
     subst (λ (x : Machine). IsBounded x) (sym h.changed)
     (part_within m peer h.after
     (with_part-grows m peer h.after (CallStep-grows (tests peer) (part_at m peer) call reply h.after h.step)) b
-    (rows_within m (part_at m peer) h.after same (part_bounded m peer b)))
+    (⊎_elim
+    (λ untold. rows_within m (part_at m peer) h.after
+    (CallStep-rows (tests peer) (part_at m peer) call reply h.after h.step untold) (part_bounded m peer b))
+    (λ told. told_within m (part_at m peer) told.0 None h.after told.1 (part_bounded m peer b))
+    (untold_or_told (tests peer) (part_at m peer) call reply h.after h.step)))
 steps_bounded tests sent m (world.Call peer call) reply new b (inr h) =
     subst (λ (x : Machine). IsBounded x) (sym h.1.1) b
 steps_bounded tests sent m (world.Tick peer now) reply new b (inl h) =
@@ -224,6 +233,14 @@ steps_bounded tests sent m (world.Deliver peer packet) reply new b (inl h) =
     (DeliveryStep-grows (grounds_of m peer) (part_at m peer) reply h.2.after h.2.step)) b
     (delivery_within m peer (part_at m peer) reply h.2.after h.2.step (part_bounded m peer b)))
 steps_bounded tests sent m (world.Deliver peer packet) reply new b (inr h) =
+    subst (λ (x : Machine). IsBounded x) (sym h.1.1) b
+steps_bounded tests sent m (world.Resume peer k) reply new b (inl h) =
+    let made = as_moves (grounds_of m peer) (part_at m peer) k reply h.after h.step in
+    subst (λ (x : Machine). IsBounded x) (sym h.changed)
+    (part_within m peer h.after
+    (with_part-grows m peer h.after (AreMoves-grows (grounds_of m peer) (part_at m peer) made.0 h.after made.1)) b
+    (moves_within m peer (part_at m peer) made.0 h.after made.1 (part_bounded m peer b)))
+steps_bounded tests sent m (world.Resume peer k) reply new b (inr h) =
     subst (λ (x : Machine). IsBounded x) (sym h.1.1) b
 
 -- at the opening each place is 1

@@ -17,9 +17,10 @@ use Rattle.dds_conditions.specs.Watched.{Watched, with_enabled, without}
 use Rattle.dds_machine.specs.declared.call.Call.{Call}
 use Rattle.dds_machine.specs.declared.call.Call.TheVariants as call
 use Rattle.dds_machine.specs.declared.reply.Reply.{Reply}
-use Rattle.dds_machine.specs.declared.reply.Reply.TheVariants.{Done, Samples, KeyValue, Refused}
-use Rattle.dds_machine.specs.Part.{Part, Dds, Seen}
-use Rattle.dds_machine.specs.Calls.{after_look, with_happening, IsDoneUnless, IsAnswered, IsAnsweredInMemory, AnswersLook, AnswersAccess, AnswersByCondition, Answers}
+use Rattle.dds_machine.specs.declared.reply.Reply.TheVariants.{Done, InstanceHandle, Samples, KeyValue, Refused}
+use Rattle.dds_machine.specs.Part.{Part, Dds, Seen, own_proxies}
+use Rattle.dds_machine.specs.Calls.{after_look, after_matches_look, with_happening, IsDoneUnless, IsAnswered, IsAnsweredInMemory, AnswersLook, AnswersAccess, AnswersByCondition, AnswersTelling, Answers, reader_told}
+use Rattle.dds_machine.specs.Matching.{Telling, MatchReader, UnmatchReader, MatchWriter, UnmatchWriter, handle_among, seen_after_telling}
 use Rattle.dds_machine.specs.Watching.{Test, Tests}
 
 -- of the WaitSets: nothing; one of them is another, or none; there is one more; or a condition is detached from each
@@ -29,8 +30,8 @@ pub data SetsChange (old new : List (Option Waiting)) : Type 0 where
   one_made : (wait_set : Option Waiting) → new ≡ old ++ wait_set ∷ [] → SetsChange old new
   all_without : (c : Cond) → new ≡ map (without c) old → SetsChange old new
 
--- nothing; an access is entered at a reader; a reader's statuses were looked at; or this is watched from then on, with
--- the filters that there were
+-- nothing; an access is entered at a reader; a reader's statuses were looked at; this is watched from then on, with the
+-- filters that there were; an end is told of a match, or that it is over; or a reader's matches were looked at
 pub data CallChange (old : Part) (new : Dds) : Type 0 where
   unchanged : new ≡ old.dds → CallChange old new
   reads : (reader : ℕ) (samples : List SamplePosition) → new ≡ with_happening old reader (HasRead samples)
@@ -41,11 +42,23 @@ pub data CallChange (old : Part) (new : Dds) : Type 0 where
   watches : (after : Watched) → after.filters ≡ old.dds.watch.filters
       → SetsChange old.dds.watch.wait_sets after.wait_sets → new ≡ record old.dds { watch = after }
       → CallChange old new
+  is_told : (telling : Telling) → new ≡ seen_after_telling old telling → CallChange old new
+  sees_matches : (reader : ℕ) → new ≡ after_matches_look old reader → CallChange old new
+
+-- a telling leaves what is watched
+pub telling_watch : (old : Part) (t : Telling) → (seen_after_telling old t).watch ≡ old.dds.watch
+telling_watch old (MatchReader w v reliable) = refl
+telling_watch old (UnmatchReader w v) = refl
+telling_watch old (MatchWriter r w) = refl
+telling_watch old (UnmatchWriter r w) = refl
 
 -- ---- by what is then there
 
 by_look : (old : Part) (reader : ℕ) (seen : Seen) → CallChange old (after_look old reader seen)
 by_look old reader seen = looks reader seen refl
+
+by_matches : (old : Part) (reader : ℕ) → CallChange old (after_matches_look old reader)
+by_matches old reader = sees_matches reader refl
 
 by_watch : (old : Part) (after : Watched) → after.filters ≡ old.dds.watch.filters
     → SetsChange old.dds.watch.wait_sets after.wait_sets → CallChange old (record old.dds { watch = after })
@@ -75,6 +88,7 @@ by_detaching sets c = all_without c refl
 ruleset after_calls = (
   unchanged,
   by_look,
+  by_matches,
   by_watch,
   as_before,
   by_one,
@@ -128,6 +142,12 @@ by_condition entry old k new enters (Some code) test selection reply a = unchang
 by_condition entry old k new enters None test selection reply a =
     accessed entry old k new enters test selection reply a
 
+-- a telling
+told_or_not : (telling : Telling) (answer : Reply) (old : Part) (reply : Reply) (new : Dds)
+    → AnswersTelling telling answer old reply new → CallChange old new
+told_or_not telling answer old (Refused code) new a = unchanged a.2
+told_or_not telling answer old reply new a = is_told telling a.2
+
 -- what any call may change; the last row is for those that need no memory, and are answered in one way
 pub changes_of : (tests : Tests) (old : Part) (c : Call) (reply : Reply) (new : Dds)
     → Answers tests old c reply new → CallChange old new
@@ -153,4 +173,10 @@ changes_of tests old call.CreateWaitSet reply new a = in_memory _ _ _ _ old repl
 changes_of tests old (call.AttachCondition s c) reply new a = in_memory _ _ _ _ old reply new (search after_calls) a
 changes_of tests old (call.GetConditions s) reply new a = in_memory _ _ _ _ old reply new (search after_calls) a
 changes_of tests old (call.WaitLook s) reply new a = looked _ _ old s reply new a
+changes_of tests old (call.MatchReader v r) reply new a =
+    told_or_not (reader_told old v r) Done old reply new a
+changes_of tests old (call.UnmatchReader v r) reply new a = told_or_not (UnmatchReader v r) Done old reply new a
+changes_of tests old (call.MatchWriter v w) reply new a =
+    told_or_not (MatchWriter v w) (InstanceHandle (handle_among (own_proxies old v) w)) old reply new a
+changes_of tests old (call.UnmatchWriter v w) reply new a = told_or_not (UnmatchWriter v w) Done old reply new a
 changes_of tests old c reply new a = answered _ _ _ old reply new (search after_calls) a

@@ -1,4 +1,4 @@
--- Where nobody comes or goes nobody has.
+-- While nobody comes or goes nobody has.
 use Rattle.std.proofs.Common.{◌≡◌, ℕ, zero, suc, ◌+◌, ◌==◌, ◌&&◌, ◌≤◌, Bool, true, false, cond, get_or, map, List, [], ◌∷◌, ◌++◌, Option, None, Some, refl, subst, ap, sym, ◌∙◌, inl, inr, ⊎_elim, arith}
 use Rattle.std.specs.Prelude.{IsSome}
 use Rattle.std.specs.Option.{option_map, option_map_or}
@@ -9,31 +9,31 @@ use Rattle.dds_base.specs.declared.config.WriterConfig.{WriterConfig}
 use Rattle.dds_base.specs.declared.config.ReaderConfig.{ReaderConfig}
 use Rattle.dds_base.specs.declared.qos.ReaderQos.{ReaderQos}
 use Rattle.dds_base.specs.Matched.{is_reliable, is_reliable_reader, same_topic}
-use Rattle.dds_machine.specs.declared.endpoint.Endpoint.{Endpoint}
+use Rattle.dds_base.specs.declared.endpoint.Endpoint.{Endpoint}
 use Rattle.dds_machine.specs.declared.event.WorldEvent.{WorldEvent}
 use Rattle.dds_machine.specs.declared.event.WorldEvent.TheVariants as world
 use Rattle.dds_machine.specs.declared.reply.Move.{Move}
 use Rattle.dds_machine.specs.declared.reply.Move.TheVariants.{Place, Acknowledged, Heard, Begun as HasBegun}
 use Rattle.dds_machine.specs.declared.reply.Reply.{Reply}
-use Rattle.dds_machine.specs.declared.reply.Reply.TheVariants.{Reported}
-use Rattle.dds_machine.specs.Calls.{effect_of}
+use Rattle.dds_machine.specs.declared.reply.Reply.TheVariants.{Refused, Reported}
 use Rattle.dds_machine.specs.Machine.{Machine, AllTests, part_at, place_at, writer_at, grounds_of, Step}
-use Rattle.dds_machine.specs.Moves.{Grounds, IsMove, AreMoves, DeliveryStep}
+use Rattle.dds_machine.specs.Moves.{Grounds, IsMove, AreMoves, DeliveryStep, ResumeStep}
 use Rattle.dds_machine.specs.Noticing.{machine_ended}
 use Rattle.dds_machine.specs.Numbered.{numbered, with_numbered}
 use Rattle.dds_machine.specs.Opening.{matched_writers, reliable_readers, opening_writer, opening_part, opening}
-use Rattle.dds_machine.specs.Part.{Away, Waiting, Begun, same_endpoint, ReaderProxy, WriterProxy, Writer, Rtps, Part, IsAtMost, no_part, no_writer, row_of, with_row, acknowledged_of, own_proxies, own_reader, own_writer, with_acknowledged, with_place, with_heard}
+use Rattle.dds_machine.specs.Part.{Away, Waiting, Begun, same_endpoint, ReaderProxy, WriterProxy, Writer, Part, IsAtMost, no_part, no_writer, row_of, with_row, acknowledged_of, own_proxies, own_reader, own_writer, with_acknowledged, with_place, with_heard}
 use Rattle.dds_machine.specs.Runs.{Run}
 use Rattle.dds_machine.proofs.Tables.{at_most_on, numbered-cases, row-cases}
-use Rattle.dds_protocol.specs.Closed.{BeginNone, IsClosed, NoneBegins}
+use Rattle.dds_protocol.specs.Closed.{BeginNone, IsClosed, NobodyTold, NoneBegins, TellsNobody}
 use Rattle.dds_protocol.specs.Noticing.{world_ended}
 use Rattle.dds_protocol.specs.Opening.{opening_world}
 use Rattle.dds_protocol.specs.World.{WorldState, machine_of}
 use Rattle.dds_protocol.proofs.Alike.{AlikeParts, alike_readers}
 use Rattle.dds_protocol.proofs.EndsBeside.{ended_alike, machine_ends}
-use Rattle.dds_protocol.proofs.Ends.{EndsStay, alike_ends, effect_proxies, ended_stays}
+use Rattle.dds_protocol.proofs.Ends.{EndsStay, alike_ends, call_proxies, call_readers, ended_stays}
 use Rattle.dds_protocol.proofs.EndsOpened.{opens_rows, opens_places}
-use Rattle.dds_protocol.proofs.Growth.{CallStep-readers, TickStep-rows, TickStep-acknowledged}
+use Rattle.dds_protocol.proofs.Resumed.{as_moves, places_begin_none}
+use Rattle.dds_protocol.proofs.Growth.{TickStep-rows, TickStep-acknowledged}
 use Rattle.dds_protocol.proofs.Opened.{opening_is, writers_in, readers_in}
 use Rattle.dds_protocol.proofs.SameBeside.{SameBeside, parts_alike}
 
@@ -227,26 +227,32 @@ ended_closed before e m c i =
     alike_closed (part_at m i) (part_at (machine_ended before e m) i) (ended_alike before e m i) (c i)
 
 step_closed : (tests : AllTests) (sent : ℕ) (m : Machine) (ev : WorldEvent) (reply : Reply) (new : Machine)
-    → AllClosed m → Step tests sent m ev reply new → AllClosed new
-step_closed tests sent m (world.Call peer c) reply new a (inl h) =
+    → TellsNobody ev → AllClosed m → Step tests sent m ev reply new → AllClosed new
+step_closed tests sent m (world.Call peer c) reply new none a (inl h) =
     let old : Part = part_at m peer in
     with_closed m peer h.after new h.changed a
-    (same_closed old h.after
-    (λ r. ap (λ (x : Rtps). numbered x.readers r []) h.step.rtps
-    ∙ ap (λ (rows : List (List WriterProxy)). numbered rows r []) (effect_proxies old.rtps (effect_of old c reply)))
-    (CallStep-readers (tests peer) old c reply h.after h.step) (a peer))
-step_closed tests sent m (world.Call peer c) reply new a (inr h) = subst (λ (x : Machine). AllClosed x) (sym h.1.1) a
-step_closed tests sent m (world.Tick peer now) reply new a (inl h) =
+    (same_closed old h.after (call_proxies (tests peer) old peer c reply h.after none h.step)
+    (call_readers (tests peer) old peer c reply h.after none h.step) (a peer))
+step_closed tests sent m (world.Call peer c) reply new none a (inr h) =
+    subst (λ (x : Machine). AllClosed x) (sym h.1.1) a
+step_closed tests sent m (world.Tick peer now) reply new none a (inl h) =
     with_closed m peer h.after new h.changed a
     (same_closed (part_at m peer) h.after
     (λ r. ap (λ (rows : List (List WriterProxy)). numbered rows r [])
     (TickStep-rows (part_at m peer) now reply h.after h.step))
     (TickStep-acknowledged (part_at m peer) now reply h.after h.step) (a peer))
-step_closed tests sent m (world.Tick peer now) reply new a (inr h) = subst (λ (x : Machine). AllClosed x) (sym h.1.1) a
-step_closed tests sent m (world.Deliver peer packet) reply new a (inl h) =
+step_closed tests sent m (world.Tick peer now) reply new none a (inr h) =
+    subst (λ (x : Machine). AllClosed x) (sym h.1.1) a
+step_closed tests sent m (world.Deliver peer packet) reply new none a (inl h) =
     with_closed m peer h.2.after new h.2.changed a
     (delivery_closed (grounds_of m peer) (part_at m peer) reply h.2.after (a peer) h.2.step)
-step_closed tests sent m (world.Deliver peer packet) reply new a (inr h) =
+step_closed tests sent m (world.Deliver peer packet) reply new none a (inr h) =
+    subst (λ (x : Machine). AllClosed x) (sym h.1.1) a
+step_closed tests sent m (world.Resume peer k) reply new none a (inl h) =
+    let made = as_moves (grounds_of m peer) (part_at m peer) k reply h.after h.step in
+    with_closed m peer h.after new h.changed a
+    (moves_closed (grounds_of m peer) (part_at m peer) made.0 h.after (a peer) made.1)
+step_closed tests sent m (world.Resume peer k) reply new none a (inr h) =
     subst (λ (x : Machine). AllClosed x) (sym h.1.1) a
 
 -- a network that differs in what its calls and listeners see is closed too
@@ -259,31 +265,32 @@ closed_beside old new s c =
     (known_on m m' stay (λ w r. c.known w r)) (placed_on m m' stay (λ w r. c.placed w r))
 
 pub stays_closed : (tests : AllTests) (sent : ℕ) (m : Machine) (ev : WorldEvent) (reply : Reply) (new : Machine)
-    → IsClosed m → Step tests sent m ev reply new → IsClosed (machine_ended m ev new)
-stays_closed tests sent m ev reply new c h =
-    let stay : EndsStay m (machine_ended m ev new) = ended_stays tests sent m ev reply new h in
+    → TellsNobody ev → IsClosed m → Step tests sent m ev reply new → IsClosed (machine_ended m ev new)
+stays_closed tests sent m ev reply new none c h =
+    let stay : EndsStay m (machine_ended m ev new) = ended_stays tests sent m ev reply new none h in
     of_parts (machine_ended m ev new)
-    (ended_closed m ev new (step_closed tests sent m ev reply new (parts_of m c) h))
+    (ended_closed m ev new (step_closed tests sent m ev reply new none (parts_of m c) h))
     (known_on m (machine_ended m ev new) stay (λ w r. c.known w r))
     (placed_on m (machine_ended m ev new) stay (λ w r. c.placed w r))
 
 -- so it is of a network at the end of an event
 pub world_closed : (tests : AllTests) (sent : ℕ) (before : WorldState) (e : WorldEvent) (reply : Reply)
-    (world : WorldState) → IsClosed (machine_of before) → Step tests sent (machine_of before) e reply (machine_of world)
+    (world : WorldState) → TellsNobody e → IsClosed (machine_of before)
+    → Step tests sent (machine_of before) e reply (machine_of world)
     → IsClosed (machine_of (world_ended before e world))
-world_closed tests sent before e reply world c h =
+world_closed tests sent before e reply world none c h =
     subst (λ (m : Machine). IsClosed m) (sym (machine_ends before e world))
-    (stays_closed tests sent (machine_of before) e reply (machine_of world) c h)
+    (stays_closed tests sent (machine_of before) e reply (machine_of world) none c h)
 
 pub runs_closed : (tests : AllTests) (sent : ℕ) (m : Machine) (events : List WorldEvent) (replies : List Reply) (last : ℕ)
     (after : Machine)
-    → IsClosed m → Run tests sent m events replies last after → IsClosed after
-runs_closed tests sent m [] [] last after c h = subst (λ (x : Machine). IsClosed x) (sym h.0) c
-runs_closed tests sent m [] (reply ∷ replies) last after c h = absurd h
-runs_closed tests sent m (ev ∷ events) [] last after c h = absurd h
-runs_closed tests sent m (ev ∷ events) (reply ∷ replies) last after c h =
-    runs_closed tests h.1 (machine_ended m ev h.0) events replies last after
-    (stays_closed tests sent m ev reply h.0 c h.2) h.4
+    → NobodyTold events → IsClosed m → Run tests sent m events replies last after → IsClosed after
+runs_closed tests sent m [] [] last after none c h = subst (λ (x : Machine). IsClosed x) (sym h.0) c
+runs_closed tests sent m [] (reply ∷ replies) last after none c h = absurd h
+runs_closed tests sent m (ev ∷ events) [] last after none c h = absurd h
+runs_closed tests sent m (ev ∷ events) (reply ∷ replies) last after none c h =
+    runs_closed tests h.1 (machine_ended m ev h.0) events replies last after none.1
+    (stays_closed tests sent m ev reply h.0 none.0 c h.2) h.4
 
 -- what a delivery reports goes before what the others do
 delivery_begins : (g : Grounds) (old : Part) (peer packet : ℕ) (reply : Reply) (new : Part) (events : List WorldEvent)
@@ -292,6 +299,14 @@ delivery_begins : (g : Grounds) (old : Part) (peer packet : ℕ) (reply : Reply)
 delivery_begins g old peer packet (Reported report) new events replies c h rest =
     (moves_begin_none g old report.moves new c h, rest)
 delivery_begins g old peer packet reply new events replies c h rest = absurd h
+
+-- so does what is reported where places are tried again
+resume_begins : (g : Grounds) (old : Part) (peer k : ℕ) (reply : Reply) (new : Part) (events : List WorldEvent)
+    (replies : List Reply) → ResumeStep g old k reply new → NoneBegins events replies
+    → NoneBegins (world.Resume peer k ∷ events) (reply ∷ replies)
+resume_begins g old peer k (Reported report) new events replies h rest = (places_begin_none k report.moves h.1, rest)
+resume_begins g old peer k (Refused code) new events replies h rest = rest
+resume_begins g old peer k reply new events replies h rest = absurd h
 
 step_begins : (tests : AllTests) (sent : ℕ) (m : Machine) (ev : WorldEvent) (reply : Reply) (new : Machine)
     (events : List WorldEvent) (replies : List Reply) → IsClosed m → Step tests sent m ev reply new
@@ -303,16 +318,21 @@ step_begins tests sent m (world.Deliver peer packet) reply new events replies cl
     (parts_of m closed peer) h.2.step rest
 step_begins tests sent m (world.Deliver peer packet) reply new events replies closed (inr h) rest =
     subst (λ (x : Reply). NoneBegins (world.Deliver peer packet ∷ events) (x ∷ replies)) (sym h.1.0) rest
+step_begins tests sent m (world.Resume peer k) reply new events replies closed (inl h) rest =
+    resume_begins (grounds_of m peer) (part_at m peer) peer k reply h.after events replies h.step rest
+step_begins tests sent m (world.Resume peer k) reply new events replies closed (inr h) rest =
+    subst (λ (x : Reply). NoneBegins (world.Resume peer k ∷ events) (x ∷ replies)) (sym h.1.0) rest
 
 pub begins_none : (tests : AllTests) (sent : ℕ) (m : Machine) (events : List WorldEvent) (replies : List Reply) (last : ℕ)
-    (after : Machine) → IsClosed m → Run tests sent m events replies last after → NoneBegins events replies
-begins_none tests sent m [] [] last after c h = tt
-begins_none tests sent m [] (reply ∷ replies) last after c h = absurd h
-begins_none tests sent m (ev ∷ events) [] last after c h = absurd h
-begins_none tests sent m (ev ∷ events) (reply ∷ replies) last after c h =
+    (after : Machine) → NobodyTold events → IsClosed m → Run tests sent m events replies last after
+    → NoneBegins events replies
+begins_none tests sent m [] [] last after none c h = tt
+begins_none tests sent m [] (reply ∷ replies) last after none c h = absurd h
+begins_none tests sent m (ev ∷ events) [] last after none c h = absurd h
+begins_none tests sent m (ev ∷ events) (reply ∷ replies) last after none c h =
     step_begins tests sent m ev reply h.0 events replies c h.2
-    (begins_none tests h.1 (machine_ended m ev h.0) events replies last after
-    (stays_closed tests sent m ev reply h.0 c h.2) h.4)
+    (begins_none tests h.1 (machine_ended m ev h.0) events replies last after none.1
+    (stays_closed tests sent m ev reply h.0 none.0 c h.2) h.4)
 
 -- ---- the opening
 

@@ -1,4 +1,4 @@
--- Where nobody comes or goes a change is passed over only if it was dropped, and packets claim no less.
+-- While nobody comes or goes a change is passed over only if it was dropped, and packets claim no less.
 use Rattle.std.proofs.Common.{◌≡◌, ◌⊎◌, ℕ, ◌+◌, ◌≤◌, ℤ, true, false, List, [], ◌∷◌, Option, None, Some, length, refl, ap, sym, ◌∙◌, inl, inr, ⊎_elim, arith}
 use Rattle.std.specs.Prelude.{◌↔◌, IsSome, is_some}
 use Rattle.std.specs.Option.{option_map}
@@ -8,20 +8,20 @@ use Rattle.dds_base.specs.declared.config.Config.{Config}
 use Rattle.dds_base.specs.Kept.{is_dropped}
 use Rattle.dds_base.specs.Matched.{is_reliable}
 use Rattle.dds_base.proofs.PlaceLaws.{SayAsMuch, goes_on}
-use Rattle.dds_machine.specs.declared.endpoint.Endpoint.{Endpoint}
+use Rattle.dds_base.specs.declared.endpoint.Endpoint.{Endpoint}
 use Rattle.dds_machine.specs.declared.event.WorldEvent.{WorldEvent}
 use Rattle.dds_machine.specs.declared.event.WorldEvent.TheVariants as world
 use Rattle.dds_machine.specs.declared.reply.Move.{Move}
 use Rattle.dds_machine.specs.declared.reply.Move.TheVariants.{Place, Acknowledged, Heard, Begun as HasBegun}
 use Rattle.dds_machine.specs.declared.reply.Reply.{Reply}
-use Rattle.dds_machine.specs.declared.reply.Reply.TheVariants.{Reported}
+use Rattle.dds_machine.specs.declared.reply.Reply.TheVariants.{Refused, Reported}
 use Rattle.dds_machine.specs.Machine.{Machine, AllTests, Step, grounds_of, part_at, place_at, writer_at}
-use Rattle.dds_machine.specs.Moves.{Grounds, AreMoves, DeliveryStep, IsMove, as_to, match_of, position_at}
+use Rattle.dds_machine.specs.Moves.{Grounds, AreMoves, DeliveryStep, ResumeStep, IsMove, as_to, match_of, position_at}
 use Rattle.dds_machine.specs.Noticing.{machine_ended}
 use Rattle.dds_machine.specs.Part.{IsAtMost, IsBelow, IsCovered, NoLess, Part, ReaderProxy, acknowledged_of, history_of, owed_from, own_proxies, own_reader, place_of, row_of, writer_changes}
 use Rattle.dds_machine.specs.Runs.{Run}
 use Rattle.dds_protocol.specs.Claims.{MayPass}
-use Rattle.dds_protocol.specs.Closed.{ClosedRun, ClosedStep, IsClosed, closed_grounds_of}
+use Rattle.dds_protocol.specs.Closed.{ClosedRun, ClosedStep, IsClosed, NobodyTold, closed_grounds_of}
 use Rattle.dds_protocol.specs.World.{Holds, Sound, WorldState, machine_of}
 use Rattle.dds_protocol.proofs.Closed.{stays_closed}
 use Rattle.dds_protocol.proofs.Composed.{at, passed_over_on}
@@ -45,6 +45,11 @@ owed_all m c w r has =
     let least = least_first o n (λ row e. c.owed w r row e) has in
     omega (arith, low, least)
 
+-- so is each reliable reader that has a place
+pub owes_all : (m : Machine) (w r : Endpoint) → IsClosed m → IsSome (place_at m r w)
+    → is_reliable (own_reader (part_at m r.peer) r.number).qos.reliability ≡ true → owed_from (writer_at m w) r ≤ 1
+owes_all m w r c placed reliable = owed_all m c w r (c.known w r placed reliable)
+
 -- so what a reader that has a place may pass over was dropped
 pub passes_dropped : (m : Machine) → IsClosed m → (i r : ℕ) (w : Endpoint) (n : ℕ)
     → IsSome (place_at m (at i r) w) → (grounds_of m i).may_pass w r n
@@ -52,7 +57,7 @@ pub passes_dropped : (m : Machine) → IsClosed m → (i r : ℕ) (w : Endpoint)
 passes_dropped m c i r w n placed h =
     ⊎_elim (λ d. d)
     (λ o.
-    let all = owed_all m c w (at i r) (c.known w (at i r) placed o.reliable) in
+    let all = owes_all m w (at i r) c placed o.reliable in
     let from = o.from in
     let below = o.below in
     absurd (omega (arith, all, from, below))) h
@@ -141,18 +146,35 @@ delivery_with : (g k : Grounds) (old : Part) (reply : Reply) (new : Part) → Sa
 delivery_with g k old (Reported report) new s h = moves_with g k old old report.moves new s (ends_same old) h
 delivery_with g k old reply new s h = absurd h
 
+resume_with : (g k : Grounds) (old : Part) (n : ℕ) (reply : Reply) (new : Part) → SayAll g k old
+    → ResumeStep g old n reply new → ResumeStep k old n reply new
+resume_with g k old n (Reported report) new s h =
+    (h.0, h.1, moves_with g k old old report.moves new s (ends_same old) h.2)
+resume_with g k old n (Refused code) new s h = h
+resume_with g k old n reply new s h = absurd h
+
 -- ---- steps
+
+says_closed : (m : Machine) (i : ℕ) → IsClosed m → SayAll (grounds_of m i) (closed_grounds_of m i) (part_at m i)
+says_closed m i closed = record {
+  change = λ w r n c q. q;
+  pass = λ w r n placed q. passes_dropped m closed i r w n placed q;
+  place = λ w r base q. q;
+  hear = λ w r count q. q;
+}
+
+says_open : (m : Machine) (i : ℕ) → SayAll (closed_grounds_of m i) (grounds_of m i) (part_at m i)
+says_open m i = record {
+  change = λ w r n c q. q;
+  pass = λ w r n placed q. inl q;
+  place = λ w r base q. q;
+  hear = λ w r count q. q;
+}
 
 pub delivery_closed : (m : Machine) (i : ℕ) (reply : Reply) (new : Part) → IsClosed m
     → DeliveryStep (grounds_of m i) (part_at m i) reply new → DeliveryStep (closed_grounds_of m i) (part_at m i) reply new
 delivery_closed m i reply new closed h =
-    delivery_with (grounds_of m i) (closed_grounds_of m i) (part_at m i) reply new
-    (record {
-      change = λ w r n c q. q;
-      pass = λ w r n placed q. passes_dropped m closed i r w n placed q;
-      place = λ w r base q. q;
-      hear = λ w r count q. q;
-    }) h
+    delivery_with (grounds_of m i) (closed_grounds_of m i) (part_at m i) reply new (says_closed m i closed) h
 
 pub step_closed : (tests : AllTests) (sent : ℕ) (m : Machine) (ev : WorldEvent) (reply : Reply) (new : Machine)
     → IsClosed m → Step tests sent m ev reply new → ClosedStep tests sent m ev reply new
@@ -170,46 +192,58 @@ step_closed tests sent m (world.Deliver peer packet) reply new closed (inl h) =
       },
     )
 step_closed tests sent m (world.Deliver peer packet) reply new closed (inr h) = inr h
+step_closed tests sent m (world.Resume peer k) reply new closed (inl h) =
+    inl (record {
+      within = h.within;
+      after = h.after;
+      step = resume_with (grounds_of m peer) (closed_grounds_of m peer) (part_at m peer) k reply h.after
+          (says_closed m peer closed) h.step;
+      changed = h.changed;
+    })
+step_closed tests sent m (world.Resume peer k) reply new closed (inr h) = inr h
 
 step_open : (tests : AllTests) (sent : ℕ) (m : Machine) (ev : WorldEvent) (reply : Reply) (new : Machine)
     → ClosedStep tests sent m ev reply new → Step tests sent m ev reply new
 step_open tests sent m (world.Call peer c) reply new h = h
 step_open tests sent m (world.Tick peer now) reply new h = h
 step_open tests sent m (world.Deliver peer packet) reply new (inl h) =
-    let says : SayAll (closed_grounds_of m peer) (grounds_of m peer) (part_at m peer) = record {
-      change = λ w r n c q. q;
-      pass = λ w r n placed q. inl q;
-      place = λ w r base q. q;
-      hear = λ w r count q. q;
-    } in
     inl (
       h.0,
       h.1,
       record {
         within = h.2.within;
         after = h.2.after;
-        step = delivery_with (closed_grounds_of m peer) (grounds_of m peer) (part_at m peer) reply h.2.after says
-            h.2.step;
+        step = delivery_with (closed_grounds_of m peer) (grounds_of m peer) (part_at m peer) reply h.2.after
+            (says_open m peer) h.2.step;
         changed = h.2.changed;
       },
     )
 step_open tests sent m (world.Deliver peer packet) reply new (inr h) = inr h
+step_open tests sent m (world.Resume peer k) reply new (inl h) =
+    inl (record {
+      within = h.within;
+      after = h.after;
+      step = resume_with (closed_grounds_of m peer) (grounds_of m peer) (part_at m peer) k reply h.after
+          (says_open m peer) h.step;
+      changed = h.changed;
+    })
+step_open tests sent m (world.Resume peer k) reply new (inr h) = inr h
 
 -- ---- runs
 
 run_closed : (tests : AllTests) (sent : ℕ) (m : Machine) (events : List WorldEvent) (replies : List Reply) (last : ℕ)
-    (new : Machine) → IsClosed m → Run tests sent m events replies last new
+    (new : Machine) → NobodyTold events → IsClosed m → Run tests sent m events replies last new
     → ClosedRun tests sent m events replies last new
-run_closed tests sent m [] [] last new c h = h
-run_closed tests sent m [] (reply ∷ replies) last new c h = absurd h
-run_closed tests sent m (ev ∷ events) [] last new c h = absurd h
-run_closed tests sent m (ev ∷ events) (reply ∷ replies) last new c h = (
+run_closed tests sent m [] [] last new none c h = h
+run_closed tests sent m [] (reply ∷ replies) last new none c h = absurd h
+run_closed tests sent m (ev ∷ events) [] last new none c h = absurd h
+run_closed tests sent m (ev ∷ events) (reply ∷ replies) last new none c h = (
   h.0,
   h.1,
   step_closed tests sent m ev reply h.0 c h.2,
   h.3,
-  run_closed tests h.1 (machine_ended m ev h.0) events replies last new
-      (stays_closed tests sent m ev reply h.0 c h.2) h.4,
+  run_closed tests h.1 (machine_ended m ev h.0) events replies last new none.1
+      (stays_closed tests sent m ev reply h.0 none.0 c h.2) h.4,
 )
 
 run_open : (tests : AllTests) (sent : ℕ) (m : Machine) (events : List WorldEvent) (replies : List Reply) (last : ℕ)
@@ -226,10 +260,12 @@ run_open tests sent m (ev ∷ events) (reply ∷ replies) last new h = (
 )
 
 pub runs_alike : (tests : AllTests) (sent : ℕ) (m : Machine) (events : List WorldEvent) (replies : List Reply) (last : ℕ)
-    (new : Machine) → IsClosed m
+    (new : Machine) → NobodyTold events → IsClosed m
     → Run tests sent m events replies last new ↔ ClosedRun tests sent m events replies last new
-runs_alike tests sent m events replies last new c =
-    (λ h. run_closed tests sent m events replies last new c h, λ h. run_open tests sent m events replies last new h)
+runs_alike tests sent m events replies last new none c = (
+  λ h. run_closed tests sent m events replies last new none c h,
+  λ h. run_open tests sent m events replies last new h,
+)
 
 -- ---- claims
 

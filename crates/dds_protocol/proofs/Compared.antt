@@ -12,9 +12,11 @@ use denote.Struct.Field.{Field}
 use denote.Struct.Values.{Values}
 use denote.Enum.Declared.{Record, Choice, values_one}
 use denote.Enum.Compared.{Each, by}
+use Rattle.dds_base.specs.contracts.endpoint.EndpointPartialEq.TheImpl as of_endpoints
 use Rattle.dds_base.specs.contracts.entity.Entity.{enum as enum_of_entities}
 use Rattle.dds_base.specs.contracts.entity.EntityPartialEq.TheImpl as of_entities
 use Rattle.dds_base.specs.contracts.key.KeyPartialEq.TheImpl as of_keys
+use Rattle.dds_base.specs.declared.endpoint.Endpoint.{Endpoint}
 use Rattle.dds_base.specs.declared.entity.Entity.{Entity}
 use Rattle.dds_base.specs.declared.key.Key.{Key}
 use Rattle.dds_conditions.specs.contracts.condition.Cond.{enum as enum_of_conds}
@@ -72,6 +74,9 @@ module _ {A : Type 0} {E : A → A → Bool} (each : (x y : A) → Decides (E x 
 
 pub keys : (a b : Key) → Decides (of_keys.ghosts.eq a b) (a ≡ b)
 keys a b = search rules
+
+pub endpoints : (a b : Endpoint) → Decides (of_endpoints.ghosts.eq a b) (a ≡ b)
+endpoints a b = search rules
 
 pub entities : (a b : Entity) → Decides (of_entities.ghosts.eq a b) (a ≡ b)
 entities = of_variants enum_of_entities _ (bare ⨾ last Decides-eqb ⨾ last Decides-eqb ⨾ tt)

@@ -5,6 +5,7 @@ use Rattle.std.proofs.lemmas.List.{length-map}
 use Rattle.std.proofs.lemmas.Option.{same_Some, slice_get_within}
 use Rattle.std.proofs.lemmas.List.Elements.{Contains-append_cases}
 use Rattle.dds_base.specs.declared.change.Change.{Change}
+use Rattle.dds_base.specs.declared.code.Code.{Code}
 use Rattle.dds_base.specs.declared.config.Config.{Config}
 use Rattle.dds_base.specs.declared.config.PeerConfig.{PeerConfig}
 use Rattle.dds_base.specs.declared.config.ReaderConfig.{ReaderConfig}
@@ -13,7 +14,7 @@ use Rattle.dds_base.specs.Places.{WriterGrounds, MayPassOver}
 use Rattle.dds_base.specs.declared.qos.ReliabilityQos.{ReliabilityQos}
 use Rattle.dds_base.specs.Kept.{change_at, is_dropped}
 use Rattle.dds_base.specs.Matched.{is_reliable}
-use Rattle.dds_machine.specs.declared.endpoint.Endpoint.{Endpoint}
+use Rattle.dds_base.specs.declared.endpoint.Endpoint.{Endpoint}
 use Rattle.dds_protocol.specs.declared.event.Event.{Event}
 use Rattle.dds_protocol.specs.declared.event.Event.TheVariants as event
 use Rattle.dds_protocol.specs.declared.event.Output.{Output}
@@ -28,23 +29,26 @@ use Rattle.rtps_wire.specs.declared.submessage.Submessage.TheVariants.{Heartbeat
 use Rattle.dds_base.specs.declared.guid.EntityId.{EntityId}
 use Rattle.dds_machine.specs.declared.reply.Report.{Report}
 use Rattle.dds_machine.specs.declared.reply.Reply.{Reply}
-use Rattle.dds_machine.specs.declared.reply.Reply.TheVariants.{Reported}
+use Rattle.dds_machine.specs.declared.reply.Reply.TheVariants.{Refused, Reported}
 use Rattle.dds_machine.specs.Numbered.{with_numbered, HasNumber}
 use Rattle.dds_machine.specs.Part.{Writer, WriterProxy, Part, no_part, no_writer, own_writer, own_proxies, own_reader, acknowledged_of, with_acknowledged, owed_from, place_of, writer_changes, history_of, is_assertion, IsBelow, IsAtMost, IsCovered, NoLess}
 use Rattle.dds_base.proofs.PlaceLaws.{SayAsMuch, goes_on}
-use Rattle.dds_machine.specs.Moves.{Grounds, as_to, match_of, position_at, IsMove, AreMoves, DeliveryStep}
+use Rattle.dds_machine.specs.Moves.{Grounds, as_to, match_of, position_at, IsMove, AreMoves, DeliveryStep, ResumeStep}
 use Rattle.dds_protocol.specs.Receipt.{HasNoRoom, MovesOver, TakesUp, Receives, prefix_of}
 use Rattle.dds_protocol.specs.Progress.{ReceivesIn, Progresses}
 use Rattle.dds_machine.specs.Ticks.{TickStep}
 use Rattle.dds_machine.specs.Calls.{CallStep}
+use Rattle.dds_machine.specs.Matching.{Telling, TellStep}
 use Rattle.dds_machine.specs.Watching.{Tests}
 use Rattle.dds_protocol.specs.Claims.{Receiver, after_submessage, receiver_of, IsNumbered, IsToReliable, Says, Claim, ChangeIs, MayPass, PlaceReached, Asserts, Claims, Claimed}
-use Rattle.dds_protocol.specs.Peer.{Peer, Delivery, PeerStep, EventStep, no_peer, claimed, packets_of, IsTrueAt}
+use Rattle.dds_protocol.specs.Peer.{Peer, Delivery, PeerStep, EventStep, no_peer, claimed, claimed_by, packets_of, IsTrueAt}
 use Rattle.dds_machine.specs.Machine.{Machine, AllTests, part_at, writer_at, place_at, grounds_of, AtPeer, Step, IsRefused}
 use Rattle.dds_protocol.specs.World.{WorldState, peer_at, machine_of, PeerSteps, IsRefusedIn, WorldStep, Holds, Sound}
 use Rattle.dds_machine.proofs.Tables.{numbered-cases, numbered-map, numbered-same, map-with_numbered, length-with_numbered, no_less_same, no_less_on, below_on}
 use Rattle.dds_protocol.proofs.Owing.{Covered, covered_on, covered_same, covered_acknowledged}
-use Rattle.dds_protocol.proofs.Policies.{call_qos, tick_qos, delivery_qos}
+use Rattle.dds_protocol.proofs.Told.{telling_covered, told_so, untold_or_told}
+use Rattle.dds_protocol.proofs.Policies.{call_qos, tick_qos, delivery_qos, moves_qos}
+use Rattle.dds_protocol.proofs.Resumed.{as_moves}
 use Rattle.dds_protocol.proofs.Growth.{Grows, IsMove-grows, AreMoves-grows, DeliveryStep-grows, CallStep-grows, CallStep-readers, TickStep-acknowledged, TickStep-grows, MachineGrows, with_part, with_part-grows, Holds-grows}
 
 abbrev pub AllHold : Config → Machine → List (List ℕ) → Type 0
@@ -107,6 +111,17 @@ claimed-true config m i before packet rows index keeps all = record {
   told = λ w r n h. told_claimed config m (packet ∷ packets_of before) keeps w (at i r) n h;
   place = λ w r base h. holds_claimed config m (packet ∷ packets_of before) all (PlaceReached (at i w) r base) h;
   hear = λ w r count h. holds_claimed config m (packet ∷ packets_of before) all (Asserts w (at i r) count) h.0;
+}
+
+-- so is what places that are tried again rest on
+claimed_by-true : (config : Config) (m : Machine) (i : ℕ) (packets : List (List ℕ)) → KeepsPolicies config m
+    → AllHold config m packets → AreTrue m i (claimed_by config packets i)
+claimed_by-true config m i packets keeps all = record {
+  change = λ w r n c h. holds_claimed config m packets all (ChangeIs w (at i r) n c) h;
+  pass = λ w r n h. holds_claimed config m packets all (MayPass w (at i r) n) h;
+  told = λ w r n h. told_claimed config m packets keeps w (at i r) n h;
+  place = λ w r base h. holds_claimed config m packets all (PlaceReached (at i w) r base) h;
+  hear = λ w r count h. absurd h;
 }
 
 -- a place goes on over true claims as the machine's does
@@ -209,6 +224,12 @@ sound_moves m i g t old (mv ∷ ms) new low h = (
       (above_grown m i old h.0 low (IsMove-grows g old mv h.0 h.1)) h.2,
 )
 
+sound_resume : (m : Machine) (i : ℕ) (g : Grounds) → AreTrue m i g → (old : Part) (k : ℕ) (reply : Reply) (new : Part)
+    → IsAbove m i old → ResumeStep g old k reply new → ResumeStep (grounds_of m i) old k reply new
+sound_resume m i g t old k (Reported report) new low h = (h.0, h.1, sound_moves m i g t old report.moves new low h.2)
+sound_resume m i g t old k (Refused code) new low h = h
+sound_resume m i g t old k reply new low h = absurd h
+
 -- submessages that are taken up on true claims
 
 pub moves_on : (g : Grounds) (old : Part) (made : List Move) (mid : Part) (later : List Move) (new : Part)
@@ -295,6 +316,8 @@ abbrev pub PartStep : Tests → Machine → ℕ → Event → Reply → Part →
 PartStep tests m peer (event.Call call) reply after = CallStep tests (part_at m peer) call reply after
 PartStep tests m peer (event.Tick now) reply after = TickStep (part_at m peer) now reply after
 PartStep tests m peer (event.Deliver packet) reply after = DeliveryStep (grounds_of m peer) (part_at m peer) reply after
+PartStep tests m peer (event.Resume reader) reply after =
+    ResumeStep (grounds_of m peer) (part_at m peer) reader reply after
 
 -- and how a packet is taken up there
 abbrev pub EventProgresses : Config → Machine → ℕ → Event → Reply → Type 0
@@ -307,6 +330,9 @@ PartStep-grows tests m i (event.Call call) reply after h = CallStep-grows tests 
 PartStep-grows tests m i (event.Tick now) reply after h = TickStep-grows (part_at m i) now reply after h
 PartStep-grows tests m i (event.Deliver packet) reply after h =
     DeliveryStep-grows (grounds_of m i) (part_at m i) reply after h
+PartStep-grows tests m i (event.Resume k) reply after h =
+    let made = as_moves (grounds_of m i) (part_at m i) k reply after h in
+    AreMoves-grows (grounds_of m i) (part_at m i) made.0 after made.1
 
 acked_delivery : (m : Machine) (i : ℕ) (old : Part) (reply : Reply) (new : Part)
     → DeliveryStep (grounds_of m i) old reply new → AckedBelow m i old → AckedBelow m i new
@@ -319,15 +345,29 @@ acked_as m i old new same grows le w r =
     covered_same (own_writer old w) (own_writer new w) r (place_at m r (at i w)) (same w) ((grows.writers w).owed r)
     (no_less_same (place_at m r (at i w))) (le w r)
 
+-- so it is after a telling
+pub acked_told : (m : Machine) (i : ℕ) (old : Part) (t : Telling) (refusal : Option Code) (new : Part)
+    → TellStep old t refusal new → AckedBelow m i old → AckedBelow m i new
+acked_told m i old t refusal new h below =
+    told_so (λ a b. AckedBelow m i a → AckedBelow m i b) old t (λ x. x)
+    (λ x k r. telling_covered old.rtps t r (λ n. place_at m r (record { peer = i; number = n })) k (x k r)) refusal new h
+    below
+
 PartStep-acked : (tests : Tests) (m : Machine) (i : ℕ) (ev : Event) (reply : Reply) (after : Part)
     → PartStep tests m i ev reply after → AckedBelow m i (part_at m i) → AckedBelow m i after
 PartStep-acked tests m i (event.Call call) reply after h le =
-    acked_as m i (part_at m i) after (CallStep-readers tests (part_at m i) call reply after h)
-    (CallStep-grows tests (part_at m i) call reply after h) le
+    ⊎_elim
+    (λ untold. acked_as m i (part_at m i) after (CallStep-readers tests (part_at m i) call reply after h untold)
+    (CallStep-grows tests (part_at m i) call reply after h) le)
+    (λ told. acked_told m i (part_at m i) told.0 None after told.1 le)
+    (untold_or_told tests (part_at m i) call reply after h)
 PartStep-acked tests m i (event.Tick now) reply after h le =
     acked_as m i (part_at m i) after (TickStep-acknowledged (part_at m i) now reply after h)
     (TickStep-grows (part_at m i) now reply after h) le
 PartStep-acked tests m i (event.Deliver packet) reply after h le = acked_delivery m i (part_at m i) reply after h le
+PartStep-acked tests m i (event.Resume k) reply after h le =
+    let made = as_moves (grounds_of m i) (part_at m i) k reply after h in
+    acked_moves m i (part_at m i) made.0 after made.1 le
 
 -- the policies of its readers stay
 PartStep-qos : (tests : Tests) (m : Machine) (i : ℕ) (ev : Event) (reply : Reply) (after : Part)
@@ -336,6 +376,9 @@ PartStep-qos tests m i (event.Call call) reply after h r = call_qos tests (part_
 PartStep-qos tests m i (event.Tick now) reply after h r = tick_qos (part_at m i) now reply after h r
 PartStep-qos tests m i (event.Deliver packet) reply after h r =
     delivery_qos (grounds_of m i) (part_at m i) reply after r h
+PartStep-qos tests m i (event.Resume k) reply after h r =
+    let made = as_moves (grounds_of m i) (part_at m i) k reply after h in
+    moves_qos (grounds_of m i) (part_at m i) made.0 after r made.1
 
 -- what is acknowledged is not owed, or the reader is past it
 covered_past : (n : ℕ) (a : Option ℕ) (owed : ℕ) (place : Option ℕ) → IsBelow n a → IsCovered a owed place
@@ -376,6 +419,7 @@ true_holds m i part is le (Asserts w r count) h =
 abbrev EventHolds : Config → Machine → Event → Type 0
 EventHolds config m (event.Call call) = Unit {0}
 EventHolds config m (event.Tick now) = Unit {0}
+EventHolds config m (event.Resume reader) = Unit {0}
 EventHolds config m (event.Deliver packet) = (c : Claim) → Claims config packet c → Holds m c
 
 abbrev pub DeliveredHold : Config → Machine → List Delivery → Type 0
@@ -471,6 +515,17 @@ part_step config tests m i (event.Deliver packet) before (Reported report) after
           (record { packet = packet; rows = before.part.rtps.readers; report = report }) before.delivered sent all),
     )
 part_step config tests m i (event.Deliver packet) before reply after is at_i keeps sent all h = absurd h
+part_step config tests m i (event.Resume k) before reply after is at_i keeps sent all h =
+    let hold : AllHold config m (packets_of before.delivered) = packets_hold config m before.delivered all in
+    let claims : ℕ → Grounds = λ j. claimed_by config (packets_of before.delivered) j in
+    let here : ResumeStep (claims i) (part_at m i) k reply after.part =
+    subst (λ (q : Part). ResumeStep (claims i) q k reply after.part) (sym at_i)
+    (subst (λ (j : ℕ). ResumeStep (claims j) before.part k reply after.part) is h.0) in (
+      sound_resume m i (claims i) (claimed_by-true config m i (packets_of before.delivered) keeps hold) (part_at m i) k
+          reply after.part (above_self m i) here,
+      tt,
+      subst (λ (ds : List Delivery). DeliveredHold config m ds) (sym h.1) all,
+    )
 
 pub parts_at : (ws : WorldState) (i : ℕ) → part_at (machine_of ws) i ≡ (peer_at ws i).part
 parts_at ws i = numbered-map (λ (p : Peer). p.part) ws.peers i no_peer
@@ -679,3 +734,8 @@ composes config tests old new (world.Deliver peer number) reply sound (inr h) =
       not_refused config old peer number reply h.0,
       r.1,
     )
+composes config tests old new (world.Resume peer k) reply sound (inl h) =
+    composed config tests old new peer (event.Resume k) (world.Resume peer k) reply sound tt h (λ m at. inl at)
+    (λ t. tt)
+composes config tests old new (world.Resume peer k) reply sound (inr h) =
+    let r = refused config old new reply sound h.1 in (inr (no_part_number old peer h.0, r.0), tt, r.1)

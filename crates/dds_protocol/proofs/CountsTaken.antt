@@ -21,14 +21,15 @@ use Rattle.rtps_wire.specs.declared.submessage.Submessage.TheVariants.{Pad, Info
 use Rattle.rtps_wire.specs.Content.{change_in}
 use Rattle.rtps_wire.specs.Messages.{IsWritable, spelling_of}
 use Rattle.rtps_writer.specs.declared.answer.Answer.{Answer}
-use Rattle.dds_machine.specs.declared.endpoint.Endpoint.{Endpoint}
+use Rattle.dds_base.specs.declared.endpoint.Endpoint.{Endpoint}
 use Rattle.dds_machine.specs.declared.reply.Move.{Move}
 use Rattle.dds_machine.specs.declared.reply.Report.{Report}
-use Rattle.dds_machine.specs.Part.{ReaderProxy, same_endpoint, own_writer, writer_changes}
+use Rattle.dds_machine.specs.Part.{Attachment, Away, Waiting, Begun, ReaderProxy, WriterProxy, same_endpoint, own_writer, writer_changes}
 use Rattle.dds_protocol.specs.Claims.{Receiver, receiver_of, after_submessage, StandsAt, StandsIn, IsWriter, IsToReader, IsToWriter}
 use Rattle.dds_protocol.specs.Receipt.{prefix_of}
 use Rattle.dds_protocol.specs.DueMessages.{Due, acknack_message, acknacks_due, answer_message}
 use Rattle.dds_protocol.specs.Protocol.{BeginsWith, HearsAlone, Known, State, stands_to, InTurn, TakesChange, heard_as, Idles, TakesHeartbeat, TakesAckNack, ReaderTakes, WriterTakes, Takes, FollowsMessage, TakesPacket, with_answered}
+use Rattle.dds_protocol.specs.Resuming.{GoesAgain, GoAgain}
 use Rattle.dds_protocol.specs.Backed.{reader_at}
 use Rattle.dds_protocol.specs.Fresh.{HasHeartbeat, HasAckNack}
 use Rattle.dds_protocol.proofs.Composed.{is_alone}
@@ -162,6 +163,22 @@ goes_counts c old w r t moves dues new g none count acknacks =
     let stays = g.advances.stays.acknacks in
     learned_counts c old w r g.known dues new (way_learns old w r moves new g) (omega (arith, stays, acknacks))
     (λ n e. inl (sym count ∙ (sym g.advances.stays.count ∙ e))) (no_dues c new dues none)
+
+-- places of a reader that are tried again
+pub again_counts : (c : Counting) (r index : ℕ) (rows : List WriterProxy) (old : State) (moves : List Move)
+    (refused : Option ℕ) (new : State) → GoAgain r index rows old moves refused new → Counts c old [] new
+again_counts c r index [] old moves refused new h = counts_idle c old moves [] new (h.0, refl, h.2)
+again_counts c r index (row ∷ rows) old moves refused new (inl h) = counts_idle c old moves [] new (h.0, refl, h.2)
+again_counts c r index (row ∷ rows) old moves refused new (inr h) =
+    counts_on c old h.2 new [] [] (by (stands_to old row.writer r) h.4)
+    (again_counts c r (index + 1) rows h.2 h.1 refused new h.5)
+  where
+    by : (how : Attachment) → GoesAgain how old row.writer r h.0 h.2 → Counts c old [] h.2
+    by Begun goes =
+        goes_counts c old row.writer r (old.known.tracked row.writer r) h.0 [] h.2
+        (goes_went old row.writer r (old.known.tracked row.writer r) h.0 h.2 goes) refl refl refl
+    by Waiting idle = counts_idle c old h.0 [] h.2 (idle.0, refl, idle.1)
+    by Away idle = counts_idle c old h.0 [] h.2 (idle.0, refl, idle.1)
 
 answered_count : (answer : Option AckNackDue) (t : Tracked) → (answered answer t).count ≡ t.count
 answered_count None t = refl

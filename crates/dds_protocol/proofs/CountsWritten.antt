@@ -16,7 +16,7 @@ use Rattle.rtps_wire.specs.Messages.{IsWritable, spelling_of}
 use Rattle.rtps_wire.specs.Sought.{IsSought, HasSought}
 use Rattle.rtps_writer.specs.declared.answer.Answer.{Answer}
 use Rattle.rtps_writer.specs.declared.answer.Answer.TheVariants.{Data as AnswersData, Gap as AnswersGap}
-use Rattle.dds_machine.specs.declared.endpoint.Endpoint.{Endpoint}
+use Rattle.dds_base.specs.declared.endpoint.Endpoint.{Endpoint}
 use Rattle.dds_protocol.specs.Claims.{Receiver, receiver_of, after_submessage, StandsAt, StandsIn, IsWriter, IsToWriter}
 use Rattle.dds_protocol.specs.DueMessages.{Due, data_of, submessages_of}
 use Rattle.dds_protocol.specs.Fresh.{HasHeartbeat, HasAckNack}

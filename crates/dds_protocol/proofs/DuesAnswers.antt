@@ -23,7 +23,7 @@ use Rattle.rtps_writer.specs.declared.answer.Answer.{Answer}
 use Rattle.rtps_writer.specs.declared.answer.Answer.TheVariants.{Data as AnswersData, Gap as AnswersGap}
 use Rattle.rtps_writer.specs.Answers.{GapsAre, IsRight, answer_before, answers_to, is_requested, requested}
 use Rattle.rtps_writer.proofs.AnswerFacts.{answers-right}
-use Rattle.dds_machine.specs.declared.endpoint.Endpoint.{Endpoint}
+use Rattle.dds_base.specs.declared.endpoint.Endpoint.{Endpoint}
 use Rattle.dds_machine.specs.declared.reply.Move.{Move}
 use Rattle.dds_machine.specs.Numbered.{HasNumber}
 use Rattle.dds_machine.specs.Part.{IsBelow, Part, Writer, no_writer, own_writer, acknowledged_of, owed_from, writer_changes, history_of, at_writer}

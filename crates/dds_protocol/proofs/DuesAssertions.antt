@@ -14,7 +14,7 @@ use Rattle.dds_base.specs.Checked.{check_refusal}
 use Rattle.dds_base.specs.Written.{Asserted, counts_of}
 use Rattle.rtps_wire.specs.declared.submessage.Submessage.TheVariants.{Heartbeat}
 use Rattle.dds_machine.specs.declared.call.Call.TheVariants.{AssertLiveliness}
-use Rattle.dds_machine.specs.declared.endpoint.Endpoint.{Endpoint}
+use Rattle.dds_base.specs.declared.endpoint.Endpoint.{Endpoint}
 use Rattle.dds_machine.specs.declared.reply.Reply.TheVariants.{Done}
 use Rattle.dds_machine.specs.Numbered.{numbered, HasNumber, has_element}
 use Rattle.dds_machine.specs.Part.{Dds, Part, ReaderProxy, Rtps, Writer, acknowledged_of, has_readers, heartbeats_used, is_assertion, no_writer, own_writer, peers_of, NoLess}
@@ -122,7 +122,7 @@ told_says b tests new t far to (MayPass v r n) h =
     (λ w e.
     subst (λ (rows : List ReaderProxy). NoLess (acknowledged_of (own_writer b.part w).readers e)
     (acknowledged_of rows e))
-    (sym (CallStep-readers tests b.part (AssertLiveliness b.number) Done new t.step w))
+    (sym (CallStep-readers tests b.part (AssertLiveliness b.number) Done new t.step tt w))
     (no_less_same (acknowledged_of (own_writer b.part w).readers e)))
     (MayPass v r n) (first_says b true true far to v r n h)
 told_says b tests new t far to (Asserts v r k) h =

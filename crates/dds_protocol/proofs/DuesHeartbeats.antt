@@ -12,7 +12,7 @@ use Rattle.dds_base.specs.declared.config.PeerConfig.{PeerConfig}
 use Rattle.dds_base.specs.Kept.{first_kept}
 use Rattle.rtps_wire.specs.declared.heartbeat.Heartbeat.{Heartbeat as HeartbeatBody}
 use Rattle.rtps_wire.specs.declared.submessage.Submessage.TheVariants.{Heartbeat}
-use Rattle.dds_machine.specs.declared.endpoint.Endpoint.{Endpoint}
+use Rattle.dds_base.specs.declared.endpoint.Endpoint.{Endpoint}
 use Rattle.dds_machine.specs.Numbered.{HasNumber}
 use Rattle.dds_machine.specs.Part.{Part, ReaderProxy, Writer, is_behind, no_writer, own_writer, writer_changes, heartbeats_used, history_of, peers_of}
 use Rattle.dds_protocol.specs.Claims.{every_reader, Claim, ChangeIs, MayPass, PlaceReached, Asserts, Says}

@@ -11,7 +11,7 @@ use Rattle.dds_base.specs.declared.guid.EntityId.{EntityId}
 use Rattle.dds_base.specs.declared.guid.GuidPrefix.{GuidPrefix}
 use Rattle.dds_base.specs.Matched.{same_topic, is_reliable_reader, of_reliable_readers}
 use Rattle.dds_base.specs.MatchedAt.{of_readers_in}
-use Rattle.dds_machine.specs.declared.endpoint.Endpoint.{Endpoint}
+use Rattle.dds_base.specs.declared.endpoint.Endpoint.{Endpoint}
 use Rattle.dds_machine.specs.Numbered.{HasNumber}
 use Rattle.dds_machine.specs.Part.{Part, ReaderProxy, same_endpoint, row_of, acknowledged_of}
 use Rattle.dds_protocol.specs.Claims.{IsNumbered, IsWriter, every_reader}

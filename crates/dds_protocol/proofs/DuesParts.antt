@@ -11,11 +11,13 @@ use Rattle.dds_machine.specs.declared.reply.Reply.TheVariants.{Done, Refused}
 use Rattle.dds_machine.specs.Numbered.{numbered}
 use Rattle.dds_machine.specs.Part.{Part, Rtps, Writer, no_writer, own_writer, writer_changes}
 use Rattle.dds_machine.specs.Ticks.{ticked, TickStep}
-use Rattle.dds_machine.specs.Calls.{Effect, nothing, writes, effect, effect_of, with_written, CallStep}
+use Rattle.dds_machine.specs.Calls.{Effect, nothing, writes, tells, looks_at_matches, effect, effect_of, with_written, CallStep}
+use Rattle.dds_machine.specs.Matching.{writer_looked_at}
 use Rattle.dds_machine.specs.Watching.{Tests}
 use Rattle.dds_protocol.specs.Dues.{AreTellable, AreSmall, HasSmallChanges, IsPartOf}
 use Rattle.dds_protocol.proofs.DuesGrowth.{is_part_kept}
 use Rattle.dds_protocol.proofs.Growth.{TickStep-grows}
+use Rattle.dds_protocol.proofs.Told.{telling_count}
 use Rattle.dds_machine.proofs.Tables.{length-with_numbered, numbered-map-cases}
 
 -- ---- a call
@@ -24,6 +26,9 @@ effect_count : (old : Rtps) (e : Effect) → length (effect old e).writers ≡ l
 effect_count old nothing = refl
 effect_count old (writes w entry) =
     length-with_numbered old.writers w (with_written (numbered old.writers w no_writer) entry)
+effect_count old (tells t) = telling_count old t
+effect_count old (looks_at_matches w) =
+    length-with_numbered old.writers w (writer_looked_at (numbered old.writers w no_writer))
 
 -- a call leaves the writers
 pub call_part : (config : Config) (peer : ℕ) (tests : Tests) (old : Part) (call : Call) (reply : Reply) (new : Part)

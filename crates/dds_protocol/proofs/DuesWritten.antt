@@ -21,7 +21,7 @@ use Rattle.rtps_wire.proofs.ContentLaws.{content_valid}
 use Rattle.rtps_writer.specs.declared.answer.Answer.{Answer}
 use Rattle.rtps_writer.specs.declared.answer.Answer.TheVariants.{Data as AnswersData, Gap as AnswersGap}
 use Rattle.rtps_writer.specs.Answers.{IsRight}
-use Rattle.dds_machine.specs.declared.endpoint.Endpoint.{Endpoint}
+use Rattle.dds_base.specs.declared.endpoint.Endpoint.{Endpoint}
 use Rattle.dds_machine.specs.declared.reply.Move.{Move}
 use Rattle.dds_machine.specs.Part.{Writer, own_writer, owed_from, writer_changes}
 use Rattle.dds_protocol.specs.Claims.{IsReader, IsWriter, IsToReader, IsToWriter}

@@ -1,27 +1,30 @@
--- Who is matched with whom stays, in every step.
+-- Who is matched with whom stays, in every step at which nobody is told of it.
 use Rattle.std.proofs.Common.{◌≡◌, ℕ, List, [], ◌∷◌, Option, None, Some, refl, subst, ap, sym, ◌∙◌, inl, inr, ⊎_elim}
 use Rattle.std.specs.Prelude.{is_some}
 use Rattle.std.specs.Option.{option_map}
 use Rattle.dds_machine.specs.declared.call.Call.{Call}
-use Rattle.dds_machine.specs.declared.endpoint.Endpoint.{Endpoint}
+use Rattle.dds_machine.specs.declared.call.Call.TheVariants as call
+use Rattle.dds_base.specs.declared.endpoint.Endpoint.{Endpoint}
 use Rattle.dds_machine.specs.declared.event.WorldEvent.{WorldEvent}
 use Rattle.dds_machine.specs.declared.event.WorldEvent.TheVariants as world
 use Rattle.dds_machine.specs.declared.reply.Move.{Move}
 use Rattle.dds_machine.specs.declared.reply.Move.TheVariants.{Place, Acknowledged, Heard, Begun as HasBegun}
 use Rattle.dds_machine.specs.declared.reply.Reply.{Reply}
-use Rattle.dds_machine.specs.declared.reply.Reply.TheVariants.{Reported}
-use Rattle.dds_machine.specs.Calls.{Effect, nothing, writes, effect, effect_of, CallStep}
+use Rattle.dds_machine.specs.declared.reply.Reply.TheVariants.{Done, LivelinessLost, Matched, Reported}
+use Rattle.dds_machine.specs.Calls.{effect_of, CallStep}
 use Rattle.dds_machine.specs.Machine.{Machine, AllTests, part_at, grounds_of, Step}
 use Rattle.dds_machine.specs.Moves.{Grounds, IsMove, AreMoves, DeliveryStep}
 use Rattle.dds_machine.specs.Noticing.{machine_ended}
 use Rattle.dds_machine.specs.Numbered.{numbered, with_numbered}
-use Rattle.dds_machine.specs.Part.{ReaderProxy, WriterProxy, Writer, Rtps, Part, NoLess, acknowledged_of, no_part, no_writer, own_proxies, own_reader, own_writer, place_of, row_of, Begun, with_acknowledged, with_begun, with_heard, with_place, with_row}
+use Rattle.dds_machine.specs.Part.{ReaderProxy, WriterProxy, Writer, Part, NoLess, acknowledged_of, no_part, no_writer, own_proxies, own_reader, own_writer, place_of, row_of, Begun, with_acknowledged, with_begun, with_heard, with_place, with_row}
 use Rattle.dds_machine.specs.Ticks.{TickStep}
 use Rattle.dds_machine.specs.Watching.{Tests}
+use Rattle.dds_protocol.specs.Closed.{TellsNobody}
 use Rattle.dds_machine.proofs.Tables.{no_less_on, no_less_same, numbered-cases, row-cases}
 use Rattle.dds_protocol.proofs.Alike.{AlikeParts, alike_readers}
 use Rattle.dds_protocol.proofs.EndsBeside.{ended_alike}
-use Rattle.dds_protocol.proofs.Growth.{CallStep-readers, IsMove-grows, TickStep-acknowledged, TickStep-rows}
+use Rattle.dds_protocol.proofs.Resumed.{as_moves}
+use Rattle.dds_protocol.proofs.Growth.{CallStep-readers, CallStep-rows, IsMove-grows, TickStep-acknowledged, TickStep-rows, Untold}
 use Rattle.dds_protocol.proofs.Policies.{call_qos, move_qos, tick_qos}
 
 -- ---- rows
@@ -174,18 +177,42 @@ delivery_ends g old reply new h = absurd h
 
 -- ---- calls, ticks, and the end of an event
 
--- a call enters one thing more at a writer, or nothing
-pub effect_proxies : (old : Rtps) (e : Effect) → (effect old e).readers ≡ old.readers
-effect_proxies old nothing = refl
-effect_proxies old (writes w entry) = refl
+-- nobody is told by the effect of a call by which nobody comes or goes
+none_told : (old : Part) (peer : ℕ) (c : Call) (reply : Reply) → TellsNobody (world.Call peer c)
+    → Untold (effect_of old c reply)
+none_told old peer (call.MatchReader w r) reply h = absurd h
+none_told old peer (call.UnmatchReader w r) reply h = absurd h
+none_told old peer (call.MatchWriter r w) reply h = absurd h
+none_told old peer (call.UnmatchWriter r w) reply h = absurd h
+none_told old peer (call.Register v key) Done h = tt
+none_told old peer (call.Write v key value) Done h = tt
+none_told old peer (call.Dispose v key) Done h = tt
+none_told old peer (call.Unregister v key) Done h = tt
+none_told old peer (call.AssertLiveliness v) Done h = tt
+none_told old peer (call.SetStrength v strength) Done h = tt
+none_told old peer (call.GetLivelinessLost v) (LivelinessLost status) h = tt
+none_told old peer (call.GetPublicationMatched v) (Matched status) h = tt
+none_told old peer c reply h = tt
 
-call_ends : (tests : Tests) (old : Part) (c : Call) (reply : Reply) (new : Part) → CallStep tests old c reply new
-    → SameEnds old new
-call_ends tests old c reply new h =
-    ends_as old new
-    (λ r. ap (λ (x : Rtps). numbered x.readers r []) h.rtps
-    ∙ ap (λ (rows : List (List WriterProxy)). numbered rows r []) (effect_proxies old.rtps (effect_of old c reply)))
-    (CallStep-readers tests old c reply new h) (call_qos tests old c reply new h)
+-- the rows that a call leaves
+pub call_proxies : (tests : Tests) (old : Part) (peer : ℕ) (c : Call) (reply : Reply) (new : Part)
+    → TellsNobody (world.Call peer c) → CallStep tests old c reply new → (r : ℕ)
+    → own_proxies new r ≡ own_proxies old r
+call_proxies tests old peer c reply new none h r =
+    ap (λ (rows : List (List WriterProxy)). numbered rows r [])
+    (CallStep-rows tests old c reply new h (none_told old peer c reply none))
+
+pub call_readers : (tests : Tests) (old : Part) (peer : ℕ) (c : Call) (reply : Reply) (new : Part)
+    → TellsNobody (world.Call peer c) → CallStep tests old c reply new → (k : ℕ)
+    → (own_writer new k).readers ≡ (own_writer old k).readers
+call_readers tests old peer c reply new none h k =
+    CallStep-readers tests old c reply new h (none_told old peer c reply none) k
+
+call_ends : (tests : Tests) (old : Part) (peer : ℕ) (c : Call) (reply : Reply) (new : Part)
+    → TellsNobody (world.Call peer c) → CallStep tests old c reply new → SameEnds old new
+call_ends tests old peer c reply new none h =
+    ends_as old new (call_proxies tests old peer c reply new none h) (call_readers tests old peer c reply new none h)
+    (call_qos tests old c reply new h)
 
 tick_ends : (old : Part) (now : ℕ) (reply : Reply) (new : Part) → TickStep old now reply new → SameEnds old new
 tick_ends old now reply new h =
@@ -216,22 +243,26 @@ stay_with m peer after new is h =
     (numbered-cases m.parts peer after i no_part))
 
 step_stays : (tests : AllTests) (sent : ℕ) (m : Machine) (ev : WorldEvent) (reply : Reply) (new : Machine)
-    → Step tests sent m ev reply new → EndsStay m new
-step_stays tests sent m (world.Call peer c) reply new (inl h) =
-    stay_with m peer h.after new h.changed (call_ends (tests peer) (part_at m peer) c reply h.after h.step)
-step_stays tests sent m (world.Call peer c) reply new (inr h) = stay_where m new h.1.1
-step_stays tests sent m (world.Tick peer now) reply new (inl h) =
+    → TellsNobody ev → Step tests sent m ev reply new → EndsStay m new
+step_stays tests sent m (world.Call peer c) reply new none (inl h) =
+    stay_with m peer h.after new h.changed (call_ends (tests peer) (part_at m peer) peer c reply h.after none h.step)
+step_stays tests sent m (world.Call peer c) reply new none (inr h) = stay_where m new h.1.1
+step_stays tests sent m (world.Tick peer now) reply new none (inl h) =
     stay_with m peer h.after new h.changed (tick_ends (part_at m peer) now reply h.after h.step)
-step_stays tests sent m (world.Tick peer now) reply new (inr h) = stay_where m new h.1.1
-step_stays tests sent m (world.Deliver peer packet) reply new (inl h) =
+step_stays tests sent m (world.Tick peer now) reply new none (inr h) = stay_where m new h.1.1
+step_stays tests sent m (world.Deliver peer packet) reply new none (inl h) =
     stay_with m peer h.2.after new h.2.changed
     (delivery_ends (grounds_of m peer) (part_at m peer) reply h.2.after h.2.step)
-step_stays tests sent m (world.Deliver peer packet) reply new (inr h) = stay_where m new h.1.1
+step_stays tests sent m (world.Deliver peer packet) reply new none (inr h) = stay_where m new h.1.1
+step_stays tests sent m (world.Resume peer k) reply new none (inl h) =
+    let made = as_moves (grounds_of m peer) (part_at m peer) k reply h.after h.step in
+    stay_with m peer h.after new h.changed (moves_ends (grounds_of m peer) (part_at m peer) made.0 h.after made.1)
+step_stays tests sent m (world.Resume peer k) reply new none (inr h) = stay_where m new h.1.1
 
 -- also at the end of the event
 pub ended_stays : (tests : AllTests) (sent : ℕ) (m : Machine) (ev : WorldEvent) (reply : Reply) (new : Machine)
-    → Step tests sent m ev reply new → EndsStay m (machine_ended m ev new)
-ended_stays tests sent m ev reply new h i =
+    → TellsNobody ev → Step tests sent m ev reply new → EndsStay m (machine_ended m ev new)
+ended_stays tests sent m ev reply new none h i =
     ends_on (part_at m i) (part_at new i) (part_at (machine_ended m ev new) i)
-    (step_stays tests sent m ev reply new h i)
+    (step_stays tests sent m ev reply new none h i)
     (alike_ends (part_at new i) (part_at (machine_ended m ev new) i) (ended_alike m ev new i))

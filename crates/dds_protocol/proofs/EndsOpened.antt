@@ -7,7 +7,7 @@ use Rattle.dds_base.specs.declared.config.PeerConfig.{PeerConfig}
 use Rattle.dds_base.specs.declared.config.ReaderConfig.{ReaderConfig}
 use Rattle.dds_base.specs.declared.config.WriterConfig.{WriterConfig}
 use Rattle.dds_base.specs.Matched.{is_reliable, is_reliable_reader}
-use Rattle.dds_machine.specs.declared.endpoint.Endpoint.{Endpoint}
+use Rattle.dds_base.specs.declared.endpoint.Endpoint.{Endpoint}
 use Rattle.dds_machine.specs.Machine.{Machine, part_at, place_at, writer_at}
 use Rattle.dds_machine.specs.Numbered.{numbered}
 use Rattle.dds_machine.specs.Opening.{matched_writers, opening, opening_part, opening_reader}

@@ -22,9 +22,11 @@ use Rattle.dds_protocol.specs.Claims.{Receiver, after_submessage}
 use Rattle.dds_protocol.specs.Receipt.{TakesUp}
 use Rattle.dds_machine.specs.Opening.{opening_reader, opening_writer}
 use Rattle.dds_protocol.specs.Opening.{opening_peers, opening_world}
-use Rattle.dds_protocol.specs.Peer.{Peer, PeerStep, EventStep, no_peer}
+use Rattle.dds_protocol.proofs.Resumed.{as_moves}
+use Rattle.dds_protocol.specs.Peer.{Peer, PeerStep, EventStep, claimed_by, no_peer, packets_of}
 use Rattle.dds_protocol.specs.World.{peer_at}
-use Rattle.dds_protocol.proofs.CallChanges.{CallChange, unchanged, reads, takes, looks, watches, changes_of}
+use Rattle.dds_protocol.proofs.CallChanges.{CallChange, unchanged, reads, takes, looks, watches, is_told, sees_matches, changes_of}
+use Rattle.dds_machine.specs.Matching.{Telling, MatchReader, UnmatchReader, MatchWriter, UnmatchWriter, seen_after_telling}
 use Rattle.dds_machine.specs.Watching.{Tests}
 
 -- what the application has handed over
@@ -38,11 +40,19 @@ handed d = record { filters = d.watch.filters; listeners = d.listeners }
 abbrev SameHanded : Dds → Dds → Type 0
 SameHanded old new = handed new ≡ handed old
 
+telling_keeps : (old : Part) (t : Telling) → SameHanded old.dds (seen_after_telling old t)
+telling_keeps old (MatchReader w v reliable) = refl
+telling_keeps old (UnmatchReader w v) = refl
+telling_keeps old (MatchWriter r w) = refl
+telling_keeps old (UnmatchWriter r w) = refl
+
 call_keeps : (old : Part) (new : Dds) → CallChange old new → SameHanded old.dds new
 call_keeps old new (unchanged is) = ap (λ (d : Dds). handed d) is
 call_keeps old new (reads r samples is) = ap (λ (d : Dds). handed d) is
 call_keeps old new (takes r samples is) = ap (λ (d : Dds). handed d) is
 call_keeps old new (looks r seen is) = ap (λ (d : Dds). handed d) is
+call_keeps old new (is_told t is) = ap (λ (d : Dds). handed d) is ∙ telling_keeps old t
+call_keeps old new (sees_matches r is) = ap (λ (d : Dds). handed d) is
 call_keeps old new (watches after filters sets is) =
     ap (λ (d : Dds). handed d) is
     ∙ ap (λ (n : ℕ). let h : Handed = record { filters = n; listeners = old.dds.listeners } in h) filters
@@ -80,6 +90,10 @@ event_keeps config tests old (event.Deliver packet) (Reported report) new (inl t
 event_keeps config tests old (event.Deliver packet) (Reported report) new (inr t, delivered) =
     ap (λ (p : Part). handed p.dds) t.after
 event_keeps config tests old (event.Deliver packet) reply new h = absurd h
+event_keeps config tests old (event.Resume k) reply new h =
+    let g : Grounds = claimed_by config (packets_of old.delivered) old.number in
+    let made = as_moves g old.part k reply new.part h.0 in
+    moves_keep g old.part made.0 new.part made.1
 
 pub keeps_filters : (config : Config) (tests : Tests) (old : Peer) (ev : Event) (output : Output) (new : Peer)
     → PeerStep config tests old ev output new

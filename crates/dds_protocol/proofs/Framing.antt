@@ -4,7 +4,7 @@ use Rattle.std.proofs.Common.{◌≡◌, ◌⊎◌, ℕ, ℤ, zero, suc, ◌+◌
 use Rattle.std.specs.Option.{option_map}
 use Rattle.dds_base.specs.declared.happening.Happening.{Happening}
 use Rattle.rtps_reader.specs.Tracked.{Tracked}
-use Rattle.dds_machine.specs.declared.endpoint.Endpoint.{Endpoint}
+use Rattle.dds_base.specs.declared.endpoint.Endpoint.{Endpoint}
 use Rattle.dds_machine.specs.Numbered.{numbered, with_numbered, HasNumber}
 use Rattle.std.proofs.lemmas.Option.{same_Some}
 use Rattle.dds_machine.specs.Part.{Part, WriterProxy, ReaderProxy, Reader, Writer, no_reader, no_writer, same_endpoint, own_writer, own_proxies, own_reader, acknowledged_of, with_acknowledged, at_writer, row_of, with_row, place_of, with_place, heard_of, with_heard, publication_from, publication_among, at_reader}

@@ -13,7 +13,7 @@ use Rattle.dds_base.specs.Written.{Written, Registered, Changed, Asserted, Looke
 use Rattle.rtps_wire.specs.declared.submessage.Submessage.{Submessage}
 use Rattle.rtps_wire.specs.Messages.{IsWritable, spelling_of}
 use Rattle.dds_machine.specs.declared.call.Call.{Call}
-use Rattle.dds_machine.specs.declared.endpoint.Endpoint.{Endpoint}
+use Rattle.dds_base.specs.declared.endpoint.Endpoint.{Endpoint}
 use Rattle.dds_protocol.specs.declared.event.Event.{Event}
 use Rattle.dds_protocol.specs.declared.event.Event.TheVariants as event
 use Rattle.dds_protocol.specs.declared.event.Packet.{Packet}
@@ -24,23 +24,24 @@ use Rattle.dds_machine.specs.declared.reply.Report.{Report}
 use Rattle.dds_machine.specs.declared.reply.Reply.{Reply}
 use Rattle.dds_machine.specs.declared.reply.Reply.TheVariants.{Done, Reported}
 use Rattle.dds_machine.specs.Numbered.{HasNumber}
-use Rattle.dds_machine.specs.Part.{Part, Writer, no_writer, own_writer, writer_changes, is_behind, peers_of, heartbeats_used}
+use Rattle.dds_machine.specs.Part.{Part, Writer, no_writer, own_proxies, own_writer, writer_changes, is_behind, peers_of, heartbeats_used}
 use Rattle.dds_machine.specs.Moves.{Grounds}
 use Rattle.dds_machine.specs.Ticks.{ticked, after_tick, TickStep}
-use Rattle.dds_machine.specs.Calls.{Effect, nothing, writes, effect, effect_of, with_written}
+use Rattle.dds_machine.specs.Calls.{Effect, nothing, writes, tells, looks_at_matches, effect, effect_of, with_written}
 use Rattle.dds_machine.specs.Watching.{Tests}
 use Rattle.dds_protocol.specs.Claims.{Receiver, receiver_of, after_submessage, every_reader}
 use Rattle.dds_protocol.specs.Receipt.{TakesUp, Receives, prefix_of}
 use Rattle.dds_protocol.specs.Dues.{IsPartOf}
 use Rattle.dds_machine.specs.Machine.{Machine, AllTests, part_at, writer_at}
-use Rattle.dds_protocol.specs.Peer.{Peer, EventStep, no_peer, claimed, state_of}
+use Rattle.dds_protocol.specs.Peer.{Peer, EventStep, Knows, no_peer, claimed, claimed_by, packets_of, state_of}
 use Rattle.dds_protocol.specs.DueMessages.{Due, writer_entity, change_message, heartbeat_with, assertions_due, heartbeats_due}
-use Rattle.dds_protocol.specs.Protocol.{Known, TakesPacket}
+use Rattle.dds_protocol.specs.Protocol.{Known, State, TakesPacket}
+use Rattle.dds_protocol.specs.Resuming.{Resumes}
 use Rattle.dds_protocol.specs.World.{WorldState, WorldStep, PeerSteps, peer_at, machine_of}
 use Rattle.dds_protocol.specs.Rules.{announcements_due, AreDue, RuledStep}
 use Rattle.dds_protocol.specs.Fresh.{HasHeartbeat, HasAckNack, heartbeats_used_at, tracked_at, acknacks_used_at, HasUsedCounts}
 use Rattle.dds_protocol.proofs.Composed.{parts_at, machine_after, world_after, contains_at}
-use Rattle.dds_protocol.proofs.CountsTaken.{Counting, Counts, packet_counts}
+use Rattle.dds_protocol.proofs.CountsTaken.{Counting, Counts, again_counts, packet_counts}
 use Rattle.dds_protocol.proofs.CountsWritten.{plain_beats, plain_asks, plain_data, one_beat, one_beat_asks, each_of}
 use Rattle.dds_protocol.proofs.DuesAssertions.{OfEachTold, told_each, asserted_writer}
 use Rattle.dds_protocol.proofs.DuesGrowth.{Gains, gains_same, gains_on, AreMoves-gains, is_part_kept}
@@ -49,6 +50,7 @@ use Rattle.dds_protocol.proofs.DuesMatched.{own_name}
 use Rattle.dds_protocol.proofs.DuesPackets.{IsOfDue, sent_is_due}
 use Rattle.dds_protocol.proofs.DuesParts.{call_part, tick_part}
 use Rattle.dds_protocol.proofs.Framing.{number_or_not}
+use Rattle.dds_protocol.proofs.Resumed.{as_moves}
 use Rattle.dds_protocol.proofs.Growth.{WriterGrows, writer_same, Grows, CallStep-grows, TickStep-grows, MachineGrows, with_part-grows, counts-more}
 use Rattle.dds_protocol.proofs.OwnGuids.{one_writer}
 use Rattle.dds_machine.proofs.Tables.{numbered-cases, numbered-same, numbered-map-cases, number_there, length-with_numbered, no_less_same}
@@ -116,6 +118,11 @@ event_lasts config tests peer before (event.Deliver packet) (Reported report) af
     report after.part h.0 in
     record { grows = g.grows; part = is_part_kept config peer before.part after.part g.count }
 event_lasts config tests peer before (event.Deliver packet) reply after h = absurd h
+event_lasts config tests peer before (event.Resume k) reply after h =
+    let claims : Grounds = claimed_by config (packets_of before.delivered) before.number in
+    let made = as_moves claims before.part k reply after.part h.0 in
+    let g : Gains before.part after.part = AreMoves-gains claims before.part made.0 after.part made.1 in
+    record { grows = g.grows; part = is_part_kept config peer before.part after.part g.count }
 
 -- ---- what it makes of the network
 
@@ -302,6 +309,9 @@ announced config peer part (writes writer (StrengthSet strength)) P silent told 
 announced config peer part (writes writer (Ticked now behind)) P silent told due among =
     let lt = among.1 in absurd (omega (arith, lt))
 announced config peer part nothing P silent told due among = let lt = among.1 in absurd (omega (arith, lt))
+announced config peer part (tells t) P silent told due among = let lt = among.1 in absurd (omega (arith, lt))
+announced config peer part (looks_at_matches w) P silent told due among =
+    let lt = among.1 in absurd (omega (arith, lt))
 
 -- packets that are written forms of silent messages
 silent_beats : (config : Config) (dues : List Due) (packets : List Packet)
@@ -512,12 +522,24 @@ uses_no_call config old peer e dues packets new h never same are written =
 
 -- ---- a delivery
 
-uses_delivery : (config : Config) (old : WorldState) (peer : ℕ) (packet : Packet) (report : Report) (dues : List Due)
-    (packets : List Packet) (new : WorldState) → check_refusal config.peers ≡ None → HasUsedCounts config old
-    → Stays config old peer new → Contains old.sent packet
-    → TakesPacket config peer packet.bytes (state_of (peer_at old peer)) report dues (state_of (peer_at new peer))
+-- the counts that a peer of the network has used
+abbrev counting : (config : Config) → check_refusal config.peers ≡ None → WorldState → ℕ → Counting
+counting config checked old peer = record {
+  config = config;
+  checked = checked;
+  peer = peer;
+  own = prefix_of config peer;
+  beats = λ w. heartbeats_used_at old w;
+  asks = λ w r. acknacks_used_at old w r;
+}
+
+-- an event at which one peer counts so
+uses_counts : (config : Config) (old : WorldState) (peer : ℕ) (dues : List Due) (packets : List Packet)
+    (new : WorldState) (checked : check_refusal config.peers ≡ None) → HasUsedCounts config old
+    → Stays config old peer new
+    → Counts (counting config checked old peer) (state_of (peer_at old peer)) dues (state_of (peer_at new peer))
     → ((p : Packet) → Contains packets p → IsWrittenOf dues p) → Uses config old packets new
-uses_delivery config old peer packet report dues packets new checked h s among takes written = record {
+uses_counts config old peer dues packets new checked h s counts written = record {
   parts = s.parts h.of_config;
   grows = s.grows;
   asked =
@@ -544,22 +566,6 @@ uses_delivery config old peer packet report dues packets new checked h s among t
       subst (λ (n : ℕ). count ≤ℤ pos ((peer_at new n).known.tracked w r.number).acknacks) (sym one.0) one.1;
 }
   where
-    c : Counting
-    c = record {
-      config = config;
-      checked = checked;
-      peer = peer;
-      own = prefix_of config peer;
-      beats = λ w. heartbeats_used_at old w;
-      asks = λ w r. acknacks_used_at old w r;
-    }
-
-    counts : Counts c (state_of (peer_at old peer)) dues (state_of (peer_at new peer))
-    counts =
-        packet_counts c packet.bytes refl (λ w count has. h.heartbeat_sent packet w count among has)
-        (λ w r count has. h.acknack_sent packet w r count among has)
-        (state_of (peer_at old peer)) report dues (state_of (peer_at new peer)) takes
-
     asked_here : (w r : Endpoint) → r.peer ≡ peer → acknacks_used_at old w r ≤ acknacks_used_at new w r
     asked_here w r e =
         subst (λ (n : ℕ). ((peer_at old n).known.tracked w r.number).acknacks
@@ -586,6 +592,32 @@ uses_delivery config old peer packet report dues packets new checked h s among t
       where
         endpoint_of : ℕ → ℕ → Endpoint
         endpoint_of peer number = record { peer = peer; number = number }
+
+uses_delivery : (config : Config) (old : WorldState) (peer : ℕ) (packet : Packet) (report : Report) (dues : List Due)
+    (packets : List Packet) (new : WorldState) → check_refusal config.peers ≡ None → HasUsedCounts config old
+    → Stays config old peer new → Contains old.sent packet
+    → TakesPacket config peer packet.bytes (state_of (peer_at old peer)) report dues (state_of (peer_at new peer))
+    → ((p : Packet) → Contains packets p → IsWrittenOf dues p) → Uses config old packets new
+uses_delivery config old peer packet report dues packets new checked h s among takes written =
+    uses_counts config old peer dues packets new checked h s
+    (packet_counts (counting config checked old peer) packet.bytes refl
+    (λ w count has. h.heartbeat_sent packet w count among has)
+    (λ w r count has. h.acknack_sent packet w r count among has)
+    (state_of (peer_at old peer)) report dues (state_of (peer_at new peer)) takes) written
+
+-- places that are tried again
+uses_resume : (config : Config) (old : WorldState) (peer k : ℕ) (report : Report) (dues : List Due)
+    (packets : List Packet) (new : WorldState) → check_refusal config.peers ≡ None → HasUsedCounts config old
+    → Stays config old peer new → dues ≡ []
+    → Resumes k (state_of (peer_at old peer)) report (state_of (peer_at new peer))
+    → ((p : Packet) → Contains packets p → IsWrittenOf dues p) → Uses config old packets new
+uses_resume config old peer k report dues packets new checked h s none resumes written =
+    let c : Counting = counting config checked old peer in
+    let before : State = state_of (peer_at old peer) in
+    let after : State = state_of (peer_at new peer) in
+    uses_counts config old peer dues packets new checked h s
+    (subst (λ (ds : List Due). Counts c before ds after) (sym none)
+    (again_counts c k 0 (own_proxies before.part k) before report.moves report.refused after resumes)) written
 
 -- ---- an event
 
@@ -624,6 +656,22 @@ uses_no_report config tests old peer number reply dues packets new used (inr s) 
     uses_nothing config old dues packets new peer (stays_same config old peer new s.1.after) used
     (known_same old new s.1.after) written none
 
+-- a reader that is not there
+uses_no_resume : (config : Config) (tests : AllTests) (old : WorldState) (peer k : ℕ) (reply : Reply)
+    (dues : List Due) (packets : List Packet) (new : WorldState) → HasUsedCounts config old
+    → WorldStep config tests old (world.Resume peer k) reply new
+    → ((before after : Peer) → Knows before (event.Resume k) reply after → after.known ≡ before.known)
+    → ((p : Packet) → Contains packets p → IsWrittenOf dues p) → dues ≡ [] → Uses config old packets new
+uses_no_resume config tests old peer k reply dues packets new used (inl s) same written none =
+    uses_nothing config old dues packets new peer (steps_stays config (tests peer) old peer (event.Resume k) reply new s)
+    used
+    (known_of config (tests peer) old peer (event.Resume k) reply new s
+    (same (peer_at old peer) s.after
+    (subst (λ (r : Reply). Knows (peer_at old peer) (event.Resume k) r s.after) s.replies s.step.knows))) written none
+uses_no_resume config tests old peer k reply dues packets new used (inr s) same written none =
+    uses_nothing config old dues packets new peer (stays_same config old peer new s.1.after) used
+    (known_same old new s.1.after) written none
+
 uses_step : (config : Config) (tests : AllTests) (old : WorldState) (ev : WorldEvent) (reply : Reply) (dues : List Due)
     (packets : List Packet) (new : WorldState) → check_refusal config.peers ≡ None → HasUsedCounts config old
     → ((p : Packet) → Contains packets p → IsWrittenOf dues p) → WorldStep config tests old ev reply new
@@ -651,6 +699,13 @@ uses_step config tests old (world.Deliver peer number) (Reported report) dues pa
     (inr s) are = let r = s.1.is_refused in absurd cc
 uses_step config tests old (world.Deliver peer number) reply dues packets new checked used written s are =
     uses_no_report config tests old peer number reply dues packets new used s (λ p b q h. h) written are
+uses_step config tests old (world.Resume peer k) (Reported report) dues packets new checked used written (inl s) are =
+    uses_resume config old peer k report dues packets new checked used
+    (steps_stays config (tests peer) old peer (event.Resume k) (Reported report) new s) are.0 are.1 written
+uses_step config tests old (world.Resume peer k) (Reported report) dues packets new checked used written (inr s) are =
+    let r = s.1.is_refused in absurd cc
+uses_step config tests old (world.Resume peer k) reply dues packets new checked used written s are =
+    uses_no_resume config tests old peer k reply dues packets new used s (λ p q h. h) written are
 
 pub steps_used : (config : Config) (tests : AllTests) (old : WorldState) (ev : WorldEvent) (reply : Reply) (lost : ℕ)
     (new : WorldState) → check_refusal config.peers ≡ None → HasUsedCounts config old

@@ -1,13 +1,14 @@
 -- What happened at a reader stays as an event goes on, and more may happen: where nothing more does, its list is what it
 -- was. Its policies stay.
-use Rattle.std.proofs.Common.{◌≡◌, ℕ, ◌+◌, ◌≤◌, List, [], ◌∷◌, ◌++◌, map, length, refl, subst, ap, sym, ◌∙◌, inl, inr, ⊎_elim, arith, append_assoc, length-append, Option}
+use Rattle.std.proofs.Common.{◌≡◌, ℕ, ◌+◌, ◌≤◌, Bool, true, false, None, Some, List, [], ◌∷◌, ◌++◌, map, length, refl, subst, ap, sym, ◌∙◌, inl, inr, ⊎_elim, arith, append_assoc, length-append, Option}
+use Rattle.std.specs.Prelude.{if◌then◌else◌}
 use Rattle.dds_base.specs.declared.change.Change.{Change}
 use Rattle.dds_base.specs.declared.config.Config.{Config}
 use Rattle.dds_base.specs.declared.guid.GuidPrefix.{GuidPrefix}
 use Rattle.dds_base.specs.declared.happening.Happening.{Happening}
-use Rattle.dds_base.specs.declared.happening.Happening.TheVariants.{Read as HasRead, Took, Died, Passed, Heard as WasHeard}
+use Rattle.dds_base.specs.declared.happening.Happening.TheVariants.{Read as HasRead, Took, Died, Left, Passed, Heard as WasHeard}
 use Rattle.dds_base.specs.declared.happening.PassedRun.{PassedRun}
-use Rattle.dds_base.specs.Liveliness.{dead_at, with_deaths}
+use Rattle.dds_base.specs.Liveliness.{dead_at, is_alive, with_deaths}
 use Rattle.dds_base.specs.Places.{WriterGrounds, Match, PlaceWith, AllCome, GoesTo, coming}
 use Rattle.rtps_wire.specs.declared.submessage.Submessage.{Submessage}
 use Rattle.dds_machine.specs.declared.reply.Move.{Move}
@@ -15,20 +16,22 @@ use Rattle.dds_machine.specs.declared.reply.Move.TheVariants.{Place, Acknowledge
 use Rattle.dds_machine.specs.declared.reply.Reply.{Reply}
 use Rattle.dds_machine.specs.declared.reply.Reply.TheVariants.{Done, Refused, Reported}
 use Rattle.dds_machine.specs.declared.reply.Report.{Report}
+use Rattle.dds_machine.specs.Matching.{Telling, MatchReader, UnmatchReader, MatchWriter, UnmatchWriter, happened_after, parted_at, reader_joined, reader_left, reader_looked_at, seen_after_telling}
 use Rattle.dds_machine.specs.Moves.{Grounds, AreMoves, as_to, match_of, position_at}
 use Rattle.dds_machine.specs.Noticing.{at_end}
 use Rattle.dds_machine.specs.Numbered.{numbered, with_numbered}
-use Rattle.dds_machine.specs.Part.{Dds, Part, Reader, WriterProxy, no_reader, at_reader, own_proxies, own_reader, with_begun, with_heard, with_place}
+use Rattle.dds_machine.specs.Part.{Dds, Part, Reader, WriterProxy, no_reader, at_reader, own_proxies, own_reader, publication_among, with_begun, with_heard, with_place}
 use Rattle.dds_machine.specs.Ticks.{TickStep, reader_ticked}
 use Rattle.dds_machine.specs.Watching.{Tests}
 use Rattle.dds_protocol.specs.declared.event.Event.{Event}
 use Rattle.dds_protocol.specs.declared.event.Event.TheVariants as event
 use Rattle.dds_protocol.specs.declared.event.Output.{Output}
 use Rattle.dds_protocol.specs.Claims.{Receiver, receiver_of, after_submessage}
-use Rattle.dds_protocol.specs.Peer.{Peer, PeerStep, EventStep, claimed}
+use Rattle.dds_protocol.proofs.Resumed.{as_moves}
+use Rattle.dds_protocol.specs.Peer.{Peer, PeerStep, EventStep, claimed, claimed_by, packets_of}
 use Rattle.dds_protocol.specs.Receipt.{TakesUp, Receives, prefix_of}
 use Rattle.dds_protocol.proofs.Alike.{AlikeParts, end_alike}
-use Rattle.dds_protocol.proofs.CallChanges.{CallChange, unchanged, reads, takes, looks, watches, changes_of}
+use Rattle.dds_protocol.proofs.CallChanges.{CallChange, unchanged, reads, takes, looks, watches, is_told, sees_matches, changes_of}
 use Rattle.dds_machine.proofs.Tables.{numbered-cases, numbered-map-cases}
 
 -- ---- a list, and more of it
@@ -102,6 +105,30 @@ all_with rs k r h = λ n.
 
 -- ---- a call
 
+more_parted : (publication : Option ℕ) (now : ℕ) (h : List Happening) → More h (happened_after publication now h)
+more_parted None now h = more_same h
+more_parted (Some w) now h = by (is_alive w h)
+  where
+    by : (b : Bool) → More h (Left w now ∷ (if b then Died w now ∷ h else h))
+    by true =
+        more_on h (Died w now ∷ h) (Left w now ∷ Died w now ∷ h) (more_one (Died w now) h)
+        (more_one (Left w now) (Died w now ∷ h))
+    by false = more_one (Left w now) h
+
+by_telling : (old : Part) (t : Telling) → AllGoOn old.dds.readers (seen_after_telling old t).readers
+by_telling old (MatchReader w v reliable) = all_same old.dds.readers
+by_telling old (UnmatchReader w v) = all_same old.dds.readers
+by_telling old (MatchWriter k w) =
+    let r : Reader = own_reader old k in
+    all_with old.dds.readers k (reader_joined r w) (record { qos = refl; more = more_same r.happened })
+by_telling old (UnmatchWriter k w) =
+    let r : Reader = own_reader old k in
+    all_with old.dds.readers k (reader_left r w (parted_at old k w))
+    (record {
+      qos = refl;
+      more = more_parted (publication_among (own_proxies old k) w) old.dds.moment r.happened;
+    })
+
 by_call : (old : Part) (new : Dds) → CallChange old new → AllGoOn old.dds.readers new.readers
 by_call old new (unchanged is) = subst (λ (d : Dds). AllGoOn old.dds.readers d.readers) (sym is) (all_same old.dds.readers)
 by_call old new (reads k samples is) =
@@ -118,6 +145,13 @@ by_call old new (looks k seen is) =
     let r : Reader = own_reader old k in
     subst (λ (d : Dds). AllGoOn old.dds.readers d.readers) (sym is)
     (all_with old.dds.readers k (record r { seen = seen }) (record { qos = refl; more = more_same r.happened }))
+by_call old new (sees_matches k is) =
+    let r : Reader = own_reader old k in
+    subst (λ (d : Dds). AllGoOn old.dds.readers d.readers) (sym is)
+    (all_with old.dds.readers k (reader_looked_at (own_proxies old k) r)
+    (record { qos = refl; more = more_same r.happened }))
+by_call old new (is_told t is) =
+    subst (λ (d : Dds). AllGoOn old.dds.readers d.readers) (sym is) (by_telling old t)
 by_call old new (watches after filters sets is) =
     subst (λ (d : Dds). AllGoOn old.dds.readers d.readers) (sym is) (all_same old.dds.readers)
 
@@ -234,6 +268,10 @@ by_event config tests old (event.Deliver packet) (Reported report) new h =
     by_packet config (claimed config old.delivered packet old.part.rtps.readers old.number) old.number packet old.part
     report new.part h.0
 by_event config tests old (event.Deliver packet) reply new h = absurd h
+by_event config tests old (event.Resume k) reply new h =
+    let g : Grounds = claimed_by config (packets_of old.delivered) old.number in
+    let made = as_moves g old.part k reply new.part h.0 in
+    by_moves g old.part made.0 new.part made.1
 
 -- each reader of the peer
 pub each_goes_on : (config : Config) (tests : Tests) (old : Peer) (e : Event) (output : Output) (new : Peer)

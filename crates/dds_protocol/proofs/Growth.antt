@@ -13,26 +13,28 @@ use Rattle.dds_base.specs.Happening.{same_key}
 use Rattle.dds_base.specs.Written.{Written, Registered, Changed, Asserted, LookedAt, StrengthSet, Ticked, changes_of, counts_of}
 use Rattle.dds_base.specs.Kept.{change_at, is_dropped, is_dropped_by, later_changes}
 use Rattle.dds_machine.specs.declared.call.Call.{Call}
-use Rattle.dds_machine.specs.declared.endpoint.Endpoint.{Endpoint}
+use Rattle.dds_base.specs.declared.endpoint.Endpoint.{Endpoint}
 use Rattle.dds_machine.specs.declared.reply.Move.{Move}
 use Rattle.dds_machine.specs.declared.reply.Move.TheVariants.{Place, Acknowledged, Heard, Begun as HasBegun}
 use Rattle.dds_machine.specs.declared.reply.Reply.{Reply}
 use Rattle.dds_machine.specs.declared.reply.Reply.TheVariants.{Done, Refused, Reported}
 use Rattle.dds_machine.specs.Numbered.{numbered, with_numbered}
-use Rattle.dds_machine.specs.Part.{WriterProxy, Writer, Rtps, Part, no_writer, no_part, own_writer, own_proxies, place_of, with_place, with_begun, with_heard, with_acknowledged, writer_changes, history_of, is_behind, is_assertion, owed_from, NoLess}
+use Rattle.dds_machine.specs.Part.{Attachment, Away, Waiting, WriterProxy, Writer, Rtps, Part, no_writer, no_part, own_writer, own_proxies, place_of, with_place, with_begun, with_heard, with_acknowledged, writer_changes, history_of, is_behind, is_assertion, owed_from, NoLess}
 use Rattle.dds_machine.specs.Moves.{Grounds, IsMove, AreMoves, DeliveryStep}
 use Rattle.dds_machine.specs.Ticks.{ticked, reader_ticked, TickStep}
-use Rattle.dds_machine.specs.Calls.{Effect, nothing, writes, effect, effect_of, with_written, CallStep}
+use Rattle.dds_machine.specs.Calls.{Effect, nothing, writes, tells, looks_at_matches, effect, effect_of, with_written, CallStep}
+use Rattle.dds_machine.specs.Matching.{Telling, MatchReader, UnmatchReader, MatchWriter, UnmatchWriter, after_telling, is_known, joined, left, with_how, with_match, writer_looked_at}
 use Rattle.dds_machine.specs.Watching.{Tests}
 use Rattle.dds_protocol.specs.Claims.{Claim, ChangeIs, MayPass, PlaceReached, Asserts}
 use Rattle.dds_machine.specs.Machine.{Machine, part_at, writer_at, place_at}
 use Rattle.dds_protocol.specs.World.{Holds}
-use Rattle.dds_protocol.proofs.Owing.{changes-more, no_fewer, owed_same, owed_acknowledged}
-use Rattle.dds_machine.proofs.Tables.{numbered-cases, numbered-map-cases, append_nothing, slice_get-append, place-cases, begun-cases, place-heard, no_less_same, no_less_on, none_on, at_most_on, below_on}
+use Rattle.dds_protocol.proofs.Owing.{changes-more, no_fewer, owed_same, owed_acknowledged, owed_joined, owed_left}
+use Rattle.dds_machine.proofs.Tables.{numbered-cases, numbered-map-cases, append_nothing, slice_get-append, place-append, place-cases, place-how, begun-cases, place-heard, no_less_same, no_less_on, none_on, at_most_on, below_on}
 
 pub record WriterGrows (old new : Writer) : Type 0 where
   pub policy : new.policy ≡ old.policy
   pub values : new.max_value ≡ old.max_value
+  pub known : new.known ≡ old.known
   pub more : List Written
   pub written : new.written ≡ more ++ old.written
   pub owed : (r : Endpoint) → owed_from old r ≤ owed_from new r
@@ -46,6 +48,7 @@ pub writer_same : (w : Writer) → WriterGrows w w
 writer_same w = record {
   policy = refl;
   values = refl;
+  known = refl;
   more = [];
   written = refl;
   owed = λ r. omega arith;
@@ -55,6 +58,7 @@ pub writer_on : (a b c : Writer) → WriterGrows a b → WriterGrows b c → Wri
 writer_on a b c f g = record {
   policy = g.policy ∙ f.policy;
   values = g.values ∙ f.values;
+  known = g.known ∙ f.known;
   more = g.more ++ f.more;
   written =
       g.written ∙ (ap (λ (xs : List Written). g.more ++ xs) f.written ∙ sym (append_assoc g.more f.more a.written));
@@ -154,6 +158,7 @@ IsMove-grows g old (Acknowledged w r to) new h =
     subst (λ (q : Part). Grows old.rtps q.rtps) (sym h.after) (set_writer-grows old.rtps w after (record {
       policy = refl;
       values = refl;
+      known = refl;
       more = [];
       written = refl;
       owed = λ v. owed_acknowledged before r to v;
@@ -178,14 +183,73 @@ pub DeliveryStep-grows : (g : Grounds) (old : Part) (reply : Reply) (new : Part)
 DeliveryStep-grows g old (Reported report) new h = AreMoves-grows g old report.moves new h
 DeliveryStep-grows g old reply new h = absurd h
 
--- what a call does: lists grow by one entry, and no acknowledgement changes
+-- what a telling does: rows come and go, and none of a reader's
+
+still : (rows : List WriterProxy) (w : Endpoint) (how : Attachment) (v : Endpoint)
+    → NoLess (place_of rows v) (place_of (with_how rows w how) v)
+still rows w how v =
+    subst (λ (o : Option ℕ). NoLess (place_of rows v) o) (sym (place-how rows w how v)) (no_less_same (place_of rows v))
+
+-- the row of a writer that a reader did not know
+abbrev pub new_row : Endpoint → WriterProxy
+new_row w = record { writer = w; place = 1; heard = None; how = Waiting }
+
+place_matched : (rows : List WriterProxy) (w v : Endpoint) → NoLess (place_of rows v) (place_of (with_match rows w) v)
+place_matched rows w v = by (is_known rows w)
+  where
+    by : (b : Bool)
+        → NoLess (place_of rows v) (place_of (if b then with_how rows w Waiting else rows ++ new_row w ∷ []) v)
+    by true = still rows w Waiting v
+    by false = place-append rows (new_row w) v
+
+pub telling-grows : (old : Rtps) (t : Telling) → Grows old (after_telling old t)
+telling-grows old (MatchReader w r reliable) =
+    let before : Writer = numbered old.writers w no_writer in
+    set_writer-grows old w (joined before r reliable) (record {
+      policy = refl;
+      values = refl;
+      known = refl;
+      more = [];
+      written = refl;
+      owed = λ v. owed_joined before r reliable v;
+    })
+telling-grows old (UnmatchReader w r) =
+    let before : Writer = numbered old.writers w no_writer in
+    set_writer-grows old w (left before r) (record {
+      policy = refl;
+      values = refl;
+      known = refl;
+      more = [];
+      written = refl;
+      owed = λ v. owed_left before r v;
+    })
+telling-grows old (MatchWriter r w) =
+    let rows : List WriterProxy = numbered old.readers r [] in
+    set_reader-grows old r (with_match rows w) (place_matched rows w)
+telling-grows old (UnmatchWriter r w) =
+    let rows : List WriterProxy = numbered old.readers r [] in
+    set_reader-grows old r (with_how rows w Away) (still rows w Away)
+
+-- what a call does: lists grow by one entry, and no acknowledgement changes; or it tells
+
 pub entered-grows : (w : Writer) (entry : Written) → WriterGrows w (with_written w entry)
 entered-grows w entry = record {
   policy = refl;
   values = refl;
+  known = refl;
   more = entry ∷ [];
   written = refl;
   owed = λ r. owed_same w (with_written w entry) refl (no_fewer entry w.written) r;
+}
+
+pub looked_at-grows : (w : Writer) → WriterGrows w (writer_looked_at w)
+looked_at-grows w = record {
+  policy = refl;
+  values = refl;
+  known = refl;
+  more = [];
+  written = refl;
+  owed = λ r. omega arith;
 }
 
 pub effect-grows : (old : Rtps) (e : Effect) → Grows old (effect old e)
@@ -193,6 +257,15 @@ effect-grows old nothing = grows_same old
 effect-grows old (writes w entry) =
     set_writer-grows old w (with_written (numbered old.writers w no_writer) entry)
     (entered-grows (numbered old.writers w no_writer) entry)
+effect-grows old (tells t) = telling-grows old t
+effect-grows old (looks_at_matches w) =
+    set_writer-grows old w (writer_looked_at (numbered old.writers w no_writer))
+    (looked_at-grows (numbered old.writers w no_writer))
+
+-- the effect tells nobody anything
+abbrev pub Untold : Effect → Type 0
+Untold (tells t) = ⊥
+Untold e = Unit {0}
 
 readers_set : (writers : List Writer) (w : ℕ) (after : Writer) → after.readers ≡ (numbered writers w no_writer).readers
     → (k : ℕ) → (numbered (with_numbered writers w after) k no_writer).readers ≡ (numbered writers k no_writer).readers
@@ -202,22 +275,40 @@ readers_set writers w after h k =
     ∙ (h ∙ ap (λ (j : ℕ). (numbered writers j no_writer).readers) (sym s.0)))
     (numbered-cases writers w after k no_writer)
 
-pub effect-readers : (old : Rtps) (e : Effect) (k : ℕ) → (numbered (effect old e).writers k no_writer).readers
-    ≡ (numbered old.writers k no_writer).readers
-effect-readers old nothing k = refl
-effect-readers old (writes w entry) k =
+pub effect-readers : (old : Rtps) (e : Effect) → Untold e → (k : ℕ)
+    → (numbered (effect old e).writers k no_writer).readers ≡ (numbered old.writers k no_writer).readers
+effect-readers old nothing untold k = refl
+effect-readers old (writes w entry) untold k =
     readers_set old.writers w (with_written (numbered old.writers w no_writer) entry) refl k
+effect-readers old (tells t) untold k = absurd untold
+effect-readers old (looks_at_matches w) untold k =
+    readers_set old.writers w (writer_looked_at (numbered old.writers w no_writer)) refl k
+
+-- it leaves the rows of readers too
+pub effect-rows : (old : Rtps) (e : Effect) → Untold e → (effect old e).readers ≡ old.readers
+effect-rows old nothing untold = refl
+effect-rows old (writes w entry) untold = refl
+effect-rows old (tells t) untold = absurd untold
+effect-rows old (looks_at_matches w) untold = refl
 
 pub CallStep-grows : (tests : Tests) (old : Part) (call : Call) (reply : Reply) (new : Part)
     → CallStep tests old call reply new → Grows old.rtps new.rtps
 CallStep-grows tests old call reply new h =
     subst (λ (r : Rtps). Grows old.rtps r) (sym h.rtps) (effect-grows old.rtps (effect_of old call reply))
 
+-- a call that tells nobody anything leaves what each writer's readers have acknowledged, and the rows of readers
+
 pub CallStep-readers : (tests : Tests) (old : Part) (call : Call) (reply : Reply) (new : Part)
-    → CallStep tests old call reply new → (k : ℕ) → (own_writer new k).readers ≡ (own_writer old k).readers
-CallStep-readers tests old call reply new h k =
+    → CallStep tests old call reply new → Untold (effect_of old call reply) → (k : ℕ)
+    → (own_writer new k).readers ≡ (own_writer old k).readers
+CallStep-readers tests old call reply new h untold k =
     ap (λ (r : Rtps). (numbered r.writers k no_writer).readers) h.rtps
-    ∙ effect-readers old.rtps (effect_of old call reply) k
+    ∙ effect-readers old.rtps (effect_of old call reply) untold k
+
+pub CallStep-rows : (tests : Tests) (old : Part) (call : Call) (reply : Reply) (new : Part)
+    → CallStep tests old call reply new → Untold (effect_of old call reply) → new.rtps.readers ≡ old.rtps.readers
+CallStep-rows tests old call reply new h untold =
+    ap (λ (r : Rtps). r.readers) h.rtps ∙ effect-rows old.rtps (effect_of old call reply) untold
 
 -- what a tick does: each writer's list grows by one entry, and readers, places and acknowledgements stay
 

@@ -6,26 +6,26 @@ use Rattle.dds_base.specs.declared.qos.HistoryQos.TheVariants.{KeepAll}
 use Rattle.dds_base.specs.declared.qos.ReaderQos.{ReaderQos}
 use Rattle.dds_base.specs.Matched.{is_reliable}
 use Rattle.dds_base.specs.Places.{WriterGrounds, Match, PlaceWith, GoesTo, MayPassOver}
-use Rattle.dds_machine.specs.declared.endpoint.Endpoint.{Endpoint}
+use Rattle.dds_base.specs.declared.endpoint.Endpoint.{Endpoint}
 use Rattle.dds_machine.specs.declared.event.WorldEvent.{WorldEvent}
 use Rattle.dds_machine.specs.declared.event.WorldEvent.TheVariants as world
 use Rattle.dds_machine.specs.declared.reply.Move.{Move}
 use Rattle.dds_machine.specs.declared.reply.Move.TheVariants.{Place, Acknowledged, Heard, Begun as HasBegun}
 use Rattle.dds_machine.specs.declared.reply.Reply.{Reply}
-use Rattle.dds_machine.specs.declared.reply.Reply.TheVariants.{Reported}
+use Rattle.dds_machine.specs.declared.reply.Reply.TheVariants.{Refused, Reported}
 use Rattle.dds_machine.specs.Part.{Part, own_reader, owed_from}
-use Rattle.dds_machine.specs.Moves.{Grounds, Begins, Places, as_to, match_of, position_at, AreMoves, DeliveryStep}
+use Rattle.dds_machine.specs.Moves.{Grounds, Begins, Places, as_to, match_of, position_at, AreMoves, DeliveryStep, ResumeStep}
 use Rattle.dds_machine.specs.Machine.{Machine, AllTests, part_at, writer_at, grounds_of, Step}
 use Rattle.dds_machine.specs.Noticing.{machine_ended}
 use Rattle.dds_machine.specs.Runs.{Run}
-use Rattle.dds_protocol.specs.Closed.{ClosedStep, IsClosed, closed_grounds_of}
+use Rattle.dds_protocol.specs.Closed.{ClosedStep, IsClosed, NobodyTold, closed_grounds_of}
 use Rattle.dds_protocol.specs.Laws.{EndBelow, PassesNone, PassesNoneFrom, LosesNone, LosesNoneFrom}
 use Rattle.dds_protocol.proofs.Closed.{stays_closed}
 use Rattle.dds_protocol.proofs.ClosedSteps.{step_closed}
 use Rattle.dds_protocol.proofs.EndsBeside.{ended_alike, ended_policy}
 use Rattle.dds_protocol.proofs.InOrder.{passes_none}
 use Rattle.dds_protocol.proofs.Policies.{IsReliableAt, Step-qos, still_reliable}
-use Rattle.dds_protocol.proofs.RunLaws.{keeps_all, run_owed, Step-policy}
+use Rattle.dds_protocol.proofs.RunLaws.{keeps_all, runs_owe_no_more, Step-policy}
 
 -- ---- what is owed
 
@@ -94,6 +94,16 @@ not_owed_below m i w k bound all owed n h =
     ⊎_elim (λ d. absurd (keeps_all (writer_at m w).policy m w n refl all d))
     (λ q. let below = q.below in omega (arith, below, owed)) h
 
+-- so moves at a peer pass over nothing from the bound on
+owed_moves : (m : Machine) (i : ℕ) (w r : Endpoint) (old : Part) (ms : List Move) (new : Part) (bound : ℕ)
+    → (writer_at m w).policy ≡ KeepAll → owed_from (writer_at m w) r ≤ bound → (i ≡ r.peer → IsReliableAt old r.number)
+    → AreMoves (grounds_of m i) old ms new → i ≡ r.peer → PassesNoneFrom bound w r.number ms
+owed_moves m i w r old ms new bound all owed reliable h here =
+    owed_passes (grounds_of m i) bound w r.number old ms new
+    (not_owed_below m i w r.number bound all
+    (subst (λ (j : ℕ). owed_from (writer_at m w) (record { peer = j; number = r.number }) ≤ bound) (sym here) owed))
+    (reliable here) h
+
 -- what a delivery reports goes before what the others do
 owed_delivery : (m : Machine) (i : ℕ) (w r : Endpoint) (packet : ℕ) (old : Part) (reply : Reply) (new : Part)
     (events : List WorldEvent) (replies : List Reply) (bound : ℕ) → (writer_at m w).policy ≡ KeepAll
@@ -101,14 +111,21 @@ owed_delivery : (m : Machine) (i : ℕ) (w r : Endpoint) (packet : ℕ) (old : P
     → (i ≡ r.peer → IsReliableAt old r.number) → DeliveryStep (grounds_of m i) old reply new
     → LosesNoneFrom bound w r events replies
     → LosesNoneFrom bound w r (world.Deliver i packet ∷ events) (reply ∷ replies)
-owed_delivery m i w r packet old (Reported report) new events replies bound all owed reliable h rest = (
-  λ here. owed_passes (grounds_of m i) bound w r.number old report.moves new
-      (not_owed_below m i w r.number bound all
-      (subst (λ (j : ℕ). owed_from (writer_at m w) (record { peer = j; number = r.number }) ≤ bound) (sym here) owed))
-      (reliable here) h,
-  rest,
-)
+owed_delivery m i w r packet old (Reported report) new events replies bound all owed reliable h rest =
+    (λ here. owed_moves m i w r old report.moves new bound all owed reliable h here, rest)
 owed_delivery m i w r packet old reply new events replies bound all owed reliable h rest = absurd h
+
+-- so does what is reported where places are tried again
+owed_resume : (m : Machine) (i : ℕ) (w r : Endpoint) (k : ℕ) (old : Part) (reply : Reply) (new : Part)
+    (events : List WorldEvent) (replies : List Reply) (bound : ℕ) → (writer_at m w).policy ≡ KeepAll
+    → owed_from (writer_at m w) r ≤ bound
+    → (i ≡ r.peer → IsReliableAt old r.number) → ResumeStep (grounds_of m i) old k reply new
+    → LosesNoneFrom bound w r events replies
+    → LosesNoneFrom bound w r (world.Resume i k ∷ events) (reply ∷ replies)
+owed_resume m i w r k old (Reported report) new events replies bound all owed reliable h rest =
+    (λ here. owed_moves m i w r old report.moves new bound all owed reliable h.2 here, rest)
+owed_resume m i w r k old (Refused code) new events replies bound all owed reliable h rest = rest
+owed_resume m i w r k old reply new events replies bound all owed reliable h rest = absurd h
 
 pub owed_step : (w r : Endpoint) (tests : AllTests) (sent : ℕ) (m : Machine) (ev : WorldEvent) (reply : Reply)
     (new : Machine) (events : List WorldEvent) (replies : List Reply) (bound : ℕ) → (writer_at m w).policy ≡ KeepAll
@@ -122,6 +139,11 @@ owed_step w r tests sent m (world.Deliver peer packet) reply new events replies 
     (λ here. subst (λ (n : ℕ). IsReliableAt (part_at m n) r.number) (sym here) reliable) h.2.step rest
 owed_step w r tests sent m (world.Deliver peer packet) reply new events replies bound all owed reliable (inr h) rest =
     subst (λ (x : Reply). LosesNoneFrom bound w r (world.Deliver peer packet ∷ events) (x ∷ replies)) (sym h.1.0) rest
+owed_step w r tests sent m (world.Resume peer k) reply new events replies bound all owed reliable (inl h) rest =
+    owed_resume m peer w r k (part_at m peer) reply h.after events replies bound all owed
+    (λ here. subst (λ (n : ℕ). IsReliableAt (part_at m n) r.number) (sym here) reliable) h.step rest
+owed_step w r tests sent m (world.Resume peer k) reply new events replies bound all owed reliable (inr h) rest =
+    subst (λ (x : Reply). LosesNoneFrom bound w r (world.Resume peer k ∷ events) (x ∷ replies)) (sym h.1.0) rest
 
 -- the policies of the two stay
 pub next_reliable : (tests : AllTests) (sent : ℕ) (m : Machine) (ev : WorldEvent) (reply : Reply) (new : Machine)
@@ -144,7 +166,7 @@ owed_kept : (tests : AllTests) (w r : Endpoint) (m after : Machine) (events : Li
     → Run tests sent m events replies last after → LosesNoneFrom bound w r events replies
 owed_kept tests w r m after [] [] sent last bound all owed reliable run = tt
 owed_kept tests w r m after (e ∷ es) (p ∷ ps) sent last bound all owed reliable run =
-    let more = run_owed tests m after (e ∷ es) (p ∷ ps) sent last w r run in
+    let more = runs_owe_no_more tests sent m (e ∷ es) (p ∷ ps) last after run w r in
     owed_step w r tests sent m e p run.0 es ps bound all (omega (arith, more, owed)) reliable run.2
     (owed_kept tests w r (machine_ended m e run.0) after es ps run.1 last bound
     (next_policy tests sent m e p run.0 w run.2 all) owed (next_reliable tests sent m e p run.0 r run.2 reliable) run.4)
@@ -159,7 +181,7 @@ pub keep_all_is_kept : (tests : AllTests) (w r : Endpoint) (m after : Machine) (
 keep_all_is_kept tests w r m after events replies sent last all reliable run =
     owed_kept tests w r m after events replies sent last (owed_from (writer_at after w) r) all (omega arith) reliable run
 
--- ---- where nobody comes or goes
+-- ---- while nobody comes or goes
 
 no_passes : (m : Machine) (i : ℕ) (w : Endpoint) (k : ℕ) (old : Part) (ms : List Move) (new : Part)
     → (writer_at m w).policy ≡ KeepAll → IsReliableAt old k → AreMoves (closed_grounds_of m i) old ms new → PassesNone w k ms
@@ -194,6 +216,16 @@ loses_delivery m i w r packet old (Reported report) new events replies all relia
     (λ here. no_passes m i w r.number old report.moves new all (reliable here) h, rest)
 loses_delivery m i w r packet old reply new events replies all reliable h rest = absurd h
 
+-- so does what is reported where places are tried again
+loses_resume : (m : Machine) (i : ℕ) (w r : Endpoint) (k : ℕ) (old : Part) (reply : Reply) (new : Part)
+    (events : List WorldEvent) (replies : List Reply) → (writer_at m w).policy ≡ KeepAll
+    → (i ≡ r.peer → IsReliableAt old r.number) → ResumeStep (closed_grounds_of m i) old k reply new
+    → LosesNone w r events replies → LosesNone w r (world.Resume i k ∷ events) (reply ∷ replies)
+loses_resume m i w r k old (Reported report) new events replies all reliable h rest =
+    (λ here. no_passes m i w r.number old report.moves new all (reliable here) h.2, rest)
+loses_resume m i w r k old (Refused code) new events replies all reliable h rest = rest
+loses_resume m i w r k old reply new events replies all reliable h rest = absurd h
+
 Step-loses : (w r : Endpoint) (tests : AllTests) (sent : ℕ) (m : Machine) (ev : WorldEvent) (reply : Reply)
     (new : Machine) (events : List WorldEvent) (replies : List Reply) → (writer_at m w).policy ≡ KeepAll
     → IsReliableAt (part_at m r.peer) r.number → ClosedStep tests sent m ev reply new → LosesNone w r events replies
@@ -205,16 +237,21 @@ Step-loses w r tests sent m (world.Deliver peer packet) reply new events replies
     (λ here. subst (λ (n : ℕ). IsReliableAt (part_at m n) r.number) (sym here) reliable) h.2.step rest
 Step-loses w r tests sent m (world.Deliver peer packet) reply new events replies all reliable (inr h) rest =
     subst (λ (x : Reply). LosesNone w r (world.Deliver peer packet ∷ events) (x ∷ replies)) (sym h.1.0) rest
+Step-loses w r tests sent m (world.Resume peer k) reply new events replies all reliable (inl h) rest =
+    loses_resume m peer w r k (part_at m peer) reply h.after events replies all
+    (λ here. subst (λ (n : ℕ). IsReliableAt (part_at m n) r.number) (sym here) reliable) h.step rest
+Step-loses w r tests sent m (world.Resume peer k) reply new events replies all reliable (inr h) rest =
+    subst (λ (x : Reply). LosesNone w r (world.Resume peer k ∷ events) (x ∷ replies)) (sym h.1.0) rest
 
 pub closed_loses_none : (tests : AllTests) (w r : Endpoint) (m after : Machine) (events : List WorldEvent)
-    (replies : List Reply) (sent last : ℕ) → IsClosed m → (writer_at m w).policy ≡ KeepAll
+    (replies : List Reply) (sent last : ℕ) → NobodyTold events → IsClosed m → (writer_at m w).policy ≡ KeepAll
     → IsReliableAt (part_at m r.peer) r.number
     → Run tests sent m events replies last after → LosesNone w r events replies
-closed_loses_none tests w r m after [] [] sent last closed all reliable run = tt
-closed_loses_none tests w r m after (e ∷ es) (p ∷ ps) sent last closed all reliable run =
+closed_loses_none tests w r m after [] [] sent last none closed all reliable run = tt
+closed_loses_none tests w r m after (e ∷ es) (p ∷ ps) sent last none closed all reliable run =
     Step-loses w r tests sent m e p run.0 es ps all reliable (step_closed tests sent m e p run.0 closed run.2)
-    (closed_loses_none tests w r (machine_ended m e run.0) after es ps run.1 last
-    (stays_closed tests sent m e p run.0 closed run.2) (next_policy tests sent m e p run.0 w run.2 all)
+    (closed_loses_none tests w r (machine_ended m e run.0) after es ps run.1 last none.1
+    (stays_closed tests sent m e p run.0 none.0 closed run.2) (next_policy tests sent m e p run.0 w run.2 all)
     (next_reliable tests sent m e p run.0 r run.2 reliable) run.4)
-closed_loses_none tests w r m after [] (p ∷ ps) sent last closed all reliable run = absurd run
-closed_loses_none tests w r m after (e ∷ es) [] sent last closed all reliable run = absurd run
+closed_loses_none tests w r m after [] (p ∷ ps) sent last none closed all reliable run = absurd run
+closed_loses_none tests w r m after (e ∷ es) [] sent last none closed all reliable run = absurd run

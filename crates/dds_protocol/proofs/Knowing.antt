@@ -8,7 +8,7 @@ use Rattle.rtps_sets.specs.NumberSet.{NumberSet}
 use Rattle.rtps_reader.specs.declared.step.AckNackDue.{AckNackDue}
 use Rattle.rtps_reader.specs.Tracked.{Slot, Missing, Held, Irrelevant, Tracked, is_passable_slot, is_open, is_named, with_data, with_gap, with_heartbeat}
 use Rattle.rtps_reader.specs.Answer.{answered}
-use Rattle.dds_machine.specs.declared.endpoint.Endpoint.{Endpoint}
+use Rattle.dds_base.specs.declared.endpoint.Endpoint.{Endpoint}
 use Rattle.dds_protocol.specs.Claims.{ChangeIs, MayPass, Claimed}
 use Rattle.dds_protocol.specs.Backed.{reader_at, IsClaimed}
 use Rattle.dds_protocol.proofs.Ways.{HasGone}

@@ -8,7 +8,7 @@ use Rattle.dds_base.specs.Places.{Match}
 use Rattle.rtps_reader.specs.Tracked.{Tracked}
 use Rattle.rtps_reader.specs.Answer.{answered}
 use Rattle.rtps_wire.specs.declared.heartbeat.Heartbeat.{Heartbeat as HeartbeatBody}
-use Rattle.dds_machine.specs.declared.endpoint.Endpoint.{Endpoint}
+use Rattle.dds_base.specs.declared.endpoint.Endpoint.{Endpoint}
 use Rattle.dds_machine.specs.declared.reply.Move.{Move}
 use Rattle.dds_machine.specs.Part.{Attachment}
 use Rattle.dds_protocol.specs.Claims.{Receiver}

@@ -1,11 +1,16 @@
 pub mod Owing
 pub mod Growth
+pub mod Told
+pub mod PeersOf
 pub mod Composed
+pub mod Resumed
 pub mod RunLaws
 pub mod Policies
 pub mod InOrder
+pub mod Lanes
 pub mod InOrderRuns
 pub mod KeptRuns
+pub mod ResumedRows
 pub mod Opened
 pub mod OpenedPeers
 pub mod Bounded
@@ -13,6 +18,7 @@ mod WorkedReceivers
 mod WorkedExamples
 mod WorkedPackets
 mod WorkedMoves
+mod WorkedResuming
 mod WorkedPeers
 mod WorkedReceipt
 mod WorkedTicks
@@ -76,5 +82,4 @@ pub mod EndsOpened
 pub mod Closed
 pub mod ClosedSteps
 pub mod Tellings
-pub mod ToldRuns
 pub mod GoesOn

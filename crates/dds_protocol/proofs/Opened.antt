@@ -6,7 +6,7 @@ use Rattle.dds_base.specs.declared.config.Config.{Config}
 use Rattle.dds_base.specs.declared.config.PeerConfig.{PeerConfig}
 use Rattle.dds_base.specs.declared.config.WriterConfig.{WriterConfig}
 use Rattle.dds_base.specs.declared.config.ReaderConfig.{ReaderConfig}
-use Rattle.dds_machine.specs.declared.endpoint.Endpoint.{Endpoint}
+use Rattle.dds_base.specs.declared.endpoint.Endpoint.{Endpoint}
 use Rattle.dds_machine.specs.Numbered.{numbered, HasNumber}
 use Rattle.dds_machine.specs.Part.{Begun, row_of, NoLess, IsAtMost, same_endpoint, ReaderProxy, WriterProxy, Part, Reader, no_part, no_reader, no_writer, own_reader, own_writer, own_proxies, acknowledged_of, owed_from, place_of}
 use Rattle.dds_protocol.specs.Peer.{Peer, Delivery, no_peer}

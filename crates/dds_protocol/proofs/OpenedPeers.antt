@@ -8,7 +8,7 @@ use Rattle.dds_base.specs.declared.config.PeerConfig.{PeerConfig}
 use Rattle.dds_base.specs.declared.config.WriterConfig.{WriterConfig}
 use Rattle.dds_base.specs.declared.config.ReaderConfig.{ReaderConfig}
 use Rattle.rtps_reader.specs.Tracked.{is_passable}
-use Rattle.dds_machine.specs.declared.endpoint.Endpoint.{Endpoint}
+use Rattle.dds_base.specs.declared.endpoint.Endpoint.{Endpoint}
 use Rattle.dds_machine.specs.Numbered.{numbered}
 use Rattle.dds_machine.specs.Part.{Begun, row_of, same_endpoint, WriterProxy, own_proxies, place_of, heard_of}
 use Rattle.dds_protocol.specs.Peer.{Peer, Delivery, no_peer, state_of, packets_of}

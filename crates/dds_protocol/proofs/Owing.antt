@@ -5,7 +5,7 @@ use Rattle.std.specs.Option.{option_map, option_map_or}
 use Rattle.std.proofs.Math.Nat.{min-le_left, min-le_right, le-min}
 use Rattle.dds_base.specs.declared.change.Change.{Change}
 use Rattle.dds_base.specs.Written.{Written, Registered, Changed, Asserted, LookedAt, StrengthSet, Ticked, changes_of}
-use Rattle.dds_machine.specs.declared.endpoint.Endpoint.{Endpoint}
+use Rattle.dds_base.specs.declared.endpoint.Endpoint.{Endpoint}
 use Rattle.dds_machine.specs.Matching.{joined, left, new_row}
 use Rattle.dds_machine.specs.Part.{same_endpoint, acknowledged_of, IsAtMost, IsCovered, NoLess, ReaderProxy, Writer, row_of, with_acknowledged, owed_from, writer_changes}
 use Rattle.dds_machine.proofs.Tables.{acknowledged-cases, append_nothing, at_most_on, row-append, row-cases, same_is}

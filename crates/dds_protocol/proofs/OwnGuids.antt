@@ -21,7 +21,7 @@ use Rattle.dds_base.specs.Checked.{unknown_prefix, same_prefix, same_entity, has
 use Rattle.dds_base.specs.Matched.{same_topic, of_matched_writers}
 use Rattle.dds_base.specs.MatchedAt.{of_writers_in}
 use Rattle.dds_base.specs.Ownership.{HaveOwnGuids}
-use Rattle.dds_machine.specs.declared.endpoint.Endpoint.{Endpoint}
+use Rattle.dds_base.specs.declared.endpoint.Endpoint.{Endpoint}
 use Rattle.dds_base.specs.declared.config.Config.{Config}
 use Rattle.dds_protocol.specs.Claims.{IsNumbered, IsWriter, IsReader, every_reader, every_peer}
 use Rattle.std.proofs.lemmas.Option.{same_Some}

@@ -17,7 +17,7 @@ use Rattle.rtps_writer.specs.declared.answer.Answer.{Answer}
 use Rattle.rtps_writer.specs.declared.answer.Answer.TheVariants.{Data as AnswersData, Gap as AnswersGap}
 use Rattle.rtps_writer.specs.Answers.{IsRight, is_answer_to, answers_to, is_requested, requested}
 use Rattle.rtps_writer.proofs.AnswerFacts.{answers-complete, answers-right}
-use Rattle.dds_machine.specs.declared.endpoint.Endpoint.{Endpoint}
+use Rattle.dds_base.specs.declared.endpoint.Endpoint.{Endpoint}
 use Rattle.dds_protocol.specs.declared.event.Packet.{Packet}
 use Rattle.dds_machine.specs.Part.{Writer, no_writer, own_writer, acknowledged_of, owed_from, writer_changes, history_of}
 use Rattle.dds_protocol.specs.Claims.{IsToReader}
@@ -96,7 +96,7 @@ took_seat c old new dues t m w r s =
       qos = s.qos;
       moment = s.moment;
       place = s.place;
-      begun = s.begun;
+      stands = s.stands;
     })
 
 pub took_standing : (c : Asking) (old new : State) (dues : List Due) → Took c old dues new → (w : Endpoint) (r : ℕ)

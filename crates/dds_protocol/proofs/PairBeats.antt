@@ -1,7 +1,6 @@
 -- A tick sends a HEARTBEAT to the peer of each reader that is behind.
-use Rattle.std.proofs.Common.{◌≡◌, ℕ, zero, suc, ◌+◌, ◌-◌, ◌^◌, ◌<◌, ◌≤◌, ◌==◌, ◌||◌, Bool, true, false, cond, nat_lt, nat_le, List, [], ◌∷◌, Some, None, Contains, length, map, filter, get_or, refl, subst, ap, sym, arith, eqb-true}
+use Rattle.std.proofs.Common.{◌≡◌, ℕ, zero, suc, ◌+◌, ◌-◌, ◌^◌, ◌<◌, ◌≤◌, Bool, true, false, cond, nat_lt, nat_le, List, [], ◌∷◌, Some, None, Contains, length, map, filter, get_or, refl, subst, ap, sym, arith}
 use Rattle.std.specs.Prelude.{if◌then◌else◌}
-use Rattle.std.specs.List.{list_any}
 use Rattle.std.specs.Option.{option_map}
 use Rattle.std.proofs.lemmas.Bool.Decides.{nat_tests}
 use Rattle.std.proofs.lemmas.List.Elements.{Contains-append_left, Contains-append_right}
@@ -10,7 +9,7 @@ use Rattle.dds_base.specs.declared.config.Config.{Config}
 use Rattle.dds_base.specs.Checked.{check_refusal}
 use Rattle.rtps_wire.specs.declared.submessage.Submessage.TheVariants.{Heartbeat}
 use Rattle.rtps_wire.specs.Messages.{IsWritable}
-use Rattle.dds_machine.specs.declared.endpoint.Endpoint.{Endpoint}
+use Rattle.dds_base.specs.declared.endpoint.Endpoint.{Endpoint}
 use Rattle.dds_protocol.specs.declared.event.Packet.{Packet}
 use Rattle.dds_machine.specs.declared.event.WorldEvent.TheVariants as world
 use Rattle.dds_machine.specs.declared.reply.Reply.TheVariants.{Done}
@@ -24,35 +23,18 @@ use Rattle.dds_protocol.specs.World.{WorldState, peer_at, machine_of}
 use Rattle.dds_protocol.specs.Fresh.{HasUsedCounts, heartbeats_used_at}
 use Rattle.dds_protocol.specs.Repair.{HasBeatTo}
 use Rattle.dds_protocol.specs.Rules.{RuledStep}
-use Rattle.dds_protocol.proofs.Composed.{later_in, parts_at}
+use Rattle.dds_protocol.proofs.Composed.{parts_at}
 use Rattle.dds_protocol.proofs.CountsWritten.{contains_map}
 use Rattle.dds_protocol.proofs.Dues.{addressed, stands_in}
 use Rattle.dds_protocol.proofs.DuesHeartbeats.{heartbeat_due}
 use Rattle.dds_protocol.proofs.DuesMatched.{own_name}
 use Rattle.dds_protocol.proofs.PairAnswered.{post, all_sent, due_writable}
 use Rattle.dds_protocol.proofs.PairAsked.{has_writer}
+use Rattle.dds_protocol.proofs.PeersOf.{peer_first, peer_later}
 use Rattle.dds_protocol.proofs.PairTicked.{beat_of, beat_message, ticks_there}
 use Rattle.dds_machine.proofs.Tables.{same_is}
 
 -- ---- the peers of these readers
-
-any_is : (x : ℕ) (xs : List ℕ) → list_any (λ y. y == x) xs ≡ true → Contains xs x
-any_is x [] h = cc
-any_is x (y ∷ ys) h = by (y == x) refl h (λ later. any_is x ys later)
-  where
-    by : (b : Bool) → (y == x) ≡ b → (b || list_any (λ z. z == x) ys) ≡ true
-        → (list_any (λ z. z == x) ys ≡ true → Contains ys x) → Contains (y ∷ ys) x
-    by true e k later = (0, omega arith, eqb-true y x e)
-    by false e k later = later_in y ys x (later k)
-
--- the peer of the first row is among them, and so are those of the others
-peer_first : (x : ℕ) (xs : List ℕ) (b : Bool) → list_any (λ y. y == x) xs ≡ b → Contains (if b then xs else x ∷ xs) x
-peer_first x xs true e = any_is x xs e
-peer_first x xs false e = (0, omega arith, refl)
-
-peer_later : (x y : ℕ) (xs : List ℕ) (b : Bool) → Contains xs y → Contains (if b then xs else x ∷ xs) y
-peer_later x y xs true h = h
-peer_later x y xs false h = later_in x xs y h
 
 -- a reader that is behind is among those that are
 behind_peer : (n : ℕ) (rows : List ReaderProxy) (r : Endpoint) (a : ℕ) → acknowledged_of rows r ≡ Some a → a ≤ n
@@ -70,15 +52,13 @@ behind_peer n (p ∷ ps) r a h low = by (same_endpoint p.reader r) refl h (λ k.
     kept : (t : Bool) → Contains (peers_of (ends rest)) r.peer
         → Contains (peers_of (ends (cond t (p ∷ rest) rest))) r.peer
     kept true k =
-        peer_later p.reader.peer r.peer (peers_of (ends rest))
-        (list_any (λ y. y == p.reader.peer) (peers_of (ends rest))) k
+        peer_later p.reader (ends rest) r.peer k
     kept false k = k
 
     here : p.reader ≡ r → (t : Bool) → t ≡ true → Contains (peers_of (ends (cond t (p ∷ rest) rest))) r.peer
     here e true is =
         subst (λ (x : Endpoint). Contains (peers_of (ends (p ∷ rest))) x.peer) e
-        (peer_first p.reader.peer (peers_of (ends rest))
-        (list_any (λ y. y == p.reader.peer) (peers_of (ends rest))) refl)
+        (peer_first p.reader (ends rest))
     here e false is = cc
 
     by : (b : Bool) → same_endpoint p.reader r ≡ b

@@ -8,11 +8,11 @@ use Rattle.dds_base.specs.Counts.{is_later}
 use Rattle.rtps_reader.specs.Tracked.{Tracked, with_heartbeat}
 use Rattle.rtps_wire.specs.declared.heartbeat.Heartbeat.{Heartbeat as HeartbeatBody}
 use Rattle.rtps_wire.specs.Messages.{IsWritable, spelling_of}
-use Rattle.dds_machine.specs.declared.endpoint.Endpoint.{Endpoint}
+use Rattle.dds_base.specs.declared.endpoint.Endpoint.{Endpoint}
 use Rattle.dds_machine.specs.declared.event.WorldEvent.TheVariants as world
 use Rattle.dds_machine.specs.declared.reply.Reply.TheVariants.{Done, Reported}
 use Rattle.dds_machine.specs.Numbered.{numbered}
-use Rattle.dds_machine.specs.Part.{how_of, Part, WriterProxy, ReaderProxy, Writer, no_writer, own_writer, own_proxies, own_reader, acknowledged_of, place_of, publication_among, writer_changes, heartbeats_used}
+use Rattle.dds_machine.specs.Part.{Attachment, how_of, Part, WriterProxy, ReaderProxy, Writer, no_writer, own_writer, own_proxies, acknowledged_of, place_of, publication_among, writer_changes, heartbeats_used}
 use Rattle.dds_machine.specs.Moves.{match_of}
 use Rattle.dds_protocol.specs.Dues.{IsPartOf}
 use Rattle.dds_machine.specs.Machine.{AllTests, writer_at, place_at}
@@ -31,7 +31,7 @@ use Rattle.dds_protocol.proofs.InOrder.{publication_there}
 use Rattle.dds_protocol.proofs.Knowing.{answered_same}
 use Rattle.dds_protocol.proofs.PairAsked.{has_writer}
 use Rattle.dds_protocol.proofs.PairHeard.{Pairing, reader_host, there, Heard, hears_beat, delivered_others, stays_sound}
-use Rattle.dds_protocol.proofs.PairReader.{standing_of, Seat, HearsBy}
+use Rattle.dds_protocol.proofs.PairReader.{standing_of, Seat, SeatAs, HearsBy}
 use Rattle.dds_protocol.proofs.EndsBeside.{ended_sound, world_bounded}
 use Rattle.dds_protocol.proofs.PairEnded.{changes_ended, values_ended, known_ended, leaves_ended, rows_ended, seat_ended, standing_ended}
 use Rattle.dds_protocol.proofs.PairTicked.{ticks_there, new_count, beat_of, beat_message, BeatPacket, beat_packet, TickLeaves, tick_leaves}
@@ -157,7 +157,11 @@ pub knows_place : (c : Begun) → ((ticked_reader c).known.tracked c.writer c.re
 knows_place c =
     ap (λ (k : Known). (k.tracked c.writer c.reader.number).place) (left c c.reader.peer).known ∙ c.stands.known
 
-pub seat_ticked : (c : Begun) → Seat (match c) c.writer c.reader.number (ticked_reader c)
+-- how the reader stands to the writer before the round
+abbrev pub stood : Begun → Attachment
+stood c = how_of (own_proxies (peer_at c.old c.reader.peer).part c.reader.number) c.writer
+
+pub seat_ticked : (c : Begun) → SeatAs (stood c) (match c) c.writer c.reader.number (ticked_reader c)
 unfolding match
 seat_ticked c = record {
   rows = has_reader (ticked_reader c).part c.reader.number c.place c.writer (place_ticked c);
@@ -168,9 +172,8 @@ seat_ticked c = record {
   qos = refl;
   moment = refl;
   place = place_ticked c ∙ ap (λ (n : ℕ). Some n) (sym (knows_place c));
-  begun = ap (λ (rows : List (List WriterProxy)). how_of (numbered rows c.reader.number []) c.writer)
-      (left c c.reader.peer).rows
-      ∙ c.stands.begun;
+  stands = ap (λ (rows : List (List WriterProxy)). how_of (numbered rows c.reader.number []) c.writer)
+      (left c c.reader.peer).rows;
 }
 
 pub beat_later : (c : Begun) → is_later ((ticked_reader c).known.tracked c.writer c.reader.number).count (body c).count
@@ -190,7 +193,8 @@ heard_reader c = state_of (peer_at c.heard c.reader.peer)
 pub packet : (c : Begun) → Heard (pairing c) (body c) (match c) (ticked_reader c) c.begins.hears.step.dues
     (heard_reader c)
 packet c =
-    hears_beat (pairing c) c.tests (writer_part c) (match c) (noted_tick c) c.begins.beat c.begins.lost_asks c.heard
+    hears_beat (stood c) c.stands.attached (pairing c) c.tests (writer_part c) (match c) (noted_tick c) c.begins.beat
+    c.begins.lost_asks c.heard
     (subst (λ (n : ℕ). IsWritable (beat_message c.config c.writer.peer (writer_part c) c.writer.number n))
     c.begins.beat_to (beaten c).writable)
     ((beaten c).bytes
@@ -209,26 +213,30 @@ heard_of c = (hears c).heard.known.tracked (pairing c).writer (pairing c).reader
 abbrev pub the_last : Begun → ℕ
 the_last c = length (writer_changes (the_writer c))
 
-pub goes : (c : Begun) → GoesOn (match c)
-    (with_heartbeat (body c).first_sn (body c).count ((ticked_reader c).known.tracked c.writer c.reader.number))
-    (own_reader (ticked_reader c).part c.reader.number).happened
-    (standing_of (hears c).heard c.writer c.reader.number)
-goes c = (hears c).moves.goes
+-- where the reader's place began, or had
+abbrev pub started_at : Begun → Standing
+started_at c = (hears c).started
+
+pub goes : (c : Begun) → GoesOn (match c) (with_heartbeat (body c).first_sn (body c).count (started_at c).tracked)
+    (started_at c).happened (standing_of (hears c).heard c.writer c.reader.number)
+goes c = (hears c).goes
+
+pub started_on : (c : Begun) → c.place ≤ (started_at c).tracked.place
+started_on c = let le = (hears c).further in let same = knows_place c in omega (arith, le, same)
 
 pub forward : (c : Begun) → c.place ≤ (heard_of c).place
 forward c =
     let le =
-    on_forward (match c) (with_heartbeat (body c).first_sn (body c).count
-    ((ticked_reader c).known.tracked c.writer c.reader.number))
-    (own_reader (ticked_reader c).part c.reader.number).happened
-    (standing_of (hears c).heard c.writer c.reader.number) (goes c) in
-    let same = knows_place c in omega (arith, le, same)
+    on_forward (match c) (with_heartbeat (body c).first_sn (body c).count (started_at c).tracked)
+    (started_at c).happened (standing_of (hears c).heard c.writer c.reader.number) (goes c) in
+    let on = started_on c in omega (arith, le, on)
 
 -- the reader's ACKNACKs so far
 pub acknacks : (c : Begun) → (heard_of c).acknacks ≡ (tracked_at c.old c.writer c.reader).acknacks
 acknacks c =
-    (goes c).2.stays.acknacks ∙ ap (λ (k : Known). (k.tracked c.writer c.reader.number).acknacks)
-    (left c c.reader.peer).known
+    (goes c).2.stays.acknacks
+    ∙ ((hears c).acknacks ∙ ap (λ (k : Known). (k.tracked c.writer c.reader.number).acknacks)
+    (left c c.reader.peer).known)
 
 pub seat_heard : (c : Begun) → Seat (match c) c.writer c.reader.number (heard_reader c)
 seat_heard c = (hears c).seat

@@ -17,11 +17,11 @@ use Rattle.rtps_reader.specs.Answer.{AnswersHeartbeat, Tells, answered}
 use Rattle.rtps_wire.specs.Messages.{IsWritable}
 use Rattle.rtps_writer.specs.declared.answer.Answer.{Answer}
 use Rattle.rtps_writer.specs.Answers.{requested}
-use Rattle.dds_machine.specs.declared.endpoint.Endpoint.{Endpoint}
+use Rattle.dds_base.specs.declared.endpoint.Endpoint.{Endpoint}
 use Rattle.dds_protocol.specs.declared.event.Packet.{Packet}
 use Rattle.dds_machine.specs.declared.event.WorldEvent.TheVariants as world
 use Rattle.dds_machine.specs.declared.reply.Reply.TheVariants.{Reported}
-use Rattle.dds_machine.specs.Part.{IsCovered, Writer, own_reader, acknowledged_of, owed_from, writer_changes, ReaderProxy}
+use Rattle.dds_machine.specs.Part.{Attachment, IsCovered, Writer, is_attached, own_reader, acknowledged_of, owed_from, writer_changes, ReaderProxy}
 use Rattle.dds_machine.specs.Moves.{match_of, position_at}
 use Rattle.dds_machine.specs.Machine.{AllTests, writer_at}
 use Rattle.dds_protocol.specs.Peer.{Peer, state_of}
@@ -51,7 +51,7 @@ use Rattle.dds_machine.proofs.Tables.{acknowledged-hits}
 use Rattle.dds_machine.specs.declared.event.WorldEvent.{WorldEvent}
 use Rattle.dds_protocol.specs.Noticing.{world_ended}
 use Rattle.dds_protocol.proofs.PairEnded.{rows_ended, seat_ended, standing_ended}
-use Rattle.dds_protocol.proofs.PairBegun.{rows_heard, the_writer, noted_beat, noted_tick, seat_noted, standing_noted, Begun, the_begun, HasRow, writer_is, place_is, pairing, body, ticked_reader, match, knows_place, heard_reader, hears, heard_of, the_last, goes, forward, acknacks, heard_writer, same_answered, writer_heard, row_heard, changes_heard, values_heard, place_heard, packet}
+use Rattle.dds_protocol.proofs.PairBegun.{rows_heard, the_writer, noted_beat, noted_tick, seat_noted, standing_noted, Begun, the_begun, HasRow, writer_is, place_is, pairing, body, ticked_reader, match, started_at, started_on, heard_reader, hears, heard_of, the_last, goes, forward, acknacks, heard_writer, same_answered, writer_heard, row_heard, changes_heard, values_heard, place_heard, packet}
 
 -- a round, but for its answers
 record AskedRound : Type 0 where
@@ -321,8 +321,7 @@ takes_all c =
     (took c.given).takes.grouped (repaired c).takes)
 
 window : (c : Round) → IsRepaired (match c.given.first) (the_last c.given.first) (asked_from c.given)
-    (standing_of (ticked_reader c.given.first) c.given.first.writer c.given.first.reader.number)
-    (standing_of (new_reader c) c.given.first.writer c.given.first.reader.number)
+    (started_at c.given.first) (standing_of (new_reader c) c.given.first.writer c.given.first.reader.number)
 window c = record {
   first = (body c.given.first).first_sn;
   count = (body c.given.first).count;
@@ -350,12 +349,12 @@ low c =
     omega (arith, least, on, base, set)
 
 caught : (c : Round) → HasGoneOn (match c.given.first) (the_last c.given.first)
-    ((ticked_reader c.given.first).known.tracked c.given.first.writer c.given.first.reader.number).place
+    (started_at c.given.first).tracked.place
     (standing_of (new_reader c) c.given.first.writer c.given.first.reader.number)
 unfolding window
 caught c =
     (window_catches_up (match c.given.first) (the_last c.given.first) (asked_from c.given)
-    (standing_of (ticked_reader c.given.first) c.given.first.writer c.given.first.reader.number)
+    (started_at c.given.first)
     (standing_of (new_reader c) c.given.first.writer c.given.first.reader.number) (window c) (low c.given)).0
 
 -- ---- what holds after the round
@@ -404,12 +403,13 @@ round_catches_up c = record {
   stands = record {
     here = (repaired c).seat.there;
     place_is = place_is c.new c.given.first.reader c.given.first.writer ∙ (repaired c).seat.place;
-    begun = (repaired c).seat.begun;
+    attached = ap (λ (a : Attachment). is_attached a) (repaired c).seat.stands;
     known = refl;
     acknowledged_is = row_new c;
   };
+  begun = (repaired c).seat.stands;
   reached =
-      ⊎_elim (λ far. inl (let at = knows_place c.given.first in let last = last_is in omega (arith, far, at, last)))
+      ⊎_elim (λ far. inl (let on = started_on c.given.first in let last = last_is in omega (arith, far, on, last)))
       (λ f. inr (without_room c f)) (caught c);
   told = let on = forward c.given.first in let set = (tells c.given).set_base in omega (arith, on, set);
 }

@@ -2,7 +2,7 @@
 use Rattle.std.proofs.Common.{◌≡◌, ◌≤◌, ℕ, List, [], Some, ap, sym, ◌∙◌, subst}
 use Rattle.dds_base.specs.declared.happening.Happening.{Happening}
 use Rattle.dds_base.specs.Places.{Match}
-use Rattle.dds_machine.specs.declared.endpoint.Endpoint.{Endpoint}
+use Rattle.dds_base.specs.declared.endpoint.Endpoint.{Endpoint}
 use Rattle.dds_machine.specs.declared.event.WorldEvent.{WorldEvent}
 use Rattle.dds_protocol.specs.Noticing.{world_ended}
 use Rattle.dds_machine.specs.Numbered.{HasNumber, numbered}
@@ -60,7 +60,7 @@ module _ (before : WorldState) (e : WorldEvent) (world : WorldState) (p : ℕ) w
     moment = alike.moment ∙ s.moment;
     place = ap (λ (xs : List (List WriterProxy)). place_of (numbered xs r []) w) alike.rows
         ∙ (s.place ∙ ap (λ (k : Known). Some (k.tracked w r).place) (sym known_ended));
-    begun = ap (λ (xs : List (List WriterProxy)). how_of (numbered xs r []) w) alike.rows ∙ s.begun;
+    stands = ap (λ (xs : List (List WriterProxy)). how_of (numbered xs r []) w) alike.rows ∙ s.stands;
   }
 
   pub standing_ended : (w : Endpoint) (r : ℕ) → standing_of (state_of (peer_at (world_ended before e world) p)) w r

@@ -14,14 +14,14 @@ use Rattle.rtps_wire.specs.declared.heartbeat.Heartbeat.{Heartbeat as HeartbeatB
 use Rattle.rtps_wire.specs.declared.message.Message.{Message}
 use Rattle.rtps_wire.specs.declared.submessage.Submessage.TheVariants.{AckNack, Heartbeat}
 use Rattle.rtps_wire.specs.Messages.{IsWritable, spelling_of}
-use Rattle.dds_machine.specs.declared.endpoint.Endpoint.{Endpoint}
+use Rattle.dds_base.specs.declared.endpoint.Endpoint.{Endpoint}
 use Rattle.dds_protocol.specs.declared.event.Event.TheVariants as event
 use Rattle.dds_protocol.specs.declared.event.Packet.{Packet}
 use Rattle.dds_machine.specs.declared.event.WorldEvent.{WorldEvent}
 use Rattle.dds_machine.specs.declared.event.WorldEvent.TheVariants as world
 use Rattle.dds_machine.specs.declared.reply.Reply.{Reply}
 use Rattle.dds_machine.specs.declared.reply.Reply.TheVariants.{Reported}
-use Rattle.dds_machine.specs.Part.{Part}
+use Rattle.dds_machine.specs.Part.{Attachment, is_attached, Part}
 use Rattle.dds_protocol.specs.Claims.{Receiver, is_for, every_peer, Names, IsWriter, IsReader, IsToReliable}
 use Rattle.dds_protocol.specs.Receipt.{prefix_of}
 use Rattle.dds_machine.specs.Machine.{AllTests}
@@ -41,7 +41,7 @@ use Rattle.dds_protocol.proofs.DuesMatched.{same_end}
 use Rattle.dds_protocol.proofs.FreshCounts.{IsWrittenOf, steps_stays}
 use Rattle.dds_protocol.proofs.OwnGuids.{prefix-Decides}
 use Rattle.dds_protocol.proofs.PairMessages.{HeardPacket, heartbeat_packet}
-use Rattle.dds_protocol.proofs.PairReader.{Seat, reader_ends}
+use Rattle.dds_protocol.proofs.PairReader.{SeatAs, reader_ends}
 use Rattle.dds_protocol.proofs.PairTicked.{beat_of, beat_message}
 use Rattle.dds_protocol.proofs.PairTurns.{Host, OfOther}
 
@@ -199,18 +199,18 @@ ask_found p h id m old new dues hp ask count of d =
     own among = by hp.hears.answer refl (subst (λ (ds : List Due). Contains ds d.due) hp.hears.dues_are among)
 
 -- a HEARTBEAT that is new is heard
-pub hears_beat : (p : Pairing) (tests : AllTests) (part : Part) (m : Match) (old : WorldState) (beat : Packet)
-    (lost : ℕ) (new : WorldState)
+pub hears_beat : (how : Attachment) → is_attached how ≡ true → (p : Pairing) (tests : AllTests) (part : Part) (m : Match)
+    (old : WorldState) (beat : Packet) (lost : ℕ) (new : WorldState)
     → IsWritable (beat_message p.config p.writer.peer part p.writer.number p.reader.peer)
     → beat.bytes ≡ spelling_of (beat_message p.config p.writer.peer part p.writer.number p.reader.peer)
     → (h : Delivers p.config tests old p.reader.peer beat lost new)
-    → Seat m p.writer p.reader.number (state_of (peer_at old p.reader.peer))
+    → SeatAs how m p.writer p.reader.number (state_of (peer_at old p.reader.peer))
     → is_later ((peer_at old p.reader.peer).known.tracked p.writer p.reader.number).count
     (beat_of p.config p.writer.peer part p.writer.number).count ≡ true
     → Heard p (beat_of p.config p.writer.peer part p.writer.number) m (state_of (peer_at old p.reader.peer)) h.step.dues
     (state_of (peer_at new p.reader.peer))
-hears_beat p tests part m old beat lost new writable bytes h seat later =
-    heartbeat_packet (reader_host p) refl (writer_prefix p)
+hears_beat how met p tests part m old beat lost new writable bytes h seat later =
+    heartbeat_packet how met (reader_host p) refl (writer_prefix p)
     (reader_prefix p) body m p.writer p.reader.number refl (to_reader p body.reader_id (inr refl))
     (state_of (peer_at old p.reader.peer)) h.report h.step.dues
     (state_of (peer_at new p.reader.peer)) seat later writable h.whole takes

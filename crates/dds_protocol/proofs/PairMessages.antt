@@ -20,10 +20,10 @@ use Rattle.rtps_wire.specs.Content.{change_in, content_of}
 use Rattle.rtps_wire.specs.Messages.{IsWritable, spelling_of}
 use Rattle.rtps_writer.specs.declared.answer.Answer.{Answer}
 use Rattle.rtps_writer.specs.declared.answer.Answer.TheVariants.{Data as AnswersData, Gap as AnswersGap}
-use Rattle.dds_machine.specs.declared.endpoint.Endpoint.{Endpoint}
+use Rattle.dds_base.specs.declared.endpoint.Endpoint.{Endpoint}
 use Rattle.dds_machine.specs.declared.reply.Move.{Move}
 use Rattle.dds_machine.specs.declared.reply.Report.{Report}
-use Rattle.dds_machine.specs.Part.{own_writer}
+use Rattle.dds_machine.specs.Part.{Attachment, is_attached, own_writer}
 use Rattle.dds_protocol.specs.Claims.{Receiver, receiver_of, after_submessage, is_for, stamp_of, IsToReliable}
 use Rattle.dds_protocol.specs.Receipt.{prefix_of}
 use Rattle.dds_protocol.specs.DueMessages.{Due, data_of, submessages_of, answer_message}
@@ -33,7 +33,7 @@ use Rattle.dds_protocol.specs.CatchUp.{TakesAnswer, TakesAnswers}
 use Rattle.dds_protocol.proofs.Dues.{addressed, message_to}
 use Rattle.dds_protocol.proofs.PairAsked.{Asking, Took, HasRow, asked_takes}
 use Rattle.dds_protocol.proofs.PairPackets.{read_whole, FollowsOn, idle_head, dst_idle, ts_idle, TakesLast, last_head}
-use Rattle.dds_protocol.proofs.PairReader.{standing_of, Seat, seat_kept, MovesBy, moves_between, data_moves, gap_moves, HearsBy, heartbeat_moves, hears_between}
+use Rattle.dds_protocol.proofs.PairReader.{standing_of, Seat, SeatAs, seat_kept, MovesBy, moves_between, data_moves, gap_moves, HearsBy, heartbeat_moves, hears_between}
 use Rattle.dds_protocol.proofs.PairTurns.{Host, Keeps, keeps_same, keeps_on, OfOther, TurnOf, turns_keep, turn_of}
 
 -- ---- a HEARTBEAT
@@ -47,16 +47,16 @@ pub record HeardPacket (c : Host) (at : Receiver) (h : HeartbeatBody) (m : Match
   pub each : (d : Due) → Contains dues d → Contains due d ⊎ OfOther c r d
   pub among : (d : Due) → Contains due d → Contains dues d
 
-pub heartbeat_packet : (c : Host) → c.own ≡ prefix_of c.config c.peer
+pub heartbeat_packet : (how : Attachment) → is_attached how ≡ true → (c : Host) → c.own ≡ prefix_of c.config c.peer
     → (from to : GuidPrefix) (h : HeartbeatBody) (m : Match) (w : Endpoint) (r : ℕ)
     → h.liveliness_flag ≡ false → IsToReliable c.config c.own (addressed from to) h.reader_id h.writer_id w
     (reader_at c.peer r)
-    → (old : State) (report : Report) (dues : List Due) (new : State) → Seat m w r old
+    → (old : State) (report : Report) (dues : List Due) (new : State) → SeatAs how m w r old
     → is_later (old.known.tracked w r).count h.count ≡ true
     → IsWritable (message_to from to (Heartbeat h ∷ [])) → report.refused ≡ None
     → TakesPacket c.config c.peer (spelling_of (message_to from to (Heartbeat h ∷ []))) old report dues new
     → HeardPacket c (addressed from to) h m w r old dues new
-heartbeat_packet c own from to h m w r quiet is old report dues new s later writable whole takes =
+heartbeat_packet how met c own from to h m w r quiet is old report dues new s later writable whole takes =
     record {
       due = turn.due;
       hears =
@@ -97,7 +97,7 @@ heartbeat_packet c own from to h m w r quiet is old report dues new s later writ
 
     hears : HearsBy c at h m w r turn.before turn.due turn.after
     hears =
-        heartbeat_moves c at h m w r quiet is turn.before turn.made turn.due turn.after
+        heartbeat_moves how met c at h m w r quiet is turn.before turn.made turn.due turn.after
         (seat_kept m w r old turn.before turn.same_before turn.keeps_before s)
         (ap (λ t. is_later t.count h.count) (turn.same_before.tracked w) ∙ later) turn.takes
 

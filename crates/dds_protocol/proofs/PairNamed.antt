@@ -7,7 +7,7 @@ use Rattle.dds_base.specs.declared.config.PeerConfig.{PeerConfig}
 use Rattle.dds_base.specs.declared.config.ReaderConfig.{ReaderConfig}
 use Rattle.dds_base.specs.declared.config.WriterConfig.{WriterConfig}
 use Rattle.dds_base.specs.Matched.{is_reliable_reader, same_topic}
-use Rattle.dds_machine.specs.declared.endpoint.Endpoint.{Endpoint}
+use Rattle.dds_base.specs.declared.endpoint.Endpoint.{Endpoint}
 use Rattle.dds_machine.specs.Part.{Part, ReaderProxy, same_endpoint, row_of, own_writer, acknowledged_of}
 use Rattle.dds_protocol.specs.Claims.{IsNumbered}
 use Rattle.dds_protocol.specs.DueMessages.{writer_entity}

@@ -22,7 +22,7 @@ use Rattle.rtps_wire.specs.Content.{change_in}
 use Rattle.rtps_wire.specs.declared.seek.Sought.TheVariants as sought
 use Rattle.rtps_wire.specs.Messages.{IsWritable, spelling_of}
 use Rattle.rtps_wire.specs.Sought.{HasSought}
-use Rattle.dds_machine.specs.declared.endpoint.Endpoint.{Endpoint}
+use Rattle.dds_base.specs.declared.endpoint.Endpoint.{Endpoint}
 use Rattle.dds_machine.specs.declared.reply.Move.{Move}
 use Rattle.dds_machine.specs.Part.{Attachment, Begun, WriterProxy, own_proxies, own_reader, with_begun, with_heard}
 use Rattle.dds_protocol.specs.Claims.{Receiver, IsReader, IsToReader}

@@ -5,7 +5,7 @@ use Rattle.dds_base.specs.declared.happening.Happening.TheVariants.{Read as HasR
 use Rattle.dds_base.specs.declared.qos.ReaderQos.{ReaderQos}
 use Rattle.dds_base.specs.Matched.{is_reliable}
 use Rattle.dds_machine.specs.declared.call.Call.{Call}
-use Rattle.dds_machine.specs.declared.endpoint.Endpoint.{Endpoint}
+use Rattle.dds_base.specs.declared.endpoint.Endpoint.{Endpoint}
 use Rattle.dds_machine.specs.declared.event.WorldEvent.{WorldEvent}
 use Rattle.dds_machine.specs.declared.event.WorldEvent.TheVariants as world
 use Rattle.dds_machine.specs.declared.reply.Move.{Move}
@@ -16,11 +16,13 @@ use Rattle.dds_machine.specs.Calls.{CallStep}
 use Rattle.dds_machine.specs.Machine.{Machine, AllTests, part_at, grounds_of, Step}
 use Rattle.dds_machine.specs.Numbered.{numbered, with_numbered}
 use Rattle.dds_machine.specs.Part.{WriterProxy, Reader, Dds, Part, no_reader, no_part, own_proxies, own_reader, at_reader, with_place, with_begun, with_heard}
+use Rattle.dds_machine.specs.Matching.{Telling, MatchReader, UnmatchReader, MatchWriter, UnmatchWriter, parted_at, reader_joined, reader_left, reader_looked_at, seen_after_telling}
 use Rattle.dds_machine.specs.Moves.{Grounds, IsMove, AreMoves, DeliveryStep}
 use Rattle.dds_machine.specs.Ticks.{TickStep, reader_ticked}
 use Rattle.dds_machine.specs.Watching.{Tests}
 use Rattle.dds_machine.proofs.Tables.{numbered-cases, numbered-map-cases}
-use Rattle.dds_protocol.proofs.CallChanges.{CallChange, unchanged, reads, takes, looks, watches, changes_of}
+use Rattle.dds_protocol.proofs.Resumed.{as_moves}
+use Rattle.dds_protocol.proofs.CallChanges.{CallChange, unchanged, reads, takes, looks, watches, is_told, sees_matches, changes_of}
 
 -- the peer's reader of this number is a reliable one
 abbrev pub IsReliableAt : Part → ℕ → Type 0
@@ -50,7 +52,7 @@ pub still_reliable : (g : Grounds) (old : Part) (m : Move) (new : Part) (r : ℕ
 still_reliable g old m new r h reliable =
     ap (λ (q : ReaderQos). is_reliable q.reliability) (move_qos g old m new r h) ∙ reliable
 
-moves_qos : (g : Grounds) (old : Part) (ms : List Move) (new : Part) (r : ℕ) → AreMoves g old ms new
+pub moves_qos : (g : Grounds) (old : Part) (ms : List Move) (new : Part) (r : ℕ) → AreMoves g old ms new
     → (own_reader new r).qos ≡ (own_reader old r).qos
 moves_qos g old [] new r h = ap (λ (x : Part). (own_reader x r).qos) h
 moves_qos g old (m ∷ ms) new r h = moves_qos g h.0 ms new r h.2 ∙ move_qos g old m h.0 r h.1
@@ -72,6 +74,17 @@ changed_qos old new k reader r same e =
     (λ o. ap (λ (x : Reader). x.qos) o.1 ∙ (same ∙ ap (λ (j : ℕ). (own_reader old j).qos) (sym o.0)))
     (numbered-cases old.dds.readers k reader r no_reader)
 
+-- a telling leaves the policies
+pub telling_qos : (old : Part) (t : Telling) (r : ℕ)
+    → (numbered (seen_after_telling old t).readers r no_reader).qos ≡ (own_reader old r).qos
+telling_qos old (MatchReader w v reliable) r = refl
+telling_qos old (UnmatchReader w v) r = refl
+telling_qos old (MatchWriter k w) r =
+    changed_qos old (seen_after_telling old (MatchWriter k w)) k (reader_joined (own_reader old k) w) r refl refl
+telling_qos old (UnmatchWriter k w) r =
+    changed_qos old (seen_after_telling old (UnmatchWriter k w)) k
+    (reader_left (own_reader old k) w (parted_at old k w)) r refl refl
+
 change_qos : (old : Part) (new : Dds) (r : ℕ) → CallChange old new
     → (numbered new.readers r no_reader).qos ≡ (own_reader old r).qos
 change_qos old new r (unchanged is) = ap (λ (d : Dds). (numbered d.readers r no_reader).qos) is
@@ -82,6 +95,10 @@ change_qos old new r (takes k samples is) =
 change_qos old new r (looks k seen is) =
     changed_qos old new k (record (own_reader old k) { seen = seen }) r refl is
 change_qos old new r (watches after filters sets is) = ap (λ (d : Dds). (numbered d.readers r no_reader).qos) is
+change_qos old new r (is_told t is) =
+    ap (λ (d : Dds). (numbered d.readers r no_reader).qos) is ∙ telling_qos old t r
+change_qos old new r (sees_matches k is) =
+    changed_qos old new k (reader_looked_at (own_proxies old k) (own_reader old k)) r refl is
 
 pub call_qos : (tests : Tests) (old : Part) (c : Call) (reply : Reply) (new : Part) → CallStep tests old c reply new
     → (r : ℕ) → (own_reader new r).qos ≡ (own_reader old r).qos
@@ -132,4 +149,10 @@ Step-qos tests sent m (world.Deliver peer packet) reply new r (inl h) =
     reader_qos_at m peer h.2.after new r h.2.changed
     (λ k. delivery_qos (grounds_of m peer) (part_at m peer) reply h.2.after k h.2.step)
 Step-qos tests sent m (world.Deliver peer packet) reply new r (inr h) =
+    ap (λ (x : Machine). (own_reader (part_at x r.peer) r.number).qos) h.1.1
+Step-qos tests sent m (world.Resume peer k) reply new r (inl h) =
+    let made = as_moves (grounds_of m peer) (part_at m peer) k reply h.after h.step in
+    reader_qos_at m peer h.after new r h.changed
+    (λ n. moves_qos (grounds_of m peer) (part_at m peer) made.0 h.after n made.1)
+Step-qos tests sent m (world.Resume peer k) reply new r (inr h) =
     ap (λ (x : Machine). (own_reader (part_at x r.peer) r.number).qos) h.1.1

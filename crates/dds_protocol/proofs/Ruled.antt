@@ -12,7 +12,7 @@ use Rattle.dds_base.proofs.PlaceLaws.{SayAsMuch, goes_on, goes_nowhere}
 use Rattle.dds_base.specs.Counts.{is_later}
 use Rattle.rtps_reader.specs.Tracked.{Tracked}
 use Rattle.rtps_reader.specs.Advance.{known}
-use Rattle.dds_machine.specs.declared.endpoint.Endpoint.{Endpoint}
+use Rattle.dds_base.specs.declared.endpoint.Endpoint.{Endpoint}
 use Rattle.dds_machine.specs.declared.reply.Move.{Move}
 use Rattle.dds_machine.specs.declared.reply.Move.TheVariants.{Place}
 use Rattle.dds_machine.specs.Numbered.{HasNumber}
@@ -152,21 +152,27 @@ way_moves g old w r moves new h way = by (nat_lt h.place h.to) refl
         let made : moves ≡ [] = h.moves_are ∙ ap (λ (b : Bool). if b then Place w r h.to h.passed ∷ [] else []) e in
         subst (λ (ms : List Move). AreMoves g old.part ms new.part) (sym made) (stays (grind (arith, nat_tests)))
 
--- so are those of a place that goes as far as it can
-pub goes_moves : (config : Config) (before : List Delivery) (packet : List ℕ) (rows : List (List WriterProxy))
-    (peer index : ℕ) (old : State) (w : Endpoint) (r : ℕ) (t : Tracked) (moves : List Move) (new : State)
-    → IsClaimed config peer (packet ∷ packets_of before) w r t → (h : Goes old w r t moves new) → t.place ≡ h.place
-    → AreMoves (claimed config before packet rows peer index) old.part moves new.part
-goes_moves config before packet rows peer index old w r t moves new k h at =
-    way_moves (claimed config before packet rows peer index) old w r moves new h
-    (goes_on (known t) (as_to (claimed config before packet rows peer index) w r) h.place
-    (subst (λ (n : ℕ). SayAsMuch (known t) (as_to (claimed config before packet rows peer index) w r) n) at
-    (says_as_much config before packet rows peer index w r t k))
+-- so are those of a place that goes as far as it can, where these say as much as what the reader knows
+pub goes_moves_on : (g : Grounds) (old : State) (w : Endpoint) (r : ℕ) (t : Tracked) (moves : List Move) (new : State)
+    → SayAsMuch (known t) (as_to g w r) t.place → (h : Goes old w r t moves new) → t.place ≡ h.place
+    → AreMoves g old.part moves new.part
+goes_moves_on g old w r t moves new says h at =
+    way_moves g old w r moves new h
+    (goes_on (known t) (as_to g w r) h.place (subst (λ (n : ℕ). SayAsMuch (known t) (as_to g w r) n) at says)
     (match_of old.part r h.publication) (position_at old.part r h.place) h.passed h.to
     (record { place = h.to; happened = h.happened }) (omega arith)
     (subst (λ (n : ℕ). GoesTo (known t) (match_of old.part r h.publication)
     (record { place = n; happened = (own_reader old.part r).happened }) h.passed h.to
     (record { place = h.to; happened = h.happened })) at h.advances.goes))
+
+-- so they are where packets claim what it knows
+pub goes_moves : (config : Config) (before : List Delivery) (packet : List ℕ) (rows : List (List WriterProxy))
+    (peer index : ℕ) (old : State) (w : Endpoint) (r : ℕ) (t : Tracked) (moves : List Move) (new : State)
+    → IsClaimed config peer (packet ∷ packets_of before) w r t → (h : Goes old w r t moves new) → t.place ≡ h.place
+    → AreMoves (claimed config before packet rows peer index) old.part moves new.part
+goes_moves config before packet rows peer index old w r t moves new k h at =
+    goes_moves_on (claimed config before packet rows peer index) old w r t moves new
+    (says_as_much config before packet rows peer index w r t k) h at
 
 -- other readers and writers see nothing of it
 pub way_frames : {Way : Match → List Happening → ℕ → List PassedRun → Tracked → List Happening → Type 0}
@@ -215,6 +221,19 @@ goes_backed config peer packets deliveries old w r t moves new k newest heard h 
     rows =
         numbered-same old.part.rtps.readers r (with_place (own_proxies old.part r) w h.to) []
         (has_reader old.part r h.place w h.matched.at)
+
+-- so all that the peer knows does, where the place goes on and no HEARTBEAT is told
+pub went_backed : (config : Config) (peer : ℕ) (packets : List (List ℕ)) (deliveries : List Delivery) (old : State)
+    (w : Endpoint) (r : ℕ) (t : Tracked) (moves : List Move) (new : State)
+    → IsBacked config peer packets deliveries old → t.count ≡ (old.known.tracked w r).count
+    → IsClaimed config peer packets w r t → Went old w r t moves new → IsBacked config peer packets deliveries new
+went_backed config peer packets deliveries old w r t moves new b count k h =
+    let newest : TookNone config peer deliveries w r t =
+    λ d n among applied. ap (λ (o : Option ℤ). is_later o n) count
+    ∙ b.newest w r (has_reader old.part r h.place w h.matched.at) d n among applied in
+    backed_on config peer packets deliveries w r old new (way_frames old w r moves new h) b
+    (goes_backed config peer packets deliveries old w r t moves new k newest
+    (λ n e. ap (λ (o : Option ℤ). is_later o n) count ∙ b.heard w r n e) h)
 
 -- ---- counts of HEARTBEATs
 

@@ -9,7 +9,7 @@ use Rattle.rtps_reader.specs.Answer.{answered}
 use Rattle.rtps_wire.specs.declared.heartbeat.Heartbeat.{Heartbeat as HeartbeatBody}
 use Rattle.rtps_wire.specs.declared.submessage.Submessage.{Submessage}
 use Rattle.rtps_wire.specs.declared.submessage.Submessage.TheVariants.{Heartbeat}
-use Rattle.dds_machine.specs.declared.endpoint.Endpoint.{Endpoint}
+use Rattle.dds_base.specs.declared.endpoint.Endpoint.{Endpoint}
 use Rattle.dds_machine.specs.declared.reply.Move.{Move}
 use Rattle.dds_machine.specs.Numbered.{HasNumber}
 use Rattle.dds_machine.specs.Part.{Attachment, Away, Waiting, Begun, WriterProxy, Part, how_of, is_attached, own_proxies, place_of, row_of, with_heard, heard_of, at_reader}

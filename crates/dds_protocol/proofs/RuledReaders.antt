@@ -27,7 +27,7 @@ use Rattle.rtps_wire.specs.declared.gap.Gap.{Gap as GapBody}
 use Rattle.rtps_wire.specs.declared.submessage.Submessage.{Submessage}
 use Rattle.rtps_wire.specs.declared.submessage.Submessage.TheVariants.{Data, Heartbeat, Gap}
 use Rattle.rtps_wire.specs.Content.{change_in}
-use Rattle.dds_machine.specs.declared.endpoint.Endpoint.{Endpoint}
+use Rattle.dds_base.specs.declared.endpoint.Endpoint.{Endpoint}
 use Rattle.dds_machine.specs.declared.reply.Move.{Move}
 use Rattle.dds_machine.specs.declared.reply.Move.TheVariants.{Place}
 use Rattle.dds_machine.specs.Numbered.{HasNumber}
@@ -38,14 +38,14 @@ use Rattle.dds_protocol.specs.Receipt.{GoesOver, HasNoRoom}
 use Rattle.dds_protocol.specs.Peer.{Delivery, claimed, packets_of, delivered_to}
 use Rattle.dds_protocol.specs.DueMessages.{Due}
 use Rattle.dds_protocol.specs.Protocol.{BeginsIf, BeginsWith, MeetsChange, MeetsGap, StartsAt, State, GoesBy, Goes, TakesChange, TakesGap, Idles, ReaderTakes, stands_to, with_tracked}
-use Rattle.dds_protocol.specs.Backed.{reader_at, IsClaimed, TookNone, IsBacked}
+use Rattle.dds_protocol.specs.Backed.{reader_at, IsClaimed, IsBacked}
 use Rattle.dds_protocol.proofs.Attached.{SameMet, is_met}
 use Rattle.dds_protocol.proofs.Composed.{moves_on}
 use Rattle.dds_protocol.proofs.OwnGuids.{one_writer}
 use Rattle.dds_protocol.proofs.Framing.{Frames, tracked_elsewhere, frames_at, frames_none, frames_on, has_reader, tracked_here}
 use Rattle.dds_protocol.proofs.Knowing.{data_claimed, gap_claimed}
 use Rattle.dds_protocol.proofs.Ways.{Went, goes_went, change_went, jumps_go}
-use Rattle.dds_protocol.proofs.Ruled.{BackedAt, backed_on, way_moves, goes_moves, way_frames, goes_backed}
+use Rattle.dds_protocol.proofs.Ruled.{backed_on, way_moves, goes_moves, way_frames, went_backed}
 use Rattle.dds_protocol.proofs.Policies.{at_reader-qos}
 use Rattle.dds_protocol.proofs.Growth.{AreMoves-grows, none_before}
 use Rattle.dds_machine.proofs.Tables.{begun-hits, numbered-same, row-hits}
@@ -259,22 +259,14 @@ went_taken : (c : Coming) (s : Submessage) (r : ℕ) (old : State) (w : Endpoint
     → IsClaimed c.config c.peer (packets c) w r t → Went old w r t made new
     → AreMoves (grounds c) old.part made new.part → IsPast c s r new
     → MovesIt c s r old made → IsTakenAt c s r old made new
-went_taken c s r old w t made new b count k h moves past over =
-    let frames : Frames old w r new = way_frames old w r made new h in
-    let newest : TookNone c.config c.peer (deliveries c) w r t =
-    λ d n among applied. ap (λ (o : Option ℤ). is_later o n) count
-    ∙ b.newest w r (has_reader old.part r h.place w h.matched.at) d n among applied in
-    let here : BackedAt c.config c.peer (packets c) (deliveries c) w r new =
-    goes_backed c.config c.peer (packets c) (deliveries c) old w r t made new k newest
-    (λ n e. ap (λ (o : Option ℤ). is_later o n) count ∙ b.heard w r n e) h in
-    record {
-      moves = moves;
-      backed = backed_on c.config c.peer (packets c) (deliveries c) w r old new frames b here;
-      writer = w;
-      frames = frames;
-      past = past;
-      over = over;
-    }
+went_taken c s r old w t made new b count k h moves past over = record {
+  moves = moves;
+  backed = went_backed c.config c.peer (packets c) (deliveries c) old w r t made new b count k h;
+  writer = w;
+  frames = way_frames old w r made new h;
+  past = past;
+  over = over;
+}
 
 goes_taken : (c : Coming) (s : Submessage) (r : ℕ) (old : State) (w : Endpoint) (t : Tracked) (made : List Move)
     (new : State) → Backs c old → t.place ≡ (tracked_by old w r).place → t.count ≡ (tracked_by old w r).count

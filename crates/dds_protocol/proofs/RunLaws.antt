@@ -5,7 +5,7 @@ use Rattle.dds_base.specs.declared.config.Config.{Config}
 use Rattle.dds_base.specs.declared.qos.HistoryQos.{HistoryQos}
 use Rattle.dds_base.specs.declared.qos.HistoryQos.TheVariants.{KeepAll}
 use Rattle.dds_base.specs.Kept.{is_dropped, is_dropped_by}
-use Rattle.dds_machine.specs.declared.endpoint.Endpoint.{Endpoint}
+use Rattle.dds_base.specs.declared.endpoint.Endpoint.{Endpoint}
 use Rattle.dds_machine.specs.declared.event.WorldEvent.{WorldEvent}
 use Rattle.dds_machine.specs.declared.event.WorldEvent.TheVariants as world
 use Rattle.dds_machine.specs.declared.reply.Reply.{Reply}
@@ -16,11 +16,13 @@ use Rattle.dds_protocol.specs.World.{WorldState, WorldStep, machine_of, Sound}
 use Rattle.dds_machine.specs.Runs.{Run}
 use Rattle.dds_protocol.specs.Rules.{RuledRun}
 use Rattle.dds_protocol.specs.Laws.{WorldRun}
-use Rattle.dds_protocol.proofs.Growth.{MachineGrows, writer_same, CallStep-grows, TickStep-grows, DeliveryStep-grows, with_part-grows}
+use Rattle.dds_protocol.specs.Tellings.{OwesNoMore}
+use Rattle.dds_protocol.proofs.Growth.{AreMoves-grows, MachineGrows, writer_same, CallStep-grows, TickStep-grows, DeliveryStep-grows, with_part-grows}
 use Rattle.dds_protocol.specs.Noticing.{world_ended}
 use Rattle.dds_protocol.proofs.EndsBeside.{ended_sound, ended_writer, machine_ends}
 use Rattle.dds_machine.proofs.Tables.{no_less_same}
 use Rattle.dds_protocol.proofs.Composed.{composes}
+use Rattle.dds_protocol.proofs.Resumed.{as_moves}
 
 -- no packet that was sent is forgotten
 sent_more : (config : Config) (tests : AllTests) (old new : WorldState) (e : WorldEvent) (r : Reply)
@@ -40,6 +42,11 @@ sent_more config tests old new (world.Deliver peer n) r (inl h) =
     let more = length-append old.sent s.posted in let is = ap (λ (w : WorldState). length w.sent) s.changed in
     omega (arith, more, is)
 sent_more config tests old new (world.Deliver peer n) r (inr h) =
+    let is = ap (λ (w : WorldState). length w.sent) h.1.after in omega (arith, is)
+sent_more config tests old new (world.Resume peer k) r (inl h) =
+    let more = length-append old.sent h.posted in let is = ap (λ (w : WorldState). length w.sent) h.changed in
+    omega (arith, more, is)
+sent_more config tests old new (world.Resume peer k) r (inr h) =
     let is = ap (λ (w : WorldState). length w.sent) h.1.after in omega (arith, is)
 
 pub composes_runs : (config : Config) (tests : AllTests) (old new : WorldState) (events : List WorldEvent)
@@ -114,20 +121,31 @@ Step-grows tests sent m (world.Deliver peer packet) reply new (inl h) =
     (DeliveryStep-grows (grounds_of m peer) (part_at m peer) reply h.2.after h.2.step))
 Step-grows tests sent m (world.Deliver peer packet) reply new (inr h) =
     subst (λ (x : Machine). MachineGrows m x) (sym h.1.1) (same_grows m)
+Step-grows tests sent m (world.Resume peer k) reply new (inl h) =
+    let made = as_moves (grounds_of m peer) (part_at m peer) k reply h.after h.step in
+    subst (λ (x : Machine). MachineGrows m x) (sym h.changed)
+    (with_part-grows m peer h.after (AreMoves-grows (grounds_of m peer) (part_at m peer) made.0 h.after made.1))
+Step-grows tests sent m (world.Resume peer k) reply new (inr h) =
+    subst (λ (x : Machine). MachineGrows m x) (sym h.1.1) (same_grows m)
 
 pub Step-policy : (w : Endpoint) (tests : AllTests) (sent : ℕ) (m : Machine) (ev : WorldEvent) (reply : Reply)
     (new : Machine) → Step tests sent m ev reply new → (writer_at new w).policy ≡ (writer_at m w).policy
 Step-policy w tests sent m ev reply new h = ((Step-grows tests sent m ev reply new h).writers w).policy
 
-pub run_owed : (tests : AllTests) (m after : Machine) (events : List WorldEvent) (replies : List Reply) (sent last : ℕ)
-    (w r : Endpoint) → Run tests sent m events replies last after
-    → owed_from (writer_at m w) r ≤ owed_from (writer_at after w) r
-run_owed tests m after [] [] sent last w r run =
+pub steps_owe_no_more : (tests : AllTests) (sent : ℕ) (m : Machine) (ev : WorldEvent) (reply : Reply) (new : Machine)
+    → Step tests sent m ev reply new → OwesNoMore m (machine_ended m ev new)
+steps_owe_no_more tests sent m ev reply new h w r =
+    let step = ((Step-grows tests sent m ev reply new h).writers w).owed r in
+    let end = (ended_writer m ev new w).grows.owed r in
+    omega (arith, step, end)
+
+pub runs_owe_no_more : (tests : AllTests) (sent : ℕ) (m : Machine) (events : List WorldEvent) (replies : List Reply)
+    (last : ℕ) (after : Machine) → Run tests sent m events replies last after → OwesNoMore m after
+runs_owe_no_more tests sent m [] [] last after run w r =
     let same = ap (λ (x : Machine). owed_from (writer_at x w) r) run.0 in omega (arith, same)
-run_owed tests m after (e ∷ es) (p ∷ ps) sent last w r run =
-    let step = ((Step-grows tests sent m e p run.0 run.2).writers w).owed r in
-    let end = (ended_writer m e run.0 w).grows.owed r in
-    let rest = run_owed tests (machine_ended m e run.0) after es ps run.1 last w r run.4 in
-    omega (arith, step, end, rest)
-run_owed tests m after [] (p ∷ ps) sent last w r run = absurd run
-run_owed tests m after (e ∷ es) [] sent last w r run = absurd run
+runs_owe_no_more tests sent m (e ∷ es) (p ∷ ps) last after run w r =
+    let first = steps_owe_no_more tests sent m e p run.0 run.2 w r in
+    let rest = runs_owe_no_more tests run.1 (machine_ended m e run.0) es ps last after run.4 w r in
+    omega (arith, first, rest)
+runs_owe_no_more tests sent m [] (p ∷ ps) last after run w r = absurd run
+runs_owe_no_more tests sent m (e ∷ es) [] last after run w r = absurd run

@@ -18,7 +18,7 @@ use Rattle.rtps_reader.specs.Advance.{known, Stays, Advances}
 use Rattle.rtps_reader.specs.Jump.{run_of, jumped_to, comes, JumpsIf, Jumps}
 use Rattle.rtps_wire.specs.declared.gap.Gap.{Gap as GapBody}
 use Rattle.rtps_wire.specs.declared.heartbeat.Heartbeat.{Heartbeat as HeartbeatBody}
-use Rattle.dds_machine.specs.declared.endpoint.Endpoint.{Endpoint}
+use Rattle.dds_base.specs.declared.endpoint.Endpoint.{Endpoint}
 use Rattle.dds_machine.specs.declared.reply.Move.{Move}
 use Rattle.dds_machine.specs.Part.{Attachment, Away, Waiting, Begun}
 use Rattle.dds_protocol.specs.Claims.{Receiver}

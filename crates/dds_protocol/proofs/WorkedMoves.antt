@@ -46,10 +46,11 @@ writing policy max_samples happened acknowledged =
       strength = None;
       autodispose = true;
       max_value = usual_value;
+      known = record { reader = r1; reliable = true } ∷ [];
       written = happened;
       matched = r1 ∷ [];
       readers = record { reader = r1; first = 1; acknowledged = acknowledged } ∷ [];
-      matches = opened_with 1;
+      matches = opened_with (r1 ∷ []);
     }
 
 abbrev pub part_1 : Writer → Part
@@ -71,7 +72,7 @@ part_2 place heard happened = record {
               (reader r1_id 0);
           happened = happened;
           seen = nothing_seen;
-          matches = opened_with 1;
+          matches = opened_with (w1 ∷ []);
         }
             ∷ [];
         watch = nothing_watched 0 1;
@@ -364,7 +365,7 @@ owed-not_best_effort number h = ⊎_elim (λ dropped. absurd cc) (λ owed. let i
 -- ---- a place that begins
 
 -- r1 is matched with w1 again, and its place waits where it was
-abbrev waiting : ℕ → Part
+abbrev pub waiting : ℕ → Part
 waiting place =
     record (part_2 place None []) {
       rtps = record {

@@ -18,7 +18,7 @@ use Rattle.rtps_wire.specs.declared.submessage.Submessage.{Submessage}
 use Rattle.rtps_wire.specs.declared.submessage.Submessage.TheVariants.{InfoDst, InfoTs, Data}
 use Rattle.dds_conditions.specs.Watched.{opened as nothing_watched}
 use Rattle.dds_notices.specs.Listeners.{nobody}
-use Rattle.dds_machine.specs.declared.endpoint.Endpoint.{Endpoint}
+use Rattle.dds_base.specs.declared.endpoint.Endpoint.{Endpoint}
 use Rattle.dds_machine.specs.declared.reply.Move.{Move}
 use Rattle.dds_machine.specs.declared.reply.Move.TheVariants.{Place, Acknowledged}
 use Rattle.dds_machine.specs.Part.{opened_with, Part, Writer, own_reader, nothing_seen}
@@ -319,7 +319,7 @@ limited happened = record (part_2 2 None []) {
               { max_samples = Some 1 };
           happened = happened;
           seen = nothing_seen;
-          matches = opened_with 1;
+          matches = opened_with (w1 ∷ []);
         }
             ∷ [];
         watch = nothing_watched 0 1;

@@ -15,7 +15,7 @@ use Rattle.dds_base.specs.declared.qos.ReliabilityQos.TheVariants.{Reliable}
 use Rattle.dds_base.specs.Bounds.{usual_arrivals, usual_value}
 use Rattle.rtps_wire.specs.declared.data.Data.{Data as DataBody}
 use Rattle.rtps_wire.specs.declared.submessage.Submessage.TheVariants.{Pad, InfoDst, InfoTs, Data}
-use Rattle.dds_machine.specs.declared.endpoint.Endpoint.{Endpoint}
+use Rattle.dds_base.specs.declared.endpoint.Endpoint.{Endpoint}
 use Rattle.dds_protocol.specs.Claims.{IsNumbered, IsWriter, IsReader, Receiver, every_peer, receiver_of, is_for, after_submessage, StandsAt, every_reader, Names, IsToReader, IsToReliable, IsToWriter}
 
 abbrev pub prefix_1 : GuidPrefix

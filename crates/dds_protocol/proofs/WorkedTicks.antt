@@ -45,7 +45,7 @@ part = record no_part {
           };
       happened = Heard 2 5 ∷ Heard 1 2 ∷ [];
       seen = nothing_seen;
-      matches = opened_with 2;
+      matches = opened_with (w1 ∷ record { peer = 1; number = 2 } ∷ []);
     } ∷ [];
   };
 }

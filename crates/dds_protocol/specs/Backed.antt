@@ -7,10 +7,14 @@ use Rattle.dds_base.specs.declared.change.Change.{Change}
 use Rattle.dds_base.specs.declared.config.Config.{Config}
 use Rattle.dds_base.specs.Counts.{is_later}
 use Rattle.rtps_reader.specs.Tracked.{Held, Tracked, is_passable}
-use Rattle.dds_machine.specs.declared.endpoint.Endpoint.{Endpoint}
+use Rattle.dds_base.specs.declared.endpoint.Endpoint.{Endpoint}
 use Rattle.dds_protocol.specs.Claims.{ChangeIs, MayPass, Claimed}
 use Rattle.dds_machine.specs.Numbered.{HasNumber}
-use Rattle.dds_machine.specs.Part.{own_proxies, place_of, heard_of}
+use Rattle.dds_machine.specs.declared.call.Call.{Call}
+use Rattle.dds_machine.specs.declared.reply.Reply.{Reply}
+use Rattle.dds_machine.specs.Calls.{CallStep}
+use Rattle.dds_machine.specs.Part.{Part, own_proxies, place_of, heard_of}
+use Rattle.dds_machine.specs.Watching.{Tests}
 use Rattle.dds_protocol.specs.Peer.{Delivery, IsApplied}
 use Rattle.dds_protocol.specs.Protocol.{State}
 
@@ -46,3 +50,10 @@ pub record IsBacked (config : Config) (peer : ℕ) (packets : List (List ℕ)) (
       → TookNone config peer deliveries w r (state.known.tracked w r)
   pub heard : (w : Endpoint) (r : ℕ) (count : ℤ) → heard_of (own_proxies state.part r) w ≡ Some (Some count)
       → is_later (state.known.tracked w r).count count ≡ false
+
+-- so it is after a call, whoever is told by it that a writer and a reader are matched, or no longer
+abbrev pub CallsBacked : Type 0
+CallsBacked = (config : Config) (peer : ℕ) (packets : List (List ℕ)) (deliveries : List Delivery) (old : State)
+    (tests : Tests) (call : Call) (reply : Reply) (after : Part) → CallStep tests old.part call reply after
+    → IsBacked config peer packets deliveries old
+    → IsBacked config peer packets deliveries (record old { part = after })

@@ -1,5 +1,6 @@
--- Networks in which nobody comes or goes: each place has begun, and none begins; each matched reliable reader is owed all
--- changes, and the machine passes over those alone that a writer's history had dropped.
+-- Networks in which nobody has come or left: each place has begun, and each matched reliable reader is owed all
+-- changes. While nobody comes or goes, no place begins, and the machine passes over those changes alone that a writer's
+-- history had dropped.
 --
 -- A notion of this project, of RTPS 2.5, 8.4.7 (ReaderProxy), 8.4.10 (WriterProxy).
 use Rattle.std.specs.Prelude.{◌≡◌, ◌↔◌, ◌⊎◌, ℕ, ◌<◌, ◌≤◌, true, false, Some, IsSome, List, [], ◌∷◌}
@@ -7,7 +8,8 @@ use Rattle.dds_base.specs.declared.config.Config.{Config}
 use Rattle.dds_base.specs.declared.qos.HistoryQos.TheVariants.{KeepAll}
 use Rattle.dds_base.specs.Kept.{is_dropped}
 use Rattle.dds_base.specs.Matched.{is_reliable}
-use Rattle.dds_machine.specs.declared.endpoint.Endpoint.{Endpoint}
+use Rattle.dds_base.specs.declared.endpoint.Endpoint.{Endpoint}
+use Rattle.dds_machine.specs.declared.call.Call.TheVariants.{MatchReader, UnmatchReader, MatchWriter, UnmatchWriter}
 use Rattle.dds_machine.specs.declared.event.WorldEvent.{WorldEvent}
 use Rattle.dds_machine.specs.declared.event.WorldEvent.TheVariants as event
 use Rattle.dds_machine.specs.declared.reply.Move.{Move}
@@ -15,15 +17,29 @@ use Rattle.dds_machine.specs.declared.reply.Move.TheVariants.{Begun as HasBegun}
 use Rattle.dds_machine.specs.declared.reply.Reply.{Reply}
 use Rattle.dds_machine.specs.declared.reply.Reply.TheVariants.{Reported}
 use Rattle.dds_machine.specs.Machine.{Machine, AllTests, AtPeer, IsRefused, Step, grounds_of, part_at, place_at, writer_at}
-use Rattle.dds_machine.specs.Moves.{Grounds, DeliveryStep}
+use Rattle.dds_machine.specs.Moves.{Grounds, DeliveryStep, ResumeStep}
 use Rattle.dds_machine.specs.Noticing.{machine_ended}
 use Rattle.dds_machine.specs.Numbered.{HasNumber}
 use Rattle.dds_machine.specs.Opening.{opening}
 use Rattle.dds_machine.specs.Runs.{Run}
-use Rattle.dds_machine.specs.Part.{ReaderProxy, WriterProxy, Begun, NoLess, IsAtMost, IsBelow, acknowledged_of, history_of, own_proxies, own_reader, row_of}
+use Rattle.dds_machine.specs.Part.{ReaderProxy, WriterProxy, Begun, NoLess, IsAtMost, IsBelow, acknowledged_of, history_of, owed_from, own_proxies, own_reader, row_of}
 use Rattle.dds_protocol.specs.Claims.{MayPass}
+use Rattle.dds_protocol.specs.InOrder.{CameInOrder}
 use Rattle.dds_protocol.specs.Laws.{LosesNone}
 use Rattle.dds_protocol.specs.World.{WorldState, Holds, Sound, machine_of}
+
+-- nobody comes or goes by the event: no writer and no reader is told who is matched with it, or no longer
+abbrev pub TellsNobody : WorldEvent → Type 0
+TellsNobody (event.Call peer (MatchReader writer reader)) = ⊥
+TellsNobody (event.Call peer (UnmatchReader writer reader)) = ⊥
+TellsNobody (event.Call peer (MatchWriter reader writer)) = ⊥
+TellsNobody (event.Call peer (UnmatchWriter reader writer)) = ⊥
+TellsNobody other = Unit {0}
+
+-- nor by any of these
+abbrev pub NobodyTold : List WorldEvent → Type 0
+NobodyTold [] = Unit {0}
+NobodyTold (e ∷ events) = TellsNobody e × NobodyTold events
 
 -- Nobody has come or left: the place of each reader has begun at each writer that it knows, and that writer has a row
 -- for it where it is a reliable one; each writer owes each reader of its rows its changes from the first on, and that
@@ -50,15 +66,15 @@ BestEffortAsDropped = (m : Machine) (peer : ℕ) (writer : Endpoint) (reader num
 abbrev pub OpensClosed : Type 0
 OpensClosed = (config : Config) → IsClosed (opening config)
 
--- every event leaves it so
+-- every event at which nobody comes or goes leaves it so
 abbrev pub StaysClosed : Type 0
 StaysClosed = (tests : AllTests) (sent : ℕ) (old : Machine) (event : WorldEvent) (reply : Reply) (new : Machine)
-    → IsClosed old → Step tests sent old event reply new → IsClosed (machine_ended old event new)
+    → TellsNobody event → IsClosed old → Step tests sent old event reply new → IsClosed (machine_ended old event new)
 
--- and so does every run
+-- and so does every run of such events
 abbrev pub RunsClosed : Type 0
 RunsClosed = (tests : AllTests) (sent : ℕ) (old : Machine) (events : List WorldEvent) (replies : List Reply) (last : ℕ)
-    (new : Machine) → IsClosed old → Run tests sent old events replies last new → IsClosed new
+    (new : Machine) → NobodyTold events → IsClosed old → Run tests sent old events replies last new → IsClosed new
 
 -- none of these moves begins a place
 abbrev pub BeginNone : List Move → Type 0
@@ -66,9 +82,11 @@ BeginNone [] = Unit {0}
 BeginNone (HasBegun writer reader from to ∷ moves) = ⊥
 BeginNone (m ∷ moves) = BeginNone moves
 
--- nor does one that a reply to a delivery reports
+-- nor does one that a reply reports
 abbrev pub NoneBegins : List WorldEvent → List Reply → Type 0
 NoneBegins (event.Deliver peer packet ∷ events) (Reported report ∷ replies) =
+    BeginNone report.moves × NoneBegins events replies
+NoneBegins (event.Resume peer reader ∷ events) (Reported report ∷ replies) =
     BeginNone report.moves × NoneBegins events replies
 NoneBegins (event ∷ events) (reply ∷ replies) = NoneBegins events replies
 NoneBegins events replies = Unit {0}
@@ -76,12 +94,13 @@ NoneBegins events replies = Unit {0}
 -- so it is in every run there
 abbrev pub ClosedBeginsNone : Type 0
 ClosedBeginsNone = (tests : AllTests) (sent : ℕ) (old : Machine) (events : List WorldEvent) (replies : List Reply)
-    (last : ℕ) (new : Machine) → IsClosed old → Run tests sent old events replies last new → NoneBegins events replies
+    (last : ℕ) (new : Machine) → NobodyTold events → IsClosed old → Run tests sent old events replies last new
+    → NoneBegins events replies
 
 -- ---- what may be passed over there
 
--- what a delivery at the peer of this number may rest on where nobody comes or goes: what may be passed over is what the
--- writer's history has dropped
+-- what moves at the peer of this number may rest on there: what may be passed over is what the writer's history has
+-- dropped
 abbrev pub closed_grounds_of : Machine → ℕ → Grounds
 closed_grounds_of m peer = record (grounds_of m peer) {
   may_pass = λ writer reader number. is_dropped (history_of (writer_at m writer)) number ≡ true;
@@ -93,6 +112,9 @@ ClosedStep tests sent old (event.Deliver peer packet) reply new =
     ((1 ≤ packet) × (packet ≤ sent)
     × AtPeer old peer (λ after. DeliveryStep (closed_grounds_of old peer) (part_at old peer) reply after) new)
     ⊎ (((packet ≡ 0) ⊎ (sent < packet) ⊎ (HasNumber old.parts peer → ⊥)) × IsRefused old reply new)
+ClosedStep tests sent old (event.Resume peer reader) reply new =
+    AtPeer old peer (λ after. ResumeStep (closed_grounds_of old peer) (part_at old peer) reader reply after) new
+    ⊎ ((HasNumber old.parts peer → ⊥) × IsRefused old reply new)
 ClosedStep tests sent old other reply new = Step tests sent old other reply new
 
 -- a run of such steps
@@ -107,19 +129,36 @@ ClosedRun tests sent old (event ∷ events) [] last new = ⊥
 -- the runs are one where nobody has come or left: what is not owed lets nothing more be passed over
 abbrev pub RunsAlike : Type 0
 RunsAlike = (tests : AllTests) (sent : ℕ) (old : Machine) (events : List WorldEvent) (replies : List Reply) (last : ℕ)
-    (new : Machine) → IsClosed old
+    (new : Machine) → NobodyTold events → IsClosed old
     → Run tests sent old events replies last new ↔ ClosedRun tests sent old events replies last new
 
 -- no run passes over a change of a KEEP_ALL writer at a reliable reader there
 abbrev pub ClosedLosesNone : Type 0
 ClosedLosesNone = (tests : AllTests) (writer reader : Endpoint) (m after : Machine) (events : List WorldEvent)
-    (replies : List Reply) (sent last : ℕ) → IsClosed m
+    (replies : List Reply) (sent last : ℕ) → NobodyTold events → IsClosed m
     → (writer_at m writer).policy ≡ KeepAll
     → is_reliable (own_reader (part_at m reader.peer) reader.number).qos.reliability ≡ true
     → Run tests sent m events replies last after → LosesNone writer reader events replies
 
--- what packets claim there of a change that a reader of the writer's rows may pass over: it is dropped, or that reader is
--- past it
+-- a writer owes there each reliable reader that has a place in its list all changes
+abbrev pub ClosedOwesAll : Type 0
+ClosedOwesAll = (m : Machine) (writer reader : Endpoint) → IsClosed m → IsSome (place_at m reader writer)
+    → is_reliable (own_reader (part_at m reader.peer) reader.number).qos.reliability ≡ true
+    → owed_from (writer_at m writer) reader ≤ 1
+
+-- so the changes of each writer that keeps all come in order at each reliable reader that it is matched with, while
+-- nobody comes or goes
+abbrev pub ClosedInOrder : Type 0
+ClosedInOrder = (config : Config) (tests : AllTests) (writer reader : Endpoint) (events : List WorldEvent)
+    (replies : List Reply) (last : ℕ) (after : Machine) → NobodyTold events
+    → (writer_at (opening config) writer).policy ≡ KeepAll
+    → is_reliable (own_reader (part_at (opening config) reader.peer) reader.number).qos.reliability ≡ true
+    → IsSome (place_at (opening config) reader writer)
+    → Run tests 0 (opening config) events replies last after
+    → CameInOrder after writer reader
+
+-- what packets claim there of a change that a reader of the writer's rows may pass over: it is dropped, or that reader
+-- is past it
 abbrev pub ClosedClaims : Type 0
 ClosedClaims = (m : Machine) (writer reader : Endpoint) (number : ℕ) → IsClosed m
     → IsSome (acknowledged_of (writer_at m writer).readers reader) → 1 ≤ number → Holds m (MayPass writer reader number)

@@ -17,7 +17,12 @@ use Rattle.rtps_wire.specs.Content.{IsEmptyUnlessWrite}
 use Rattle.rtps_wire.specs.Data.{IsStrength}
 use Rattle.rtps_wire.specs.Fields.{IsEntityId}
 use Rattle.rtps_wire.specs.Messages.{IsWritable, spelling_of}
+use Rattle.dds_machine.specs.declared.call.Call.{Call}
+use Rattle.dds_machine.specs.declared.reply.Reply.{Reply}
+use Rattle.dds_machine.specs.Calls.{CallStep, effect_of, tells}
+use Rattle.dds_machine.specs.Matching.{Telling}
 use Rattle.dds_machine.specs.Part.{Part, own_writer, writer_changes}
+use Rattle.dds_machine.specs.Watching.{Tests}
 use Rattle.dds_protocol.specs.Claims.{IsNumbered, Claim, Claims}
 use Rattle.dds_protocol.specs.Peer.{IsTrueAt}
 use Rattle.dds_protocol.specs.DueMessages.{Due}
@@ -68,6 +73,18 @@ pub record AreSmall (most : ℕ) (changes : List Change) : Type 0 where
 abbrev pub HasSmallChanges : Part → Type 0
 HasSmallChanges part = (writer : ℕ)
     → AreSmall (own_writer part writer).max_value (writer_changes (own_writer part writer))
+
+-- what the truth of due messages, and that they can be written, rest on stays so of a peer's part
+pub record StaysDue (config : Config) (peer : ℕ) (old new : Part) : Type 0 where
+  pub part : IsPartOf config peer old → IsPartOf config peer new
+  pub tellable : AreTellable old → AreTellable new
+  pub small : HasSmallChanges old → HasSmallChanges new
+
+-- so it is after a call that tells a writer or a reader that the two are matched, or no longer
+abbrev pub CallsStayDue : Type 0
+CallsStayDue = (config : Config) (peer : ℕ) (tests : Tests) (old : Part) (call : Call) (reply : Reply) (new : Part)
+    (telling : Telling) → effect_of old call reply ≡ tells telling → CallStep tests old call reply new
+    → StaysDue config peer old new
 
 -- the set of an ACKNACK has its 256 places
 abbrev pub HasPlaces : Submessage → Type 0

@@ -2,17 +2,17 @@
 --
 -- A law of this project, of DDS 1.4, 2.2.3 (RELIABILITY; HISTORY: KEEP_ALL) and RTPS 2.5, 8.2 (HistoryCache,
 -- add_change).
-use Rattle.std.specs.Prelude.{◌≡◌, ℕ, ◌+◌, ◌==◌, true, if◌then◌else◌, Some, IsSome, List, [], ◌∷◌, ◌++◌, length}
+use Rattle.std.specs.Prelude.{◌≡◌, ℕ, ◌+◌, ◌≤◌, ◌==◌, true, if◌then◌else◌, Some, IsSome, List, [], ◌∷◌, ◌++◌, length}
 use Rattle.dds_base.specs.declared.change.Change.{Change}
 use Rattle.dds_base.specs.declared.config.Config.{Config}
 use Rattle.dds_base.specs.declared.happening.Happening.{Happening}
 use Rattle.dds_base.specs.declared.happening.Happening.TheVariants.{Came}
 use Rattle.dds_base.specs.declared.qos.HistoryQos.TheVariants.{KeepAll}
 use Rattle.dds_base.specs.Matched.{is_reliable}
-use Rattle.dds_machine.specs.declared.endpoint.Endpoint.{Endpoint}
+use Rattle.dds_base.specs.declared.endpoint.Endpoint.{Endpoint}
 use Rattle.dds_machine.specs.declared.event.WorldEvent.{WorldEvent}
 use Rattle.dds_machine.specs.declared.reply.Reply.{Reply}
-use Rattle.dds_machine.specs.Part.{own_proxies, own_reader, publication_among, writer_changes}
+use Rattle.dds_machine.specs.Part.{own_proxies, own_reader, owed_from, publication_among, writer_changes}
 use Rattle.dds_machine.specs.Machine.{Machine, AllTests, part_at, writer_at, place_at}
 use Rattle.dds_machine.specs.Opening.{opening}
 use Rattle.dds_machine.specs.Runs.{Run}
@@ -35,12 +35,13 @@ pub record CameInOrder (m : Machine) (writer reader : Endpoint) : Type 0 where
   pub first : writer_changes (writer_at m writer) ≡ came ++ rest
   pub place : place_at m reader writer ≡ Some (length came + 1)
 
--- after every run, so it is of each writer that keeps all and each reliable reader that it is matched with
+-- After every run, so it is of each writer that keeps all and each reliable reader that it was matched with at the
+-- opening, where it owes it all: it was told of the reader before its first change, and of no parting after it.
 abbrev pub ChangesComeInOrder : Type 0
 ChangesComeInOrder = (config : Config) (tests : AllTests) (writer reader : Endpoint) (events : List WorldEvent)
     (replies : List Reply) (last : ℕ) (after : Machine)
     → (writer_at (opening config) writer).policy ≡ KeepAll
     → is_reliable (own_reader (part_at (opening config) reader.peer) reader.number).qos.reliability ≡ true
     → IsSome (place_at (opening config) reader writer)
-    → Run tests 0 (opening config) events replies last after
+    → Run tests 0 (opening config) events replies last after → owed_from (writer_at after writer) reader ≤ 1
     → CameInOrder after writer reader

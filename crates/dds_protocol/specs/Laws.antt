@@ -15,10 +15,10 @@ use Rattle.dds_base.specs.Checked.{check_refusal}
 use Rattle.dds_base.specs.Ownership.{IsMatched, HaveOwnGuids, registered_writers, owner_of}
 use Rattle.dds_protocol.specs.Noticing.{world_ended}
 use Rattle.dds_machine.specs.declared.call.Call.TheVariants.{AssertLiveliness}
-use Rattle.dds_machine.specs.declared.endpoint.Endpoint.{Endpoint}
+use Rattle.dds_base.specs.declared.endpoint.Endpoint.{Endpoint}
 use Rattle.dds_base.specs.Matched.{is_reliable}
 use Rattle.dds_machine.specs.declared.event.WorldEvent.{WorldEvent}
-use Rattle.dds_machine.specs.declared.event.WorldEvent.TheVariants.{Deliver}
+use Rattle.dds_machine.specs.declared.event.WorldEvent.TheVariants.{Deliver, Resume}
 use Rattle.dds_machine.specs.declared.reply.Move.{Move}
 use Rattle.dds_machine.specs.declared.reply.Move.TheVariants.{Place, Begun}
 use Rattle.dds_machine.specs.declared.reply.Reply.{Reply}
@@ -26,11 +26,13 @@ use Rattle.dds_machine.specs.declared.reply.Report.{Report}
 use Rattle.dds_machine.specs.declared.reply.Reply.TheVariants.{Done, Reported}
 use Rattle.dds_machine.specs.Numbered.{numbered}
 use Rattle.dds_protocol.specs.Receipt.{Receives}
-use Rattle.dds_protocol.specs.Peer.{Delivery, no_peer, state_of, packets_of, claimed}
+use Rattle.dds_protocol.specs.Peer.{Delivery, no_peer, state_of, packets_of, claimed, claimed_by}
 use Rattle.dds_protocol.specs.DueMessages.{Due, assertions_due, heartbeats_due}
 use Rattle.dds_protocol.specs.Protocol.{State, TakesPacket}
+use Rattle.dds_protocol.specs.Resuming.{Resumes}
 use Rattle.dds_protocol.specs.Backed.{IsBacked}
 use Rattle.dds_protocol.specs.Dues.{AreTellable, IsPartOf, AreTruthful, IsSized, HasSmallChanges, CanBeWritten}
+use Rattle.dds_machine.specs.Moves.{ArePlaces, AreMoves}
 use Rattle.dds_machine.specs.Ticks.{TickStep}
 use Rattle.dds_machine.specs.Calls.{CallStep}
 use Rattle.dds_machine.specs.Watching.{Tests}
@@ -81,6 +83,8 @@ PassesNone writer reader (m ∷ moves) = PassesNone writer reader moves
 abbrev pub LosesNone : Endpoint → Endpoint → List WorldEvent → List Reply → Type 0
 LosesNone writer reader (Deliver peer packet ∷ events) (Reported report ∷ replies) =
     (peer ≡ reader.peer → PassesNone writer reader.number report.moves) × LosesNone writer reader events replies
+LosesNone writer reader (Resume peer r ∷ events) (Reported report ∷ replies) =
+    (peer ≡ reader.peer → PassesNone writer reader.number report.moves) × LosesNone writer reader events replies
 LosesNone writer reader (event ∷ events) (reply ∷ replies) = LosesNone writer reader events replies
 LosesNone writer reader events replies = Unit {0}
 
@@ -101,6 +105,9 @@ PassesNoneFrom bound writer reader (m ∷ moves) = PassesNoneFrom bound writer r
 -- no reply reports that a change of this writer from the bound on was passed over by this reader
 abbrev pub LosesNoneFrom : ℕ → Endpoint → Endpoint → List WorldEvent → List Reply → Type 0
 LosesNoneFrom bound writer reader (Deliver peer packet ∷ events) (Reported report ∷ replies) =
+    (peer ≡ reader.peer → PassesNoneFrom bound writer reader.number report.moves)
+    × LosesNoneFrom bound writer reader events replies
+LosesNoneFrom bound writer reader (Resume peer r ∷ events) (Reported report ∷ replies) =
     (peer ≡ reader.peer → PassesNoneFrom bound writer reader.number report.moves)
     × LosesNoneFrom bound writer reader events replies
 LosesNoneFrom bound writer reader (event ∷ events) (reply ∷ replies) = LosesNoneFrom bound writer reader events replies
@@ -148,6 +155,14 @@ RulesRestOnClaims = (config : Config) (peer : ℕ) (before : List Delivery) (byt
     → Receives config (claimed config before bytes old.part.rtps.readers peer) peer bytes old.part report new.part
     × IsBacked config peer (bytes ∷ packets_of before)
     (record { packet = bytes; rows = old.part.rtps.readers; report = report } ∷ before) new
+
+-- so does what it does where the places of a reader are tried again, on what earlier packets claim
+abbrev pub ResumesRestOnClaims : Type 0
+ResumesRestOnClaims = (config : Config) (peer reader : ℕ) (deliveries : List Delivery) (old : State) (report : Report)
+    (new : State) → IsBacked config peer (packets_of deliveries) deliveries old → Resumes reader old report new
+    → ArePlaces reader report.moves
+    × AreMoves (claimed_by config (packets_of deliveries) peer) old.part report.moves new.part
+    × IsBacked config peer (packets_of deliveries) deliveries new
 
 -- at the opening a peer knows nothing, so all that it knows is what was claimed
 abbrev pub OpensBacked : Type 0

@@ -11,6 +11,7 @@ pub mod InOrder
 pub mod Bounds
 pub mod DueMessages
 pub mod Protocol
+pub mod Resuming
 pub mod Backed
 pub mod Dues
 pub mod Rules

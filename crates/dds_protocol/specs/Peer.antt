@@ -9,7 +9,7 @@ use Rattle.dds_base.specs.declared.guid.GuidPrefix.{GuidPrefix}
 use Rattle.dds_base.specs.Kept.{change_at, is_dropped}
 use Rattle.rtps_wire.specs.declared.heartbeat.Heartbeat.{Heartbeat as HeartbeatBody}
 use Rattle.rtps_wire.specs.declared.submessage.Submessage.TheVariants.{Heartbeat}
-use Rattle.dds_machine.specs.declared.endpoint.Endpoint.{Endpoint}
+use Rattle.dds_base.specs.declared.endpoint.Endpoint.{Endpoint}
 use Rattle.dds_protocol.specs.declared.event.Event.{Event}
 use Rattle.dds_protocol.specs.declared.event.Event.TheVariants as event
 use Rattle.dds_protocol.specs.declared.event.Output.{Output}
@@ -19,7 +19,7 @@ use Rattle.dds_machine.specs.declared.reply.Reply.TheVariants.{Reported}
 use Rattle.dds_machine.specs.declared.reply.Report.{Report}
 use Rattle.dds_machine.specs.Numbered.{numbered}
 use Rattle.dds_machine.specs.Part.{WriterProxy, how_of, is_attached, Part, no_part, own_writer, own_proxies, acknowledged_of, place_of, writer_changes, history_of, is_assertion, owed_from, IsBelow, IsAtMost}
-use Rattle.dds_machine.specs.Moves.{Grounds}
+use Rattle.dds_machine.specs.Moves.{Grounds, ResumeStep}
 use Rattle.dds_machine.specs.Ticks.{TickStep}
 use Rattle.dds_machine.specs.Calls.{CallStep}
 use Rattle.dds_machine.specs.Watching.{Tests}
@@ -81,16 +81,22 @@ abbrev pub delivered_to : List ℕ → List (List WriterProxy) → ℕ → Deliv
 delivered_to packet rows index =
     record { packet = packet; rows = rows; report = record { moves = []; refused = Some index } }
 
+-- what these packets claim to the peer of this number; that nobody is heard by them
+abbrev pub claimed_by : Config → List (List ℕ) → ℕ → Grounds
+claimed_by config packets peer = record {
+  is_change = λ writer reader number change.
+      Claimed config packets (ChangeIs writer (record { peer = peer; number = reader }) number change);
+  may_pass = λ writer reader number.
+      Claimed config packets (MayPass writer (record { peer = peer; number = reader }) number);
+  has_place = λ writer reader base.
+      Claimed config packets (PlaceReached (record { peer = peer; number = writer }) reader base);
+  may_hear = λ writer reader count. ⊥;
+}
+
 -- what a packet, which found these rows, claims to the peer of this number when it comes to the submessage of this
 -- index, with what was delivered before
 abbrev pub claimed : Config → List Delivery → List ℕ → List (List WriterProxy) → ℕ → ℕ → Grounds
-claimed config before packet rows peer index = record {
-  is_change = λ writer reader number change. Claimed config (packet ∷ packets_of before)
-      (ChangeIs writer (record { peer = peer; number = reader }) number change);
-  may_pass = λ writer reader number. Claimed config (packet ∷ packets_of before)
-      (MayPass writer (record { peer = peer; number = reader }) number);
-  has_place = λ writer reader base. Claimed config (packet ∷ packets_of before)
-      (PlaceReached (record { peer = peer; number = writer }) reader base);
+claimed config before packet rows peer index = record (claimed_by config (packet ∷ packets_of before) peer) {
   may_hear = λ writer reader count.
       Claimed config (packet ∷ packets_of before) (Asserts writer (record { peer = peer; number = reader }) count)
       × IsNewest config (delivered_to packet rows index ∷ before) writer (record { peer = peer; number = reader }) count;
@@ -109,7 +115,8 @@ IsTrueAt peer part (PlaceReached writer reader base) =
 IsTrueAt peer part (Asserts writer reader count) =
     (writer.peer ≡ peer) × (is_assertion (own_writer part writer.number) count ≡ true)
 
--- an event of a peer: a delivery rests on the claims of this and of earlier packets
+-- an event of a peer: a delivery rests on the claims of this and of earlier packets, and places that are tried again on
+-- those of earlier ones
 abbrev pub EventStep : Config → Tests → Peer → Event → Reply → Peer → Type 0
 EventStep config tests old (event.Call call) reply new =
     CallStep tests old.part call reply new.part × (new.delivered ≡ old.delivered)
@@ -120,17 +127,21 @@ EventStep config tests old (event.Deliver packet) (Reported report) new =
     report new.part
     × (new.delivered ≡ record { packet = packet; rows = old.part.rtps.readers; report = report } ∷ old.delivered)
 EventStep config tests old (event.Deliver packet) reply new = ⊥
+EventStep config tests old (event.Resume reader) reply new =
+    ResumeStep (claimed_by config (packets_of old.delivered) old.number) old.part reader reply new.part
+    × (new.delivered ≡ old.delivered)
 
--- what a peer knows changes by deliveries alone
-abbrev pub Knows : Peer → Event → Peer → Type 0
-Knows old (event.Deliver packet) new = Unit {0}
-Knows old other new = new.known ≡ old.known
+-- what a peer knows changes by deliveries, and where places are tried again, alone
+abbrev pub Knows : Peer → Event → Reply → Peer → Type 0
+Knows old (event.Deliver packet) reply new = Unit {0}
+Knows old (event.Resume reader) (Reported report) new = Unit {0}
+Knows old other reply new = new.known ≡ old.known
 
 -- one step of a peer, and what it sends is true
 pub record PeerStep (config : Config) (tests : Tests) (old : Peer) (event : Event) (output : Output)
     (new : Peer) : Type 0 where
   pub same_number : new.number ≡ old.number
-  pub knows : Knows old event new
+  pub knows : Knows old event output.reply new
   pub step : EventStep config tests old event output.reply new
   pub sent : (packet : Packet) (claim : Claim) → Contains output.packets packet → Claims config packet.bytes claim
       → IsTrueAt new.number new.part claim

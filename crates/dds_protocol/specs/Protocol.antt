@@ -29,7 +29,7 @@ use Rattle.rtps_reader.specs.Jump.{Jumps, comes}
 use Rattle.rtps_reader.specs.Answer.{AnswersHeartbeat, answered}
 use Rattle.rtps_writer.specs.declared.answer.Answer.{Answer}
 use Rattle.rtps_writer.specs.Answers.{answers_to, requested}
-use Rattle.dds_machine.specs.declared.endpoint.Endpoint.{Endpoint}
+use Rattle.dds_base.specs.declared.endpoint.Endpoint.{Endpoint}
 use Rattle.dds_machine.specs.declared.reply.Report.{Report}
 use Rattle.dds_machine.specs.declared.reply.Move.{Move}
 use Rattle.dds_machine.specs.declared.reply.Move.TheVariants.{Place, Acknowledged, Heard, Begun as HasBegun}

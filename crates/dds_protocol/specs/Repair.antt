@@ -13,13 +13,13 @@ use Rattle.dds_base.specs.Places.{coming}
 use Rattle.dds_base.specs.Presence.{has_room}
 use Rattle.rtps_reader.specs.Tracked.{Held}
 use Rattle.dds_protocol.specs.Noticing.{world_ended}
-use Rattle.dds_machine.specs.declared.endpoint.Endpoint.{Endpoint}
+use Rattle.dds_base.specs.declared.endpoint.Endpoint.{Endpoint}
 use Rattle.dds_protocol.specs.declared.event.Packet.{Packet}
 use Rattle.dds_machine.specs.declared.event.WorldEvent.TheVariants.{Tick, Deliver}
 use Rattle.dds_machine.specs.declared.reply.Report.{Report}
 use Rattle.dds_machine.specs.declared.reply.Reply.TheVariants.{Done, Reported}
 use Rattle.dds_machine.specs.Numbered.{HasNumber}
-use Rattle.dds_machine.specs.Part.{how_of, Begun, own_proxies, own_reader, acknowledged_of, publication_among, writer_changes}
+use Rattle.dds_machine.specs.Part.{how_of, is_attached, Begun, own_proxies, own_reader, acknowledged_of, publication_among, writer_changes}
 use Rattle.dds_machine.specs.Moves.{match_of, position_at}
 use Rattle.dds_protocol.specs.Claims.{IsWriter, IsReader}
 use Rattle.dds_protocol.specs.Receipt.{prefix_of}
@@ -106,12 +106,12 @@ pub record IsPair (config : Config) (writer reader : Endpoint) : Type 0 where
   pub matched : is_writer.end.topic ≡ is_reader.end.topic
   pub reliable : is_reliable_reader is_reader.end ≡ true
 
--- the reader's place in the writer's list, which has begun, and what the writer has of the reader; and what the reader
--- knows is of that place
+-- the two are matched at both sides: the reader's place in the writer's list, which waits or has begun, and what the
+-- writer has of the reader; and what the reader knows is of that place
 pub record StandsAt (world : WorldState) (writer reader : Endpoint) (place acknowledged : ℕ) : Type 0 where
   pub here : HasNumber (peer_at world reader.peer).part.dds.readers reader.number
   pub place_is : place_at (machine_of world) reader writer ≡ Some place
-  pub begun : how_of (own_proxies (peer_at world reader.peer).part reader.number) writer ≡ Begun
+  pub attached : is_attached (how_of (own_proxies (peer_at world reader.peer).part reader.number) writer) ≡ true
   pub known : (tracked_at world writer reader).place ≡ place
   pub acknowledged_is : acknowledged_of (writer_at (machine_of world) writer).readers reader ≡ Some acknowledged
 
@@ -126,12 +126,13 @@ pub record HoldsWithoutRoom (world : WorldState) (writer reader : Endpoint) (pla
       (coming (match_of (peer_at world reader.peer).part reader.number publication)
       (position_at (peer_at world reader.peer).part reader.number place) change) ≡ false
 
--- The reader has gone on by 256 numbers, or to the end of a list of so many, or to a change that has no room; and the
--- writer knows of all that the reader had.
+-- The reader's place has begun, and has gone on by 256 numbers, or to the end of a list of so many, or to a change that
+-- has no room; and the writer knows of all that the reader had.
 pub record HasCaughtUp (world : WorldState) (writer reader : Endpoint) (before last : ℕ) : Type 0 where
   pub place : ℕ
   pub acknowledged : ℕ
   pub stands : StandsAt world writer reader place acknowledged
+  pub begun : how_of (own_proxies (peer_at world reader.peer).part reader.number) writer ≡ Begun
   pub reached : (min (before + window_width) (last + 1) ≤ place) ⊎ HoldsWithoutRoom world writer reader place
   pub told : before ≤ acknowledged
 

@@ -8,7 +8,7 @@ use Rattle.dds_base.specs.Written.{Changed, Asserted}
 use Rattle.dds_protocol.specs.Noticing.{world_ended}
 use Rattle.dds_protocol.specs.declared.event.Packet.{Packet}
 use Rattle.dds_machine.specs.declared.event.WorldEvent.{WorldEvent}
-use Rattle.dds_machine.specs.declared.event.WorldEvent.TheVariants.{Call, Tick, Deliver}
+use Rattle.dds_machine.specs.declared.event.WorldEvent.TheVariants.{Call, Tick, Deliver, Resume}
 use Rattle.dds_machine.specs.declared.reply.Reply.{Reply}
 use Rattle.dds_machine.specs.declared.reply.Reply.TheVariants.{Done, Reported}
 use Rattle.dds_machine.specs.Part.{Part, own_writer, writer_changes}
@@ -18,6 +18,7 @@ use Rattle.dds_protocol.specs.Progress.{Progresses}
 use Rattle.dds_protocol.specs.Peer.{state_of}
 use Rattle.dds_protocol.specs.DueMessages.{Due, AreSent, assertions_due, changes_due, heartbeats_due}
 use Rattle.dds_protocol.specs.Protocol.{TakesPacket}
+use Rattle.dds_protocol.specs.Resuming.{Resumes}
 use Rattle.dds_protocol.specs.Traffic.{Traffic, Sends}
 use Rattle.dds_protocol.specs.World.{WorldState, WorldStep, peer_at, machine_of}
 
@@ -32,8 +33,8 @@ announcements_due config peer part (writes writer (Asserted moment)) =
 announcements_due config peer part other = []
 
 -- These messages are due at an event: for a call what announces its change or tells its assertion, at a tick that is
--- done the HEARTBEATs of the peer, for a delivered packet what the rules say once it was taken up; where the event is
--- refused, none.
+-- done the HEARTBEATs of the peer, for a delivered packet what the rules say once it was taken up; where places are
+-- tried again, by the rules, and where the event is refused, none.
 abbrev pub AreDue : Config → WorldState → WorldEvent → Reply → WorldState → List Due → Type 0
 AreDue config old (Call peer call) reply new dues =
     dues ≡ announcements_due config peer (peer_at old peer).part (effect_of (peer_at old peer).part call reply)
@@ -41,6 +42,8 @@ AreDue config old (Tick peer now) Done new dues = dues ≡ heartbeats_due config
 AreDue config old (Deliver peer number) (Reported report) new dues =
     (packet : Packet) × (slice_get old.sent (number - 1) ≡ Some packet)
     × TakesPacket config peer packet.bytes (state_of (peer_at old peer)) report dues (state_of (peer_at new peer))
+AreDue config old (Resume peer reader) (Reported report) new dues =
+    (dues ≡ []) × Resumes reader (state_of (peer_at old peer)) report (state_of (peer_at new peer))
 AreDue config old event reply new dues = dues ≡ []
 
 -- One event of a network by the rules: it is a step of the peers, and of the messages that are due these packets are

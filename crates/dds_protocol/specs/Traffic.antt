@@ -5,7 +5,7 @@ use Rattle.std.specs.Prelude.{◌≡◌, ◌≢◌, ℕ, ◌+◌, ◌-◌, ◌^�
 use Rattle.dds_base.specs.declared.change.Change.{Change}
 use Rattle.dds_base.specs.declared.config.Config.{Config}
 use Rattle.dds_base.specs.Written.{Changed, Asserted}
-use Rattle.dds_machine.specs.declared.endpoint.Endpoint.{Endpoint}
+use Rattle.dds_base.specs.declared.endpoint.Endpoint.{Endpoint}
 use Rattle.dds_machine.specs.declared.event.WorldEvent.{WorldEvent}
 use Rattle.dds_machine.specs.declared.event.WorldEvent.TheVariants as world
 use Rattle.dds_protocol.specs.declared.event.Packet.{Packet}
@@ -64,7 +64,8 @@ SendsOf config old m peer other new = new ≡ old
 
 -- What is sent at an event: an accepted change is announced, an assertion is told, a tick that is done sends the
 -- HEARTBEATs that are due at the peer, and a delivery the ACKNACKs and the answers that are then due there, of which
--- the machine without packets does not know; another call and what is refused send nothing, and lose nothing.
+-- the machine without packets does not know; another call, places that are tried again, and what is refused send
+-- nothing, and lose nothing.
 abbrev pub Sends : Config → Traffic → Machine → WorldEvent → Reply → Traffic → Type 0
 Sends config old m (world.Call peer call) reply new =
     SendsOf config old m peer (effect_of (part_at m peer) call reply) new
@@ -72,3 +73,4 @@ Sends config old m (world.Tick peer now) Done new = SendsDues (heartbeats_due co
 Sends config old m (world.Tick peer now) reply new = new ≡ old
 Sends config old m (world.Deliver peer packet) (Reported report) new = (dues : List Due) × SendsDues dues old new
 Sends config old m (world.Deliver peer packet) reply new = new ≡ old
+Sends config old m (world.Resume peer reader) reply new = new ≡ old

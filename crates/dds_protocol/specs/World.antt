@@ -8,7 +8,7 @@ use Rattle.dds_base.specs.declared.config.Config.{Config}
 use Rattle.dds_base.specs.declared.config.PeerConfig.{PeerConfig}
 use Rattle.dds_base.specs.declared.config.ReaderConfig.{ReaderConfig}
 use Rattle.dds_base.specs.Kept.{change_at, is_dropped}
-use Rattle.dds_machine.specs.declared.endpoint.Endpoint.{Endpoint}
+use Rattle.dds_base.specs.declared.endpoint.Endpoint.{Endpoint}
 use Rattle.dds_protocol.specs.declared.event.Event.{Event}
 use Rattle.dds_protocol.specs.declared.event.Event.TheVariants as event
 use Rattle.dds_machine.specs.declared.event.WorldEvent.{WorldEvent}
@@ -66,6 +66,9 @@ WorldStep config tests old (world.Deliver peer number) reply new =
     ((packet : Packet) × (1 ≤ number) × (slice_get old.sent (number - 1) ≡ Some packet)
     × PeerSteps config (tests peer) old peer (event.Deliver packet.bytes) reply new)
     ⊎ (((number ≡ 0) ⊎ (length old.sent < number) ⊎ (HasNumber old.peers peer → ⊥)) × IsRefusedIn old reply new)
+WorldStep config tests old (world.Resume peer reader) reply new =
+    PeerSteps config (tests peer) old peer (event.Resume reader) reply new
+    ⊎ ((HasNumber old.peers peer → ⊥) × IsRefusedIn old reply new)
 
 -- the claim is true of the lists and places
 abbrev pub Holds : Machine → Claim → Type 0

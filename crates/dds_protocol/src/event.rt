@@ -29,6 +29,11 @@ pub enum Event {
     Tick(Moment),
     /// The bytes of a packet come, whatever they are. The answer is a `Report`.
     Deliver(Octets),
+    /// The places of a reader are tried again, one after another, in the order of the writers' publication handles:
+    /// each that has begun goes on as far as it can by what is known already, as after a take that made room. No packet
+    /// is sent. The answer is a `Report`, whose `refused` is the index of the writer at which memory was wanting, from 0
+    /// among those that the reader knows; or `BadParameter` where there is no such reader.
+    Resume { reader: u8 },
 }
 
 /// What a peer gives back: its answer, the packets that it sends, and how many it could not make for want of memory.
@@ -59,6 +64,7 @@ impl Clone for Event {
             Event::Call(call) => Event::Call(call.clone()?),
             Event::Tick(now) => Event::Tick(*now),
             Event::Deliver(bytes) => Event::Deliver(bytes.clone()?),
+            Event::Resume { reader } => Event::Resume { reader: *reader },
         })
     }
 }

@@ -4,16 +4,18 @@
 //! 2.2.3.
 
 ghost use Rattle.std.specs.Prelude.{◌≡◌, ◌↔◌, ◌⊎◌, ◌+◌, ◌<◌, ◌≤◌, ◌∷◌, [], IsTrue, List, length, ℕ};
+ghost use Rattle.dds_protocol.specs.Backed.{CallsBacked};
 ghost use Rattle.dds_protocol.specs.Bounds.{OpensBounded, RunsBounded, StepsBounded};
 ghost use Rattle.dds_protocol.specs.CatchUp.{WindowCatchesUp};
-ghost use Rattle.dds_protocol.specs.Closed.{BestEffortAsDropped, ClosedAcknowledges, ClosedBeginsNone, ClosedClaims, ClosedLosesNone, OpensClosed, RunsAlike, RunsClosed, StaysClosed};
+ghost use Rattle.dds_protocol.specs.Closed.{BestEffortAsDropped, ClosedAcknowledges, ClosedBeginsNone, ClosedClaims, ClosedInOrder, ClosedLosesNone, ClosedOwesAll, OpensClosed, RunsAlike, RunsClosed, StaysClosed};
 ghost use Rattle.dds_protocol.specs.DueMessages.{AreSent, Due, packet_of};
+ghost use Rattle.dds_protocol.specs.Dues.{CallsStayDue};
 ghost use Rattle.dds_protocol.specs.Fresh.{OpensUsed, StepsUsed};
 ghost use Rattle.dds_protocol.specs.InOrder.{ChangesComeInOrder};
-ghost use Rattle.dds_protocol.specs.Laws.{AnswersAreTrue, AnswersCanBeWritten, AssertionsAreTrue, AssertionsCanBeWritten, Composes, ComposesRuns, HeartbeatsAreTrue, KeepAllIsKept, OpensBacked, OpensSound, OwnersExist, ReadersTellWritersApart, RulesRestOnClaims};
+ghost use Rattle.dds_protocol.specs.Laws.{AnswersAreTrue, AnswersCanBeWritten, AssertionsAreTrue, AssertionsCanBeWritten, Composes, ComposesRuns, HeartbeatsAreTrue, KeepAllIsKept, OpensBacked, OpensSound, OwnersExist, ReadersTellWritersApart, ResumesRestOnClaims, RulesRestOnClaims};
 ghost use Rattle.dds_protocol.specs.Protocol.{answers_per};
 ghost use Rattle.dds_protocol.specs.Repair.{AnswersAreFew, AsksAreSent, BeatsAreSent, PairCatchesUp, packets_for};
-ghost use Rattle.dds_protocol.specs.Tellings.{StepsOweNoMore, TellingsBacked, TellingsBounded, TellingsCompose, TellingsOweNoMore, TellingsStayDue, TellingsUsed, TurnsComeInOrder, TurnsKeepAll};
+ghost use Rattle.dds_protocol.specs.Tellings.{RunsOweNoMore, StepsOweNoMore};
 ghost use Rattle.dds_protocol.specs.declared.event.Packet.{Packet};
 
 use crate::event::{Event, Output};
@@ -34,28 +36,33 @@ pub fn composes_runs()
     ensures run { ComposesRuns }
 {}
 
-/// No run passes over a change that a writer that keeps all owes a reliable reader; where nobody comes or goes, over
+/// No run passes over a change that a writer that keeps all owes a reliable reader; while nobody comes or goes, over
 /// none of its changes.
 pub fn keep_all_is_kept()
     // What is owed at the end of a run was passed over nowhere in it.
     ensures kept { KeepAllIsKept }
-    // Where nobody has come or left, nothing is passed over.
+    // Where nobody has come or left, nothing is passed over while nobody does.
     ensures closed { ClosedLosesNone }
 {}
 
-/// Nobody comes or goes: each place has begun, and each matched reliable reader is owed all changes. So no place begins,
-/// and what is not owed adds nothing to what may be passed over, and to what packets claim.
+/// Nobody has come or left: each place has begun, and each matched reliable reader is owed all changes. While no
+/// writer and no reader is told who is matched with it, this stays so, no place begins, and what is not owed adds
+/// nothing to what may be passed over, and to what packets claim.
 pub fn nobody_comes_or_goes()
-    // at the opening,
+    // It is so at the opening,
     ensures opening { OpensClosed }
-    // after every event,
+    // after every event at which nobody comes or goes,
     ensures step { StaysClosed }
-    // and after every run.
+    // and after every run of such events.
     ensures run { RunsClosed }
-    // No place begins there.
+    // No place begins in these.
     ensures begins { ClosedBeginsNone }
-    // There the runs are those in which a change is passed over only if it was dropped.
+    // They are those in which a change is passed over only if it was dropped.
     ensures dropped { RunsAlike }
+    // All is owed there,
+    ensures owed { ClosedOwesAll }
+    // so what came is the beginning of the list of a writer that keeps all.
+    ensures order { ClosedInOrder }
     // Packets claim there that a change is dropped, or that its reader is past it,
     ensures claims { ClosedClaims }
     // and no reader has acknowledged more than it has.
@@ -64,33 +71,28 @@ pub fn nobody_comes_or_goes()
     ensures best_effort { BestEffortAsDropped }
 {}
 
-/// A peer may be told at any moment that a writer and a reader are matched from now on, or no longer, whatever the other
-/// side knows: all that holds of networks by the rules holds on.
+/// A writer and a reader may be told by calls, at any moment, that they are matched from now on, or no longer, whatever
+/// the other side knows: what the writer does not owe the reader it never will.
+///
+/// Runs have these calls as all others. So claims stay true (`composes`), places stay within the lists
+/// (`places_are_bounded`), and counts are used (`counts_are_fresh`); what a writer that keeps all owes at the end was
+/// passed over nowhere (`keep_all_is_kept`), and what came where it owes all came in order (`changes_come_in_order`).
 ///
 /// RTPS 2.5, 8.4.7.4, 8.4.10.3.
 pub fn whoever_comes_or_goes()
-    // Claims stay true, and the machine without packets is told the same.
-    ensures composes { TellingsCompose }
     // What is owed begins no earlier after an event,
     ensures event { StepsOweNoMore }
-    // and after a telling.
-    ensures owed { TellingsOweNoMore }
-    // Places stay within the lists,
-    ensures bounded { TellingsBounded }
-    // and counts are used.
-    ensures used { TellingsUsed }
-    // What a peer knows stays what packets claimed,
-    ensures backed { TellingsBacked }
-    // and what it has to send is true, and can be written, as before.
-    ensures due { TellingsStayDue }
-    // Whoever is told what between events, what a writer that keeps all owes at the end was passed over nowhere,
-    ensures kept { TurnsKeepAll }
-    // and what came is the beginning of its list where it owes all.
-    ensures order { TurnsComeInOrder }
+    // and after a run.
+    ensures run { RunsOweNoMore }
+    // After a call what a peer knows is what packets claimed, as before,
+    ensures backed { CallsBacked }
+    // and after one that tells, what it has to send is true, and can be written, as before.
+    ensures due { CallsStayDue }
 {}
 
-/// After every run, the changes of a writer that keeps all that came at a matched reader are the first ones of its
-/// list, as many as lie before the reader's place there.
+/// After every run, the changes of a writer that keeps all that came at a reader that it was matched with at the
+/// opening are the first ones of its list, as many as lie before the reader's place there, where it owes it all: it
+/// was told of the reader before its first change, and of no parting after it.
 pub fn changes_come_in_order()
     ensures order { ChangesComeInOrder }
 {}
@@ -133,7 +135,8 @@ pub fn owners_exist()
 }
 
 /// What a peer does with a packet by the rules of the protocol rests on what that packet and earlier ones claim. What
-/// it knows beside its part of the machine is claimed by them too, at the opening and after each packet.
+/// it knows beside its part of the machine is claimed by them too, at the opening and after each packet, and where a
+/// reader's places are tried again.
 ///
 /// RTPS 2.5, 8.4.9, 8.4.12.
 pub fn rules_rest_on_claims()
@@ -141,6 +144,8 @@ pub fn rules_rest_on_claims()
     ensures opening { OpensBacked }
     // A packet that is taken up by the rules moves what it may move, and leaves known what is claimed.
     ensures packet { RulesRestOnClaims }
+    // Places that are tried again move as far as they may, and leave known what is claimed.
+    ensures resume { ResumesRestOnClaims }
 {}
 
 /// What the rules of the protocol ask a peer to send claims, once it is written, only what is true of the peer's own
@@ -194,9 +199,10 @@ pub fn window_catches_up()
     ensures window { WindowCatchesUp }
 {}
 
-/// After a round of repair of a writer and a matched reader, in a network by the rules, the reader has gone on by 256
-/// numbers, or to the end of the writer's list, or to a change that has no room; and the writer knows of all that the
-/// reader had before. So it is also where both are at one peer, and whatever other writers and readers do meanwhile.
+/// After a round of repair of a writer and a reader, which are matched at both sides, in a network by the rules, the
+/// reader has gone on by 256 numbers, or to the end of the writer's list, or to a change that has no room; and the
+/// writer knows of all that the reader had before. A reader whose place waits begins in the round. So it is also where
+/// both are at one peer, and whatever other writers and readers do meanwhile.
 ///
 /// RTPS 2.5, 8.4.9, 8.4.12.
 pub fn pair_catches_up()

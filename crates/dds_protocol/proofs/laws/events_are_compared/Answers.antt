@@ -17,7 +17,7 @@ use Rattle.dds_protocol.specs.contracts.event.Event.{enum as enum_of_events}
 use Rattle.dds_protocol.specs.contracts.event.EventPartialEq.TheImpl as of_events
 use Rattle.dds_machine.specs.declared.call.Call.{Call}
 use Rattle.dds_protocol.specs.declared.event.Event.{Event}
-use Rattle.dds_protocol.proofs.Compared.{of_variants, ◌⨾◌, bare, last, more, lists, keys, entities, conds, status_masks}
+use Rattle.dds_protocol.proofs.Compared.{of_variants, ◌⨾◌, bare, last, more, lists, keys, endpoints, entities, conds, status_masks}
 use Rattle.dds_protocol.proofs.laws.events_are_compared.Goals as goal
 
 masks : (a b : Masks) → Decides (of_masks.ghosts.eq a b) (a ≡ b)
@@ -67,10 +67,16 @@ calls = of_variants enum_of_calls _
     ⨾ last Decides-eqb  -- WaitEnd
     ⨾ more entities (last status_masks)  -- SetEnabledStatuses
     ⨾ last entities  -- GetStatusChanges
+    ⨾ more Decides-eqb (last endpoints)  -- MatchReader
+    ⨾ more Decides-eqb (last endpoints)  -- UnmatchReader
+    ⨾ more Decides-eqb (last endpoints)  -- MatchWriter
+    ⨾ more Decides-eqb (last endpoints)  -- UnmatchWriter
+    ⨾ last Decides-eqb  -- GetPublicationMatched
+    ⨾ last Decides-eqb  -- GetSubscriptionMatched
     ⨾ tt)
 
 events : (a b : Event) → Decides (of_events.ghosts.eq a b) (a ≡ b)
-events = of_variants enum_of_events _ (last calls ⨾ last Decides-eqb ⨾ last (lists Decides-eqb) ⨾ tt)
+events = of_variants enum_of_events _ (last calls ⨾ last Decides-eqb ⨾ last (lists Decides-eqb) ⨾ last Decides-eqb ⨾ tt)
 
 pub returns : goal.returns
 returns c =

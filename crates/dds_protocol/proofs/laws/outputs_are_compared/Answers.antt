@@ -24,13 +24,15 @@ use Rattle.dds_base.specs.contracts.status.LivelinessChangedStatusPartialEq.TheI
 use Rattle.dds_base.specs.contracts.code.CodePartialEq.TheImpl as of_codes
 use Rattle.dds_base.specs.contracts.status.SampleLostStatusPartialEq.TheImpl as of_sample_lost
 use Rattle.dds_base.specs.contracts.status.LivelinessLostStatusPartialEq.TheImpl as of_liveliness_lost
-use Rattle.dds_machine.specs.declared.endpoint.Endpoint.{Endpoint}
+use Rattle.dds_base.specs.declared.endpoint.Endpoint.{Endpoint}
+use Rattle.dds_base.specs.declared.status.MatchedStatus.{MatchedStatus}
+use Rattle.dds_base.specs.contracts.endpoint.EndpointPartialEq.TheImpl as of_endpoints
+use Rattle.dds_base.specs.contracts.status.MatchedStatusPartialEq.TheImpl as of_matched
 use Rattle.dds_protocol.specs.declared.event.Output.{Output}
 use Rattle.dds_protocol.specs.declared.event.Packet.{Packet}
 use Rattle.dds_machine.specs.declared.reply.Move.{Move}
 use Rattle.dds_machine.specs.declared.reply.Report.{Report}
 use Rattle.dds_machine.specs.declared.reply.Reply.{Reply}
-use Rattle.dds_machine.specs.contracts.endpoint.EndpointPartialEq.TheImpl as of_endpoints
 use Rattle.dds_protocol.specs.contracts.event.OutputPartialEq.TheImpl as of_outputs
 use Rattle.dds_protocol.specs.contracts.event.PacketPartialEq.TheImpl as of_packets
 use Rattle.dds_machine.specs.contracts.reply.MovePartialEq.TheImpl as of_moves
@@ -38,7 +40,7 @@ use Rattle.dds_machine.specs.contracts.reply.ReportPartialEq.TheImpl as of_repor
 use Rattle.dds_machine.specs.contracts.reply.ReplyPartialEq.TheImpl as of_replies
 use Rattle.dds_machine.specs.contracts.reply.Move.{enum as enum_of_moves}
 use Rattle.dds_machine.specs.contracts.reply.Reply.{enum as enum_of_replies}
-use Rattle.dds_protocol.proofs.Compared.{of_variants, ◌⨾◌, bare, last, more, lists, keys, conds, status_masks}
+use Rattle.dds_protocol.proofs.Compared.{of_variants, ◌⨾◌, bare, last, more, lists, keys, endpoints, conds, status_masks}
 use Rattle.dds_protocol.proofs.laws.outputs_are_compared.Goals as goal
 
 options : (a b : Option ℕ) → Decides (option_eq nat_eq a b) (a ≡ b)
@@ -99,9 +101,6 @@ samples a b =
 
 -- ---- reports
 
-endpoints : (a b : Endpoint) → Decides (of_endpoints.ghosts.eq a b) (a ≡ b)
-endpoints a b = search rules
-
 runs : (a b : PassedRun) → Decides (of_runs.ghosts.eq a b) (a ≡ b)
 runs a b = search rules
 
@@ -144,6 +143,28 @@ sample_lost_statuses a b = search rules
 liveliness_lost_statuses : (a b : LivelinessLostStatus) → Decides (of_liveliness_lost.ghosts.eq a b) (a ≡ b)
 liveliness_lost_statuses a b = search rules
 
+ends : (a b : Option Endpoint) → Decides (option_eq of_endpoints.ghosts.eq a b) (a ≡ b)
+ends None None = (λ _. refl, λ _. refl)
+ends (Some x) (Some y) = Decides-like (of_endpoints.ghosts.eq x y) (ap Some) (λ e. cc) (endpoints x y)
+ends _ _ = (λ e. cc, λ e. cc)
+
+matched_statuses : (a b : MatchedStatus) → Decides (of_matched.ghosts.eq a b) (a ≡ b)
+matched_statuses a b =
+    let all =
+    Decides-and _ _ (Decides-eqb a.total_count b.total_count)
+    (Decides-and _ _ (Decides-eqb a.total_count_change b.total_count_change)
+    (Decides-and _ _ (Decides-int_eq a.current_count b.current_count)
+    (Decides-and _ _ (Decides-int_eq a.current_count_change b.current_count_change) (ends a.last b.last)))) in
+    Decides-like (of_matched.ghosts.eq a b)
+    (λ h i. record {
+      total_count = h.0 i;
+      total_count_change = h.1.0 i;
+      current_count = h.1.1.0 i;
+      current_count_change = h.1.1.1.0 i;
+      last = h.1.1.1.1 i;
+    })
+    (λ e. (cc, (cc, (cc, (cc, cc))))) all
+
 codes : (a b : Code) → Decides (of_codes.ghosts.eq a b) (a ≡ b)
 codes a b = search rules
 
@@ -156,6 +177,7 @@ replies = of_variants enum_of_replies _
     ⨾ last sample_lost_statuses  -- SampleLost
     ⨾ last liveliness_statuses  -- LivelinessChanged
     ⨾ last liveliness_lost_statuses  -- LivelinessLost
+    ⨾ last matched_statuses  -- Matched
     ⨾ last Decides-eqb  -- Created
     ⨾ last booleans_Decides  -- TriggerValue
     ⨾ last (lists conds)  -- Conditions
