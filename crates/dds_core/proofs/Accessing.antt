@@ -43,8 +43,10 @@ use Rattle.rtps_reader.specs.Tracked.{Tracked}
 use Rattle.dds_lease.specs.Standing.{Kept as Leased, StandsFor as LeasesStandFor}
 use Rattle.dds_core.specs.Stored.{StoreKept}
 use Rattle.dds_core.specs.Storing.{Holds}
-use Rattle.dds_machine.specs.declared.endpoint.Endpoint.{Endpoint}
+use Rattle.dds_base.specs.declared.endpoint.Endpoint.{Endpoint}
 use Rattle.dds_core.proofs.Rows.{writers_of}
+use Rattle.dds_core.specs.declared.match_counts.MatchCounts.{MatchCounts}
+use Rattle.dds_core.specs.MatchCounts.{CountsFor}
 use Rattle.dds_core.specs.Kept.{ReaderKept, PeerKept}
 use Rattle.dds_core.specs.Looking.{TakesOnly, access_reply}
 use Rattle.dds_core.specs.Standing.{IsFirstRow, ReaderStands, StandsFor, stood_as}
@@ -152,6 +154,8 @@ one_entered entry quiet k k' proxies r tracked samples same s stands = record {
   hows = λ w n f.
       s.hows w n (subst (λ (ns : List WriterName). IsFirstRow ns w n) same.writers f)
       ∙ ap (λ (x : Proxies). stood_as (how_at x n)) (sym same.reader);
+  counts = subst (λ (m : MatchCounts). CountsFor m r.matches) (sym same.matches) s.counts;
+  here_is = same.here ∙ s.here_is;
 }
 
 -- the part after an access
@@ -191,22 +195,24 @@ not_entered tests c kept i k k' config peer code s at same is =
 
 kept_same : (k k' : ReaderKept) → TakesOnly k k' → k'.store.cache ≡ k.store.cache → k' ≡ k
 kept_same k k' same cache =
-    reader_as k'.entity k.entity k'.writers k.writers k'.reader k.reader k'.store k.store k'.seen k.seen same.entity
+    reader_as k'.entity k.entity k'.writers k.writers k'.reader k.reader k'.store k.store k'.seen k.seen
+    k'.matches k.matches k'.here k.here same.entity
     same.writers same.reader
     (store_as k'.store.lost k.store.lost k'.store.passed k.store.passed k'.store.turned k.store.turned
     k'.store.leases k.store.leases k'.store.cache k.store.cache same.lost same.passed same.turned same.leases cache)
-    same.seen
+    same.seen same.matches same.here
   where
     store_as : (i j : ℕ) (p q t u : Option ℕ) (l m : Leased) (c d : Stored) → i ≡ j → p ≡ q → t ≡ u → l ≡ m → c ≡ d
         → ◌≡◌ {A = StoreKept} (record { lost = i; passed = p; turned = t; leases = l; cache = c })
         (record { lost = j; passed = q; turned = u; leases = m; cache = d })
     store_as i j p q t u l m c d e f g h k = cc
 
-    reader_as : (a b : EntityId) (x y : List WriterName) (p q : Proxies) (s t : StoreKept) (i j : Seen) → a ≡ b → x ≡ y
-        → p ≡ q → s ≡ t → i ≡ j
-        → ◌≡◌ {A = ReaderKept} (record { entity = a; writers = x; reader = p; store = s; seen = i })
-        (record { entity = b; writers = y; reader = q; store = t; seen = j })
-    reader_as a b x y p q s t i j e f g h l = cc
+    reader_as : (a b : EntityId) (x y : List WriterName) (p q : Proxies) (s t : StoreKept) (i j : Seen)
+        (m n : MatchCounts) (c d : ℕ) → a ≡ b → x ≡ y → p ≡ q → s ≡ t → i ≡ j → m ≡ n → c ≡ d
+        → ◌≡◌ {A = ReaderKept}
+        (record { entity = a; writers = x; reader = p; store = s; seen = i; matches = m; here = c })
+        (record { entity = b; writers = y; reader = q; store = t; seen = j; matches = n; here = d })
+    reader_as a b x y p q s t i j m n c d e f g h l u v = cc
 
 -- what a cache answers is what the machine answers
 accessed : (tests : Tests) (kind : AccessKind) (c : Call) (test : Test) (i : ℕ) (selection : Selection)

@@ -9,7 +9,7 @@ use Rattle.std.proofs.lemmas.Option.{same_Some}
 use Rattle.rtps_writer.specs.Acknack.{applied, is_applied, if_later, newly_acknowledged}
 use Rattle.rtps_writer.specs.Answers.{answered_from as rtps_answered_from}
 use Rattle.rtps_writer.specs.WriterState.{WriterState, acknowledged_by, owed_from as rtps_owed_from}
-use Rattle.dds_machine.specs.declared.endpoint.Endpoint.{Endpoint}
+use Rattle.dds_base.specs.declared.endpoint.Endpoint.{Endpoint}
 use Rattle.std.specs.Option.{option_map}
 use Rattle.dds_base.specs.Counts.{is_later}
 use Rattle.dds_machine.specs.declared.reply.Move.TheVariants.{Acknowledged}

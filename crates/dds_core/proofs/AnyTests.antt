@@ -93,3 +93,10 @@ any_delivery tests old new packet output steps = λ config peer s sound.
       r.3,
       r.4,
     )
+
+-- places that are tried again
+pub any_resume : (tests : Tests) (old new : PeerKept) (reader : ℕ) (output : Output)
+    → SoundSteps old (event.Resume reader) output new → SoundStepsBy tests old (event.Resume reader) output new
+any_resume tests old new reader output steps = λ config peer s sound.
+    let r = steps config peer s sound in
+    (r.0, record { same_number = r.1.same_number; knows = r.1.knows; step = r.1.step; sent = r.1.sent }, r.2, r.3, r.4)

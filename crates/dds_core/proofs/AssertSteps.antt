@@ -1,7 +1,6 @@
 -- What an assertion of one of the peer's writers does.
-use Rattle.std.proofs.Common.{◌≡◌, ℕ, suc, ◌+◌, ◌-◌, ◌^◌, ◌<◌, Bool, true, false, not, List, [], ◌∷◌, Some, None, map, length, slice_get, refl, ap, sym, ◌∙◌, subst, arith}
-use Rattle.std.specs.Prelude.{nat_le, nat_lt, if◌then◌else◌}
-use Rattle.std.proofs.lemmas.Bool.Decides.{nat_tests}
+use Rattle.std.proofs.Common.{◌≡◌, ℕ, suc, ◌+◌, ◌-◌, ◌^◌, ◌<◌, Bool, true, false, not, List, Some, None, map, length, slice_get, refl, ap, sym, ◌∙◌, subst, arith}
+use Rattle.std.specs.Prelude.{nat_le, if◌then◌else◌}
 use Rattle.dds_base.specs.declared.code.Code.{Code}
 use Rattle.dds_base.specs.declared.code.Code.TheVariants.{BadParameter, OutOfResources}
 use Rattle.dds_base.specs.declared.config.Config.{Config}
@@ -16,7 +15,6 @@ use Rattle.dds_machine.specs.Refusals.{assert_refusal}
 use Rattle.dds_machine.specs.Calls.{CallStep}
 use Rattle.dds_machine.specs.Numbered.{has_element}
 use Rattle.dds_conditions.specs.NoFilters.{no_filters}
-use Rattle.dds_machine.specs.declared.endpoint.Endpoint.{Endpoint}
 use Rattle.dds_machine.specs.Part.{Writer, heartbeats_used, own_writer}
 use Rattle.dds_protocol.specs.Peer.{Peer}
 use Rattle.dds_protocol.specs.DueMessages.{Due, AreSent, assertion_message, assertions_due, writer_entity}

@@ -1,6 +1,7 @@
 -- What tells an assertion of a writer is what is due for it.
-use Rattle.std.proofs.Common.{◌≡◌, ℕ, ◌+◌, ◌-◌, ◌^◌, ◌<◌, Bool, true, false, List, [], ◌∷◌, ◌++◌, Option, Some, None, map, take, length, get_or, refl, ap, sym, ◌∙◌, subst, length-append}
-use Rattle.std.specs.Prelude.{ℤ, pos, nat_le, if◌then◌else◌}
+use Rattle.std.proofs.Common.{◌≡◌, ℕ, suc, ◌+◌, ◌-◌, ◌^◌, ◌<◌, Bool, true, false, List, [], ◌∷◌, ◌++◌, Option, Some, None, map, take, length, get_or, refl, ap, sym, ◌∙◌, subst, arith, length-append}
+use Rattle.std.specs.Prelude.{ℤ, pos, nat_le, nat_lt, if◌then◌else◌}
+use Rattle.std.proofs.lemmas.Bool.Decides.{nat_tests}
 use Rattle.std.proofs.lemmas.List.{take_more, map-append}
 use Rattle.std.proofs.lemmas.Option.{same_Some}
 use Rattle.dds_base.specs.declared.code.Code.{Code}
@@ -12,7 +13,7 @@ use Rattle.rtps_writer.specs.Standing.{Kept, StandsFor as RtpsStandsFor}
 use Rattle.rtps_writer.specs.Liveliness.{assert_refusal, asserted, heartbeat_asserted}
 use Rattle.rtps_writer.specs.WriterState.{WriterState, counts_due, last_of, history_of as rtps_history_of}
 use Rattle.rtps_writer.specs.declared.heartbeat.HeartbeatDue.{HeartbeatDue}
-use Rattle.dds_machine.specs.declared.endpoint.Endpoint.{Endpoint}
+use Rattle.dds_base.specs.declared.endpoint.Endpoint.{Endpoint}
 use Rattle.dds_protocol.specs.declared.event.Packet.{Packet}
 use Rattle.dds_machine.specs.Part.{Writer, heartbeats_used}
 use Rattle.dds_protocol.specs.DueMessages.{Due, AreSent, assertion_message}
@@ -63,6 +64,14 @@ told_are prefix kept w answered is_matched now due is =
     let d = some_told is_matched (counts_of w.written) (due_by w) due is in
     ap (λ (x : HeartbeatDue). told_to
     (record { prefix = prefix; entity = kept.entity; due = x; asserts = true }) kept.destinations) d
+
+-- where nobody is counted, nobody is sent to
+pub nowhere : (ds : List Destination) (n : ℕ) → n ≡ length ds → nat_lt 0 n ≡ false → ds ≡ []
+nowhere [] n is none = refl
+nowhere (d ∷ ds) n is none = absurd (some n is none)
+  where
+    some : (n : ℕ) → n ≡ suc (length ds) → nat_lt 0 n ≡ false → ⊥
+    some n is none = grind (arith, nat_tests)
 
 pub told_none : (prefix : GuidPrefix) (kept : WriterKept) (w : Writer) (answered : Endpoint → Option ℤ)
     (is_matched : Bool) (now : ℕ) → (is_matched ≡ false → kept.destinations ≡ [])

@@ -1,10 +1,10 @@
 -- The HEARTBEATs of a writer at a tick, and those of all writers of a peer.
-use Rattle.std.proofs.Common.{◌≡◌, ◌⊎◌, ℕ, zero, suc, ◌+◌, ◌-◌, ◌^◌, ◌<◌, ◌≤◌, ◌==◌, Bool, true, false, cond, ◌&&◌, ◌||◌, List, [], ◌∷◌, ◌++◌, Option, Some, None, not, map, take, drop, length, get_or, refl, ap, sym, ◌∙◌, subst, arith, inl, inr, ⊎_elim, length-append, eqb-true, append_assoc, append-nil, Contains}
+use Rattle.std.proofs.Common.{◌≡◌, ◌⊎◌, ℕ, zero, suc, ◌+◌, ◌-◌, ◌^◌, ◌<◌, ◌≤◌, ◌==◌, Bool, true, false, cond, ◌&&◌, ◌||◌, List, [], ◌∷◌, ◌++◌, Option, Some, None, not, map, take, drop, length, get_or, refl, ap, sym, ◌∙◌, subst, arith, inl, inr, ⊎_elim, length-append, eq-eqb, eqb-true, append_assoc, append-nil, Contains}
 use Rattle.std.specs.Prelude.{ℤ, pos, find, nat_le, nat_lt, if◌then◌else◌}
 use Rattle.std.specs.List.{list_any}
-use Rattle.std.specs.Option.{unwrap_or}
 use Rattle.std.proofs.lemmas.Bool.Decides.{nat_tests}
-use Rattle.std.proofs.lemmas.List.{take_more, take_all, length-take}
+use Rattle.std.specs.Option.{option_map_or, unwrap_or}
+use Rattle.std.proofs.lemmas.List.{get_or-map, length-map, length-take, map-append, take_all, take_more}
 use Rattle.std.proofs.lemmas.Option.{same_Some, slice_get-get_or}
 use Rattle.dds_base.specs.declared.guid.GuidPrefix.{GuidPrefix}
 use Rattle.dds_base.specs.Kept.{WriterHistory, first_kept, is_kept, numbers_from}
@@ -16,7 +16,7 @@ use Rattle.rtps_wire.proofs.SpellingLaws.{message_again}
 use Rattle.rtps_writer.specs.Standing.{Kept, StandsFor as RtpsStandsFor}
 use Rattle.rtps_writer.specs.WriterState.{WriterState, counts_due, heartbeat_due, is_behind, is_reader_behind, last_of, history_of as rtps_history_of, ticked as rtps_ticked}
 use Rattle.rtps_writer.specs.declared.heartbeat.HeartbeatDue.{HeartbeatDue}
-use Rattle.dds_machine.specs.declared.endpoint.Endpoint.{Endpoint}
+use Rattle.dds_base.specs.declared.endpoint.Endpoint.{Endpoint}
 use Rattle.dds_protocol.specs.declared.event.Packet.{Packet}
 use Rattle.dds_machine.specs.Part.{ReaderProxy, Writer, no_writer, writer_changes, history_of}
 use Rattle.dds_protocol.specs.DueMessages.{Due, AreSent, heartbeat_message}
@@ -24,12 +24,14 @@ use Rattle.dds_core.specs.declared.heartbeat.Beat.{Beat}
 use Rattle.dds_core.specs.declared.matching.Destination.{Destination}
 use Rattle.dds_core.specs.declared.matching.ReaderName.{ReaderName}
 use Rattle.dds_core.specs.declared.sending.Announced.{Announced}
-use Rattle.dds_core.specs.Beating.{IsHeartbeatValid, AreReadersOf, BeatsOfAll, Adds, AddsTo, Beats, BeatsOf, beats_of, beats_of_all, beats_to, due_to, message_to, told_to, is_last_behind, is_peer_behind, peer_of, peers_behind}
+use Rattle.dds_core.specs.Beating.{IsHeartbeatValid, AreReadersOf, BeatsOfAll, Adds, AddsTo, Beats, BeatsOf, beats_of, beats_of_all, beats_to, due_to, message_to, told_to, first_peers, is_first_behind, is_peer_behind, names_behind, peer_of, peers_behind}
+use Rattle.dds_core.specs.Coming.{has_reader_at, with_peer}
 use Rattle.dds_core.specs.Kept.{WriterKept}
 use Rattle.dds_core.specs.Sending.{AreMessages}
 use Rattle.dds_core.specs.Announcing.{AddsPacket}
 use Rattle.dds_core.specs.Standing.{WriterStands, WritersStand, state_of}
-use Rattle.dds_core.proofs.Lists.{element}
+use Rattle.dds_core.proofs.FirstPeers.{first_peers_last, has_first}
+use Rattle.dds_core.proofs.Joining.{any_more, no_name}
 use Rattle.dds_core.proofs.Ticking.{TickedTo, untouched}
 
 -- some of these readers is of this peer, and behind the writer
@@ -148,43 +150,92 @@ still_messages m to p q can some (inr more) h packet among =
 
 -- ---- the readers that are behind
 
-one_row : (peer last : ℕ) (rows : List ReaderProxy) (names : List ReaderName) (i : ℕ) (d : ReaderName)
-    → map (λ (p : ReaderProxy). p.reader) rows ≡ map (λ (r : ReaderName). r.reader) names → i < length names
-    → list_any (λ (p : ReaderProxy). (p.reader.peer == peer) && nat_le p.acknowledged last) (drop i rows)
-    ≡ (((get_or names i d).reader.peer == peer) && nat_le
-    (get_or (map (λ (p : ReaderProxy). p.acknowledged) rows) i 0) last) || list_any
-    (λ (p : ReaderProxy). (p.reader.peer == peer) && nat_le p.acknowledged last) (drop (i + 1) rows)
-one_row peer last rows [] i d same lt = absurd (omega (arith, lt))
-one_row peer last [] (n ∷ ns) i d same lt =
-    absurd (let c = ap (λ (es : List Endpoint). length es) same in omega (arith, c))
-one_row peer last (p ∷ ps) (n ∷ ns) zero d same lt =
-    let head : p.reader ≡ n.reader = ap (λ (es : List Endpoint). get_or es 0 p.reader) same in
-    ap (λ (e : Endpoint). ((e.peer == peer) && nat_le p.acknowledged last) || list_any
-    (λ (q : ReaderProxy). (q.reader.peer == peer) && nat_le q.acknowledged last) ps) head
-one_row peer last (p ∷ ps) (n ∷ ns) (suc i) d same lt =
-    let next : suc i + 1 ≡ suc (i + 1) = omega arith in
-    let tail = ap (λ (es : List Endpoint). drop 1 es) same in
-    one_row peer last ps ns i d tail (omega (arith, lt))
-    ∙ ap (λ (k : ℕ). (((get_or ns i d).reader.peer == peer) && nat_le
-    (get_or (map (λ (q : ReaderProxy). q.acknowledged) ps) i 0) last)
-    || list_any (λ (q : ReaderProxy). (q.reader.peer == peer) && nat_le q.acknowledged last) (drop k (p ∷ ps)))
-    (sym next)
+-- what is read where there is no row
+pub no_row : ReaderProxy
+no_row = record { reader = record { peer = 0; number = 0 }; first = 0; acknowledged = 0 }
+
+-- the row of a reader, by its name and its acknowledgement
+pub row_at : (w : Writer) (names : List ReaderName) (row : ℕ) → AreReadersOf w names → row < length names
+    → (row < length w.readers) × ((get_or w.readers row no_row).reader ≡ (get_or names row no_name).reader)
+    × (get_or (map (λ (p : ReaderProxy). p.acknowledged) w.readers) row 0
+    ≡ (get_or w.readers row no_row).acknowledged)
+row_at w names row same lt =
+    let size = ap (λ (es : List Endpoint). length es) same in
+    let rows = length-map w.readers (λ (p : ReaderProxy). p.reader) in
+    let all = length-map names (λ (n : ReaderName). n.reader) in
+    let within : row < length w.readers = omega (arith, lt, size, rows, all) in (
+      within,
+      sym (get_or-map (λ (p : ReaderProxy). p.reader) w.readers row no_row no_name.reader within)
+          ∙ (ap (λ (es : List Endpoint). get_or es row no_name.reader) same
+          ∙ get_or-map (λ (n : ReaderName). n.reader) names row no_name no_name.reader lt),
+      get_or-map (λ (p : ReaderProxy). p.acknowledged) w.readers row no_row 0 within,
+    )
 
 -- one row more, by what is known of it
-pub row_behind : (w : Writer) (answered : Endpoint → Option ℤ) (peer : ℕ) (names : List ReaderName) (i : ℕ)
-    (d : ReaderName) (b c : Bool) → map (λ (p : ReaderProxy). p.reader) w.readers
-    ≡ map (λ (r : ReaderName). r.reader) names → i < length names
-    → ((get_or names i d).reader.peer == peer) ≡ b → (b ≡ true → c ≡ is_reader_behind (state_of w answered) i)
-    → is_behind_from w peer (drop i w.readers) ≡ (b && c) || is_behind_from w peer (drop (i + 1) w.readers)
-row_behind w answered peer names i d true c same lt is behind =
-    one_row peer (length (writer_changes w)) w.readers names i d same lt
-    ∙ (ap (λ (x : Bool). (x && is_reader_behind (state_of w answered) i) || is_behind_from w peer
-    (drop (i + 1) w.readers)) is
-    ∙ ap (λ (x : Bool). x || is_behind_from w peer (drop (i + 1) w.readers)) (sym (behind refl)))
-row_behind w answered peer names i d false c same lt is behind =
-    one_row peer (length (writer_changes w)) w.readers names i d same lt
-    ∙ ap (λ (x : Bool). (x && is_reader_behind (state_of w answered) i) || is_behind_from w peer
-    (drop (i + 1) w.readers)) is
+pub behind_next : (w : Writer) (answered : Endpoint → Option ℤ) (peer : ℕ) (names : List ReaderName) (row : ℕ)
+    → AreReadersOf w names → row < length names
+    → is_behind_from w peer (take (row + 1) w.readers)
+    ≡ (is_behind_from w peer (take row w.readers)
+    || (((get_or names row no_name).reader.peer == peer) && is_reader_behind (state_of w answered) row))
+behind_next w answered peer names row same lt =
+    let at = row_at w names row same lt in
+    let last : ℕ = length (writer_changes w) in
+    ap (λ (rows : List ReaderProxy). is_behind_from w peer rows) (take_more w.readers row no_row at.0)
+    ∙ (any_more (λ (p : ReaderProxy). (p.reader.peer == peer) && nat_le p.acknowledged last) (take row w.readers)
+    (get_or w.readers row no_row)
+    ∙ (ap (λ (e : Endpoint). is_behind_from w peer (take row w.readers)
+    || ((e.peer == peer) && nat_le (get_or w.readers row no_row).acknowledged last)) at.1
+    ∙ ap (λ (a : ℕ). is_behind_from w peer (take row w.readers)
+    || (((get_or names row no_name).reader.peer == peer) && nat_le a last)) (sym at.2)))
+
+-- what is so of some of the first is so of some of more
+pub some_more : {X : Type 0} (f : X → Bool) (xs : List X) (m n : ℕ) → m ≤ n → list_any f (take m xs) ≡ true
+    → list_any f (take n xs) ≡ true
+some_more f [] zero n le is = absurd cc
+some_more f [] (suc m) n le is = absurd cc
+some_more f (x ∷ xs) zero n le is = absurd cc
+some_more f (x ∷ xs) (suc m) zero le is = absurd (omega (arith, le))
+some_more f (x ∷ xs) (suc m) (suc n) le is = by (f x) is (some_more f xs m n (omega (arith, le)))
+  where
+    by : (b : Bool) → (b || list_any f (take m xs)) ≡ true
+        → (list_any f (take m xs) ≡ true → list_any f (take n xs) ≡ true) → (b || list_any f (take n xs)) ≡ true
+    by true h later = refl
+    by false h later = later h
+
+-- a reader of that peer that is behind is some reader of it that is
+pub some_behind : (w : Writer) (answered : Endpoint → Option ℤ) (peer : ℕ) (names : List ReaderName) (row to : ℕ)
+    → AreReadersOf w names → row < length names → row < to → (get_or names row no_name).reader.peer ≡ peer
+    → is_reader_behind (state_of w answered) row ≡ true → is_behind_from w peer (take to w.readers) ≡ true
+some_behind w answered peer names row to same lt before is behind =
+    some_more (λ (p : ReaderProxy). (p.reader.peer == peer) && nat_le p.acknowledged (length (writer_changes w)))
+    w.readers (row + 1) to (omega (arith, before))
+    (behind_next w answered peer names row same lt
+    ∙ (ap (λ (b : Bool). is_behind_from w peer (take row w.readers)
+    || (b && is_reader_behind (state_of w answered) row)) (eq-eqb _ _ is)
+    ∙ (ap (λ (b : Bool). is_behind_from w peer (take row w.readers) || b) behind
+    ∙ late (is_behind_from w peer (take row w.readers)))))
+  where
+    late : (b : Bool) → (b || true) ≡ true
+    late true = refl
+    late false = refl
+
+-- one that is of another peer, or not behind, is none
+pub none_behind : (w : Writer) (answered : Endpoint → Option ℤ) (peer : ℕ) (names : List ReaderName) (row : ℕ)
+    → AreReadersOf w names → row < length names → is_behind_from w peer (take row w.readers) ≡ false
+    → (((get_or names row no_name).reader.peer == peer) ≡ false)
+    ⊎ (is_reader_behind (state_of w answered) row ≡ false)
+    → is_behind_from w peer (take (row + 1) w.readers) ≡ false
+none_behind w answered peer names row same lt none either =
+    behind_next w answered peer names row same lt
+    ∙ (ap (λ (b : Bool). b || (((get_or names row no_name).reader.peer == peer)
+    && is_reader_behind (state_of w answered) row)) none
+    ∙ ⊎_elim (λ other. ap (λ (b : Bool). b && is_reader_behind (state_of w answered) row) other)
+    (λ not_so. ap (λ (b : Bool). ((get_or names row no_name).reader.peer == peer) && b) not_so
+    ∙ late ((get_or names row no_name).reader.peer == peer)) either)
+  where
+    late : (b : Bool) → (b && false) ≡ false
+    late true = refl
+    late false = refl
 
 -- numbers that are not equal
 pub other_number : (a b : ℕ) → (a ≡ b → ⊥) → (a == b) ≡ false
@@ -196,63 +247,157 @@ other_number a b other = not_same (a == b) refl
 
 -- ---- one row more
 
-row_head : {X : Type 0} (x : X) (xs : List X) (c b : Bool) → c ≡ b
-    → (if c then x ∷ xs else xs) ≡ cond b (x ∷ []) [] ++ xs
-row_head x xs true true is = refl
-row_head x xs false false is = refl
-row_head x xs true false is = absurd cc
-row_head x xs false true is = absurd cc
+-- the reader of a row is the first one of its peer that is behind, by what is known of it and of those before it
+pub first_at : (w : Writer) (answered : Endpoint → Option ℤ) (names : List ReaderName) (row : ℕ)
+    → AreReadersOf w names → row < length names
+    → is_first_behind (length (writer_changes w)) w.readers row
+    ≡ (is_reader_behind (state_of w answered) row
+    && not (is_behind_from w (get_or names row no_name).reader.peer (take row w.readers)))
+first_at w answered names row same lt =
+    let at = row_at w names row same lt in
+    let last : ℕ = length (writer_changes w) in
+    ap (λ (o : Option ReaderProxy). option_map_or (λ (p : ReaderProxy). nat_le p.acknowledged last
+    && not (is_peer_behind last p.reader.peer (take row w.readers))) o false)
+    (slice_get-get_or w.readers row no_row at.0)
+    ∙ (ap (λ (e : Endpoint). nat_le (get_or w.readers row no_row).acknowledged last
+    && not (is_peer_behind last e.peer (take row w.readers))) at.1
+    ∙ ap (λ (a : ℕ). nat_le a last
+    && not (is_peer_behind last (get_or names row no_name).reader.peer (take row w.readers))) (sym at.2))
 
--- from a row on: what comes of it, and what comes of those behind it
-peers_at : (last : ℕ) (rows : List ReaderProxy) (names : List ReaderName) (i : ℕ) (d : ReaderName) (b : Bool)
-    → map (λ (p : ReaderProxy). p.reader) rows ≡ map (λ (r : ReaderName). r.reader) names → i < length names
-    → is_last_behind last rows i ≡ b
-    → peers_behind last (drop i rows) (drop i names)
-    ≡ cond b (peer_of (get_or names i d) ∷ []) [] ++ peers_behind last (drop (i + 1) rows) (drop (i + 1) names)
-peers_at last rows [] i d b same lt is = absurd (omega (arith, lt))
-peers_at last [] (n ∷ ns) i d b same lt is =
-    absurd (let c = ap (λ (es : List Endpoint). length es) same in omega (arith, c))
-peers_at last (p ∷ ps) (n ∷ ns) zero d b same lt is =
-    row_head (peer_of n) (peers_behind last ps ns)
-    (nat_le p.acknowledged last && not (is_peer_behind last p.reader.peer ps)) b is
-peers_at last (p ∷ ps) (n ∷ ns) (suc i) d b same lt is =
-    let next : suc i + 1 ≡ suc (i + 1) = omega arith in
-    let tail = ap (λ (es : List Endpoint). drop 1 es) same in
-    peers_at last ps ns i d b tail (omega (arith, lt)) is
-    ∙ ap (λ (k : ℕ). cond b (peer_of (get_or ns i d) ∷ []) []
-    ++ peers_behind last (drop k (p ∷ ps)) (drop k (n ∷ ns))) (sym next)
+-- those that are behind, with one row more
+names_last : (last : ℕ) (rows : List ReaderProxy) (names : List ReaderName) (p : ReaderProxy) (n : ReaderName)
+    → length rows ≡ length names
+    → names_behind last (rows ++ p ∷ []) (names ++ n ∷ [])
+    ≡ names_behind last rows names ++ cond (nat_le p.acknowledged last) (n ∷ []) []
+names_last last [] [] p n size = one (nat_le p.acknowledged last)
+  where
+    one : (b : Bool) → (if b then n ∷ [] else []) ≡ cond b (n ∷ []) []
+    one true = refl
+    one false = refl
+names_last last [] (m ∷ ms) p n size = absurd (omega (arith, size))
+names_last last (q ∷ qs) [] p n size = absurd (omega (arith, size))
+names_last last (q ∷ qs) (m ∷ ms) p n size =
+    by (nat_le q.acknowledged last) (names_last last qs ms p n (omega (arith, size)))
+  where
+    by : (b : Bool) → names_behind last (qs ++ p ∷ []) (ms ++ n ∷ [])
+        ≡ names_behind last qs ms ++ cond (nat_le p.acknowledged last) (n ∷ []) []
+        → (if b then m ∷ names_behind last (qs ++ p ∷ []) (ms ++ n ∷ [])
+        else names_behind last (qs ++ p ∷ []) (ms ++ n ∷ []))
+        ≡ (if b then m ∷ names_behind last qs ms else names_behind last qs ms)
+        ++ cond (nat_le p.acknowledged last) (n ∷ []) []
+    by true h = ap (λ (ns : List ReaderName). m ∷ ns) h
+    by false h = h
 
--- the reader of a row is the last one of its peer that is behind, by what is known of it and of those behind it
-pub last_at : (last : ℕ) (rows : List ReaderProxy) (names : List ReaderName) (row : ℕ) (d : ReaderName) (c : Bool)
-    → map (λ (p : ReaderProxy). p.reader) rows ≡ map (λ (r : ReaderName). r.reader) names → row < length names
-    → c ≡ is_peer_behind last (get_or names row d).reader.peer (drop (row + 1) rows)
-    → (nat_le (get_or (map (λ (p : ReaderProxy). p.acknowledged) rows) row 0) last && not c)
-    ≡ is_last_behind last rows row
-last_at last rows [] row d c same lt is = absurd (omega (arith, lt))
-last_at last [] (n ∷ ns) row d c same lt is =
+-- some of them is of a peer where some row of it is behind
+names_of_peer : (last peer : ℕ) (rows : List ReaderProxy) (names : List ReaderName)
+    → map (λ (p : ReaderProxy). p.reader) rows ≡ map (λ (r : ReaderName). r.reader) names
+    → has_reader_at (names_behind last rows names) peer ≡ is_peer_behind last peer rows
+names_of_peer last peer [] names same = refl
+names_of_peer last peer (p ∷ ps) [] same =
     absurd (let size = ap (λ (es : List Endpoint). length es) same in omega (arith, size))
-last_at last (p ∷ ps) (n ∷ ns) zero d c same lt is =
-    let head : n.reader ≡ p.reader = ap (λ (es : List Endpoint). get_or es 0 p.reader) (sym same) in
-    ap (λ (x : Bool). nat_le p.acknowledged last && not x)
-    (is ∙ ap (λ (e : Endpoint). is_peer_behind last e.peer ps) head)
-last_at last (p ∷ ps) (n ∷ ns) (suc row) d c same lt is =
-    let next : suc row + 1 ≡ suc (row + 1) = omega arith in
-    last_at last ps ns row d c (ap (λ (es : List Endpoint). drop 1 es) same) (omega (arith, lt))
-    (is ∙ ap (λ (k : ℕ). is_peer_behind last (get_or ns row d).reader.peer (drop k (p ∷ ps))) next)
+names_of_peer last peer (p ∷ ps) (n ∷ ns) same =
+    by (nat_le p.acknowledged last) (n.reader.peer == peer)
+    (ap (λ (e : Endpoint). e.peer == peer) head)
+    (names_of_peer last peer ps ns (ap (λ (es : List Endpoint). drop 1 es) same))
+  where
+    head : p.reader ≡ n.reader
+    head = ap (λ (es : List Endpoint). get_or es 0 p.reader) same
 
--- it is not, where it is not behind
-pub not_behind : (last : ℕ) (rows : List ReaderProxy) (row : ℕ)
-    → nat_le (get_or (map (λ (p : ReaderProxy). p.acknowledged) rows) row 0) last ≡ false
-    → is_last_behind last rows row ≡ false
-not_behind last [] row is = refl
-not_behind last (p ∷ ps) zero is = ap (λ (b : Bool). b && not (is_peer_behind last p.reader.peer ps)) is
-not_behind last (p ∷ ps) (suc row) is = not_behind last ps row is
+    by : (b c : Bool) → (p.reader.peer == peer) ≡ (n.reader.peer == peer)
+        → has_reader_at (names_behind last ps ns) peer ≡ is_peer_behind last peer ps
+        → has_reader_at (if b then n ∷ names_behind last ps ns else names_behind last ps ns) peer
+        ≡ (((p.reader.peer == peer) && b) || is_peer_behind last peer ps)
+    by true c is h =
+        ap (λ (x : Bool). (n.reader.peer == peer) || x) h
+        ∙ (ap (λ (x : Bool). x || is_peer_behind last peer ps) (sym is)
+        ∙ ap (λ (x : Bool). x || is_peer_behind last peer ps) (all (p.reader.peer == peer)))
+      where
+        all : (x : Bool) → x ≡ (x && true)
+        all true = refl
+        all false = refl
+    by false c is h =
+        h ∙ ap (λ (x : Bool). x || is_peer_behind last peer ps) (none (p.reader.peer == peer))
+      where
+        none : (x : Bool) → false ≡ (x && false)
+        none true = refl
+        none false = refl
 
--- some of all that is due was added, and this is left
-pub record AddsBut (left all : List Due) (old new : Announced) : Type 0 where
-  pub done : List Due
-  pub adds : AddsTo done old new
-  pub rest : done ++ left ≡ all
+map_take : {X Y : Type 0} (f : X → Y) (n : ℕ) (xs : List X) → map f (take n xs) ≡ take n (map f xs)
+map_take f zero [] = refl
+map_take f zero (x ∷ xs) = refl
+map_take f (suc n) [] = refl
+map_take f (suc n) (x ∷ xs) = ap (λ ys. f x ∷ ys) (map_take f n xs)
+
+-- what comes of a row, and what comes of those before it
+pub peers_next : (w : Writer) (answered : Endpoint → Option ℤ) (names : List ReaderName) (row : ℕ) (b : Bool)
+    → AreReadersOf w names → row < length names
+    → is_first_behind (length (writer_changes w)) w.readers row ≡ b
+    → peers_behind (length (writer_changes w)) (take (row + 1) w.readers) (take (row + 1) names)
+    ≡ peers_behind (length (writer_changes w)) (take row w.readers) (take row names)
+    ++ cond b (peer_of (get_or names row no_name) ∷ []) []
+peers_next w answered names row b same lt is =
+    let at = row_at w names row same lt in
+    let first = length-take row w.readers in
+    let second = length-take row names in
+    let within = at.0 in
+    ap (λ (rows : List ReaderProxy). peers_behind last rows (take (row + 1) names)) (take_more w.readers row no_row within)
+    ∙ (ap (λ (ns : List ReaderName). peers_behind last (take row w.readers ++ get_or w.readers row no_row ∷ []) ns)
+    (take_more names row no_name lt)
+    ∙ (ap (λ (ns : List ReaderName). first_peers ns)
+    (names_last last (take row w.readers) (take row names) (get_or w.readers row no_row) n
+    (omega (arith, first, second, within, lt)))
+    ∙ by (nat_le (get_or w.readers row no_row).acknowledged last)
+    (is_peer_behind last n.reader.peer (take row w.readers)) b refl refl
+    (ap (λ (a : ℕ). nat_le a last && not (is_peer_behind last n.reader.peer (take row w.readers))) (sym at.2)
+    ∙ (sym (first_at w answered names row same lt) ∙ is))))
+  where
+    last : ℕ
+    last = length (writer_changes w)
+
+    n : ReaderName
+    n = get_or names row no_name
+
+    before : List ReaderName
+    before = names_behind last (take row w.readers) (take row names)
+
+    rows_alike : map (λ (p : ReaderProxy). p.reader) (take row w.readers)
+        ≡ map (λ (r : ReaderName). r.reader) (take row names)
+    rows_alike =
+        map_take (λ (p : ReaderProxy). p.reader) row w.readers
+        ∙ (ap (λ (es : List Endpoint). take row es) same ∙ sym (map_take (λ (r : ReaderName). r.reader) row names))
+
+    there : (c : Bool) → is_peer_behind last n.reader.peer (take row w.readers) ≡ c
+        → list_any (λ (d : Destination). d.peer == n.reader.peer) (first_peers before) ≡ c
+    there c h =
+        has_first n.reader.peer before
+        ∙ (names_of_peer last n.reader.peer (take row w.readers) (take row names) rows_alike ∙ h)
+
+    by : (a c b : Bool) → nat_le (get_or w.readers row no_row).acknowledged last ≡ a
+        → is_peer_behind last n.reader.peer (take row w.readers) ≡ c
+        → (nat_le (get_or w.readers row no_row).acknowledged last
+        && not (is_peer_behind last n.reader.peer (take row w.readers))) ≡ b
+        → first_peers (before ++ cond a (n ∷ []) []) ≡ first_peers before ++ cond b (peer_of n ∷ []) []
+    by true c b e f h =
+        first_peers_last before n
+        ∙ one c b (there c f)
+        (sym (ap (λ (x : Bool). x && not (is_peer_behind last n.reader.peer (take row w.readers))) e
+        ∙ ap (λ (x : Bool). not x) f) ∙ h)
+      where
+        one : (c b : Bool) → list_any (λ (d : Destination). d.peer == n.reader.peer) (first_peers before) ≡ c
+            → not c ≡ b → with_peer (first_peers before) (peer_of n)
+            ≡ first_peers before ++ cond b (peer_of n ∷ []) []
+        one true false g k =
+            ap (λ (x : Bool). if x then first_peers before else first_peers before ++ peer_of n ∷ []) g
+            ∙ sym (append-nil (first_peers before))
+        one false true g k =
+            ap (λ (x : Bool). if x then first_peers before else first_peers before ++ peer_of n ∷ []) g
+        one true true g k = absurd cc
+        one false false g k = absurd cc
+    by false c true e f h =
+        absurd (let bad = sym (ap (λ (x : Bool). x
+        && not (is_peer_behind last n.reader.peer (take row w.readers))) e) ∙ h in cc)
+    by false c false e f h =
+        ap (λ (ns : List ReaderName). first_peers ns) (append-nil before) ∙ sym (append-nil (first_peers before))
 
 -- what was sent to the peers that come of the rows before this one
 pub record SentBefore (beat : Beat) (kept : Kept) (names : List ReaderName) (row : ℕ) (old new : Announced)
@@ -260,94 +405,72 @@ pub record SentBefore (beat : Beat) (kept : Kept) (names : List ReaderName) (row
   pub few : new.unsent ≤ old.unsent + row
   pub beats : (w : Writer) (answered : Endpoint → Option ℤ) → AreReadersOf w names
       → RtpsStandsFor kept (state_of w answered)
-      → AddsBut
-      (told_to beat (peers_behind (length (writer_changes w)) (drop row w.readers) (drop row names)))
-      (beats_to beat w names) old new
+      → AddsTo (told_to beat (peers_behind (length (writer_changes w)) (take row w.readers) (take row names))) old new
   pub messages : AreMessages old.packets.items → AreMessages new.packets.items
+
+nobody_first : (last : ℕ) (rows : List ReaderProxy) (names : List ReaderName)
+    → peers_behind last (take 0 rows) (take 0 names) ≡ []
+nobody_first last [] names = refl
+nobody_first last (p ∷ ps) names = refl
 
 -- before the first row
 pub sent_none : (beat : Beat) (kept : Kept) (names : List ReaderName) (old : Announced)
     → SentBefore beat kept names 0 old old
 sent_none beat kept names old = record {
   few = omega arith;
-  beats = λ w answered same stands. record {
-    done = [];
-    adds = adds_none old.packets.items old.unsent;
-    rest = refl;
-  };
+  beats = λ w answered same stands.
+      subst (λ (ds : List Destination). AddsTo (told_to beat ds) old old)
+      (sym (nobody_first (length (writer_changes w)) w.readers names)) (adds_none old.packets.items old.unsent);
   messages = λ h. h;
 }
 
-told_head : (beat : Beat) (d : Destination) (ds : List Destination) (b : Bool)
-    → told_to beat (cond b (d ∷ []) [] ++ ds)
-    ≡ cond b (due_to d.peer (message_to beat d.prefix) ∷ []) [] ++ told_to beat ds
-told_head beat d ds true = refl
-told_head beat d ds false = refl
-
-pub beats_more : (beat : Beat) (w : Writer) (names : List ReaderName) (i : ℕ) (n : ReaderName) (b : Bool)
+pub beats_more : (beat : Beat) (w : Writer) (answered : Endpoint → Option ℤ) (names : List ReaderName) (i : ℕ) (b : Bool)
     (old mid new : Announced) → AreReadersOf w names → i < length names
-    → is_last_behind (length (writer_changes w)) w.readers i ≡ b
-    → AddsBut (told_to beat (peers_behind (length (writer_changes w)) (drop i w.readers) (drop i names)))
-    (beats_to beat w names) old mid
-    → AddsTo (cond b (due_to (get_or names i n).reader.peer (message_to beat (get_or names i n).guid.prefix) ∷ []) [])
-    mid new
-    → AddsBut (told_to beat (peers_behind (length (writer_changes w)) (drop (i + 1) w.readers) (drop (i + 1) names)))
-    (beats_to beat w names) old new
-beats_more beat w names i n b old mid new same lt is h k =
-    let d : Destination = peer_of (get_or names i n) in
+    → is_first_behind (length (writer_changes w)) w.readers i ≡ b
+    → AddsTo (told_to beat (peers_behind (length (writer_changes w)) (take i w.readers) (take i names))) old mid
+    → AddsTo (cond b (due_to (get_or names i no_name).reader.peer
+    (message_to beat (get_or names i no_name).guid.prefix) ∷ []) []) mid new
+    → AddsTo (told_to beat (peers_behind (length (writer_changes w)) (take (i + 1) w.readers) (take (i + 1) names)))
+    old new
+beats_more beat w answered names i b old mid new same lt is h k =
+    let d : Destination = peer_of (get_or names i no_name) in
     let one : List Due = cond b (due_to d.peer (message_to beat d.prefix) ∷ []) [] in
-    let ds : List Destination =
-    peers_behind (length (writer_changes w)) (drop (i + 1) w.readers) (drop (i + 1) names) in
-    let split : told_to beat (peers_behind (length (writer_changes w)) (drop i w.readers) (drop i names))
-    ≡ one ++ told_to beat ds =
-    ap (λ (es : List Destination). told_to beat es)
-    (peers_at (length (writer_changes w)) w.readers names i n b same lt is)
-    ∙ told_head beat d ds b in
-    record {
-      done = h.done ++ one;
-      adds =
-          adds_on h.done one old.packets.items mid.packets.items new.packets.items old.unsent mid.unsent new.unsent
-          h.adds k;
-      rest =
-          append_assoc h.done one (told_to beat ds)
-          ∙ (ap (λ (dues : List Due). h.done ++ dues) (sym split) ∙ h.rest);
-    }
+    let ds : List Destination = peers_behind (length (writer_changes w)) (take i w.readers) (take i names) in
+    subst (λ (dues : List Due). AddsTo dues old new)
+    (sym (ap (λ (es : List Destination). told_to beat es) (peers_next w answered names i b same lt is)
+    ∙ told_last beat d ds b))
+    (adds_on (told_to beat ds) one old.packets.items mid.packets.items new.packets.items old.unsent mid.unsent
+    new.unsent h k)
+  where
+    told_last : (beat : Beat) (d : Destination) (ds : List Destination) (b : Bool)
+        → told_to beat (ds ++ cond b (d ∷ []) [])
+        ≡ told_to beat ds ++ cond b (due_to d.peer (message_to beat d.prefix) ∷ []) []
+    told_last beat d ds true = map-append (λ (x : Destination). due_to x.peer (message_to beat x.prefix)) ds (d ∷ [])
+    told_last beat d ds false = map-append (λ (x : Destination). due_to x.peer (message_to beat x.prefix)) ds []
 
 -- where nothing comes of the row
-pub beats_same : (beat : Beat) (w : Writer) (names : List ReaderName) (i : ℕ) (old new : Announced)
-    → AreReadersOf w names → i < length names
-    → is_last_behind (length (writer_changes w)) w.readers i ≡ false
-    → AddsBut (told_to beat (peers_behind (length (writer_changes w)) (drop i w.readers) (drop i names)))
-    (beats_to beat w names) old new
-    → AddsBut (told_to beat (peers_behind (length (writer_changes w)) (drop (i + 1) w.readers) (drop (i + 1) names)))
-    (beats_to beat w names) old new
-beats_same beat w names i old new same lt is h =
-    let n = (element names i lt).0 in
-    beats_more beat w names i n false old new new same lt is h (adds_none new.packets.items new.unsent)
-
-nothing_past : {X : Type 0} (xs : List X) (n : ℕ) → length xs ≤ n → drop n xs ≡ []
-nothing_past [] zero le = refl
-nothing_past [] (suc n) le = refl
-nothing_past (x ∷ xs) zero le = absurd (omega (arith, le))
-nothing_past (x ∷ xs) (suc n) le = nothing_past xs n (omega (arith, le))
-
-nameless : (last : ℕ) (rows : List ReaderProxy) → peers_behind last rows [] ≡ []
-nameless last [] = refl
-nameless last (p ∷ ps) = refl
+pub beats_same : (beat : Beat) (w : Writer) (answered : Endpoint → Option ℤ) (names : List ReaderName) (i : ℕ)
+    (old new : Announced) → AreReadersOf w names → i < length names
+    → is_first_behind (length (writer_changes w)) w.readers i ≡ false
+    → AddsTo (told_to beat (peers_behind (length (writer_changes w)) (take i w.readers) (take i names))) old new
+    → AddsTo (told_to beat (peers_behind (length (writer_changes w)) (take (i + 1) w.readers) (take (i + 1) names)))
+    old new
+beats_same beat w answered names i old new same lt is h =
+    beats_more beat w answered names i false old new new same lt is h (adds_none new.packets.items new.unsent)
 
 -- behind the last row
 pub sent_all : (beat : Beat) (kept : Kept) (names : List ReaderName) (row : ℕ) (old new : Announced)
     → length names ≤ row → SentBefore beat kept names row old new
     → Beats beat kept names old.packets.items old.unsent new.packets.items new.unsent
 sent_all beat kept names row old new le s w answered same stands =
-    let h = s.beats w answered same stands in
-    let last : ℕ = length (writer_changes w) in
-    let none : told_to beat (peers_behind last (drop row w.readers) (drop row names)) ≡ [] =
-    ap (λ (ns : List ReaderName). told_to beat (peers_behind last (drop row w.readers) ns)) (nothing_past names row le)
-    ∙ ap (λ (ds : List Destination). told_to beat ds) (nameless last (drop row w.readers)) in
-    let is : h.done ≡ beats_to beat w names =
-    sym (append-nil h.done) ∙ (ap (λ (dues : List Due). h.done ++ dues) (sym none) ∙ h.rest) in
-    subst (λ (dues : List Due). Adds dues old.packets.items old.unsent new.packets.items new.unsent) is h.adds
+    let size = ap (λ (es : List Endpoint). length es) same in
+    let rows = length-map w.readers (λ (p : ReaderProxy). p.reader) in
+    let all = length-map names (λ (n : ReaderName). n.reader) in
+    subst (λ (ps : List ReaderProxy). AddsTo (told_to beat (peers_behind (length (writer_changes w)) ps names)) old new)
+    (take_all row w.readers (omega (arith, le, size, rows, all)))
+    (subst (λ (ns : List ReaderName).
+    AddsTo (told_to beat (peers_behind (length (writer_changes w)) (take row w.readers) ns)) old new)
+    (take_all row names le) (s.beats w answered same stands))
 
 -- ---- what is due at a tick of a writer
 
@@ -402,17 +525,21 @@ beats_are prefix kept w answered now due is =
 no_peers : (last : ℕ) (rows : List ReaderProxy) (names : List ReaderName)
     → list_any (λ a. nat_le a last) (map (λ (p : ReaderProxy). p.acknowledged) rows) ≡ false
     → peers_behind last rows names ≡ []
-no_peers last [] names none = refl
-no_peers last (p ∷ ps) [] none = refl
-no_peers last (p ∷ ps) (n ∷ ns) none =
-    one (nat_le p.acknowledged last)
-    (list_any (λ a. nat_le a last) (map (λ (q : ReaderProxy). q.acknowledged) ps)) none (no_peers last ps ns)
+no_peers last rows names none = ap (λ (ns : List ReaderName). first_peers ns) (no_names rows names none)
   where
-    one : (b rest : Bool) → (b || rest) ≡ false → (rest ≡ false → peers_behind last ps ns ≡ [])
-        → (if b && not (is_peer_behind last p.reader.peer ps) then peer_of n ∷ peers_behind last ps ns
-        else peers_behind last ps ns) ≡ []
-    one true rest h k = absurd cc
-    one false rest h k = k h
+    no_names : (ps : List ReaderProxy) (ns : List ReaderName)
+        → list_any (λ a. nat_le a last) (map (λ (p : ReaderProxy). p.acknowledged) ps) ≡ false
+        → names_behind last ps ns ≡ []
+    no_names [] ns h = refl
+    no_names (p ∷ ps) [] h = refl
+    no_names (p ∷ ps) (n ∷ ns) h =
+        one (nat_le p.acknowledged last)
+        (list_any (λ a. nat_le a last) (map (λ (q : ReaderProxy). q.acknowledged) ps)) h (no_names ps ns)
+      where
+        one : (b rest : Bool) → (b || rest) ≡ false → (rest ≡ false → names_behind last ps ns ≡ [])
+            → (if b then n ∷ names_behind last ps ns else names_behind last ps ns) ≡ []
+        one true rest k later = absurd cc
+        one false rest k later = later k
 
 no_due : (b c : Bool) (n before : ℕ) (due : HeartbeatDue) → n ≡ before + cond b 1 0 → nat_lt n (2 ^ 31) ≡ c
     → (if b && c then Some due else None) ≡ None → (b ≡ false) ⊎ (nat_lt before (2 ^ 31 - 1) ≡ false)

@@ -1,5 +1,5 @@
 -- What a peer sends at a tick is what is due, and it is true.
-use Rattle.std.proofs.Common.{◌≡◌, ℕ, zero, suc, ◌+◌, ◌-◌, ◌^◌, Bool, true, false, not, ◌&&◌, List, [], ◌∷◌, ◌++◌, Option, Some, None, map, length, get_or, slice_get, refl, ap, sym, ◌∙◌, subst, arith, inl, inr, ⊎_elim, Contains}
+use Rattle.std.proofs.Common.{◌≡◌, ℕ, zero, suc, ◌+◌, ◌-◌, ◌^◌, Bool, true, false, List, [], ◌∷◌, ◌++◌, Option, Some, None, map, length, get_or, slice_get, refl, ap, sym, ◌∙◌, subst, arith, inl, inr, ⊎_elim, Contains}
 use Rattle.std.specs.Prelude.{nat_le, nat_lt, if◌then◌else◌}
 use Rattle.std.specs.Option.{option_map_or}
 use Rattle.std.proofs.lemmas.List.{length-map}
@@ -9,7 +9,7 @@ use Rattle.dds_base.specs.declared.config.WriterConfig.{WriterConfig}
 use Rattle.dds_base.specs.declared.guid.GuidPrefix.{GuidPrefix}
 use Rattle.dds_base.specs.Written.{counts_of}
 use Rattle.rtps_wire.specs.Messages.{spelling_of}
-use Rattle.dds_machine.specs.declared.endpoint.Endpoint.{Endpoint}
+use Rattle.dds_base.specs.declared.endpoint.Endpoint.{Endpoint}
 use Rattle.dds_protocol.specs.declared.event.Packet.{Packet}
 use Rattle.dds_machine.specs.declared.reply.Reply.TheVariants.{Done}
 use Rattle.dds_machine.specs.Ticks.{TickStep, tick_refusal, after_tick}
@@ -25,12 +25,13 @@ use Rattle.dds_protocol.proofs.Growth.{TickStep-acknowledged, TickStep-grows}
 use Rattle.dds_machine.proofs.Tables.{no_less_same}
 use Rattle.dds_core.specs.declared.matching.Destination.{Destination}
 use Rattle.dds_core.specs.declared.matching.ReaderName.{ReaderName}
-use Rattle.dds_core.specs.Beating.{BeatsOfAll, beats_of, beats_of_all, due_to, is_peer_behind, peer_of, peers_behind}
+use Rattle.dds_core.specs.Beating.{BeatsOfAll, beats_of, beats_of_all, due_to, names_behind, peers_behind}
 use Rattle.dds_core.specs.Kept.{WriterKept, PeerKept}
 use Rattle.dds_core.specs.Identity.{WriterIdentity, writer_identity}
 use Rattle.dds_core.specs.MatchedEnds.{AreMatchedNow, IsReliableName, readers_of}
 use Rattle.dds_core.specs.Standing.{StandsFor}
 use Rattle.dds_core.proofs.Names.{configured}
+use Rattle.dds_core.proofs.FirstPeers.{peer_from}
 use Rattle.dds_core.proofs.PeersBehind.{peers_are_behind}
 use Rattle.dds_core.proofs.Sent.{contains_cases}
 use Rattle.dds_core.proofs.Taking.{numbered_prefix, prefix_is}
@@ -69,20 +70,32 @@ named_each config [] each = tt
 named_each config (d ∷ ds) each = (each zero d refl, named_each config ds (λ k e at. each (suc k) e at))
 
 -- those of a writer's readers that are behind are so
+name_behind : (last : ℕ) (rows : List ReaderProxy) (names : List ReaderName) (k : ℕ) (n : ReaderName)
+    → slice_get (names_behind last rows names) k ≡ Some n → (j : ℕ) × (slice_get names j ≡ Some n)
+name_behind last [] names k n at = absurd cc
+name_behind last (p ∷ ps) [] k n at = absurd cc
+name_behind last (p ∷ ps) (m ∷ ms) k n at =
+    by (nat_le p.acknowledged last) k at (λ i h. name_behind last ps ms i n h)
+  where
+    more : (j : ℕ) × (slice_get ms j ≡ Some n) → (j : ℕ) × (slice_get (m ∷ ms) j ≡ Some n)
+    more f = (suc f.0, f.1)
+
+    by : (b : Bool) (i : ℕ) → slice_get (if b then m ∷ names_behind last ps ms else names_behind last ps ms) i ≡ Some n
+        → ((i : ℕ) → slice_get (names_behind last ps ms) i ≡ Some n → (j : ℕ) × (slice_get ms j ≡ Some n))
+        → (j : ℕ) × (slice_get (m ∷ ms) j ≡ Some n)
+    by true zero h later = (zero, h)
+    by true (suc i) h later = more (later i h)
+    by false i h later = more (later i h)
+
 named_behind : (config : Config) (last : ℕ) (rows : List ReaderProxy) (names : List ReaderName)
     → ((k : ℕ) (n : ReaderName) → slice_get names k ≡ Some n → prefix_of config n.reader.peer ≡ n.guid.prefix)
     → AreNamed config (peers_behind last rows names)
-unfolding AreNamed
-named_behind config last [] names each = tt
-named_behind config last (p ∷ ps) [] each = tt
-named_behind config last (p ∷ ps) (n ∷ ns) each =
-    one (nat_le p.acknowledged last && not (is_peer_behind last p.reader.peer ps)) (each zero n refl)
-    (named_behind config last ps ns (λ k m at. each (suc k) m at))
-  where
-    one : (b : Bool) → prefix_of config n.reader.peer ≡ n.guid.prefix → AreNamed config (peers_behind last ps ns)
-        → AreNamed config (if b then peer_of n ∷ peers_behind last ps ns else peers_behind last ps ns)
-    one true h k = (h, k)
-    one false h k = k
+named_behind config last rows names each =
+    named_each config (peers_behind last rows names)
+    (λ k d at.
+    let f = peer_from (names_behind last rows names) k d at in
+    let g = name_behind last rows names f.0 f.1 f.2 in
+    subst (λ (x : Destination). prefix_of config x.peer ≡ x.prefix) f.3 (each g.0 f.1 g.1))
 
 pub by_number : (config : Config) (message : GuidPrefix → _) (ds : List Destination) → AreNamed config ds
     → map (λ (to : ℕ). due_to to (message (prefix_of config to))) (map (λ (d : Destination). d.peer) ds)

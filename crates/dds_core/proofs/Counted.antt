@@ -13,7 +13,7 @@ use Rattle.rtps_wire.specs.declared.submessage.Submessage.TheVariants.{Data, Hea
 use Rattle.rtps_wire.specs.Frames.{IsEnd}
 use Rattle.rtps_wire.specs.Messages.{ReadsFirst, HasHeader, ReadsMessage}
 use Rattle.rtps_wire.proofs.MessageLaws.{reads_on, message_read}
-use Rattle.dds_machine.specs.declared.endpoint.Endpoint.{Endpoint}
+use Rattle.dds_base.specs.declared.endpoint.Endpoint.{Endpoint}
 use Rattle.dds_protocol.specs.Claims.{Receiver, receiver_of, after_submessage}
 use Rattle.dds_protocol.specs.Peer.{Peer}
 use Rattle.dds_core.specs.declared.observing.Observed.{Observed}

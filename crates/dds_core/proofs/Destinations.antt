@@ -1,16 +1,15 @@
 -- Whom a writer sends to: each peer with a matched reader, once.
-use Rattle.std.proofs.Common.{◌≡◌, ℕ, zero, suc, ◌+◌, ◌<◌, ◌==◌, Bool, true, false, cond, ◌||◌, List, [], ◌∷◌, ◌++◌, Some, Contains, map, length, slice_get, refl, ap, sym, ◌∙◌, subst, arith, ⊎_elim, eqb-true, eq-eqb}
-use Rattle.std.proofs.lemmas.Bool.Decides.{nat_tests}
-use Rattle.std.specs.Prelude.{if◌then◌else◌, nat_lt}
+use Rattle.std.proofs.Common.{◌≡◌, ℕ, zero, suc, ◌+◌, ◌<◌, ◌==◌, Bool, true, false, cond, not, ◌||◌, List, [], ◌∷◌, ◌++◌, Some, Contains, map, slice_get, refl, ap, ◌∙◌, subst, arith, ⊎_elim, eqb-true, eq-eqb}
 use Rattle.std.proofs.lemmas.Option.{same_Some}
 use Rattle.std.specs.List.{list_any}
 use Rattle.dds_base.specs.declared.config.PeerConfig.{PeerConfig}
 use Rattle.dds_base.specs.declared.config.ReaderConfig.{ReaderConfig}
 use Rattle.dds_base.specs.Matched.{any_reader, of_ends_in, same_topic}
 use Rattle.dds_machine.specs.Opening.{matched_readers}
-use Rattle.dds_machine.specs.declared.endpoint.Endpoint.{Endpoint}
+use Rattle.dds_base.specs.declared.endpoint.Endpoint.{Endpoint}
 use Rattle.dds_machine.specs.Part.{peers_of}
 use Rattle.dds_protocol.proofs.Composed.{front_or_rest}
+use Rattle.dds_protocol.proofs.PeersOf.{has, without}
 use Rattle.dds_core.specs.declared.matching.Destination.{Destination}
 use Rattle.dds_core.specs.Matching.{has_reader, destinations}
 use Rattle.dds_core.specs.MatchedEnds.{IsPeer}
@@ -24,27 +23,33 @@ name_at peer number r = record { peer = peer; number = number }
 abbrev ends_in : ℕ → ℕ → ℕ → List ReaderConfig → List Endpoint
 ends_in topic peer n rs = of_ends_in any_reader (λ (r : ReaderConfig). r.topic) (name_at peer) topic n rs
 
--- the number of a peer before or after its readers
-one_peer : (b any : Bool) (peer : ℕ) (numbers : List ℕ) → list_any (λ p. p == peer) numbers ≡ false → any ≡ b
-    → (if list_any (λ p. p == peer) (cond any (peer ∷ numbers) numbers) then cond any (peer ∷ numbers) numbers else peer
-    ∷ cond any (peer ∷ numbers) numbers) ≡ peer ∷ numbers
-one_peer true true peer numbers none is =
-    ap (λ (c : Bool). if c || list_any (λ p. p == peer) numbers then peer ∷ numbers else peer ∷ peer ∷ numbers)
-    (eq-eqb peer peer refl)
-one_peer false false peer numbers none is = ap (λ (c : Bool). if c then numbers else peer ∷ numbers) none
-one_peer true false peer numbers none is = absurd cc
-one_peer false true peer numbers none is = absurd cc
+-- where the number is not among them, all are left without it
+all_without : (m : ℕ) (ns : List ℕ) → has m ns ≡ false → without m ns ≡ ns
+all_without m [] none = refl
+all_without m (n ∷ ns) none = by (n == m) none (all_without m ns)
+  where
+    by : (b : Bool) → (b || has m ns) ≡ false → (has m ns ≡ false → without m ns ≡ ns)
+        → cond (not b) (n ∷ without m ns) (without m ns) ≡ n ∷ ns
+    by true h later = absurd cc
+    by false h later = ap (λ (ms : List ℕ). n ∷ ms) (later h)
+
+-- the number of a peer before the numbers of its readers and of others
+one_peer : (any : Bool) (peer : ℕ) (numbers : List ℕ) → has peer numbers ≡ false
+    → (peer ∷ without peer (cond any (peer ∷ numbers) numbers)) ≡ peer ∷ numbers
+one_peer true peer numbers none =
+    ap (λ (b : Bool). peer ∷ cond (not b) (peer ∷ without peer numbers) (without peer numbers)) (eq-eqb peer peer refl)
+    ∙ ap (λ (ns : List ℕ). peer ∷ ns) (all_without peer numbers none)
+one_peer false peer numbers none = ap (λ (ns : List ℕ). peer ∷ ns) (all_without peer numbers none)
 
 peers_row : (b : Bool) (topic peer n : ℕ) (r : ReaderConfig) (rs : List ReaderConfig) (rest : List Endpoint)
-    → same_topic r.topic topic ≡ b → list_any (λ p. p == peer) (peers_of rest) ≡ false
+    → same_topic r.topic topic ≡ b → has peer (peers_of rest) ≡ false
     → peers_of (ends_in topic peer (n + 1) rs ++ rest)
     ≡ cond (has_reader topic rs) (peer ∷ peers_of rest) (peers_of rest)
     → peers_of (cond b (name_at peer n r ∷ ends_in topic peer (n + 1) rs)
     (ends_in topic peer (n + 1) rs) ++ rest)
     ≡ cond (b || has_reader topic rs) (peer ∷ peers_of rest) (peers_of rest)
 peers_row true topic peer n r rs rest is none h =
-    ap (λ ns. if list_any (λ p. p == peer) ns then ns else peer ∷ ns) h
-    ∙ one_peer (has_reader topic rs) (has_reader topic rs) peer (peers_of rest) none refl
+    ap (λ (ns : List ℕ). peer ∷ without peer ns) h ∙ one_peer (has_reader topic rs) peer (peers_of rest) none
 peers_row false topic peer n r rs rest is none h = h
 
 peers_of_one : (topic peer n : ℕ) (rs : List ReaderConfig) (rest : List Endpoint)

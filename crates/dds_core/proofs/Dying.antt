@@ -123,6 +123,8 @@ expires kept now store qos died = record {
         subst (λ (q : ReaderQos). Holds store (after_deaths q now r.happened)) (sym s.qos_is) (died r.happened s.holds);
     seen_is = s.seen_is;
     hows = s.hows;
+    counts = s.counts;
+    here_is = s.here_is;
   };
 }
 

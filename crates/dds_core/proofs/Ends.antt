@@ -1,12 +1,12 @@
 -- A step of one of the peer's own writers or readers is a step of the peer.
-use Rattle.std.proofs.Common.{◌≡◌, ℕ, zero, suc, List, [], ◌∷◌, arith, Option, Some, map, set, get_or, slice_get, length-set, refl, subst, ap, sym, ◌∙◌, ⊎_elim}
+use Rattle.std.proofs.Common.{◌≡◌, ℕ, zero, suc, List, [], ◌∷◌, arith, Option, Some, map, set, get_or, slice_get, length-set, refl, subst, ap, sym, ◌∙◌}
 use Rattle.std.specs.Prelude.{ℤ}
 use Rattle.dds_base.specs.declared.config.Config.{Config}
 use Rattle.dds_base.specs.Written.{Written}
-use Rattle.dds_machine.specs.declared.endpoint.Endpoint.{Endpoint}
+use Rattle.dds_base.specs.declared.endpoint.Endpoint.{Endpoint}
 use Rattle.dds_protocol.specs.Dues.{AreTellable}
 use Rattle.dds_machine.specs.Numbered.{with_numbered}
-use Rattle.dds_machine.specs.Part.{Part, Dds, Writer, Reader, ReaderProxy, WriterProxy, no_writer, no_reader, at_writer, own_proxies, own_writer}
+use Rattle.dds_machine.specs.Part.{Part, Dds, Writer, Reader, ReaderProxy, WriterProxy, no_writer, no_reader, at_writer, own_proxies}
 use Rattle.dds_machine.specs.Calls.{writes, effect, with_written}
 use Rattle.dds_protocol.specs.Peer.{Peer}
 use Rattle.dds_protocol.specs.Protocol.{Known}
@@ -63,6 +63,7 @@ writer_stands_on : (k : WriterKept) (w : Writer) (old new : Endpoint → Option 
 writer_stands_on k w old new same s = record {
   autodispose = s.autodispose;
   values = s.values;
+  known = s.known;
   matched = s.matched;
   readers = s.readers;
   writer =
@@ -71,6 +72,7 @@ writer_stands_on k w old new same s = record {
   begun = s.begun;
   rows = s.rows;
   counted = λ reader none. same reader ∙ s.counted reader none;
+  matches = s.matches;
 }
   where
     counts : (rows : List ReaderProxy) → map (λ (p : ReaderProxy). new p.reader) rows
@@ -80,9 +82,10 @@ writer_stands_on k w old new same s = record {
         ap (λ (o : Option ℤ). o ∷ map (λ (q : ReaderProxy). new q.reader) ps) (same p.reader)
         ∙ ap (λ (os : List (Option ℤ)). old p.reader ∷ os) (counts ps)
 
--- own writer n has become another one, and what is known of its readers has changed
-pub writer_put : (config : Config) (peer : Peer) (kept : PeerKept) → StandsFor kept config peer
-    → (i : ℕ) (k k' : WriterKept) → slice_get kept.writers i ≡ Some k → writer_identity k' ≡ writer_identity k
+-- own writer n has become another one of the configuration, and what is known of its readers has changed
+pub own_writer_put : (config : Config) (peer : Peer) (kept : PeerKept) → StandsFor kept config peer
+    → (i : ℕ) (k k' : WriterKept) → slice_get kept.writers i ≡ Some k
+    → IsPeerOf config peer.number (identity_of (with_writer kept i k'))
     → (w : Writer) (answered : ℕ → Endpoint → Option ℤ)
     → WriterStands k' w (answered (suc i))
     → ((j : ℕ) → (j ≡ i → ⊥) → (r : Endpoint) → answered (suc j) r ≡ peer.known.answered (suc j) r)
@@ -90,12 +93,10 @@ pub writer_put : (config : Config) (peer : Peer) (kept : PeerKept) → StandsFor
     → StandsFor (with_writer kept i k') config
     (with_state peer
     (record { part = at_writer peer.part (suc i) w; known = record peer.known { answered = answered } }))
-writer_put config peer kept s i k k' at same w answered stands others tellable =
+own_writer_put config peer kept s i k k' at is_peer w answered stands others tellable =
     let ws : List Writer = peer.part.rtps.writers in
     record {
-      is_peer =
-          subst (λ (x : Identity). IsPeerOf config peer.number x)
-          (sym (same_with_writer kept i k k' at same)) s.is_peer;
+      is_peer = is_peer;
       moment = s.moment;
       early = s.early;
       watch = s.watch;
@@ -110,6 +111,21 @@ writer_put config peer kept s i k k' at same w answered stands others tellable =
       readers = record { rows = s.readers.rows; count = s.readers.count; each = s.readers.each };
       tellable = tellable;
     }
+
+-- the same of one that is named as it was
+pub writer_put : (config : Config) (peer : Peer) (kept : PeerKept) → StandsFor kept config peer
+    → (i : ℕ) (k k' : WriterKept) → slice_get kept.writers i ≡ Some k → writer_identity k' ≡ writer_identity k
+    → (w : Writer) (answered : ℕ → Endpoint → Option ℤ)
+    → WriterStands k' w (answered (suc i))
+    → ((j : ℕ) → (j ≡ i → ⊥) → (r : Endpoint) → answered (suc j) r ≡ peer.known.answered (suc j) r)
+    → AreTellable (at_writer peer.part (suc i) w)
+    → StandsFor (with_writer kept i k') config
+    (with_state peer
+    (record { part = at_writer peer.part (suc i) w; known = record peer.known { answered = answered } }))
+writer_put config peer kept s i k k' at same w answered stands others tellable =
+    own_writer_put config peer kept s i k k' at
+    (subst (λ (x : Identity). IsPeerOf config peer.number x) (sym (same_with_writer kept i k k' at same)) s.is_peer)
+    w answered stands others tellable
 
 -- own writer n stepped
 pub own_writer_stepped : (kept : PeerKept) (i : ℕ) (k k' : WriterKept) (entry : Written) (config : Config) (peer : Peer)
@@ -139,6 +155,8 @@ reader_stands_on k proxies r old new same s = record {
   holds = s.holds;
   seen_is = s.seen_is;
   hows = s.hows;
+  counts = s.counts;
+  here_is = s.here_is;
 }
 
 -- own reader n stepped, and knows what it knows now

@@ -55,16 +55,12 @@ nothing_known number change t closed =
       acknacks = refl;
     })
 
--- so a reliable reader stays where it is
-pub stays_with : (number : ℕ) (change : Change) (match : Match) (t : Tracked) (h : List Happening)
-    (Knows : Tracked → Type 0) (Has : List Happening → Type 0) → may_take t number ≡ false → Knows t → Has h
-    → MovesOn match (with_data number change t) h (idle_step t) Knows Has
-stays_with number change match t h Knows Has is knows has =
-    let both = both_of (is_waiting t) (is_open t number) is in
-    let waits = and_of (is_missing (t.slot t.place)) (nat_le t.first t.place) both.0 in
-    subst (λ (x : Tracked).
-    MovesOn match x h (idle_step t) Knows Has)
-    (sym (nothing_known number change t both.1)) (record {
+-- where nothing moves the place by what is known already, it stays where it is
+pub waits_still : (match : Match) (t : Tracked) (h : List Happening) (Knows : Tracked → Type 0)
+    (Has : List Happening → Type 0) → is_waiting t ≡ true → Knows t → Has h → MovesOn match t h (idle_step t) Knows Has
+waits_still match t h Knows Has is knows has =
+    let waits = and_of (is_missing (t.slot t.place)) (nat_le t.first t.place) is in
+    record {
       new = t;
       after = h;
       advances = record {
@@ -81,7 +77,16 @@ stays_with number change match t h Knows Has is knows has =
       stands = has;
       heard = refl;
       acknack = refl;
-    })
+    }
+
+-- so a reliable reader stays where it is
+pub stays_with : (number : ℕ) (change : Change) (match : Match) (t : Tracked) (h : List Happening)
+    (Knows : Tracked → Type 0) (Has : List Happening → Type 0) → may_take t number ≡ false → Knows t → Has h
+    → MovesOn match (with_data number change t) h (idle_step t) Knows Has
+stays_with number change match t h Knows Has is knows has =
+    let both = both_of (is_waiting t) (is_open t number) is in
+    subst (λ (x : Tracked). MovesOn match x h (idle_step t) Knows Has) (sym (nothing_known number change t both.1))
+    (waits_still match t h Knows Has both.0 knows has)
 
 -- a change below the place does nothing at a best-effort reader
 pub jumps_nowhere : (number : ℕ) (change : Change) (match : Match) (t : Tracked) (h : List Happening)

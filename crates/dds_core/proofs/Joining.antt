@@ -1,18 +1,15 @@
 -- Lists of readers with one more, and what is read of them.
-use Rattle.std.proofs.Common.{◌≡◌, ℕ, zero, suc, ◌+◌, ◌<◌, ◌≤◌, ◌==◌, Bool, true, false, not, cond, ◌&&◌, ◌||◌, List, [], ◌∷◌, ◌++◌, Option, Some, None, map, take, drop, set, length, get_or, slice_get, refl, ap, sym, ◌∙◌, arith, append_assoc, length-append}
+use Rattle.std.proofs.Common.{◌≡◌, ℕ, zero, suc, ◌+◌, ◌<◌, ◌≤◌, ◌==◌, Bool, true, false, not, cond, ◌&&◌, ◌||◌, List, [], ◌∷◌, ◌++◌, Option, Some, None, map, take, drop, set, length, get_or, slice_get, refl, ap, sym, ◌∙◌, arith}
 use Rattle.std.specs.Prelude.{ℤ, filter, if◌then◌else◌}
 use Rattle.std.specs.List.{list_any}
-use Rattle.std.proofs.lemmas.List.{length-take}
 use Rattle.std.proofs.lemmas.Option.{same_Some}
-use Rattle.dds_machine.specs.declared.endpoint.Endpoint.{Endpoint}
+use Rattle.dds_base.specs.declared.endpoint.Endpoint.{Endpoint}
 use Rattle.dds_machine.specs.Part.{ReaderProxy, same_endpoint}
 use Rattle.dds_machine.proofs.Tables.{same_is}
 use Rattle.dds_protocol.proofs.InOrder.{same_self}
-use Rattle.dds_core.specs.declared.matching.Destination.{Destination}
 use Rattle.dds_core.specs.declared.matching.LastCount.{LastCount}
 use Rattle.dds_core.specs.declared.matching.ReaderName.{ReaderName}
-use Rattle.dds_core.specs.Beating.{peer_of}
-use Rattle.dds_core.specs.Coming.{is_last_of, last_peers, set_count, with_place}
+use Rattle.dds_core.specs.Coming.{set_count, with_place}
 use Rattle.dds_core.specs.MatchedEnds.{AreNamedOnce, has_count, is_named, last_count}
 
 -- what is read where there is no row
@@ -26,36 +23,7 @@ no_name =
 abbrev pub no_count : LastCount
 no_count = record { reader = record { peer = 0; number = 0 }; count = None }
 
--- ---- the peers of readers, written one after the other
-
-pub is_last_at : (names : List ReaderName) (row : ℕ) (d : ReaderName) → row < length names
-    → is_last_of names row
-    ≡ not (list_any (λ (m : ReaderName). m.reader.peer == (get_or names row d).reader.peer) (drop (row + 1) names))
-is_last_at [] row d lt = absurd (omega (arith, lt))
-is_last_at (n ∷ ns) zero d lt = refl
-is_last_at (n ∷ ns) (suc row) d lt =
-    let next : suc row + 1 ≡ suc (row + 1) = omega arith in
-    is_last_at ns row d (omega (arith, lt))
-    ∙ ap (λ (k : ℕ). not (list_any (λ (m : ReaderName). m.reader.peer == (get_or ns row d).reader.peer)
-    (drop k (n ∷ ns)))) (sym next)
-
-row_first : {X : Type 0} (x : X) (xs : List X) (a b : Bool) → not a ≡ b
-    → (if a then xs else x ∷ xs) ≡ cond b (x ∷ []) [] ++ xs
-row_first x xs true true is = absurd cc
-row_first x xs true false is = refl
-row_first x xs false true is = refl
-row_first x xs false false is = absurd cc
-
-pub peers_from : (names : List ReaderName) (row : ℕ) (d : ReaderName) (b : Bool) → row < length names
-    → is_last_of names row ≡ b
-    → last_peers (drop row names) ≡ cond b (peer_of (get_or names row d) ∷ []) [] ++ last_peers (drop (row + 1) names)
-peers_from [] row d b lt is = absurd (omega (arith, lt))
-peers_from (n ∷ ns) zero d b lt is =
-    row_first (peer_of n) (last_peers ns) (list_any (λ (m : ReaderName). m.reader.peer == n.reader.peer) ns) b is
-peers_from (n ∷ ns) (suc row) d b lt is =
-    let next : suc row + 1 ≡ suc (row + 1) = omega arith in
-    peers_from ns row d b (omega (arith, lt)) is
-    ∙ ap (λ (k : ℕ). cond b (peer_of (get_or ns row d) ∷ []) [] ++ last_peers (drop k (n ∷ ns))) (sym next)
+-- ---- what is written one after the other
 
 pub put_next : {X : Type 0} (xs : List X) (k : ℕ) (x : X) → k < length xs
     → take (k + 1) (set xs k x) ≡ take k xs ++ x ∷ []
@@ -65,20 +33,6 @@ put_next (y ∷ ys) (suc k) x lt =
     let next : suc k + 1 ≡ suc (k + 1) = omega arith in
     ap (λ (m : ℕ). take m (set (y ∷ ys) (suc k) x)) next
     ∙ ap (λ zs. y ∷ zs) (put_next ys k x (omega (arith, lt)))
-
--- so many were written, and there is a place for one more
-pub has_place : {X : Type 0} (xs rest all : List X) (k : ℕ) (x : X) → k ≤ length xs
-    → take k xs ++ x ∷ rest ≡ all → length all ≤ length xs → k < length xs
-has_place xs rest all k x le is few =
-    let size = ap (λ ys. length ys) is in
-    let sum = length-append (take k xs) (x ∷ rest) in
-    let first = length-take k xs in
-    omega (arith, le, few, size, sum, first)
-
-pub written_on : {X : Type 0} (xs : List X) (k : ℕ) (x : X) (rest all : List X) → k < length xs
-    → take k xs ++ x ∷ rest ≡ all → take (k + 1) (set xs k x) ++ rest ≡ all
-written_on xs k x rest all lt is =
-    ap (λ ys. ys ++ rest) (put_next xs k x lt) ∙ (append_assoc (take k xs) (x ∷ []) rest ∙ is)
 
 -- ---- what is left
 
@@ -268,25 +222,3 @@ as_many_counts (c ∷ cs) reader count = by (same_endpoint c.reader reader) (as_
         → length (if b then counted_as c count ∷ cs else c ∷ set_count cs reader count) ≡ suc (length cs)
     by true h = refl
     by false h = ap (λ (n : ℕ). suc n) h
-
--- the peer of the next reader, the last of its peer, is written
-pub one_written : (names : List ReaderName) (row : ℕ) (peers : List Destination) (count : ℕ) (x : Destination)
-    → row < length names → is_last_of names row ≡ true → x ≡ peer_of (get_or names row no_name)
-    → count ≤ length peers → take count peers ++ last_peers (drop row names) ≡ last_peers names
-    → length (last_peers names) ≤ length peers
-    → (count < length peers)
-    × (take (count + 1) (set peers count x) ++ last_peers (drop (row + 1) names) ≡ last_peers names)
-one_written names row peers count x within last is le written room =
-    let next =
-    peers_from names row no_name true within last
-    ∙ ap (λ (d : Destination). d ∷ last_peers (drop (row + 1) names)) (sym is) in
-    let all = ap (λ (ds : List Destination). take count peers ++ ds) (sym next) ∙ written in
-    let place = has_place peers (last_peers (drop (row + 1) names)) (last_peers names) count x le all room in
-    (place, written_on peers count x (last_peers (drop (row + 1) names)) (last_peers names) place all)
-
--- that of a reader which is not the last of its peer is not
-pub none_written : (names : List ReaderName) (row : ℕ) (peers : List Destination) → row < length names
-    → is_last_of names row ≡ false → peers ++ last_peers (drop row names) ≡ last_peers names
-    → peers ++ last_peers (drop (row + 1) names) ≡ last_peers names
-none_written names row peers within last written =
-    ap (λ (ds : List Destination). peers ++ ds) (sym (peers_from names row no_name false within last)) ∙ written

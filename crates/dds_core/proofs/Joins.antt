@@ -1,7 +1,8 @@
 -- What a writer stands for once one more reader is matched.
-use Rattle.std.proofs.Common.{◌≡◌, ℕ, zero, suc, ◌+◌, ◌<◌, ◌≤◌, Bool, true, false, ◌||◌, List, [], ◌∷◌, ◌++◌, Option, Some, map, length, slice_get, refl, ap, sym, ◌∙◌, subst, arith, ⊎_elim}
-use Rattle.std.specs.Prelude.{ℤ, if◌then◌else◌}
+use Rattle.std.proofs.Common.{◌≡◌, ℕ, zero, suc, ◌+◌, ◌≤◌, Bool, true, false, ◌||◌, List, [], ◌∷◌, ◌++◌, Option, Some, map, length, slice_get, refl, ap, sym, ◌∙◌, subst, arith, ⊎_elim, inl, inr, ◌⊎◌, ◌==◌, not, cond}
+use Rattle.std.specs.Prelude.{ℤ, filter, if◌then◌else◌}
 use Rattle.std.specs.List.{list_any}
+use Rattle.std.specs.Option.{option_map_or}
 use Rattle.std.proofs.lemmas.List.{length-map, map-append}
 use Rattle.std.proofs.lemmas.List.Elements.{All-push}
 use Rattle.std.proofs.lemmas.Option.{same_Some}
@@ -9,19 +10,27 @@ use Rattle.dds_base.specs.declared.config.PeerConfig.{PeerConfig}
 use Rattle.dds_base.specs.Written.{changes_of}
 use Rattle.rtps_writer.specs.Standing.{Kept, StandsFor as RtpsStandsFor, reader_count}
 use Rattle.rtps_writer.specs.WriterState.{WriterState, joined as rtps_joined}
-use Rattle.dds_machine.specs.declared.endpoint.Endpoint.{Endpoint}
-use Rattle.dds_machine.specs.Matching.{is_matched, joined, new_row}
-use Rattle.dds_machine.specs.Part.{ReaderProxy, Writer, peers_of, same_endpoint}
+use Rattle.dds_base.specs.declared.endpoint.Endpoint.{Endpoint}
+use Rattle.dds_machine.specs.Matching.{is_matched, joined, knows_reliable, match_made, new_row}
+use Rattle.dds_machine.specs.Part.{Matches, ReaderProxy, TopicReader, Writer, peers_of, row_of, same_endpoint}
+use Rattle.dds_machine.proofs.Tables.{same_is}
 use Rattle.dds_core.specs.declared.matching.Destination.{Destination}
 use Rattle.dds_core.specs.declared.matching.LastCount.{LastCount}
 use Rattle.dds_core.specs.declared.matching.ReaderName.{ReaderName}
-use Rattle.dds_core.specs.Coming.{IsNamedSo, Joins, last_peers, with_place}
+use Rattle.dds_core.specs.declared.matching.TopicName.{TopicName}
+use Rattle.dds_core.specs.declared.match_counts.MatchCounts.{MatchCounts}
+use Rattle.dds_core.specs.Beating.{first_peers, peer_of}
+use Rattle.dds_core.specs.Coming.{Joins, with_peer, with_place}
 use Rattle.dds_core.specs.Kept.{WriterKept}
-use Rattle.dds_core.specs.MatchedEnds.{AreMatchedNow, AreRows, IsNameOf, IsPeer, IsReliableName, has_count, is_named, last_count, readers_of}
+use Rattle.dds_core.specs.MatchCounts.{CountsFor}
+use Rattle.dds_core.specs.MatchedEnds.{AreAmong, AreMatchedNow, AreRows, IsNameOf, IsPeer, IsReliableName, has_count, is_named, known_as, last_count, names_of, readers_of, topic_reader}
 use Rattle.dds_core.specs.Standing.{AreShort, CountsFrom1, IsWhole, WriterStands, state_of}
 use Rattle.dds_core.proofs.Acknowledging.{state_as}
 use Rattle.dds_core.proofs.Joining.{any_more, counts_stay, once_more, place_there}
-use Rattle.dds_core.proofs.Leaving.{named_alike, one_peer_more, peer_from, peers_of_last}
+use Rattle.dds_core.proofs.Among.{as_few, is_known_as, row_known, rows_are}
+use Rattle.dds_core.proofs.FirstPeers.{any-map, first_peers_are, first_peers_last}
+use Rattle.dds_core.proofs.Leaving.{named_alike}
+use Rattle.dds_core.proofs.MatchedAt.{IsNamedSo, known_opened}
 use Rattle.dds_core.proofs.Numbered.{append_get}
 
 either : (a b c d : Bool) → (a || b) ≡ true → (a ≡ true → c ≡ true) → (b ≡ true → d ≡ true) → (c || d) ≡ true
@@ -91,16 +100,19 @@ pub record AddsRow (old : WriterKept) (name : ReaderName) (is_reliable : Bool) (
       (if is_reliable then rtps_joined s (last_count old.counts name.reader) else s)
 
 -- a writer that has this name last
-abbrev pub with_name : WriterKept → ReaderName → List Destination → WriterKept
-with_name k name to = record k { matched = k.matched ++ name ∷ []; destinations = to }
+abbrev pub with_name : WriterKept → ReaderName → List Destination → MatchCounts → WriterKept
+with_name k name to matches = record k { matched = k.matched ++ name ∷ []; destinations = to; matches = matches }
 
-pub joins : (old k : WriterKept) (name : ReaderName) (is_reliable : Bool) (to : List Destination)
-    → AddsRow old name is_reliable k → (w : Writer) (answered : Endpoint → Option ℤ) → WriterStands old w answered
+pub joins : (old k : WriterKept) (name : ReaderName) (is_reliable : Bool) (to : List Destination) (matches : MatchCounts)
+    → AddsRow old name is_reliable k
+    → ((m : Matches) → CountsFor old.matches m → CountsFor matches (match_made m name.reader))
+    → (w : Writer) (answered : Endpoint → Option ℤ) → WriterStands old w answered
     → is_matched w name.reader ≡ false
-    → WriterStands (with_name k name to) (joined w name.reader is_reliable) answered
-joins old k name true to a w answered s none = record {
+    → WriterStands (with_name k name to matches) (joined w name.reader is_reliable) answered
+joins old k name true to matches a makes w answered s none = record {
   autodispose = s.autodispose ∙ sym (ap (λ (x : WriterKept). x.autodispose) a.same);
   values = s.values ∙ sym (ap (λ (x : WriterKept). x.max_value) a.same);
+  known = s.known ∙ ap (λ (x : WriterKept). map topic_reader x.known) (sym a.same);
   matched =
       ap (λ (es : List Endpoint). es ++ name.reader ∷ [])
       (s.matched ∙ ap (λ (x : WriterKept). readers_of x.matched) (sym a.same))
@@ -126,6 +138,7 @@ joins old k name true to a w answered s none = record {
       (sym (any_more (λ (n : ReaderName). same_endpoint n.reader e) old.readers name) ∙ none_of))
       ∙ (sym (counts_stay old.counts name.reader e)
       ∙ ap (λ (cs : List LastCount). last_count cs e) (sym a.counts)));
+  matches = makes w.matches s.matches;
 }
   where
     absent : is_named old.readers name.reader ≡ false
@@ -140,9 +153,10 @@ joins old k name true to a w answered s none = record {
         (ap (λ (o : Option ℤ). map (λ (p : ReaderProxy). answered p.reader) w.readers ++ o ∷ [])
         (sym (s.counted name.reader absent))
         ∙ sym (map-append (λ (p : ReaderProxy). answered p.reader) w.readers (new_row w name.reader ∷ [])))
-joins old k name false to a w answered s none = record {
+joins old k name false to matches a makes w answered s none = record {
   autodispose = s.autodispose ∙ sym (ap (λ (x : WriterKept). x.autodispose) a.same);
   values = s.values ∙ sym (ap (λ (x : WriterKept). x.max_value) a.same);
+  known = s.known ∙ ap (λ (x : WriterKept). map topic_reader x.known) (sym a.same);
   matched =
       ap (λ (es : List Endpoint). es ++ name.reader ∷ [])
       (s.matched ∙ ap (λ (x : WriterKept). readers_of x.matched) (sym a.same))
@@ -159,22 +173,68 @@ joins old k name false to a w answered s none = record {
       subst (λ (ns : List ReaderName). (e : Endpoint) → is_named ns e ≡ false → answered e ≡ last_count k.counts e)
       (sym a.readers)
       (λ e none_of. s.counted e none_of ∙ ap (λ (cs : List LastCount). last_count cs e) (sym a.counts));
+  matches = makes w.matches s.matches;
 }
+
+-- ---- whom it is matched with
+
+-- the peers of these readers with one more, by those that are sent to
+with_alike : (ds es : List Destination) (d : Destination)
+    → map (λ (x : Destination). x.peer) ds ≡ map (λ (x : Destination). x.peer) es
+    → map (λ (x : Destination). x.peer) (with_peer ds d) ≡ map (λ (x : Destination). x.peer) (with_peer es d)
+with_alike ds es d same =
+    by (list_any (λ (x : Destination). x.peer == d.peer) ds) (list_any (λ (x : Destination). x.peer == d.peer) es)
+    (sym (any-map (λ (x : Destination). x.peer) (λ n. n == d.peer) ds)
+    ∙ (ap (λ (ns : List ℕ). list_any (λ n. n == d.peer) ns) same
+    ∙ any-map (λ (x : Destination). x.peer) (λ n. n == d.peer) es))
+  where
+    by : (b c : Bool) → b ≡ c
+        → map (λ (x : Destination). x.peer) (if b then ds else ds ++ d ∷ [])
+        ≡ map (λ (x : Destination). x.peer) (if c then es else es ++ d ∷ [])
+    by true true is = same
+    by false false is =
+        map-append (λ (x : Destination). x.peer) ds (d ∷ [])
+        ∙ (ap (λ (ns : List ℕ). ns ++ d.peer ∷ []) same ∙ sym (map-append (λ (x : Destination). x.peer) es (d ∷ [])))
+    by true false is = absurd cc
+    by false true is = absurd cc
+
+pub peers_more : (matched : List ReaderName) (name : ReaderName) (to : List Destination)
+    → peers_of (readers_of matched) ≡ map (λ (d : Destination). d.peer) to
+    → peers_of (readers_of (matched ++ name ∷ [])) ≡ map (λ (d : Destination). d.peer) (with_peer to (peer_of name))
+peers_more matched name to told =
+    first_peers_are (matched ++ name ∷ [])
+    ∙ (ap (λ (ds : List Destination). map (λ (d : Destination). d.peer) ds) (first_peers_last matched name)
+    ∙ with_alike (first_peers matched) to (peer_of name) (sym (first_peers_are matched) ∙ told))
+
+-- each of them with one more is one of them, or that one
+one_of : (ds : List Destination) (d x : Destination) (k : ℕ) → slice_get (with_peer ds d) k ≡ Some x
+    → ((j : ℕ) × (slice_get ds j ≡ Some x)) ⊎ (d ≡ x)
+one_of ds d x k at = by (list_any (λ (y : Destination). y.peer == d.peer) ds) at
+  where
+    alone : (j : ℕ) → slice_get (d ∷ []) j ≡ Some x → d ≡ x
+    alone zero h = same_Some d x h
+    alone (suc j) h = absurd cc
+
+    by : (b : Bool) → slice_get (if b then ds else ds ++ d ∷ []) k ≡ Some x
+        → ((j : ℕ) × (slice_get ds j ≡ Some x)) ⊎ (d ≡ x)
+    by true h = inl (k, h)
+    by false h = ⊎_elim (λ f. inl (f.0, f.1)) (λ f. inr (alone f.0 f.1)) (append_get ds (d ∷ []) k x h)
 
 -- whom it is matched with is known as it was, and the new one too
 pub ends_join : (peers : List PeerConfig) (topic : ℕ) (matched readers names : List ReaderName)
     (to : List Destination) (name : ReaderName) (is_reliable : Bool)
     → names ≡ (if is_reliable then readers ++ name ∷ [] else readers) → IsNamedSo peers topic name is_reliable
     → AreMatchedNow peers topic matched to readers
-    → AreMatchedNow peers topic (matched ++ name ∷ []) (last_peers (matched ++ name ∷ [])) names
+    → AreMatchedNow peers topic (matched ++ name ∷ []) (with_peer to (peer_of name)) names
 ends_join peers topic matched readers names to name is_reliable are is ends = record {
   readers = there;
-  sent_to = peers_of_last (matched ++ name ∷ []);
+  sent_to = peers_more matched name to ends.sent_to;
   prefixes = λ k d at.
-      let f = peer_from (matched ++ name ∷ []) k d at in
-      let n = there f.0 f.1 f.2 in
-      subst (λ (x : Destination). IsPeer peers x) f.3
-      (record { peer = n.is.peer; at = n.is.at_peer; prefix = n.same_prefix });
+      ⊎_elim (λ f. ends.prefixes f.0 d f.1)
+      (λ e. let n = one is_reliable is in
+      subst (λ (x : Destination). IsPeer peers x) e
+      (record { peer = n.is.peer; at = n.is.at_peer; prefix = n.same_prefix }))
+      (one_of to (peer_of name) d k at);
   named = λ k n at. rows is_reliable is k n (subst (λ (ns : List ReaderName). slice_get ns k ≡ Some n) are at);
 }
   where
@@ -200,38 +260,89 @@ ends_join peers topic matched readers names to name is_reliable are is ends = re
         (append_get readers (name ∷ []) k n at)
     rows false h k n at = ends.named k n at
 
--- there is a place for the peers of all
-pub peers_fit : (matched : List ReaderName) (to : List Destination) (name : ReaderName)
-    → peers_of (readers_of matched) ≡ map (λ (d : Destination). d.peer) to
-    → length (last_peers (matched ++ name ∷ [])) ≤ length to + 1
-peers_fit matched to name told =
-    let more = one_peer_more matched name in
-    let same = ap (λ (ns : List ℕ). length ns) (sym (peers_of_last matched) ∙ told) in
-    let left_size = length-map (last_peers matched) (λ (d : Destination). d.peer) in
-    let size = length-map to (λ (d : Destination). d.peer) in
-    omega (arith, more, same, left_size, size)
+-- there are no more peers than readers
+fewer_filtered : {X : Type 0} (b : X → Bool) (xs : List X) → length (filter b xs) ≤ length xs
+fewer_filtered b [] = omega arith
+fewer_filtered b (x ∷ xs) = by (b x) (fewer_filtered b xs)
+  where
+    by : (c : Bool) → length (filter b xs) ≤ length xs → length (cond c (x ∷ filter b xs) (filter b xs)) ≤ suc (length xs)
+    by true h = omega (arith, h)
+    by false h = omega (arith, h)
+
+peers_few : (es : List Endpoint) → length (peers_of es) ≤ length es
+peers_few [] = omega arith
+peers_few (e ∷ es) =
+    let rest = peers_few es in
+    let fewer = fewer_filtered (λ n. not (n == e.peer)) (peers_of es) in
+    omega (arith, rest, fewer)
+
+peers_fit : (names : List ReaderName) → length (peers_of (readers_of names)) ≤ length names
+peers_fit names =
+    let few = peers_few (readers_of names) in
+    let size = length-map names (λ (n : ReaderName). n.reader) in
+    omega (arith, few, size)
 
 -- ---- what the functions do
 
 abbrev if_joined : Bool → WriterState → Option ℤ → WriterState
 if_joined is_reliable s count = if is_reliable then rtps_joined s count else s
 
+-- one name more of one that is known
+among_more : (known : List TopicName) (names : List ReaderName) (name : ReaderName) → AreAmong known names
+    → is_named names name.reader ≡ false → is_named (names_of known) name.reader ≡ true
+    → AreAmong known (names ++ name ∷ [])
+among_more known names name are none there = record {
+  once = once_more names name are.once none;
+  there = λ e is.
+      by e (is_named names e) (same_endpoint name.reader e) (are.there e) refl
+      (sym (any_more (λ (n : ReaderName). same_endpoint n.reader e) names name) ∙ is);
+}
+  where
+    by : (e : Endpoint) (a b : Bool) → (a ≡ true → is_named (names_of known) e ≡ true) → same_endpoint name.reader e ≡ b
+        → (a || b) ≡ true → is_named (names_of known) e ≡ true
+    by e true b first is h = first refl
+    by e false true first is h =
+        ap (λ (x : Endpoint). is_named (names_of known) x) (sym (same_is name.reader e is)) ∙ there
+    by e false false first is h = absurd cc
+
 -- a writer with one reader more is whole
-pub whole_more : (most : ℕ) (matched more : List ReaderName) (to peers : List Destination)
+pub whole_more : (most : ℕ) (known : List TopicName) (matched more : List ReaderName) (to peers : List Destination)
     (readers names : List ReaderName) (old after : Kept) (name : ReaderName) (is_reliable : Bool) (count : Option ℤ)
-    → IsWhole most matched to readers old → more ≡ matched ++ name ∷ [] → peers ≡ last_peers more
-    → length to < 256 → length names ≤ 256 → reader_count after + length readers ≡ reader_count old + length names
+    → IsWhole most known matched to readers old → is_named matched name.reader ≡ false
+    → is_named (names_of known) name.reader ≡ true
+    → more ≡ matched ++ name ∷ [] → peers ≡ with_peer to (peer_of name)
+    → names ≡ (if is_reliable then readers ++ name ∷ [] else readers)
+    → reader_count after + length readers ≡ reader_count old + length names
     → ((s : WriterState) → RtpsStandsFor old s → RtpsStandsFor after (if_joined is_reliable s count))
-    → IsWhole most more peers names after
-whole_more most matched more to peers readers names old after name is_reliable count whole are sent room many counted
-    joins_state =
-    let size = ap (λ (ds : List Destination). length ds) (sent ∙ ap (λ (ns : List ReaderName). last_peers ns) are) in
-    let fit = peers_fit matched to name whole.told in
+    → IsWhole most known more peers names after
+whole_more most known matched more to peers readers names old after name is_reliable count whole unmatched there
+    are sent rows counted joins_state =
+    let limit = whole.limited in
     let was = whole.count in
+    let matched_are : AreAmong known more =
+    subst (λ (ns : List ReaderName). AreAmong known ns) (sym are)
+    (among_more known matched name whole.matched_are unmatched there) in
+    let names_are : AreAmong known names =
+    subst (λ (ns : List ReaderName). AreAmong known ns) (sym rows) (more_rows is_reliable) in
+    let told : peers_of (readers_of more) ≡ map (λ (d : Destination). d.peer) peers =
+    ap (λ (ns : List ReaderName). peers_of (readers_of ns)) are
+    ∙ (peers_more matched name to whole.told
+    ∙ ap (λ (ds : List Destination). map (λ (d : Destination). d.peer) ds) (sym sent)) in
+    let few_matched = as_few known more matched_are in
+    let few_rows = as_few known names names_are in
+    let few_peers = peers_fit more in
+    let same = ap (λ (ns : List ℕ). length ns) told in
+    let size = length-map peers (λ (d : Destination). d.peer) in
     record {
-      told = peers_of_last more ∙ ap (λ (ds : List Destination). map (λ (d : Destination). d.peer) ds) (sym sent);
-      few = omega (arith, size, fit, room);
-      many = many;
+      limited = limit;
+      matched_are = matched_are;
+      once = names_are.once;
+      among = λ e is.
+          ap (λ (ns : List ReaderName). is_named ns e) are
+          ∙ still is_reliable e (ap (λ (ns : List ReaderName). is_named ns e) (sym rows) ∙ is);
+      told = told;
+      few = omega (arith, limit, few_matched, few_peers, same, size);
+      many = omega (arith, limit, few_rows);
       count = omega (arith, was, counted);
       state = if_joined is_reliable whole.state count;
       stands = joins_state whole.state whole.stands;
@@ -242,47 +353,108 @@ whole_more most matched more to peers readers names old after name is_reliable c
     by true = whole.short
     by false = whole.short
 
-abbrev with_reader : WriterKept → List ReaderName → List Destination → List ReaderName → List LastCount → Kept → WriterKept
-with_reader k matched to readers counts writer = record k {
+    never : (b : Bool) → b ≡ false → b ≡ true → ⊥
+    never true f g = absurd cc
+    never false f g = absurd cc
+
+    no_row_of : (b : Bool) → is_named readers name.reader ≡ b → is_named readers name.reader ≡ false
+    no_row_of false is = is
+    no_row_of true is = absurd (never (is_named matched name.reader) unmatched (whole.among name.reader is))
+
+    more_rows : (b : Bool) → AreAmong known (if b then readers ++ name ∷ [] else readers)
+    more_rows true =
+        among_more known readers name (rows_are whole) (no_row_of (is_named readers name.reader) refl) there
+    more_rows false = rows_are whole
+
+    still : (b : Bool) (e : Endpoint) → is_named (if b then readers ++ name ∷ [] else readers) e ≡ true
+        → is_named (matched ++ name ∷ []) e ≡ true
+    still true e is =
+        any_more (λ (n : ReaderName). same_endpoint n.reader e) matched name
+        ∙ either (is_named readers e) (same_endpoint name.reader e) (is_named matched e) (same_endpoint name.reader e)
+        (sym (any_more (λ (n : ReaderName). same_endpoint n.reader e) readers name) ∙ is) (whole.among e) (λ h. h)
+    still false e is =
+        any_more (λ (n : ReaderName). same_endpoint n.reader e) matched name
+        ∙ ap (λ (b : Bool). b || same_endpoint name.reader e) (whole.among e is)
+
+abbrev with_reader : WriterKept → List ReaderName → List Destination → List ReaderName → List LastCount → MatchCounts
+    → Kept → WriterKept
+with_reader k matched to readers counts matches writer = record k {
   matched = matched;
   destinations = to;
   readers = readers;
   counts = counts;
+  matches = matches;
   writer = writer;
 }
 
-joins_at : (kept : WriterKept) (name : ReaderName) (is_reliable : Bool) (readers : List ReaderName)
-    (counts : List LastCount) (writer : Kept)
-    → readers ≡ (if is_reliable then kept.readers ++ name ∷ [] else kept.readers)
-    → counts ≡ (if is_reliable then with_place kept.counts name.reader else kept.counts)
-    → ((s : WriterState) → RtpsStandsFor kept.writer s
-    → RtpsStandsFor writer (if_joined is_reliable s (last_count kept.counts name.reader)))
-    → Joins kept name is_reliable
-    (with_reader kept (kept.matched ++ name ∷ []) (last_peers (kept.matched ++ name ∷ [])) readers counts writer)
-joins_at kept name is_reliable readers counts writer rows places state = record {
-  entity = refl;
-  autodispose = refl;
-  max_value = refl;
-  stands = λ w answered s none.
-      joins kept (record kept { readers = readers; counts = counts; writer = writer }) name is_reliable
-      (last_peers (kept.matched ++ name ∷ []))
-      (record { same = refl; readers = rows; counts = places; writer = state }) w answered s none;
-  ends = λ peers topic is ends.
-      ends_join peers topic kept.matched kept.readers readers kept.destinations name is_reliable rows is ends;
-}
+-- the writer knows this reader so, and is not matched with it
+pub record MayJoin (kept : WriterKept) (reader : Endpoint) (k : TopicName) : Type 0 where
+  pub known : known_as kept.known reader ≡ Some k
+  pub unmatched : is_named kept.matched reader ≡ false
 
-pub joins_by : (kept now : WriterKept) (name : ReaderName) (is_reliable : Bool) (matched : List ReaderName)
-    (to : List Destination) (readers : List ReaderName) (counts : List LastCount) (writer : Kept) → kept ≡ now
-    → matched ≡ kept.matched ++ name ∷ [] → to ≡ last_peers matched
-    → readers ≡ (if is_reliable then kept.readers ++ name ∷ [] else kept.readers)
-    → counts ≡ (if is_reliable then with_place kept.counts name.reader else kept.counts)
+joins_at : (kept : WriterKept) (reader : Endpoint) (k : TopicName) (readers : List ReaderName)
+    (counts : List LastCount) (matches : MatchCounts) (writer : Kept) → MayJoin kept reader k
+    → readers ≡ (if k.is_reliable then kept.readers ++ k.name ∷ [] else kept.readers)
+    → counts ≡ (if k.is_reliable then with_place kept.counts k.name.reader else kept.counts)
+    → ((m : Matches) → CountsFor kept.matches m → CountsFor matches (match_made m reader))
     → ((s : WriterState) → RtpsStandsFor kept.writer s
-    → RtpsStandsFor writer (if_joined is_reliable s (last_count kept.counts name.reader)))
-    → Joins now name is_reliable (with_reader kept matched to readers counts writer)
-joins_by kept now name is_reliable matched to readers counts writer same are sent rows places state =
-    subst (λ (k : WriterKept). Joins k name is_reliable (with_reader kept matched to readers counts writer)) same
-    (subst (λ (ds : List Destination). Joins kept name is_reliable (with_reader kept matched ds readers counts writer))
+    → RtpsStandsFor writer (if_joined k.is_reliable s (last_count kept.counts k.name.reader)))
+    → Joins kept reader
+    (with_reader kept (kept.matched ++ k.name ∷ []) (with_peer kept.destinations (peer_of k.name)) readers counts matches
+    writer)
+joins_at kept reader k readers counts matches writer may rows places makes state = record {
+  same = record { entity = refl; autodispose = refl; max_value = refl; known = refl };
+  stands = λ w answered s.
+      subst (λ (e : Endpoint). WriterStands new (joined w e (knows_reliable w reader)) answered) found.0
+      (subst (λ (b : Bool). WriterStands new (joined w k.name.reader b) answered) (sym (reliable w answered s))
+      (joins kept (record kept { readers = readers; counts = counts; writer = writer }) k.name k.is_reliable
+      (with_peer kept.destinations (peer_of k.name)) matches
+      (record { same = refl; readers = rows; counts = places; writer = state })
+      (λ m h. subst (λ (e : Endpoint). CountsFor matches (match_made m e)) (sym found.0) (makes m h))
+      w answered s (none w answered s)));
+  ends = λ peers topic is ends.
+      ends_join peers topic kept.matched kept.readers readers kept.destinations k.name k.is_reliable rows
+      (known_opened peers topic found.2.0 k
+      (ap (λ (ks : List TopicName). slice_get ks found.2.0) (sym is) ∙ found.2.1)) ends;
+}
+  where
+    found : (k.name.reader ≡ reader) × (is_named (names_of kept.known) reader ≡ true)
+        × ((j : ℕ) × (slice_get kept.known j ≡ Some k))
+    found = is_known_as kept.known reader k may.known
+
+    new : WriterKept
+    new =
+        with_reader kept (kept.matched ++ k.name ∷ []) (with_peer kept.destinations (peer_of k.name)) readers counts
+        matches writer
+
+    none : (w : Writer) (answered : Endpoint → Option ℤ) → WriterStands kept w answered
+        → is_matched w k.name.reader ≡ false
+    none w answered s =
+        ap (λ (e : Endpoint). is_matched w e) found.0
+        ∙ (ap (λ (es : List Endpoint). list_any (λ e. same_endpoint e reader) es) s.matched
+        ∙ (named_alike kept.matched reader ∙ may.unmatched))
+
+    reliable : (w : Writer) (answered : Endpoint → Option ℤ) → WriterStands kept w answered
+        → knows_reliable w reader ≡ k.is_reliable
+    reliable w answered s =
+        ap (λ (ks : List TopicReader). option_map_or (λ (t : TopicReader). t.reliable)
+        (row_of (λ (t : TopicReader). t.reader) ks reader) false) s.known
+        ∙ (row_known kept.known reader (Some k) may.known).1
+
+pub joins_by : (kept now : WriterKept) (reader : Endpoint) (k : TopicName) (matched : List ReaderName)
+    (to : List Destination) (readers : List ReaderName) (counts : List LastCount) (matches : MatchCounts) (writer : Kept)
+    → kept ≡ now → MayJoin kept reader k
+    → matched ≡ kept.matched ++ k.name ∷ [] → to ≡ with_peer kept.destinations (peer_of k.name)
+    → readers ≡ (if k.is_reliable then kept.readers ++ k.name ∷ [] else kept.readers)
+    → counts ≡ (if k.is_reliable then with_place kept.counts k.name.reader else kept.counts)
+    → ((m : Matches) → CountsFor kept.matches m → CountsFor matches (match_made m reader))
+    → ((s : WriterState) → RtpsStandsFor kept.writer s
+    → RtpsStandsFor writer (if_joined k.is_reliable s (last_count kept.counts k.name.reader)))
+    → Joins now reader (with_reader kept matched to readers counts matches writer)
+joins_by kept now reader k matched to readers counts matches writer same may are sent rows places makes state =
+    subst (λ (x : WriterKept). Joins x reader (with_reader kept matched to readers counts matches writer)) same
+    (subst (λ (ds : List Destination). Joins kept reader (with_reader kept matched ds readers counts matches writer))
     (sym sent)
-    (subst (λ (ns : List ReaderName). Joins kept name is_reliable
-    (with_reader kept ns (last_peers ns) readers counts writer)) (sym are)
-    (joins_at kept name is_reliable readers counts writer rows places state)))
+    (subst (λ (ns : List ReaderName). Joins kept reader
+    (with_reader kept ns (with_peer kept.destinations (peer_of k.name)) readers counts matches writer)) (sym are)
+    (joins_at kept reader k readers counts matches writer may rows places makes state)))

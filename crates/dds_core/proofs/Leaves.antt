@@ -1,5 +1,5 @@
 -- What a writer stands for once a reader has left, or one more is matched.
-use Rattle.std.proofs.Common.{◌≡◌, ℕ, zero, suc, ◌+◌, ◌≤◌, Bool, true, false, not, ◌&&◌, ◌||◌, List, [], ◌∷◌, ◌<◌, Option, Some, None, map, length, get_or, slice_get, refl, ap, sym, ◌∙◌, subst, arith}
+use Rattle.std.proofs.Common.{◌≡◌, ℕ, zero, suc, ◌+◌, ◌≤◌, Bool, true, false, not, ◌&&◌, ◌||◌, List, [], ◌∷◌, Option, Some, None, map, length, get_or, slice_get, refl, ap, sym, ◌∙◌, subst, arith}
 use Rattle.std.specs.Prelude.{ℤ, filter}
 use Rattle.std.specs.List.{list_any, remove}
 use Rattle.std.proofs.lemmas.List.{length-map}
@@ -8,21 +8,27 @@ use Rattle.std.proofs.lemmas.List.Elements.{All-from_recursion, recursion_from_A
 use Rattle.dds_base.specs.declared.config.PeerConfig.{PeerConfig}
 use Rattle.rtps_writer.specs.Standing.{Kept, StandsFor as RtpsStandsFor, reader_count}
 use Rattle.rtps_writer.specs.WriterState.{WriterState, left as rtps_left}
-use Rattle.dds_machine.specs.declared.endpoint.Endpoint.{Endpoint}
-use Rattle.dds_machine.specs.Matching.{left}
-use Rattle.dds_machine.specs.Part.{ReaderProxy, Writer, peers_of, same_endpoint}
+use Rattle.dds_base.specs.declared.endpoint.Endpoint.{Endpoint}
+use Rattle.dds_machine.specs.Matching.{left, match_ended}
+use Rattle.dds_machine.specs.Part.{Matches, ReaderProxy, Writer, peers_of, same_endpoint}
+use Rattle.dds_protocol.proofs.InOrder.{same_self}
 use Rattle.dds_protocol.proofs.Ways.{both_true}
 use Rattle.dds_machine.proofs.Tables.{same_is}
 use Rattle.dds_core.specs.declared.matching.Destination.{Destination}
 use Rattle.dds_core.specs.declared.matching.LastCount.{LastCount}
 use Rattle.dds_core.specs.declared.matching.ReaderName.{ReaderName}
-use Rattle.dds_core.specs.Coming.{ForgetsRow, Leaves, last_peers, rows_left, set_count, without}
+use Rattle.dds_core.specs.declared.matching.TopicName.{TopicName}
+use Rattle.dds_core.specs.declared.match_counts.MatchCounts.{MatchCounts}
+use Rattle.dds_core.specs.Beating.{first_peers}
+use Rattle.dds_core.specs.Coming.{ForgetsRow, Leaves, rows_left, set_count, without}
 use Rattle.dds_core.specs.Kept.{WriterKept}
-use Rattle.dds_core.specs.MatchedEnds.{AreMatchedNow, AreRows, IsNameOf, IsPeer, has_count, is_named, last_count, readers_of}
+use Rattle.dds_core.specs.MatchCounts.{CountsFor}
+use Rattle.dds_core.specs.MatchedEnds.{AreAmong, AreMatchedNow, AreNamedOnce, AreRows, IsNameOf, IsPeer, has_count, is_named, last_count, readers_of}
 use Rattle.dds_core.specs.Standing.{CountsFrom1, IsFirstReader, IsWhole, WriterStands, state_of}
 use Rattle.dds_core.proofs.Acknowledging.{state_as}
+use Rattle.dds_core.proofs.FirstPeers.{first_peers_are, peer_from}
 use Rattle.dds_core.proofs.Joining.{answered_at, left_from, none_left}
-use Rattle.dds_core.proofs.Leaving.{AreOnce, all_left, count_kept, ends_left, ends_once, fewer_peers, map-remove, named_alike, named_without, once_without, one_left, others_kept, peer_from, peers_of_last, places_stay, still_all}
+use Rattle.dds_core.proofs.Leaving.{AreOnce, all_left, count_kept, ends_left, ends_once, fewer_peers, map-remove, named_alike, named_without, once_without, one_left, others_kept, places_stay, still_all}
 use Rattle.dds_core.proofs.Lists.{map-get}
 use Rattle.dds_core.proofs.MatchedAt.{named_there}
 
@@ -84,6 +90,7 @@ pub forgets : (old : WriterKept) (reader : Endpoint) (row : ℕ) (name : ReaderN
 forgets old reader row name count writer at is leaves counts w answered s = record {
   autodispose = s.autodispose;
   values = s.values;
+  known = s.known;
   matched = s.matched;
   readers =
       ends_left (λ (p : ReaderProxy). p.reader) reader w.readers
@@ -103,6 +110,7 @@ forgets old reader row name count writer at is leaves counts w answered s = reco
       → answered e ≡ last_count (set_count old.counts reader count) e) names_left
       (counted_without old.readers old.counts reader count answered
       (s.rows.places reader (named_there old.readers row name reader at is)) last s.counted);
+  matches = s.matches;
 }
   where
     name_at : slice_get (readers_of old.readers) row ≡ Some reader
@@ -133,7 +141,20 @@ forgets old reader row name count writer at is leaves counts w answered s = reco
     last : count ≡ answered reader
     last = counts (state_of w answered) s.writer ∙ answered_at answered w.readers row reader row_at
 
--- where no row is of the reader, none is forgotten
+-- where no row is of the reader, it is not named
+nobody : (names : List ReaderName) (reader : Endpoint)
+    → ((k : ℕ) (n : ReaderName) → slice_get names k ≡ Some n → n.reader ≡ reader → ⊥)
+    → is_named names reader ≡ false
+nobody [] reader h = refl
+nobody (n ∷ ns) reader h =
+    ap (λ (b : Bool). b || is_named ns reader) (apart (same_endpoint n.reader reader) refl)
+    ∙ nobody ns reader (λ k m at. h (suc k) m at)
+  where
+    apart : (b : Bool) → same_endpoint n.reader reader ≡ b → same_endpoint n.reader reader ≡ false
+    apart true e = absurd (h zero n refl (same_is n.reader reader e))
+    apart false e = e
+
+-- and none is forgotten
 pub forgets_none : (old : WriterKept) (reader : Endpoint)
     → ((k : ℕ) (n : ReaderName) → slice_get old.readers k ≡ Some n → n.reader ≡ reader → ⊥)
     → (w : Writer) (answered : Endpoint → Option ℤ) → WriterStands old w answered
@@ -142,35 +163,25 @@ forgets_none old reader none w answered s =
     subst (λ (ps : List ReaderProxy). WriterStands old (with_rows ps) answered)
     (sym (all_left (λ (p : ReaderProxy). p.reader) reader w.readers
     (ap (λ (es : List Endpoint). list_any (λ e. same_endpoint e reader) es) s.readers
-    ∙ (named_alike old.readers reader ∙ nobody old.readers none)))) s
+    ∙ (named_alike old.readers reader ∙ nobody old.readers reader none)))) s
   where
     with_rows : List ReaderProxy → Writer
     with_rows ps = record w { readers = ps }
 
-    nobody : (names : List ReaderName)
-        → ((k : ℕ) (n : ReaderName) → slice_get names k ≡ Some n → n.reader ≡ reader → ⊥)
-        → is_named names reader ≡ false
-    nobody [] h = refl
-    nobody (n ∷ ns) h =
-        ap (λ (b : Bool). b || is_named ns reader) (apart (same_endpoint n.reader reader) refl)
-        ∙ nobody ns (λ k m at. h (suc k) m at)
-      where
-        apart : (b : Bool) → same_endpoint n.reader reader ≡ b → same_endpoint n.reader reader ≡ false
-        apart true e = absurd (h zero n refl (same_is n.reader reader e))
-        apart false e = e
-
 -- ---- a match ends
 
 -- a writer whose reader is not matched any more, once its row is forgotten
-abbrev pub unmatched : WriterKept → Endpoint → List Destination → WriterKept
-unmatched k reader to = record k { matched = without k.matched reader; destinations = to }
+abbrev pub unmatched : WriterKept → Endpoint → List Destination → MatchCounts → WriterKept
+unmatched k reader to counts = record k { matched = without k.matched reader; destinations = to; matches = counts }
 
-pub leaves_match : (k : WriterKept) (reader : Endpoint) (to : List Destination) (w : Writer)
+pub leaves_match : (k : WriterKept) (reader : Endpoint) (to : List Destination) (counts : MatchCounts)
+    → ((m : Matches) → CountsFor k.matches m → CountsFor counts (match_ended m reader)) → (w : Writer)
     (answered : Endpoint → Option ℤ) → WriterStands k (rows_left w reader) answered
-    → WriterStands (unmatched k reader to) (left w reader) answered
-leaves_match k reader to w answered s = record {
+    → WriterStands (unmatched k reader to counts) (left w reader) answered
+leaves_match k reader to counts ends w answered s = record {
   autodispose = s.autodispose;
   values = s.values;
+  known = s.known;
   matched =
       ap (λ (es : List Endpoint). filter (is_other reader) es) s.matched
       ∙ sym (ends_left (λ (n : ReaderName). n.reader) reader k.matched);
@@ -186,6 +197,7 @@ leaves_match k reader to w answered s = record {
     places = s.rows.places;
   };
   counted = s.counted;
+  matches = ends w.matches s.matches;
 }
   where
     gone : is_named k.readers reader ≡ false
@@ -212,10 +224,10 @@ pub ends_leave : (peers : List PeerConfig) (topic : ℕ) (matched readers names 
     (to : List Destination) (reader : Endpoint)
     → ((k : ℕ) (n : ReaderName) → slice_get names k ≡ Some n → (j : ℕ) × (slice_get readers j ≡ Some n))
     → AreMatchedNow peers topic matched to readers
-    → AreMatchedNow peers topic (without matched reader) (last_peers (without matched reader)) names
+    → AreMatchedNow peers topic (without matched reader) (first_peers (without matched reader)) names
 ends_leave peers topic matched readers names to reader were ends = record {
   readers = there;
-  sent_to = peers_of_last (without matched reader);
+  sent_to = first_peers_are (without matched reader);
   prefixes = λ k d at.
       let f = peer_from (without matched reader) k d at in
       let n = there f.0 f.1 f.2 in
@@ -232,13 +244,13 @@ ends_leave peers topic matched readers names to reader were ends = record {
 -- no more peers are sent to
 pub no_more_peers : (matched : List ReaderName) (to : List Destination) (reader : Endpoint)
     → peers_of (readers_of matched) ≡ map (λ (d : Destination). d.peer) to
-    → length (last_peers (without matched reader)) ≤ length to
+    → length (first_peers (without matched reader)) ≤ length to
 no_more_peers matched to reader told =
     let before = fewer_peers reader (readers_of matched) in
     let same =
     ap (λ (ns : List ℕ). length ns) (ap (λ (es : List Endpoint). peers_of es)
-    (sym (ends_left (λ (n : ReaderName). n.reader) reader matched)) ∙ peers_of_last (without matched reader)) in
-    let left_size = length-map (last_peers (without matched reader)) (λ (d : Destination). d.peer) in
+    (sym (ends_left (λ (n : ReaderName). n.reader) reader matched)) ∙ first_peers_are (without matched reader)) in
+    let left_size = length-map (first_peers (without matched reader)) (λ (d : Destination). d.peer) in
     let size = length-map to (λ (d : Destination). d.peer) in
     let was = ap (λ (ns : List ℕ). length ns) told in
     omega (arith, before, same, left_size, size, was)
@@ -254,18 +266,50 @@ was_there (y ∷ ys) zero k x at = (suc k, at)
 was_there (y ∷ ys) (suc row) zero x at = (zero, at)
 was_there (y ∷ ys) (suc row) (suc k) x at = let f = was_there ys row k x at in (suc f.0, f.1)
 
+-- one that is left was named
+was_named : (names : List ReaderName) (reader e : Endpoint) → is_named (without names reader) e ≡ true
+    → is_named names e ≡ true
+was_named names reader e is =
+    (both_true (is_named names e) (not (same_endpoint e reader)) (sym (named_without names reader e) ∙ is)).0
+
+-- those that are left are among them as before
+pub among_without : (known : List TopicName) (names : List ReaderName) (reader : Endpoint) → AreAmong known names
+    → AreAmong known (without names reader)
+among_without known names reader are = record {
+  once = once_without names reader are.once;
+  there = λ e is. are.there e (was_named names reader e is);
+}
+
+-- all but the first of this reader's name
+pub without_first : (names : List ReaderName) (reader : Endpoint) (row : ℕ) (name : ReaderName)
+    → slice_get names row ≡ Some name → name.reader ≡ reader → AreNamedOnce names
+    → without names reader ≡ remove names row
+without_first names reader row name at is once =
+    one_left (λ (n : ReaderName). n.reader) reader names row
+    (map-get (λ (n : ReaderName). n.reader) names row name at ∙ ap (λ (e : Endpoint). Some e) is)
+    (ends_once names once)
+
 -- a writer without a row is whole
-pub whole_left : (most : ℕ) (matched : List ReaderName) (to : List Destination) (readers names : List ReaderName)
-    (old after : Kept) (row : ℕ) → IsWhole most matched to readers old → row < length readers
+pub whole_left : (most : ℕ) (known : List TopicName) (matched : List ReaderName) (to : List Destination)
+    (readers names : List ReaderName) (old after : Kept) (reader : Endpoint) (row : ℕ)
+    → IsWhole most known matched to readers old → IsFirstReader readers reader row
     → names ≡ remove readers row → reader_count after + 1 ≡ reader_count old
     → ((s : WriterState) → RtpsStandsFor old s → RtpsStandsFor after (rtps_left s row))
-    → IsWhole most matched to names after
-whole_left most matched to readers names old after row whole within are fewer leaves =
+    → IsWhole most known matched to names after
+whole_left most known matched to readers names old after reader row whole first are fewer leaves =
+    let within = first.within in
     let size = ap (λ (ns : List ReaderName). length ns) are in
     let cut = length-remove readers row within in
     let count = whole.count in
     let many = whole.many in
+    let left : without readers reader ≡ names =
+    without_first readers reader row first.name first.at first.is whole.once ∙ sym are in
     record {
+      limited = whole.limited;
+      matched_are = whole.matched_are;
+      once = subst (λ (ns : List ReaderName). AreNamedOnce ns) left (once_without readers reader whole.once);
+      among = λ e is.
+          whole.among e (was_named readers reader e (ap (λ (ns : List ReaderName). is_named ns e) left ∙ is));
       told = whole.told;
       few = whole.few;
       many = omega (arith, size, cut, many);
@@ -275,14 +319,28 @@ whole_left most matched to readers names old after row whole within are fewer le
       short = whole.short;
     }
 
+-- the one that is taken out is no longer named
+gone_without : (names : List ReaderName) (reader : Endpoint) → is_named (without names reader) reader ≡ false
+gone_without names reader =
+    named_without names reader reader
+    ∙ (ap (λ (b : Bool). is_named names reader && not b) (same_self reader) ∙ late (is_named names reader))
+  where
+    late : (b : Bool) → (b && false) ≡ false
+    late true = refl
+    late false = refl
+
 forgets_at : (kept : WriterKept) (reader : Endpoint) (row : ℕ) (count : Option ℤ) (writer : Kept)
-    → IsFirstReader kept.readers reader row
+    → IsFirstReader kept.readers reader row → AreNamedOnce kept.readers
     → ((s : WriterState) → RtpsStandsFor kept.writer s → RtpsStandsFor writer (rtps_left s row))
     → ((s : WriterState) → RtpsStandsFor kept.writer s → count ≡ get_or s.counts row None)
     → ForgetsRow kept reader (forgotten kept row reader count writer)
-forgets_at kept reader row count writer first leaves counts = record {
+forgets_at kept reader row count writer first once leaves counts = record {
   same = refl;
   names = λ k n at. was_there kept.readers row k n at;
+  gone =
+      ap (λ (ns : List ReaderName). is_named ns reader)
+      (sym (without_first kept.readers reader row first.name first.at first.is once))
+      ∙ gone_without kept.readers reader;
   stands = λ w answered s.
       forgets kept reader row first.name count writer first.at first.is leaves counts w answered s;
 }
@@ -292,15 +350,15 @@ with_rows_of kept names counts writer = record kept { readers = names; counts = 
 
 pub forgets_row : (kept now : WriterKept) (reader : Endpoint) (row : ℕ) (names : List ReaderName)
     (lasts : List LastCount) (count : Option ℤ) (writer : Kept) → kept ≡ now → IsFirstReader kept.readers reader row
-    → names ≡ remove kept.readers row → lasts ≡ set_count kept.counts reader count
+    → AreNamedOnce kept.readers → names ≡ remove kept.readers row → lasts ≡ set_count kept.counts reader count
     → ((s : WriterState) → RtpsStandsFor kept.writer s → RtpsStandsFor writer (rtps_left s row))
     → ((s : WriterState) → RtpsStandsFor kept.writer s → count ≡ get_or s.counts row None)
     → ForgetsRow now reader (with_rows_of kept names lasts writer)
-forgets_row kept now reader row names lasts count writer same first are set leaves counts =
+forgets_row kept now reader row names lasts count writer same first once are set leaves counts =
     subst (λ (k : WriterKept). ForgetsRow k reader (with_rows_of kept names lasts writer)) same
     (subst (λ (ns : List ReaderName). ForgetsRow kept reader (with_rows_of kept ns lasts writer)) (sym are)
     (subst (λ (cs : List LastCount). ForgetsRow kept reader (with_rows_of kept (remove kept.readers row) cs writer))
-    (sym set) (forgets_at kept reader row count writer first leaves counts)))
+    (sym set) (forgets_at kept reader row count writer first once leaves counts)))
 
 pub forgets_nothing : (kept now : WriterKept) (reader : Endpoint) → kept ≡ now
     → ((k : ℕ) (n : ReaderName) → slice_get kept.readers k ≡ Some n → n.reader ≡ reader → ⊥)
@@ -310,20 +368,33 @@ forgets_nothing kept now reader same none =
     (record {
       same = refl;
       names = λ k n at. (k, at);
+      gone = nobody kept.readers reader none;
       stands = λ w answered s. forgets_none kept reader none w answered s;
     })
 
 -- a writer that sends to the peers of those that are left, and is whole
-pub whole_without : (most : ℕ) (matched left_names : List ReaderName) (to peers : List Destination)
-    (readers : List ReaderName) (writer : Kept) (reader : Endpoint) → IsWhole most matched to readers writer
-    → left_names ≡ without matched reader → peers ≡ last_peers left_names → IsWhole most left_names peers readers writer
-whole_without most matched left_names to peers readers writer reader whole are sent =
-    let size = ap (λ (ds : List Destination). length ds) (sent ∙ ap (λ (ns : List ReaderName). last_peers ns) are) in
+pub whole_without : (most : ℕ) (known : List TopicName) (matched left_names : List ReaderName)
+    (to peers : List Destination) (readers : List ReaderName) (writer : Kept) (reader : Endpoint)
+    → IsWhole most known matched to readers writer → is_named readers reader ≡ false
+    → left_names ≡ without matched reader → peers ≡ first_peers left_names
+    → IsWhole most known left_names peers readers writer
+whole_without most known matched left_names to peers readers writer reader whole gone are sent =
+    let size = ap (λ (ds : List Destination). length ds) (sent ∙ ap (λ (ns : List ReaderName). first_peers ns) are) in
     let fewer = no_more_peers matched to reader whole.told in
     let few = whole.few in
     record {
+      limited = whole.limited;
+      matched_are =
+          subst (λ (ns : List ReaderName). AreAmong known ns) (sym are)
+          (among_without known matched reader whole.matched_are);
+      once = whole.once;
+      among = λ e is.
+          ap (λ (ns : List ReaderName). is_named ns e) are
+          ∙ (named_without matched reader e
+          ∙ and_true (is_named matched e) (not (same_endpoint e reader)) (whole.among e is)
+          (apart e is (same_endpoint e reader) refl));
       told =
-          peers_of_last left_names ∙ ap (λ (ds : List Destination). map (λ (d : Destination). d.peer) ds) (sym sent);
+          first_peers_are left_names ∙ ap (λ (ds : List Destination). map (λ (d : Destination). d.peer) ds) (sym sent);
       few = omega (arith, size, fewer, few);
       many = whole.many;
       count = whole.count;
@@ -331,28 +402,44 @@ whole_without most matched left_names to peers readers writer reader whole are s
       stands = whole.stands;
       short = whole.short;
     }
+  where
+    never : (b : Bool) → b ≡ false → b ≡ true → ⊥
+    never true f g = absurd cc
+    never false f g = absurd cc
 
-abbrev with_matched : WriterKept → List ReaderName → List Destination → WriterKept
-with_matched k matched to = record k { matched = matched; destinations = to }
+    apart : (e : Endpoint) → is_named readers e ≡ true → (b : Bool) → same_endpoint e reader ≡ b
+        → not (same_endpoint e reader) ≡ true
+    apart e is false other = ap (λ (c : Bool). not c) other
+    apart e is true same =
+        absurd (never (is_named readers reader) gone
+        (ap (λ (x : Endpoint). is_named readers x) (sym (same_is e reader same)) ∙ is))
 
-leaves_at : (old k : WriterKept) (reader : Endpoint) → ForgetsRow old reader k
-    → Leaves old reader (with_matched k (without k.matched reader) (last_peers (without k.matched reader)))
-leaves_at old k reader f = record {
-  entity = ap (λ (x : WriterKept). x.entity) f.same;
-  autodispose = ap (λ (x : WriterKept). x.autodispose) f.same;
-  max_value = ap (λ (x : WriterKept). x.max_value) f.same;
+abbrev with_matched : WriterKept → List ReaderName → List Destination → MatchCounts → WriterKept
+with_matched k matched to counts = record k { matched = matched; destinations = to; matches = counts }
+
+leaves_at : (old k : WriterKept) (reader : Endpoint) (counts : MatchCounts) → ForgetsRow old reader k
+    → ((m : Matches) → CountsFor k.matches m → CountsFor counts (match_ended m reader))
+    → Leaves old reader (with_matched k (without k.matched reader) (first_peers (without k.matched reader)) counts)
+leaves_at old k reader counts f counted = record {
+  same = record {
+    entity = ap (λ (x : WriterKept). x.entity) f.same;
+    autodispose = ap (λ (x : WriterKept). x.autodispose) f.same;
+    max_value = ap (λ (x : WriterKept). x.max_value) f.same;
+    known = ap (λ (x : WriterKept). x.known) f.same;
+  };
   stands = λ w answered s.
-      leaves_match k reader (last_peers (without k.matched reader)) w answered (f.stands w answered s);
+      leaves_match k reader (first_peers (without k.matched reader)) counts counted w answered (f.stands w answered s);
   ends = λ peers topic ends.
-      subst (λ (ns : List ReaderName). AreMatchedNow peers topic (without ns reader) (last_peers (without ns reader))
+      subst (λ (ns : List ReaderName). AreMatchedNow peers topic (without ns reader) (first_peers (without ns reader))
       k.readers) (sym (ap (λ (x : WriterKept). x.matched) f.same))
       (ends_leave peers topic old.matched old.readers k.readers old.destinations reader f.names ends);
 }
 
 pub leaves_by : (old k : WriterKept) (reader : Endpoint) (matched : List ReaderName) (to : List Destination)
-    → ForgetsRow old reader k → matched ≡ without k.matched reader → to ≡ last_peers matched
-    → Leaves old reader (with_matched k matched to)
-leaves_by old k reader matched to f are sent =
-    subst (λ (ds : List Destination). Leaves old reader (with_matched k matched ds)) (sym sent)
-    (subst (λ (ns : List ReaderName). Leaves old reader (with_matched k ns (last_peers ns))) (sym are)
-    (leaves_at old k reader f))
+    (counts : MatchCounts) → ForgetsRow old reader k → matched ≡ without k.matched reader → to ≡ first_peers matched
+    → ((m : Matches) → CountsFor k.matches m → CountsFor counts (match_ended m reader))
+    → Leaves old reader (with_matched k matched to counts)
+leaves_by old k reader matched to counts f are sent counted =
+    subst (λ (ds : List Destination). Leaves old reader (with_matched k matched ds counts)) (sym sent)
+    (subst (λ (ns : List ReaderName). Leaves old reader (with_matched k ns (first_peers ns) counts)) (sym are)
+    (leaves_at old k reader counts f counted))

@@ -1,18 +1,18 @@
 -- Lists of readers without one of them.
-use Rattle.std.proofs.Common.{◌≡◌, ℕ, zero, suc, ◌+◌, ◌≤◌, ◌==◌, Bool, true, false, not, cond, ◌&&◌, ◌||◌, List, [], ◌∷◌, ◌++◌, Option, Some, map, length, slice_get, refl, ap, sym, ◌∙◌, subst, arith, eqb-true, eq-eqb}
+use Rattle.std.proofs.Common.{◌≡◌, ℕ, zero, suc, ◌+◌, ◌≤◌, ◌==◌, Bool, true, false, not, cond, ◌&&◌, ◌||◌, List, [], ◌∷◌, Option, Some, map, length, slice_get, refl, ap, sym, ◌∙◌, subst, arith, eqb-true, eq-eqb}
 use Rattle.std.specs.Prelude.{ℤ, filter, if◌then◌else◌}
 use Rattle.std.specs.List.{AllByRecursion, list_any, remove}
 use Rattle.std.proofs.lemmas.Option.{same_Some}
-use Rattle.dds_machine.specs.declared.endpoint.Endpoint.{Endpoint}
+use Rattle.dds_base.specs.declared.endpoint.Endpoint.{Endpoint}
 use Rattle.dds_machine.specs.Part.{peers_of, same_endpoint}
 use Rattle.dds_machine.proofs.Tables.{same_is}
 use Rattle.dds_protocol.proofs.InOrder.{same_self}
-use Rattle.dds_core.specs.declared.matching.Destination.{Destination}
+use Rattle.dds_protocol.proofs.PeersOf.{has, has_peer}
 use Rattle.dds_core.specs.declared.matching.LastCount.{LastCount}
 use Rattle.dds_core.specs.declared.matching.ReaderName.{ReaderName}
-use Rattle.dds_core.specs.Beating.{peer_of}
-use Rattle.dds_core.specs.Coming.{last_peers, set_count, without}
+use Rattle.dds_core.specs.Coming.{set_count, without}
 use Rattle.dds_core.specs.MatchedEnds.{AreNamedOnce, has_count, is_named, last_count, readers_of}
+use Rattle.dds_core.proofs.FirstPeers.{Differ, map-filter, peers_differ}
 
 abbrev other_end : Endpoint → Endpoint → Bool
 other_end reader e = not (same_endpoint e reader)
@@ -23,17 +23,7 @@ other_end reader e = not (same_endpoint e reader)
 pub ends_left : {X : Type 0} (f : X → Endpoint) (reader : Endpoint) (xs : List X)
     → map f (filter (λ x. not (same_endpoint (f x) reader)) xs)
     ≡ filter (λ e. not (same_endpoint e reader)) (map f xs)
-ends_left f reader [] = refl
-ends_left f reader (x ∷ xs) = by (not (same_endpoint (f x) reader)) (ends_left f reader xs)
-  where
-    by : (b : Bool) → map f (filter (λ x. not (same_endpoint (f x) reader)) xs)
-        ≡ filter (λ e. not (same_endpoint e reader)) (map f xs)
-        → map f (cond b (x ∷ filter (λ x. not (same_endpoint (f x) reader)) xs)
-        (filter (λ x. not (same_endpoint (f x) reader)) xs))
-        ≡ cond b (f x ∷ filter (λ e. not (same_endpoint e reader)) (map f xs))
-        (filter (λ e. not (same_endpoint e reader)) (map f xs))
-    by true h = ap (λ es. f x ∷ es) h
-    by false h = h
+ends_left f reader xs = map-filter f (λ e. not (same_endpoint e reader)) xs
 
 -- where the reader is not among them, all are left
 pub all_left : {X : Type 0} (f : X → Endpoint) (reader : Endpoint) (xs : List X)
@@ -202,83 +192,7 @@ others_kept (c ∷ cs) reader e count apart =
     by false false p q h =
         ap (λ (x : Bool). if x then c.count else last_count (set_count cs reader count) e) q ∙ h
 
--- ---- their peers
-
-abbrev has : ℕ → List ℕ → Bool
-has m ns = list_any (λ n. n == m) ns
-
-has_peer : (m : ℕ) (es : List Endpoint) → has m (peers_of es) ≡ list_any (λ (e : Endpoint). e.peer == m) es
-has_peer m [] = refl
-has_peer m (e ∷ es) = one (has e.peer (peers_of es)) (e.peer == m) refl refl (has_peer m es)
-  where
-    one : (b c : Bool) → has e.peer (peers_of es) ≡ b → (e.peer == m) ≡ c
-        → has m (peers_of es) ≡ list_any (λ (x : Endpoint). x.peer == m) es
-        → has m (if b then peers_of es else e.peer ∷ peers_of es)
-        ≡ (c || list_any (λ (x : Endpoint). x.peer == m) es)
-    one true true there is h = sym (ap (λ (k : ℕ). has k (peers_of es)) (eqb-true e.peer m is)) ∙ there
-    one true false there is h = h
-    one false c there is h = ap (λ (x : Bool). x || has m (peers_of es)) is ∙ ap (λ (x : Bool). c || x) h
-
--- the last readers' peers are the peers of all
-pub peers_of_last : (names : List ReaderName)
-    → peers_of (readers_of names) ≡ map (λ (d : Destination). d.peer) (last_peers names)
-peers_of_last [] = refl
-peers_of_last (n ∷ ns) =
-    by (list_any (λ (m : ReaderName). m.reader.peer == n.reader.peer) ns) there (peers_of_last ns)
-  where
-    any : (ms : List ReaderName) → list_any (λ (e : Endpoint). e.peer == n.reader.peer) (readers_of ms)
-        ≡ list_any (λ (m : ReaderName). m.reader.peer == n.reader.peer) ms
-    any [] = refl
-    any (m ∷ ms) = ap (λ (b : Bool). (m.reader.peer == n.reader.peer) || b) (any ms)
-
-    there : has n.reader.peer (peers_of (readers_of ns))
-        ≡ list_any (λ (m : ReaderName). m.reader.peer == n.reader.peer) ns
-    there = has_peer n.reader.peer (readers_of ns) ∙ any ns
-
-    by : (b : Bool) → has n.reader.peer (peers_of (readers_of ns)) ≡ b
-        → peers_of (readers_of ns) ≡ map (λ (d : Destination). d.peer) (last_peers ns)
-        → peers_of (readers_of (n ∷ ns))
-        ≡ map (λ (d : Destination). d.peer) (if b then last_peers ns else peer_of n ∷ last_peers ns)
-    by true is h =
-        ap (λ (x : Bool). if x then peers_of (readers_of ns) else n.reader.peer ∷ peers_of (readers_of ns)) is ∙ h
-    by false is h =
-        ap (λ (x : Bool). if x then peers_of (readers_of ns) else n.reader.peer ∷ peers_of (readers_of ns)) is
-        ∙ ap (λ (ms : List ℕ). n.reader.peer ∷ ms) h
-
--- each is the peer of one of them
-pub peer_from : (names : List ReaderName) (k : ℕ) (d : Destination) → slice_get (last_peers names) k ≡ Some d
-    → (j : ℕ) × (n : ReaderName) × (slice_get names j ≡ Some n) × (peer_of n ≡ d)
-peer_from [] k d at = absurd cc
-peer_from (n ∷ ns) k d at =
-    by (list_any (λ (m : ReaderName). m.reader.peer == n.reader.peer) ns) k at (λ i h. peer_from ns i d h)
-  where
-    more : (j : ℕ) × (m : ReaderName) × (slice_get ns j ≡ Some m) × (peer_of m ≡ d)
-        → (j : ℕ) × (m : ReaderName) × (slice_get (n ∷ ns) j ≡ Some m) × (peer_of m ≡ d)
-    more f = (suc f.0, f.1, f.2, f.3)
-
-    by : (b : Bool) (i : ℕ) → slice_get (if b then last_peers ns else peer_of n ∷ last_peers ns) i ≡ Some d
-        → ((i : ℕ) → slice_get (last_peers ns) i ≡ Some d
-        → (j : ℕ) × (m : ReaderName) × (slice_get ns j ≡ Some m) × (peer_of m ≡ d))
-        → (j : ℕ) × (m : ReaderName) × (slice_get (n ∷ ns) j ≡ Some m) × (peer_of m ≡ d)
-    by true i h later = more (later i h)
-    by false zero h later = (zero, n, refl, same_Some (peer_of n) d h)
-    by false (suc i) h later = more (later i h)
-
 -- ---- how many
-
--- numbers of which each stands once
-abbrev Differ : List ℕ → Type 0
-Differ [] = Unit {0}
-Differ (n ∷ ns) = (has n ns ≡ false) × Differ ns
-
-peers_differ : (es : List Endpoint) → Differ (peers_of es)
-peers_differ [] = tt
-peers_differ (e ∷ es) = one (has e.peer (peers_of es)) refl (peers_differ es)
-  where
-    one : (b : Bool) → has e.peer (peers_of es) ≡ b → Differ (peers_of es)
-        → Differ (if b then peers_of es else e.peer ∷ peers_of es)
-    one true is k = k
-    one false is k = (is, k)
 
 -- a list without a number
 cut : ℕ → List ℕ → List ℕ
@@ -358,32 +272,3 @@ fewer_peers reader es =
             later (sym (ap (λ (b : Bool). b || list_any (λ (y : Endpoint). y.peer == n)
             (filter (λ z. not (same_endpoint z reader)) xs)) e) ∙ h)
         by false false e h later = later h
-
--- one reader more is of one peer more at most
-pub one_peer_more : (names : List ReaderName) (n : ReaderName)
-    → length (last_peers (names ++ n ∷ [])) ≤ length (last_peers names) + 1
-one_peer_more [] n = omega arith
-one_peer_more (m ∷ ms) n =
-    by (list_any (λ (x : ReaderName). x.reader.peer == m.reader.peer) (ms ++ n ∷ []))
-    (list_any (λ (x : ReaderName). x.reader.peer == m.reader.peer) ms) (more ms) (one_peer_more ms n)
-  where
-    more : (xs : List ReaderName) → list_any (λ (x : ReaderName). x.reader.peer == m.reader.peer) xs ≡ true
-        → list_any (λ (x : ReaderName). x.reader.peer == m.reader.peer) (xs ++ n ∷ []) ≡ true
-    more [] is = absurd cc
-    more (x ∷ xs) is = one (x.reader.peer == m.reader.peer) is (more xs)
-      where
-        one : (b : Bool) → (b || list_any (λ (y : ReaderName). y.reader.peer == m.reader.peer) xs) ≡ true
-            → (list_any (λ (y : ReaderName). y.reader.peer == m.reader.peer) xs ≡ true
-            → list_any (λ (y : ReaderName). y.reader.peer == m.reader.peer) (xs ++ n ∷ []) ≡ true)
-            → (b || list_any (λ (y : ReaderName). y.reader.peer == m.reader.peer) (xs ++ n ∷ [])) ≡ true
-        one true h later = refl
-        one false h later = later h
-
-    by : (a b : Bool) → (b ≡ true → a ≡ true)
-        → length (last_peers (ms ++ n ∷ [])) ≤ length (last_peers ms) + 1
-        → length (if a then last_peers (ms ++ n ∷ []) else peer_of m ∷ last_peers (ms ++ n ∷ []))
-        ≤ length (if b then last_peers ms else peer_of m ∷ last_peers ms) + 1
-    by true true k h = h
-    by true false k h = omega (arith, h)
-    by false true k h = let bad = k refl in absurd cc
-    by false false k h = omega (arith, h)

@@ -1,5 +1,5 @@
 -- How long the values of a peer's writer may be: a configuration that is taken sets a limit to them.
-use Rattle.std.proofs.Common.{◌≡◌, ℕ, zero, suc, ◌≤◌, ◌==◌, Bool, true, false, not, ◌||◌, length, List, [], ◌∷◌, Option, Some, None, slice_get, refl, subst, ap, sym, arith}
+use Rattle.std.proofs.Common.{◌≡◌, ℕ, zero, suc, ◌≤◌, ◌==◌, Bool, true, false, not, ◌||◌, length, List, [], ◌∷◌, Option, Some, None, slice_get, refl, subst, sym, arith}
 use Rattle.std.specs.Prelude.{if◌then◌else◌, nat_lt}
 use Rattle.std.specs.List.{list_any}
 use Rattle.std.proofs.lemmas.Bool.Decides.{nat_tests}

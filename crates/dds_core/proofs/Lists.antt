@@ -1,5 +1,5 @@
 -- Lists with one element changed, by what is read of them.
-use Rattle.std.proofs.Common.{◌≡◌, ℕ, zero, suc, ◌<◌, ◌≤◌, List, [], ◌∷◌, ◌++◌, Some, None, map, set, take, drop, length, get_or, slice_get, refl, subst, ap, sym, ◌∙◌, arith}
+use Rattle.std.proofs.Common.{◌≡◌, ℕ, zero, suc, ◌+◌, ◌<◌, ◌≤◌, List, [], ◌∷◌, ◌++◌, Some, None, map, set, take, drop, length, get_or, slice_get, refl, subst, ap, sym, ◌∙◌, arith}
 use Rattle.std.proofs.lemmas.Option.{same_Some}
 use Rattle.std.proofs.lemmas.List.{set-get_or}
 use Rattle.std.proofs.lemmas.Option.{get_or_from_slice_get}
@@ -80,6 +80,22 @@ past_end (x ∷ xs) (suc n) none past = past_end xs n none (omega (arith, past))
 pub drop_all : {X : Type 0} (xs : List X) → drop (length xs) xs ≡ []
 drop_all [] = refl
 drop_all (x ∷ xs) = drop_all xs
+
+pub drop_end : {X : Type 0} (xs : List X) (n : ℕ) → length xs ≡ n → drop n xs ≡ []
+drop_end xs n is = subst (λ (m : ℕ). drop m xs ≡ []) is (drop_all xs)
+
+-- the first of what is left from an index on
+pub drop_next : {X : Type 0} (xs : List X) (i : ℕ) (x : X) → slice_get xs i ≡ Some x
+    → drop i xs ≡ x ∷ drop (i + 1) xs
+drop_next xs i x at = subst (λ (n : ℕ). drop i xs ≡ x ∷ drop n xs) (next i) (later xs i x at)
+  where
+    next : (n : ℕ) → suc n ≡ n + 1
+    next n = omega arith
+
+    later : {X : Type 0} (xs : List X) (i : ℕ) (x : X) → slice_get xs i ≡ Some x → drop i xs ≡ x ∷ drop (suc i) xs
+    later [] i x at = absurd cc
+    later (a ∷ xs) zero x at = ap (λ z. z ∷ xs) (same_Some a x at)
+    later (a ∷ xs) (suc i) x at = later xs i x at
 
 -- the element at an index from which on two lists are one
 pub left_at : {X : Type 0} (xs ys : List X) (i : ℕ) (x : X) → drop i xs ≡ drop i ys → slice_get ys i ≡ Some x

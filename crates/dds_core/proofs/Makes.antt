@@ -15,7 +15,7 @@ use Rattle.dds_base.specs.Refusal.{Refuses}
 use Rattle.dds_base.specs.Written.{Changed, changes_of}
 use Rattle.rtps_wire.specs.Content.{content_of, change_in}
 use Rattle.rtps_wire.proofs.ContentLaws.{change_in-content_of}
-use Rattle.dds_machine.specs.declared.endpoint.Endpoint.{Endpoint}
+use Rattle.dds_base.specs.declared.endpoint.Endpoint.{Endpoint}
 use Rattle.dds_protocol.specs.declared.event.Output.{Output}
 use Rattle.dds_protocol.specs.declared.event.Packet.{Packet}
 use Rattle.dds_machine.specs.declared.reply.Reply.TheVariants.{Done, Refused}

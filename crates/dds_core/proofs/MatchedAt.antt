@@ -4,13 +4,14 @@ use Rattle.std.proofs.lemmas.Option.{same_Some}
 use Rattle.dds_base.specs.declared.config.PeerConfig.{PeerConfig}
 use Rattle.dds_base.specs.declared.config.ReaderConfig.{ReaderConfig}
 use Rattle.dds_base.specs.Matched.{any_reader, is_reliable_reader}
-use Rattle.dds_machine.specs.declared.endpoint.Endpoint.{Endpoint}
+use Rattle.dds_base.specs.declared.endpoint.Endpoint.{Endpoint}
 use Rattle.dds_machine.specs.Part.{peers_of, same_endpoint}
 use Rattle.dds_machine.proofs.Tables.{same_is}
 use Rattle.dds_protocol.proofs.Composed.{front_or_rest}
 use Rattle.dds_protocol.proofs.InOrder.{same_self}
 use Rattle.dds_core.specs.declared.matching.ReaderName.{ReaderName}
-use Rattle.dds_core.specs.EndNames.{all_names, reader_name, reader_names}
+use Rattle.dds_core.specs.declared.matching.TopicName.{TopicName}
+use Rattle.dds_core.specs.EndNames.{all_names, reader_name, reader_names, topic_name, topic_names}
 use Rattle.dds_core.specs.Matching.{destinations}
 use Rattle.dds_core.specs.MatchedEnds.{AreMatchedNow, AreNamedOnce, IsNameOf, IsReliableName, is_named, readers_of}
 use Rattle.dds_core.proofs.Destinations.{among_at, is_peer, peers_are}
@@ -158,6 +159,37 @@ name_opened peers topic k name at =
       };
       reliable = t.wanted;
     })
+
+-- this name is of a reader of the topic, which is reliable or not
+abbrev pub IsNamedSo : List PeerConfig → ℕ → ReaderName → Bool → Type 0
+IsNamedSo peers topic name true = IsReliableName peers topic name
+IsNamedSo peers topic name false = IsNameOf peers topic name
+
+-- what is known of a reader of the topic is so
+pub known_opened : (peers : List PeerConfig) (topic k : ℕ) (known : TopicName)
+    → slice_get (topic_names topic peers) k ≡ Some known → IsNamedSo peers topic known.name known.is_reliable
+known_opened peers topic k known at =
+    let t =
+    is_told peers (λ (p : PeerConfig). p.readers) any_reader (λ (r : ReaderConfig). r.topic) topic_name topic k known
+    at in
+    subst (λ (x : TopicName). IsNamedSo peers topic x.name x.is_reliable) t.told
+    (by (is_reliable_reader t.end) (reader_name t.number t.peer t.end_number t.end) t.end (record {
+      is = record {
+        peer = t.peer;
+        at_peer = t.at_peer;
+        end = t.end;
+        at_reader = t.at_end;
+        same_topic = t.same_topic;
+      };
+      same_prefix = refl;
+      same_entity = refl;
+    }) refl refl)
+  where
+    by : (b : Bool) (name : ReaderName) (end : ReaderConfig) (is : IsNameOf peers topic name) → is.is.end ≡ end
+        → is_reliable_reader end ≡ b → IsNamedSo peers topic name b
+    by true name end is same reliable =
+        record { name_is = is; reliable = ap (λ (r : ReaderConfig). is_reliable_reader r) same ∙ reliable }
+    by false name end is same reliable = is
 
 -- is a matched reader
 pub matched_opened : (peers : List PeerConfig) (topic k : ℕ) (name : ReaderName)

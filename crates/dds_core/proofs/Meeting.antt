@@ -1,5 +1,5 @@
 -- What a reader does with what it is told is what the rules of the protocol say, however it stands to its writer.
-use Rattle.std.proofs.Common.{◌≡◌, ℕ, ℤ, suc, ◌+◌, Bool, true, false, ◌&&◌, List, [], ◌∷◌, ◌++◌, Option, Some, None, refl, ap, sym, ◌∙◌, subst, arith, inl, inr, nat_lt}
+use Rattle.std.proofs.Common.{◌≡◌, ℕ, suc, ◌+◌, Bool, true, false, ◌&&◌, List, [], ◌∷◌, ◌++◌, Option, Some, None, refl, ap, sym, ◌∙◌, subst, arith, inl, inr, nat_lt}
 use Rattle.std.specs.Prelude.{max, nat_le, if◌then◌else◌, is_some}
 use Rattle.std.proofs.lemmas.Bool.Decides.{nat_tests}
 use Rattle.dds_base.specs.declared.change.Change.{Change}
@@ -7,7 +7,6 @@ use Rattle.dds_base.specs.declared.guid.EntityId.{EntityId}
 use Rattle.dds_base.specs.declared.guid.GuidPrefix.{GuidPrefix}
 use Rattle.dds_base.specs.declared.happening.Happening.{Happening}
 use Rattle.dds_base.specs.declared.happening.PassedRun.{PassedRun}
-use Rattle.dds_base.specs.declared.qos.ReaderQos.{ReaderQos}
 use Rattle.dds_base.specs.Counts.{is_later}
 use Rattle.dds_base.specs.Matched.{is_reliable}
 use Rattle.dds_base.specs.Places.{Match}
@@ -15,25 +14,24 @@ use Rattle.dds_cache.specs.Standing.{qos_of}
 use Rattle.rtps_reader.specs.declared.attachment.Attachment.{Attachment as AttachmentOf}
 use Rattle.rtps_reader.specs.declared.attachment.Attachment.TheVariants as standing
 use Rattle.rtps_reader.specs.declared.step.AckNackDue.{AckNackDue}
-use Rattle.rtps_reader.specs.declared.step.HeartbeatSeen.{HeartbeatSeen}
 use Rattle.rtps_reader.specs.declared.step.Step.{Step}
 use Rattle.rtps_reader.specs.Advance.{Advances}
 use Rattle.rtps_reader.specs.Answer.{AnswersHeartbeat, IsIdle, answered, heard_after}
-use Rattle.rtps_reader.specs.Attached.{BeginsIf as BeginsIfTold, HearsAlone as HeardAlone, MeetsBeat as BeatTold, MeetsChange as ChangeTold, MeetsHeartbeat as HeartbeatTold, MeetsNews as NewsTold, Rests, begun_at}
+use Rattle.rtps_reader.specs.Attached.{BeginsIf as BeginsIfTold, HearsAlone as HeardAlone, MeetsBeat as BeatTold, MeetsChange as ChangeTold, MeetsHeartbeat as HeartbeatTold, MeetsNews as NewsTold, Rests, begun_at, no_news}
 use Rattle.rtps_reader.specs.Jump.{Jumps, comes}
 use Rattle.rtps_reader.specs.Reader.{Tracks, OthersStay, OthersStand, how_after, how_at, match_at, MovesOn, JumpsOn, TakesHeartbeat as HeartbeatTaken}
 use Rattle.rtps_reader.specs.Tracked.{Tracked, with_data, with_gap, with_heartbeat}
 use Rattle.rtps_wire.specs.declared.gap.Gap.{Gap as GapBody}
 use Rattle.rtps_wire.specs.declared.heartbeat.Heartbeat.{Heartbeat as HeartbeatBody}
-use Rattle.dds_machine.specs.declared.endpoint.Endpoint.{Endpoint}
+use Rattle.dds_base.specs.declared.endpoint.Endpoint.{Endpoint}
 use Rattle.dds_machine.specs.declared.reply.Move.{Move}
 use Rattle.dds_machine.specs.declared.reply.Move.TheVariants.{Place, Heard, Begun as HasBegun}
-use Rattle.dds_machine.specs.Moves.{match_of}
-use Rattle.dds_machine.specs.Part.{Attachment, Away, Waiting, Begun, Reader, WriterProxy, how_of, is_attached, own_reader, with_begun, with_place, publication_among}
+use Rattle.dds_machine.specs.Part.{Attachment, Away, Waiting, Begun, Reader, WriterProxy, how_of, is_attached, with_begun, with_place}
 use Rattle.dds_protocol.specs.Claims.{Receiver}
 use Rattle.dds_protocol.specs.DueMessages.{Due, acknacks_due}
 use Rattle.dds_protocol.specs.Peer.{state_of}
 use Rattle.dds_protocol.specs.Protocol.{Asserting, BeginsIf, BeginsWith, Goes, GoesBy, HearsAlone, MeetsChange, MeetsGap, MeetsHeartbeat, Starts, StartsAt, State, TakesHeartbeat, TakesOrNot, heard_as, stands_to, with_tracked}
+use Rattle.dds_protocol.specs.Resuming.{GoesAgain}
 use Rattle.dds_protocol.proofs.Ways.{jumps_gone}
 use Rattle.dds_core.specs.Kept.{ReaderKept}
 use Rattle.dds_core.specs.Readiness.{SameReader, begins_at, begun_moves, moves_of, seen_in}
@@ -42,7 +40,7 @@ use Rattle.dds_core.specs.Standing.{StandsFor, stood_as}
 use Rattle.dds_core.specs.Storing.{Holds}
 use Rattle.dds_core.proofs.Ends.{with_reader}
 use Rattle.dds_core.proofs.Rows.{handle_is}
-use Rattle.dds_core.proofs.Takes.{Telling, Stage, After, known_of, part_of, proxies_of, reader_of, stood, stands_first, match_is, stage_ends, at_first, reader_is, heard_asserts, heard_after_is, heard_happened, heard_moves, heard_rows, heard_stage, heard_state, started_state, starts_at, started, gone_state, place_moves, goes_by, gone, noted}
+use Rattle.dds_core.proofs.Takes.{Telling, Stage, known_of, proxies_of, reader_of, stood, stands_first, match_is, stage_ends, at_first, reader_is, heard_asserts, heard_after_is, heard_happened, heard_moves, heard_rows, heard_stage, heard_state, started_state, starts_at, started, gone_state, place_moves, goes_by, gone, noted}
 
 -- the reader of a telling has done this step, and nothing of other writers has changed
 pub record Took (c : Telling) (k' : ReaderKept) (from : ℕ) (step : Step) : Type 0 where
@@ -213,6 +211,16 @@ gap_met c k' from step g standing.Begun took is m =
 gap_met c k' from step g standing.Waiting took is m = idles c k' from step took m
 gap_met c k' from step g standing.Away took is m = idles c k' from step took m
 
+-- a place that is tried again, at any reader
+pub again_met : (c : Telling) (k' : ReaderKept) (from : ℕ) (step : Step) (a : AttachmentOf) → Took c k' from step
+    → how_at c.k.reader c.row ≡ a
+    → NewsTold a (told_match c) no_news (known_of c) (reader_of c).happened step (λ t. NowKnows c k' t)
+    (λ h. NowHas k' h)
+    → Met c k' (λ s. GoesAgain (stood_as a) (state_of c.peer) c.writer (suc c.i) (moves_at c from step) s)
+again_met c k' from step standing.Begun took is m = news_goes c k' from step no_news took is m.0 m.1
+again_met c k' from step standing.Waiting took is m = idles c k' from step took m
+again_met c k' from step standing.Away took is m = idles c k' from step took m
+
 -- a GAP, at a best-effort reader
 pub nothing_met : (c : Telling) (k' : ReaderKept) (from : ℕ) (step : Step) (g : GapBody) (a : AttachmentOf)
     → Took c k' from step → Rests (known_of c) (reader_of c).happened step (λ t. NowKnows c k' t) (λ h. NowHas k' h)
@@ -254,7 +262,7 @@ begins_with c k' from step number change took is other low begun m =
     mid = started_state c (state_of c.peer) to
 
     at_mid : Stage c Begun (begun_at number (known_of c)) rows (reader_of c).happened mid
-    at_mid = started c to Waiting (known_of c) (proxies_of c) (reader_of c).happened (state_of c.peer) first
+    at_mid = started c to Waiting (known_of c) (proxies_of c) (reader_of c).happened (state_of c.peer) refl first
 
     there : State
     there = gone_state c mid step.to m.new m.after
@@ -495,7 +503,7 @@ heartbeat_begins c own at entity k' h from step took is later begun m =
     (begun_at h.first_sn (known_of c)) (with_begun (heard_rows b c h.count) c.writer to)
     (started_state c (heard_state b c h.count) to) (HasBegun c.writer (suc c.i) (known_of c).place to ∷ [])
     (starts_at c h.first_sn (known_of c) (heard_rows b c h.count) (heard_happened b c) (heard_state b c h.count) heard)
-    (started c to Waiting (known_of c) (heard_rows b c h.count) (heard_happened b c) (heard_state b c h.count) heard) m
+    (started c to Waiting (known_of c) (heard_rows b c h.count) (heard_happened b c) (heard_state b c h.count) refl heard) m
     (moves_as c from step b (Some to) took.from_is m.accepts.heard begun)
     (stands_then c k' from step standing.Waiting (Some to) took is begun)
 

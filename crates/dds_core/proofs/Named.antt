@@ -13,7 +13,7 @@ use Rattle.dds_base.specs.declared.guid.EntityId.{EntityId}
 use Rattle.dds_base.specs.declared.guid.Guid.{Guid}
 use Rattle.dds_base.specs.declared.guid.GuidPrefix.{GuidPrefix}
 use Rattle.dds_base.specs.Matched.{same_topic, any_writer, of_ends_in, of_matched_ends}
-use Rattle.dds_machine.specs.declared.endpoint.Endpoint.{Endpoint}
+use Rattle.dds_base.specs.declared.endpoint.Endpoint.{Endpoint}
 use Rattle.dds_protocol.specs.Claims.{Receiver, IsWriter, IsReader, IsToReader}
 use Rattle.dds_protocol.specs.Peer.{Peer}
 use Rattle.dds_core.specs.declared.matching.WriterName.{WriterName}

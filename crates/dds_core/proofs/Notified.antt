@@ -1,8 +1,6 @@
 -- What a peer and its listeners stand for, as they are told of what was raised.
-use Rattle.std.proofs.Common.{◌≡◌, ℕ, ℤ, suc, ◌+◌, ◌-◌, ◌<◌, ◌≤◌, Bool, true, false, List, [], ◌∷◌, Option, Some, None, is_some, length, get_or, slice_get, arith, ⊎_elim, refl, ap, sym, ◌∙◌, subst}
-use Rattle.std.specs.Prelude.{nat_lt, if◌then◌else◌}
+use Rattle.std.proofs.Common.{◌≡◌, ℕ, suc, ◌+◌, ◌-◌, ◌<◌, ◌≤◌, true, false, List, [], ◌∷◌, Option, Some, None, is_some, length, get_or, slice_get, arith, ⊎_elim, refl, ap, sym, ◌∙◌, subst}
 use Rattle.std.proofs.lemmas.Bool.{cases_lt}
-use Rattle.std.proofs.lemmas.Bool.Decides.{nat_tests}
 use Rattle.std.proofs.lemmas.Option.{slice_get-get_or, slice_get_read}
 use Rattle.dds_base.specs.declared.config.Config.{Config}
 use Rattle.dds_base.specs.declared.entity.Entity.{Entity}
@@ -10,32 +8,31 @@ use Rattle.dds_base.specs.declared.entity.Entity.TheVariants as entity
 use Rattle.dds_base.specs.declared.happening.Happening.{Happening}
 use Rattle.dds_base.specs.declared.qos.ReaderQos.{ReaderQos}
 use Rattle.dds_base.specs.declared.status.LivelinessChangedStatus.{LivelinessChangedStatus}
-use Rattle.dds_base.specs.declared.status.LivelinessLostStatus.{LivelinessLostStatus}
+use Rattle.dds_base.specs.declared.status.MatchedStatus.{MatchedStatus}
 use Rattle.dds_base.specs.declared.status.SampleLostStatus.{SampleLostStatus}
 use Rattle.dds_base.specs.Liveliness.{alive_count, not_alive_count}
 use Rattle.dds_base.specs.Statuses.{lost_count}
-use Rattle.dds_base.specs.Written.{LookedAt, liveliness_lost_status}
 use Rattle.dds_cache.specs.Standing.{qos_of}
 use Rattle.dds_notices.specs.declared.notice.Notice.{Notice}
 use Rattle.dds_notices.specs.declared.notice.Status.{Status}
-use Rattle.dds_notices.specs.declared.notice.Status.TheVariants.{SampleLost, DataAvailable, LivelinessLost, LivelinessChanged}
+use Rattle.dds_notices.specs.declared.notice.Status.TheVariants.{SampleLost, DataAvailable, LivelinessLost, LivelinessChanged, PublicationMatched, SubscriptionMatched}
 use Rattle.dds_notices.specs.Listeners.{ByEntity, Places, Slotted, StandsFor as SlotsStandFor, after_notice, taker_of}
-use Rattle.dds_machine.specs.declared.endpoint.Endpoint.{Endpoint}
-use Rattle.dds_machine.specs.Noticing.{each_told, looked_at, loss_raised, losses_of, seen_by, told, told_of, told_to, writer_told}
-use Rattle.dds_machine.specs.Part.{Part, Reader, Seen, Writer, no_reader, no_writer, own_proxies, own_reader, own_writer}
+use Rattle.dds_base.specs.declared.endpoint.Endpoint.{Endpoint}
+use Rattle.dds_machine.specs.Noticing.{each_told, looked_at, seen_by, told, told_of, told_to}
+use Rattle.dds_machine.specs.Part.{Part, Reader, Seen, Writer, WriterProxy, no_reader, no_writer, own_proxies, own_reader, own_writer}
 use Rattle.dds_protocol.specs.Peer.{Peer}
+use Rattle.rtps_reader.specs.Tracked.{Tracked}
 use Rattle.dds_core.specs.declared.marks.ReaderMark.{ReaderMark}
+use Rattle.dds_core.specs.declared.marks.WriterMark.{WriterMark}
 use Rattle.dds_core.specs.Kept.{PeerKept, ReaderKept, WriterKept}
 use Rattle.dds_core.specs.Identity.{reader_identity}
-use Rattle.dds_core.specs.Noticing.{IsMarkOf, MarksPeer, MarksReaders, MarksWriters, RaisesSo, SeesStatus, Tells}
-use Rattle.dds_core.specs.Looking.{TellsLiveliness, TellsLost}
-use Rattle.dds_core.specs.Standing.{ReaderStands, StandsFor, WriterStands}
-use Rattle.dds_core.specs.Stepping.{Enters}
+use Rattle.dds_core.specs.Noticing.{IsMarkOf, IsWriterMarkOf, MarksPeer, MarksReaders, MarksWriters, Raised, RaisesSo, SeesStatus, Tells, seen_at}
+use Rattle.dds_core.specs.Looking.{SeesMatches, TellsLiveliness, TellsLost}
+use Rattle.dds_core.specs.Standing.{ReaderStands, StandsFor}
 use Rattle.dds_core.specs.Storing.{Holds}
-use Rattle.dds_core.proofs.Ends.{own_reader_changed, own_writer_stepped, with_reader, with_writer}
+use Rattle.dds_core.proofs.Ends.{own_reader_changed, readers_with, with_reader}
 use Rattle.dds_core.proofs.Lists.{past_end}
 use Rattle.dds_core.proofs.Taking.{stands_beside}
-use Rattle.dds_core.proofs.Tellable.{tellable_entered}
 
 -- ---- who is told
 
@@ -66,6 +63,19 @@ pub listeners_apart : (kept : PeerKept) (config : Config) (peer : Peer) (places 
     (record peer { part = record peer.part { dds = record peer.part.dds { listeners = places } } })
 listeners_apart kept config peer places s =
     stands_beside kept kept.watch peer.part.dds.watch places peer.delivered config peer s.watch s
+
+-- a part, once a status of its reader was looked at
+sees_part : (part : Part) (i : ℕ) (status : Status)
+    → record part {
+      dds = readers_with part (suc i) (seen_at (own_proxies part (suc i)) (own_reader part (suc i)) status);
+    }
+    ≡ looked_at part (entity.Reader (suc i)) status
+sees_part part i (SampleLost values) = refl
+sees_part part i DataAvailable = refl
+sees_part part i (LivelinessLost values) = refl
+sees_part part i (LivelinessChanged values) = refl
+sees_part part i (PublicationMatched values) = refl
+sees_part part i (SubscriptionMatched values) = refl
 
 module _ {L : Type 0} (notices : L → List Notice) (capacity : L → ℕ) (becomes : L → Notice → L → Type 0) where
   -- the same change, as it is at the states that a peer stands for
@@ -102,7 +112,7 @@ module _ {L : Type 0} (notices : L → List Notice) (capacity : L → ℕ) (beco
       (sym (takes given peer.part.dds.listeners l)))) (s, l)
 
   -- somebody takes it: it was looked at, and the listener was told
-  told_by : (e : Entity) (status : Status) (old : PeerKept) (slots : Slotted L) (new : PeerKept) (after : Slotted L)
+  pub told_by : (e : Entity) (status : Status) (old : PeerKept) (slots : Slotted L) (new : PeerKept) (after : Slotted L)
       → ((given : ByEntity L) (places : Places) → SlotsStandFor notices capacity becomes given slots places → true ≡ is_some (taker_of places e status))
       → ((given : ByEntity L) (places : Places) → SlotsStandFor notices capacity becomes given slots places
       → SlotsStandFor notices capacity becomes given after (after_notice places (record { entity = e; status = status })))
@@ -138,62 +148,35 @@ module _ {L : Type 0} (notices : L → List Notice) (capacity : L → ℕ) (beco
       let s : StandsFor inside config peer = subst (λ (x : PeerKept). StandsFor x config peer) (sym view) given in
       subst (λ (m : ℕ). StandsFor (with_reader inside i k') config
       (record peer { part = looked_at peer.part (entity.Reader m) status })) is
+      (subst (λ (p : Part). StandsFor (with_reader inside i k') config (record peer { part = p }))
+      (sees_part peer.part i status)
       (own_reader_changed inside i k k'
-      (record (own_reader peer.part (suc i)) { seen = seen_by (own_reader peer.part (suc i)) status }) config peer s
-      at same
+      (seen_at (own_proxies peer.part (suc i)) (own_reader peer.part (suc i)) status) config peer s at same
       (sees (own_proxies peer.part (suc i)) (own_reader peer.part (suc i)) (λ w. peer.known.tracked w (suc i))
-      (s.readers.each i k at)))))
-
-  -- a status of the writer of this number
-  pub tells_writer : (status : Status) (old : PeerKept) (slots : Slotted L) (n i : ℕ) (k k' : WriterKept)
-      (after : Slotted L) → suc i ≡ n
-      → slice_get old.writers i ≡ Some k → Enters k LookedAt k'
-      → ((given : ByEntity L) (places : Places) → SlotsStandFor notices capacity becomes given slots places
-      → true ≡ is_some (taker_of places (entity.Writer n) status))
-      → ((given : ByEntity L) (places : Places) → SlotsStandFor notices capacity becomes given slots places
-      → SlotsStandFor notices capacity becomes given after
-      (after_notice places (record { entity = entity.Writer n; status = status })))
-      → Tells notices capacity becomes (λ part. told part (entity.Writer n) (Some status)) old slots
-      (with_writer old i k') after
-  tells_writer status old slots n i k k' after is at enters takes tell =
-      told_by (entity.Writer n) status old slots (with_writer old i k') after takes tell
-      (λ config peer s.
-      subst (λ (m : ℕ). StandsFor (with_writer old i k') config
-      (record peer { part = looked_at peer.part (entity.Writer m) status })) is
-      (own_writer_stepped old i k k' LookedAt config peer s at enters
-      (tellable_entered peer (suc i) LookedAt s.tellable tt)))
+      (s.readers.each i k at))))))
 
   -- what was raised at the reader of this number, in turn
-  pub tells_raised : (raised : Reader → Reader → Option Status) (status : Option Status) (before : Part)
+  pub tells_raised : (raised : Raised) (status : Option Status) (before : Part)
       (mark : ReaderMark) (old : PeerKept) (slots : Slotted L)
       (n i : ℕ) (k : ReaderKept) (new : PeerKept) (after : Slotted L) → suc i ≡ n → slice_get old.readers i ≡ Some k
-      → IsMarkOf mark (own_reader before n)
+      → IsMarkOf mark (own_proxies before n) (own_reader before n)
       → RaisesSo raised k mark status
       → Tells notices capacity becomes (λ part. told part (entity.Reader n) status) old slots new after
-      → Tells notices capacity becomes (λ part. told part (entity.Reader n) (raised (own_reader before n) (own_reader part n)))
-      old slots new after
+      → Tells notices capacity becomes
+      (λ part. told part (entity.Reader n)
+      (raised (own_proxies before n) (own_reader before n) (own_proxies part n) (own_reader part n))) old slots new
+      after
   tells_raised raised status before mark old slots n i k new after is at marked so h =
       tells_as (λ part. told part (entity.Reader n) status)
-      (λ part. told part (entity.Reader n) (raised (own_reader before n) (own_reader part n))) old slots new after
+      (λ part. told part (entity.Reader n)
+      (raised (own_proxies before n) (own_reader before n) (own_proxies part n) (own_reader part n))) old slots new
+      after
       (λ config peer s.
       ap (λ (o : Option Status). told peer.part (entity.Reader n) o)
-      (subst (λ (m : ℕ). status ≡ raised (own_reader before n) (own_reader peer.part m)) is
-      (so (own_reader before n) marked (own_proxies peer.part (suc i)) (own_reader peer.part (suc i))
+      (subst (λ (m : ℕ). status
+      ≡ raised (own_proxies before n) (own_reader before n) (own_proxies peer.part m) (own_reader peer.part m)) is
+      (so (own_proxies before n) (own_reader before n) marked (own_proxies peer.part (suc i)) (own_reader peer.part (suc i))
       (λ w. peer.known.tracked w (suc i)) (s.readers.each i k at)))) h
-
-  -- the status of the writer of this number, if its liveliness was lost
-  pub tells_loss : (status : Option Status) (before : Part) (old : PeerKept) (slots : Slotted L)
-      (n i : ℕ) (k : WriterKept) (new : PeerKept) (after : Slotted L) → suc i ≡ n → slice_get old.writers i ≡ Some k
-      → ((w : Writer) (answered : Endpoint → Option ℤ) → WriterStands k w answered
-      → status ≡ loss_raised (own_writer before n) w)
-      → Tells notices capacity becomes (λ part. told part (entity.Writer n) status) old slots new after
-      → Tells notices capacity becomes (writer_told before n) old slots new after
-  tells_loss status before old slots n i k new after is at so h =
-      tells_as (λ part. told part (entity.Writer n) status) (writer_told before n) old slots new after
-      (λ config peer s.
-      ap (λ (o : Option Status). told peer.part (entity.Writer n) o)
-      (subst (λ (m : ℕ). status ≡ loss_raised (own_writer before n) (own_writer peer.part m)) is
-      (so (own_writer peer.part (suc i)) (peer.known.answered (suc i)) (s.writers.each i k at)))) h
 
   -- none of the entities yet
   pub tells_first : (tell : ℕ → Part → Part) (kept : PeerKept) (slots : Slotted L)
@@ -236,40 +219,10 @@ module _ {L : Type 0} (notices : L → List Notice) (capacity : L → ℕ) (beco
       let same : n ≡ count = omega (arith, low, high, size, view) in
       subst (λ (m : ℕ). Tells notices capacity becomes (each_told tell m) old slots new after) same h
 
--- ---- what was raised
-
--- a writer's liveliness was lost, or not
-pub lost_so : (before w : Writer) (values : LivelinessLostStatus) (losses : ℕ)
-    → values ≡ liveliness_lost_status w.lease w.written → losses ≡ losses_of before
-    → losses < values.total_count → Some (LivelinessLost values) ≡ loss_raised before w
-lost_so before w values losses is mark lt =
-    let more : nat_lt (losses_of before) (losses_of w) ≡ true =
-    ap (λ (n : ℕ). nat_lt n (losses_of w)) (sym mark)
-    ∙ (ap (λ (v : LivelinessLostStatus). nat_lt losses v.total_count) (sym is) ∙ less losses values.total_count lt)
-    in
-    ap (λ (v : LivelinessLostStatus). Some (LivelinessLost v)) is
-    ∙ sym (ap (λ (b : Bool). if b then Some (LivelinessLost (liveliness_lost_status w.lease w.written)) else None) more)
-  where
-    less : (a b : ℕ) → a < b → nat_lt a b ≡ true
-    less a b lt' = grind (arith, nat_tests, lt')
-
-pub not_lost : (before w : Writer) (values : LivelinessLostStatus) (losses : ℕ)
-    → values ≡ liveliness_lost_status w.lease w.written → losses ≡ losses_of before
-    → values.total_count ≤ losses → None ≡ loss_raised before w
-not_lost before w values losses is mark le =
-    let more : nat_lt (losses_of before) (losses_of w) ≡ false =
-    ap (λ (n : ℕ). nat_lt n (losses_of w)) (sym mark)
-    ∙ (ap (λ (v : LivelinessLostStatus). nat_lt losses v.total_count) (sym is)
-    ∙ not_less losses values.total_count le) in
-    sym (ap (λ (b : Bool). if b then Some (LivelinessLost (liveliness_lost_status w.lease w.written)) else None) more)
-  where
-    not_less : (a b : ℕ) → b ≤ a → nat_lt a b ≡ false
-    not_less a b le' = grind (arith, nat_tests, le')
-
 -- ---- the marks of a peer
 
 -- they are those of each state that it stands for, at the peer that was opened
-pub marks_peer : (kept now : PeerKept) (writers : List ℕ) (readers : List ReaderMark) → kept ≡ now
+pub marks_peer : (kept now : PeerKept) (writers : List WriterMark) (readers : List ReaderMark) → kept ≡ now
     → MarksWriters kept.writers (length kept.writers) writers
     → MarksReaders kept.readers (length kept.readers) readers
     → MarksPeer now (record { writers = writers; readers = readers })
@@ -284,8 +237,10 @@ marks_peer kept now writers readers view of_writers of_readers config peer given
       (slice_get-get_or kept.writers i (first_writer i lt) lt)))
       (λ le.
       let count = s.writers.count in
-      (of_writers i mark at).1 le
-      ∙ ap (λ (w : Writer). losses_of w) (sym (past_end peer.part.rtps.writers i no_writer (omega (arith, count, le)))))
+      subst (λ (w : Writer). IsWriterMarkOf mark w)
+      (sym (past_end peer.part.rtps.writers i no_writer (omega (arith, count, le))))
+      (subst (λ (m : WriterMark). IsWriterMarkOf m no_writer) (sym ((of_writers i mark at).1 le))
+      (record { losses = refl; matched = refl })))
       (cases_lt i (length kept.writers));
   readers = λ i mark at.
       ⊎_elim
@@ -297,10 +252,13 @@ marks_peer kept now writers readers view of_writers of_readers config peer given
       (slice_get-get_or kept.readers i (first_reader i lt) lt)))
       (λ le.
       let count = s.readers.count in
-      subst (λ (r : Reader). IsMarkOf mark r)
+      let rows = s.readers.rows in
+      subst (λ (ps : List WriterProxy). IsMarkOf mark ps (own_reader peer.part (suc i)))
+      (sym (past_end peer.part.rtps.readers i [] (omega (arith, rows, le))))
+      (subst (λ (r : Reader). IsMarkOf mark [] r)
       (sym (past_end peer.part.dds.readers i no_reader (omega (arith, count, le))))
-      (subst (λ (m : ReaderMark). IsMarkOf m no_reader) (sym ((of_readers i mark at).1 le))
-      (record { happened = refl })))
+      (subst (λ (m : ReaderMark). IsMarkOf m [] no_reader) (sym ((of_readers i mark at).1 le))
+      (record { happened = refl; here = refl }))))
       (cases_lt i (length kept.readers));
 }
   where
@@ -322,7 +280,9 @@ marks_peer kept now writers readers view of_writers of_readers config peer given
 -- another value of what was seen
 sees_so : (k k' : ReaderKept) (status : Status) (seen : Seen) → k' ≡ record k { seen = seen }
     → ((r : Reader) → Holds k.store r.happened → r.qos ≡ qos_of k.store.cache → r.seen ≡ k.seen
-    → seen ≡ seen_by r status) → SeesStatus k status k'
+    → seen ≡ seen_by r status)
+    → (proxies : List WriterProxy) (r : Reader) (tracked : Endpoint → Tracked) → ReaderStands k proxies r tracked
+    → ReaderStands k' proxies (record r { seen = seen_by r status }) tracked
 sees_so k k' status seen is so proxies r tracked s =
     subst (λ (x : ReaderKept). ReaderStands x proxies (record r { seen = seen_by r status }) tracked) (sym is)
     (record {
@@ -333,6 +293,8 @@ sees_so k k' status seen is so proxies r tracked s =
       holds = s.holds;
       seen_is = sym (so r s.holds s.qos_is s.seen_is);
       hows = s.hows;
+      counts = s.counts;
+      here_is = s.here_is;
     })
 
 pub sees_lost : (k k' : ReaderKept) (status : Status) (x v : SampleLostStatus) (now : Seen) → status ≡ SampleLost x
@@ -370,3 +332,9 @@ sees_turn k k' status x v now is tells after =
       not_alive = not_alive_count r.qos r.happened;
       entries_at_turn = length r.happened;
     }) (sym seen))))
+
+-- a look at SUBSCRIPTION_MATCHED
+pub sees_matches : (k k' : ReaderKept) (status : Status) (x : MatchedStatus) → status ≡ SubscriptionMatched x
+    → SeesMatches k k' → SeesStatus k status k'
+sees_matches k k' status x is sees =
+    subst (λ (y : Status). SeesStatus k y k') (sym is) (λ proxies r tracked s. sees.stands proxies r tracked s)

@@ -1,12 +1,14 @@
--- A writer's matched readers are each named once.
+-- The readers and the writers of a topic are each named once.
 use Rattle.std.proofs.Common.{◌≡◌, ℕ, zero, suc, ◌+◌, ◌≤◌, Bool, ◌&&◌, true, false, cond, List, [], ◌∷◌, ◌++◌, Some, slice_get, refl, ap, sym, ◌∙◌, arith, ⊎_elim}
 use Rattle.std.proofs.lemmas.Option.{same_Some}
 use Rattle.dds_base.specs.declared.config.PeerConfig.{PeerConfig}
 use Rattle.dds_base.specs.declared.config.ReaderConfig.{ReaderConfig}
-use Rattle.dds_base.specs.Matched.{same_topic, is_reliable_reader, of_ends_in, of_matched_ends}
-use Rattle.dds_machine.specs.declared.endpoint.Endpoint.{Endpoint}
+use Rattle.dds_base.specs.declared.config.WriterConfig.{WriterConfig}
+use Rattle.dds_base.specs.Matched.{any_reader, any_writer, same_topic, is_reliable_reader, of_ends_in, of_matched_ends}
+use Rattle.dds_base.specs.declared.endpoint.Endpoint.{Endpoint}
 use Rattle.dds_core.specs.declared.matching.ReaderName.{ReaderName}
-use Rattle.dds_core.specs.EndNames.{reader_name, reader_names}
+use Rattle.dds_core.specs.declared.matching.WriterName.{WriterName}
+use Rattle.dds_core.specs.EndNames.{all_names, reader_name, reader_names, writer_name, writer_names}
 use Rattle.dds_core.proofs.Numbered.{append_get, cond_get}
 
 -- no two of these have the same value
@@ -34,60 +36,81 @@ once_append f (x ∷ xs) ys first second apart =
     (λ l. let e = first zero (suc l.0) x y refl l.1 same in omega (arith, e))
     (λ r. apart zero r.0 x y refl r.1 same) (append_get xs ys k y at))
 
-abbrev ends_of : ℕ → PeerConfig → ℕ → ℕ → List ReaderConfig → List ReaderName
-ends_of i p topic n rs = of_ends_in is_reliable_reader (λ (r : ReaderConfig). r.topic) (reader_name i p) topic n rs
+-- Of the ends of a topic each is told of once, in their order.
+module _ {E X : Type 0} (ends : PeerConfig → List E) (is_wanted : E → Bool) (topic_of : E → ℕ)
+    (tell : ℕ → PeerConfig → ℕ → E → X) (end_of : X → Endpoint)
+    (is : (i : ℕ) (p : PeerConfig) (n : ℕ) (e : E) → end_of (tell i p n e) ≡ record { peer = i; number = n })
+    (topic : ℕ) where
+  -- the ends of one peer
+  abbrev ends_in : ℕ → PeerConfig → ℕ → List E → List X
+  ends_in i p n es = of_ends_in is_wanted topic_of (tell i p) topic n es
 
--- the readers of a peer have its number, and numbers from this one on
-named_from : (i : ℕ) (p : PeerConfig) (topic n : ℕ) (rs : List ReaderConfig) (k : ℕ) (x : ReaderName)
-    → slice_get (ends_of i p topic n rs) k ≡ Some x → (x.reader.peer ≡ i) × (n ≤ x.reader.number)
-named_from i p topic n [] k x at = absurd cc
-named_from i p topic n (r ∷ rs) k x at =
-    ⊎_elim
-    (λ f. (
-      ap (λ (y : ReaderName). y.reader.peer)
-          (sym f.1),
-      let number = ap (λ (y : ReaderName). y.reader.number) f.1 in omega (arith, number),
-    ))
-    (λ f. let later = named_from i p topic (n + 1) rs f.0 x f.1 in let low = later.1 in (later.0, omega (arith, low)))
-    (cond_get (is_reliable_reader r && same_topic r.topic topic) (reader_name i p n r) (ends_of i p topic (n + 1) rs) k x at)
+  -- have its number, and numbers from this one on
+  numbered_from : (i : ℕ) (p : PeerConfig) (n : ℕ) (es : List E) (k : ℕ) (x : X) → slice_get (ends_in i p n es) k ≡ Some x
+      → ((end_of x).peer ≡ i) × (n ≤ (end_of x).number)
+  numbered_from i p n [] k x at = absurd cc
+  numbered_from i p n (e ∷ es) k x at =
+      ⊎_elim
+      (λ f.
+      let here : end_of x ≡ record { peer = i; number = n } = ap end_of (sym f.1) ∙ is i p n e in
+      let number = ap (λ (y : Endpoint). y.number) here in
+      (ap (λ (y : Endpoint). y.peer) here, omega (arith, number)))
+      (λ f. let later = numbered_from i p (n + 1) es f.0 x f.1 in let low = later.1 in (later.0, omega (arith, low)))
+      (cond_get (is_wanted e && same_topic (topic_of e) topic) (tell i p n e) (ends_in i p (n + 1) es) k x at)
 
-once_cond : (b : Bool) (x : ReaderName) (xs : List ReaderName) → Once (λ (y : ReaderName). y.reader) (x ∷ xs)
-    → Once (λ (y : ReaderName). y.reader) xs → Once (λ (y : ReaderName). y.reader) (cond b (x ∷ xs) xs)
-once_cond true x xs with_it without = with_it
-once_cond false x xs with_it without = without
+  once_cond : (b : Bool) (x : X) (xs : List X) → Once end_of (x ∷ xs) → Once end_of xs
+      → Once end_of (cond b (x ∷ xs) xs)
+  once_cond true x xs with_it without = with_it
+  once_cond false x xs with_it without = without
 
-once_in : (i : ℕ) (p : PeerConfig) (topic n : ℕ) (rs : List ReaderConfig)
-    → Once (λ (y : ReaderName). y.reader) (ends_of i p topic n rs)
-once_in i p topic n [] = λ j k x y at_x at_y same. absurd cc
-once_in i p topic n (r ∷ rs) =
-    let rest = once_in i p topic (n + 1) rs in
-    once_cond (is_reliable_reader r && same_topic r.topic topic) (reader_name i p n r) (ends_of i p topic (n + 1) rs)
-    (once_cons (λ (y : ReaderName). y.reader) (reader_name i p n r) (ends_of i p topic (n + 1) rs) rest
-    (λ k y at same. let low = (named_from i p topic (n + 1) rs k y at).1 in let number = ap (λ (e : Endpoint). e.number)
-    same in omega (arith, low, number)))
-    rest
+  once_in : (i : ℕ) (p : PeerConfig) (n : ℕ) (es : List E) → Once end_of (ends_in i p n es)
+  once_in i p n [] = λ j k x y at_x at_y same. absurd cc
+  once_in i p n (e ∷ es) =
+      let rest = once_in i p (n + 1) es in
+      once_cond (is_wanted e && same_topic (topic_of e) topic) (tell i p n e) (ends_in i p (n + 1) es)
+      (once_cons end_of (tell i p n e) (ends_in i p (n + 1) es) rest
+      (λ k y at same.
+      let low = (numbered_from i p (n + 1) es k y at).1 in
+      let number : n ≡ (end_of y).number = ap (λ (x : Endpoint). x.number) (sym (is i p n e) ∙ same) in
+      omega (arith, low, number)))
+      rest
 
-abbrev names_of : ℕ → ℕ → List PeerConfig → List ReaderName
-names_of topic i ps =
-    of_matched_ends (λ (p : PeerConfig). p.readers) is_reliable_reader (λ (r : ReaderConfig). r.topic) reader_name topic i ps
+  abbrev ends_at : ℕ → List PeerConfig → List X
+  ends_at i ps = of_matched_ends ends is_wanted topic_of tell topic i ps
 
-peers_from : (topic i : ℕ) (ps : List PeerConfig) (k : ℕ) (x : ReaderName) → slice_get (names_of topic i ps) k ≡ Some x
-    → i ≤ x.reader.peer
-peers_from topic i [] k x at = absurd cc
-peers_from topic i (p ∷ ps) k x at =
-    ⊎_elim (λ f. let is = (named_from i p topic 1 p.readers f.0 x f.1).0 in omega (arith, is))
-    (λ f. let low = peers_from topic (i + 1) ps f.0 x f.1 in omega (arith, low))
-    (append_get (ends_of i p topic 1 p.readers) (names_of topic (i + 1) ps) k x at)
+  peers_from : (i : ℕ) (ps : List PeerConfig) (k : ℕ) (x : X) → slice_get (ends_at i ps) k ≡ Some x
+      → i ≤ (end_of x).peer
+  peers_from i [] k x at = absurd cc
+  peers_from i (p ∷ ps) k x at =
+      ⊎_elim (λ f. let peer = (numbered_from i p 1 (ends p) f.0 x f.1).0 in omega (arith, peer))
+      (λ f. let low = peers_from (i + 1) ps f.0 x f.1 in omega (arith, low))
+      (append_get (ends_in i p 1 (ends p)) (ends_at (i + 1) ps) k x at)
 
-once_from : (topic i : ℕ) (ps : List PeerConfig) → Once (λ (y : ReaderName). y.reader) (names_of topic i ps)
-once_from topic i [] = λ j k x y at_x at_y same. absurd cc
-once_from topic i (p ∷ ps) =
-    once_append (λ (y : ReaderName). y.reader) (ends_of i p topic 1 p.readers) (names_of topic (i + 1) ps)
-    (once_in i p topic 1 p.readers) (once_from topic (i + 1) ps)
-    (λ j k x y at_x at_y same.
-    let here =
-    (named_from i p topic 1 p.readers j x at_x).0 in let low = peers_from topic
-    (i + 1) ps k y at_y in let one = ap (λ (e : Endpoint). e.peer) same in omega (arith, here, low, one))
+  ends_once : (i : ℕ) (ps : List PeerConfig) → Once end_of (ends_at i ps)
+  ends_once i [] = λ j k x y at_x at_y same. absurd cc
+  ends_once i (p ∷ ps) =
+      once_append end_of (ends_in i p 1 (ends p)) (ends_at (i + 1) ps) (once_in i p 1 (ends p)) (ends_once (i + 1) ps)
+      (λ j k x y at_x at_y same.
+      let here = (numbered_from i p 1 (ends p) j x at_x).0 in
+      let low = peers_from (i + 1) ps k y at_y in
+      let one = ap (λ (e : Endpoint). e.peer) same in omega (arith, here, low, one))
 
+readers_once : (is_wanted : ReaderConfig → Bool) (topic : ℕ) (peers : List PeerConfig)
+    → Once (λ (y : ReaderName). y.reader)
+    (of_matched_ends (λ (p : PeerConfig). p.readers) is_wanted (λ (r : ReaderConfig). r.topic) reader_name topic 1 peers)
+readers_once is_wanted topic peers =
+    ends_once (λ (p : PeerConfig). p.readers) is_wanted (λ (r : ReaderConfig). r.topic) reader_name
+    (λ (y : ReaderName). y.reader) (λ i p n r. refl) topic 1 peers
+
+-- the reliable readers, and all
 pub named_once : (topic : ℕ) (peers : List PeerConfig) → Once (λ (y : ReaderName). y.reader) (reader_names topic peers)
-named_once topic peers = once_from topic 1 peers
+named_once topic peers = readers_once is_reliable_reader topic peers
+
+pub all_once : (topic : ℕ) (peers : List PeerConfig) → Once (λ (y : ReaderName). y.reader) (all_names topic peers)
+all_once topic peers = readers_once any_reader topic peers
+
+-- and the writers
+pub writers_once : (topic : ℕ) (peers : List PeerConfig) → Once (λ (n : WriterName). n.writer) (writer_names topic peers)
+writers_once topic peers =
+    ends_once (λ (p : PeerConfig). p.writers) any_writer (λ (w : WriterConfig). w.topic) writer_name
+    (λ (n : WriterName). n.writer) (λ i p n w. refl) topic 1 peers

@@ -154,7 +154,7 @@ is_numbered peers index own at =
 -- a writer at its opening is one of the configuration
 opened_is : (peers : List PeerConfig) (w : WriterConfig) → IsWriterOf peers w (configured_writer peers w)
 opened_is peers w =
-    record { entity = refl; autodispose = refl; max_value = refl; ends = ends_opened peers w.topic }
+    record { entity = refl; autodispose = refl; max_value = refl; known = refl; ends = ends_opened peers w.topic }
 
 stands_begun : (peers : List PeerConfig) (index moment : ℕ) (own : PeerConfig) (writers : List WriterKept)
     (readers : List ReaderKept) (watch : Watched) → check_refusal peers ≡ None → slice_get peers index ≡ Some own

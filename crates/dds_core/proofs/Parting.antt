@@ -1,5 +1,5 @@
 -- A reader of the peer is told of a writer that it knows: it stands for the reader of the machine that is told the same.
-use Rattle.std.proofs.Common.{◌≡◌, ◌⊎◌, ℕ, suc, ◌+◌, ◌-◌, ◌^◌, ◌<◌, Bool, true, false, ◌&&◌, ◌||◌, not, ◌==◌, List, [], ◌∷◌, ◌++◌, Option, Some, None, length, slice_get, refl, ap, sym, ◌∙◌, subst, arith, inl, inr, ⊎_elim, eq-eqb}
+use Rattle.std.proofs.Common.{◌≡◌, ◌⊎◌, ℕ, suc, ◌+◌, ◌-◌, ◌^◌, ◌<◌, ◌≤◌, Bool, true, false, ◌&&◌, ◌||◌, not, List, [], ◌∷◌, ◌++◌, Option, Some, None, length, slice_get, refl, ap, sym, ◌∙◌, subst, arith, inl, inr, ⊎_elim, eq-eqb}
 use Rattle.std.specs.Prelude.{is_some, if◌then◌else◌, Result, Ok, Err, OnOk, OnErr}
 use Rattle.std.specs.Option.{option_map, option_map_or}
 use Rattle.std.proofs.lemmas.Option.{same_Some}
@@ -17,20 +17,23 @@ use Rattle.rtps_reader.specs.declared.attachment.Attachment.TheVariants as stand
 use Rattle.rtps_reader.specs.Attached.{StandsNow}
 use Rattle.rtps_reader.specs.Reader.{Proxies, how_at}
 use Rattle.rtps_reader.specs.Tracked.{Tracked}
-use Rattle.dds_machine.specs.declared.endpoint.Endpoint.{Endpoint}
-use Rattle.dds_machine.specs.Matching.{happened_after, is_known, reader_joined, reader_left, with_how, with_match}
-use Rattle.dds_machine.specs.Part.{Attachment, Away, Waiting, Reader, WriterProxy, how_of, is_attached, place_of, publication_among, row_of}
+use Rattle.dds_base.specs.declared.endpoint.Endpoint.{Endpoint}
+use Rattle.dds_machine.specs.Matching.{attached_count, happened_after, is_known, match_ended, match_made, reader_joined, reader_left, with_how}
+use Rattle.dds_machine.specs.Part.{Attachment, Away, Waiting, Matches, Reader, WriterProxy, how_of, is_attached, publication_among, row_of}
 use Rattle.dds_machine.specs.Passing.{passed_at}
 use Rattle.dds_machine.proofs.Tables.{place-how, row-cases, row-hits}
 use Rattle.dds_protocol.proofs.Framing.{pair_or_not}
 use Rattle.dds_core.specs.declared.matching.WriterName.{WriterName}
+use Rattle.dds_core.specs.declared.match_counts.MatchCounts.{MatchCounts}
+use Rattle.dds_core.specs.MatchCounts.{CountsFor}
 use Rattle.dds_core.specs.Kept.{ReaderKept}
-use Rattle.dds_core.specs.Parting.{Attaches, Detaches, IsPastParting, parting_entries}
+use Rattle.dds_core.specs.Parting.{Attaches, Detaches, IsPastParting, joined_here, left_here, parting_entries}
 use Rattle.dds_core.specs.Standing.{IsFirstRow, ReaderStands, stood_as}
 use Rattle.dds_core.specs.Stored.{StoreKept}
 use Rattle.dds_core.specs.Storing.{Holds}
+use Rattle.dds_core.proofs.Attachments.{count_few, count_set, one_if}
 use Rattle.dds_core.proofs.Identities.{same_identity}
-use Rattle.dds_core.proofs.Rows.{IsFirstOf, handle_is, is_first_of, one_first, place_there, proxied, writers_kept, writers_of}
+use Rattle.dds_core.proofs.Rows.{IsFirstOf, handle_is, is_first_of, one_first, place_there, proxied, writers_kept}
 
 -- ---- at what a reader stores
 
@@ -101,7 +104,7 @@ set_how how None h = absurd (let clash : false ≡ true = h in cc)
 set_how how (Some p) h = refl
 
 -- the writer of a row is known
-known_there : (proxies : List WriterProxy) (e : Endpoint) (k : ℕ) → IsFirstOf (proxied proxies) e k
+pub known_there : (proxies : List WriterProxy) (e : Endpoint) (k : ℕ) → IsFirstOf (proxied proxies) e k
     → is_known proxies e ≡ true
 known_there proxies e k first =
     let there = place_there proxies e k first in
@@ -127,29 +130,35 @@ how_elsewhere proxies e how w apart =
     (λ x. absurd (apart x.0))
     (row-cases (λ (p : WriterProxy). p.writer) (λ (p : WriterProxy). record p { how = how }) (λ p. refl) proxies e w)
 
-first_among : (kept : ReaderKept) (proxies : List WriterProxy) (r : Reader) (tracked : Endpoint → Tracked)
+pub first_among : (kept : ReaderKept) (proxies : List WriterProxy) (r : Reader) (tracked : Endpoint → Tracked)
     (writer : Endpoint) (row : ℕ) → ReaderStands kept proxies r tracked → IsFirstRow kept.writers writer row
     → IsFirstOf (proxied proxies) writer row
 first_among kept proxies r tracked writer row s first =
     subst (λ (es : List Endpoint). IsFirstOf es writer row) (sym s.writers_are)
     (is_first_of kept.writers writer row first)
 
--- a reader that stands so to the writer of a row now, with what happened there
+-- a reader that stands so to the writer of a row now, with what happened there, and its matches
 told_how : (kept : ReaderKept) (row : ℕ) (a : AttachmentOf) (reader : Proxies) (store : StoreKept)
+    (matches : MatchCounts) (here : ℕ)
     → StandsNow kept.reader row a reader → qos_of store.cache ≡ qos_of kept.store.cache → (writer : Endpoint)
     (proxies : List WriterProxy) (r after : Reader) (tracked : Endpoint → Tracked) → IsFirstRow kept.writers writer row
     → ReaderStands kept proxies r tracked → after.qos ≡ r.qos → after.seen ≡ r.seen → Holds store after.happened
-    → ReaderStands (record kept { reader = reader; store = store }) (with_how proxies writer (stood_as a)) after tracked
-told_how kept row a reader store now qos writer proxies r after tracked first s same_qos same_seen holds = record {
-  writers_are =
-      writers_kept (λ (p : WriterProxy). record p { how = stood_as a }) (λ p. refl) proxies writer ∙ s.writers_are;
-  places = λ w p at. s.places w p (sym (place-how proxies writer (stood_as a) w) ∙ at);
-  knows = λ w k f. now.known k (tracked w) (s.knows w k f);
-  qos_is = same_qos ∙ (s.qos_is ∙ sym qos);
-  holds = holds;
-  seen_is = same_seen ∙ s.seen_is;
-  hows = λ w k f. by_how w k f (pair_or_not w 0 writer 0);
-}
+    → CountsFor matches after.matches → here ≡ attached_count (with_how proxies writer (stood_as a))
+    → ReaderStands (record kept { reader = reader; store = store; matches = matches; here = here })
+    (with_how proxies writer (stood_as a)) after tracked
+told_how kept row a reader store matches here now qos writer proxies r after tracked first s same_qos same_seen holds
+    counts here_is = record {
+      writers_are =
+          writers_kept (λ (p : WriterProxy). record p { how = stood_as a }) (λ p. refl) proxies writer ∙ s.writers_are;
+      places = λ w p at. s.places w p (sym (place-how proxies writer (stood_as a) w) ∙ at);
+      knows = λ w k f. now.known k (tracked w) (s.knows w k f);
+      qos_is = same_qos ∙ (s.qos_is ∙ sym qos);
+      holds = holds;
+      seen_is = same_seen ∙ s.seen_is;
+      hows = λ w k f. by_how w k f (pair_or_not w 0 writer 0);
+      counts = counts;
+      here_is = here_is;
+    }
   where
     known : is_known proxies writer ≡ true
     known = known_there proxies writer row (first_among kept proxies r tracked writer row s first)
@@ -174,20 +183,54 @@ told_how kept row a reader store now qos writer proxies r after tracked first s 
         ∙ (s.hows w k f
         ∙ ap (λ (x : AttachmentOf). stood_as x) (sym (now.others k (λ e. n (other_row w k f e, refl)))))
 
+-- the reader is matched with the writer of this row so, as it is kept
+abbrev pub IsMatchedSo : ReaderKept → ℕ → Bool → Type 0
+IsMatchedSo kept row met = (writer : Endpoint) (proxies : List WriterProxy) (r : Reader) (tracked : Endpoint → Tracked)
+    → IsFirstRow kept.writers writer row → ReaderStands kept proxies r tracked → met ≡ is_attached (how_of proxies writer)
+
+count_joined : (met : Bool) (here old new : ℕ) → here ≡ old → new + one_if met ≡ old + 1 → old ≤ 256
+    → joined_here met here ≡ new
+count_joined true here old new is h few = omega (arith, is, h)
+count_joined false here old new is h few = omega (arith, is, h, few)
+
+count_left : (met : Bool) (here old new : ℕ) → here ≡ old → new + one_if met ≡ old + 0 → left_here met here ≡ new
+count_left true here old new is h = omega (arith, is, h)
+count_left false here old new is h = omega (arith, is, h)
+
+-- the name of the writer of the row
+name_there : (names : List WriterName) (row : ℕ) (writer : Endpoint) (n : WriterName) → IsFirstRow names writer row
+    → slice_get names row ≡ Some n → n.writer ≡ writer
+name_there names row writer n first at =
+    ap (λ (x : WriterName). x.writer) (same_Some n first.name (sym at ∙ first.at)) ∙ first.is
+
 -- it is matched with the writer
-pub attaches : (kept : ReaderKept) (row : ℕ) (reader : Proxies) → StandsNow kept.reader row standing.Waiting reader
-    → Attaches kept row (record kept { reader = reader })
-attaches kept row reader now = record {
+pub attaches : (kept : ReaderKept) (row : ℕ) (reader : Proxies) (name : WriterName) (met : Bool) (matches : MatchCounts)
+    → StandsNow kept.reader row standing.Waiting reader → length kept.writers ≤ 256
+    → slice_get kept.writers row ≡ Some name → IsMatchedSo kept row met
+    → ((m : Matches) → CountsFor kept.matches m → CountsFor matches (match_made m name.writer))
+    → Attaches kept row (record kept { reader = reader; matches = matches; here = joined_here met kept.here })
+attaches kept row reader name met matches now few at is made = record {
   same = refl;
   stands = λ writer proxies r tracked first s.
       let known : is_known proxies writer ≡ true =
       known_there proxies writer row (first_among kept proxies r tracked writer row s first) in
-      subst (λ (rows : List WriterProxy). ReaderStands (record kept { reader = reader }) rows (reader_joined r writer)
-      tracked)
+      let begins = first_among kept proxies r tracked writer row s first in
+      let old : attached_count proxies ≤ length kept.writers = count_few proxies kept.writers s.writers_are in
+      let counted : attached_count (with_how proxies writer Waiting) + one_if (is_attached (how_of proxies writer))
+      ≡ attached_count proxies + 1 =
+      count_set (λ (p : WriterProxy). record p { how = Waiting }) true (λ p. refl) proxies writer row begins in
+      subst (λ (rows : List WriterProxy). ReaderStands
+      (record kept { reader = reader; matches = matches; here = joined_here met kept.here }) rows
+      (reader_joined r writer) tracked)
       (sym (ap (λ (b : Bool). if b then with_how proxies writer Waiting
       else proxies ++ record { writer = writer; place = 1; heard = None; how = Waiting } ∷ []) known))
-      (told_how kept row standing.Waiting reader kept.store now refl writer proxies r (reader_joined r writer) tracked
-      first s refl refl s.holds);
+      (told_how kept row standing.Waiting reader kept.store matches (joined_here met kept.here) now refl writer proxies
+      r (reader_joined r writer) tracked first s refl refl s.holds
+      (subst (λ (e : Endpoint). CountsFor matches (match_made r.matches e))
+      (name_there kept.writers row writer name first at) (made r.matches s.counts))
+      (count_joined met kept.here (attached_count proxies) (attached_count (with_how proxies writer Waiting)) s.here_is
+      (ap (λ (b : Bool). attached_count (with_how proxies writer Waiting) + one_if b)
+      (is writer proxies r tracked first s) ∙ counted) (omega (arith, old, few))));
 }
 
 -- what happened there once the writer of the row left
@@ -199,18 +242,33 @@ parted_there kept row now writer proxies r tracked first s =
     (handle_is proxies writer row (first_among kept proxies r tracked writer row s first))
 
 -- it is matched with the writer no longer
-pub detaches : (kept : ReaderKept) (row now : ℕ) (reader : Proxies) (store : StoreKept)
-    → StandsNow kept.reader row standing.Away reader → qos_of store.cache ≡ qos_of kept.store.cache
+pub detaches : (kept : ReaderKept) (row now : ℕ) (reader : Proxies) (store : StoreKept) (name : WriterName)
+    (met : Bool) (matches : MatchCounts) → StandsNow kept.reader row standing.Away reader → qos_of store.cache ≡ qos_of kept.store.cache
     → ((h : List Happening) → Holds kept.store h → Holds store (after_parting (row + 1) now h))
-    → Detaches kept row now (record kept { reader = reader; store = store })
-detaches kept row now reader store stands qos left = record {
-  same = same_identity (record kept { reader = reader; store = store }) kept refl refl qos;
+    → slice_get kept.writers row ≡ Some name → IsMatchedSo kept row met
+    → ((m : Matches) → CountsFor kept.matches m → CountsFor matches (match_ended m name.writer))
+    → Detaches kept row now
+    (record kept { reader = reader; store = store; matches = matches; here = left_here met kept.here })
+detaches kept row now reader store name met matches stands qos left at is ended = record {
+  same =
+      same_identity
+      (record kept { reader = reader; store = store; matches = matches; here = left_here met kept.here }) kept refl
+      refl qos;
   stands = λ writer proxies r tracked first s.
       let happened = happened_after (publication_among proxies writer) now r.happened in
-      told_how kept row standing.Away reader store stands qos writer proxies r (reader_left r writer happened) tracked
-      first s refl refl
+      let counted : attached_count (with_how proxies writer Away) + one_if (is_attached (how_of proxies writer))
+      ≡ attached_count proxies + 0 =
+      count_set (λ (p : WriterProxy). record p { how = Away }) false (λ p. refl) proxies writer row
+      (first_among kept proxies r tracked writer row s first) in
+      told_how kept row standing.Away reader store matches (left_here met kept.here) stands qos writer proxies r
+      (reader_left r writer happened) tracked first s refl refl
       (subst (λ (h : List Happening). Holds store h)
-      (sym (parted_there kept row now writer proxies r tracked first s)) (left r.happened s.holds));
+      (sym (parted_there kept row now writer proxies r tracked first s)) (left r.happened s.holds))
+      (subst (λ (e : Endpoint). CountsFor matches (match_ended r.matches e))
+      (name_there kept.writers row writer name first at) (ended r.matches s.counts))
+      (count_left met kept.here (attached_count proxies) (attached_count (with_how proxies writer Away)) s.here_is
+      (ap (λ (b : Bool). attached_count (with_how proxies writer Away) + one_if b)
+      (is writer proxies r tracked first s) ∙ counted));
 }
 
 -- where more would have happened than can be counted

@@ -1,6 +1,7 @@
 -- A reader at its opening.
 use Rattle.std.proofs.Common.{◌≡◌, ℕ, ◌+◌, ◌<◌, ◌≤◌, true, cond, Bool, false, List, [], ◌∷◌, ◌++◌, Option, None, Some, map, length, refl, ap, sym, ◌∙◌, subst, arith}
 use Rattle.std.specs.Option.{option_map}
+use Rattle.std.proofs.lemmas.List.{length-map}
 use Rattle.dds_base.specs.declared.config.PeerConfig.{PeerConfig}
 use Rattle.dds_base.specs.declared.config.ReaderConfig.{ReaderConfig}
 use Rattle.dds_base.specs.declared.config.WriterConfig.{WriterConfig}
@@ -12,11 +13,11 @@ use Rattle.rtps_reader.specs.declared.attachment.Attachment.{Attachment as Attac
 use Rattle.rtps_reader.specs.declared.attachment.Attachment.TheVariants as standing
 use Rattle.rtps_reader.specs.Reader.{Proxies, Tracks, count_of, how_at}
 use Rattle.rtps_reader.specs.Tracked.{fresh}
-use Rattle.dds_machine.specs.declared.endpoint.Endpoint.{Endpoint}
+use Rattle.dds_base.specs.declared.endpoint.Endpoint.{Endpoint}
 use Rattle.dds_base.specs.Checked.{limit_of}
 use Rattle.dds_protocol.proofs.Opened.{writers_in}
 use Rattle.dds_machine.specs.Opening.{matched_writers}
-use Rattle.dds_machine.specs.Part.{Begun, WriterProxy, same_endpoint, row_of, place_of, nothing_seen}
+use Rattle.dds_machine.specs.Part.{Begun, WriterProxy, same_endpoint, row_of, place_of, nothing_seen, opened_with}
 use Rattle.dds_protocol.proofs.OwnGuids.{as_many}
 use Rattle.dds_core.specs.declared.matching.WriterName.{WriterName}
 use Rattle.dds_core.proofs.Rows.{AllBegun, IsFirstOf, how_there, is_first_of, proxied, writers_of}
@@ -26,6 +27,9 @@ use Rattle.dds_core.specs.OpeningEnds.{OpensReader}
 use Rattle.dds_core.specs.Standing.{stood_as}
 use Rattle.dds_core.specs.Stored.{StoreKept}
 use Rattle.dds_core.specs.Storing.{Holds}
+use Rattle.dds_core.specs.declared.match_counts.MatchCounts.{MatchCounts}
+use Rattle.dds_core.specs.MatchCounts.{CountsFor}
+use Rattle.dds_core.proofs.Attachments.{count_begun}
 use Rattle.dds_core.proofs.Identities.{identity_as}
 use Rattle.dds_core.proofs.Lists.{get-within}
 use Rattle.dds_core.proofs.Tables.{map-matched_writers}
@@ -131,10 +135,19 @@ pub opens_reader : (peers : List PeerConfig) (r : ReaderConfig) (names : List Wr
     → writers ≡ of_matched_writers matched_writer r.topic 1 peers
     → ((index : ℕ) → index < length names → Tracks reader index fresh)
     → ((index : ℕ) → index < length names → how_at reader index ≡ standing.Begun)
-    → qos_of store.cache ≡ qos_with r writers → Holds store []
+    → qos_of store.cache ≡ qos_with r writers → Holds store [] → (matches : MatchCounts) (here : ℕ)
+    → CountsFor matches (opened_with (writers_of names)) → here ≡ length names
     → OpensReader peers r
-    (record { entity = r.entity; writers = names; reader = reader; store = store; seen = nothing_seen })
-opens_reader peers r names writers reader store matched told nothing begun qos stands =
+    (record {
+      entity = r.entity;
+      writers = names;
+      reader = reader;
+      store = store;
+      seen = nothing_seen;
+      matches = matches;
+      here = here;
+    })
+opens_reader peers r names writers reader store matched told nothing begun qos stands matches here counts here_is =
     record {
       identity =
           identity_as r.entity r.entity names _ (reliable_in store) (is_reliable_reader r) refl matched
@@ -151,6 +164,8 @@ opens_reader peers r names writers reader store matched told nothing begun qos s
             (subst (λ (es : List Endpoint). IsFirstOf es w k) (sym same) (is_first_of names w k f))
             (all_begun r.topic 1 peers)
             ∙ sym (ap (λ (x : AttachmentOf). stood_as x) (begun k (get-within names k f.name f.at)));
+        counts = subst (λ (es : List Endpoint). CountsFor matches (opened_with es)) (sym same) counts;
+        here_is = here_is ∙ (as_named ∙ sym (count_begun (matched_writers r.topic 1 peers) (all_begun r.topic 1 peers)));
       };
     }
   where
@@ -159,6 +174,24 @@ opens_reader peers r names writers reader store matched told nothing begun qos s
         map-matched_writers (λ (p : WriterProxy). p.writer) _ r.topic 1 peers
         ∙ sym (ap (λ (ns : List WriterName). map (λ (n : WriterName). n.writer) ns) matched
         ∙ map-matched_writers (λ (n : WriterName). n.writer) writer_name r.topic 1 peers)
+
+    as_named : length names ≡ length (matched_writers r.topic 1 peers)
+    as_named =
+        sym (length-map names (λ (n : WriterName). n.writer))
+        ∙ (ap (λ (es : List Endpoint). length es) (sym same)
+        ∙ length-map (matched_writers r.topic 1 peers) (λ (p : WriterProxy). p.writer))
+
+-- there are as many names as writers in the policies, and no more than 256
+pub names_few : (peers : List PeerConfig) (r : ReaderConfig) (names : List WriterName) (writers : List MatchedWriter)
+    → names ≡ of_matched_writers writer_name r.topic 1 peers → writers ≡ of_matched_writers matched_writer r.topic 1 peers
+    → length writers ≤ 256 → length names ≤ 256
+names_few peers r names writers matched told many =
+    let same = as_many writer_name matched_writer r.topic 1 peers in
+    let a : length names ≡ length (of_matched_writers writer_name r.topic 1 peers) =
+    ap (λ (ns : List WriterName). length ns) matched in
+    let b : length writers ≡ length (of_matched_writers matched_writer r.topic 1 peers) =
+    ap (λ (ws : List MatchedWriter). length ws) told in
+    omega (arith, same, a, b, many)
 
 -- there are as many rows as writers in the policies
 pub rows_fit : (peers : List PeerConfig) (r : ReaderConfig) (names : List WriterName) (writers : List MatchedWriter)

@@ -1,5 +1,5 @@
 -- What is made ready for each reader.
-use Rattle.std.proofs.Common.{◌≡◌, ◌⊎◌, ℕ, zero, suc, ◌+◌, ◌<◌, ◌≤◌, Bool, true, false, List, [], ◌∷◌, ◌++◌, Option, Some, None, IfSome, set, drop, map, length, slice_get, get_or, refl, ap, sym, ◌∙◌, subst, arith, inl, inr, ⊎_elim, length-set}
+use Rattle.std.proofs.Common.{◌≡◌, ◌⊎◌, ℕ, zero, suc, ◌+◌, ◌<◌, ◌≤◌, Bool, List, [], ◌∷◌, ◌++◌, Option, Some, None, IfSome, set, drop, map, length, slice_get, get_or, refl, ap, sym, ◌∙◌, subst, arith, inl, inr, ⊎_elim, length-set}
 use Rattle.std.proofs.lemmas.Option.{same_Some, slice_get-get_or, get_or_from_slice_get}
 use Rattle.dds_base.specs.declared.guid.GuidPrefix.{GuidPrefix}
 use Rattle.dds_base.specs.declared.happening.Happening.{Happening}
@@ -12,7 +12,7 @@ use Rattle.rtps_reader.specs.declared.step.HeartbeatSeen.{HeartbeatSeen}
 use Rattle.rtps_wire.specs.declared.submessage.Submessage.{Submessage}
 use Rattle.rtps_wire.specs.declared.submessage.Submessage.TheVariants.{Data, Heartbeat, Gap}
 use Rattle.rtps_sets.specs.NumberSet.{NumberSet}
-use Rattle.dds_machine.specs.declared.endpoint.Endpoint.{Endpoint}
+use Rattle.dds_base.specs.declared.endpoint.Endpoint.{Endpoint}
 use Rattle.rtps_reader.specs.declared.step.Step.{Step}
 use Rattle.dds_machine.specs.declared.reply.Move.{Move}
 use Rattle.dds_protocol.specs.Claims.{Receiver, Names}
@@ -25,6 +25,8 @@ use Rattle.dds_core.specs.declared.matching.WriterName.{WriterName}
 use Rattle.dds_core.specs.declared.reader_told.Ready.{Ready}
 use Rattle.dds_core.specs.declared.reader_told.Told.{Told}
 use Rattle.dds_core.specs.declared.reader_told.Told.TheVariants as told
+use Rattle.dds_core.specs.declared.match_counts.MatchCounts.{MatchCounts}
+use Rattle.dds_core.specs.MatchCounts.{CountsFor}
 use Rattle.dds_core.specs.Kept.{ReaderKept, PeerKept}
 use Rattle.dds_core.specs.Identity.{ReaderIdentity, Identity, reader_identity, reliable_in, writer_identity, IsPeerOf}
 use Rattle.dds_core.specs.Readiness.{IsNamedAt, IsFirstName, IsRowOf, IsFirstNamed, IsPrepared, IsReadyFor, IsReadyWith, AreReady, IsAlike, AreAlike, CanTake, TakesTold, SameReader, moves_of, IsBounded, IsToldBounded, IsToldBy, writer_guid}
@@ -68,6 +70,8 @@ alike_self k = record {
   how = λ i. refl;
   qos = refl;
   seen = refl;
+  matches = refl;
+  here = refl;
   holds = λ h s. s;
 }
 
@@ -78,7 +82,17 @@ pub alike_as : {inside old : ReaderKept} {reader : Proxies} {store : StoreKept} 
     → IsAlike old (record inside { reader = reader; store = store })
 alike_as {inside} {reader = reader} {store} view same how qos holds =
     subst (λ (k : ReaderKept). IsAlike k (record inside { reader = reader; store = store })) view
-    (record { entity = refl; writers = refl; reader = same; how = how; qos = qos; seen = refl; holds = holds })
+    (record {
+      entity = refl;
+      writers = refl;
+      reader = same;
+      how = how;
+      qos = qos;
+      seen = refl;
+      matches = refl;
+      here = refl;
+      holds = holds;
+    })
 
 pub all_alike_self : (ks : List ReaderKept) → AreAlike ks ks
 all_alike_self ks =
@@ -99,6 +113,8 @@ alike_on a b c x y =
       qos = y.qos ∙ x.qos;
       seen = y.seen
           ∙ x.seen;
+      matches = y.matches ∙ x.matches;
+      here = y.here ∙ x.here;
       holds = λ h s. y.holds h (x.holds h s);
     }
 
@@ -285,6 +301,8 @@ alike_stands a b proxies r tracked h s = record {
   hows = λ w k f.
       s.hows w k (subst (λ (ns : List WriterName). IsFirstRow ns w k) h.writers f)
       ∙ ap (λ (x : AttachmentOf). stood_as x) (sym (h.how k));
+  counts = subst (λ (m : MatchCounts). CountsFor m r.matches) (sym h.matches) s.counts;
+  here_is = h.here ∙ s.here_is;
 }
 
 same_identities : (old new : List ReaderKept) → AreAlike old new → map reader_identity new ≡ map reader_identity old

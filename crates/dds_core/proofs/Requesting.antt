@@ -9,7 +9,7 @@ use Rattle.dds_base.specs.declared.guid.GuidPrefix.{GuidPrefix}
 use Rattle.dds_base.specs.Kept.{numbers_from}
 use Rattle.rtps_wire.specs.declared.acknack.AckNack.{AckNack as AckNackBody}
 use Rattle.rtps_wire.specs.declared.submessage.Submessage.TheVariants.{AckNack}
-use Rattle.dds_machine.specs.declared.endpoint.Endpoint.{Endpoint}
+use Rattle.dds_base.specs.declared.endpoint.Endpoint.{Endpoint}
 use Rattle.dds_machine.specs.declared.reply.Move.{Move}
 use Rattle.dds_protocol.specs.Claims.{Receiver, IsToWriter}
 use Rattle.dds_machine.specs.Part.{ReaderProxy, no_writer, own_writer}
@@ -370,20 +370,22 @@ nobody_takes old a at effects none = record {
 pub row_took : (old : PeerKept) (index row : ℕ) (a : AckNackBody) (k now k' : WriterKept) (name : ReaderName)
     (moves : List Move) (sent : Announced) (new : PeerKept) (after : List Move) (gone : Announced) (own : GuidPrefix)
     (acknowledged : Option ℕ) (reader : Endpoint) → now ≡ k
-    → slice_get k.readers row ≡ Some name → writer_identity k' ≡ writer_identity now → own ≡ old.prefix
+    → slice_get k.readers row ≡ Some name → writer_identity k' ≡ writer_identity now → k'.matches ≡ now.matches
+    → own ≡ old.prefix
     → TakesAckNack now own row a sent k' acknowledged gone
     → ((n : ReaderName) → slice_get now.readers row ≡ Some n → reader ≡ n.reader)
     → new ≡ record old { writers = set old.writers index k' }
     → after ≡ moves ++ acknowledged_moves (index + 1) reader acknowledged
     → RowTook old index row a k name moves sent new after gone
-row_took old index row a k now k' name moves sent new after gone own acknowledged reader is at_name same prefix takes
-    named new_is after_is =
+row_took old index row a k now k' name moves sent new after gone own acknowledged reader is at_name same matches prefix
+    takes named new_is after_is =
     let at_now : slice_get now.readers row ≡ Some name =
     ap (λ (x : WriterKept). slice_get x.readers row) is ∙ at_name in
     record {
       acknowledged = acknowledged;
       writer = k';
       same = same ∙ ap writer_identity is;
+      matches = matches ∙ ap (λ (x : WriterKept). x.matches) is;
       answers =
           subst (λ (x : WriterKept). TakesAckNack x old.prefix row a sent k' acknowledged gone) is
           (subst (λ (p : GuidPrefix). TakesAckNack now p row a sent k' acknowledged gone) prefix takes);

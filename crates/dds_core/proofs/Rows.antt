@@ -3,7 +3,7 @@ use Rattle.std.proofs.Common.{◌≡◌, ℕ, zero, suc, ◌+◌, ◌<◌, Bool,
 use Rattle.std.specs.List.{AllByRecursion}
 use Rattle.std.specs.Option.{option_map, option_map_or}
 use Rattle.std.proofs.lemmas.Option.{same_Some}
-use Rattle.dds_machine.specs.declared.endpoint.Endpoint.{Endpoint}
+use Rattle.dds_base.specs.declared.endpoint.Endpoint.{Endpoint}
 use Rattle.dds_machine.specs.Part.{Away, Begun, how_of, WriterProxy, same_endpoint, row_of, with_row, place_of, publication_from, publication_among}
 use Rattle.dds_protocol.proofs.InOrder.{same_self}
 use Rattle.dds_machine.proofs.Tables.{same_is}

@@ -17,7 +17,7 @@ use Rattle.rtps_writer.specs.Acknack.{acknack_answers, after_acknack, answers_af
 use Rattle.rtps_writer.specs.Answers.{answered_from as rtps_answered_from, answers_to, requested}
 use Rattle.rtps_writer.specs.Standing.{StandsFor as RtpsStandsFor}
 use Rattle.rtps_writer.specs.WriterState.{WriterState, acknowledged_by}
-use Rattle.dds_machine.specs.declared.endpoint.Endpoint.{Endpoint}
+use Rattle.dds_base.specs.declared.endpoint.Endpoint.{Endpoint}
 use Rattle.dds_machine.specs.declared.reply.Move.{Move}
 use Rattle.dds_machine.specs.declared.reply.Move.TheVariants.{Acknowledged}
 use Rattle.dds_protocol.specs.Claims.{Receiver, IsWriter, IsToWriter, Names}
@@ -29,12 +29,14 @@ use Rattle.dds_protocol.proofs.Framing.{with_same}
 use Rattle.dds_protocol.proofs.InOrder.{same_self}
 use Rattle.dds_core.specs.declared.answering.Answering.{Answering}
 use Rattle.dds_core.specs.declared.matching.ReaderName.{ReaderName}
+use Rattle.dds_core.specs.declared.match_counts.MatchCounts.{MatchCounts}
 use Rattle.dds_core.specs.declared.sending.Announced.{Announced}
 use Rattle.dds_core.specs.Answering.{IsFrom, IsAskedWriter, IsUnaskedAt, RowTook, SendsAnswers, TookAckNack, acknowledged_moves, answer_due}
 use Rattle.dds_core.specs.Beating.{AddsTo, due_to}
 use Rattle.dds_core.specs.Kept.{WriterKept, PeerKept}
 use Rattle.dds_core.specs.Identity.{WriterIdentity}
-use Rattle.dds_core.specs.MatchedEnds.{AreRows, is_named, last_count, readers_of}
+use Rattle.dds_core.specs.MatchCounts.{CountsFor}
+use Rattle.dds_core.specs.MatchedEnds.{AreRows, is_named, last_count, readers_of, topic_reader}
 use Rattle.dds_core.specs.Receiving.{with_state, NeedsMemory}
 use Rattle.dds_core.specs.Standing.{StandsFor, WriterStands, state_of}
 use Rattle.dds_core.proofs.Acknowledging.{IsOnly, IsCounted, only_row, acknowledged_is, acknowledged_then, answered_then, applied_is, low_of, owed_same, moves_then, not_same, readers_same, state_applied, still_begun}
@@ -269,6 +271,11 @@ rows_again : (turn : Turn) → AreRows turn.t.writer.matched turn.t.writer.reade
 rows_again turn =
     subst (λ (x : WriterIdentity). AreRows x.matched x.readers x.counts) (sym turn.t.same) (stood turn.c).rows
 
+-- and its matches are as they were
+matches_again : (turn : Turn) → CountsFor turn.t.writer.matches (writer_of turn.c).matches
+matches_again turn =
+    subst (λ (x : MatchCounts). CountsFor x (writer_of turn.c).matches) (sym turn.t.matches) (stood turn.c).matches
+
 -- an ACKNACK that is taken
 row_applied : (turn : Turn) → IsFrom turn.c.kept.prefix turn.c.k.entity turn.at turn.a turn.c.name
     → is_taken turn ≡ true → GoesOn turn (with_next turn)
@@ -357,6 +364,7 @@ row_applied turn from is = record {
     stands = record {
       autodispose = (stood turn.c).autodispose ∙ ap (λ (x : WriterIdentity). x.autodispose) (sym turn.t.same);
       values = (stood turn.c).values ∙ ap (λ (x : WriterIdentity). x.max_value) (sym turn.t.same);
+      known = (stood turn.c).known ∙ ap (λ (x : WriterIdentity). map topic_reader x.known) (sym turn.t.same);
       matched = (stood turn.c).matched ∙ ap (λ (x : WriterIdentity). readers_of x.matched) (sym turn.t.same);
       readers =
           readers_same (writer_of turn.c).readers turn.c.name.reader
@@ -376,6 +384,7 @@ row_applied turn from is = record {
           (λ reader none. counted.others reader
           (λ e. not_named turn.c.k.readers turn.c.row turn.c.name reader turn.c.at_name (sym e) none)
           ∙ (stood turn.c).counted reader none);
+      matches = matches_again turn;
     }
       where
         most : 1 ≤ max (row_of turn).proxy.acknowledged (base_of turn)
@@ -506,6 +515,7 @@ row_ignored turn is = record {
     stands = record {
       autodispose = (stood turn.c).autodispose ∙ ap (λ (x : WriterIdentity). x.autodispose) (sym turn.t.same);
       values = (stood turn.c).values ∙ ap (λ (x : WriterIdentity). x.max_value) (sym turn.t.same);
+      known = (stood turn.c).known ∙ ap (λ (x : WriterIdentity). map topic_reader x.known) (sym turn.t.same);
       matched = (stood turn.c).matched ∙ ap (λ (x : WriterIdentity). readers_of x.matched) (sym turn.t.same);
       readers =
           (stood turn.c).readers ∙ ap (λ (x : WriterIdentity). map (λ (n : ReaderName). n.reader) x.readers)
@@ -517,6 +527,7 @@ row_ignored turn is = record {
           subst (λ (x : WriterIdentity). (reader : Endpoint) → is_named x.readers reader ≡ false
           → turn.c.peer.known.answered (suc turn.c.i) reader ≡ last_count x.counts reader) (sym turn.t.same)
           (stood turn.c).counted;
+      matches = matches_again turn;
     }
 
 -- a reader that the ACKNACK is from is answered

@@ -1,7 +1,7 @@
 -- What is sent: it claims the change to each matched reader, and nothing but the truth.
-use Rattle.std.proofs.Common.{◌≡◌, ◌≢◌, ◌⊎◌, ℕ, zero, suc, ◌+◌, ◌-◌, ◌^◌, ◌<◌, ◌≤◌, Bool, true, false, cond, ◌||◌, List, [], ◌∷◌, Some, map, length, slice_get, refl, ap, sym, ◌∙◌, subst, arith, inl, inr, ⊎_elim, Contains, ◌==◌, eq-eqb}
+use Rattle.std.proofs.Common.{◌≡◌, ◌≢◌, ◌⊎◌, ℕ, zero, suc, ◌+◌, ◌-◌, ◌^◌, ◌<◌, Bool, true, false, ◌||◌, List, [], ◌∷◌, Some, map, length, slice_get, refl, ap, sym, ◌∙◌, subst, arith, inl, inr, ⊎_elim, Contains, ◌==◌, eq-eqb}
 use Rattle.std.specs.Prelude.{nat_lt, nat_eq, if◌then◌else◌, AllPairs}
-use Rattle.std.specs.List.{AllByRecursion, list_any}
+use Rattle.std.specs.List.{AllByRecursion}
 use Rattle.std.proofs.lemmas.Bool.Decides.{nat_tests, Decides-eqb}
 use Rattle.std.proofs.lemmas.Slice.Eq.{slice_eq-Decides}
 use Rattle.std.proofs.lemmas.List.Elements.{All-from_recursion}
@@ -21,12 +21,13 @@ use Rattle.rtps_wire.specs.declared.submessage.Submessage.TheVariants.{InfoDst, 
 use Rattle.rtps_wire.specs.Content.{change_in}
 use Rattle.rtps_wire.specs.Messages.{ReadsMessage, HasSubmessage, spelling_of}
 use Rattle.rtps_wire.proofs.SpellingLaws.{message_again}
-use Rattle.dds_machine.specs.declared.endpoint.Endpoint.{Endpoint}
+use Rattle.dds_base.specs.declared.endpoint.Endpoint.{Endpoint}
 use Rattle.dds_protocol.specs.declared.event.Packet.{Packet}
 use Rattle.dds_protocol.specs.declared.event.Output.{Output}
-use Rattle.dds_machine.specs.Part.{Part, own_writer, peers_of, writer_changes}
+use Rattle.dds_machine.specs.Part.{Part, own_writer, writer_changes}
 use Rattle.dds_protocol.specs.Claims.{Claim, ChangeIs, MayPass, PlaceReached, Asserts, Receiver, receiver_of, every_peer, every_reader, is_for, stamp_of, after_submessage, StandsAt, StandsIn, IsWriter, IsReader, IsToReader, Says, Claims}
 use Rattle.dds_protocol.specs.Peer.{IsTrueAt}
+use Rattle.dds_protocol.proofs.PeersOf.{has}
 use Rattle.dds_protocol.proofs.Dues.{stands_in, told, dst_says, ts_says}
 use Rattle.dds_protocol.specs.DueMessages.{AreSent, changes_due}
 use Rattle.dds_core.specs.declared.matching.Destination.{Destination}
@@ -34,6 +35,7 @@ use Rattle.dds_core.specs.declared.matching.ReaderName.{ReaderName}
 use Rattle.dds_core.specs.declared.sending.Sender.{Sender}
 use Rattle.dds_core.specs.MatchedEnds.{AreMatchedNow, IsNameOf, IsPeer, IsReaderOf, readers_of}
 use Rattle.dds_core.proofs.Destinations.{at_some}
+use Rattle.dds_core.proofs.FirstPeers.{Differ, peers_differ}
 use Rattle.dds_core.proofs.Lists.{get-map}
 use Rattle.dds_core.specs.Sending.{AreMessages, SendsChange}
 use Rattle.dds_core.specs.Announcing.{announcement, IsAnnouncement, AreAnnouncements}
@@ -238,23 +240,6 @@ target sender number content (d ∷ ds) (p ∷ ps) (inl f) packet among =
 target sender number content (d ∷ ds) (p ∷ ps) (inr g) packet among =
     later d ds (target sender number content ds (p ∷ ps) g packet among)
 
--- numbers of which each stands once
-abbrev has : ℕ → List ℕ → Bool
-has m ns = list_any (λ n. n == m) ns
-
-abbrev AreOnce : List ℕ → Type 0
-AreOnce [] = Unit {0}
-AreOnce (n ∷ ns) = (has n ns ≡ false) × AreOnce ns
-
-once_peers : (es : List Endpoint) → AreOnce (peers_of es)
-once_peers [] = tt
-once_peers (e ∷ es) = one (has e.peer (peers_of es)) refl (once_peers es)
-  where
-    one : (b : Bool) → has e.peer (peers_of es) ≡ b → AreOnce (peers_of es)
-        → AreOnce (if b then peers_of es else e.peer ∷ peers_of es)
-    one true is k = k
-    one false is k = (is, k)
-
 neither : (a b : Bool) → (a || b) ≡ false → (a ≡ false) × (b ≡ false)
 neither true b h = absurd cc
 neither false b h = (refl, h)
@@ -280,7 +265,7 @@ others sender number content m (d ∷ ds) (p ∷ ps) none (inr g) =
     others sender number content m ds (p ∷ ps) (neither (d.peer == m) (has m (peers_to ds)) none).1 g
 
 different : (sender : Sender) (number : ℕ) (content : DataContent) (ds : List Destination) (ps : List Packet)
-    → AreOnce (peers_to ds) → AreAnnouncements sender number content ds ps
+    → Differ (peers_to ds) → AreAnnouncements sender number content ds ps
     → AllPairs (λ (a b : Packet). a.to ≢ b.to) ps
 different sender number content ds [] once h = λ i j d lt within. absurd (omega (arith, within))
 different sender number content [] (p ∷ ps) once h = absurd h
@@ -333,7 +318,7 @@ sends_change config sender own topic all ds names number content output from mat
           (reader_is config.peers topic all reader matched.readers there) (same ∙ t.is.to_is) early t.is;
       different =
           different sender number content ds output.packets
-          (subst (λ (ns : List ℕ). AreOnce ns) peers (once_peers (readers_of all))) are;
+          (subst (λ (ns : List ℕ). Differ ns) peers (peers_differ (readers_of all))) are;
     }
 
 -- what is sent claims the truth

@@ -6,7 +6,7 @@ use Rattle.dds_base.specs.declared.code.Code.TheVariants.{BadParameter, Precondi
 use Rattle.dds_base.specs.declared.config.Config.{Config}
 use Rattle.dds_base.specs.Written.{StrengthSet}
 use Rattle.dds_machine.specs.declared.call.Call.TheVariants as call
-use Rattle.dds_machine.specs.declared.endpoint.Endpoint.{Endpoint}
+use Rattle.dds_base.specs.declared.endpoint.Endpoint.{Endpoint}
 use Rattle.dds_machine.specs.declared.reply.Reply.TheVariants.{Done, Refused}
 use Rattle.dds_machine.specs.Numbered.{has_element}
 use Rattle.dds_machine.specs.Part.{Writer, own_writer}

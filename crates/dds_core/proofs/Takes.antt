@@ -1,6 +1,6 @@
 -- A reader of a peer is told something by one of its writers: the stages by which the peer's part, and what it knows, go
 -- on by the rules of the protocol, and that what is kept stands for the last one.
-use Rattle.std.proofs.Common.{◌≡◌, ◌⊎◌, ℕ, ℤ, zero, suc, ◌+◌, Bool, true, false, List, [], ◌∷◌, Option, Some, None, set, slice_get, refl, ap, sym, ◌∙◌, subst, arith, inl, inr, ⊎_elim, nat_lt}
+use Rattle.std.proofs.Common.{◌≡◌, ◌⊎◌, ℕ, ℤ, zero, suc, ◌+◌, Bool, true, false, List, [], ◌∷◌, Option, Some, set, slice_get, refl, ap, sym, ◌∙◌, subst, arith, inl, inr, ⊎_elim, nat_lt}
 use Rattle.std.specs.Prelude.{max, if◌then◌else◌}
 use Rattle.std.specs.Option.{option_map_or}
 use Rattle.std.proofs.lemmas.Option.{same_Some}
@@ -14,11 +14,12 @@ use Rattle.dds_cache.specs.Standing.{qos_of}
 use Rattle.rtps_reader.specs.Tracked.{Tracked}
 use Rattle.rtps_reader.specs.Answer.{heard_after}
 use Rattle.rtps_reader.specs.Reader.{Tracks, OthersStay, OthersStand, how_at, match_at}
-use Rattle.dds_machine.specs.declared.endpoint.Endpoint.{Endpoint}
+use Rattle.dds_base.specs.declared.endpoint.Endpoint.{Endpoint}
 use Rattle.dds_machine.specs.declared.reply.Move.{Move}
 use Rattle.dds_machine.specs.declared.reply.Move.TheVariants.{Place, Heard, Begun as HasBegun}
 use Rattle.dds_machine.specs.Numbered.{with_numbered, HasNumber}
-use Rattle.dds_machine.specs.Part.{Attachment, Away, Waiting, Begun, how_of, is_attached, Part, Reader, WriterProxy, no_reader, own_proxies, own_reader, place_of, row_of, with_begun, with_place, with_heard, at_reader}
+use Rattle.dds_machine.specs.Part.{Attachment, Away, Waiting, Begun, how_of, is_attached, Part, Reader, WriterProxy, no_reader, own_proxies, own_reader, place_of, with_begun, with_place, with_heard, at_reader}
+use Rattle.dds_machine.specs.Matching.{attached_count}
 use Rattle.dds_machine.specs.Moves.{match_of}
 use Rattle.dds_protocol.specs.Peer.{Peer, state_of}
 use Rattle.dds_protocol.specs.Protocol.{State, GoesBy, Asserting, StartsAt, with_tracked}
@@ -26,12 +27,15 @@ use Rattle.dds_protocol.proofs.Attached.{how_begun, how_kept}
 use Rattle.dds_protocol.proofs.Framing.{tracked_here, tracked_elsewhere, pair_or_not, with_same}
 use Rattle.dds_machine.proofs.Tables.{numbered-same, begun-cases, begun-hits, place-cases, place-hits, place-heard, row-cases}
 use Rattle.dds_core.specs.declared.matching.WriterName.{WriterName}
+use Rattle.dds_core.specs.declared.match_counts.MatchCounts.{MatchCounts}
+use Rattle.dds_core.specs.MatchCounts.{CountsFor}
 use Rattle.dds_core.specs.Kept.{ReaderKept, PeerKept}
 use Rattle.dds_core.specs.Identity.{reader_identity}
 use Rattle.dds_core.specs.Readiness.{SameReader}
 use Rattle.dds_core.specs.Receiving.{with_state}
 use Rattle.dds_core.specs.Standing.{IsFirstRow, ReaderStands, StandsFor, stood_as}
 use Rattle.dds_core.specs.Storing.{Holds}
+use Rattle.dds_core.proofs.Attachments.{count_kept, count_set, one_if}
 use Rattle.dds_core.proofs.Ends.{with_reader, with_read, own_reader_stepped}
 use Rattle.dds_core.proofs.Identities.{same_identity}
 use Rattle.dds_core.proofs.Lists.{get-within}
@@ -122,6 +126,7 @@ pub record Stage (c : Telling) (how : Attachment) (t : Tracked) (rows : List Wri
   pub how_is : how_of rows c.writer ≡ how
   pub places : (w : Endpoint) → (w ≡ c.writer → ⊥) → place_of rows w ≡ place_of (proxies_of c) w
   pub hows : (w : Endpoint) → (w ≡ c.writer → ⊥) → how_of rows w ≡ how_of (proxies_of c) w
+  pub matched : attached_count rows ≡ attached_count (proxies_of c)
 
 -- the new reader, at the last stage
 pub record After (c : Telling) (k' : ReaderKept) (how : Attachment) (t : Tracked) (happened : List Happening)
@@ -151,6 +156,8 @@ stage_ends c k' how t rows happened s g a =
       holds = a.holds;
       seen_is = (stood c).seen_is ∙ sym a.same.seen;
       hows = λ w j f. by_how w j f (pair_or_not w (suc c.i) c.writer (suc c.i));
+      counts = subst (λ (m : MatchCounts). CountsFor m (reader_of c).matches) (sym a.same.matches) (stood c).counts;
+      here_is = a.same.here ∙ ((stood c).here_is ∙ sym g.matched);
     }))
   where
     identity : reader_identity k' ≡ reader_identity c.k
@@ -220,6 +227,7 @@ at_first c how is = record {
   how_is = is;
   places = λ w apart. refl;
   hows = λ w apart. refl;
+  matched = refl;
 }
   where
     part_same : with_read (part_of c) (suc c.i) (proxies_of c)
@@ -343,6 +351,7 @@ heard_stage true c count how is = record {
   how_is = stays c.writer ∙ is;
   places = λ w apart. place-heard (proxies_of c) c.writer count w;
   hows = λ w apart. stays w;
+  matched = count_kept (λ (p : WriterProxy). record p { heard = Some count }) (λ p. refl) (proxies_of c) c.writer;
 }
   where
     stays : (w : Endpoint) → how_of (with_heard (proxies_of c) c.writer count) w ≡ how_of (proxies_of c) w
@@ -387,9 +396,9 @@ begun_elsewhere rows v to w apart =
     rows v w)
 
 pub started : (c : Telling) (to : ℕ) (how : Attachment) (t : Tracked) (rows : List WriterProxy)
-    (happened : List Happening) (s : State) → Stage c how t rows happened s
+    (happened : List Happening) (s : State) → is_attached how ≡ true → Stage c how t rows happened s
     → Stage c Begun (record t { place = to }) (with_begun rows c.writer to) happened (started_state c s to)
-started c to how t rows happened s g = record {
+started c to how t rows happened s here g = record {
   part =
       ap (λ (xs : List WriterProxy). at_reader s.part (suc c.i) (with_begun xs c.writer to)
       (own_reader s.part (suc c.i)).happened) (rows_are c how t rows happened s g)
@@ -410,7 +419,18 @@ started c to how t rows happened s g = record {
   places = λ w apart.
       ⊎_elim (λ e. e) (λ x. absurd (apart x.0)) (begun-cases rows c.writer t.place to w g.at) ∙ g.places w apart;
   hows = λ w apart. begun_elsewhere rows c.writer to w apart ∙ g.hows w apart;
+  matched = as_many (attached_count (with_begun rows c.writer to)) (attached_count rows) counted ∙ g.matched;
 }
+  where
+    as_many : (m n : ℕ) → m + 1 ≡ n + 1 → m ≡ n
+    as_many m n h = omega (arith, h)
+
+    counted : attached_count (with_begun rows c.writer to) + 1 ≡ attached_count rows + 1
+    counted =
+        ap (λ (b : Bool). attached_count (with_begun rows c.writer to) + one_if b)
+        (sym (ap (λ (a : Attachment). is_attached a) g.how_is ∙ here))
+        ∙ count_set (λ (p : WriterProxy). record p { place = to; how = Begun }) true (λ p. refl) rows c.writer c.row
+        (stands_first c rows (g.writers ∙ (stood c).writers_are))
 
 -- ---- the place goes on
 
@@ -471,6 +491,7 @@ gone c how t rows happened s g to new after place = record {
   places = λ w apart.
       ⊎_elim (λ e. e) (λ x. absurd (apart x.0)) (place-cases rows c.writer t.place to w g.at) ∙ g.places w apart;
   hows = λ w apart. stays w ∙ g.hows w apart;
+  matched = count_kept (λ (p : WriterProxy). record p { place = to }) (λ p. refl) rows c.writer ∙ g.matched;
 }
   where
     stays : (w : Endpoint) → how_of (with_place rows c.writer to) w ≡ how_of rows w
@@ -491,4 +512,5 @@ noted c how t rows happened s g new place = record {
   how_is = g.how_is;
   places = g.places;
   hows = g.hows;
+  matched = g.matched;
 }

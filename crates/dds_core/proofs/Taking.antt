@@ -31,9 +31,8 @@ use Rattle.dds_machine.specs.declared.reply.Reply.{Reply}
 use Rattle.dds_machine.specs.declared.call.Call.{Call}
 use Rattle.dds_machine.specs.Numbered.{numbered, HasNumber}
 use Rattle.dds_protocol.specs.Backed.{IsBacked}
-use Rattle.dds_machine.specs.Calls.{Effect, nothing, writes, effect, effect_of}
 use Rattle.dds_protocol.specs.Claims.{Receiver, receiver_of, after_submessage, IsNumbered}
-use Rattle.dds_machine.specs.Part.{Rtps, place_of, heard_of}
+use Rattle.dds_machine.specs.Part.{place_of, heard_of}
 use Rattle.dds_protocol.specs.Peer.{Peer, packets_of, state_of, Delivery}
 use Rattle.dds_protocol.specs.DueMessages.{Due, AreSent}
 use Rattle.dds_protocol.specs.Protocol.{State, InTurn, ReaderTakes, Takes, MayNeedMemory, FollowsMessage}
@@ -51,6 +50,7 @@ use Rattle.dds_core.specs.Ruling.{IsSound}
 use Rattle.dds_core.specs.Stepping.{Sends, Steps, StepsBy, SoundSteps, SoundStepsBy}
 use Rattle.dds_machine.specs.Watching.{Tests}
 use Rattle.dds_protocol.proofs.Growth.{TickStep-rows}
+use Rattle.dds_protocol.proofs.Tellings.{call_backed}
 use Rattle.dds_core.proofs.Beating.{written_on}
 
 -- ---- what a peer is, said again
@@ -372,19 +372,20 @@ sound_still config old new number known delivered readers b =
       heard = λ w r count e. b.heard w r count (ap (λ xs. heard_of (numbered xs r []) w) (sym readers) ∙ e);
     })))
 
-effect_readers : (old : Rtps) (e : Effect) → (effect old e).readers ≡ old.readers
-effect_readers old nothing = refl
-effect_readers old (writes w entry) = refl
-
 pub sound_call : {tests : Tests} (old new : PeerKept) (call : Call) (output : Output)
     → StepsBy tests old (event.Call call) output new → Sends old (event.Call call) output
     → SoundStepsBy tests old (event.Call call) output new
-sound_call old new call output steps sends config peer s sound =
+sound_call {tests} old new call output steps sends config peer s sound =
     let r = steps config peer s in
-    let readers : r.0.part.rtps.readers ≡ peer.part.rtps.readers =
-    ap (λ (x : Rtps). x.readers) r.1.step.0.rtps
-    ∙ effect_readers peer.part.rtps (effect_of peer.part call output.reply) in
-    (r.0, r.1, r.2, sound_still config peer r.0 r.1.same_number r.1.knows r.1.step.1 readers sound, sends config peer s)
+    let told : IsSound config (record peer { part = r.0.part }) =
+    call_backed config peer.number (packets_of peer.delivered) peer.delivered (state_of peer) tests call output.reply
+    r.0.part r.1.step.0 sound in (
+      r.0,
+      r.1,
+      r.2,
+      sound_still config (record peer { part = r.0.part }) r.0 r.1.same_number r.1.knows r.1.step.1 refl told,
+      sends config peer s,
+    )
 
 pub sound_tick : (old new : PeerKept) (now : ℕ) (output : Output) → Steps old (event.Tick now) output new
     → Sends old (event.Tick now) output → SoundSteps old (event.Tick now) output new

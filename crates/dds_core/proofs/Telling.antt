@@ -1,5 +1,5 @@
 -- What a reader is told, as its proxies and its store answer it.
-use Rattle.std.proofs.Common.{◌≡◌, ◌⊎◌, ℕ, Bool, true, false, List, None, Result, Ok, refl, ap, sym, ◌∙◌, subst, inl, inr}
+use Rattle.std.proofs.Common.{◌≡◌, ◌⊎◌, ℕ, Bool, true, false, List, None, Result, Ok, refl, ap, sym, subst, inl, inr}
 use Rattle.std.specs.Prelude.{IsOk, IfOk, is_some, if◌then◌else◌, Option}
 use Rattle.dds_base.specs.declared.code.Code.{Code}
 use Rattle.dds_base.specs.declared.happening.Happening.{Happening}

@@ -1,5 +1,5 @@
 -- The peer's readers take a submessage up, one after the other, by the rules of the protocol.
-use Rattle.std.proofs.Common.{◌≡◌, ℕ, ℤ, zero, suc, ◌+◌, ◌<◌, ◌≤◌, Bool, true, false, List, [], ◌∷◌, ◌++◌, Option, Some, None, drop, length, slice_get, refl, ap, sym, ◌∙◌, subst, arith, inl, inr, append_assoc, nat_lt}
+use Rattle.std.proofs.Common.{◌≡◌, ℕ, zero, suc, ◌+◌, ◌<◌, ◌≤◌, Bool, true, false, List, [], ◌∷◌, ◌++◌, Option, Some, None, drop, length, slice_get, refl, ap, sym, ◌∙◌, subst, arith, inl, inr, append_assoc, nat_lt}
 use Rattle.std.specs.Prelude.{IfSome, nat_le, ◌&&◌, if◌then◌else◌}
 use Rattle.std.proofs.lemmas.Option.{same_Some}
 use Rattle.std.proofs.lemmas.List.{append-nil}
@@ -11,7 +11,6 @@ use Rattle.dds_base.specs.declared.guid.GuidPrefix.{GuidPrefix}
 use Rattle.dds_base.specs.declared.qos.ReaderQos.{ReaderQos}
 use Rattle.dds_base.specs.Kept.{numbers_from}
 use Rattle.dds_base.specs.Matched.{is_reliable, is_reliable_reader}
-use Rattle.dds_base.specs.Counts.{is_later}
 use Rattle.dds_cache.specs.Standing.{qos_of}
 use Rattle.rtps_reader.specs.declared.attachment.Attachment.{Attachment as AttachmentOf}
 use Rattle.rtps_reader.specs.declared.attachment.Attachment.TheVariants as standing
@@ -31,9 +30,9 @@ use Rattle.rtps_wire.specs.declared.heartbeat.Heartbeat.{Heartbeat as HeartbeatB
 use Rattle.rtps_wire.specs.declared.submessage.Submessage.{Submessage}
 use Rattle.rtps_wire.specs.declared.submessage.Submessage.TheVariants.{Data, Heartbeat, Gap}
 use Rattle.rtps_wire.specs.Content.{change_in}
-use Rattle.dds_machine.specs.declared.endpoint.Endpoint.{Endpoint}
+use Rattle.dds_base.specs.declared.endpoint.Endpoint.{Endpoint}
 use Rattle.dds_machine.specs.declared.reply.Move.{Move}
-use Rattle.dds_machine.specs.declared.reply.Move.TheVariants.{Place, Heard}
+use Rattle.dds_machine.specs.declared.reply.Move.TheVariants.{Place}
 use Rattle.dds_protocol.specs.Claims.{Receiver, IsToReader, Names}
 use Rattle.dds_protocol.specs.Peer.{Peer, state_of}
 use Rattle.dds_protocol.specs.DueMessages.{Due, acknacks_due}
@@ -75,7 +74,7 @@ pub record ReaderTook (config : Config) (own : GuidPrefix) (at : Receiver) (s : 
   pub stands : StandsFor new config (with_state peer state)
 
 -- where nothing was done, nothing moved
-idle_moves : (writer : Endpoint) (reader : ℕ) (t : Tracked) → moves_of writer reader t.place (idle_step t) ≡ []
+pub idle_moves : (writer : Endpoint) (reader : ℕ) (t : Tracked) → moves_of writer reader t.place (idle_step t) ≡ []
 idle_moves writer reader t =
     ap (λ b. if b then Place writer reader t.place [] ∷ [] else []) (not_less t.place)
   where
@@ -404,7 +403,7 @@ said_of false at (Heartbeat h) = told.Beat (seen_in (heard_as false h))
 said_of reliable at s = told.Nothing
 
 -- nothing was done
-rested : (t : Tracked) (h : List Happening) (Knows : Tracked → Type 0) (Has : List Happening → Type 0) → Knows t → Has h
+pub rested : (t : Tracked) (h : List Happening) (Knows : Tracked → Type 0) (Has : List Happening → Type 0) → Knows t → Has h
     → Rests t h (idle_step t) Knows Has
 rested t h Knows Has knows has =
     (record { begun = refl; to = refl; passed = refl; heard = refl; acknack = refl }, knows, has)
@@ -475,7 +474,7 @@ idles config peer kept at s i k stands at_k (inr idle) =
     is.reader_id is.writer_id is.by said.0
     (is_to config peer kept stands i k at_k at is.reader_id is.writer_id idle.row is.named)
     (own_reader_is config peer.number kept stands.is_peer i k at_k).reliable (record {
-      same = record { entity = refl; writers = refl; qos = refl; seen = refl };
+      same = record { entity = refl; writers = refl; qos = refl; seen = refl; matches = refl; here = refl };
       others = λ j t apart h. h;
       how = refl;
       others_how = λ j apart. refl;

@@ -8,9 +8,9 @@ use Rattle.std.proofs.lemmas.List.Kept.{AllPairs-cons}
 use Rattle.dds_base.specs.declared.change.Change.{Change}
 use Rattle.dds_base.specs.declared.config.Config.{Config}
 use Rattle.dds_base.specs.Written.{Registered, Changed, Asserted, LookedAt, StrengthSet, Ticked}
-use Rattle.dds_machine.specs.declared.endpoint.Endpoint.{Endpoint}
+use Rattle.dds_base.specs.declared.endpoint.Endpoint.{Endpoint}
 use Rattle.dds_machine.specs.declared.reply.Reply.{Reply}
-use Rattle.dds_machine.specs.Calls.{Effect, nothing, writes, effect_of}
+use Rattle.dds_machine.specs.Calls.{Effect, nothing, writes, effect_of, looks_at_matches, tells}
 use Rattle.dds_machine.specs.Part.{own_writer, writer_changes}
 use Rattle.dds_machine.specs.Watching.{Tests}
 use Rattle.dds_notices.specs.declared.notice.Notice.{Notice}
@@ -19,12 +19,12 @@ use Rattle.dds_protocol.specs.declared.event.Event.TheVariants as event
 use Rattle.dds_protocol.specs.declared.event.Output.{Output}
 use Rattle.dds_protocol.specs.declared.event.Packet.{Packet}
 use Rattle.dds_protocol.specs.DueMessages.{Due, AreSent, assertions_due, changes_due}
-use Rattle.dds_protocol.specs.Peer.{Peer, PeerStep, EventStep}
+use Rattle.dds_protocol.specs.Peer.{Knows, Peer, PeerStep, EventStep, state_of as network_of}
 use Rattle.dds_core.specs.declared.twin.Twin.{Twin}
 use Rattle.dds_core.specs.declared.twin.Twin.TheVariants.{Unasked, Asked, Kept}
 use Rattle.dds_core.specs.Listening.{CoreKept, Steps}
 use Rattle.dds_core.specs.Sending.{AreMessages, SendsChange, SendsFor, SendsNothing, due_at_tick}
-use Rattle.dds_core.specs.Ruling.{KeepsRules}
+use Rattle.dds_core.specs.Ruling.{KeepsRules, ResumesByRules}
 use Rattle.dds_core.specs.Twins.{AreLeft, IsPlain, IsTwin, Leaves, LosesPackets, wants_two}
 
 -- ---- replies without lists
@@ -214,6 +214,8 @@ effect_sent config peer (writes w (Asserted moment)) output less l are =
 effect_sent config peer (writes w LookedAt) output less l none = nothing_sent output less l none
 effect_sent config peer (writes w (StrengthSet strength)) output less l none = nothing_sent output less l none
 effect_sent config peer (writes w (Ticked now behind)) output less l none = nothing_sent output less l none
+effect_sent config peer (tells telling) output less l none = nothing_sent output less l none
+effect_sent config peer (looks_at_matches w) output less l none = nothing_sent output less l none
 effect_sent config peer nothing output less l none = nothing_sent output less l none
 
 pub loses_messages : (output less : Output) → LosesPackets output less → AreMessages output.packets
@@ -224,7 +226,7 @@ loses_step : (config : Config) (tests : Tests) (old : Peer) (e : Event) (output 
     → LosesPackets output less → PeerStep config tests old e output new → PeerStep config tests old e less new
 loses_step config tests old e output less new l s = record {
   same_number = s.same_number;
-  knows = s.knows;
+  knows = subst (λ (r : Reply). Knows old e r new) (sym l.reply) s.knows;
   step = subst (λ (r : Reply). EventStep config tests old e r new) (sym l.reply) s.step;
   sent = λ packet claim m claims. s.sent packet claim (l.leaves.of_packets packet m) claims;
 }
@@ -244,6 +246,10 @@ loses_rules config old (event.Deliver packet) output less new l k = record {
   takes = k.takes;
   sent = dues_sent k.dues output less l k.sent;
 }
+loses_rules config old (event.Resume reader) output less new l k = (
+  nothing_sent output less l k.0,
+  subst (λ (r : Reply). ResumesByRules reader (network_of old) r (network_of new)) (sym l.reply) k.1,
+)
 
 -- the step is one with what is left
 pub loses_steps : {F L : Type 0} (notices : L → List Notice) (capacity : L → ℕ) (becomes : L → Notice → L → Type 0)

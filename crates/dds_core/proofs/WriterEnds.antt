@@ -2,6 +2,7 @@
 use Rattle.std.proofs.Common.{◌≡◌, ℕ, zero, suc, ◌-◌, ◌⊎◌, ⊎_elim, inl, inr, Bool, true, false, List, [], ◌∷◌, ◌++◌, Option, None, Some, slice_get, map, replicate, length, get_or, refl, ap, sym, ◌∙◌, subst, arith, Contains}
 use Rattle.std.specs.Prelude.{◌+◌, ◌≤◌, ◌||◌, nat_le, nat_lt, if◌then◌else◌, ℤ, Result, Ok, Err, IfOk, IfErr, OnErr, OnOk}
 use Rattle.std.specs.List.{AllByRecursion, list_any}
+use Rattle.std.proofs.lemmas.List.{length-map}
 use Rattle.std.proofs.lemmas.List.Elements.{All-from_recursion}
 use Rattle.std.proofs.lemmas.Option.{same_Some}
 use Rattle.dds_base.specs.declared.change.Change.{Change}
@@ -15,44 +16,50 @@ use Rattle.dds_base.specs.Refusal.{Refuses}
 use Rattle.dds_base.specs.Written.{Written, Changed, Ticked, changes_of}
 use Rattle.rtps_writer.specs.Standing.{Kept, StandsFor as RtpsStandsFor, reader_count}
 use Rattle.rtps_writer.specs.WriterState.{WriterState, entering, history_of, is_behind, last_of, opening, ticked}
-use Rattle.dds_machine.specs.declared.endpoint.Endpoint.{Endpoint}
+use Rattle.dds_base.specs.declared.endpoint.Endpoint.{Endpoint}
 use Rattle.dds_machine.specs.Opening.{matched_readers, reliable_readers}
-use Rattle.dds_machine.specs.Part.{Writer, ReaderProxy, peers_of, same_endpoint, writer_changes, history_of as writer_history, is_behind as is_writer_behind}
+use Rattle.dds_machine.specs.Matching.{seen_matches}
+use Rattle.dds_machine.specs.Part.{Matches, Writer, ReaderProxy, opened_with, peers_of, same_endpoint, writer_changes, history_of as writer_history, is_behind as is_writer_behind}
 use Rattle.dds_base.specs.Checked.{limit_of}
-use Rattle.dds_protocol.proofs.InOrder.{same_self}
 use Rattle.dds_core.specs.declared.matching.Destination.{Destination}
 use Rattle.dds_core.specs.declared.matching.LastCount.{LastCount}
 use Rattle.dds_core.specs.declared.matching.ReaderName.{ReaderName}
+use Rattle.dds_core.specs.declared.matching.TopicName.{TopicName}
+use Rattle.dds_core.specs.declared.match_counts.MatchCounts.{MatchCounts}
+use Rattle.dds_core.specs.Coming.{LooksAtMatches}
 use Rattle.dds_core.specs.Kept.{WriterKept}
 use Rattle.dds_core.specs.Identity.{WriterIdentity, writer_identity}
 use Rattle.dds_core.specs.Matching.{destinations}
-use Rattle.dds_core.specs.EndNames.{all_names, reader_name, reader_names}
-use Rattle.dds_core.specs.MatchedEnds.{AreRows, first_count, has_count, is_named, last_count, readers_of}
+use Rattle.dds_core.specs.EndNames.{all_names, reader_name, reader_names, topic_name, topic_names}
+use Rattle.dds_core.specs.MatchCounts.{CountsFor}
+use Rattle.dds_core.specs.MatchedEnds.{AreNamedOnce, AreRows, first_count, has_count, is_named, last_count, names_of, readers_of, topic_reader}
 use Rattle.dds_core.specs.OpeningEnds.{OpensWriter}
 use Rattle.dds_core.specs.Standing.{AreShort, CountsFrom1, IsShort, IsWhole, WriterStands, state_of}
 use Rattle.dds_core.specs.Stepping.{Enters, Ticks}
 use Rattle.dds_core.proofs.Acknowledging.{state_as}
 use Rattle.dds_core.proofs.MatchedAt.{ends_opened, matched_opened, named_at, named_is, once_named}
-use Rattle.dds_core.proofs.Once.{named_once}
+use Rattle.dds_core.proofs.Once.{all_once, named_once}
 use Rattle.dds_core.proofs.Tables.{map-matched_readers, map-reliable_readers, told_alike}
 
 -- a writer at its opening
 
-abbrev identity_of : WriterConfig → List ReaderName → List Destination → List ReaderName → List LastCount
+abbrev identity_of : WriterConfig → List TopicName → List ReaderName → List Destination → List ReaderName → List LastCount
     → WriterIdentity
-identity_of w matched destinations readers counts = record {
+identity_of w known matched destinations readers counts = record {
   entity = w.entity;
   autodispose = w.autodispose;
   max_value = w.max_value;
+  known = known;
   matched = matched;
   destinations = destinations;
   readers = readers;
   counts = counts;
 }
 
-identity_as : (w : WriterConfig) (es fs : List ReaderName) (a b : List Destination) (c d : List ReaderName)
-    (ms ns : List LastCount) → es ≡ fs → a ≡ b → c ≡ d → ms ≡ ns → identity_of w es a c ms ≡ identity_of w fs b d ns
-identity_as w es fs a b c d ms ns e f g h = cc
+identity_as : (w : WriterConfig) (ks ls : List TopicName) (es fs : List ReaderName) (a b : List Destination)
+    (c d : List ReaderName) (ms ns : List LastCount) → ks ≡ ls → es ≡ fs → a ≡ b → c ≡ d → ms ≡ ns
+    → identity_of w ks es a c ms ≡ identity_of w ls fs b d ns
+identity_as w ks ls es fs a b c d ms ns k e f g h = cc
 
 -- of a reader that never left there is no count, and a place for one
 never_left : (names : List ReaderName) (reader : Endpoint) → None ≡ last_count (map first_count names) reader
@@ -84,6 +91,13 @@ rows_opened peers topic = record {
   places = λ reader is. count_there (reader_names topic peers) reader is;
 }
 
+-- the names of the readers of the topic
+names_opened : (peers : List PeerConfig) (topic : ℕ) (known : List TopicName) → known ≡ topic_names topic peers
+    → names_of known ≡ all_names topic peers
+names_opened peers topic known knows =
+    ap (λ (ks : List TopicName). names_of ks) knows
+    ∙ map-matched_readers (λ (k : TopicName). k.name) topic_name topic 1 peers
+
 -- what looks alike of each row is of one value
 rows_begun : (rows : List ReaderProxy) (count : ℕ) → map (λ (p : ReaderProxy). p.acknowledged) rows ≡ replicate count 1
     → AllByRecursion CountsFrom1 rows
@@ -100,9 +114,11 @@ rows_begun (p ∷ ps) (suc count) same =
     rest : (a : ℕ) (xs ys : List ℕ) → a ∷ xs ≡ 1 ∷ ys → xs ≡ ys
     rest a xs ys e = cc
 
-pub opens_writer : (peers : List PeerConfig) (w : WriterConfig) (es : List ReaderName) (ds : List Destination)
-    (names : List ReaderName) (lasts : List LastCount) (limit : Option ℕ) (strength : Option ℤ) (kept : Kept) (count : ℕ) → count ≡ length names
-    → es ≡ all_names w.topic peers → lasts ≡ map first_count names → ds ≡ destinations w.topic 1 peers → names ≡ reader_names w.topic peers → limit ≡ limit_of w.max_samples
+pub opens_writer : (peers : List PeerConfig) (w : WriterConfig) (known : List TopicName) (es : List ReaderName)
+    (ds : List Destination) (names : List ReaderName) (lasts : List LastCount) (matches : MatchCounts) (limit : Option ℕ)
+    (strength : Option ℤ) (kept : Kept) (count : ℕ) → count ≡ length names → known ≡ topic_names w.topic peers
+    → es ≡ names_of known → CountsFor matches (opened_with (readers_of es)) → lasts ≡ map first_count names
+    → ds ≡ destinations w.topic 1 peers → names ≡ reader_names w.topic peers → limit ≡ limit_of w.max_samples
     → strength ≡ carried w.ownership w.strength
     → RtpsStandsFor kept (opening w.history limit w.lease strength count)
     → OpensWriter peers w
@@ -110,14 +126,21 @@ pub opens_writer : (peers : List PeerConfig) (w : WriterConfig) (es : List Reade
       entity = w.entity;
       autodispose = w.autodispose;
       max_value = w.max_value;
+      known = known;
       matched = es;
       destinations = ds;
       readers = names;
       counts = lasts;
+      matches = matches;
       writer = kept;
     })
-opens_writer peers w es ds names lasts limit strength kept count counted ends first sent matched limited carries stands =
+opens_writer peers w known es ds names lasts matches limit strength kept count counted knows named opened first sent
+    matched limited carries stands =
     let rows : List ReaderProxy = reliable_readers w.topic 1 peers in
+    let ends : es ≡ all_names w.topic peers = named ∙ names_opened peers w.topic known knows in
+    let matched_are : map (λ (n : ReaderName). n.reader) es ≡ matched_readers w.topic 1 peers =
+    ap (λ (ns : List ReaderName). readers_of ns) ends
+    ∙ map-matched_readers (λ (n : ReaderName). n.reader) reader_name w.topic 1 peers in
     let many : length (reader_names w.topic peers) ≡ count =
     sym (counted ∙ ap (λ (ns : List ReaderName). length ns) matched) in
     let acknowledged : map (λ (p : ReaderProxy). p.acknowledged) rows ≡ replicate count 1 =
@@ -132,14 +155,15 @@ opens_writer peers w es ds names lasts limit strength kept count counted ends fi
     ∙ (told_alike none reader_name w.topic 1 peers ∙ ap (λ (n : ℕ). replicate n none) many) in
     record {
       identity =
-          identity_as w es _ ds _ names _ lasts _ ends sent matched
+          identity_as w known _ es _ ds _ names _ lasts _ knows ends sent matched
           (first ∙ ap (λ (ns : List ReaderName). map first_count ns) matched);
       stands = record {
         autodispose = refl;
         values = refl;
-        matched =
-            sym (ap (λ (ns : List ReaderName). readers_of ns) ends
-            ∙ map-matched_readers (λ (n : ReaderName). n.reader) reader_name w.topic 1 peers);
+        known =
+            sym (ap (λ (ks : List TopicName). map topic_reader ks) knows
+            ∙ map-matched_readers topic_reader topic_name w.topic 1 peers);
+        matched = sym matched_are;
         readers = map-reliable_readers (λ (p : ReaderProxy). p.reader) _ w.topic 1 peers
             ∙ sym (ap (λ (ns : List ReaderName). map (λ (n : ReaderName). n.reader) ns) matched
             ∙ map-reliable_readers (λ (n : ReaderName). n.reader) reader_name w.topic 1 peers);
@@ -160,6 +184,7 @@ opens_writer peers w es ds names lasts limit strength kept count counted ends fi
             (sym (first ∙ ap (λ (ns : List ReaderName). map first_count ns) matched))
             (rows_opened peers w.topic)));
         counted = λ reader none. never_left names reader ∙ ap (λ (ls : List LastCount). last_count ls reader) (sym first);
+        matches = subst (λ (rs : List Endpoint). CountsFor matches (opened_with rs)) matched_are opened;
       };
     }
 
@@ -172,35 +197,55 @@ nothing_short most number change at = by (nat_lt 0 number) (slice_get [] (number
     by true o none h = absurd cc
     by false o none h = absurd cc
 
-pub whole_opened : (peers : List PeerConfig) (w : WriterConfig) (es : List ReaderName) (ds : List Destination)
-    (names : List ReaderName) (limit : Option ℕ) (strength : Option ℤ) (kept : Kept) (count : ℕ)
-    → es ≡ all_names w.topic peers → ds ≡ destinations w.topic 1 peers → length ds ≤ 16 → length names ≤ 256
+pub whole_opened : (peers : List PeerConfig) (w : WriterConfig) (known : List TopicName) (es : List ReaderName)
+    (ds : List Destination) (names : List ReaderName) (limit : Option ℕ) (strength : Option ℤ) (kept : Kept) (count : ℕ)
+    → known ≡ topic_names w.topic peers → length known ≤ 256 → es ≡ names_of known
+    → ds ≡ destinations w.topic 1 peers → length ds ≤ 16 → names ≡ reader_names w.topic peers → length names ≤ 256
     → reader_count kept ≡ count → count ≡ length names
     → RtpsStandsFor kept (opening w.history limit w.lease strength count)
-    → IsWhole w.max_value es ds names kept
-whole_opened peers w es ds names limit strength kept count ends sent few many rows counted stands = record {
-  told =
-      ap (λ (ns : List ReaderName). peers_of (readers_of ns)) ends
-      ∙ ((ends_opened peers w.topic).sent_to ∙ sym (ap (λ (xs : List Destination). map (λ (d : Destination). d.peer) xs) sent));
-  few = omega (arith, few);
-  many = many;
-  count = rows ∙ counted;
-  state = opening w.history limit w.lease strength count;
-  stands = stands;
-  short = nothing_short w.max_value;
-}
+    → IsWhole w.max_value known es ds names kept
+whole_opened peers w known es ds names limit strength kept count knows limited named sent few matched many rows counted
+    stands = record {
+      limited = limited;
+      matched_are = record {
+        once =
+            subst (λ (ns : List ReaderName). AreNamedOnce ns) (sym ends)
+            (once_named (all_names w.topic peers) (all_once w.topic peers));
+        there = λ e is. ap (λ (ns : List ReaderName). is_named ns e) (sym named) ∙ is;
+      };
+      once =
+          subst (λ (ns : List ReaderName). AreNamedOnce ns) (sym matched)
+          (once_named (reader_names w.topic peers) (named_once w.topic peers));
+      among = λ e is.
+          ap (λ (ns : List ReaderName). is_named ns e) ends
+          ∙ (rows_opened peers w.topic).among e (ap (λ (ns : List ReaderName). is_named ns e) (sym matched) ∙ is);
+      told =
+          ap (λ (ns : List ReaderName). peers_of (readers_of ns)) ends
+          ∙ ((ends_opened peers w.topic).sent_to ∙ sym (ap (λ (xs : List Destination). map (λ (d : Destination). d.peer) xs) sent));
+      few = omega (arith, few);
+      many = many;
+      count = rows ∙ counted;
+      state = opening w.history limit w.lease strength count;
+      stands = stands;
+      short = nothing_short w.max_value;
+    }
+  where
+    ends : es ≡ all_names w.topic peers
+    ends = named ∙ names_opened peers w.topic known knows
 
 -- a writer, by what its end has once it is open
-abbrev pub kept_as : EntityId → Bool → ℕ → List ReaderName → List Destination → List ReaderName → List LastCount → Kept
-    → WriterKept
-kept_as entity autodispose most matched destinations readers counts writer = record {
+abbrev pub kept_as : EntityId → Bool → ℕ → List TopicName → List ReaderName → List Destination → List ReaderName → List LastCount
+    → MatchCounts → Kept → WriterKept
+kept_as entity autodispose most known matched destinations readers counts matches writer = record {
   entity = entity;
   autodispose = autodispose;
   max_value = most;
+  known = known;
   matched = matched;
   destinations = destinations;
   readers = readers;
   counts = counts;
+  matches = matches;
   writer = writer;
 }
 
@@ -220,6 +265,7 @@ enters kept entry after more = record {
       λ w answered s. record {
         autodispose = s.autodispose;
         values = s.values;
+        known = s.known;
         matched = s.matched;
         readers = s.readers;
         writer = more
@@ -227,6 +273,7 @@ enters kept entry after more = record {
         begun = s.begun;
         rows = s.rows;
         counted = s.counted;
+        matches = s.matches;
       };
 }
 
@@ -281,6 +328,7 @@ ticks kept current now after same more = record {
       record {
         autodispose = here.autodispose;
         values = here.values;
+        known = here.known;
         matched = here.matched;
         readers = here.readers;
         writer =
@@ -289,6 +337,7 @@ ticks kept current now after same more = record {
         begun = here.begun;
         rows = here.rows;
         counted = here.counted;
+        matches = here.matches;
       };
 }
 
@@ -313,13 +362,18 @@ short_more most cs c short last = λ number x at. one (nat_lt 0 number) (number 
         ⊎_elim (λ there. old there) (λ is. subst (λ (y : Change). IsShort most y.value) is last) (last_or cs c x k at)
     one false k x old at = absurd cc
 
-pub whole_if : (result : Result ℕ Code) (most : ℕ) (matched : List ReaderName) (destinations : List Destination)
+pub whole_if : (result : Result ℕ Code) (most : ℕ) (known : List TopicName) (matched : List ReaderName)
+    (destinations : List Destination)
     (readers : List ReaderName) (old after : Kept) (change : Change)
-    → IsWhole most matched destinations readers old → IsShort most change.value
+    → IsWhole most known matched destinations readers old → IsShort most change.value
     → reader_count after ≡ reader_count old
     → ((s : WriterState) → RtpsStandsFor old s → OnOk result (RtpsStandsFor after (entering s (Changed change))))
-    → OnErr result (after ≡ old) → IsWhole most matched destinations readers after
-whole_if (Ok n) most matched destinations readers old after change whole short counted more same = record {
+    → OnErr result (after ≡ old) → IsWhole most known matched destinations readers after
+whole_if (Ok n) most known matched destinations readers old after change whole short counted more same = record {
+  limited = whole.limited;
+  matched_are = whole.matched_are;
+  once = whole.once;
+  among = whole.among;
   told = whole.told;
   few = whole.few;
   many = whole.many;
@@ -328,5 +382,30 @@ whole_if (Ok n) most matched destinations readers old after change whole short c
   stands = more whole.state whole.stands;
   short = short_more most (changes_of whole.state.written) change whole.short short;
 }
-whole_if (Err e) most matched destinations readers old after change whole short counted more same =
-    subst (λ (k : Kept). IsWhole most matched destinations readers k) (sym same) whole
+whole_if (Err e) most known matched destinations readers old after change whole short counted more same =
+    subst (λ (k : Kept). IsWhole most known matched destinations readers k) (sym same) whole
+
+-- a look at its matches
+pub looks_at_matches : (kept now : WriterKept) (after : MatchCounts) → kept ≡ now
+    → ((m : Matches) → CountsFor kept.matches m → CountsFor after (seen_matches m (length kept.matched)))
+    → LooksAtMatches now (record kept { matches = after })
+looks_at_matches kept now after view seen =
+    subst (λ (k : WriterKept). LooksAtMatches k (record kept { matches = after })) view
+    (record {
+      same = refl;
+      stands = λ w answered s. record {
+        autodispose = s.autodispose;
+        values = s.values;
+        known = s.known;
+        matched = s.matched;
+        readers = s.readers;
+        writer = s.writer;
+        begun = s.begun;
+        rows = s.rows;
+        counted = s.counted;
+        matches =
+            subst (λ (n : ℕ). CountsFor after (seen_matches w.matches n))
+            (sym (ap (λ (es : List Endpoint). length es) s.matched
+            ∙ length-map kept.matched (λ (n : ReaderName). n.reader))) (seen w.matches s.matches);
+      };
+    })

@@ -20,7 +20,7 @@ use Rattle.rtps_writer.specs.declared.answer.Answer.TheVariants.{Data, Gap}
 use Rattle.rtps_writer.specs.Acknack.{acknack_answers, after_acknack, is_applied, newly_acknowledged}
 use Rattle.rtps_writer.specs.Standing.{Kept, StandsFor as RtpsStandsFor}
 use Rattle.rtps_writer.specs.WriterState.{WriterState, history_of}
-use Rattle.dds_machine.specs.declared.endpoint.Endpoint.{Endpoint}
+use Rattle.dds_base.specs.declared.endpoint.Endpoint.{Endpoint}
 use Rattle.dds_machine.specs.declared.reply.Move.{Move}
 use Rattle.dds_machine.specs.declared.reply.Move.TheVariants.{Acknowledged}
 use Rattle.dds_protocol.specs.Claims.{Receiver, is_for, Names}
@@ -178,6 +178,7 @@ pub record RowTook (old : PeerKept) (index row : ℕ) (a : AckNackBody) (k : Wri
   pub acknowledged : Option ℕ
   pub writer : WriterKept
   pub same : writer_identity writer ≡ writer_identity k
+  pub matches : writer.matches ≡ k.matches
   pub answers : TakesAckNack k old.prefix row a sent writer acknowledged gone
   pub new_is : new ≡ record old { writers = set old.writers index writer }
   pub after_is : after ≡ moves ++ acknowledged_moves (index + 1) name.reader acknowledged

@@ -2,15 +2,16 @@
 -- cite this: nothing here has to be believed.
 --
 -- RTPS 2.5, 8.4.9 (reliable StatefulWriter: heartbeatPeriod), 8.3.8 (Heartbeat).
-use Rattle.std.specs.Prelude.{◌≡◌, ℕ, zero, suc, ◌+◌, ◌≤◌, ◌==◌, ◌&&◌, Bool, not, if◌then◌else◌, nat_lt, nat_le, true, false, List, [], ◌∷◌, ◌++◌, length, map, Option, ℤ}
+use Rattle.std.specs.Prelude.{◌≡◌, ℕ, ◌+◌, ◌≤◌, ◌==◌, ◌&&◌, Bool, not, if◌then◌else◌, nat_lt, nat_le, true, false, List, [], ◌∷◌, ◌++◌, length, map, filter, take, slice_get, Option, ℤ}
 use Rattle.std.specs.List.{list_any}
+use Rattle.std.specs.Option.{option_map_or}
 use Rattle.dds_base.specs.declared.guid.GuidPrefix.{GuidPrefix}
 use Rattle.dds_base.specs.Bounds.{max_changes, max_count}
 use Rattle.rtps_wire.specs.declared.message.Message.{Message}
 use Rattle.rtps_wire.specs.declared.submessage.Submessage.TheVariants.{InfoDst, Heartbeat}
 use Rattle.rtps_writer.specs.declared.heartbeat.HeartbeatDue.{HeartbeatDue}
 use Rattle.rtps_writer.specs.Standing.{Kept, StandsFor as RtpsStandsFor}
-use Rattle.dds_machine.specs.declared.endpoint.Endpoint.{Endpoint}
+use Rattle.dds_base.specs.declared.endpoint.Endpoint.{Endpoint}
 use Rattle.dds_protocol.specs.declared.event.Packet.{Packet}
 use Rattle.dds_machine.specs.Part.{ReaderProxy, Writer, writer_changes, heartbeats_used}
 use Rattle.dds_protocol.specs.Claims.{every_reader}
@@ -56,24 +57,32 @@ abbrev pub is_peer_behind : ℕ → ℕ → List ReaderProxy → Bool
 is_peer_behind last peer rows = list_any
     (λ (p : ReaderProxy). (p.reader.peer == peer) && nat_le p.acknowledged last) rows
 
--- the reader of this row, from 0, is the last one of its peer that has not
-abbrev pub is_last_behind : ℕ → List ReaderProxy → ℕ → Bool
-is_last_behind last [] row = false
-is_last_behind last (p ∷ ps) zero = nat_le p.acknowledged last && not (is_peer_behind last p.reader.peer ps)
-is_last_behind last (p ∷ ps) (suc row) = is_last_behind last ps row
+-- the reader of this row, from 0, is the first one of its peer that has not
+abbrev pub is_first_behind : ℕ → List ReaderProxy → ℕ → Bool
+is_first_behind last rows row =
+    option_map_or (λ (p : ReaderProxy). nat_le p.acknowledged last
+    && not (is_peer_behind last p.reader.peer (take row rows)))
+    (slice_get rows row) false
 
 -- the peer of a reader
 abbrev pub peer_of : ReaderName → Destination
 peer_of name = record { peer = name.reader.peer; prefix = name.guid.prefix }
 
--- the peers of those of these readers, by their rows and names, that are behind, each where its last one is
+-- the peers of these readers, each where its first one is
+abbrev pub first_peers : List ReaderName → List Destination
+first_peers [] = []
+first_peers (n ∷ ns) = peer_of n ∷ filter (λ (d : Destination). not (d.peer == n.reader.peer)) (first_peers ns)
+
+-- those of these readers, by their rows and names, that are behind
+abbrev pub names_behind : ℕ → List ReaderProxy → List ReaderName → List ReaderName
+names_behind last [] names = []
+names_behind last (p ∷ ps) [] = []
+names_behind last (p ∷ ps) (n ∷ ns) =
+    if nat_le p.acknowledged last then n ∷ names_behind last ps ns else names_behind last ps ns
+
+-- their peers, each where its first one is
 abbrev pub peers_behind : ℕ → List ReaderProxy → List ReaderName → List Destination
-peers_behind last [] names = []
-peers_behind last (p ∷ ps) [] = []
-peers_behind last (p ∷ ps) (n ∷ ns) =
-    if nat_le p.acknowledged last && not (is_peer_behind last p.reader.peer ps)
-    then peer_of n ∷ peers_behind last ps ns
-    else peers_behind last ps ns
+peers_behind last rows names = first_peers (names_behind last rows names)
 
 -- the HEARTBEAT to each of the peers of a writer's readers, of these names, that are behind
 abbrev pub beats_to : Beat → Writer → List ReaderName → List Due

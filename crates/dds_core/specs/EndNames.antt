@@ -5,10 +5,11 @@
 use Rattle.std.specs.Prelude.{ℕ, List}
 use Rattle.dds_base.specs.declared.config.PeerConfig.{PeerConfig}
 use Rattle.dds_base.specs.declared.config.ReaderConfig.{ReaderConfig}
-use Rattle.dds_base.specs.Matched.{any_reader, of_ends_in, of_matched_readers, of_matched_writers, of_reliable_readers}
+use Rattle.dds_base.specs.Matched.{any_reader, is_reliable_reader, of_ends_in, of_matched_readers, of_matched_writers, of_reliable_readers}
 use Rattle.dds_base.specs.declared.config.WriterConfig.{WriterConfig}
 use Rattle.dds_base.specs.declared.qos.MatchedWriter.{MatchedWriter}
 use Rattle.dds_core.specs.declared.matching.ReaderName.{ReaderName}
+use Rattle.dds_core.specs.declared.matching.TopicName.{TopicName}
 use Rattle.dds_core.specs.declared.matching.WriterName.{WriterName}
 
 -- the name of a reader
@@ -16,10 +17,18 @@ abbrev pub reader_name : ℕ → PeerConfig → ℕ → ReaderConfig → ReaderN
 reader_name peer p number r =
     record { reader = record { peer = peer; number = number }; guid = record { prefix = p.prefix; entity = r.entity } }
 
+-- the name of a reader, and whether it is a reliable one
+abbrev pub topic_name : ℕ → PeerConfig → ℕ → ReaderConfig → TopicName
+topic_name peer p number r = record { name = reader_name peer p number r; is_reliable = is_reliable_reader r }
+
 -- the readers of the topic among those of one peer, reliable or not; the first of these has this number
-abbrev pub all_names_in : ℕ → PeerConfig → ℕ → ℕ → List ReaderConfig → List ReaderName
-all_names_in peer p topic number rs =
-    of_ends_in any_reader (λ (r : ReaderConfig). r.topic) (reader_name peer p) topic number rs
+abbrev pub topic_names_in : ℕ → PeerConfig → ℕ → ℕ → List ReaderConfig → List TopicName
+topic_names_in peer p topic number rs =
+    of_ends_in any_reader (λ (r : ReaderConfig). r.topic) (topic_name peer p) topic number rs
+
+-- the readers of the topic, and whether each is a reliable one, in the order of the configuration
+abbrev pub topic_names : ℕ → List PeerConfig → List TopicName
+topic_names topic peers = of_matched_readers topic_name topic 1 peers
 
 -- the readers of the topic, reliable or not, in the order of the configuration
 abbrev pub all_names : ℕ → List PeerConfig → List ReaderName

@@ -6,7 +6,7 @@ use Rattle.std.specs.Prelude.{◌≡◌, ℕ, ◌+◌, ◌-◌, ◌^◌, ◌<◌
 use Rattle.dds_base.specs.Liveliness.{dead_at}
 use Rattle.dds_cache.specs.Standing.{deaths_of}
 use Rattle.dds_lease.specs.Standing.{overdue_of}
-use Rattle.dds_machine.specs.declared.endpoint.Endpoint.{Endpoint}
+use Rattle.dds_base.specs.declared.endpoint.Endpoint.{Endpoint}
 use Rattle.dds_machine.specs.Ticks.{reader_ticked}
 use Rattle.dds_machine.specs.Part.{Reader, WriterProxy}
 use Rattle.rtps_reader.specs.Tracked.{Tracked}

@@ -19,10 +19,11 @@ use Rattle.dds_protocol.specs.Claims.{IsNumbered}
 use Rattle.dds_core.specs.declared.matching.Destination.{Destination}
 use Rattle.dds_core.specs.declared.matching.LastCount.{LastCount}
 use Rattle.dds_core.specs.declared.matching.ReaderName.{ReaderName}
+use Rattle.dds_core.specs.declared.matching.TopicName.{TopicName}
 use Rattle.dds_core.specs.declared.matching.WriterName.{WriterName}
 use Rattle.dds_core.specs.Matching.{destinations}
 use Rattle.dds_core.specs.MatchedEnds.{AreMatchedNow, first_count}
-use Rattle.dds_core.specs.EndNames.{all_names, reader_names, writer_names}
+use Rattle.dds_core.specs.EndNames.{all_names, reader_names, topic_names, writer_names}
 use Rattle.dds_core.specs.Kept.{WriterKept, ReaderKept, PeerKept}
 
 -- the store is that of a reliable reader, by its policies
@@ -37,13 +38,14 @@ pub record FitsWriters (names : List WriterName) (reader : Proxies) (store : Sto
   pub fits : length names ≤ length (qos_of store.cache).writers
   pub many : length (qos_of store.cache).writers ≤ max_readers
 
--- what stays of a writer while nobody comes or goes: its name, whether an unregister disposes too, and how long its
--- values may be, which never change; and whom it is matched with, to which peers it sends, the names of its reliable
--- readers, and the last counts of those that were matched before
+-- what stays of a writer while nobody comes or goes: its name, whether an unregister disposes too, how long its values
+-- may be, and the readers of its topic, which never change; and whom it is matched with, to which peers it sends, the
+-- names of its reliable readers, and the last counts of those that were matched before
 pub record WriterIdentity : Type 0 where
   pub entity : EntityId
   pub autodispose : Bool
   pub max_value : ℕ
+  pub known : List TopicName
   pub matched : List ReaderName
   pub destinations : List Destination
   pub readers : List ReaderName
@@ -67,6 +69,7 @@ writer_identity w = record {
   entity = w.entity;
   autodispose = w.autodispose;
   max_value = w.max_value;
+  known = w.known;
   matched = w.matched;
   destinations = w.destinations;
   readers = w.readers;
@@ -90,6 +93,7 @@ configured_writer peers w =
       entity = w.entity;
       autodispose = w.autodispose;
       max_value = w.max_value;
+      known = topic_names w.topic peers;
       matched = all_names w.topic peers;
       destinations = destinations w.topic 1 peers;
       readers = reader_names w.topic peers;
@@ -101,6 +105,7 @@ pub record IsWriterOf (peers : List PeerConfig) (w : WriterConfig) (is : WriterI
   pub entity : is.entity ≡ w.entity
   pub autodispose : is.autodispose ≡ w.autodispose
   pub max_value : is.max_value ≡ w.max_value
+  pub known : is.known ≡ topic_names w.topic peers
   pub ends : AreMatchedNow peers w.topic is.matched is.destinations is.readers
 
 -- what never changes of a reader, as the configuration says it

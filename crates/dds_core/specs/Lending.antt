@@ -11,3 +11,4 @@ abbrev pub event_of : LentEvent → Event
 event_of (lent.Call call) = event.Call call
 event_of (lent.Tick now) = event.Tick now
 event_of (lent.Deliver packet) = event.Deliver packet.now
+event_of (lent.Resume reader) = event.Resume reader

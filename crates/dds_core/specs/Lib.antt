@@ -1,5 +1,6 @@
 pub mod Matching
 pub mod EndNames
+pub mod MatchCounts
 pub mod Kept
 pub mod MatchedEnds
 pub mod Lending
@@ -15,6 +16,7 @@ pub mod Announcing
 pub mod Making
 pub mod Readiness
 pub mod Receiving
+pub mod Resuming
 pub mod Looking
 pub mod Stored
 pub mod Storing

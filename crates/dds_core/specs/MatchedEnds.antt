@@ -8,12 +8,13 @@ use Rattle.std.specs.List.{list_any}
 use Rattle.dds_base.specs.declared.config.PeerConfig.{PeerConfig}
 use Rattle.dds_base.specs.declared.config.ReaderConfig.{ReaderConfig}
 use Rattle.dds_base.specs.Matched.{is_reliable_reader}
-use Rattle.dds_machine.specs.declared.endpoint.Endpoint.{Endpoint}
-use Rattle.dds_machine.specs.Part.{peers_of, same_endpoint}
+use Rattle.dds_base.specs.declared.endpoint.Endpoint.{Endpoint}
+use Rattle.dds_machine.specs.Part.{TopicReader, peers_of, same_endpoint}
 use Rattle.dds_protocol.specs.Claims.{IsNumbered}
 use Rattle.dds_core.specs.declared.matching.Destination.{Destination}
 use Rattle.dds_core.specs.declared.matching.LastCount.{LastCount}
 use Rattle.dds_core.specs.declared.matching.ReaderName.{ReaderName}
+use Rattle.dds_core.specs.declared.matching.TopicName.{TopicName}
 
 -- a reader of the topic has this number
 pub record IsReaderOf (peers : List PeerConfig) (topic : ℕ) (reader : Endpoint) : Type 0 where
@@ -48,6 +49,19 @@ is_named names reader = list_any (λ (n : ReaderName). same_endpoint n.reader re
 abbrev pub readers_of : List ReaderName → List Endpoint
 readers_of names = map (λ (n : ReaderName). n.reader) names
 
+-- what is known of this reader, if it is one of these
+abbrev pub known_as : List TopicName → Endpoint → Option TopicName
+known_as [] reader = None
+known_as (k ∷ ks) reader = if same_endpoint k.name.reader reader then Some k else known_as ks reader
+
+-- the reader that is known so, as the machine has it
+abbrev pub topic_reader : TopicName → TopicReader
+topic_reader k = record { reader = k.name.reader; reliable = k.is_reliable }
+
+-- the names of these readers
+abbrev pub names_of : List TopicName → List ReaderName
+names_of known = map (λ (k : TopicName). k.name) known
+
 -- the readers that a writer of the topic is matched with, their peers, and the reliable ones among them
 pub record AreMatchedNow (peers : List PeerConfig) (topic : ℕ) (matched : List ReaderName) (to : List Destination)
     (names : List ReaderName) : Type 0 where
@@ -79,3 +93,8 @@ pub record AreRows (matched names : List ReaderName) (counts : List LastCount) :
   pub once : AreNamedOnce names
   pub among : (reader : Endpoint) → is_named names reader ≡ true → is_named matched reader ≡ true
   pub places : (reader : Endpoint) → is_named names reader ≡ true → has_count counts reader ≡ true
+
+-- each of these names is of one of those readers, and no two are of one
+pub record AreAmong (known : List TopicName) (names : List ReaderName) : Type 0 where
+  pub once : AreNamedOnce names
+  pub there : (reader : Endpoint) → is_named names reader ≡ true → is_named (names_of known) reader ≡ true

@@ -12,7 +12,7 @@ use Rattle.rtps_wire.specs.declared.message.Message.{Message}
 use Rattle.rtps_wire.specs.declared.submessage.Submessage.{Submessage}
 use Rattle.rtps_wire.specs.declared.submessage.Submessage.TheVariants.{Data, Heartbeat, AckNack, Gap}
 use Rattle.rtps_wire.specs.Messages.{ReadsMessage}
-use Rattle.dds_machine.specs.declared.endpoint.Endpoint.{Endpoint}
+use Rattle.dds_base.specs.declared.endpoint.Endpoint.{Endpoint}
 use Rattle.dds_machine.specs.Part.{acknowledged_of, own_writer, same_endpoint}
 use Rattle.dds_protocol.specs.Claims.{Receiver, receiver_of, after_submessage, is_for, Concerns, IsToWriter}
 use Rattle.dds_protocol.specs.Peer.{Peer}

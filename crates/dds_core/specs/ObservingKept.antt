@@ -12,7 +12,7 @@ use Rattle.rtps_wire.specs.declared.acknack.AckNack.{AckNack as AckNackBody}
 use Rattle.rtps_wire.specs.declared.submessage.Submessage.{Submessage}
 use Rattle.rtps_wire.specs.Messages.{ReadsAll}
 use Rattle.rtps_wire.specs.Submessages.{Reads}
-use Rattle.dds_machine.specs.declared.endpoint.Endpoint.{Endpoint}
+use Rattle.dds_base.specs.declared.endpoint.Endpoint.{Endpoint}
 use Rattle.dds_protocol.specs.Claims.{Receiver, receiver_of, after_submessage}
 use Rattle.dds_protocol.specs.Peer.{Peer}
 use Rattle.dds_core.specs.declared.matching.ReaderName.{ReaderName}

@@ -3,8 +3,8 @@
 --
 -- RTPS 2.5, 8.4.10.3 (StatefulReader, matched_writer_add, matched_writer_remove); DDS 1.4, 2.2.4.1
 -- (LivelinessChangedStatus: not_alive_count).
-use Rattle.std.specs.Prelude.{◌≡◌, ℕ, ◌-◌, ◌^◌, ◌<◌, Bool, if◌then◌else◌, List, length}
-use Rattle.dds_machine.specs.declared.endpoint.Endpoint.{Endpoint}
+use Rattle.std.specs.Prelude.{◌≡◌, ℕ, ◌+◌, ◌-◌, ◌^◌, ◌<◌, min, Bool, if◌then◌else◌, List, length}
+use Rattle.dds_base.specs.declared.endpoint.Endpoint.{Endpoint}
 use Rattle.dds_machine.specs.Matching.{with_match, with_how, reader_joined, reader_left, happened_after}
 use Rattle.dds_machine.specs.Part.{Away, Reader, WriterProxy, publication_among}
 use Rattle.rtps_reader.specs.Tracked.{Tracked}
@@ -15,6 +15,15 @@ use Rattle.dds_core.specs.Standing.{IsFirstRow, ReaderStands}
 -- how many entries a parting makes, of a writer that is alive or is not
 abbrev pub parting_entries : Bool → ℕ
 parting_entries alive = if alive then 2 else 1
+
+-- With so many writers a reader is matched, as a word counts them, that was matched with so many: it is told of one,
+-- with which it was matched or not.
+abbrev pub joined_here : Bool → ℕ → ℕ
+joined_here was here = if was then here else min (here + 1) (2 ^ 16 - 1)
+
+-- the same, once that one has left
+abbrev pub left_here : Bool → ℕ → ℕ
+left_here was here = if was then here - 1 else here
 
 -- the reader was told that the writer of this row is matched with it, and nothing else happened
 pub record Attaches (old : ReaderKept) (row : ℕ) (new : ReaderKept) : Type 0 where

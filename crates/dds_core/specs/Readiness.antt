@@ -17,13 +17,13 @@ use Rattle.rtps_reader.specs.declared.attachment.Attachment.{Attachment}
 use Rattle.rtps_reader.specs.declared.step.HeartbeatSeen.{HeartbeatSeen}
 use Rattle.rtps_reader.specs.declared.step.Step.{Step}
 use Rattle.rtps_reader.specs.Tracked.{Tracked, with_data, with_gap}
-use Rattle.rtps_reader.specs.Attached.{MeetsNews, MeetsChange, MeetsHeartbeat, MeetsBeat, Rests}
+use Rattle.rtps_reader.specs.Attached.{no_news, MeetsNews, MeetsChange, MeetsHeartbeat, MeetsBeat, Rests}
 use Rattle.rtps_reader.specs.Reader.{Tracks, IsReadyAt, AllStay, AllStand, OthersStay, OthersStand, match_at, how_at, how_after}
 use Rattle.rtps_wire.specs.declared.heartbeat.Heartbeat.{Heartbeat as HeartbeatBody}
 use Rattle.rtps_wire.specs.declared.submessage.Submessage.{Submessage}
 use Rattle.rtps_wire.specs.declared.submessage.Submessage.TheVariants.{Data, Heartbeat, AckNack, Gap}
 use Rattle.rtps_wire.specs.Content.{change_in}
-use Rattle.dds_machine.specs.declared.endpoint.Endpoint.{Endpoint}
+use Rattle.dds_base.specs.declared.endpoint.Endpoint.{Endpoint}
 use Rattle.dds_machine.specs.declared.reply.Move.{Move}
 use Rattle.dds_machine.specs.declared.reply.Move.TheVariants.{Place, Heard, Begun as HasBegun}
 use Rattle.dds_protocol.specs.Claims.{Receiver, is_for, Names}
@@ -137,6 +137,7 @@ abbrev pub IsToldBounded : Told → Type 0
 IsToldBounded (told.Change number change) = number ≤ max_sn
 IsToldBounded (told.Jump number change) = number ≤ max_sn
 IsToldBounded told.Nothing = Unit {0}
+IsToldBounded told.Again = Unit {0}
 IsToldBounded (told.Gap start list) = list.base ≤ max_sn
 IsToldBounded (told.Heartbeat seen) = seen.first ≤ max_sn
 IsToldBounded (told.Beat seen) = seen.first ≤ max_sn
@@ -220,6 +221,8 @@ pub record IsAlike (old new : ReaderKept) : Type 0 where
   pub how : AllStand old.reader new.reader
   pub qos : qos_of new.store.cache ≡ qos_of old.store.cache
   pub seen : new.seen ≡ old.seen
+  pub matches : new.matches ≡ old.matches
+  pub here : new.here ≡ old.here
   pub holds : (h : List Happening) → Holds old.store h → Holds new.store h
 
 -- readers with more memory, and nothing else, in their order
@@ -242,6 +245,7 @@ TellsSo how match (told.Change number change) t h step Knows Has =
     MeetsNews how match (with_data number change) t h step Knows Has
 TellsSo how match (told.Jump number change) t h step Knows Has = MeetsChange how match t h number change step Knows Has
 TellsSo how match told.Nothing t h step Knows Has = Rests t h step Knows Has
+TellsSo how match told.Again t h step Knows Has = MeetsNews how match no_news t h step Knows Has
 TellsSo how match (told.Gap start list) t h step Knows Has =
     MeetsNews how match (with_gap start list) t h step Knows Has
 TellsSo how match (told.Heartbeat seen) t h step Knows Has =
@@ -257,6 +261,8 @@ pub record SameReader (old new : ReaderKept) : Type 0 where
   pub writers : new.writers ≡ old.writers
   pub qos : qos_of new.store.cache ≡ qos_of old.store.cache
   pub seen : new.seen ≡ old.seen
+  pub matches : new.matches ≡ old.matches
+  pub here : new.here ≡ old.here
 
 -- the reader was told, at this moment
 pub record TakesTold (old : ReaderKept) (ready : Ready) (moment : ℕ) (step : Step) (new : ReaderKept) : Type 0 where

@@ -6,14 +6,16 @@ use Rattle.dds_base.specs.declared.config.Config.{Config}
 use Rattle.dds_protocol.specs.declared.event.Event.{Event}
 use Rattle.dds_protocol.specs.declared.event.Event.TheVariants as event
 use Rattle.dds_protocol.specs.declared.event.Output.{Output}
+use Rattle.dds_machine.specs.declared.reply.Reply.{Reply}
 use Rattle.dds_machine.specs.declared.reply.Reply.TheVariants.{Reported}
 use Rattle.dds_machine.specs.declared.reply.Report.{Report}
 use Rattle.dds_protocol.specs.Backed.{IsBacked}
 use Rattle.dds_protocol.specs.Peer.{Peer, packets_of, state_of as network_of}
 use Rattle.dds_protocol.specs.DueMessages.{Due, AreSent}
-use Rattle.dds_protocol.specs.Protocol.{TakesPacket}
+use Rattle.dds_protocol.specs.Protocol.{State, TakesPacket}
+use Rattle.dds_protocol.specs.Resuming.{Resumes}
 use Rattle.dds_machine.specs.Calls.{effect_of}
-use Rattle.dds_core.specs.Sending.{SendsFor, due_at_tick}
+use Rattle.dds_core.specs.Sending.{SendsFor, SendsNothing, due_at_tick}
 
 -- all that the peer knows is claimed by what was delivered to it
 abbrev pub IsSound : Config → Peer → Type 0
@@ -28,10 +30,17 @@ pub record IsTakenByRules (config : Config) (old : Peer) (packet : List ℕ) (ou
   pub takes : TakesPacket config old.number packet (network_of old) report dues (network_of new)
   pub sent : AreSent dues output.packets output.unsent
 
--- what a call enters is announced; at a tick what is due then is sent; a delivery follows the rules of the protocol
--- (RTPS 2.5, 8.4.9, 8.4.12)
+-- where the places of a reader are tried again, the rules say what moves, and what is known then
+abbrev pub ResumesByRules : ℕ → State → Reply → State → Type 0
+ResumesByRules reader old (Reported report) new = Resumes reader old report new
+ResumesByRules reader old reply new = Unit {0}
+
+-- what a call enters is announced; at a tick what is due then is sent; a delivery follows the rules of the protocol, and
+-- so do places that are tried again, at which nothing is sent (RTPS 2.5, 8.4.9, 8.4.12)
 abbrev pub KeepsRules : Config → Peer → Event → Output → Peer → Type 0
 KeepsRules config old (event.Call call) output new = SendsFor config old (effect_of old.part call output.reply) output
 KeepsRules config old (event.Tick now) output new =
     AreSent (due_at_tick config old output.reply) output.packets output.unsent
 KeepsRules config old (event.Deliver packet) output new = IsTakenByRules config old packet output new
+KeepsRules config old (event.Resume reader) output new =
+    SendsNothing output × ResumesByRules reader (network_of old) output.reply (network_of new)

@@ -4,7 +4,7 @@
 --
 -- RTPS 2.5, 8.4.7 (StatefulWriter, ReaderProxy), 8.4.10 (StatefulReader, WriterProxy): the machine has them
 -- without packets.
-use Rattle.std.specs.Prelude.{◌≡◌, ℕ, suc, ◌<◌, ◌≤◌, List, [], map, length, get_or, slice_get, Option, Some, ℤ, All, false}
+use Rattle.std.specs.Prelude.{◌≡◌, ℕ, suc, ◌<◌, ◌≤◌, List, [], map, length, get_or, slice_get, Option, Some, ℤ, All, true, false}
 use Rattle.dds_base.specs.declared.config.Config.{Config}
 use Rattle.dds_base.specs.declared.change.Change.{Change}
 use Rattle.dds_base.specs.Bounds.{end_of_moments, greatest_value, max_readers}
@@ -17,17 +17,20 @@ use Rattle.rtps_reader.specs.Tracked.{Tracked}
 use Rattle.rtps_reader.specs.Reader.{Tracks, how_at}
 use Rattle.rtps_writer.specs.Standing.{Kept, reader_count, StandsFor as RtpsStandsFor}
 use Rattle.rtps_writer.specs.WriterState.{WriterState}
-use Rattle.dds_machine.specs.declared.endpoint.Endpoint.{Endpoint}
+use Rattle.dds_base.specs.declared.endpoint.Endpoint.{Endpoint}
 use Rattle.dds_protocol.specs.Dues.{AreTellable}
+use Rattle.dds_machine.specs.Matching.{attached_count}
 use Rattle.dds_machine.specs.Part.{Attachment, Away, Waiting, Begun, how_of, Writer, Reader, ReaderProxy, WriterProxy, no_writer, no_reader, peers_of, place_of}
 use Rattle.dds_protocol.specs.Peer.{Peer}
 use Rattle.dds_protocol.specs.Protocol.{Known}
 use Rattle.dds_core.specs.declared.matching.Destination.{Destination}
 use Rattle.dds_core.specs.declared.matching.ReaderName.{ReaderName}
+use Rattle.dds_core.specs.declared.matching.TopicName.{TopicName}
 use Rattle.dds_core.specs.declared.matching.WriterName.{WriterName}
 use Rattle.dds_core.specs.Storing.{Holds}
 use Rattle.dds_core.specs.Kept.{WriterKept, ReaderKept, PeerKept}
-use Rattle.dds_core.specs.MatchedEnds.{AreRows, is_named, last_count, readers_of}
+use Rattle.dds_core.specs.MatchCounts.{CountsFor}
+use Rattle.dds_core.specs.MatchedEnds.{AreAmong, AreNamedOnce, AreRows, is_named, last_count, readers_of, topic_reader}
 use Rattle.dds_core.specs.Identity.{identity_of, IsPeerOf}
 
 -- the state of a writer of the machine, with the count of the last ACKNACK that it took of each matched reader
@@ -51,6 +54,7 @@ CountsFrom1 p = 1 ≤ p.acknowledged
 pub record WriterStands (kept : WriterKept) (w : Writer) (answered : Endpoint → Option ℤ) : Type 0 where
   pub autodispose : w.autodispose ≡ kept.autodispose
   pub values : w.max_value ≡ kept.max_value
+  pub known : w.known ≡ map topic_reader kept.known
   pub matched : w.matched ≡ readers_of kept.matched
   pub readers : map (λ (p : ReaderProxy). p.reader) w.readers ≡ map (λ (r : ReaderName). r.reader) kept.readers
   pub writer : RtpsStandsFor kept.writer (state_of w answered)
@@ -58,6 +62,7 @@ pub record WriterStands (kept : WriterKept) (w : Writer) (answered : Endpoint �
   pub rows : AreRows kept.matched kept.readers kept.counts
   pub counted : (reader : Endpoint) → is_named kept.readers reader ≡ false
       → answered reader ≡ last_count kept.counts reader
+  pub matches : CountsFor kept.matches w.matches
 
 -- a value has at most so many octets, and no more than a datagram takes
 abbrev pub IsShort : ℕ → List ℕ → Type 0
@@ -68,11 +73,15 @@ abbrev pub AreShort : ℕ → List Change → Type 0
 AreShort most changes = (number : ℕ) (change : Change) → change_at changes number ≡ Some change
     → IsShort most change.value
 
--- what is so of each writer: it sends to the peers of its matched readers, of which there are at most 256, as there are
--- reliable readers, those are the ones of what it keeps, and that stands for some state, of changes as short as its
--- values are to be
-pub record IsWhole (most : ℕ) (matched : List ReaderName) (destinations : List Destination) (readers : List ReaderName)
-    (writer : Kept) : Type 0 where
+-- what is so of each writer: it knows at most 256 readers, each that it is matched with is one of those, it sends to
+-- their peers, its reliable readers are among them, each once, and are the ones of what it keeps, and that stands for
+-- some state, of changes as short as its values are to be
+pub record IsWhole (most : ℕ) (known : List TopicName) (matched : List ReaderName) (destinations : List Destination)
+    (readers : List ReaderName) (writer : Kept) : Type 0 where
+  pub limited : length known ≤ max_readers
+  pub matched_are : AreAmong known matched
+  pub once : AreNamedOnce readers
+  pub among : (reader : Endpoint) → is_named readers reader ≡ true → is_named matched reader ≡ true
   pub told : peers_of (readers_of matched) ≡ map (λ (d : Destination). d.peer) destinations
   pub few : length destinations ≤ max_readers
   pub many : length readers ≤ max_readers
@@ -102,8 +111,8 @@ stood_as standing.Away = Away
 stood_as standing.Waiting = Waiting
 stood_as standing.Begun = Begun
 
--- a reader of the machine, with its matched writers, how it stands to them, and what is known of them, for which what is
--- kept stands
+-- a reader of the machine, with the writers that it knows, how it stands to them, and what is known of them, for which
+-- what is kept stands
 pub record ReaderStands (kept : ReaderKept) (proxies : List WriterProxy) (r : Reader)
     (tracked : Endpoint → Tracked) : Type 0 where
   pub writers_are : map (λ (p : WriterProxy). p.writer) proxies ≡ map (λ (n : WriterName). n.writer) kept.writers
@@ -113,6 +122,8 @@ pub record ReaderStands (kept : ReaderKept) (proxies : List WriterProxy) (r : Re
   pub holds : Holds kept.store r.happened
   pub seen_is : r.seen ≡ kept.seen
   pub hows : (w : Endpoint) (k : ℕ) → IsFirstRow kept.writers w k → how_of proxies w ≡ stood_as (how_at kept.reader k)
+  pub counts : CountsFor kept.matches r.matches
+  pub here_is : kept.here ≡ attached_count proxies
 
 -- each of a peer's writers stands for the one of its number, with the counts of the last ACKNACKs that it took
 pub record WritersStand (kept : List WriterKept) (ws : List Writer) (answered : ℕ → Endpoint → Option ℤ) : Type 0 where

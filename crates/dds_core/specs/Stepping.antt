@@ -6,7 +6,7 @@ use Rattle.std.specs.Prelude.{◌≡◌, ℕ, List, Option, ℤ}
 use Rattle.std.specs.List.{AllZip}
 use Rattle.dds_base.specs.declared.config.Config.{Config}
 use Rattle.dds_base.specs.Written.{Written}
-use Rattle.dds_machine.specs.declared.endpoint.Endpoint.{Endpoint}
+use Rattle.dds_base.specs.declared.endpoint.Endpoint.{Endpoint}
 use Rattle.dds_protocol.specs.declared.event.Event.{Event}
 use Rattle.dds_protocol.specs.declared.event.Event.TheVariants as event
 use Rattle.dds_protocol.specs.declared.event.Output.{Output}
@@ -33,8 +33,8 @@ StepsBy tests old event output new = (config : Config) (peer : Peer) → StandsF
 abbrev pub Steps : PeerKept → Event → Output → PeerKept → Type 0
 Steps old event output new = StepsBy no_filters old event output new
 
--- for each state that the values stand for, this is what is sent at a call or a tick; what is sent at a delivery is
--- said by the rules of the protocol
+-- for each state that the values stand for, this is what is sent at a call or a tick; what is sent at a delivery, and
+-- where places are tried again, is said by the rules of the protocol
 abbrev pub Sends : PeerKept → Event → Output → Type 0
 Sends old (event.Call call) output =
     (config : Config) (peer : Peer) → StandsFor old config peer
@@ -43,6 +43,7 @@ Sends old (event.Tick now) output =
     (config : Config) (peer : Peer) → StandsFor old config peer
     → AreSent (due_at_tick config peer output.reply) output.packets output.unsent
 Sends old (event.Deliver packet) output = Unit {0}
+Sends old (event.Resume reader) output = Unit {0}
 
 -- For each state that the old values stand for, and of which all that is known was claimed, the event is a step to one
 -- that the new values stand for, and of which all that is known was claimed; it follows the rules of the protocol.

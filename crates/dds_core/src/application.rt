@@ -17,7 +17,7 @@ ghost use Rattle.dds_core.specs.Sending.{AreMessages, max_unsent};
 ghost use Rattle.dds_core.specs.Standing.{StandsFor as PeerStandsFor};
 ghost use Rattle.dds_core.specs.Ruling.{IsSound};
 ghost use Rattle.dds_core.specs.Twins.{Twins};
-ghost use Rattle.dds_machine.specs.Part.{own_proxies, place_of};
+ghost use Rattle.dds_machine.specs.Part.{how_of, is_attached, own_proxies, place_of};
 ghost use Rattle.dds_protocol.specs.declared.event.Event.TheVariants as event;
 ghost use Rattle.dds_protocol.specs.Peer.{Peer as PeerState};
 ghost use Rattle.dds_base.specs.declared.config.Config.{Config as ConfigOf};
@@ -28,9 +28,8 @@ use crate::marks::Marks;
 use crate::observing::Observed;
 use crate::pairing::Pair;
 use crate::twin::{Twin, pair_of};
-use dds_base::{Code, Config, Entity, Moment, Sn};
+use dds_base::{Code, Config, Endpoint, Entity, Moment, Sn};
 use dds_conditions::Filter;
-use dds_machine::Endpoint;
 use dds_notices::{Listener, Notice, Slots, StatusMask};
 use dds_protocol::{Event, Output};
 use std::alloc::Global;
@@ -85,10 +84,11 @@ impl<F: Filter, L: Listener> Core<F, L> {
         })
     }
 
-    /// One event: a call, the peer's time that goes on, or the bytes of a packet that come.
+    /// One event: a call, the peer's time that goes on, the bytes of a packet that come, or the places of a reader that are
+    /// tried again.
     ///
-    /// A call is answered as `Call` says, a tick as `Event::Tick`, and a packet by a report of what it moved, whatever
-    /// its bytes are. At a tick those whose lease is over die at the peer's readers, then its writers lose their
+    /// A call is answered as `Call` says, a tick as `Event::Tick`, a packet by a report of what it moved, whatever its bytes
+    /// are, and where places are tried again as `Event::Resume` says. At a tick those whose lease is over die at the peer's readers, then its writers lose their
     /// liveliness whose own lease is over, and then HEARTBEATs are sent. What is refused changes nothing, but for
     /// `NoData`, which is entered as the access that it is, and `Timeout` of a look at a WaitSet, which ends the wait.
     /// At the end of an event each status that was raised in it is told, once, to the listener of its entity, or else
@@ -106,7 +106,8 @@ impl<F: Filter, L: Listener> Core<F, L> {
     pub fn step(&mut self, event: Event) -> Output
         // For each state that the peer stands for, the event is a step, by what its filters mean, whose end listeners
         // are told of, to one that it stands for afterwards; what a call enters is announced, what is due at a tick is
-        // sent, and a delivered packet is taken up by the rules of the protocol, and what is due by them is sent.
+        // sent, a delivered packet is taken up by the rules of the protocol, and what is due by them is sent, and places
+        // that are tried again go as far as those let them.
         ensures step { Steps L.notices L.capacity L.becomes
             (tests_of F.meaning self.old.filtered.filters) self.old event result self.new }
         // What goes out is the written form of a message.
@@ -117,15 +118,16 @@ impl<F: Filter, L: Listener> Core<F, L> {
 
     /// One event, as `step` has it, and two equal outputs. All memory for both is asked for before anything changes, but
     /// for that of the packets: a reply whose copy finds none is refused for want of memory, or a packet's report ends at
-    /// the submessage that found none, as in `step`; a packet to be sent whose copy finds none is in neither output, and
-    /// counted in `unsent` of both.
+    /// the submessage that found none, as in `step`, and one of places that are tried again at the writer; a packet to be
+    /// sent whose copy finds none is in neither output, and counted in `unsent` of both.
     ///
     /// DDS 1.4, 2.2.2.4 and 2.2.2.5 (DataWriter, DataReader), 2.2.4.3 (access through listeners); RTPS 2.5, 8.4
     /// (behaviour).
     pub fn step_pair(&mut self, event: Event) -> (Output, Output)
         // For each state that the peer stands for, the event is a step, by what its filters mean, whose end listeners
         // are told of, to one that it stands for afterwards; what a call enters is announced, what is due at a tick is
-        // sent, and a delivered packet is taken up by the rules of the protocol, and what is due by them is sent.
+        // sent, a delivered packet is taken up by the rules of the protocol, and what is due by them is sent, and places
+        // that are tried again go as far as those let them.
         ensures step { Steps L.notices L.capacity L.becomes
             (tests_of F.meaning self.old.filtered.filters) self.old event result.0 self.new }
         // What goes out is the written form of a message.
@@ -167,6 +169,7 @@ impl<F: Filter, L: Listener> Core<F, L> {
             Event::Call(call) => self.happen(LentEvent::Call(call), twin),
             Event::Tick(now) => self.happen(LentEvent::Tick(now), twin),
             Event::Deliver(packet) => self.happen(LentEvent::Deliver(packet.as_slice()), twin),
+            Event::Resume { reader } => self.happen(LentEvent::Resume { reader }, twin),
         }
     }
 
@@ -335,17 +338,30 @@ impl<F: Filter, L: Listener> Core<F, L> {
         self.filtered.pair(writer, reader)
     }
 
-    /// The place of the reader of this number at a writer: the number of the change that it has next, from 1; `None`
-    /// where they are not matched, or where there are no such ends.
+    /// The place of the reader of this number at a writer of its topic: the number of the change that it has next, from
+    /// 1; `None` where there are no such ends. It is kept where the reader is matched with the writer no longer.
     ///
     /// RTPS 2.5, 8.4.10 (StatefulReader, WriterProxy).
     pub fn place(&self, reader: u8, writer: Endpoint) -> Option<Sn>
-        // It is the place in each state that the peer stands for, and there is one exactly if they are matched.
+        // It is the place in each state that the peer stands for, and there is one exactly if the reader knows the
+        // writer.
         ensures place { (config : ConfigOf) (peer : PeerState)
             → PeerStandsFor self.now.filtered.peer config peer
             → result ≡ place_of (own_proxies peer.part reader) writer }
     {
         self.filtered.place(reader, writer)
+    }
+
+    /// Whether the reader of this number is matched with a writer now; it is not where there are no such ends.
+    ///
+    /// RTPS 2.5, 8.4.10 (StatefulReader: matched_writers).
+    pub fn is_matched(&self, reader: u8, writer: Endpoint) -> bool
+        // It is so exactly if it is in each state that the peer stands for.
+        ensures matched { (config : ConfigOf) (peer : PeerState)
+            → PeerStandsFor self.now.filtered.peer config peer
+            → result ≡ is_attached (how_of (own_proxies peer.part reader) writer) }
+    {
+        self.filtered.is_matched(reader, writer)
     }
 
     /// What a datagram holds that would be nothing to the peer, as it stands before the datagram is delivered. It changes

@@ -93,6 +93,12 @@ impl Peer {
             Call::WaitEnd { wait_set } => self.wait_end(wait_set),
             Call::SetEnabledStatuses { entity, mask } => self.set_enabled_statuses(entity, mask),
             Call::GetStatusChanges { entity } => self.get_status_changes(entity),
+            Call::MatchReader { writer, reader } => self.match_reader(writer, reader),
+            Call::UnmatchReader { writer, reader } => self.unmatch_reader(writer, reader),
+            Call::MatchWriter { reader, writer } => self.match_writer(reader, writer),
+            Call::UnmatchWriter { reader, writer } => self.unmatch_writer(reader, writer),
+            Call::GetPublicationMatched { writer } => self.get_publication_matched(writer),
+            Call::GetSubscriptionMatched { reader } => self.get_subscription_matched(reader),
         }
     }
 

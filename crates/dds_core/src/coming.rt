@@ -6,16 +6,13 @@ ghost use Rattle.std.specs.Prelude.{◌≡◌, ◌+◌, ◌++◌, ◌<◌, ◌�
 ghost use Rattle.dds_base.specs.declared.code.Code.TheVariants.{Memory};
 ghost use Rattle.rtps_writer.specs.Standing.{StandsFor, reader_count};
 ghost use Rattle.rtps_writer.specs.WriterState.{WriterState, joined};
-ghost use Rattle.dds_core.specs.Coming.{is_last_of, last_peers, set_count, with_place, without};
+ghost use Rattle.dds_core.specs.Coming.{is_first_of, set_count, with_peer, with_place, without};
+ghost use Rattle.dds_core.specs.Beating.{first_peers};
 ghost use Rattle.dds_core.specs.MatchedEnds.{has_count, last_count};
 
 use crate::matching::{Destination, LastCount, ReaderName};
-use dds_base::Code;
-use dds_machine::Endpoint;
+use dds_base::{Code, Endpoint};
 use rtps_writer::StatefulWriter;
-
-/// How many matched reliable readers, and how many peers of matched readers, a writer has at most.
-pub const MAX_READERS: usize = 256;
 
 /// Takes the names of this reader out.
 pub fn remove_name(names: &mut Vec<ReaderName>, reader: Endpoint)
@@ -24,29 +21,40 @@ pub fn remove_name(names: &mut Vec<ReaderName>, reader: Endpoint)
     names.retain(|name| name.reader != reader);
 }
 
-/// Whether no later one of these readers is of the same peer as the one of this row.
-fn is_last_of(names: &[ReaderName], row: usize) -> bool
+/// Whether no earlier one of these readers is of the same peer as the one of this row.
+fn is_first_of(names: &[ReaderName], row: usize) -> bool
     requires { row < length names.now }
-    ensures { result ≡ is_last_of names.now row }
+    ensures { result ≡ is_first_of names.now row }
 {
     let peer = names[row].reader.peer;
-    let later = &names[row + 1..];
-    !later.iter().any(|name| name.reader.peer == peer)
+    let earlier = &names[..row];
+    !earlier.iter().any(|name| name.reader.peer == peer)
 }
 
-/// Writes the peers of these readers, each where its last reader is, over others, of which there are no fewer.
+/// Writes the peers of these readers, each where its first reader is, over others, of which there are no fewer.
 pub fn set_peers(peers: &mut Vec<Destination>, names: &[ReaderName])
-    requires { length (last_peers names.now) ≤ length peers.old.items }
-    ensures { peers.new.items ≡ last_peers names.now }
+    requires { length (first_peers names.now) ≤ length peers.old.items }
+    ensures { peers.new.items ≡ first_peers names.now }
 {
     let mut count = 0;
     for row in 0..names.len() {
-        if is_last_of(names, row) {
+        if is_first_of(names, row) {
             peers[count] = names[row].peer();
             count += 1;
         }
     }
     peers.truncate(count);
+}
+
+/// Adds this peer, unless it is there. There is room for one more.
+pub fn add_peer(peers: &mut Vec<Destination>, peer: Destination)
+    requires { vec_len peers.old < vec_capacity peers.old }
+    ensures { peers.new.items ≡ with_peer peers.old.items peer }
+{
+    if peers.as_slice().iter().any(|d| d.peer == peer.peer) {
+        return;
+    }
+    peers.push_reserved(peer);
 }
 
 /// The count that is kept of this reader, if there is one.
@@ -91,7 +99,7 @@ fn add_place(counts: &mut Vec<LastCount>, reader: Endpoint)
 ///
 /// # Errors
 ///
-/// `Memory` where a growth was refused, or there are 256 rows; all is then as it was.
+/// `Memory` where a growth was refused; all is then as it was.
 pub fn add_row(
     readers: &mut Vec<ReaderName>,
     counts: &mut Vec<LastCount>,
@@ -111,8 +119,6 @@ pub fn add_row(
     ensures rows { OnOk result
         (reader_count writer.new + length readers.old.items
         ≡ reader_count writer.old + length readers.new.items) }
-    ensures many { length readers.old.items ≤ 256
-        → OnOk result (length readers.new.items ≤ 256) }
     ensures err_readers { OnErr result (readers.new.items ≡ readers.old.items) }
     ensures err_counts { OnErr result (counts.new.items ≡ counts.old.items) }
     ensures err_writer { OnErr result (writer.new ≡ writer.old) }
@@ -120,9 +126,6 @@ pub fn add_row(
 {
     if !is_reliable {
         return Ok(());
-    }
-    if MAX_READERS <= readers.len() {
-        return Err(Code::Memory);
     }
     // Before anything changes.
     readers.reserve(1)?;

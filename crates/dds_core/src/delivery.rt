@@ -25,8 +25,8 @@ use crate::reader_told::{Ids, Ready, ReadyChange, Telling, ids_of};
 use crate::receiver::{MessageReceiver, receiver_for};
 use crate::sending::Announced;
 use crate::twin::Twin;
-use dds_base::{Code, GuidPrefix, Sequence, Sn};
-use dds_machine::{Endpoint, Move, Reply, Report};
+use dds_base::{Code, Endpoint, GuidPrefix, Sequence, Sn};
+use dds_machine::{Move, Reply, Report};
 use dds_protocol::Output;
 use rtps_reader::Step;
 use rtps_wire::{
@@ -182,7 +182,7 @@ fn push_moves(moves: &mut Moves, writer: Endpoint, reader: u8, from: Sn, step: S
 impl Peer {
     /// The reader of this index is told what is ready for it, and sends the ACKNACK that is then due. Adds the moves,
     /// for which there is room.
-    fn take_at<T: Telling>(&mut self, effects: &mut Effects, index: usize, ready: T)
+    pub(crate) fn take_at<T: Telling>(&mut self, effects: &mut Effects, index: usize, ready: T)
         requires can { CanTakeAt self.old.readers index (T.ready ready) }
         requires room { 3 ≤ effects.old.moves.room }
         requires low { effects.old.sent.unsent < max_unsent }

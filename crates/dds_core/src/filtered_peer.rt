@@ -8,7 +8,7 @@ ghost use Rattle.dds_base.specs.Number.{at_number};
 ghost use Rattle.dds_conditions.specs.Filtered.{tests_of};
 ghost use Rattle.dds_conditions.specs.Watched.{is_used, uses_in};
 ghost use Rattle.dds_machine.specs.Noticing.{at_end};
-ghost use Rattle.dds_machine.specs.Part.{Part, own_proxies, place_of};
+ghost use Rattle.dds_machine.specs.Part.{Part, how_of, is_attached, own_proxies, place_of};
 ghost use Rattle.dds_protocol.specs.Peer.{Peer as PeerState};
 ghost use Rattle.dds_base.specs.declared.config.Config.{Config as ConfigOf};
 ghost use Rattle.dds_core.specs.Filtering.{StandsFor};
@@ -29,9 +29,8 @@ use crate::observing::Observed;
 use crate::pairing::Pair;
 use crate::peer::Peer;
 use crate::twin::Twin;
-use dds_base::{Code, Config, Moment, Sn};
+use dds_base::{Code, Config, Endpoint, Moment, Sn};
 use dds_conditions::{Filter, FilterList};
-use dds_machine::Endpoint;
 use dds_notices::{Listener, Slots};
 use dds_protocol::Output;
 use std::alloc::Global;
@@ -78,10 +77,11 @@ impl<F: Filter> FilteredPeer<F> {
         })
     }
 
-    /// One event: a call, the peer's time that goes on, or the bytes of a packet that come.
+    /// One event: a call, the peer's time that goes on, the bytes of a packet that come, or the places of a reader that are
+    /// tried again.
     ///
-    /// A call is answered as `Call` says, a tick as `Event::Tick`, and a packet by a report of what it moved, whatever
-    /// its bytes are. At a tick those whose lease is over die at the peer's readers, then its writers lose their
+    /// A call is answered as `Call` says, a tick as `Event::Tick`, a packet by a report of what it moved, whatever its bytes
+    /// are, and where places are tried again as `Event::Resume` says. At a tick those whose lease is over die at the peer's readers, then its writers lose their
     /// liveliness whose own lease is over, and then HEARTBEATs are sent. What is refused changes nothing, but for
     /// `NoData`, which is entered as the access that it is, and `Timeout` of a look at a WaitSet, which ends the wait.
     /// Packets go out for a change that was made and for an assertion, one for each peer with a matched reader; at a
@@ -227,17 +227,30 @@ impl<F: Filter> FilteredPeer<F> {
         self.peer.pair(writer, reader)
     }
 
-    /// The place of the reader of this number at a writer: the number of the change that it has next, from 1; `None`
-    /// where they are not matched, or where there are no such ends.
+    /// The place of the reader of this number at a writer of its topic: the number of the change that it has next, from
+    /// 1; `None` where there are no such ends. It is kept where the reader is matched with the writer no longer.
     ///
     /// RTPS 2.5, 8.4.10 (StatefulReader, WriterProxy).
     pub fn place(&self, reader: u8, writer: Endpoint) -> Option<Sn>
-        // It is the place in each state that the peer stands for, and there is one exactly if they are matched.
+        // It is the place in each state that the peer stands for, and there is one exactly if the reader knows the
+        // writer.
         ensures place { (config : ConfigOf) (peer : PeerState)
             → PeerStandsFor self.now.peer config peer
             → result ≡ place_of (own_proxies peer.part reader) writer }
     {
         self.peer.place(reader, writer)
+    }
+
+    /// Whether the reader of this number is matched with a writer now; it is not where there are no such ends.
+    ///
+    /// RTPS 2.5, 8.4.10 (StatefulReader: matched_writers).
+    pub fn is_matched(&self, reader: u8, writer: Endpoint) -> bool
+        // It is so exactly if it is in each state that the peer stands for.
+        ensures matched { (config : ConfigOf) (peer : PeerState)
+            → PeerStandsFor self.now.peer config peer
+            → result ≡ is_attached (how_of (own_proxies peer.part reader) writer) }
+    {
+        self.peer.is_matched(reader, writer)
     }
 
     /// What a datagram holds that would be nothing to the peer, as it stands before the datagram is delivered. It changes

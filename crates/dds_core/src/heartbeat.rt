@@ -3,14 +3,14 @@
 //!
 //! RTPS 2.5, 8.4.9 (reliable StatefulWriter: heartbeatPeriod), 8.3.8 (Heartbeat), 8.7.2.2 (LIVELINESS).
 
-ghost use Rattle.std.specs.Prelude.{◌≡◌, ◌+◌, ◌<◌, ◌≤◌, ◌∷◌, [], ℤ, Option, drop, length};
+ghost use Rattle.std.specs.Prelude.{◌≡◌, ◌+◌, ◌<◌, ◌≤◌, ◌∷◌, [], ℤ, Option, length, take};
 ghost use Rattle.dds_base.specs.Bounds.{max_readers};
 ghost use Rattle.rtps_wire.specs.Messages.{IsWritable};
 ghost use Rattle.rtps_writer.specs.Standing.{reader_count, StandsFor as RtpsStandsFor};
-ghost use Rattle.dds_machine.specs.declared.endpoint.Endpoint.{Endpoint};
+ghost use Rattle.dds_base.specs.declared.endpoint.Endpoint.{Endpoint};
 ghost use Rattle.dds_machine.specs.Part.{Writer, writer_changes};
 ghost use Rattle.dds_protocol.specs.DueMessages.{AreSent};
-ghost use Rattle.dds_core.specs.Beating.{IsHeartbeatValid, AddsTo, due_to, message_to, told_to, is_last_behind, is_peer_behind, AreReadersOf, Beats};
+ghost use Rattle.dds_core.specs.Beating.{IsHeartbeatValid, AddsTo, due_to, message_to, told_to, is_first_behind, is_peer_behind, AreReadersOf, Beats};
 ghost use Rattle.dds_core.specs.Sending.{AreMessages, max_unsent};
 ghost use Rattle.dds_core.specs.Standing.{state_of};
 
@@ -63,18 +63,19 @@ fn message(alloc: Global, beat: &Beat, to: GuidPrefix) -> Message<'static>
     }
 }
 
-/// Whether some reader of this peer, among these readers of a writer from this row on, has not acknowledged all changes.
+/// Whether some reader of this peer, among the first so many of these readers of a writer, has not acknowledged all
+/// changes.
 ///
 /// RTPS 2.5, 8.4.7 (ReaderProxy, unacked_changes).
-fn is_peer_behind(writer: &StatefulWriter, readers: &[ReaderName], from: usize, peer: u8) -> bool
+fn is_peer_behind(writer: &StatefulWriter, readers: &[ReaderName], to: usize, peer: u8) -> bool
     requires count { reader_count writer.now ≡ length readers.now }
-    requires from { from ≤ length readers.now }
+    requires to { to ≤ length readers.now }
     ensures { (w : Writer) (answered : Endpoint → Option ℤ)
         → AreReadersOf w readers.now
         → RtpsStandsFor writer.now (state_of w answered)
-        → result ≡ is_peer_behind (length (writer_changes w)) peer (drop from w.readers) }
+        → result ≡ is_peer_behind (length (writer_changes w)) peer (take to w.readers) }
 {
-    for row in from..readers.len() {
+    for row in 0..to {
         let name = readers[row];
         if name.reader.peer == peer && writer.is_behind(row) {
             return true;
@@ -83,18 +84,18 @@ fn is_peer_behind(writer: &StatefulWriter, readers: &[ReaderName], from: usize, 
     false
 }
 
-/// Whether the reader of this row is the last one of its peer, among these readers of a writer, that has not acknowledged
-/// all changes.
-fn is_last_behind(writer: &StatefulWriter, readers: &[ReaderName], row: usize) -> bool
+/// Whether the reader of this row is the first one of its peer, among these readers of a writer, that has not
+/// acknowledged all changes.
+fn is_first_behind(writer: &StatefulWriter, readers: &[ReaderName], row: usize) -> bool
     requires count { reader_count writer.now ≡ length readers.now }
     requires row { row < length readers.now }
     ensures { (w : Writer) (answered : Endpoint → Option ℤ)
         → AreReadersOf w readers.now
         → RtpsStandsFor writer.now (state_of w answered)
-        → result ≡ is_last_behind (length (writer_changes w)) w.readers row }
+        → result ≡ is_first_behind (length (writer_changes w)) w.readers row }
 {
     let peer = readers[row].reader.peer;
-    writer.is_behind(row) && !is_peer_behind(writer, readers, row + 1, peer)
+    writer.is_behind(row) && !is_peer_behind(writer, readers, row, peer)
 }
 
 /// Sends a HEARTBEAT to a peer.
@@ -111,8 +112,8 @@ fn send_beat(alloc: Global, beat: &Beat, destination: &Destination, sent: &mut A
     send(alloc, sent, &message, destination.peer);
 }
 
-/// Sends a HEARTBEAT to each peer with a reader that is behind, among these readers of a writer, in the order of the last
-/// such reader of each.
+/// Sends a HEARTBEAT to each peer with a reader that is behind, among these readers of a writer, in the order of the
+/// first such reader of each.
 pub fn send_beats(
     alloc: Global,
     beat: &Beat,
@@ -130,7 +131,7 @@ pub fn send_beats(
     ensures messages { AreMessages sent.old.packets.items → AreMessages sent.new.packets.items }
 {
     for row in 0..readers.len() {
-        if is_last_behind(writer, readers, row) {
+        if is_first_behind(writer, readers, row) {
             let destination = readers[row].peer();
             send_beat(alloc, beat, &destination, sent);
         }

@@ -14,4 +14,6 @@ pub enum LentEvent<'a> {
     Tick(Moment),
     /// The bytes of a packet come, whatever they are.
     Deliver(&'a [u8]),
+    /// The places of the reader of this number are tried again.
+    Resume { reader: u8 },
 }

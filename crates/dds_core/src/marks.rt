@@ -11,40 +11,59 @@ use crate::reader_end::ReaderEnd;
 use crate::writer_end::WriterEnd;
 use dds_base::MAX_ENDS;
 
-/// Of a reader: how much had happened.
+/// Of a reader: how much had happened, and how many writers it was matched with.
 #[derive(Clone, Copy)]
 pub struct ReaderMark {
     pub happened: u64,
+    pub here: u16,
 }
 
 impl ReaderMark {
-    /// Of a reader at which nothing has happened.
-    pub const NOTHING: ReaderMark = ReaderMark { happened: 0 };
+    /// Of a reader at which nothing has happened, and that is matched with nobody.
+    pub const NOTHING: ReaderMark = ReaderMark {
+        happened: 0,
+        here: 0,
+    };
 }
 
-/// Of each writer how often its liveliness was lost, and the marks of each reader.
+/// Of a writer: how often its liveliness was lost, and how many readers were matched with it.
+#[derive(Clone, Copy)]
+pub struct WriterMark {
+    pub losses: u64,
+    pub matched: u32,
+}
+
+impl WriterMark {
+    /// Of a writer at which nothing has happened.
+    pub const NOTHING: WriterMark = WriterMark {
+        losses: 0,
+        matched: 0,
+    };
+}
+
+/// The marks of each writer and of each reader.
 #[derive(Drop)]
 pub struct Marks {
-    pub writers: [u64; MAX_ENDS],
+    pub writers: [WriterMark; MAX_ENDS],
     pub readers: [ReaderMark; MAX_ENDS],
 }
 
 impl Marks {
     /// Of a peer at which nothing has happened.
     pub const NOTHING: Marks = Marks {
-        writers: [0; MAX_ENDS],
+        writers: [WriterMark::NOTHING; MAX_ENDS],
         readers: [ReaderMark::NOTHING; MAX_ENDS],
     };
 }
 
-/// How often the liveliness of each of these writers was lost.
-pub fn mark_writers(writers: &[WriterEnd]) -> [u64; MAX_ENDS]
+/// The marks of each of these writers.
+pub fn mark_writers(writers: &[WriterEnd]) -> [WriterMark; MAX_ENDS]
     requires few { length writers.now ≤ max_ends }
     ensures { MarksWriters writers.now (length writers.now) result }
 {
-    let mut marks = [0; MAX_ENDS];
+    let mut marks = [WriterMark::NOTHING; MAX_ENDS];
     for index in 0..writers.len() {
-        marks[index] = writers[index].losses();
+        marks[index] = writers[index].mark();
     }
     marks
 }

@@ -10,10 +10,10 @@ ghost use Rattle.dds_base.specs.MatchedAt.{of_readers_in, of_writers_in};
 ghost use Rattle.dds_core.specs.Beating.{peer_of};
 ghost use Rattle.dds_core.specs.Matching.{has_reader, destinations};
 ghost use Rattle.dds_core.specs.MatchedEnds.{first_count};
-ghost use Rattle.dds_core.specs.EndNames.{all_names, all_names_in, reader_name, reader_names, writer_name, matched_writer};
+ghost use Rattle.dds_core.specs.EndNames.{topic_names, topic_names_in, reader_name, reader_names, writer_name, matched_writer};
+ghost use Rattle.dds_core.specs.declared.matching.TopicName.{TopicName as TopicNameOf};
 
-use dds_base::{Guid, GuidPrefix, MatchedWriter, PeerConfig};
-use dds_machine::Endpoint;
+use dds_base::{Endpoint, Guid, GuidPrefix, MatchedWriter, PeerConfig};
 use std::alloc::{AllocError, Global};
 
 /// A peer with a reader that a writer is matched with, by its number and by its name.
@@ -40,6 +40,13 @@ impl ReaderName {
             prefix: self.guid.prefix,
         }
     }
+}
+
+/// A reader of a writer's topic, by its number and by its name, and whether it is a reliable one.
+#[derive(Clone, Copy)]
+pub struct TopicName {
+    pub name: ReaderName,
+    pub is_reliable: bool,
 }
 
 /// A reliable reader that a writer is or was matched with, and the count of the last of its ACKNACKs that was applied
@@ -87,8 +94,8 @@ pub fn destinations(
 }
 
 /// Adds the readers of the topic among those of a peer, reliable or not.
-fn push_all_readers(
-    all: &mut Vec<ReaderName>,
+fn push_topic_names(
+    all: &mut Vec<TopicName>,
     number: u8,
     peer: &PeerConfig,
     topic: u32,
@@ -96,11 +103,12 @@ fn push_all_readers(
     requires few { length peer.now.readers ≤ max_ends }
     ensures names { OnOk result
         (all.new.items
-        ≡ all.old.items ++ all_names_in number peer.now topic 1 peer.now.readers) }
+        ≡ all.old.items ++ topic_names_in number peer.now topic 1 peer.now.readers) }
+    ensures few { OnOk result (length all.new.items ≤ length all.old.items + 16) }
 {
     for (index, reader) in peer.readers.as_slice().iter().enumerate() {
         if reader.topic == topic {
-            all.push(ReaderName {
+            let name = ReaderName {
                 reader: Endpoint {
                     peer: number,
                     number: (index + 1) as u8,
@@ -109,24 +117,40 @@ fn push_all_readers(
                     prefix: peer.prefix,
                     entity: reader.entity,
                 },
+            };
+            all.push(TopicName {
+                name,
+                is_reliable: reader.reliability.is_reliable(),
             })?;
         }
     }
     Ok(())
 }
 
-/// The readers that a writer of the topic is matched with, reliable or not.
-pub fn matched_readers(
+/// The readers of the topic, reliable or not.
+pub fn topic_names(
     alloc: Global,
     peers: &[PeerConfig],
     topic: u32,
-) -> Result<Vec<ReaderName>, AllocError>
+) -> Result<Vec<TopicName>, AllocError>
     requires checked { check_refusal peers.now ≡ None }
-    ensures names { IfOk result (λ all. all.items ≡ all_names topic peers.now) }
+    ensures names { IfOk result (λ all. all.items ≡ topic_names topic peers.now) }
+    ensures many { IfOk result (λ all. length all.items ≤ max_readers) }
 {
     let mut all = Vec::new(alloc);
     for (index, peer) in peers.iter().enumerate() {
-        push_all_readers(&mut all, (index + 1) as u8, peer, topic)?;
+        push_topic_names(&mut all, (index + 1) as u8, peer, topic)?;
+    }
+    Ok(all)
+}
+
+/// The names of these readers.
+pub fn names_of(alloc: Global, known: &[TopicName]) -> Result<Vec<ReaderName>, AllocError>
+    ensures { IfOk result (λ all. all.items ≡ map (λ (k : TopicNameOf). k.name) known.now) }
+{
+    let mut all = Vec::new(alloc);
+    for reader in known {
+        all.push(reader.name)?;
     }
     Ok(all)
 }

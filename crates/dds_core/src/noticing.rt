@@ -4,11 +4,11 @@
 
 ghost use Rattle.std.specs.Prelude.{◌≡◌, ◌≤◌, length};
 ghost use Rattle.dds_base.specs.declared.entity.Entity.TheVariants as entity;
-ghost use Rattle.dds_machine.specs.Noticing.{at_end, each_told, losses_of, reader_told, told, writer_told};
-ghost use Rattle.dds_machine.specs.Part.{Part, own_reader, own_writer};
-ghost use Rattle.dds_core.specs.Noticing.{AreMarksOf, IsMarkOf, MarksPeer, Tells};
+ghost use Rattle.dds_machine.specs.Noticing.{at_end, each_told, reader_told, told, writer_told};
+ghost use Rattle.dds_machine.specs.Part.{Part, own_proxies, own_reader, own_writer};
+ghost use Rattle.dds_core.specs.Noticing.{AreMarksOf, IsMarkOf, IsWriterMarkOf, MarksPeer, Tells};
 
-use crate::marks::{Marks, ReaderMark, mark_readers, mark_writers};
+use crate::marks::{Marks, ReaderMark, WriterMark, mark_readers, mark_writers};
 use crate::peer::Peer;
 use dds_base::Entity;
 use dds_notices::{Listener, Notice, Slots, Status};
@@ -50,7 +50,8 @@ impl Peer {
     /// Tells of what was raised at the reader of this number, by ascending bit.
     fn notify_reader<L: Listener>(&mut self, slots: &mut Slots<L>, number: u8, mark: &ReaderMark)
         requires within { (1 ≤ number) × (number ≤ length self.old.readers) }
-        ensures told { (before : Part) → IsMarkOf mark.now (own_reader before number)
+        ensures told { (before : Part)
+            → IsMarkOf mark.now (own_proxies before number) (own_reader before number)
             → Tells L.notices L.capacity L.becomes
             (reader_told before number) self.old slots.old self.new slots.new }
         ensures readers { length self.new.readers ≡ length self.old.readers }
@@ -62,28 +63,48 @@ impl Peer {
         self.tell_of_reader(slots, number, data);
         let turned = self.readers[index].turn_raised(mark);
         self.tell_of_reader(slots, number, turned);
+        let matched = self.readers[index].subscription_raised(mark);
+        self.tell_of_reader(slots, number, matched);
     }
 
-    /// Tells of the writer of this number, if its liveliness was lost: it had been so many times before.
-    fn notify_writer<L: Listener>(&mut self, slots: &mut Slots<L>, number: u8, losses: u64)
+    /// Tells whoever takes it of a status of the writer of this number, if it was raised.
+    fn tell_of_writer<L: Listener>(
+        &mut self,
+        slots: &mut Slots<L>,
+        number: u8,
+        raised: Option<Status>,
+    )
         requires within { (1 ≤ number) × (number ≤ length self.old.writers) }
-        ensures told { (before : Part) → losses ≡ losses_of (own_writer before number)
+        ensures told { Tells L.notices L.capacity L.becomes
+            (λ part. told part (entity.Writer number) raised) self.old slots.old self.new
+            slots.new }
+        ensures writers { length self.new.writers ≡ length self.old.writers }
+        ensures readers { length self.new.readers ≡ length self.old.readers }
+    {
+        let Some(status) = raised else {
+            return;
+        };
+        let entity = Entity::Writer(number);
+        if slots.takes(entity, &status) {
+            self.writers[usize::from(number) - 1].see(&status);
+            slots.tell(&Notice { entity, status });
+        }
+    }
+
+    /// Tells of what was raised at the writer of this number, by ascending bit.
+    fn notify_writer<L: Listener>(&mut self, slots: &mut Slots<L>, number: u8, mark: &WriterMark)
+        requires within { (1 ≤ number) × (number ≤ length self.old.writers) }
+        ensures told { (before : Part) → IsWriterMarkOf mark.now (own_writer before number)
             → Tells L.notices L.capacity L.becomes
             (writer_told before number) self.old slots.old self.new slots.new }
         ensures writers { length self.new.writers ≡ length self.old.writers }
         ensures readers { length self.new.readers ≡ length self.old.readers }
     {
         let index = usize::from(number) - 1;
-        let values = self.writers[index].liveliness_lost();
-        if values.total_count <= losses {
-            return;
-        }
-        let entity = Entity::Writer(number);
-        let status = Status::LivelinessLost(values);
-        if slots.takes(entity, &status) {
-            let _ = self.writers[index].get_liveliness_lost();
-            slots.tell(&Notice { entity, status });
-        }
+        let lost = self.writers[index].loss_raised(mark);
+        self.tell_of_writer(slots, number, lost);
+        let matched = self.writers[index].publication_raised(mark);
+        self.tell_of_writer(slots, number, matched);
     }
 
     /// Tells of what was raised at its writers.
@@ -95,7 +116,7 @@ impl Peer {
         ensures readers { length self.new.readers ≡ length self.old.readers }
     {
         for index in 0..self.writers.len() {
-            self.notify_writer(slots, index as u8 + 1, marks.writers[index]);
+            self.notify_writer(slots, index as u8 + 1, &marks.writers[index]);
         }
     }
 

@@ -21,8 +21,7 @@ use crate::reader_end::ReaderEnd;
 use crate::reader_told::{Ids, ids_of};
 use crate::receiver::{MessageReceiver, is_for, receiver_for};
 use crate::writer_end::WriterEnd;
-use dds_base::{EntityId, GuidPrefix};
-use dds_machine::Endpoint;
+use dds_base::{Endpoint, EntityId, GuidPrefix};
 use rtps_wire::{AckNack, Frame, MAX_MESSAGE, Submessage, begin_message, next_frame};
 
 /// What a datagram holds that would be nothing to a peer.

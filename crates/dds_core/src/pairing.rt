@@ -1,11 +1,11 @@
-//! What a network may ask of a peer: its moment, by which entity ids a writer of it and a matched reader go, and the
-//! place of a reader of it.
+//! What a network may ask of a peer: its moment, by which entity ids a writer of it and a matched reader go, the place
+//! of a reader of it, and which writers it is matched with.
 //!
 //! RTPS 2.5, 8.4.7 (StatefulWriter, matched_readers), 8.4.10 (StatefulReader, matched_writers).
 
 ghost use Rattle.std.specs.Prelude.{◌≡◌, ℕ, slice_get, Some, MatchOption};
 ghost use Rattle.dds_base.specs.declared.config.Config.{Config};
-ghost use Rattle.dds_machine.specs.Part.{own_proxies, place_of};
+ghost use Rattle.dds_machine.specs.Part.{how_of, is_attached, own_proxies, place_of};
 ghost use Rattle.dds_protocol.specs.Peer.{Peer as PeerState};
 ghost use Rattle.dds_core.specs.declared.matching.ReaderName.{ReaderName as NameOf};
 ghost use Rattle.dds_core.specs.declared.matching.WriterName.{WriterName as WriterNameOf};
@@ -14,8 +14,7 @@ ghost use Rattle.dds_core.specs.Standing.{StandsFor, IsFirstReader, IsFirstRow};
 
 use crate::matching::{ReaderName, WriterName};
 use crate::peer::Peer;
-use dds_base::{EntityId, Moment, Sn, index_of};
-use dds_machine::Endpoint;
+use dds_base::{Endpoint, EntityId, Moment, Sn, index_of};
 
 /// A writer and a reader that it is matched with, by their entity ids.
 #[derive(Clone, Copy)]
@@ -45,7 +44,7 @@ pub fn row_among(names: &[ReaderName], reader: Endpoint) -> Option<usize>
 }
 
 /// The first row of this writer, if it is among these.
-fn writer_row_among(names: &[WriterName], writer: Endpoint) -> Option<usize>
+pub fn writer_row_among(names: &[WriterName], writer: Endpoint) -> Option<usize>
     ensures { MatchOption result
         ((k : ℕ) (n : WriterNameOf) → slice_get names.now k ≡ Some n → n.writer ≡ writer → ⊥)
         (IsFirstRow names.now writer) }
@@ -94,12 +93,13 @@ impl Peer {
         })
     }
 
-    /// The place of the reader of this number at a writer: the number of the change that it has next, from 1; `None`
-    /// where they are not matched, or where there are no such ends.
+    /// The place of the reader of this number at a writer of its topic: the number of the change that it has next, from
+    /// 1; `None` where there are no such ends. It is kept where the reader is matched with the writer no longer.
     ///
     /// RTPS 2.5, 8.4.10 (StatefulReader, WriterProxy).
     pub fn place(&self, reader: u8, writer: Endpoint) -> Option<Sn>
-        // It is the place in each state that the peer stands for, and there is one exactly if they are matched.
+        // It is the place in each state that the peer stands for, and there is one exactly if the reader knows the
+        // writer.
         ensures place { (config : Config) (peer : PeerState) → StandsFor self.now config peer
             → result ≡ place_of (own_proxies peer.part reader) writer }
     {
@@ -111,5 +111,23 @@ impl Peer {
             return None;
         };
         Some(end.place(row))
+    }
+
+    /// Whether the reader of this number is matched with a writer now; it is not where there are no such ends.
+    ///
+    /// RTPS 2.5, 8.4.10 (StatefulReader: matched_writers).
+    pub fn is_matched(&self, reader: u8, writer: Endpoint) -> bool
+        // It is so exactly if it is in each state that the peer stands for.
+        ensures matched { (config : Config) (peer : PeerState) → StandsFor self.now config peer
+            → result ≡ is_attached (how_of (own_proxies peer.part reader) writer) }
+    {
+        let Some(index) = index_of(reader, self.readers.len()) else {
+            return false;
+        };
+        let end = &self.readers[index];
+        let Some(row) = writer_row_among(end.writers(), writer) else {
+            return false;
+        };
+        end.is_attached(row)
     }
 }

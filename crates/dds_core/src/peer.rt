@@ -60,9 +60,9 @@ impl Model for Peer {
 }
 
 impl Peer {
-    /// One event: a call, the peer's time that goes on, or the bytes of a packet that come. The filters tell which
-    /// samples its query conditions match, by their numbers. Where two replies are asked for, all memory for both is asked
-    /// for before anything changes.
+    /// One event: a call, the peer's time that goes on, the bytes of a packet that come, or the places of a reader that are
+    /// tried again. The filters tell which samples its query conditions match, by their numbers. Where two replies are
+    /// asked for, all memory for both is asked for before anything changes.
     #[inline(always)]
     pub fn step_by<T: Filters>(&mut self, filters: &T, event: LentEvent, twin: &mut Twin) -> Output
         // For each state that the peer stands for, the event is a step by what the filters mean, and by the rules of
@@ -80,6 +80,7 @@ impl Peer {
             LentEvent::Call(call) => self.call(filters, call, twin),
             LentEvent::Tick(now) => self.tick(now),
             LentEvent::Deliver(packet) => self.deliver(packet, twin),
+            LentEvent::Resume { reader } => self.resume(reader, twin),
         }
     }
 

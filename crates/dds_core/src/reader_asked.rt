@@ -10,12 +10,12 @@ ghost use Rattle.dds_base.specs.declared.code.Code.TheVariants.{Memory};
 ghost use Rattle.dds_base.specs.declared.happening.Happening.{Happening};
 ghost use Rattle.dds_core.specs.Expiring.{Expires, HasRoomForDeaths, IsPastCounting};
 ghost use Rattle.dds_core.specs.Identity.{reader_identity};
-ghost use Rattle.dds_core.specs.Noticing.{MarksReader, RaisesSo, SeesStatus};
-ghost use Rattle.dds_core.specs.Looking.{access_reply, TakesOnly, TellsFlags, TellsLost, TellsLiveliness, TellsMatch};
+ghost use Rattle.dds_core.specs.Noticing.{MarksReader, RaisesSo, SeesStatus, by_reader};
+ghost use Rattle.dds_core.specs.Looking.{access_reply, TakesOnly, TellsFlags, TellsLost, TellsLiveliness, TellsMatch, TellsMatches, SeesMatches};
 ghost use Rattle.dds_core.specs.Twins.{Twins};
 ghost use Rattle.dds_core.specs.Storing.{Holds};
 ghost use Rattle.dds_cache.specs.Standing.{qos_of, AccessAnswers, AfterAccess};
-ghost use Rattle.dds_machine.specs.Noticing.{data_raised, lost_raised, turn_raised};
+ghost use Rattle.dds_machine.specs.Noticing.{data_raised, lost_raised, subscription_raised, turn_raised};
 
 use crate::marks::ReaderMark;
 use crate::reader_end::ReaderEnd;
@@ -24,8 +24,8 @@ use crate::status_bits::bit_if;
 use crate::twin::Twin;
 use bitflags::Flags;
 use dds_base::{
-    Code, Handle, Key, LivelinessChangedStatus, Masks, Moment, Sample, SampleLostStatus, Selection,
-    Sequence,
+    Code, Handle, Key, LivelinessChangedStatus, Masks, MatchedStatus, Moment, Sample,
+    SampleLostStatus, Selection, Sequence,
 };
 use dds_cache::{AccessKind, Test};
 use dds_notices::{Status, StatusMask};
@@ -167,12 +167,34 @@ impl ReaderEnd {
         status
     }
 
+    /// How many matches with writers there were and are, and since the last look.
+    ///
+    /// DDS 1.4, 2.2.4.1 (SubscriptionMatchedStatus).
+    fn subscription_matched(&self) -> MatchedStatus
+        ensures { TellsMatches self.now result }
+    {
+        self.matches.status(usize::from(self.here))
+    }
+
+    /// Looks at how many matches with writers there were and are, and since the last look.
+    ///
+    /// DDS 1.4, 2.2.2.5 (get_subscription_matched_status).
+    pub fn get_subscription_matched(&mut self) -> MatchedStatus
+        ensures status { TellsMatches self.old result }
+        ensures seen { SeesMatches self.old self.new }
+    {
+        let status = self.subscription_matched();
+        self.matches.see(usize::from(self.here));
+        status
+    }
+
     /// What its statuses say before an event.
     pub fn mark(&self) -> ReaderMark
         ensures { MarksReader self.now result }
     {
         ReaderMark {
             happened: self.store.happened(),
+            here: self.here,
         }
     }
 
@@ -180,7 +202,7 @@ impl ReaderEnd {
     ///
     /// DDS 1.4, 2.2.4.1 (SAMPLE_LOST).
     pub fn lost_raised(&self, mark: &ReaderMark) -> Option<Status>
-        ensures { RaisesSo lost_raised self.now mark.now result }
+        ensures { RaisesSo (by_reader lost_raised) self.now mark.now result }
     {
         if is_after(mark.happened, self.store.passed()) {
             Some(Status::SampleLost(self.sample_lost()))
@@ -193,7 +215,7 @@ impl ReaderEnd {
     ///
     /// DDS 1.4, 2.2.4.1 (DATA_AVAILABLE).
     pub fn data_raised(&self, mark: &ReaderMark) -> Option<Status>
-        ensures { RaisesSo data_raised self.now mark.now result }
+        ensures { RaisesSo (by_reader data_raised) self.now mark.now result }
     {
         if is_after(mark.happened, self.store.data_at()) {
             Some(Status::DataAvailable)
@@ -206,12 +228,25 @@ impl ReaderEnd {
     ///
     /// DDS 1.4, 2.2.4.1 (LIVELINESS_CHANGED).
     pub fn turn_raised(&self, mark: &ReaderMark) -> Option<Status>
-        ensures { RaisesSo turn_raised self.now mark.now result }
+        ensures { RaisesSo (by_reader turn_raised) self.now mark.now result }
     {
         if is_after(mark.happened, self.store.turned()) {
             Some(Status::LivelinessChanged(self.liveliness_changed()))
         } else {
             None
+        }
+    }
+
+    /// SUBSCRIPTION_MATCHED, if it is matched with more or fewer writers than at this mark.
+    ///
+    /// DDS 1.4, 2.2.4.1 (SUBSCRIPTION_MATCHED).
+    pub fn subscription_raised(&self, mark: &ReaderMark) -> Option<Status>
+        ensures { RaisesSo (λ before was rows r. subscription_raised before rows r) self.now mark.now result }
+    {
+        if self.here == mark.here {
+            None
+        } else {
+            Some(Status::SubscriptionMatched(self.subscription_matched()))
         }
     }
 
@@ -244,7 +279,11 @@ impl ReaderEnd {
             Status::LivelinessChanged(_) => {
                 let _ = self.get_liveliness_changed();
             }
-            Status::LivelinessLost(_) => {}
+            Status::SubscriptionMatched(_) => {
+                let _ = self.get_subscription_matched();
+            }
+            // A reader has none of these.
+            Status::LivelinessLost(_) | Status::PublicationMatched(_) => {}
         }
     }
 
@@ -257,10 +296,12 @@ impl ReaderEnd {
         let lost = is_after(self.seen.entries_at_lost, self.store.passed());
         let came = is_after(self.seen.entries_at_data, self.store.data_at());
         let turned = is_after(self.seen.entries_at_turn, self.store.turned());
+        let matched = self.matches.is_flagged(usize::from(self.here));
         StatusMask::from_bits_retain(
             bit_if(lost, StatusMask::SAMPLE_LOST)
                 + (bit_if(came, StatusMask::DATA_AVAILABLE)
-                    + bit_if(turned, StatusMask::LIVELINESS_CHANGED)),
+                    + (bit_if(turned, StatusMask::LIVELINESS_CHANGED)
+                        + bit_if(matched, StatusMask::SUBSCRIPTION_MATCHED))),
         )
     }
 

@@ -2,7 +2,7 @@
 //!
 //! RTPS 2.5, 8.4.10 (StatefulReader, WriterProxy); DDS 1.4, 2.2.2.5 (DataReader).
 
-ghost use Rattle.std.specs.Prelude.{◌≡◌, ◌↔◌, ◌<◌, ℕ, length, slice_get, None, Some, IsTrue, IfSome, IfNone, IfOk, Ok};
+ghost use Rattle.std.specs.Prelude.{◌≡◌, ◌↔◌, ◌<◌, ◌≤◌, ℕ, length, slice_get, None, Some, IsTrue, IfSome, IfNone, IfOk, Ok};
 ghost use Rattle.dds_base.specs.Checked.{check_refusal};
 ghost use Rattle.rtps_wire.specs.declared.submessage.Submessage.TheVariants as submessage;
 ghost use Rattle.rtps_reader.specs.Tracked.{Tracked};
@@ -12,6 +12,7 @@ ghost use Rattle.dds_core.specs.Readiness.{receiver_at, IsFirstName, IsNamedFor,
 ghost use Rattle.dds_protocol.specs.Claims.{is_for};
 
 use crate::limits::limit_of;
+use crate::match_counts::MatchCounts;
 use crate::matching::{MatchedWriters, WriterName, matched_writers};
 use crate::receiver::{MessageReceiver, is_for};
 use crate::seen::Seen;
@@ -21,7 +22,7 @@ use rtps_reader::StatefulReader;
 use std::alloc::{AllocError, Global};
 use std::marker::Model;
 
-/// A reader, with the names of the writers that it is matched with, what it knows of them, and what it holds.
+/// A reader, with the names of the writers of its topic, what it knows of them, what it holds, and its matches.
 #[derive(Drop)]
 pub struct ReaderEnd {
     pub(crate) alloc: Global,
@@ -32,6 +33,9 @@ pub struct ReaderEnd {
     pub(crate) reader: StatefulReader,
     pub(crate) store: Store,
     pub(crate) seen: Seen,
+    pub(crate) matches: MatchCounts,
+    /// How many writers it is matched with: at most 256.
+    pub(crate) here: u16,
 }
 
 impl Model for ReaderEnd {
@@ -46,6 +50,8 @@ impl Model for ReaderEnd {
       reader = r.reader;
       store = r.store;
       seen = r.seen;
+      matches = r.matches;
+      here = r.here;
     } };
 
     ghost invariant = { λ r. FitsWriters r.writers.items r.reader r.store r.is_reliable };
@@ -82,8 +88,10 @@ impl ReaderEnd {
         ensures { IfOk result (OpensReader peers.now config.now) }
     {
         let MatchedWriters { names, qos } = matched_writers(alloc, peers, config.topic)?;
+        let here = names.len();
+        let matches = MatchCounts::with_writers(names.as_slice());
         // Its only refusal is for want of memory.
-        let Ok(reader) = StatefulReader::open(alloc, names.len()) else {
+        let Ok(reader) = StatefulReader::open(alloc, here) else {
             return Err(AllocError);
         };
         let qos = ReaderQos {
@@ -107,6 +115,8 @@ impl ReaderEnd {
             reader,
             store,
             seen: Seen::NOTHING,
+            matches,
+            here: here as u16,
         })
     }
 
@@ -124,11 +134,19 @@ impl ReaderEnd {
         self.is_reliable
     }
 
-    /// The writers that it is matched with, by their names.
+    /// The writers of its topic, by their names: it is or was matched with each.
     pub fn writers(&self) -> &[WriterName]
         ensures { result.now ≡ self.now.writers }
     {
         self.writers.as_slice()
+    }
+
+    /// How many writers it knows, of which there are 256 at most.
+    pub fn row_count(&self) -> usize
+        ensures count { result ≡ length self.now.writers }
+        ensures few { result ≤ 256 }
+    {
+        self.writers.len()
     }
 
     /// The writer of this row.

@@ -4,15 +4,30 @@
 
 ghost use Rattle.std.specs.Prelude.{◌≡◌, ◌<◌, List, length, OnOk, OnErr, IfErr};
 ghost use Rattle.dds_base.specs.declared.code.Code.TheVariants.{Memory};
-ghost use Rattle.dds_machine.specs.declared.endpoint.Endpoint.{Endpoint as EndpointOf};
+ghost use Rattle.dds_base.specs.declared.endpoint.Endpoint.{Endpoint as EndpointOf};
 ghost use Rattle.dds_machine.specs.Part.{Reader, WriterProxy, how_of, is_attached};
 ghost use Rattle.rtps_reader.specs.Tracked.{Tracked};
-ghost use Rattle.dds_core.specs.Parting.{Attaches, Detaches, IsPastParting};
+ghost use Rattle.dds_core.specs.Parting.{Attaches, Detaches, IsPastParting, joined_here, left_here};
 ghost use Rattle.dds_core.specs.Standing.{IsFirstRow, ReaderStands};
 
 use crate::reader_end::ReaderEnd;
 use dds_base::{Code, Handle, Moment};
 use rtps_reader::Attachment;
+
+/// With so many a reader is matched that was matched with so many, once it is told of one that it was matched with or
+/// not.
+fn joined_here(was: bool, here: u16) -> u16
+    ensures { result ≡ joined_here was here }
+{
+    if was { here } else { here.saturating_add(1) }
+}
+
+/// The same, once that one has left.
+fn left_here(was: bool, here: u16) -> u16
+    ensures { result ≡ left_here was here }
+{
+    if was { here.saturating_sub(1) } else { here }
+}
 
 impl ReaderEnd {
     /// Whether the reader is matched with the writer of this row, which it knows.
@@ -36,6 +51,8 @@ impl ReaderEnd {
         requires { row < length self.old.writers }
         ensures attaches { Attaches self.old row self.new }
     {
+        self.here = joined_here(self.is_attached(row), self.here);
+        self.matches.make(self.writers[row].writer);
         self.reader.attach(row);
     }
 
@@ -54,7 +71,10 @@ impl ReaderEnd {
         ensures past { OnErr result (IsPastParting self.old row now) }
         ensures memory { IfErr result (λ code. code ≡ Memory) }
     {
+        let was = self.is_attached(row);
         self.store.leave(Handle::new(row as u64 + 1), now)?;
+        self.here = left_here(was, self.here);
+        self.matches.end(self.writers[row].writer);
         self.reader.detach(row);
         Ok(())
     }

@@ -13,12 +13,12 @@ ghost use Rattle.dds_core.specs.Observing.{is_counted, is_old};
 ghost use Rattle.dds_core.specs.declared.matching.WriterName.{WriterName as WriterNameOf};
 ghost use Rattle.dds_core.specs.ObservingKept.{IsOldIn};
 ghost use Rattle.dds_core.specs.Readiness.{receiver_at, IsRowOf, NamedBy, NamesNobody, IsToldBy, HasMemory, IsPrepared, IsPreparedAt, change_ready, IsAlike, CanTake, MayDo, TakesTold, SameReader};
+ghost use Rattle.dds_core.specs.Resuming.{GoesOnAt};
 ghost use Rattle.dds_protocol.specs.Protocol.{may_do};
 
 use crate::reader_end::ReaderEnd;
 use crate::receiver::MessageReceiver;
-use dds_base::{Change, Code, EntityId, GuidPrefix, Moment, Sequence, Sn};
-use dds_machine::Endpoint;
+use dds_base::{Change, Code, Endpoint, EntityId, GuidPrefix, Moment, Sequence, Sn};
 use rtps_reader::{HeartbeatSeen, Step};
 use rtps_sets::SnSet;
 use rtps_wire::{Data, Gap, Heartbeat, Submessage};
@@ -39,6 +39,8 @@ pub enum Told {
     Beat(HeartbeatSeen),
     /// A GAP, at a best-effort reader.
     Nothing,
+    /// That the place is tried again, by what the reader knows already. No submessage tells it.
+    Again,
 }
 
 /// What a reader is told, by the writer of this row. There is memory for all that it does.
@@ -206,8 +208,17 @@ impl ReaderEnd {
         }
     }
 
-    /// Makes memory for the next submessage of the writer of this row.
-    fn make_room(&mut self, row: usize) -> Result<(), Code>
+    /// Whether the place at the writer of this row may go on by what is known already: it has begun, and the number there
+    /// can be passed over, or its change is held. One that can't needs no memory.
+    pub fn may_go_on(&self, row: usize) -> bool
+        requires { row < length self.now.writers }
+        ensures { GoesOnAt self.now row result }
+    {
+        self.reader.may_go_on(row)
+    }
+
+    /// Makes memory for the next submessage of the writer of this row, or for a try of the place there.
+    pub fn make_room(&mut self, row: usize) -> Result<(), Code>
         requires { row < length self.old.writers }
         ensures room { OnOk result (HasMemory self.new row) }
         ensures alike { IsAlike self.old self.new }
@@ -359,6 +370,7 @@ impl ReaderEnd {
                     .on_best_effort_data(&mut self.store, row, number, change, moment)
             }
             Told::Nothing => Ok(self.idle(row)),
+            Told::Again => self.reader.resume(&mut self.store, row, moment),
             Told::Gap { start, list } => self
                 .reader
                 .on_gap(&mut self.store, row, start, &list, moment),

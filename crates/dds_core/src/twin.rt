@@ -36,6 +36,7 @@ fn plain_again(alloc: Global, reply: &Reply) -> Reply
         Reply::SampleLost(status) => Reply::SampleLost(*status),
         Reply::LivelinessChanged(status) => Reply::LivelinessChanged(*status),
         Reply::LivelinessLost(status) => Reply::LivelinessLost(*status),
+        Reply::Matched(status) => Reply::Matched(*status),
         Reply::Created(number) => Reply::Created(*number),
         Reply::TriggerValue(value) => Reply::TriggerValue(*value),
         Reply::Waiting => Reply::Waiting,

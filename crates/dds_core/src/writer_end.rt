@@ -10,16 +10,19 @@ ghost use Rattle.dds_base.specs.Kept.{append_refusal};
 ghost use Rattle.dds_base.specs.Refusal.{Refuses};
 ghost use Rattle.dds_base.specs.Written.{Asserted, Registered, Changed, LookedAt, StrengthSet, is_key_registered, liveliness_lost_status};
 ghost use Rattle.rtps_wire.specs.Content.{content_of};
-ghost use Rattle.dds_machine.specs.declared.endpoint.Endpoint.{Endpoint as EndpointOf};
+ghost use Rattle.dds_base.specs.declared.endpoint.Endpoint.{Endpoint as EndpointOf};
+ghost use Rattle.dds_machine.specs.Matching.{publication_matched};
+ghost use Rattle.dds_machine.specs.Noticing.{loss_raised, publication_raised};
 ghost use Rattle.dds_machine.specs.Watching.{writer_statuses};
 ghost use Rattle.dds_machine.specs.Refusals.{strength_of, unregister_kind};
 ghost use Rattle.dds_machine.specs.Part.{ReaderProxy, Writer, history_of, writer_changes};
 ghost use Rattle.dds_core.specs.declared.matching.ReaderName.{ReaderName as NameOf};
 ghost use Rattle.dds_core.specs.Answering.{HasRoom, AreRooms, IsAskedAt, IsUnaskedAt, IsUnasked, TakesAckNack};
 ghost use Rattle.dds_core.specs.Beating.{BeatsOf, BeatsOfAll, HasNoCount, TellsOf};
-ghost use Rattle.dds_core.specs.Coming.{ForgetsRow, Joins, Leaves};
+ghost use Rattle.dds_core.specs.Coming.{ForgetsRow, Joins, Leaves, LooksAtMatches, RefusesSo, joining_refusal, leaving_refusal};
+ghost use Rattle.dds_core.specs.MatchedEnds.{is_named, known_as};
 ghost use Rattle.dds_core.specs.Identity.{writer_identity};
-ghost use Rattle.dds_core.specs.Noticing.{MarksWriter};
+ghost use Rattle.dds_core.specs.Noticing.{MarksWriter, WriterRaisesSo, WriterSeesStatus};
 ghost use Rattle.dds_core.specs.OpeningEnds.{OpensWriter};
 ghost use Rattle.dds_core.specs.Readiness.{receiver_at};
 ghost use Rattle.dds_core.specs.Sending.{AreMessages};
@@ -28,12 +31,14 @@ ghost use Rattle.dds_core.specs.Standing.{IsShort, WriterStands};
 ghost use Rattle.dds_core.specs.Stepping.{Enters, Ticks, AllTick};
 
 use crate::answering::{Answering, Room, is_from, rooms, send_answers};
-use crate::coming::{MAX_READERS, add_row, remove_name, set_count, set_peers};
+use crate::coming::{add_peer, add_row, remove_name, set_count, set_peers};
 use crate::heartbeat::{Beat, send_beats, send_to_all};
 use crate::limits::limit_of;
+use crate::marks::WriterMark;
+use crate::match_counts::MatchCounts;
 use crate::matching::{
-    Destination, LastCount, ReaderName, destinations, first_counts, matched_readers,
-    reliable_readers,
+    Destination, LastCount, ReaderName, TopicName, destinations, first_counts, names_of,
+    reliable_readers, topic_names,
 };
 use crate::pairing::row_among;
 use crate::receiver::MessageReceiver;
@@ -41,11 +46,10 @@ use crate::sending::{Announced, Sender, announce};
 use crate::status_bits::bit_if;
 use bitflags::Flags;
 use dds_base::{
-    Change, ChangeKind, Code, EntityId, GuidPrefix, Key, LivelinessLostStatus, MAX_VALUE, Moment,
-    Octets, PeerConfig, Sn, WriterConfig,
+    Change, ChangeKind, Code, Endpoint, EntityId, GuidPrefix, Key, LivelinessLostStatus, MAX_VALUE,
+    MatchedStatus, Moment, Octets, PeerConfig, Sn, WriterConfig,
 };
-use dds_machine::Endpoint;
-use dds_notices::StatusMask;
+use dds_notices::{Status, StatusMask};
 use dds_protocol::Packet;
 use rtps_wire::{AckNack, DataContent};
 use rtps_writer::{Answered, StatefulWriter};
@@ -58,6 +62,8 @@ pub struct WriterEnd {
     entity: EntityId,
     autodispose: bool,
     max_value: u32,
+    /// The readers of its topic, which never change.
+    known: Vec<TopicName>,
     /// Its matched readers, reliable or not, in the order in which they came.
     matched: Vec<ReaderName>,
     /// Their peers.
@@ -66,6 +72,7 @@ pub struct WriterEnd {
     readers: Vec<ReaderName>,
     /// Of each reliable reader that it is or was matched with.
     counts: Vec<LastCount>,
+    matches: MatchCounts,
     writer: StatefulWriter,
 }
 
@@ -80,15 +87,17 @@ impl Model for WriterEnd {
       entity = w.entity;
       autodispose = w.autodispose;
       max_value = w.max_value;
+      known = w.known.items;
       matched = w.matched.items;
       destinations = w.destinations.items;
       readers = w.readers.items;
       counts = w.counts.items;
+      matches = w.matches;
       writer = w.writer;
     } };
 
-    ghost invariant = { λ w. IsWhole w.max_value w.matched.items w.destinations.items w.readers.items
-        w.writer };
+    ghost invariant = { λ w. IsWhole w.max_value w.known.items w.matched.items w.destinations.items
+        w.readers.items w.writer };
 }
 
 impl WriterEnd {
@@ -101,7 +110,8 @@ impl WriterEnd {
         requires checked { check_refusal peers.now ≡ None }
         ensures { IfOk result (OpensWriter peers.now config.now) }
     {
-        let matched = matched_readers(alloc, peers, config.topic)?;
+        let known = topic_names(alloc, peers, config.topic)?;
+        let matched = names_of(alloc, known.as_slice())?;
         let destinations = destinations(alloc, peers, config.topic)?;
         let readers = reliable_readers(alloc, peers, config.topic)?;
         let counts = first_counts(alloc, readers.as_slice())?;
@@ -109,6 +119,7 @@ impl WriterEnd {
         let (history, lease) = (config.history, config.lease);
         let strength = config.carried_strength();
         let reliable = readers.len();
+        let matches = MatchCounts::with_readers(matched.as_slice());
         let opened = StatefulWriter::open(alloc, history, limit, lease, strength, reliable);
         let Ok(writer) = opened else {
             return Err(AllocError);
@@ -117,10 +128,12 @@ impl WriterEnd {
             entity: config.entity,
             autodispose: config.autodispose,
             max_value: config.max_value,
+            known,
             matched,
             destinations,
             readers,
             counts,
+            matches,
             writer,
         })
     }
@@ -164,6 +177,29 @@ impl WriterEnd {
             → result ≡ length (writer_changes w) }
     {
         self.writer.last()
+    }
+
+    /// What it knows of this reader, if that is one of its topic.
+    pub fn knows(&self, reader: Endpoint) -> Option<TopicName>
+        ensures { result ≡ known_as self.now.known reader }
+    {
+        for row in 0..self.known.len() {
+            let known = self.known[row];
+            if known.name.reader == reader {
+                return Some(known);
+            }
+        }
+        None
+    }
+
+    /// Whether it is matched with this reader.
+    pub fn is_matched(&self, reader: Endpoint) -> bool
+        ensures { result ≡ is_named self.now.matched reader }
+    {
+        self.matched
+            .as_slice()
+            .iter()
+            .any(|name| name.reader == reader)
     }
 
     /// Whether it has registered the instance.
@@ -233,13 +269,77 @@ impl WriterEnd {
         self.writer.liveliness_status()
     }
 
-    /// How often its liveliness was lost.
+    /// How many matches it has had and has, and since the last look.
     ///
-    /// DDS 1.4, 2.2.4.1 (LIVELINESS_LOST).
-    pub fn losses(&self) -> u64
+    /// DDS 1.4, 2.2.4.1 (PublicationMatchedStatus).
+    pub fn publication_matched(&self) -> MatchedStatus
+        ensures { (w : Writer) (answered : EndpointOf → Option ℤ) → WriterStands self.now w answered
+            → result ≡ publication_matched w }
+    {
+        self.matches.status(self.matched.len())
+    }
+
+    /// Looks at how many matches it has had and has, and since the last look.
+    ///
+    /// DDS 1.4, 2.2.2.4 (get_publication_matched_status).
+    pub fn get_publication_matched(&mut self) -> MatchedStatus
+        ensures status { (w : Writer) (answered : EndpointOf → Option ℤ)
+            → WriterStands self.old w answered → result ≡ publication_matched w }
+        ensures looks { LooksAtMatches self.old self.new }
+    {
+        let status = self.publication_matched();
+        self.matches.see(self.matched.len());
+        status
+    }
+
+    /// What its statuses say, by which is known what an event raised.
+    ///
+    /// DDS 1.4, 2.2.4.1 (LIVELINESS_LOST, PUBLICATION_MATCHED).
+    pub fn mark(&self) -> WriterMark
         ensures { MarksWriter self.now result }
     {
-        self.liveliness_lost().total_count
+        WriterMark {
+            losses: self.liveliness_lost().total_count,
+            matched: self.matched.len() as u32,
+        }
+    }
+
+    /// Its LIVELINESS_LOST, if that was lost since it was so.
+    ///
+    /// DDS 1.4, 2.2.4.2.1 (changes in plain communication status).
+    pub fn loss_raised(&self, mark: &WriterMark) -> Option<Status>
+        ensures { WriterRaisesSo loss_raised self.now mark.now result }
+    {
+        let status = self.liveliness_lost();
+        if mark.losses < status.total_count {
+            Some(Status::LivelinessLost(status))
+        } else {
+            None
+        }
+    }
+
+    /// Its PUBLICATION_MATCHED, if more or fewer readers are matched with it than when it was so.
+    ///
+    /// DDS 1.4, 2.2.4.2.1 (changes in plain communication status).
+    pub fn publication_raised(&self, mark: &WriterMark) -> Option<Status>
+        ensures { WriterRaisesSo publication_raised self.now mark.now result }
+    {
+        if self.matched.len() as u32 == mark.matched {
+            None
+        } else {
+            Some(Status::PublicationMatched(self.publication_matched()))
+        }
+    }
+
+    /// Looks at this status of it.
+    pub fn see(&mut self, status: &Status)
+        ensures { WriterSeesStatus self.old status.now self.new }
+    {
+        if let Status::PublicationMatched(_) = status {
+            let _ = self.get_publication_matched();
+        } else {
+            let _ = self.get_liveliness_lost();
+        }
     }
 
     /// Looks at how often its liveliness was lost, in all and since the last look.
@@ -261,7 +361,10 @@ impl WriterEnd {
         ensures { (w : Writer) (answered : EndpointOf → Option ℤ) → WriterStands self.now w answered
             → result ≡ writer_statuses w }
     {
-        StatusMask::from_bits_retain(bit_if(self.writer.is_lost(), StatusMask::LIVELINESS_LOST))
+        let lost = bit_if(self.writer.is_lost(), StatusMask::LIVELINESS_LOST);
+        let is_flagged = self.matches.is_flagged(self.matched.len());
+        let matched = bit_if(is_flagged, StatusMask::PUBLICATION_MATCHED);
+        StatusMask::from_bits_retain(lost + matched)
     }
 
     /// Registers an instance.
@@ -463,6 +566,7 @@ impl WriterEnd {
         ensures takes { TakesAckNack self.old prefix row body.now sent.old self.new result
             sent.new }
         ensures same { writer_identity self.new ≡ writer_identity self.old }
+        ensures matches { self.new.matches ≡ self.old.matches }
         ensures few { sent.new.unsent ≤ sent.old.unsent + window_width }
         ensures messages { AreMessages sent.old.packets.items → AreMessages sent.new.packets.items }
     {
@@ -556,35 +660,60 @@ impl WriterEnd {
         set_count(self.counts.as_mut_slice(), reader, count);
     }
 
-    /// It is told that it is no longer matched with this reader: it has nothing more of that one, and what that one alone
-    /// had not acknowledged is not kept any longer. It sends no more to that one's peer, unless another reader there is
-    /// matched. No memory is wanted.
-    ///
-    /// RTPS 2.5, 8.4.7.4 (StatefulWriter, matched_reader_remove).
-    pub fn leave(&mut self, reader: Endpoint)
-        ensures { Leaves self.old reader self.new }
-    {
-        self.forget_row(reader);
-        remove_name(&mut self.matched, reader);
-        set_peers(&mut self.destinations, self.matched.as_slice());
-    }
-
-    /// It is told that it is matched with the reader of this name, which is reliable or not, where it was not: the reader
-    /// comes last. It is owed what is made from now on, and what was made counts as acknowledged.
+    /// It is told that a reader has left: it has nothing more of that one, and what that one alone had not acknowledged
+    /// is not kept any longer. It sends no more to that one's peer, unless another reader there is matched. No memory is
+    /// wanted.
     ///
     /// # Errors
     ///
-    /// `Memory` where a growth was refused, or where it would send to more than 256 peers, or have more than 256 reliable
-    /// readers, which no configuration has; the writer is then as it was.
+    /// `BadParameter` for a reader that is none of its topic, `PreconditionNotMet` where it is not matched with that
+    /// one; the writer is then as it was.
+    ///
+    /// RTPS 2.5, 8.4.7.4 (StatefulWriter, matched_reader_remove).
+    pub fn leave(&mut self, reader: Endpoint) -> Result<(), Code>
+        ensures ok { OnOk result (Leaves self.old reader self.new) }
+        ensures accepted { OnOk result
+            (RefusesSo leaving_refusal self.old reader (λ refusal. refusal ≡ None)) }
+        ensures refused { IfErr result
+            (λ code. RefusesSo leaving_refusal self.old reader (λ refusal. refusal ≡ Some code)) }
+        ensures no_memory { IfErr result (λ code. code ≢ Memory) }
+        ensures err { OnErr result (self.new ≡ self.old) }
+    {
+        let Some(_) = self.knows(reader) else {
+            return Err(Code::BadParameter);
+        };
+        if !self.is_matched(reader) {
+            return Err(Code::PreconditionNotMet);
+        }
+        self.forget_row(reader);
+        remove_name(&mut self.matched, reader);
+        set_peers(&mut self.destinations, self.matched.as_slice());
+        self.matches.end(reader);
+        Ok(())
+    }
+
+    /// It is told that it is matched with this reader of its topic from now on: the reader comes last. It is owed what
+    /// is made from now on, and what was made counts as acknowledged.
+    ///
+    /// # Errors
+    ///
+    /// `BadParameter` for a reader that is none of its topic, `PreconditionNotMet` where it is matched with that one,
+    /// `Memory` where a growth was refused; the writer is then as it was.
     ///
     /// RTPS 2.5, 8.4.7.4 (StatefulWriter, matched_reader_add); DDS 1.4, 2.2.3 (DURABILITY: VOLATILE).
-    pub fn join(&mut self, name: ReaderName, is_reliable: bool) -> Result<(), Code>
-        ensures ok { OnOk result (Joins self.old name is_reliable self.new) }
+    pub fn join(&mut self, reader: Endpoint) -> Result<(), Code>
+        ensures ok { OnOk result (Joins self.old reader self.new) }
+        ensures accepted { OnOk result
+            (RefusesSo joining_refusal self.old reader (λ refusal. refusal ≡ None)) }
+        ensures refused { IfErr result
+            (λ code. RefusesSo joining_refusal self.old reader (λ refusal. Refuses refusal code)) }
         ensures err { OnErr result (self.new ≡ self.old) }
-        ensures memory { IfErr result (λ code. code ≡ Memory) }
     {
-        if MAX_READERS <= self.destinations.len() {
-            return Err(Code::Memory);
+        let Some(known) = self.knows(reader) else {
+            return Err(Code::BadParameter);
+        };
+        if self.is_matched(reader) {
+            return Err(Code::PreconditionNotMet);
         }
         // Before anything changes.
         self.matched.reserve(1)?;
@@ -593,12 +722,12 @@ impl WriterEnd {
             &mut self.readers,
             &mut self.counts,
             &mut self.writer,
-            name,
-            is_reliable,
+            known.name,
+            known.is_reliable,
         )?;
-        self.matched.push_reserved(name);
-        self.destinations.push_reserved(name.peer());
-        set_peers(&mut self.destinations, self.matched.as_slice());
+        self.matched.push_reserved(known.name);
+        add_peer(&mut self.destinations, known.name.peer());
+        self.matches.make(reader);
         Ok(())
     }
 }

@@ -1,18 +1,19 @@
-use Rattle.std.proofs.Common.{◌≡◌, ◌≤◌, ◌+◌, ◌++◌, ℕ, List, drop, length, length-set, set, take, refl, ap, sym, ◌∙◌, subst, arith}
+use Rattle.std.proofs.Common.{◌≡◌, ◌≤◌, ◌+◌, ℕ, List, length, length-set, set, take, refl, ap, sym, ◌∙◌, subst, arith}
 use Rattle.dds_core.specs.declared.matching.Destination.{Destination}
-use Rattle.dds_core.specs.Coming.{last_peers}
-use Rattle.dds_core.proofs.Joining.{none_written, one_written}
+use Rattle.dds_core.specs.Beating.{first_peers}
+use Rattle.dds_core.proofs.FirstPeers.{one_written, peers_by}
+use Rattle.dds_core.proofs.Joining.{no_name}
 use Rattle.dds_core.proofs.coming.set_peers.Goals as goal
-use Rattle.dds_core.proofs.coming.set_peers.Goals.{then-is_last_of, else-is_last_of}
+use Rattle.dds_core.proofs.coming.set_peers.Goals.{then-is_first_of, else-is_first_of}
 
 pub index_mut-requires : goal.index_mut-requires
 index_mut-requires c =
     let names = c.args.names.now in
     let peers : List Destination = c.loop-row.peers.items in
     let place =
-    one_written names c.loop-row.row peers c.loop-row.count _ c.loop-row-test.true
-    (sym c.is_last_of.ensures ∙ c.if-is_last_of.true) refl c.loop-row.invariant.within c.loop-row.invariant.written
-    (subst (λ (n : ℕ). length (last_peers names) ≤ n) (sym c.loop-row.invariant.room) c.requires) in
+    one_written names c.loop-row.row peers c.loop-row.count no_name _ c.loop-row-test.true
+    (sym c.is_first_of.ensures ∙ c.if-is_first_of.true) refl c.loop-row.invariant.within c.loop-row.invariant.written
+    (subst (λ (n : ℕ). length (first_peers names) ≤ n) (sym c.loop-row.invariant.room) c.requires) in
     let first = place.0 in
     let long = c.loop-row.peers.ok.0 in
     omega (arith, first, long)
@@ -24,35 +25,36 @@ loop-row-preserved c =
     let peers : List Destination = c.loop-row.peers.items in
     let count = c.loop-row.count in
     let within = c.loop-row.invariant.within in
-    let rest : List Destination = last_peers (drop (row + 1) names) in
-    elim c.if-is_last_of.branch [
-      | then-is_last_of w ↦
+    let next : List Destination = first_peers (take (row + 1) names) in
+    elim c.if-is_first_of.branch [
+      | then-is_first_of w ↦
           let one =
-          one_written names row peers count w.peer.result c.loop-row-test.true
-          (sym c.is_last_of.ensures ∙ w.if-is_last_of.true) w.peer.ensures within c.loop-row.invariant.written
-          (subst (λ (n : ℕ). length (last_peers names) ≤ n) (sym c.loop-row.invariant.room) c.requires) in
+          one_written names row peers count no_name w.peer.result c.loop-row-test.true
+          (sym c.is_first_of.ensures ∙ w.if-is_first_of.true) w.peer.ensures within c.loop-row.invariant.written
+          (subst (λ (n : ℕ). length (first_peers names) ≤ n) (sym c.loop-row.invariant.room) c.requires) in
           let place = one.0 in
-          let now : c.if-is_last_of.peers.items ≡ set peers count w.peer.result = ap (λ v. v.items) w.peers-is in
-          let size : length c.if-is_last_of.peers.items ≡ length peers =
+          let now : c.if-is_first_of.peers.items ≡ set peers count w.peer.result = ap (λ v. v.items) w.peers-is in
+          let size : length c.if-is_first_of.peers.items ≡ length peers =
           ap (λ (ds : List Destination). length ds) now ∙ length-set peers count w.peer.result in
           let counted = w.count-is in
           record {
             written =
-                subst (λ (n : ℕ). take n c.if-is_last_of.peers.items ++ rest ≡ last_peers names) (sym counted)
-                (subst (λ (ds : List Destination). take (count + 1) ds ++ rest ≡ last_peers names) (sym now) one.1);
+                subst (λ (n : ℕ). take n c.if-is_first_of.peers.items ≡ next) (sym counted)
+                (subst (λ (ds : List Destination). take (count + 1) ds ≡ next) (sym now) one.1);
             room = size ∙ c.loop-row.invariant.room;
             within = omega (arith, place, size, counted);
           }
-      | else-is_last_of w ↦
-          let now : c.if-is_last_of.peers.items ≡ peers = ap (λ v. v.items) w.peers-is in
-          let size : length c.if-is_last_of.peers.items ≡ length peers = ap (λ (ds : List Destination). length ds) now in
+      | else-is_first_of w ↦
+          let now : c.if-is_first_of.peers.items ≡ peers = ap (λ v. v.items) w.peers-is in
+          let size : length c.if-is_first_of.peers.items ≡ length peers = ap (λ (ds : List Destination). length ds) now in
           let counted = w.count-is in
           record {
             written =
-                subst (λ (n : ℕ). take n c.if-is_last_of.peers.items ++ rest ≡ last_peers names) (sym counted)
-                (subst (λ (ds : List Destination). take count ds ++ rest ≡ last_peers names) (sym now)
-                (none_written names row (take count peers) c.loop-row-test.true
-                (sym c.is_last_of.ensures ∙ w.if-is_last_of.false) c.loop-row.invariant.written));
+                subst (λ (n : ℕ). take n c.if-is_first_of.peers.items ≡ next) (sym counted)
+                (subst (λ (ds : List Destination). take count ds ≡ next) (sym now)
+                (c.loop-row.invariant.written
+                ∙ sym (peers_by names row no_name _ c.loop-row-test.true
+                (sym c.is_first_of.ensures ∙ w.if-is_first_of.false))));
             room = size ∙ c.loop-row.invariant.room;
             within = omega (arith, within, size, counted);
           }

@@ -1,10 +1,10 @@
-use Rattle.std.proofs.Common.{◌+◌, ◌<◌, [], ◌∷◌, length, sym, subst, ◌∙◌, arith, rules, true, false}
+use Rattle.std.proofs.Common.{◌+◌, ◌<◌, [], ◌∷◌, length, sym, subst, ◌∙◌, arith, rules, true}
 use Rattle.dds_core.specs.declared.matching.Destination.{Destination}
 use Rattle.dds_core.specs.declared.sending.Announced.{Announced}
 use Rattle.dds_core.specs.Beating.{AddsTo, due_to, message_to}
 use Rattle.dds_core.proofs.Beating.{SentBefore, beats_more, beats_same}
 use Rattle.dds_core.proofs.heartbeat.send_beats.Goals as goal
-use Rattle.dds_core.proofs.heartbeat.send_beats.Goals.{then-is_last_behind, else-is_last_behind}
+use Rattle.dds_core.proofs.heartbeat.send_beats.Goals.{then-is_first_behind, else-is_first_behind}
 
 pub loop-row-preserved : goal.loop-row-preserved
 loop-row-preserved c =
@@ -14,27 +14,27 @@ loop-row-preserved c =
     let before = c.loop-row.invariant in
     let few = before.few in
     let lt : row < length names = search rules in
-    elim c.if-is_last_behind.branch [
-      | then-is_last_behind v ↦
+    elim c.if-is_first_behind.branch [
+      | then-is_first_behind v ↦
           let more = v.send_beat.ensures.few in
           subst (λ (x : Announced). SentBefore beat c.args.writer.now names (row + 1) c.args.sent.now x) (sym v.sent-is)
           (record {
             few = omega (arith, few, more);
             beats = λ w answered same stands.
-                beats_more beat w names row _ true c.args.sent.now c.loop-row.sent v.send_beat.new.sent same lt
-                (sym (c.is_last_behind.ensures w answered same stands) ∙ v.if-is_last_behind.true)
+                beats_more beat w answered names row true c.args.sent.now c.loop-row.sent v.send_beat.new.sent same lt
+                (sym (c.is_first_behind.ensures w answered same stands) ∙ v.if-is_first_behind.true)
                 (before.beats w answered same stands)
                 (subst (λ (d : Destination). AddsTo (due_to d.peer (message_to beat d.prefix) ∷ []) c.loop-row.sent
                 v.send_beat.new.sent) v.peer-destination.ensures v.send_beat.ensures.adds);
             messages = λ h. v.send_beat.ensures.messages (before.messages h);
           })
-      | else-is_last_behind v ↦
+      | else-is_first_behind v ↦
           subst (λ (x : Announced). SentBefore beat c.args.writer.now names (row + 1) c.args.sent.now x) (sym v.sent-is)
           (record {
             few = omega (arith, few);
             beats = λ w answered same stands.
-                beats_same beat w names row c.args.sent.now c.loop-row.sent same lt
-                (sym (c.is_last_behind.ensures w answered same stands) ∙ v.if-is_last_behind.false)
+                beats_same beat w answered names row c.args.sent.now c.loop-row.sent same lt
+                (sym (c.is_first_behind.ensures w answered same stands) ∙ v.if-is_first_behind.false)
                 (before.beats w answered same stands);
             messages = before.messages;
           })

@@ -37,6 +37,7 @@ returns-clause-takes c = λ k name at at_name.
     c.take_acknack.new.self name c.args.effects.now.moves.items c.args.effects.now.sent _
     c.match-take_acknack.effects.moves.items c.match-take_acknack.effects.sent c.self.inside.prefix
     c.take_acknack.result c.reader-reader.result is_k at_name c.take_acknack.ensures.same
+    c.take_acknack.ensures.matches
     (ap (λ (q : PeerKept). q.prefix) c.self.view_is)
     (subst (λ (x : Announced). TakesAckNack c.index_mut-writer.result.now c.self.inside.prefix c.args.row c.args.body.now
     c.args.effects.now.sent c.take_acknack.new.self c.take_acknack.result x) (sym same_sent) c.take_acknack.ensures.takes)

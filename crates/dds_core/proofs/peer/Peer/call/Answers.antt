@@ -128,6 +128,24 @@ pub returns-in-GetStatusChanges-clause-step : goal.returns-in-GetStatusChanges-c
 returns-in-GetStatusChanges-clause-step g c =
     plainly_called _ _ _ _ _ _ c.in-GetStatusChanges.is c.get_status_changes.ensures.step refl
 
+pub returns-in-MatchReader-clause-step : goal.returns-in-MatchReader-clause-step
+returns-in-MatchReader-clause-step g c = plainly_called _ _ _ _ _ _ c.in-MatchReader.is c.match_reader.ensures.step refl
+
+pub returns-in-UnmatchReader-clause-step : goal.returns-in-UnmatchReader-clause-step
+returns-in-UnmatchReader-clause-step g c = plainly_called _ _ _ _ _ _ c.in-UnmatchReader.is c.unmatch_reader.ensures.step refl
+
+pub returns-in-MatchWriter-clause-step : goal.returns-in-MatchWriter-clause-step
+returns-in-MatchWriter-clause-step g c = plainly_called _ _ _ _ _ _ c.in-MatchWriter.is c.match_writer.ensures.step refl
+
+pub returns-in-UnmatchWriter-clause-step : goal.returns-in-UnmatchWriter-clause-step
+returns-in-UnmatchWriter-clause-step g c = plainly_called _ _ _ _ _ _ c.in-UnmatchWriter.is c.unmatch_writer.ensures.step refl
+
+pub returns-in-GetPublicationMatched-clause-step : goal.returns-in-GetPublicationMatched-clause-step
+returns-in-GetPublicationMatched-clause-step g c = plainly_called _ _ _ _ _ _ c.in-GetPublicationMatched.is c.get_publication_matched.ensures.step refl
+
+pub returns-in-GetSubscriptionMatched-clause-step : goal.returns-in-GetSubscriptionMatched-clause-step
+returns-in-GetSubscriptionMatched-clause-step g c = plainly_called _ _ _ _ _ _ c.in-GetSubscriptionMatched.is c.get_subscription_matched.ensures.step refl
+
 pub returns-in-Register-clause-twin : goal.returns-in-Register-clause-twin
 returns-in-Register-clause-twin g c = plain_twin c.args.twin.now c.register.result.reply c.register.ensures.plain
 
@@ -202,3 +220,21 @@ returns-in-SetEnabledStatuses-clause-twin g c = plain_twin c.args.twin.now c.set
 
 pub returns-in-GetStatusChanges-clause-twin : goal.returns-in-GetStatusChanges-clause-twin
 returns-in-GetStatusChanges-clause-twin g c = plain_twin c.args.twin.now c.get_status_changes.result.reply c.get_status_changes.ensures.plain
+
+pub returns-in-MatchReader-clause-twin : goal.returns-in-MatchReader-clause-twin
+returns-in-MatchReader-clause-twin g c = plain_twin c.args.twin.now c.match_reader.result.reply c.match_reader.ensures.plain
+
+pub returns-in-UnmatchReader-clause-twin : goal.returns-in-UnmatchReader-clause-twin
+returns-in-UnmatchReader-clause-twin g c = plain_twin c.args.twin.now c.unmatch_reader.result.reply c.unmatch_reader.ensures.plain
+
+pub returns-in-MatchWriter-clause-twin : goal.returns-in-MatchWriter-clause-twin
+returns-in-MatchWriter-clause-twin g c = plain_twin c.args.twin.now c.match_writer.result.reply c.match_writer.ensures.plain
+
+pub returns-in-UnmatchWriter-clause-twin : goal.returns-in-UnmatchWriter-clause-twin
+returns-in-UnmatchWriter-clause-twin g c = plain_twin c.args.twin.now c.unmatch_writer.result.reply c.unmatch_writer.ensures.plain
+
+pub returns-in-GetPublicationMatched-clause-twin : goal.returns-in-GetPublicationMatched-clause-twin
+returns-in-GetPublicationMatched-clause-twin g c = plain_twin c.args.twin.now c.get_publication_matched.result.reply c.get_publication_matched.ensures.plain
+
+pub returns-in-GetSubscriptionMatched-clause-twin : goal.returns-in-GetSubscriptionMatched-clause-twin
+returns-in-GetSubscriptionMatched-clause-twin g c = plain_twin c.args.twin.now c.get_subscription_matched.result.reply c.get_subscription_matched.ensures.plain

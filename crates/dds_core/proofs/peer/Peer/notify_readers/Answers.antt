@@ -1,6 +1,6 @@
 use Rattle.std.proofs.Common.{length, arith, rules, refl, ap, ◌∙◌}
 use Rattle.dds_machine.specs.Noticing.{reader_told}
-use Rattle.dds_machine.specs.Part.{own_reader}
+use Rattle.dds_machine.specs.Part.{own_proxies, own_reader}
 use Rattle.dds_core.specs.Kept.{PeerKept}
 use Rattle.dds_core.specs.Noticing.{IsMarkOf}
 use Rattle.dds_core.proofs.Notified.{tells_all, tells_first, tells_marked}
@@ -23,7 +23,8 @@ pub loop-index-preserved : goal.loop-index-preserved
 loop-index-preserved g c = record {
   told = λ before marks.
       tells_marked g.L.Listener.notices g.L.Listener.capacity g.L.Listener.becomes c.args.marks.now.readers
-      (record { happened = 0 }) (λ mark i. IsMarkOf mark (own_reader before i)) (reader_told before)
+      (record { happened = 0; here = 0 })
+      (λ mark i. IsMarkOf mark (own_proxies before i) (own_reader before i)) (reader_told before)
       c.args.self.now c.args.slots.now c.loop-index.self c.loop-index.slots c.notify_reader.new.self
       c.notify_reader.new.slots c.loop-index.index _ _ 16 c.loop-index-test.true c.len-index-end.ensures
       (omega (arith, c.self.invariant.1)) (search rules) marks.readers (c.loop-index.invariant.told before marks)

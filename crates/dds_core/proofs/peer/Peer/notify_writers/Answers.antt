@@ -1,7 +1,8 @@
-use Rattle.std.proofs.Common.{◌≡◌, length, arith, rules, refl, ap, ◌∙◌}
-use Rattle.dds_machine.specs.Noticing.{losses_of, writer_told}
+use Rattle.std.proofs.Common.{length, arith, rules, refl, ap, ◌∙◌}
+use Rattle.dds_machine.specs.Noticing.{writer_told}
 use Rattle.dds_machine.specs.Part.{own_writer}
 use Rattle.dds_core.specs.Kept.{PeerKept}
+use Rattle.dds_core.specs.Noticing.{IsWriterMarkOf}
 use Rattle.dds_core.proofs.Notified.{tells_all, tells_first, tells_marked}
 use Rattle.dds_core.proofs.peer.Peer.notify_writers.Goals as goal
 
@@ -22,8 +23,9 @@ notify_writer-requires g c =
 pub loop-index-preserved : goal.loop-index-preserved
 loop-index-preserved g c = record {
   told = λ before marks.
-      tells_marked g.L.Listener.notices g.L.Listener.capacity g.L.Listener.becomes c.args.marks.now.writers 0
-      (λ mark i. mark ≡ losses_of (own_writer before i)) (writer_told before)
+      tells_marked g.L.Listener.notices g.L.Listener.capacity g.L.Listener.becomes c.args.marks.now.writers
+      (record { losses = 0; matched = 0 })
+      (λ mark i. IsWriterMarkOf mark (own_writer before i)) (writer_told before)
       c.args.self.now c.args.slots.now c.loop-index.self c.loop-index.slots c.notify_writer.new.self
       c.notify_writer.new.slots c.loop-index.index _ _ 16 c.loop-index-test.true c.len-index-end.ensures
       (omega (arith, c.self.invariant.0)) (search rules) marks.writers (c.loop-index.invariant.told before marks)

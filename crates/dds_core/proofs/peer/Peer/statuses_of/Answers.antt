@@ -1,7 +1,7 @@
 use Rattle.std.proofs.Common.{ℕ, suc, ◌<◌, length, sym, ◌∙◌, ap, rules, refl}
 use Rattle.std.proofs.lemmas.Option.{slice_get_read}
 use Rattle.dds_base.specs.declared.entity.Entity.{Entity}
-use Rattle.dds_machine.specs.Part.{own_reader, own_writer}
+use Rattle.dds_machine.specs.Part.{own_proxies, own_reader, own_writer}
 use Rattle.dds_machine.specs.Watching.{reader_statuses, status_changes, writer_statuses}
 use Rattle.dds_core.proofs.CallSteps.{number_is, still_stands}
 use Rattle.dds_core.proofs.peer.Peer.statuses_of.Goals as goal
@@ -25,6 +25,6 @@ returns-in-Some-index_of c = λ config peer given.
     c.status_changes-in-Some-index_of.ensures _ _ _
     (s.readers.each i c.index-in-Some-index_of.result.now
     (slice_get_read _ _ _ _ refl within c.index-in-Some-index_of.ensures))
-    ∙ (ap (λ (n : ℕ). reader_statuses (own_reader peer.part n))
+    ∙ (ap (λ (n : ℕ). reader_statuses (own_proxies peer.part n) (own_reader peer.part n))
     (number_is c.in-Reader.number i c.in-Some-index_of.ensures.index.0)
     ∙ ap (λ (e : Entity). status_changes peer.part e) (sym c.in-Reader.is))

@@ -2,7 +2,7 @@ use Rattle.std.proofs.Common.{sym, subst}
 use Rattle.dds_core.specs.declared.lent_event.LentEvent.{LentEvent}
 use Rattle.dds_core.specs.Lending.{event_of}
 use Rattle.dds_core.specs.Stepping.{SoundStepsBy}
-use Rattle.dds_core.proofs.AnyTests.{any_delivery, any_tick}
+use Rattle.dds_core.proofs.AnyTests.{any_delivery, any_resume, any_tick}
 use Rattle.dds_core.proofs.Taking.{sound_call, sound_tick}
 use Rattle.dds_core.proofs.peer.Peer.step_by.Goals as goal
 
@@ -25,3 +25,10 @@ returns-in-Deliver-clause-step g c =
     (g.T.Filters.meaning c.args.filters.now) c.args.self.now (event_of x) c.deliver.result c.deliver.new.self)
     (sym c.in-Deliver.is)
     (any_delivery _ _ _ _ _ c.deliver.ensures.step)
+
+pub returns-in-Resume-clause-step : goal.returns-in-Resume-clause-step
+returns-in-Resume-clause-step g c =
+    subst (λ (x : LentEvent). SoundStepsBy
+    (g.T.Filters.meaning c.args.filters.now) c.args.self.now (event_of x) c.resume.result c.resume.new.self)
+    (sym c.in-Resume.is)
+    (any_resume _ _ _ _ _ c.resume.ensures.step)

@@ -13,6 +13,8 @@ returns-clause-past c = λ is.
       reader = c.self.inside.reader;
       store = c.self.inside.store;
       seen = c.self.inside.seen;
+      matches = c.self.inside.matches;
+      here = c.self.inside.here;
     } in
     subst (λ (k : ReaderKept). IsPastCounting k c.args.now) c.self.view_is
     (past_counting kept c.args.now (c.counts_deaths.ensures.past is))

@@ -14,6 +14,8 @@ returns c = record {
         reader = c.self.inside.reader;
         store = c.self.inside.store;
         seen = c.self.inside.seen;
+        matches = c.self.inside.matches;
+        here = c.self.inside.here;
       } in
       subst (λ (k : ReaderKept). Expires k c.args.now (record kept { store = c.expire.new.self })) c.self.view_is
       (expires kept c.args.now c.expire.new.self c.expire.ensures.qos c.expire.ensures.died);

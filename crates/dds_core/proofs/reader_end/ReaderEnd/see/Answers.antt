@@ -1,4 +1,4 @@
-use Rattle.dds_core.proofs.Notified.{sees_data, sees_lost, sees_turn}
+use Rattle.dds_core.proofs.Notified.{sees_data, sees_lost, sees_matches, sees_turn}
 use Rattle.dds_core.proofs.reader_end.ReaderEnd.see.Goals as goal
 
 pub returns-in-SampleLost-clause-sees : goal.returns-in-SampleLost-clause-sees
@@ -19,3 +19,8 @@ returns-in-LivelinessChanged-clause-sees c =
     c.get_liveliness_changed.result
     c.get_liveliness_changed.new.self.seen c.in-LivelinessChanged.is c.get_liveliness_changed.ensures.status
     c.get_liveliness_changed.ensures.seen
+
+pub returns-in-SubscriptionMatched-clause-sees : goal.returns-in-SubscriptionMatched-clause-sees
+returns-in-SubscriptionMatched-clause-sees c =
+    sees_matches c.args.self.now c.get_subscription_matched.new.self c.args.status.now c.in-SubscriptionMatched.field-0
+    c.in-SubscriptionMatched.is c.get_subscription_matched.ensures.seen

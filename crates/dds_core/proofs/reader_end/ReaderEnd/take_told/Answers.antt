@@ -63,3 +63,13 @@ pub returns-in-Nothing-clause-told : goal.returns-in-Nothing-clause-told
 returns-in-Nothing-clause-told c =
     nothing_told c.args.self.now c.args.ready c.args.moment c.idle.result c.in-Nothing.is c.idle.ensures.idle
     c.idle.ensures.begun
+
+pub invariant_of-self-in-Again : goal.invariant_of-self-in-Again
+invariant_of-self-in-Again c = fits_on c.self.invariant c.resume.ensures.keeps.qos c.resume.ensures.keeps.count
+
+pub returns-in-Again-clause-told : goal.returns-in-Again-clause-told
+returns-in-Again-clause-told c =
+    let keeps = c.resume.ensures.keeps in
+    ok_if c.resume.result
+    (λ step ok. answer_told c.self.view_is c.args.ready c.args.moment c.resume.result step told.Again c.in-Again.is ok
+    c.resume.ensures.meets keeps.others keeps.how keeps.others_how)

@@ -7,7 +7,7 @@ use Rattle.dds_core.proofs.writer_end.WriterEnd.append.Goals as goal
 
 pub invariant_of-self : goal.invariant_of-self
 invariant_of-self c =
-    whole_if c.write.result c.self.inside.max_value c.self.inside.matched.items c.self.inside.destinations.items c.self.inside.readers.items c.self.inside.writer
+    whole_if c.write.result c.self.inside.max_value c.self.inside.known.items c.self.inside.matched.items c.self.inside.destinations.items c.self.inside.readers.items c.self.inside.writer
     c.write.new.self c.args.change c.self.invariant
     (subst (λ (k : WriterKept). IsShort k.max_value c.args.change.value) (sym c.self.view_is) c.requires.short)
     c.write.ensures.readers c.write.ensures.ok

@@ -1,4 +1,4 @@
-use Rattle.std.proofs.Common.{◌≡◌, true, List, Some, ap, sym, subst, ◌∙◌}
+use Rattle.std.proofs.Common.{true, List, refl, ap, sym, subst, ◌∙◌}
 use Rattle.std.specs.Prelude.{Ok}
 use Rattle.dds_base.specs.Written.{Asserted}
 use Rattle.dds_protocol.specs.DueMessages.{Due, AreSent}
@@ -7,7 +7,7 @@ use Rattle.dds_core.specs.declared.matching.Destination.{Destination}
 use Rattle.dds_core.specs.Beating.{assertions_of, told_to}
 use Rattle.dds_core.specs.Kept.{WriterKept}
 use Rattle.dds_core.specs.Standing.{state_of}
-use Rattle.dds_core.proofs.Asserting.{count_left, told_are, valid_told}
+use Rattle.dds_core.proofs.Asserting.{count_left, nowhere, told_are, told_none, valid_told}
 use Rattle.dds_core.proofs.WriterEnds.{enters_if, kept_as, stands_there}
 use Rattle.dds_core.proofs.writer_end.WriterEnd.assert.Goals as goal
 
@@ -26,8 +26,9 @@ returns-clause-ok c =
 pub returns-clause-tells : goal.returns-clause-tells
 returns-clause-tells c = λ w answered s.
     let kept : WriterKept =
-    kept_as c.self.inside.entity c.self.inside.autodispose c.self.inside.max_value c.self.inside.matched.items
-    c.self.inside.destinations.items c.self.inside.readers.items c.self.inside.counts.items c.self.inside.writer in
+    kept_as c.self.inside.entity c.self.inside.autodispose c.self.inside.max_value c.self.inside.known.items
+    c.self.inside.matched.items c.self.inside.destinations.items c.self.inside.readers.items c.self.inside.counts.items
+    c.self.inside.matches c.self.inside.writer in
     let beat : Beat =
     record { prefix = c.args.prefix; entity = c.self.inside.entity; due = c.in-Some.due; asserts = true } in
     let sent = c.send_to_all.result in
@@ -41,4 +42,28 @@ returns-clause-tells c = λ w answered s.
           (ap (λ (ds : List Destination). told_to beat ds) c.as_slice.ensures.value
           ∙ told_are c.args.prefix kept w answered _ c.args.now c.in-Some.due due)
           c.send_to_all.ensures.sent),
+    )
+
+pub returns-in_default-clause-ok : goal.returns-in_default-clause-ok
+returns-in_default-clause-ok c =
+    enters_if {A = Unit {0}} {B = Unit {0}} (Ok tt) _ c.args.self.now
+    (Asserted c.args.now) c.assert.new.self c.self.view_is
+    c.in_ok-due.ensures.ok
+
+pub returns-in_default-clause-tells : goal.returns-in_default-clause-tells
+returns-in_default-clause-tells c = λ w answered s.
+    let kept : WriterKept =
+    kept_as c.self.inside.entity c.self.inside.autodispose c.self.inside.max_value c.self.inside.known.items
+    c.self.inside.matched.items c.self.inside.destinations.items c.self.inside.readers.items c.self.inside.counts.items
+    c.self.inside.matches c.self.inside.writer in
+    let here = stands_there kept c.args.self.now w answered c.self.view_is s in
+    let accepted = c.in_ok-due.ensures.accepted (state_of w answered) here.writer in
+    let due = sym accepted.1 ∙ c.in_default.is in (
+      count_left w answered accepted.0,
+      subst (λ (k : WriterKept). AreSent (assertions_of c.args.prefix k w) c.new.result.items 0) c.self.view_is
+          (subst (λ (dues : List Due). AreSent dues c.new.result.items 0)
+          (told_none c.args.prefix kept w answered _ c.args.now
+          (nowhere c.self.inside.destinations.items c.len-is_matched.result
+          (c.len-is_matched.ensures ∙ c.self.inside.destinations.ok.0)) due)
+          (c.new.ensures.items, refl)),
     )

@@ -6,7 +6,7 @@ use Rattle.dds_core.specs.declared.matching.ReaderName.{ReaderName}
 use Rattle.dds_core.specs.Coming.{set_count}
 use Rattle.dds_core.specs.Standing.{IsFirstReader}
 use Rattle.dds_core.proofs.Joining.{as_many_counts}
-use Rattle.dds_core.proofs.Leaves.{forgets_nothing, forgets_row}
+use Rattle.dds_core.proofs.Leaves.{forgets_nothing, forgets_row, whole_left}
 use Rattle.dds_core.proofs.writer_end.WriterEnd.forget_row.Goals as goal
 
 pub returns-in_default : goal.returns-in_default
@@ -29,5 +29,14 @@ returns c =
     ap (λ (cs : List LastCount). length cs) set
     ∙ (as_many_counts lasts reader count ∙ sym c.self.inside.counts.ok.0) in
     forgets_row _ c.args.self.now reader row c.remove.new.self.items _ count c.leave-count.new.self c.self.view_is first
-    c.remove.ensures.items (with_items_is c.self.inside.counts c.set_count.new.counts size ∙ set)
+    c.self.invariant.once c.remove.ensures.items (with_items_is c.self.inside.counts c.set_count.new.counts size ∙ set)
     c.leave-count.ensures.stands c.leave-count.ensures.count
+
+pub invariant_of-self : goal.invariant_of-self
+invariant_of-self c =
+    whole_left c.self.inside.max_value c.self.inside.known.items c.self.inside.matched.items
+    c.self.inside.destinations.items c.self.inside.readers.items c.remove.new.self.items c.self.inside.writer
+    c.leave-count.new.self c.args.reader c.in-Some.row c.self.invariant
+    (subst (λ (ns : List ReaderName). IsFirstReader ns c.args.reader c.in-Some.row) c.as_slice.ensures.value
+    c.in-Some.ensures)
+    c.remove.ensures.items c.leave-count.ensures.readers c.leave-count.ensures.stands

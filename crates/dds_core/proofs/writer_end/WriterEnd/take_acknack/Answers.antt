@@ -38,6 +38,10 @@ pub invariant_of-self : goal.invariant_of-self
 invariant_of-self c =
     let whole = c.self.invariant in
     record {
+      limited = whole.limited;
+      matched_are = whole.matched_are;
+      once = whole.once;
+      among = whole.among;
       told = whole.told;
       few = whole.few;
       many = whole.many;
@@ -50,8 +54,9 @@ invariant_of-self c =
 pub returns-clause-takes : goal.returns-clause-takes
 returns-clause-takes c =
     let old : WriterKept =
-    kept_as c.self.inside.entity c.self.inside.autodispose c.self.inside.max_value c.self.inside.matched.items
-    c.self.inside.destinations.items c.self.inside.readers.items c.self.inside.counts.items c.self.inside.writer in
+    kept_as c.self.inside.entity c.self.inside.autodispose c.self.inside.max_value c.self.inside.known.items
+    c.self.inside.matched.items c.self.inside.destinations.items c.self.inside.readers.items c.self.inside.counts.items
+    c.self.inside.matches c.self.inside.writer in
     let within : c.args.row < length c.self.inside.readers.items =
     let row = c.requires.row in let same = ap (λ (k : WriterKept). length k.readers) c.self.view_is in
     omega (arith, row, same) in

@@ -38,8 +38,9 @@ returns-clause-beats c = λ w answered s.
     let old = c.args.sent.now in
     let new = c.send_beats.new.sent in
     let kept : WriterKept =
-    kept_as c.self.inside.entity c.self.inside.autodispose c.self.inside.max_value c.self.inside.matched.items
-    c.self.inside.destinations.items c.self.inside.readers.items c.self.inside.counts.items c.self.inside.writer in
+    kept_as c.self.inside.entity c.self.inside.autodispose c.self.inside.max_value c.self.inside.known.items
+    c.self.inside.matched.items c.self.inside.destinations.items c.self.inside.readers.items c.self.inside.counts.items
+    c.self.inside.matches c.self.inside.writer in
     let beat : Beat =
     record { prefix = c.args.prefix; entity = c.self.inside.entity; due = c.in-Some.due; asserts = false } in
     let here = stands_there kept c.args.self.now w answered c.self.view_is s in

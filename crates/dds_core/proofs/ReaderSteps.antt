@@ -1,0 +1,240 @@
+-- What a writer that is told of a reader, or that a reader has left, or at whose matches the application looks, does to
+-- a peer.
+use Rattle.std.proofs.Common.{◌≡◌, ◌≢◌, ◌⊎◌, ℕ, zero, suc, ◌+◌, ◌<◌, Bool, not, List, [], ◌∷◌, Option, None, Some, length, set, slice_get, refl, ap, sym, subst, ◌∙◌, arith, inl, inr, ⊎_elim, length-set}
+use Rattle.std.specs.Prelude.{ℤ, if◌then◌else◌}
+use Rattle.std.proofs.lemmas.List.{length-map}
+use Rattle.std.proofs.lemmas.Option.{same_Some}
+use Rattle.dds_base.specs.declared.code.Code.{Code}
+use Rattle.dds_base.specs.declared.code.Code.TheVariants.{BadParameter, Memory}
+use Rattle.dds_base.specs.declared.config.Config.{Config}
+use Rattle.dds_base.specs.declared.config.WriterConfig.{WriterConfig}
+use Rattle.dds_base.specs.declared.endpoint.Endpoint.{Endpoint}
+use Rattle.dds_base.specs.declared.status.MatchedStatus.{MatchedStatus}
+use Rattle.dds_base.specs.Refusal.{Refuses}
+use Rattle.dds_machine.specs.declared.call.Call.TheVariants as call
+use Rattle.dds_machine.specs.declared.reply.Reply.TheVariants.{Done, Matched, Refused}
+use Rattle.dds_machine.specs.Matching.{joined, knows_reliable, left, publication_matched, writer_looked_at}
+use Rattle.dds_machine.specs.Part.{Writer, at_writer, own_writer, writer_changes}
+use Rattle.dds_machine.specs.Refusals.{writer_refusal}
+use Rattle.dds_protocol.specs.declared.event.Event.TheVariants as event
+use Rattle.dds_protocol.specs.Peer.{Peer}
+use Rattle.dds_core.specs.Coming.{Joins, Leaves, LooksAtMatches, RefusesSo, joining_refusal, leaving_refusal}
+use Rattle.dds_core.specs.Identity.{IsPeerOf, IsWriterOf, WriterIdentity, identity_of, writer_identity}
+use Rattle.dds_core.specs.Kept.{PeerKept, WriterKept}
+use Rattle.dds_core.specs.Standing.{StandsFor, WriterStands}
+use Rattle.dds_core.proofs.CallSteps.{Follows, answered_as, number_is, refused_call, there_is}
+use Rattle.dds_core.proofs.Ends.{own_writer_put, unchanged_with, with_writer, writer_put}
+use Rattle.dds_core.proofs.Lists.{get-map, map-get}
+use Rattle.dds_core.proofs.Taking.{silent}
+use Rattle.dds_core.proofs.Tellable.{tellable_put}
+
+-- ---- who the writers are
+
+-- what is at an index is what was put there, or what was there
+put_or_there : {X : Type 0} (xs : List X) (i j : ℕ) (x y : X) → slice_get (set xs i x) j ≡ Some y
+    → ((i ≡ j) × (x ≡ y)) ⊎ (slice_get xs j ≡ Some y)
+put_or_there [] i j x y at = inr at
+put_or_there (a ∷ xs) zero zero x y at = inl (refl, same_Some x y at)
+put_or_there (a ∷ xs) zero (suc j) x y at = inr at
+put_or_there (a ∷ xs) (suc i) zero x y at = inr at
+put_or_there (a ∷ xs) (suc i) (suc j) x y at =
+    ⊎_elim (λ f. inl (ap suc f.0, f.1)) (λ f. inr f) (put_or_there xs i j x y at)
+
+-- another writer of the configuration in the place of one
+peer_of_writer : (kept : PeerKept) (i : ℕ) (k k' : WriterKept) (config : Config) (number : ℕ)
+    → slice_get kept.writers i ≡ Some k
+    → ((w : WriterConfig) → IsWriterOf config.peers w (writer_identity k)
+    → IsWriterOf config.peers w (writer_identity k'))
+    → IsPeerOf config number (identity_of kept) → IsPeerOf config number (identity_of (with_writer kept i k'))
+peer_of_writer kept i k k' config number at still is = record {
+  checked = is.checked;
+  own = is.own;
+  at = is.at;
+  prefix = is.prefix;
+  count =
+      length-map (set kept.writers i k') writer_identity
+      ∙ (length-set kept.writers i k' ∙ (sym (length-map kept.writers writer_identity) ∙ is.count));
+  writers = λ j w x at_w at_x.
+      let f = get-map writer_identity (set kept.writers i k') j x at_x in
+      ⊎_elim
+      (λ here.
+      subst (λ (y : WriterIdentity). IsWriterOf config.peers w y) (ap writer_identity here.1 ∙ f.2)
+      (still w (is.writers i w (writer_identity k) (ap (λ (n : ℕ). slice_get is.own.writers n) here.0 ∙ at_w)
+      (map-get writer_identity kept.writers i k at))))
+      (λ there.
+      is.writers j w x at_w
+      (map-get writer_identity kept.writers j f.0 there ∙ ap (λ (y : WriterIdentity). Some y) f.2))
+      (put_or_there kept.writers i j k' f.0 f.1);
+  readers = is.readers;
+}
+
+-- ---- the end of that number
+
+-- a peer with another writer of this index, which is one of the configuration as it was
+told : (kept : PeerKept) (i : ℕ) (k k' : WriterKept) (config : Config) (peer : Peer) → StandsFor kept config peer
+    → slice_get kept.writers i ≡ Some k
+    → ((w : WriterConfig) → IsWriterOf config.peers w (writer_identity k)
+    → IsWriterOf config.peers w (writer_identity k'))
+    → (w : Writer) → WriterStands k' w (peer.known.answered (suc i))
+    → writer_changes w ≡ writer_changes (own_writer peer.part (suc i))
+    → StandsFor (with_writer kept i k') config (record peer { part = at_writer peer.part (suc i) w })
+told kept i k k' config peer s at still w stands same =
+    own_writer_put config peer kept s i k k' at (peer_of_writer kept i k k' config peer.number at still s.is_peer) w
+    peer.known.answered stands (λ j apart r. refl) (tellable_put peer.part (suc i) w s.tellable same)
+
+-- ---- a reader that comes
+
+joins : (kept : PeerKept) (i : ℕ) (k k' : WriterKept) (reader : Endpoint) (config : Config) (peer : Peer)
+    → StandsFor kept config peer → slice_get kept.writers i ≡ Some k
+    → RefusesSo joining_refusal k reader (λ refusal. refusal ≡ None) → Joins k reader k'
+    → Follows (with_writer kept i k') config peer (event.Call (call.MatchReader (suc i) reader)) (silent Done)
+joins kept i k k' reader config peer s at accepted j =
+    let w : Writer = own_writer peer.part (suc i) in
+    let stands = s.writers.each i k at in (
+      record peer { part = at_writer peer.part (suc i) (joined w reader (knows_reliable w reader)) },
+      record {
+        same_number = refl;
+        knows = refl;
+        step = (
+          record { answers = (accepted w (peer.known.answered (suc i)) stands, refl, refl); rtps = refl },
+          refl,
+        );
+        sent = λ p x m h. absurd (omega (arith, m.1));
+      },
+      told kept i k k' config peer s at
+          (λ c is. record {
+            entity = j.same.entity ∙ is.entity;
+            autodispose = j.same.autodispose ∙ is.autodispose;
+            max_value = j.same.max_value ∙ is.max_value;
+            known = j.same.known ∙ is.known;
+            ends = j.ends config.peers c.topic is.known is.ends;
+          }) (joined w reader (knows_reliable w reader)) (j.stands w (peer.known.answered (suc i)) stands) refl,
+    )
+
+pub joins_at : (kept : PeerKept) (writer i : ℕ) (k k' : WriterKept) (reader : Endpoint) (config : Config) (peer : Peer)
+    → StandsFor kept config peer → writer ≡ i + 1 → slice_get kept.writers i ≡ Some k
+    → RefusesSo joining_refusal k reader (λ refusal. refusal ≡ None) → Joins k reader k'
+    → Follows (with_writer kept i k') config peer (event.Call (call.MatchReader writer reader)) (silent Done)
+joins_at kept writer i k k' reader config peer s is at accepted j =
+    subst (λ (n : ℕ). Follows (with_writer kept i k') config peer (event.Call (call.MatchReader n reader))
+    (silent Done)) (number_is writer i is) (joins kept i k k' reader config peer s at accepted j)
+
+-- one that is refused
+refused_join : (kept : PeerKept) (writer : ℕ) (reader : Endpoint) (code : Code) (config : Config) (peer : Peer)
+    → StandsFor kept config peer → Refuses (joining_refusal (own_writer peer.part writer) reader) code
+    → Follows kept config peer (event.Call (call.MatchReader writer reader)) (silent (Refused code))
+refused_join kept writer reader code config peer s refuses =
+    refused_call kept config peer s (call.MatchReader writer reader) code (refuses, λ memory. tt, refl)
+
+pub joins_not : (kept : PeerKept) (writer i : ℕ) (k k' : WriterKept) (reader : Endpoint) (code : Code)
+    (config : Config) (peer : Peer) → StandsFor kept config peer → writer ≡ i + 1 → slice_get kept.writers i ≡ Some k
+    → RefusesSo joining_refusal k reader (λ refusal. Refuses refusal code) → k' ≡ k
+    → Follows (with_writer kept i k') config peer (event.Call (call.MatchReader writer reader)) (silent (Refused code))
+joins_not kept writer i k k' reader code config peer s is at refused same =
+    subst (λ (x : PeerKept). Follows x config peer (event.Call (call.MatchReader writer reader))
+    (silent (Refused code))) (sym (unchanged_with kept i k k' at same))
+    (refused_join kept writer reader code config peer s
+    (subst (λ (n : ℕ). Refuses (joining_refusal (own_writer peer.part n) reader) code) (number_is writer i is)
+    (refused (own_writer peer.part (suc i)) (peer.known.answered (suc i)) (s.writers.each i k at))))
+
+-- ---- a reader that leaves
+
+leaves : (kept : PeerKept) (i : ℕ) (k k' : WriterKept) (reader : Endpoint) (config : Config) (peer : Peer)
+    → StandsFor kept config peer → slice_get kept.writers i ≡ Some k
+    → RefusesSo leaving_refusal k reader (λ refusal. refusal ≡ None) → Leaves k reader k'
+    → Follows (with_writer kept i k') config peer (event.Call (call.UnmatchReader (suc i) reader)) (silent Done)
+leaves kept i k k' reader config peer s at accepted l =
+    let w : Writer = own_writer peer.part (suc i) in
+    let stands = s.writers.each i k at in (
+      record peer { part = at_writer peer.part (suc i) (left w reader) },
+      record {
+        same_number = refl;
+        knows = refl;
+        step = (
+          record { answers = (accepted w (peer.known.answered (suc i)) stands, refl, refl); rtps = refl },
+          refl,
+        );
+        sent = λ p x m h. absurd (omega (arith, m.1));
+      },
+      told kept i k k' config peer s at
+          (λ c is. record {
+            entity = l.same.entity ∙ is.entity;
+            autodispose = l.same.autodispose ∙ is.autodispose;
+            max_value = l.same.max_value ∙ is.max_value;
+            known = l.same.known ∙ is.known;
+            ends = l.ends config.peers c.topic is.ends;
+          }) (left w reader) (l.stands w (peer.known.answered (suc i)) stands) refl,
+    )
+
+pub leaves_at : (kept : PeerKept) (writer i : ℕ) (k k' : WriterKept) (reader : Endpoint) (config : Config) (peer : Peer)
+    → StandsFor kept config peer → writer ≡ i + 1 → slice_get kept.writers i ≡ Some k
+    → RefusesSo leaving_refusal k reader (λ refusal. refusal ≡ None) → Leaves k reader k'
+    → Follows (with_writer kept i k') config peer (event.Call (call.UnmatchReader writer reader)) (silent Done)
+leaves_at kept writer i k k' reader config peer s is at accepted l =
+    subst (λ (n : ℕ). Follows (with_writer kept i k') config peer (event.Call (call.UnmatchReader n reader))
+    (silent Done)) (number_is writer i is) (leaves kept i k k' reader config peer s at accepted l)
+
+-- one that is refused
+refused_leave : (kept : PeerKept) (writer : ℕ) (reader : Endpoint) (code : Code) (config : Config) (peer : Peer)
+    → StandsFor kept config peer → leaving_refusal (own_writer peer.part writer) reader ≡ Some code → code ≢ Memory
+    → Follows kept config peer (event.Call (call.UnmatchReader writer reader)) (silent (Refused code))
+refused_leave kept writer reader code config peer s refuses never =
+    refused_call kept config peer s (call.UnmatchReader writer reader) code
+    (subst (λ (o : Option Code). Refuses o code) (sym refuses) refl, λ memory. never memory, refl)
+
+pub leaves_not : (kept : PeerKept) (writer i : ℕ) (k k' : WriterKept) (reader : Endpoint) (code : Code)
+    (config : Config) (peer : Peer) → StandsFor kept config peer → writer ≡ i + 1 → slice_get kept.writers i ≡ Some k
+    → RefusesSo leaving_refusal k reader (λ refusal. refusal ≡ Some code) → code ≢ Memory → k' ≡ k
+    → Follows (with_writer kept i k') config peer (event.Call (call.UnmatchReader writer reader)) (silent (Refused code))
+leaves_not kept writer i k k' reader code config peer s is at refused never same =
+    subst (λ (x : PeerKept). Follows x config peer (event.Call (call.UnmatchReader writer reader))
+    (silent (Refused code))) (sym (unchanged_with kept i k k' at same))
+    (refused_leave kept writer reader code config peer s
+    (subst (λ (n : ℕ). leaving_refusal (own_writer peer.part n) reader ≡ Some code) (number_is writer i is)
+    (refused (own_writer peer.part (suc i)) (peer.known.answered (suc i)) (s.writers.each i k at))) never)
+
+-- ---- a look
+
+looks : (kept : PeerKept) (i : ℕ) (k k' : WriterKept) (status : MatchedStatus) (config : Config) (peer : Peer)
+    → StandsFor kept config peer → slice_get kept.writers i ≡ Some k → i < length kept.writers
+    → ((w : Writer) (answered : Endpoint → Option ℤ) → WriterStands k w answered → status ≡ publication_matched w)
+    → LooksAtMatches k k'
+    → Follows (with_writer kept i k') config peer (event.Call (call.GetPublicationMatched (suc i)))
+    (silent (Matched status))
+looks kept i k k' status config peer s at lt tells look =
+    let count = s.writers.count in
+    let w : Writer = own_writer peer.part (suc i) in
+    let stands = s.writers.each i k at in
+    let known : writer_refusal peer.part (suc i) ≡ None =
+    ap (λ (b : Bool). if not b then Some BadParameter else None)
+    (there_is peer.part.rtps.writers i (omega (arith, lt, count))) in (
+      record peer { part = at_writer peer.part (suc i) (writer_looked_at w) },
+      record {
+        same_number = refl;
+        knows = refl;
+        step = (
+          record {
+            answers =
+                answered_as _ (Matched (publication_matched w)) peer.part.dds peer.part _ known
+                (ap Matched (tells w (peer.known.answered (suc i)) stands));
+            rtps = refl;
+          },
+          refl,
+        );
+        sent = λ p x m h. absurd (omega (arith, m.1));
+      },
+      writer_put config peer kept s i k k' at look.same (writer_looked_at w) peer.known.answered
+          (look.stands w (peer.known.answered (suc i)) stands) (λ j apart r. refl)
+          (tellable_put peer.part (suc i) (writer_looked_at w) s.tellable refl),
+    )
+
+pub matches_looked_at : (kept : PeerKept) (writer i : ℕ) (k k' : WriterKept) (status : MatchedStatus) (config : Config)
+    (peer : Peer) → StandsFor kept config peer → writer ≡ i + 1 → slice_get kept.writers i ≡ Some k
+    → i < length kept.writers
+    → ((w : Writer) (answered : Endpoint → Option ℤ) → WriterStands k w answered → status ≡ publication_matched w)
+    → LooksAtMatches k k'
+    → Follows (with_writer kept i k') config peer (event.Call (call.GetPublicationMatched writer))
+    (silent (Matched status))
+matches_looked_at kept writer i k k' status config peer s is at lt tells look =
+    subst (λ (n : ℕ). Follows (with_writer kept i k') config peer (event.Call (call.GetPublicationMatched n))
+    (silent (Matched status))) (number_is writer i is) (looks kept i k k' status config peer s at lt tells look)

@@ -1,0 +1,12 @@
+use Rattle.std.proofs.Common.{sym, subst}
+use Rattle.dds_core.specs.Listening.{CoreKept}
+use Rattle.dds_core.specs.Standing.{StandsFor as PeerStandsFor}
+use Rattle.dds_core.proofs.application.Core.is_matched.Goals as goal
+
+pub returns : goal.returns
+returns g c = record {
+  matched =
+      λ config peer s. c.is_matched.ensures.matched config peer
+      (subst (λ (k : CoreKept g.row.F.Denot g.row.L.Denot). PeerStandsFor k.filtered.peer config peer)
+      (sym c.self.view_is) s);
+}

@@ -1,0 +1,75 @@
+-- How a peer tries the places of one of its readers again, one row after another. Inner functions alone cite this:
+-- nothing here has to be believed.
+--
+-- RTPS 2.5, 8.4.12 (reliable StatefulReader).
+use Rattle.std.specs.Prelude.{◌≡◌, ◌++◌, ℕ, suc, Bool, List, slice_get, Some}
+use Rattle.dds_base.specs.declared.config.Config.{Config}
+use Rattle.dds_base.specs.declared.endpoint.Endpoint.{Endpoint}
+use Rattle.rtps_reader.specs.Attached.{goes_on}
+use Rattle.rtps_reader.specs.Reader.{Tracks, how_at}
+use Rattle.rtps_reader.specs.Tracked.{Tracked}
+use Rattle.dds_machine.specs.declared.reply.Move.{Move}
+use Rattle.dds_machine.specs.declared.reply.Report.{Report}
+use Rattle.dds_protocol.specs.Peer.{Peer, state_of}
+use Rattle.dds_protocol.specs.Protocol.{State, stands_to}
+use Rattle.dds_protocol.specs.Resuming.{GoesAgain, MayGoAgain, Resumes}
+use Rattle.dds_core.specs.declared.effects.Effects.{Effects}
+use Rattle.dds_core.specs.declared.matching.WriterName.{WriterName}
+use Rattle.dds_core.specs.declared.reader_told.Ready.{Ready}
+use Rattle.dds_core.specs.declared.reader_told.Told.TheVariants.{Again}
+use Rattle.dds_core.specs.Kept.{ReaderKept, PeerKept}
+use Rattle.dds_core.specs.Receiving.{with_state}
+use Rattle.dds_core.specs.Standing.{StandsFor}
+
+-- that the place at the writer of this row is tried again, as what is ready for a reader
+abbrev pub again : ℕ → Ready
+again row = record { row = row; told = Again }
+
+-- whether something may go on at the row, by what the reader knows of its writer
+abbrev pub GoesOnAt : ReaderKept → ℕ → Bool → Type 0
+GoesOnAt kept row answer = (t : Tracked) → Tracks kept.reader row t → answer ≡ goes_on (how_at kept.reader row) t
+
+-- the peer has a reader of this index, which knows a writer in this row
+pub record HasRow (kept : PeerKept) (index row : ℕ) : Type 0 where
+  pub reader : ReaderKept
+  pub at : slice_get kept.readers index ≡ Some reader
+  pub name : WriterName
+  pub at_row : slice_get reader.writers row ≡ Some name
+
+-- the reader of this index knows the writers that it knew, in their rows
+abbrev pub SameRows : ℕ → PeerKept → PeerKept → Type 0
+SameRows index old new = (k : ReaderKept) → slice_get old.readers index ≡ Some k
+    → (now : ReaderKept) × (slice_get new.readers index ≡ Some now) × (now.writers ≡ k.writers)
+
+-- for a state that the old values stand for, the place of a reader at a writer was tried again by the rules
+pub record Tried (config : Config) (peer : Peer) (writer : Endpoint) (reader : ℕ) (made : List Move)
+    (new : PeerKept) : Type 0 where
+  pub state : State
+  pub goes : GoesAgain (stands_to (state_of peer) writer reader) (state_of peer) writer reader made state
+  pub stands : StandsFor new config (with_state peer state)
+
+-- the place of the reader of this index at the writer of this row was tried again, after other moves
+pub record TriesRow (old : PeerKept) (index row : ℕ) (effects : Effects) (new : PeerKept)
+    (after : Effects) : Type 0 where
+  pub made : List Move
+  pub after_is : after.moves.items ≡ effects.moves.items ++ made
+  pub tries : (config : Config) (peer : Peer) → StandsFor old config peer → (has : HasRow old index row)
+      → Tried config peer has.name.writer (suc index) made new
+  pub rows : SameRows index old new
+
+-- for each state that the old values stand for, a try of the place at the row may need memory
+abbrev pub RowNeedsMemory : PeerKept → ℕ → ℕ → Type 0
+RowNeedsMemory old index row =
+    (config : Config) (peer : Peer) → StandsFor old config peer → (has : HasRow old index row)
+    → MayGoAgain (state_of peer) has.name.writer (suc index)
+
+-- for a state that the old values stand for, the places of a reader were tried again by the rules
+pub record Resumed (config : Config) (peer : Peer) (reader : ℕ) (report : Report) (new : PeerKept) : Type 0 where
+  pub state : State
+  pub resumes : Resumes reader (state_of peer) report state
+  pub stands : StandsFor new config (with_state peer state)
+
+-- the same of the reader of this index, said of each state that the old values stand for
+abbrev pub ResumesAll : PeerKept → ℕ → Report → PeerKept → Type 0
+ResumesAll old index report new =
+    (config : Config) (peer : Peer) → StandsFor old config peer → Resumed config peer (suc index) report new
