@@ -14,7 +14,7 @@ use Rattle.rtps_wire.specs.declared.seek.Sought.{Sought}
 use Rattle.rtps_wire.specs.declared.seek.Sought.TheVariants as sought
 use Rattle.rtps_wire.specs.Sought.{Has}
 use Rattle.dds_protocol.specs.Noticing.{world_ended}
-use Rattle.dds_machine.specs.declared.endpoint.Endpoint.{Endpoint}
+use Rattle.dds_base.specs.declared.endpoint.Endpoint.{Endpoint}
 use Rattle.dds_protocol.specs.declared.event.Packet.{Packet}
 use Rattle.dds_machine.specs.declared.event.WorldEvent.{WorldEvent}
 use Rattle.dds_machine.specs.declared.event.WorldEvent.TheVariants as world
@@ -23,15 +23,17 @@ use Rattle.dds_machine.specs.declared.reply.Reply.TheVariants.{Done}
 use Rattle.dds_protocol.specs.Claims.{IsReader, every_reader}
 use Rattle.dds_protocol.specs.Dues.{IsPartOf}
 use Rattle.dds_protocol.specs.Fresh.{HasHeartbeat, HasAckNack, heartbeats_used_at, acknacks_used_at}
-use Rattle.dds_machine.specs.Machine.{AllTests, place_at, writer_at}
+use Rattle.dds_machine.specs.Machine.{AllTests, part_at, place_at, writer_at}
 use Rattle.dds_machine.specs.Numbered.{numbered, HasNumber}
-use Rattle.dds_machine.specs.Part.{Part, ReaderProxy, Writer, WriterProxy, NoLess, IsAtMost, own_writer, acknowledged_of, how_of, place_of, writer_changes}
+use Rattle.dds_machine.specs.Part.{Attachment, Away, Begun as HasBegun, Waiting, Part, ReaderProxy, Writer, WriterProxy, IsCovered, NoLess, IsAtMost, own_proxies, own_writer, acknowledged_of, how_of, is_attached, is_reader_behind, owed_from, place_of, writer_changes}
 use Rattle.dds_protocol.specs.DueMessages.{writer_entity}
 use Rattle.dds_protocol.specs.Protocol.{Known}
+use Rattle.dds_protocol.specs.Closed.{IsClosed}
 use Rattle.dds_protocol.specs.Repair.{AsksInRound, BeginsRound, Delivers, DeliversAll, HasCaughtUp, IsRepairRound, StandsAt, packets_for}
 use Rattle.dds_protocol.specs.Rules.{RuledStep, RuledRun}
 use Rattle.dds_protocol.specs.World.{WorldState, peer_at, machine_of}
 use Rattle.dds_protocol.proofs.ClosedSteps.{acknowledges_no_more}
+use Rattle.dds_protocol.proofs.Composed.{parts_at}
 use Rattle.dds_protocol.proofs.PairAsked.{has_writer}
 use Rattle.dds_protocol.proofs.PairAsks.{asks_found}
 use Rattle.dds_protocol.proofs.PairBeats.{beats_are_sent}
@@ -48,10 +50,10 @@ use Rattle.dds_world.specs.declared.round.Matched.{Matched}
 use Rattle.dds_world.specs.declared.round.Round.{Round}
 use Rattle.dds_world.specs.declared.round.RoundReply.{RoundReply}
 use Rattle.dds_world.specs.Repairing.{Knows, IsKnown, Stage, Answering, Acknowledging, Beating}
-use Rattle.dds_world.specs.Round.{IsHindered, has_unsent, IsStep, AreSteps, IsTo, HasNone, IsFirst, Rounds, answers_at, is_whole, are_whole, replies_of}
+use Rattle.dds_world.specs.Round.{IsExcused, IsHindered, has_unsent, IsStep, AreSteps, IsTo, HasNone, IsFirst, Rounds, answers_at, is_whole, are_whole, replies_of}
 use Rattle.dds_world.specs.WorldStanding.{Hearing, WorldKept, StandsFor}
-use Rattle.dds_world.proofs.Caught.{CoreAt, core_at, place_known, few_changes, places_after, unsent_shown, went, sent_by, whole_tick, delivers, first_whole, Ran, ran, none_lost, deliver_all, later_packet, among_none, get_later}
-use Rattle.dds_world.proofs.Rounds.{BySteps, IsPlace, acks_steps, beats_steps, round_is, stage_is}
+use Rattle.dds_world.proofs.Caught.{CoreAt, core_at, begun_where_placed, place_known, few_changes, places_after, unsent_shown, went, sent_by, whole_tick, delivers, first_whole, Ran, ran, none_lost, deliver_all, later_packet, among_none, get_later}
+use Rattle.dds_world.proofs.Rounds.{BySteps, IsMatchedSo, IsPlace, acks_steps, beats_steps, round_is, stage_is}
 use Rattle.dds_world.proofs.RunSteps.{Went}
 
 -- ---- a packet that is delivered
@@ -161,6 +163,8 @@ record Tick (hearing : Hearing) : Type 0 where
   ticked : RoundReply
   s : StandsFor old config network
   at : place_at (machine_of network) m.reader m.writer ≡ Some place
+  attached : is_attached (how_of (own_proxies (part_at (machine_of network) m.reader.peer) m.reader.number) m.writer)
+      ≡ true
   known : Knows config network m
   step : IsStep tests old (world.Tick m.writer.peer m.moment) ticked mid
   whole : is_whole ticked.reply ≡ true
@@ -238,7 +242,14 @@ pair t =
 stands : {hearing : Hearing} → (t : Tick hearing) → StandsAt t.network t.m.writer t.m.reader t.place (acknowledged t)
 stands t =
     let k = place_known t.old t.config t.network t.m.writer t.m.reader t.place t.s t.at in
-    record { here = k.here; place_is = t.at; begun = k.begun; known = k.known; acknowledged_is = row t }
+    record {
+      here = k.here;
+      place_is = t.at;
+      attached = ap (λ (q : Part). is_attached (how_of (own_proxies q t.m.reader.number) t.m.writer))
+          (sym (parts_at t.network t.m.reader.peer)) ∙ t.attached;
+      known = k.known;
+      acknowledged_is = row t;
+    }
 
 few : {hearing : Hearing} → (t : Tick hearing) → the_last t < 2 ^ 62
 few t =
@@ -258,6 +269,13 @@ answer_of old m from to replies = record {
   to = to;
 }
 
+-- it is excused, and has caught up where nobody has come or left
+abbrev IsExcusedSo : WorldState → WorldState → Endpoint → Endpoint → ℕ → Type 0
+IsExcusedSo network after writer reader place =
+    IsExcused network writer reader
+    × (IsClosed (machine_of network)
+    → HasCaughtUp after writer reader place (length (writer_changes (writer_at (machine_of network) writer))))
+
 -- what hindered it is shown without the place after it
 abbrev EndsSo : {hearing : Hearing} → AllTests → Config → WorldState → WorldKept hearing → Matched → ℕ
     → List WorldEvent → List RoundReply → WorldKept hearing
@@ -266,25 +284,60 @@ EndsSo tests config network old m place events replies new =
     (after : WorldState) × RuledRun config tests network old.unsent events (replies_of replies) after new.unsent
     × StandsFor new config after
     × (IsHindered network m.writer m.reader (answer_of old m place place replies)
-    ⊎ HasCaughtUp after m.writer m.reader place (length (writer_changes (writer_at (machine_of network) m.writer))))
+    ⊎ (IsExcusedSo network after m.writer m.reader place
+    ⊎ HasCaughtUp after m.writer m.reader place (length (writer_changes (writer_at (machine_of network) m.writer)))))
 
 abbrev Ends : {hearing : Hearing} → Tick hearing → List WorldEvent → List RoundReply → WorldKept hearing → Type 0
 Ends t events replies new = EndsSo t.tests t.config t.network t.old t.m t.place events replies new
 
--- the writer has no more of the reader than its place
-no_more_than_place : {hearing : Hearing} → (t : Tick hearing) → acknowledged t ≤ t.place
-no_more_than_place t =
+-- how the reader stands to the writer
+abbrev how : {hearing : Hearing} → Tick hearing → Attachment
+how t = how_of (own_proxies (part_at (machine_of t.network) t.m.reader.peer) t.m.reader.number) t.m.writer
+
+-- it has begun where nobody has come or left
+closed_begun : {hearing : Hearing} → (t : Tick hearing) → IsClosed (machine_of t.network) → how t ≡ HasBegun
+closed_begun t closed =
+    begun_where_placed (own_proxies (part_at (machine_of t.network) t.m.reader.peer) t.m.reader.number) t.m.writer
+    t.place t.at (closed.begun t.m.reader t.m.writer)
+
+-- a reader that has acknowledged all is not behind
+not_told : {hearing : Hearing} → (t : Tick hearing) → the_last t < acknowledged t
+    → is_reader_behind (writer_at (machine_of t.network) t.m.writer) t.m.reader ≡ false
+not_told t past =
+    ap (λ (o : Option ℕ). option_map_or (λ a. nat_le a (the_last t)) o false) (row t)
+    ∙ is_past (acknowledged t) (the_last t) past
+  where
+    is_past : (a b : ℕ) → b < a → nat_le a b ≡ false
+    is_past a b past = grind (arith, nat_tests, past)
+
+-- what the writer owes the reader, from this number on
+abbrev owed : {hearing : Hearing} → Tick hearing → ℕ
+owed t = owed_from (writer_at (machine_of t.network) t.m.writer) t.m.reader
+
+-- where nobody has come or left, the writer has no more of the reader than its place
+no_more_than_place : {hearing : Hearing} → (t : Tick hearing) → IsClosed (machine_of t.network)
+    → acknowledged t ≤ t.place
+no_more_than_place t closed =
     subst (λ (o : Option ℕ). NoLess o (Some t.place)) (row t)
     (subst (λ (o : Option ℕ). NoLess
     (acknowledged_of (writer_at (machine_of t.network) t.m.writer).readers t.m.reader) o) t.at
-    (acknowledges_no_more t.config t.network t.m.writer t.m.reader t.s.sound t.s.closed))
+    (acknowledges_no_more t.config t.network t.m.writer t.m.reader t.s.sound closed))
+
+-- it has no more of the reader than its place, or than it owes
+covered : {hearing : Hearing} → (t : Tick hearing) → (acknowledged t ≤ owed t) ⊎ (acknowledged t ≤ t.place)
+covered t =
+    subst (λ (o : Option ℕ). IsCovered o (owed t) (Some t.place)) (row t)
+    (subst (λ (o : Option ℕ). IsCovered
+    (acknowledged_of (writer_at (machine_of t.network) t.m.writer).readers t.m.reader) (owed t) o) t.at
+    (t.s.sound.acknowledged t.m.writer t.m.reader))
 
 -- ---- no HEARTBEAT was sent
 
--- where the reader is not behind, it has caught up already
-not_behind : {hearing : Hearing} → (t : Tick hearing) → the_last t < acknowledged t
+-- where the reader is not behind, has begun, and the writer has no more of it than its place, it has caught up already
+not_behind : {hearing : Hearing} → (t : Tick hearing) → the_last t < acknowledged t → acknowledged t ≤ t.place
+    → how t ≡ HasBegun
     → HasCaughtUp (noted_tick t) t.m.writer t.m.reader t.place (the_last t)
-not_behind t past =
+not_behind t past low is_begun =
     record {
       place = t.place;
       acknowledged = acknowledged t;
@@ -295,9 +348,9 @@ not_behind t past =
         place_is = place_is (noted_tick t) t.m.reader t.m.writer
             ∙ (ap (λ (rows : List (List WriterProxy)). place_of (numbered_rows rows) t.m.writer)
             (left t.m.reader.peer).rows ∙ (sym (place_is t.network t.m.reader t.m.writer) ∙ t.at));
-        begun =
-            ap (λ (rows : List (List WriterProxy)). how_of (numbered_rows rows) t.m.writer) (left t.m.reader.peer).rows
-            ∙ (stands t).begun;
+        attached =
+            ap (λ (rows : List (List WriterProxy)). is_attached (how_of (numbered_rows rows) t.m.writer))
+            (left t.m.reader.peer).rows ∙ (stands t).attached;
         known =
             ap (λ (k : Known). (k.tracked t.m.writer t.m.reader.number).place) (left t.m.reader.peer).known
             ∙ (stands t).known;
@@ -306,6 +359,9 @@ not_behind t past =
             ∙ (ap (λ (rows : List ReaderProxy). acknowledged_of rows t.m.reader)
             ((left t.m.writer.peer).acknowledged t.m.writer.number) ∙ own_row t);
       };
+      begun = ap (λ (rows : List (List WriterProxy)). how_of (numbered_rows rows) t.m.writer) (left t.m.reader.peer).rows
+          ∙ (ap (λ (q : Part). how_of (own_proxies q t.m.reader.number) t.m.writer)
+          (sym (parts_at t.network t.m.reader.peer)) ∙ is_begun);
       reached = inl (omega (arith, past, low));
       told = omega (arith, past, high);
     }
@@ -318,11 +374,36 @@ not_behind t past =
     numbered_rows : List (List WriterProxy) → List WriterProxy
     numbered_rows rows = numbered rows t.m.reader.number []
 
-    low : acknowledged t ≤ t.place
-    low = no_more_than_place t
-
     high : t.place ≤ the_last t + 1
     high = t.s.bounded t.m.reader t.m.writer t.place t.at
+
+-- else it is owed nothing
+not_owed : {hearing : Hearing} → (t : Tick hearing) → the_last t < acknowledged t → acknowledged t ≤ owed t
+    → IsExcusedSo t.network (noted_tick t) t.m.writer t.m.reader t.place
+not_owed t past low = (
+  inl (omega (arith, past, low)),
+  λ closed. not_behind t past (no_more_than_place t closed) (closed_begun t closed),
+)
+
+-- a place that waits is not begun by a HEARTBEAT then
+none_heard : {hearing : Hearing} → (t : Tick hearing) → the_last t < acknowledged t → how t ≡ Waiting
+    → IsExcusedSo t.network (noted_tick t) t.m.writer t.m.reader t.place
+none_heard t past waits = (
+  inr (not_told t past, waits),
+  λ closed. let begun = closed_begun t closed in absurd cc,
+)
+
+-- where the reader is not behind, and the writer has no more of it than its place, it has caught up, or it waits
+at_place : {hearing : Hearing} → (t : Tick hearing) → the_last t < acknowledged t → acknowledged t ≤ t.place
+    → IsExcusedSo t.network (noted_tick t) t.m.writer t.m.reader t.place
+    ⊎ HasCaughtUp (noted_tick t) t.m.writer t.m.reader t.place (the_last t)
+at_place t past low = by (how t) refl
+  where
+    by : (x : Attachment) → how t ≡ x → IsExcusedSo t.network (noted_tick t) t.m.writer t.m.reader t.place
+        ⊎ HasCaughtUp (noted_tick t) t.m.writer t.m.reader t.place (the_last t)
+    by Away e = let here = sym (ap (λ (x : Attachment). is_attached x) e) ∙ t.attached in absurd cc
+    by Waiting e = inl (none_heard t past e)
+    by HasBegun e = inr (not_behind t past low e)
 
 -- a HEARTBEAT that was sent is found
 beat_is_found : {hearing : Hearing} → (t : Tick hearing) → acknowledged t ≤ the_last t
@@ -359,7 +440,8 @@ no_beat t none = (
   noted_tick t,
   (after_tick t, t.mid.unsent, (w0 t).step, (refl, refl)),
   (w0 t).stands,
-  ⊎_elim (λ past. inr (not_behind t past))
+  ⊎_elim (λ past.
+      inr (⊎_elim (λ low. inl (not_owed t past low)) (λ low. at_place t past low) (covered t)))
       (λ behind.
       ⊎_elim (λ left. absurd (beat_is_found t behind left none))
       (λ used. inl (inr (inr (inr (inl (refl, told_behind t behind, used))))))
@@ -573,8 +655,8 @@ answered {hearing} a later rest new whole next = (
     (after_beat a.h, a.h.beat.mid.unsent, (w1 a.h).step, (after_ask a, a.ask.mid.unsent, (w2 a).step, run)),
   ),
   all.stands,
-  inr (pair_catches_up c.config a.h.t.tests c.m.writer c.m.reader c.place (acknowledged c) c.network all.after
-      (core c).stands.is_peer.checked c.s.sound c.s.used c.s.bounded (pair c).pair (stands c) round),
+  inr (inr (pair_catches_up c.config a.h.t.tests c.m.writer c.m.reader c.place (acknowledged c) c.network all.after
+      (core c).stands.is_peer.checked c.s.sound c.s.used c.s.bounded (pair c).pair (stands c) round)),
 )
   where
     c : Tick hearing
@@ -645,8 +727,9 @@ ends : {hearing : Hearing} → {tests : AllTests} → (old : WorldKept hearing) 
     → Beating tests m (length old.sent) mid events replies new
     → (config : Config) (network : WorldState) (place : ℕ) → StandsFor old config network
     → place_at (machine_of network) m.reader m.writer ≡ Some place
+    → true ≡ is_attached (how_of (own_proxies (part_at (machine_of network) m.reader.peer) m.reader.number) m.writer)
     → EndsSo tests config network old m place (world.Tick m.writer.peer m.moment ∷ events) (ticked ∷ replies) new
-ends {hearing} {tests} old m ticked mid events replies new known tick beats config network place s at =
+ends {hearing} {tests} old m ticked mid events replies new known tick beats config network place s at here =
     by (are_whole (ticked ∷ replies)) refl
   where
     steps : AreSteps tests mid events replies new
@@ -677,6 +760,7 @@ ends {hearing} {tests} old m ticked mid events replies new known tick beats conf
           ticked = ticked;
           s = s;
           at = at;
+          attached = sym here;
           known = known config network s;
           step = tick;
           whole = w.whole;
@@ -709,15 +793,17 @@ rounds_of : {hearing : Hearing} → {tests : AllTests} → (old : WorldKept hear
     (events : List WorldEvent) (replies : List RoundReply) (new : WorldKept hearing)
     (from : ℕ) (to : Option ℕ) → IsKnown old m → IsStep tests old (world.Tick m.writer.peer m.moment) ticked mid
     → Beating tests m (length old.sent) mid events replies new
-    → IsPlace old m.reader m.writer (Some from) → IsPlace new m.reader m.writer to
+    → IsPlace old m.reader m.writer (Some from) → IsMatchedSo old m.reader m.writer true
+    → IsPlace new m.reader m.writer to
     → Rounds tests old m.writer m.reader (answer_of old m from (unwrap_or to from) (ticked ∷ replies)) new
-rounds_of {tests} old m ticked mid events replies new from to known tick beats from_is to_is = record {
+rounds_of {tests} old m ticked mid events replies new from to known tick beats from_is here to_is = record {
   events = world.Tick m.writer.peer m.moment ∷ events;
   steps = (mid, tick, beats_steps m (length old.sent) mid events replies new beats);
   round = λ config network s.
       let k = known config network s in
       let before : place_at (machine_of network) m.reader m.writer ≡ Some from = sym (from_is config network s) in
-      let end = ends old m ticked mid events replies new known tick beats config network from s before in
+      let end = ends old m ticked mid events replies new known tick beats config network from s before
+      (here config network s) in
       let all : List WorldEvent = world.Tick m.writer.peer m.moment ∷ events in
       let no_less =
       places_after config tests network old.unsent all
@@ -738,8 +824,14 @@ rounds_of {tests} old m ticked mid events replies new from to known tick beats f
         to = sym after ∙ there;
         caught_up =
             subst (λ (n : ℕ). IsHindered network m.writer m.reader (answer_of old m from from (ticked ∷ replies))
+            ⊎ (IsExcused network m.writer m.reader ⊎ HasCaughtUp end.0 m.writer m.reader from n))
+            (sym k.last)
+            (⊎_elim (λ why. inl why) (λ o. inr (⊎_elim (λ e. inl e.0) (λ caught. inr caught) o)) end.3);
+        closed = λ closed.
+            subst (λ (n : ℕ). IsHindered network m.writer m.reader (answer_of old m from from (ticked ∷ replies))
             ⊎ HasCaughtUp end.0 m.writer m.reader from n)
-            (sym k.last) end.3;
+            (sym k.last)
+            (⊎_elim (λ why. inl why) (λ o. inr (⊎_elim (λ e. e.1 closed) (λ caught. caught) o)) end.3);
       };
 }
 
@@ -750,16 +842,17 @@ pub rounds_are : {hearing : Hearing} → {tests : AllTests}
     → all ≡ ticked ∷ replies → IsKnown old m
     → IsStep tests old (world.Tick m.writer.peer m.moment) ticked mid
     → Beating tests m (length old.sent) mid events replies new
-    → IsPlace old reader writer (Some from) → IsPlace new reader writer to
+    → IsPlace old reader writer (Some from) → IsMatchedSo old reader writer true → IsPlace new reader writer to
     → Rounds tests old writer reader (answer_of old m from (unwrap_or to from) all) new
 rounds_are {tests} old writer reader m ticked mid replies all new events from to w r is known tick beats =
-    subst (λ (e : Endpoint). IsPlace old reader e (Some from) → IsPlace new reader e to
+    subst (λ (e : Endpoint). IsPlace old reader e (Some from) → IsMatchedSo old reader e true → IsPlace new reader e to
     → Rounds tests old e reader (answer all) new) w
-    (subst (λ (e : Endpoint). IsPlace old e m.writer (Some from) → IsPlace new e m.writer to
-    → Rounds tests old m.writer e (answer all) new) r
-    (subst (λ (rs : List RoundReply). IsPlace old m.reader m.writer (Some from) → IsPlace new m.reader m.writer to
+    (subst (λ (e : Endpoint). IsPlace old e m.writer (Some from) → IsMatchedSo old e m.writer true
+    → IsPlace new e m.writer to → Rounds tests old m.writer e (answer all) new) r
+    (subst (λ (rs : List RoundReply). IsPlace old m.reader m.writer (Some from)
+    → IsMatchedSo old m.reader m.writer true → IsPlace new m.reader m.writer to
     → Rounds tests old m.writer m.reader (answer rs) new) (sym is)
-    (λ from_is to_is. rounds_of old m ticked mid events replies new from to known tick beats from_is to_is)))
+    (λ from_is here to_is. rounds_of old m ticked mid events replies new from to known tick beats from_is here to_is)))
   where
     answer : List RoundReply → Round
     answer rs = answer_of old m from (unwrap_or to from) rs

@@ -8,7 +8,7 @@ use Rattle.dds_base.specs.Kept.{numbers_from}
 use Rattle.dds_protocol.specs.Noticing.{world_ended}
 use Rattle.dds_protocol.proofs.EndsBeside.{world_beside}
 use Rattle.dds_protocol.proofs.SameBeside.{place_is as beside_place}
-use Rattle.dds_machine.specs.declared.endpoint.Endpoint.{Endpoint}
+use Rattle.dds_base.specs.declared.endpoint.Endpoint.{Endpoint}
 use Rattle.dds_protocol.specs.declared.event.Event.TheVariants as event
 use Rattle.dds_protocol.specs.declared.event.Packet.{Packet}
 use Rattle.dds_machine.specs.declared.event.WorldEvent.{WorldEvent}
@@ -69,7 +69,7 @@ peer_there peers (suc i) r has = (omega arith, within peers i has)
     within (p ∷ ps) (suc i) k = let rest = within ps i k in omega (arith, rest)
 
 -- a place that is there has begun, where nobody has come or left
-begun_where_placed : (rows : List WriterProxy) (writer : Endpoint) (place : ℕ) → place_of rows writer ≡ Some place
+pub begun_where_placed : (rows : List WriterProxy) (writer : Endpoint) (place : ℕ) → place_of rows writer ≡ Some place
     → ((row : WriterProxy) → row_of (λ (p : WriterProxy). p.writer) rows writer ≡ Some row → row.how ≡ Begun)
     → how_of rows writer ≡ Begun
 begun_where_placed rows writer place at begun = by (row_of (λ (p : WriterProxy). p.writer) rows writer) refl
@@ -82,11 +82,10 @@ begun_where_placed rows writer place at begun = by (row_of (λ (p : WriterProxy)
     by (Some row) e =
         ap (λ (x : Option WriterProxy). option_map_or (λ (p : WriterProxy). p.how) x Away) e ∙ begun row e
 
--- the reader of a place is there, knows of that place, and has begun there
+-- the reader of a place is there, and knows of that place
 pub record PlaceKnown (network : WorldState) (writer reader : Endpoint) (place : ℕ) : Type 0 where
   pub here : HasNumber (peer_at network reader.peer).part.dds.readers reader.number
   pub known : (tracked_at network writer reader).place ≡ place
-  pub begun : how_of (own_proxies (peer_at network reader.peer).part reader.number) writer ≡ Begun
 
 pub place_known : {hearing : Hearing} → (kept : WorldKept hearing) (config : Config) (network : WorldState)
     (writer reader : Endpoint) (place : ℕ)
@@ -105,10 +104,6 @@ place_known kept config network writer reader place s at =
       here = (omega (arith, low), omega (arith, high, rows, count));
       known = c.known.place writer reader.number
           place row;
-      begun = begun_where_placed (own_proxies (peer_at network reader.peer).part reader.number) writer place row
-          (λ found e. s.closed.begun reader writer found
-          (ap (λ (q : Part). row_of (λ (p : WriterProxy). p.writer) (own_proxies q reader.number) writer)
-          (parts_at network reader.peer) ∙ e));
     }
 
 -- a writer has far fewer changes than there are numbers
@@ -346,6 +341,9 @@ places_on config tests old (world.Tick peer now) reply new step r w =
     (λ x. (stays_same config old peer new x.1.after).grows.places r w) step
 places_on config tests old (world.Deliver peer k) reply new step r w =
     ⊎_elim (λ p. (steps_stays config (tests peer) old peer (event.Deliver p.0.bytes) reply new p.3).grows.places r w)
+    (λ x. (stays_same config old peer new x.1.after).grows.places r w) step
+places_on config tests old (world.Resume peer reader) reply new step r w =
+    ⊎_elim (λ p. (steps_stays config (tests peer) old peer (event.Resume reader) reply new p).grows.places r w)
     (λ x. (stays_same config old peer new x.1.after).grows.places r w) step
 
 pub places_after : (config : Config) (tests : AllTests) (old : WorldState) (first : ℕ) (events : List WorldEvent)

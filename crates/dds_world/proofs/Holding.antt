@@ -36,7 +36,6 @@ use Rattle.dds_machine.specs.Watching.{Tests}
 use Rattle.dds_protocol.specs.World.{WorldState, machine_of, peer_at}
 use Rattle.dds_machine.proofs.Tables.{map-with_numbered, numbered-map}
 use Rattle.dds_protocol.proofs.Composed.{parts_at}
-use Rattle.dds_protocol.proofs.Closed.{closed_beside}
 use Rattle.dds_protocol.proofs.SameBeside.{SameBeside, bounded_beside, filter_beside, place_beside, sound_beside, used_beside}
 use Rattle.dds_core.specs.Kept.{PeerKept}
 use Rattle.dds_core.specs.Listening.{Adds as CoreAdds, CoreKept, RefusesFilter as CoreRefuses, RefusesListener as CoreRefusesListener, Sets as CoreSets, StandsFor as CoreStands, Steps as CoreSteps}
@@ -50,9 +49,9 @@ use Rattle.dds_world.specs.HeldSteps.{ActsIn, IsOfPeer, StepsIn}
 use Rattle.dds_world.specs.WorldStanding.{StandsFor}
 use Rattle.dds_world.specs.Posting.{Announces, Posts}
 use Rattle.dds_world.proofs.Replaced.{peer_stands, with_peer}
-use Rattle.dds_world.proofs.Ruled.{called, delivered, ticked}
-use Rattle.dds_world.proofs.Sends.{called_sends, delivered_sends, refused_delivery_sends, refused_call_sends, refused_tick_sends, ticked_sends}
-use Rattle.dds_world.proofs.WorldSteps.{unknown_call, unknown_delivery, unknown_packet, unknown_tick}
+use Rattle.dds_world.proofs.Ruled.{called, delivered, resumed, ticked}
+use Rattle.dds_world.proofs.Sends.{called_sends, delivered_sends, refused_delivery_sends, refused_call_sends, refused_resume_sends, refused_tick_sends, resumed_sends, ticked_sends}
+use Rattle.dds_world.proofs.WorldSteps.{unknown_call, unknown_delivery, unknown_packet, unknown_resume, unknown_tick}
 
 -- ---- the machine that the peers of a network are the parts of, once one of them has another filter, or listener
 
@@ -258,7 +257,6 @@ module _ {F L : Type 0} (notices : L → List Notice) (capacity : L → ℕ) (be
       (sound_beside config network (with_peer network i p network.sent) beside s.sound)
       (used_beside config network (with_peer network i p network.sent) beside s.used)
       (bounded_beside network (with_peer network i p network.sent) beside s.bounded)
-      (closed_beside network (with_peer network i p network.sent) beside s.closed)
 
   -- a filter more
   adds_at : (old : Held F L) (i peer : ℕ) (filter : F) (number : ℕ) (core after : CoreKept F L) (new : Held F L)
@@ -480,7 +478,7 @@ stepped_in meaning notices capacity becomes old new i ev own whole reply is step
       sends = λ given. sends given (h.acts given);
     }
 
--- a call or a tick
+-- an event that is no delivery
 pub happened_in : {F L : Type 0} (meaning : F → Key → List ℕ → Bool) (notices : L → List Notice) (capacity : L → ℕ)
     (becomes : L → Notice → L → Type 0) (old new : Held F L) (i peer : ℕ) (ev : Event) (whole : WorldEvent) (reply : Reply) → peer ≡ i + 1
     → IsOfPeer whole peer ev
@@ -494,6 +492,10 @@ happened_in meaning notices capacity becomes old new i peer ev (world.Tick numbe
     (λ given. ticked (kept_of notices capacity becomes given old) (kept_of notices capacity becomes given new) i number now reply (of.0 ∙ is))
     (λ given. ticked_sends (kept_of notices capacity becomes given old) (kept_of notices capacity becomes given new) i number now reply (of.0 ∙ is)) a
 happened_in meaning notices capacity becomes old new i peer ev (world.Deliver number packet) reply is of a = absurd of
+happened_in meaning notices capacity becomes old new i peer ev (world.Resume number reader) reply is of a =
+    stepped_in meaning notices capacity becomes old new i ev (event.Resume reader) (world.Resume number reader) reply of.1
+    (λ given. resumed (kept_of notices capacity becomes given old) (kept_of notices capacity becomes given new) i number reader reply (of.0 ∙ is))
+    (λ given. resumed_sends (kept_of notices capacity becomes given old) (kept_of notices capacity becomes given new) i number reader reply) a
 
 -- the delivery of a packet that was sent
 pub delivered_in : {F L : Type 0} (meaning : F → Key → List ℕ → Bool) (notices : L → List Notice) (capacity : L → ℕ)
@@ -541,6 +543,14 @@ no_peer_in meaning notices capacity becomes old peer count ev (world.Tick number
           (kept_of notices capacity becomes given old) number now;
     }
 no_peer_in meaning notices capacity becomes old peer count ev (world.Deliver number packet) is none of = absurd of
+no_peer_in meaning notices capacity becomes old peer count ev (world.Resume number reader) is none of =
+    record {
+      steps = λ given. unknown_resume (kept_of notices capacity becomes given old) number reader
+          (outside notices capacity becomes given old peer count number is none of.0);
+      filters = refl;
+      sends = λ given. refused_resume_sends
+          (kept_of notices capacity becomes given old) number reader;
+    }
 
 pub no_delivery_in : {F L : Type 0} (meaning : F → Key → List ℕ → Bool) (notices : L → List Notice) (capacity : L → ℕ)
     (becomes : L → Notice → L → Type 0)

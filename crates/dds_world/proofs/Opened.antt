@@ -18,7 +18,6 @@ use Rattle.dds_machine.specs.Numbered.{has_element, numbered}
 use Rattle.dds_protocol.specs.Opening.{opening_peers, opening_world}
 use Rattle.dds_protocol.specs.Peer.{no_peer}
 use Rattle.dds_protocol.proofs.Bounded.{opened_bounded}
-use Rattle.dds_protocol.proofs.Closed.{opened_closed}
 use Rattle.dds_protocol.proofs.CountsOpened.{opens_used}
 use Rattle.dds_protocol.proofs.Composed.{parts_at}
 use Rattle.dds_protocol.proofs.Opened.{opening_is, opens_sound}
@@ -242,5 +241,4 @@ opened {F} {L} notices capacity becomes config held all none quiet =
       few = omega (arith, quiet);
       used = opens_used config;
       bounded = opened_bounded config;
-      closed = opened_closed config;
     }

@@ -5,7 +5,6 @@ use Rattle.dds_notices.specs.Listeners.{Places}
 use Rattle.dds_protocol.specs.declared.event.Packet.{Packet}
 use Rattle.dds_machine.specs.declared.event.WorldEvent.{WorldEvent}
 use Rattle.dds_protocol.specs.Bounds.{IsBounded}
-use Rattle.dds_protocol.specs.Closed.{IsClosed}
 use Rattle.dds_protocol.specs.Fresh.{HasUsedCounts}
 use Rattle.dds_machine.specs.Noticing.{peer_of}
 use Rattle.dds_protocol.specs.Noticing.{peer_at_end, world_ended}
@@ -66,10 +65,10 @@ pub peer_stands : {K : Type 0} (before later : ℕ → K → Places → Type 0)
     → CoreStandsFor after config p → later (suc i) left p.part.dds.listeners → IsSound config p
     → sent ≡ new.sent → AreMessages new.sent → new.unsent ≤ 2 ^ 64 - 1
     → Sound config (with_peer network i p sent) → HasUsedCounts config (with_peer network i p sent)
-    → IsBounded (machine_of (with_peer network i p sent)) → IsClosed (machine_of (with_peer network i p sent))
+    → IsBounded (machine_of (with_peer network i p sent))
     → StandsFor new config (with_peer network i p sent)
 peer_stands {K} before later kept new config network i after left p sent s peers listeners others filters stands told
-    known is messages few sound used bounded closed =
+    known is messages few sound used bounded =
     let c1 = length-set network.peers i p in
     let c2 = length-set kept.peers i after in
     let c3 = ap (λ (ks : List PeerKept). length ks) peers in
@@ -100,5 +99,4 @@ peer_stands {K} before later kept new config network i after left p sent s peers
       few = few;
       used = used;
       bounded = bounded;
-      closed = closed;
     }

@@ -1,6 +1,7 @@
 -- The stages of a round, and the round that they make.
 use Rattle.std.proofs.Common.{◌≡◌, ◌⊎◌, ℕ, zero, suc, ◌+◌, ◌-◌, ◌<◌, ◌≤◌, List, [], ◌∷◌, ◌++◌, Option, Some, None, map, length, get_or, slice_get, refl, ap, sym, ◌∙◌, subst, inl, inr, ⊎_elim, append_assoc, arith}
-use Rattle.std.specs.Prelude.{Result, Ok, Err, IfErr, IsErrAnd, IsSome, is_some, if◌then◌else◌}
+use Rattle.std.specs.Prelude.{Result, Ok, Err, IfErr, IsErrAnd, IsSome, Bool, true, false, ◌&&◌, is_some, if◌then◌else◌}
+use Rattle.std.specs.Option.{option_map, option_map_or}
 use Rattle.std.proofs.lemmas.List.{append-nil}
 use Rattle.std.proofs.lemmas.Option.{same_Some, slice_get_read, slice_get_within}
 use Rattle.dds_base.specs.declared.code.Code.{Code}
@@ -11,17 +12,16 @@ use Rattle.dds_base.specs.Kept.{numbers_from}
 use Rattle.rtps_wire.specs.declared.seek.Sought.{Sought}
 use Rattle.rtps_wire.specs.declared.seek.Sought.TheVariants as sought
 use Rattle.dds_protocol.specs.Noticing.{world_ended}
-use Rattle.dds_machine.specs.declared.endpoint.Endpoint.{Endpoint}
+use Rattle.dds_base.specs.declared.endpoint.Endpoint.{Endpoint}
 use Rattle.dds_protocol.specs.declared.event.Packet.{Packet}
 use Rattle.dds_machine.specs.declared.event.WorldEvent.{WorldEvent}
 use Rattle.dds_machine.specs.declared.event.WorldEvent.TheVariants as world
 use Rattle.dds_machine.specs.declared.reply.Reply.{Reply}
-use Rattle.dds_machine.specs.Machine.{AllTests, Machine, part_at, place_at, writer_at}
-use Rattle.dds_machine.specs.Part.{NoLess, Part, own_proxies, own_writer, acknowledged_of, is_reader_behind, place_of, writer_changes}
+use Rattle.dds_machine.specs.Machine.{AllTests, Machine, part_at, writer_at}
+use Rattle.dds_machine.specs.Part.{Away, Part, WriterProxy, own_proxies, own_writer, acknowledged_of, how_of, is_attached, is_reader_behind, place_of, row_of, writer_changes}
 use Rattle.dds_protocol.specs.Peer.{Peer, no_peer}
 use Rattle.dds_protocol.specs.DueMessages.{writer_entity}
 use Rattle.dds_protocol.specs.World.{WorldState, WorldStep, machine_of}
-use Rattle.dds_protocol.proofs.ClosedSteps.{acknowledges_no_more}
 use Rattle.dds_machine.proofs.Tables.{numbered-map, slice_get-append}
 use Rattle.dds_core.specs.declared.pairing.Pair.{Pair}
 use Rattle.dds_core.specs.Kept.{PeerKept}
@@ -55,6 +55,9 @@ world_grows config tests old (world.Tick peer now) reply new step =
     (λ r. grows_same old.sent new.sent (ap (λ (w : WorldState). w.sent) r.1.after)) step
 world_grows config tests old (world.Deliver peer k) reply new step =
     ⊎_elim (λ p. (p.3.posted, ap (λ (w : WorldState). w.sent) p.3.changed))
+    (λ r. grows_same old.sent new.sent (ap (λ (w : WorldState). w.sent) r.1.after)) step
+world_grows config tests old (world.Resume peer reader) reply new step =
+    ⊎_elim (λ p. (p.posted, ap (λ (w : WorldState). w.sent) p.changed))
     (λ r. grows_same old.sent new.sent (ap (λ (w : WorldState). w.sent) r.1.after)) step
 
 record GoesOn {hearing : Hearing} (config : Config) (old new : WorldKept hearing) : Type 0 where
@@ -370,70 +373,115 @@ pair_matched kept i core writer reader pair now is at found moment = λ config n
       moment = moment config p.peer p.stands ∙ ap (λ (part : Part). part.dds.moment) (sym p.part);
     }
 
--- ---- the place of a reader
+-- ---- the rows of a reader
 
--- the place, in each state that the network stands for
-abbrev pub IsPlace : {hearing : Hearing} → WorldKept hearing → Endpoint → Endpoint → Option ℕ → Type 0
-IsPlace kept reader writer place =
+-- what the rows of a reader say, in each state that the network stands for
+abbrev pub AreRowsSo : {hearing : Hearing} {X : Type 0} → WorldKept hearing → (List WriterProxy → X) → Endpoint → X → Type 0
+AreRowsSo kept say reader said =
     (config : Config) (network : WorldState) → StandsFor kept config network
-    → place ≡ place_at (machine_of network) reader writer
+    → said ≡ say (own_proxies (part_at (machine_of network) reader.peer) reader.number)
 
-pub place_kept : {hearing : Hearing} → (kept : WorldKept hearing) (i : ℕ) (core : PeerKept) (reader writer : Endpoint)
-    (place : Option ℕ)
+-- its place
+abbrev pub IsPlace : {hearing : Hearing} → WorldKept hearing → Endpoint → Endpoint → Option ℕ → Type 0
+IsPlace kept reader writer place = AreRowsSo kept (λ rows. place_of rows writer) reader place
+
+-- whether it is matched
+abbrev pub IsMatchedSo : {hearing : Hearing} → WorldKept hearing → Endpoint → Endpoint → Bool → Type 0
+IsMatchedSo kept reader writer is = AreRowsSo kept (λ rows. is_attached (how_of rows writer)) reader is
+
+pub rows_kept : {hearing : Hearing} {X : Type 0} → (kept : WorldKept hearing) (i : ℕ) (core : PeerKept)
+    (say : List WriterProxy → X) (reader : Endpoint) (said : X)
     → reader.peer ≡ i + 1
     → slice_get kept.peers i ≡ Some core
     → ((config : Config) (peer : Peer) → CoreStandsFor core config peer
-    → place ≡ place_of (own_proxies peer.part reader.number) writer)
-    → IsPlace kept reader writer place
-place_kept kept i core reader writer place is at of_core = λ config network s.
+    → said ≡ say (own_proxies peer.part reader.number))
+    → AreRowsSo kept say reader said
+rows_kept kept i core say reader said is at of_core = λ config network s.
     let p = peer_is kept i reader.peer core config network s is at in
-    of_core config p.peer p.stands ∙ ap (λ (part : Part). place_of (own_proxies part reader.number) writer) (sym p.part)
+    of_core config p.peer p.stands ∙ ap (λ (part : Part). say (own_proxies part reader.number)) (sym p.part)
 
 -- ---- where there is no round
 
-no_cause : (o : Option ℕ) → IsSome o → (if is_some o then None else Some BadParameter) ≡ None
-no_cause None h = cc
-no_cause (Some x) h = refl
+no_cause : (o : Option ℕ) (b : Bool) → IsSome o → true ≡ b
+    → (if is_some o && b then None else Some BadParameter) ≡ None
+no_cause None b h is = cc
+no_cause (Some x) b h is = subst (λ (c : Bool). (if c then None else Some BadParameter) ≡ None) is refl
 
 pub are_matched : {hearing : Hearing} → (kept : WorldKept hearing) (m : Matched) → IsKnown kept m
-    → AreMatched kept m.writer m.reader
-are_matched kept m known config network s =
+    → IsMatchedSo kept m.reader m.writer true → AreMatched kept m.writer m.reader
+are_matched kept m known here config network s =
     no_cause (acknowledged_of (writer_at (machine_of network) m.writer).readers m.reader)
-    (known config network s).matched
+    (is_attached (how_of (own_proxies (part_at (machine_of network) m.reader.peer) m.reader.number) m.writer))
+    (known config network s).matched (here config network s)
 
 pub not_matched : {hearing : Hearing} → (kept : WorldKept hearing) (writer reader : Endpoint)
     → NotMatched kept writer reader
     → RefusesRound kept writer reader BadParameter
 not_matched kept writer reader none config network s =
-    subst (λ (o : Option ℕ). Refuses (if is_some o then None else Some BadParameter) BadParameter)
+    subst (λ (o : Option ℕ). Refuses (if is_some o
+    && is_attached (how_of (own_proxies (part_at (machine_of network) reader.peer) reader.number) writer)
+    then None else Some BadParameter) BadParameter)
     (sym (none config network s)) refl
 
-nothing_less : (a b : Option ℕ) → NoLess a b → None ≡ b → a ≡ None
-nothing_less None b h is = refl
-nothing_less (Some x) None h is = absurd h
-nothing_less (Some x) (Some y) h is = cc
+-- where the reader's side is not matched there is no round
+no_side : (o : Option ℕ) (b : Bool) → false ≡ b
+    → Refuses (if is_some o && b then None else Some BadParameter) BadParameter
+no_side None b is = refl
+no_side (Some x) b is =
+    subst (λ (c : Bool). Refuses (if c then None else Some BadParameter) BadParameter) is refl
+
+pub not_attached : {hearing : Hearing} → (kept : WorldKept hearing) (writer reader : Endpoint)
+    → IsMatchedSo kept reader writer false → RefusesRound kept writer reader BadParameter
+not_attached kept writer reader none config network s =
+    no_side (acknowledged_of (writer_at (machine_of network) writer).readers reader)
+    (is_attached (how_of (own_proxies (part_at (machine_of network) reader.peer) reader.number) writer))
+    (none config network s)
 
 -- so it is of each machine for which the network stands
-pub place_in : {hearing : Hearing} → (kept : WorldKept hearing) (reader writer : Endpoint) (place : Option ℕ)
-    → IsPlace kept reader writer place
-    → (config : Config) (m : Machine) → MachineStands kept config m → place ≡ place_at m reader writer
-place_in kept reader writer place is config m stands =
-    is config stands.0 stands.2 ∙ ap (λ (x : Machine). place_at x reader writer) stands.1
+pub rows_in : {hearing : Hearing} {X : Type 0} → (kept : WorldKept hearing) (say : List WriterProxy → X)
+    (reader : Endpoint) (said : X) → AreRowsSo kept say reader said
+    → (config : Config) (m : Machine) → MachineStands kept config m
+    → said ≡ say (own_proxies (part_at m reader.peer) reader.number)
+rows_in kept say reader said is config m stands =
+    is config stands.0 stands.2
+    ∙ ap (λ (x : Machine). say (own_proxies (part_at x reader.peer) reader.number)) stands.1
 
 -- and of each of its states where it is of each such machine
-pub place_of_machine : {hearing : Hearing} → (kept : WorldKept hearing) (reader writer : Endpoint) (place : Option ℕ)
-    → ((config : Config) (m : Machine) → MachineStands kept config m → place ≡ place_at m reader writer)
-    → IsPlace kept reader writer place
-place_of_machine kept reader writer place is config network s = is config (machine_of network) (network, refl, s)
+pub rows_of_machine : {hearing : Hearing} {X : Type 0} → (kept : WorldKept hearing) (say : List WriterProxy → X)
+    (reader : Endpoint) (said : X)
+    → ((config : Config) (m : Machine) → MachineStands kept config m
+    → said ≡ say (own_proxies (part_at m reader.peer) reader.number))
+    → AreRowsSo kept say reader said
+rows_of_machine kept say reader said is config network s = is config (machine_of network) (network, refl, s)
 
--- without a place they are not matched
+-- the same of ends that are these
+pub here_of : {hearing : Hearing} → (kept : WorldKept hearing) (writer reader w r : Endpoint) → w ≡ writer → r ≡ reader
+    → IsMatchedSo kept reader writer true → IsMatchedSo kept r w true
+here_of kept writer reader w r same_w same_r here =
+    subst (λ (e : Endpoint). IsMatchedSo kept e w true) (sym same_r)
+    (subst (λ (e : Endpoint). IsMatchedSo kept reader e true) (sym same_w) here)
+
+-- without a place the reader is not matched
+unplaced : (rows : List WriterProxy) (writer : Endpoint) → None ≡ place_of rows writer
+    → false ≡ is_attached (how_of rows writer)
+unplaced rows writer none = by (row_of (λ (p : WriterProxy). p.writer) rows writer) refl
+  where
+    by : (o : Option WriterProxy) → row_of (λ (p : WriterProxy). p.writer) rows writer ≡ o
+        → false ≡ is_attached (how_of rows writer)
+    by None e =
+        ap (λ (x : Option WriterProxy). is_attached (option_map_or (λ (p : WriterProxy). p.how) x Away)) (sym e)
+    by (Some row) e =
+        let some : ◌≡◌ {A = Option ℕ} None (Some row.place) =
+        none ∙ ap (λ (x : Option WriterProxy). option_map (λ (p : WriterProxy). p.place) x) e in
+        absurd cc
+
 pub not_placed : {hearing : Hearing} → (kept : WorldKept hearing) (writer reader : Endpoint)
     → IsPlace kept reader writer None
-    → NotMatched kept writer reader
-not_placed kept writer reader none config network s =
-    nothing_less (acknowledged_of (writer_at (machine_of network) writer).readers reader)
-    (place_at (machine_of network) reader writer) (acknowledges_no_more config network writer reader s.sound s.closed)
-    (none config network s)
+    → RefusesRound kept writer reader BadParameter
+not_placed kept writer reader none =
+    not_attached kept writer reader
+    (λ config network s. unplaced (own_proxies (part_at (machine_of network) reader.peer) reader.number) writer
+    (none config network s))
 
 -- ---- the first such packet
 
@@ -486,12 +534,13 @@ found_here Is sent from index number packet is above here such none =
 
 -- where they are matched, want of memory alone refuses a round
 pub lacks_memory : {hearing : Hearing} → (kept : WorldKept hearing) (m : Matched) (writer reader : Endpoint)
-    → m.writer ≡ writer → m.reader ≡ reader → IsKnown kept m → RefusesRound kept writer reader Memory
-lacks_memory kept m writer reader is_writer is_reader known config network s =
+    → m.writer ≡ writer → m.reader ≡ reader → IsKnown kept m → IsMatchedSo kept m.reader m.writer true
+    → RefusesRound kept writer reader Memory
+lacks_memory kept m writer reader is_writer is_reader known here config network s =
     let matched =
     subst (λ (w : Endpoint). round_refusal (machine_of network) w reader ≡ None) is_writer
     (subst (λ (r : Endpoint). round_refusal (machine_of network) m.writer r ≡ None) is_reader
-    (are_matched kept m known config network s)) in
+    (are_matched kept m known here config network s)) in
     subst (λ (o : Option Code). Refuses o Memory) (sym matched) refl
 
 -- what holds of want of memory holds of each refusal that is one

@@ -12,13 +12,14 @@ use Rattle.dds_machine.specs.declared.reply.Reply.{Reply}
 use Rattle.dds_machine.specs.declared.reply.Reply.TheVariants.{Done, Reported}
 use Rattle.dds_machine.specs.declared.reply.Report.{Report}
 use Rattle.dds_machine.specs.Part.{Part}
-use Rattle.dds_machine.specs.Calls.{Effect, nothing, writes, effect_of}
+use Rattle.dds_machine.specs.Calls.{Effect, nothing, writes, tells, looks_at_matches, effect_of}
 use Rattle.dds_protocol.specs.Peer.{Peer, no_peer, state_of}
 use Rattle.dds_protocol.specs.DueMessages.{Due, AreSent, heartbeats_due}
 use Rattle.dds_protocol.specs.Protocol.{State, TakesPacket}
 use Rattle.dds_protocol.specs.Rules.{AreDue, announcements_due, CountedStep, traffic_of}
 use Rattle.dds_protocol.specs.World.{WorldState, machine_of, peer_at}
 use Rattle.dds_protocol.proofs.Composed.{composes}
+use Rattle.dds_core.specs.Ruling.{ResumesByRules}
 use Rattle.dds_core.specs.Sending.{SendsFor, due_at_tick}
 use Rattle.dds_core.proofs.CallSteps.{number_is}
 use Rattle.dds_protocol.specs.Noticing.{world_ended}
@@ -30,7 +31,7 @@ use Rattle.dds_world.specs.WorldStanding.{Hearing, WorldKept, StandsFor, Machine
 use Rattle.dds_world.specs.Posting.{Announces}
 use Rattle.dds_world.specs.Acting.{Acts, RuledSteps}
 use Rattle.dds_world.proofs.Sends.{numbered_so}
-use Rattle.dds_world.proofs.WorldSteps.{SendsItsDues, acts_ruled, calls_at, delivers_at, found_at, ticks_at}
+use Rattle.dds_world.proofs.WorldSteps.{SendsItsDues, acts_ruled, calls_at, delivers_at, found_at, resumes_at, ticks_at}
 use Rattle.dds_machine.specs.Machine.{AllTests, Machine, Step}
 
 -- what was sent is that of the state
@@ -87,6 +88,8 @@ effect_due config peer (writes w (Asserted moment)) output are = are
 effect_due config peer (writes w LookedAt) output none = (none.packets, none.unsent)
 effect_due config peer (writes w (StrengthSet strength)) output none = (none.packets, none.unsent)
 effect_due config peer (writes w (Ticked now behind)) output none = (none.packets, none.unsent)
+effect_due config peer (tells telling) output none = (none.packets, none.unsent)
+effect_due config peer (looks_at_matches w) output none = (none.packets, none.unsent)
 effect_due config peer nothing output none = (none.packets, none.unsent)
 
 call_dues : {hearing : Hearing} → {tests : AllTests} → (kept new : WorldKept hearing) (i : ℕ) (call : Call)
@@ -208,3 +211,32 @@ delivered {tests} kept new i j packet reply at a =
     let next : suc i ≡ i + 1 = omega arith in
     subst (λ (n : ℕ). RuledSteps tests kept (world.Deliver n (j + 1)) reply new) next
     (taken_up kept new i j packet reply at a)
+
+-- ---- places that are tried again
+
+resumed_due : (config : Config) (network next : WorldState) (peer reader : ℕ) (reply : Reply)
+    → ResumesByRules reader (state_of (peer_at network peer)) reply (state_of (peer_at next peer))
+    → AreDue config network (world.Resume peer reader) reply next []
+resumed_due config network next peer reader (Reported report) h = (refl, h)
+resumed_due config network next peer reader reply h = refl
+
+resume_dues : {hearing : Hearing} → {tests : AllTests} → (kept new : WorldKept hearing) (i reader : ℕ) (reply : Reply)
+    (a : Acts tests kept i (event.Resume reader) reply new)
+    → SendsItsDues tests kept i (event.Resume reader) (world.Resume (suc i) reader) reply new a
+resume_dues kept new i reader reply a config network next s rules =
+    let before : State = state_of (get_or network.peers i no_peer) in
+    let later : State = state_of (get_or next.peers i no_peer) in (
+      [],
+      resumed_due config network next (suc i) reader reply
+          (subst (λ (r : Reply). ResumesByRules reader before r later) (sym a.acts.replies) rules.1),
+      (rules.0.packets, rules.0.unsent),
+    )
+
+pub resumed : {hearing : Hearing} → {tests : AllTests} → (kept new : WorldKept hearing) (i peer reader : ℕ)
+    (reply : Reply) → peer ≡ i + 1
+    → Acts tests kept i (event.Resume reader) reply new → RuledSteps tests kept (world.Resume peer reader) reply new
+resumed {tests} kept new i peer reader reply is a =
+    subst (λ (n : ℕ). RuledSteps tests kept (world.Resume n reader) reply new) (number_is peer i is)
+    (acts_ruled kept new i (event.Resume reader)
+    (world.Resume (suc i) reader) reply refl (resumes_at tests kept.sent (suc i) reader) a
+    (resume_dues kept new i reader reply a))

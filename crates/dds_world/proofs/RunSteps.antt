@@ -5,7 +5,7 @@ use Rattle.dds_protocol.specs.Noticing.{world_ended}
 use Rattle.dds_machine.specs.declared.event.WorldEvent.{WorldEvent}
 use Rattle.dds_protocol.specs.declared.event.Packet.{Packet}
 use Rattle.dds_machine.specs.declared.reply.Reply.{Reply}
-use Rattle.dds_machine.specs.declared.endpoint.Endpoint.{Endpoint}
+use Rattle.dds_base.specs.declared.endpoint.Endpoint.{Endpoint}
 use Rattle.dds_machine.specs.Machine.{AllTests, Machine, place_at, writer_at}
 use Rattle.dds_machine.specs.Part.{writer_changes}
 use Rattle.dds_world.specs.declared.round.Round.{Round}

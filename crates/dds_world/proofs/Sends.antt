@@ -4,7 +4,7 @@ use Rattle.dds_base.specs.declared.change.Change.{Change}
 use Rattle.dds_base.specs.declared.config.Config.{Config}
 use Rattle.dds_base.specs.Written.{Registered, Changed, Asserted, LookedAt, StrengthSet, Ticked}
 use Rattle.dds_machine.specs.declared.call.Call.{Call}
-use Rattle.dds_machine.specs.declared.endpoint.Endpoint.{Endpoint}
+use Rattle.dds_base.specs.declared.endpoint.Endpoint.{Endpoint}
 use Rattle.dds_protocol.specs.declared.event.Event.{Event}
 use Rattle.dds_protocol.specs.declared.event.Event.TheVariants as event
 use Rattle.dds_protocol.specs.declared.event.Output.{Output}
@@ -15,7 +15,7 @@ use Rattle.dds_machine.specs.declared.reply.Report.{Report}
 use Rattle.dds_machine.specs.declared.reply.Reply.TheVariants.{Done, Refused, Reported}
 use Rattle.dds_base.specs.declared.code.Code.TheVariants.{BadParameter}
 use Rattle.dds_machine.specs.Part.{Part, own_writer, writer_changes, peers_of}
-use Rattle.dds_machine.specs.Calls.{Effect, nothing, writes, effect_of}
+use Rattle.dds_machine.specs.Calls.{Effect, nothing, writes, tells, looks_at_matches, effect_of}
 use Rattle.dds_machine.specs.Machine.{AllTests, part_at}
 use Rattle.dds_protocol.specs.Peer.{Peer, no_peer}
 use Rattle.dds_protocol.specs.DueMessages.{Due, AreSent, assertions_due, changes_due, heartbeats_due}
@@ -105,6 +105,10 @@ effect_sends kept new config peer (writes w (StrengthSet strength)) output posts
     same_traffic kept new output quiet none
 effect_sends kept new config peer (writes w (Ticked now behind)) output posts counts quiet none =
     same_traffic kept new output quiet none
+effect_sends kept new config peer (tells telling) output posts counts quiet none =
+    same_traffic kept new output quiet none
+effect_sends kept new config peer (looks_at_matches w) output posts counts quiet none =
+    same_traffic kept new output quiet none
 effect_sends kept new config peer nothing output posts counts quiet none = same_traffic kept new output quiet none
 
 -- a peer of the machine sends so
@@ -117,6 +121,8 @@ machine_sends config old new network peer (writes w (Asserted moment)) h = h
 machine_sends config old new network peer (writes w LookedAt) h = h
 machine_sends config old new network peer (writes w (StrengthSet strength)) h = h
 machine_sends config old new network peer (writes w (Ticked now behind)) h = h
+machine_sends config old new network peer (tells telling) h = h
+machine_sends config old new network peer (looks_at_matches w) h = h
 machine_sends config old new network peer nothing h = h
 
 -- the number of the peer of this index
@@ -239,6 +245,15 @@ delivered_sends kept new i peer number bytes reply a config network s =
     (acts.replies ∙ rules.reply) rules.dues
     (dues_sent kept new rules.dues acts.output acts.posts a.counts rules.sent)
 
+-- where places are tried again nothing is sent
+
+pub resumed_sends : {hearing : Hearing} → {tests : AllTests} → (kept new : WorldKept hearing) (i peer reader : ℕ)
+    (reply : Reply)
+    → Acts tests kept i (event.Resume reader) reply new → Announces kept (world.Resume peer reader) reply new
+resumed_sends kept new i peer reader reply a config network s =
+    same_traffic kept new a.acts.output a.quiet
+    (rules_of kept new i (event.Resume reader) reply a config network s).1.0
+
 -- what is refused sends nothing
 
 pub refused_call_sends : {hearing : Hearing} → (kept : WorldKept hearing) (peer : ℕ) (c : Call)
@@ -254,3 +269,7 @@ refused_tick_sends kept peer now config network s = refl
 pub refused_delivery_sends : {hearing : Hearing} → (kept : WorldKept hearing) (peer number : ℕ)
     → Announces kept (world.Deliver peer number) (Refused BadParameter) kept
 refused_delivery_sends kept peer number config network s = refl
+
+pub refused_resume_sends : {hearing : Hearing} → (kept : WorldKept hearing) (peer reader : ℕ)
+    → Announces kept (world.Resume peer reader) (Refused BadParameter) kept
+refused_resume_sends kept peer reader config network s = refl

@@ -12,8 +12,6 @@ use Rattle.dds_protocol.specs.Bounds.{IsBounded}
 use Rattle.dds_protocol.specs.Fresh.{HasUsedCounts}
 use Rattle.dds_machine.specs.Noticing.{peer_of}
 use Rattle.dds_protocol.specs.Noticing.{peer_at_end, world_ended}
-use Rattle.dds_protocol.specs.Closed.{IsClosed}
-use Rattle.dds_protocol.proofs.Closed.{world_closed}
 use Rattle.dds_protocol.proofs.EndsBeside.{ended_same, ended_sound, ended_used, world_bounded}
 use Rattle.dds_machine.specs.declared.call.Call.{Call}
 use Rattle.dds_protocol.specs.declared.event.Event.{Event}
@@ -149,6 +147,10 @@ pub delivers_at : (tests : AllTests) → (sent : List Packet) (peer number : ℕ
 delivers_at tests sent peer number packet low found config old new reply same step =
     inl (packet, low, subst (λ (ps : List Packet). slice_get ps (number - 1) ≡ Some packet) (sym same) found, step)
 
+pub resumes_at : (tests : AllTests) → (sent : List Packet) (peer reader : ℕ)
+    → IsEventOf tests sent (event.Resume reader) peer (world.Resume peer reader)
+resumes_at tests sent peer reader config old new reply same step = inl step
+
 -- what the peer of this index sends at an event is what is due at it
 abbrev pub SendsItsDues : {hearing : Hearing} → (tests : AllTests)
     → (kept : WorldKept hearing) (i : ℕ) (ev : Event) (whole : WorldEvent) (reply : Reply) (new : WorldKept hearing)
@@ -223,9 +225,7 @@ acts_ruled {hearing} {tests} kept new i ev whole reply its into acts sends confi
     (omega (arith, unsent))
     (subst (λ (w : WorldState). Sound config w) ends (ended_sound config network whole next c.2))
     (subst (λ (w : WorldState). HasUsedCounts config w) ends (ended_used config network whole next used))
-    (subst (λ (w : WorldState). IsBounded (machine_of w)) ends (world_bounded network whole next bounded))
-    (subst (λ (w : WorldState). IsClosed (machine_of w)) ends
-    (world_closed tests (length network.sent) network whole reply next s.closed c.0)) in (
+    (subst (λ (w : WorldState). IsBounded (machine_of w)) ends (world_bounded network whole next bounded)) in (
       next,
       lost,
       ruled,
@@ -322,3 +322,10 @@ unknown_packet kept peer number none config network s =
     let why : (number ≡ 0) ⊎ (length network.sent < number) ⊎ (HasNumber network.peers peer → ⊥) =
     ⊎_elim (λ z. inl z) (λ past. inr (inl (omega (arith, past, count)))) (no_such number (length kept.sent) none) in
     stays kept config network (world.Deliver peer number) s (inr (why, record { is_refused = refl; after = refl })) refl
+
+pub unknown_resume : {hearing : Hearing} → {tests : AllTests} → (kept : WorldKept hearing) (peer reader : ℕ)
+    → (nat_lt 0 peer && nat_le peer (length kept.peers)) ≡ false
+    → RuledSteps tests kept (world.Resume peer reader) (Refused BadParameter) kept
+unknown_resume kept peer reader none config network s =
+    stays kept config network (world.Resume peer reader) s
+    (inr (λ has. nobody kept config network peer s none has, record { is_refused = refl; after = refl })) refl

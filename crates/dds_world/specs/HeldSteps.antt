@@ -7,7 +7,7 @@ use Rattle.dds_base.specs.declared.key.Key.{Key}
 use Rattle.dds_notices.specs.declared.notice.Notice.{Notice}
 use Rattle.dds_notices.specs.Listeners.{ByEntity}
 use Rattle.dds_protocol.specs.declared.event.Event.{Event}
-use Rattle.dds_protocol.specs.declared.event.Event.TheVariants.{Call, Tick}
+use Rattle.dds_protocol.specs.declared.event.Event.TheVariants.{Call, Tick, Resume}
 use Rattle.dds_machine.specs.declared.event.WorldEvent.{WorldEvent}
 use Rattle.dds_machine.specs.declared.event.WorldEvent.TheVariants as world
 use Rattle.dds_machine.specs.declared.reply.Reply.{Reply}
@@ -20,6 +20,7 @@ abbrev pub IsOfPeer : WorldEvent → ℕ → Event → Type 0
 IsOfPeer (world.Call number call) peer event = (number ≡ peer) × (Call call ≡ event)
 IsOfPeer (world.Tick number now) peer event = (number ≡ peer) × (Tick now ≡ event)
 IsOfPeer (world.Deliver number packet) peer event = ⊥
+IsOfPeer (world.Resume number reader) peer event = (number ≡ peer) × (Resume reader ≡ event)
 
 -- an event of the peer of this index, which adds no filter
 pub record ActsIn {F L : Type 0} (meaning : F → Key → List ℕ → Bool) (notices : L → List Notice) (capacity : L → ℕ)

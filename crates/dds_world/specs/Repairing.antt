@@ -7,7 +7,7 @@ use Rattle.dds_base.specs.declared.key.Key.{Key}
 use Rattle.dds_notices.specs.declared.notice.Notice.{Notice}
 use Rattle.dds_notices.specs.Listeners.{ByEntity}
 use Rattle.rtps_wire.specs.declared.seek.Sought.TheVariants as sought
-use Rattle.dds_machine.specs.declared.endpoint.Endpoint.{Endpoint}
+use Rattle.dds_base.specs.declared.endpoint.Endpoint.{Endpoint}
 use Rattle.dds_protocol.specs.declared.event.Packet.{Packet}
 use Rattle.dds_machine.specs.declared.event.WorldEvent.{WorldEvent}
 use Rattle.dds_machine.specs.declared.event.WorldEvent.TheVariants.{Deliver}
@@ -22,7 +22,7 @@ use Rattle.dds_world.specs.Holding.{Held, heard, kept_of, tests_in}
 use Rattle.dds_world.specs.Round.{IsStep, AreSteps, IsTo, HasNone, IsFirst, answers_at}
 use Rattle.dds_world.specs.WorldStanding.{Hearing, WorldKept, StandsFor}
 
--- the two are matched, by these entity ids, the reader is behind exactly so, the writer has made so many changes, and
+-- the writer is matched with the reader, by these entity ids, the reader is behind exactly so, the writer has made so many changes, and
 -- the moment is that of its peer
 pub record Knows (config : Config) (network : WorldState) (m : Matched) : Type 0 where
   pub matched : IsSome (acknowledged_of (writer_at (machine_of network) m.writer).readers m.reader)

@@ -2,7 +2,7 @@
 -- HEARTBEAT, the reader's ACKNACK, and its answers, each delivered once.
 --
 -- RTPS 2.5, 8.4.9 (reliable StatefulWriter), 8.4.12 (reliable StatefulReader).
-use Rattle.std.specs.Prelude.{◌≡◌, ◌⊎◌, ℕ, ◌+◌, ◌-◌, ◌^◌, ◌<◌, ◌≤◌, min, nat_lt, if◌then◌else◌, Bool, true, false, not, List, [], ◌∷◌, length, map, is_some, Option, Some, None}
+use Rattle.std.specs.Prelude.{◌≡◌, ◌⊎◌, ◌&&◌, ℕ, ◌+◌, ◌-◌, ◌^◌, ◌<◌, ◌≤◌, min, nat_lt, if◌then◌else◌, Bool, true, false, not, List, [], ◌∷◌, length, map, is_some, Option, Some, None}
 use Rattle.std.specs.List.{list_all, list_any}
 use Rattle.dds_base.specs.declared.code.Code.{Code}
 use Rattle.dds_base.specs.declared.code.Code.TheVariants.{BadParameter}
@@ -13,7 +13,7 @@ use Rattle.dds_base.specs.Refusal.{Refuses}
 use Rattle.rtps_wire.specs.declared.seek.Sought.{Sought}
 use Rattle.rtps_wire.specs.declared.seek.Sought.TheVariants as sought
 use Rattle.rtps_wire.specs.Sought.{Has}
-use Rattle.dds_machine.specs.declared.endpoint.Endpoint.{Endpoint}
+use Rattle.dds_base.specs.declared.endpoint.Endpoint.{Endpoint}
 use Rattle.dds_protocol.specs.declared.event.Packet.{Packet}
 use Rattle.dds_machine.specs.declared.event.WorldEvent.{WorldEvent}
 use Rattle.dds_machine.specs.declared.event.WorldEvent.TheVariants.{Tick, Deliver}
@@ -22,7 +22,8 @@ use Rattle.dds_machine.specs.declared.reply.Reply.{Reply}
 use Rattle.dds_machine.specs.declared.reply.Reply.TheVariants.{Done, Reported}
 use Rattle.dds_protocol.specs.Fresh.{heartbeats_used_at, acknacks_used_at}
 use Rattle.dds_machine.specs.Machine.{Machine, AllTests, part_at, place_at, writer_at}
-use Rattle.dds_machine.specs.Part.{acknowledged_of, is_reader_behind, writer_changes}
+use Rattle.dds_machine.specs.Part.{Waiting, acknowledged_of, how_of, is_attached, is_reader_behind, own_proxies, owed_from, writer_changes}
+use Rattle.dds_protocol.specs.Closed.{IsClosed}
 use Rattle.dds_protocol.specs.Repair.{HasCaughtUp}
 use Rattle.dds_protocol.specs.Rules.{RuledRun}
 use Rattle.dds_machine.specs.Runs.{Run}
@@ -33,10 +34,15 @@ use Rattle.dds_world.specs.declared.round.Round.{Round}
 use Rattle.dds_world.specs.declared.round.RoundReply.{RoundReply}
 use Rattle.dds_world.specs.WorldStanding.{Hearing, WorldKept, StandsFor, KeepsRules}
 
--- why there is no round: the writer is not matched with the reader
+-- the two are matched at both sides: the writer has a row of the reader, and the reader is matched with the writer
+abbrev pub is_pair_matched : Machine → Endpoint → Endpoint → Bool
+is_pair_matched m writer reader =
+    is_some (acknowledged_of (writer_at m writer).readers reader)
+    && is_attached (how_of (own_proxies (part_at m reader.peer) reader.number) writer)
+
+-- why there is no round: the two are not matched
 abbrev pub round_refusal : Machine → Endpoint → Endpoint → Option Code
-round_refusal m writer reader =
-    if is_some (acknowledged_of (writer_at m writer).readers reader) then None else Some BadParameter
+round_refusal m writer reader = if is_pair_matched m writer reader then None else Some BadParameter
 
 -- for each state that the network stands for, a round is refused so
 abbrev pub RefusesRound : {hearing : Hearing} → WorldKept hearing → Endpoint → Endpoint → Code → Type 0
@@ -44,7 +50,7 @@ RefusesRound kept writer reader code =
     (config : Config) (network : WorldState) → StandsFor kept config network
     → Refuses (round_refusal (machine_of network) writer reader) code
 
--- for each state that the network stands for, the writer is matched with the reader
+-- for each state that the network stands for, the two are matched
 abbrev pub AreMatched : {hearing : Hearing} → WorldKept hearing → Endpoint → Endpoint → Type 0
 AreMatched kept writer reader =
     (config : Config) (network : WorldState) → StandsFor kept config network
@@ -149,6 +155,15 @@ IsHindered network writer reader answer =
     ⊎ ((length answer.replies ≡ 1) × (answer.was_behind ≡ true) × (max_count ≤ heartbeats_used_at network writer))
     ⊎ ((length answer.replies ≡ 2) × (max_count ≤ acknacks_used_at network writer reader))
 
+-- Where ends come and go, no HEARTBEAT may be due either: the writer owes the reader no change that it has made; or the
+-- reader is not behind, and its place waits.
+abbrev pub IsExcused : WorldState → Endpoint → Endpoint → Type 0
+IsExcused network writer reader =
+    (length (writer_changes (writer_at (machine_of network) writer))
+    < owed_from (writer_at (machine_of network) writer) reader)
+    ⊎ ((is_reader_behind (writer_at (machine_of network) writer) reader ≡ false)
+    × (how_of (own_proxies (part_at (machine_of network) reader.peer) reader.number) writer ≡ Waiting))
+
 -- the replies alone, without the counts of packets beside them
 abbrev pub replies_of : List RoundReply → List Reply
 replies_of replies = map (λ (r : RoundReply). r.reply) replies
@@ -157,7 +172,7 @@ replies_of replies = map (λ (r : RoundReply). r.reply) replies
 -- them by the rules of the protocol, to a state that the new network stands for. The answer says
 -- how the pair stood before it, and the reader's place after it. There the reader has gone on by 256 numbers, or to the
 -- end of the writer's list, or to a change that has no room, and the writer knows of all that the reader had before,
--- unless something hindered the round.
+-- unless something hindered the round, or, where somebody has come or left, something else excuses it.
 pub record RoundFrom {hearing : Hearing} (tests : AllTests) (config : Config) (network : WorldState)
     (old : WorldKept hearing)
     (writer reader : Endpoint)
@@ -171,7 +186,10 @@ pub record RoundFrom {hearing : Hearing} (tests : AllTests) (config : Config) (n
   pub last : answer.last ≡ length (writer_changes (writer_at (machine_of network) writer))
   pub from : place_at (machine_of network) reader writer ≡ Some answer.from
   pub to : place_at (machine_of after) reader writer ≡ Some answer.to
-  pub caught_up : IsHindered network writer reader answer ⊎ HasCaughtUp after writer reader answer.from answer.last
+  pub caught_up : IsHindered network writer reader answer ⊎ IsExcused network writer reader
+      ⊎ HasCaughtUp after writer reader answer.from answer.last
+  pub closed : IsClosed (machine_of network)
+      → IsHindered network writer reader answer ⊎ HasCaughtUp after writer reader answer.from answer.last
 
 -- One round: each reply is that of a step of the network, with the counts as they stood after it; and from each state
 -- that the old network stands for it is a round.

@@ -11,7 +11,6 @@ use Rattle.dds_machine.specs.declared.event.WorldEvent.{WorldEvent}
 use Rattle.dds_machine.specs.declared.reply.Reply.{Reply}
 use Rattle.dds_machine.specs.Machine.{AllTests, Machine}
 use Rattle.dds_protocol.specs.Bounds.{IsBounded}
-use Rattle.dds_protocol.specs.Closed.{IsClosed}
 use Rattle.dds_protocol.specs.Fresh.{HasUsedCounts}
 use Rattle.dds_protocol.specs.Rules.{CountedStep, RuledRun}
 use Rattle.dds_protocol.specs.Traffic.{Traffic}
@@ -38,7 +37,7 @@ pub record WorldKept (hearing : Hearing) : Type 0 where
 -- A state of the network for which what it keeps stands: so its peers stand, have as many filters, have listeners that
 -- stand for what they were told, and know what was claimed to them alone; all that packets claim is
 -- true, and each packet is a message; what is counted as unsent keeps to its bound; the counts that were sent or taken
--- were used by their senders; no reader's place is past the end of a list; and nobody has come or left.
+-- were used by their senders; and no reader's place is past the end of a list.
 pub record StandsFor {hearing : Hearing} (kept : WorldKept hearing) (config : Config) (network : WorldState)
     : Type 0 where
   pub count : length network.peers ≡ length kept.peers
@@ -55,7 +54,6 @@ pub record StandsFor {hearing : Hearing} (kept : WorldKept hearing) (config : Co
   pub few : kept.unsent ≤ 2 ^ 64 - 1
   pub used : HasUsedCounts config network
   pub bounded : IsBounded (machine_of network)
-  pub closed : IsClosed (machine_of network)
 
 -- A machine for which what a network keeps stands: its parts are those of the peers in a state for which it stands.
 abbrev pub MachineStands : {hearing : Hearing} → WorldKept hearing → Config → Machine → Type 0

@@ -10,10 +10,10 @@ ghost use Rattle.dds_world.specs.Holding.{MachineStandsFor, filters_of, kept_of,
 ghost use Rattle.dds_world.specs.Repairing.{Acknowledging, AddsIn, Answering, Beating, IsKnown, IsStepIn, NotMatched};
 
 use crate::world::World;
-use dds_base::{Code, Moment, Sequence, Sn, index_of};
+use dds_base::{Code, Endpoint, Moment, Sequence, Sn, index_of};
 use dds_conditions::Filter;
 use dds_core::Pair;
-use dds_machine::{Endpoint, Reply, WorldEvent};
+use dds_machine::{Reply, WorldEvent};
 use dds_notices::Listener;
 use dds_protocol::Packet;
 use rtps_wire::{Sought, has_submessage};
@@ -101,11 +101,12 @@ impl<F: Filter, L: Listener> World<F, L> {
     ///
     /// Each packet is delivered once, and no other one is. There are 1 to 259 replies; each of them may lack memory, as
     /// one of `World::step`. Afterwards the reader has come to the next 256 changes, or to all, or to one for which it
-    /// has no room, unless the answer shows why not (see `Round`).
+    /// has no room, unless the answer shows why not (see `Round`), or no HEARTBEAT is due, as the writer owes the reader
+    /// nothing, or a reader whose place waits is not behind.
     ///
     /// # Errors
     ///
-    /// `BadParameter` where the writer is not matched with the reader, or there are no such ends; `Memory` where no
+    /// `BadParameter` where one of the two is not matched with the other, or there are no such ends; `Memory` where no
     /// memory was found for the replies. Nothing was done then.
     ///
     /// RTPS 2.5, 8.4.9 and 8.4.12.
@@ -139,6 +140,9 @@ impl<F: Filter, L: Listener> World<F, L> {
         let Some(from) = self.place(reader, writer) else {
             return Err(Code::BadParameter);
         };
+        if !self.is_matched(reader, writer) {
+            return Err(Code::BadParameter);
+        }
         let mut replies = Vec::with_capacity(self.alloc, MAX_REPLIES)?;
         let (sent, unsent_before) = (self.sent(), self.unsent());
         let tick = WorldEvent::Tick {

@@ -11,7 +11,8 @@ ghost use Rattle.dds_base.specs.declared.code.Code.TheVariants.{Memory};
 ghost use Rattle.dds_notices.specs.Listeners.{ByEntity};
 ghost use Rattle.dds_machine.specs.declared.event.WorldEvent.TheVariants as event;
 ghost use Rattle.dds_protocol.specs.Traffic.{no_traffic};
-ghost use Rattle.dds_machine.specs.Machine.{Machine, place_at};
+ghost use Rattle.dds_machine.specs.Machine.{Machine, part_at, place_at};
+ghost use Rattle.dds_machine.specs.Part.{how_of, is_attached, own_proxies};
 ghost use Rattle.dds_machine.specs.Opening.{opening};
 ghost use Rattle.dds_machine.specs.Runs.{Runs, Steps};
 ghost use Rattle.dds_machine.specs.Numbered.{numbered};
@@ -24,10 +25,10 @@ ghost use Rattle.dds_world.specs.Acting.{Counts, IsQuiet, OpensFirst};
 ghost use Rattle.dds_world.specs.Holding.{Adds, RefusesFilter, RefusesListener, Sets, MachineStandsFor, filters_of, kept_of, none_given, tests_in};
 ghost use Rattle.dds_world.specs.HeldSteps.{ActsIn, IsOfPeer, StepsIn};
 
-use dds_base::{Code, Config, Entity, Sequence, Sn, index_of};
+use dds_base::{Code, Config, Endpoint, Entity, Sequence, Sn, index_of};
 use dds_conditions::Filter;
 use dds_core::Core;
-use dds_machine::{Endpoint, Reply, WorldEvent};
+use dds_machine::{Reply, WorldEvent};
 use dds_notices::{Listener, StatusMask};
 use dds_protocol::{Event, Output, Packet};
 use std::alloc::Global;
@@ -170,11 +171,12 @@ impl<F: Filter, L: Listener> World<F, L> {
         })
     }
 
-    /// One event: a call at a peer, its time that goes on, or the delivery of a packet that was sent, at a peer.
+    /// One event: a call at a peer, its time that goes on, the delivery of a packet that was sent, at a peer, or a reader
+    /// whose places are tried again.
     ///
     /// An event at a peer that does not exist, and the delivery of a packet that was never sent, are refused with
-    /// `BadParameter`. A call is answered as `Call` says, and a tick as `Event::Tick`: at it writers die whose lease is
-    /// over. What is refused changes nothing, but for `NoData`, which is entered as the access that it is, and
+    /// `BadParameter`. A call is answered as `Call` says, a reader whose places are tried again as `Event::Resume`, and
+    /// a tick as `Event::Tick`: at it writers die whose lease is over. What is refused changes nothing, but for `NoData`, which is entered as the access that it is, and
     /// `Timeout` of a look at a WaitSet, which ends the wait. At the end of an event the listeners of its peer are told
     /// what it raised, as `Core::step` says.
     pub fn step(&mut self, event: WorldEvent) -> Reply
@@ -303,10 +305,11 @@ impl<F: Filter, L: Listener> World<F, L> {
             WorldEvent::Call { peer, call } => self.happen_to(peer, Event::Call(call)),
             WorldEvent::Tick { peer, now } => self.happen_to(peer, Event::Tick(now)),
             WorldEvent::Deliver { peer, packet } => self.deliver(peer, packet),
+            WorldEvent::Resume { peer, reader } => self.happen_to(peer, Event::Resume { reader }),
         }
     }
 
-    /// A call at the peer of this number, or its time that goes on.
+    /// An event of the peer of this number that is no delivery.
     fn happen_to(&mut self, peer: u8, event: Event) -> Reply
         ensures { (whole : WorldEvent) → IsOfPeer whole peer event
             → StepsIn F.meaning L.notices L.capacity L.becomes self.old whole result self.new }
@@ -406,12 +409,13 @@ impl<F: Filter, L: Listener> World<F, L> {
         self.unsent
     }
 
-    /// The place of a reader at a writer: the number of the change that it has next, from 1; `None` where they are not
-    /// matched, or where there are no such ends.
+    /// The place of a reader at a writer: the number of the change that it has next, from 1; `None` where the reader
+    /// doesn't know the writer, or where there are no such ends. It is kept also of a writer with which the reader is no
+    /// longer matched.
     ///
     /// RTPS 2.5, 8.4.10 (StatefulReader, WriterProxy).
     pub fn place(&self, reader: Endpoint, writer: Endpoint) -> Option<Sn>
-        // It is the place in each machine that the network stands for, and there is one exactly if they are matched.
+        // It is the place in each machine that the network stands for, and there is one exactly if the writer is known.
         ensures place { (given : ℕ → ByEntity L) (config : ConfigOf) (m : Machine)
             → MachineStandsFor L.notices L.capacity L.becomes given self.now config m
             → result ≡ place_at m reader writer }
@@ -420,5 +424,21 @@ impl<F: Filter, L: Listener> World<F, L> {
             return None;
         };
         self.peers[index].place(reader.number, writer)
+    }
+
+    /// Whether a reader is matched with a writer, as its peer was told; `false` where there are no such ends.
+    ///
+    /// RTPS 2.5, 8.4.10 (StatefulReader: matched_writers).
+    pub fn is_matched(&self, reader: Endpoint, writer: Endpoint) -> bool
+        // So it is in each machine that the network stands for.
+        ensures matched { (given : ℕ → ByEntity L) (config : ConfigOf) (m : Machine)
+            → MachineStandsFor L.notices L.capacity L.becomes given self.now config m
+            → result
+            ≡ is_attached (how_of (own_proxies (part_at m reader.peer) reader.number) writer) }
+    {
+        let Some(index) = index_of(reader.peer, self.count()) else {
+            return false;
+        };
+        self.peers[index].is_matched(reader.number, writer)
     }
 }

@@ -11,3 +11,7 @@ returns-in-Tick g c = steps_as c.in-Tick.is (c.happen_to-in-Tick.ensures (world.
 
 pub returns-in-Deliver : goal.returns-in-Deliver
 returns-in-Deliver g c = steps_as c.in-Deliver.is c.deliver.ensures
+
+pub returns-in-Resume : goal.returns-in-Resume
+returns-in-Resume g c =
+    steps_as c.in-Resume.is (c.happen_to-in-Resume.ensures (world.Resume c.in-Resume.peer c.in-Resume.reader) (refl, refl))

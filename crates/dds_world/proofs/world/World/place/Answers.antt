@@ -1,7 +1,8 @@
+use Rattle.dds_machine.specs.Part.{place_of}
 use Rattle.dds_core.specs.Listening.{CoreKept}
 use Rattle.dds_world.specs.Holding.{kept_of}
 use Rattle.dds_world.proofs.Holding.{core_kept}
-use Rattle.dds_world.proofs.Rounds.{place_in, place_kept}
+use Rattle.dds_world.proofs.Rounds.{rows_in, rows_kept}
 use Rattle.dds_world.proofs.world.World.place.Goals as goal
 
 pub returns : goal.returns
@@ -13,7 +14,7 @@ returns g c = record {
       let at =
       core_kept g.L.Listener.notices g.L.Listener.capacity g.L.Listener.becomes given _ c.args.self.now i c.count.result
       core c.self.view_is c.index.ensures c.count.ensures c.in-Some.ensures.index.1 in
-      place_in kept c.args.reader c.args.writer c.place.result
-      (place_kept kept i core.filtered.peer c.args.reader c.args.writer c.place.result c.in-Some.ensures.index.0 at
-      c.place.ensures.place);
+      rows_in kept (λ rows. place_of rows c.args.writer) c.args.reader c.place.result
+      (rows_kept kept i core.filtered.peer (λ rows. place_of rows c.args.writer) c.args.reader c.place.result
+      c.in-Some.ensures.index.0 at c.place.ensures.place);
 }
