@@ -80,6 +80,29 @@ impl<N: Named<F, L>, F: Filter, L: Listener, T: Keeping> Shared<N, F, L, T, Coun
         self.event(rt, pass, Event::Tick(now))
     }
 
+    /// The places of a reader are tried again, as by `Event::Resume`: after a take that made room.
+    ///
+    /// # Errors
+    ///
+    /// As of `call`.
+    #[inline(always)]
+    pub fn resume<R: Wait>(
+        &self,
+        rt: &R,
+        pass: &mut FlatPass<N>,
+        reader: u8,
+    ) -> Result<Output, Code>
+        // The pass has done one event more: this reader's places that are tried again, with this answer.
+        ensures ok { IfOk result (λ o. Lists pass.old pass.new (event.Resume reader) o) }
+        // The entry stands above what the pass had seen; then it has seen it.
+        ensures front { OnOk result (pass.old.front < pass.new.front) }
+        // A refusal changes nothing.
+        ensures refused { IfErr result (λ code. code ≡ Memory) }
+        ensures err { OnErr result (IsAsBefore pass.old pass.new) }
+    {
+        self.event(rt, pass, Event::Resume { reader })
+    }
+
     /// Waits in a WaitSet of the peer until a condition of it is true, or the peer's time has come to the deadline, and
     /// gives what answers: `Active`, or `Refused` with `Timeout`; or what refused the wait (`BadParameter` for a WaitSet
     /// that was not made, `PreconditionNotMet` where somebody waits in it), or another pass's end of it. It is never

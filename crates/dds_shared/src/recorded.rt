@@ -176,6 +176,23 @@ impl<N: Named<F, L>, F: Filter, L: Listener> Shared<N, F, L, Recorded, Recorded>
         self.event(rt, pass, Event::Deliver(bytes))
     }
 
+    /// The places of a reader are tried again, as by `Event::Resume`: after a take that made room.
+    ///
+    /// # Errors
+    ///
+    /// `Memory` where a growth was refused: then nothing happened. What the peer itself refuses is an answer.
+    pub fn resume<R: Wait>(&self, rt: &R, pass: &mut Pass<N>, reader: u8) -> Result<(), Code>
+        // The list has one entry more: this reader's places that are tried again, with the report.
+        ensures ok { OnOk result ((o : OutputOf) × Lists pass.old pass.new (event.Resume reader) o) }
+        // The entry stands above what the pass had seen; then it has seen it.
+        ensures front { OnOk result (pass.old.front < pass.new.front) }
+        // A refusal is for want of memory, and changes nothing.
+        ensures refused { IfErr result (λ code. code ≡ Memory) }
+        ensures err { OnErr result (IsAsBefore pass.old pass.new) }
+    {
+        self.event(rt, pass, Event::Resume { reader })
+    }
+
     /// Waits in a WaitSet of the peer until a condition of it is true, or the peer's time has come to the deadline. The
     /// answer stands at the end of the pass's list: `Active`, or `Refused` with `Timeout`; or what refused the wait
     /// (`BadParameter` for a WaitSet that was not made, `PreconditionNotMet` where somebody waits in it), or another

@@ -99,6 +99,8 @@ event_of config tests ws peer (event.Deliver bytes) reply new steps sent =
       );
       at = refl;
     }
+event_of config tests ws peer (event.Resume reader) reply new steps sent =
+    record { w = world.Resume peer reader; is = refl; step = inl steps; at = refl }
 
 -- the network once the event of an entry is over
 abbrev next_of : WorldState → WorldEvent → ℕ → Peer → List Packet → WorldState

@@ -93,6 +93,7 @@ module _ (ts : List Traced) where
   is_sent (event.Call call) sent f = tt
   is_sent (event.Tick now) sent f = tt
   is_sent (event.Deliver q) sent f = f q refl
+  is_sent (event.Resume reader) sent f = tt
 
   more_sent : (from : List ℕ) (sent : List Packet) (t : ℕ) (trace : Traced) (e : Entry) → length ts ≤ length from
       → slice_get ts t ≡ Some trace → slice_get trace.entries (slice_index from t) ≡ Some e → AreSent from sent

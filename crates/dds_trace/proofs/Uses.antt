@@ -29,7 +29,7 @@ use Rattle.dds_machine.specs.Calls.{IsAnsweredWatching, AnswersLook}
 use Rattle.dds_protocol.specs.Noticing.{peer_at_end}
 use Rattle.dds_protocol.specs.Peer.{Peer, EventStep}
 use Rattle.dds_machine.specs.Watching.{Tests}
-use Rattle.dds_protocol.proofs.CallChanges.{SetsChange, as_before, one_changed, one_made, all_without, CallChange, unchanged, reads, takes, looks, watches, changes_of}
+use Rattle.dds_protocol.proofs.CallChanges.{SetsChange, as_before, one_changed, one_made, all_without, CallChange, unchanged, reads, takes, looks, sees_matches, is_told, telling_watch, watches, changes_of}
 use Rattle.dds_protocol.proofs.AtEnds.{end_watch}
 use Rattle.dds_core.specs.Listening.{CoreKept, StandsFor, Steps}
 use Rattle.dds_core.specs.Ruling.{IsSound}
@@ -96,6 +96,10 @@ call_uses old new (unchanged is) = as_it_was old.dds new (ap (λ (d : Dds). d.wa
 call_uses old new (reads r samples is) = as_it_was old.dds new (ap (λ (d : Dds). d.watch.wait_sets) is)
 call_uses old new (takes r samples is) = as_it_was old.dds new (ap (λ (d : Dds). d.watch.wait_sets) is)
 call_uses old new (looks r seen is) = as_it_was old.dds new (ap (λ (d : Dds). d.watch.wait_sets) is)
+call_uses old new (sees_matches r is) = as_it_was old.dds new (ap (λ (d : Dds). d.watch.wait_sets) is)
+call_uses old new (is_told t is) =
+    as_it_was old.dds new
+    (ap (λ (d : Dds). d.watch.wait_sets) is ∙ ap (λ (w : Watched). w.wait_sets) (telling_watch old t))
 call_uses old new (watches after filters sets is) =
     omega (arith, ap (λ (d : Dds). uses_of d.watch.wait_sets) is, sets_use old.dds.watch.wait_sets after.wait_sets sets)
 
@@ -138,6 +142,11 @@ event_uses config tests old (event.Deliver packet) (Reported report) new (inl t,
 event_uses config tests old (event.Deliver packet) (Reported report) new (inr t, delivered) =
     as_it_was old.part.dds new.part.dds (ap (λ (p : Part). p.dds.watch.wait_sets) t.after)
 event_uses config tests old (event.Deliver packet) reply new h = absurd h
+event_uses config tests old (event.Resume reader) (Reported report) new h =
+    as_it_was old.part.dds new.part.dds (moves_keep _ old.part report.moves new.part h.0.2)
+event_uses config tests old (event.Resume reader) (Refused code) new h =
+    as_it_was old.part.dds new.part.dds (ap (λ (p : Part). p.dds.watch.wait_sets) h.0.2)
+event_uses config tests old (event.Resume reader) reply new h = absurd h.0
 
 -- ---- the end of a wait
 

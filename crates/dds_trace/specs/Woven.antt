@@ -50,6 +50,7 @@ IsEvent sent peer (event.Tick now) e = e ≡ world.Tick peer now
 IsEvent sent peer (event.Deliver octets) e =
     (number : ℕ) × (p : Packet) × (1 ≤ number) × (slice_get sent (number - 1) ≡ Some p) × (p.bytes ≡ octets)
     × (e ≡ world.Deliver peer number)
+IsEvent sent peer (event.Resume reader) e = e ≡ world.Resume peer reader
 
 -- those of the entries, of which each sends what it sent
 abbrev pub AreEvents : List Packet → List PeerEntry → List WorldEvent → Type 0

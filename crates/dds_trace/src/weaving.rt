@@ -43,6 +43,7 @@ fn may_stand(sent: &SentOctets, entry: &Entry) -> bool
         Event::Deliver(octets) => sent.contains(octets.as_slice()),
         Event::Call(_) => true,
         Event::Tick(_) => true,
+        Event::Resume { .. } => true,
     }
 }
 
