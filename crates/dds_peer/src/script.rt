@@ -1,11 +1,11 @@
 //! The lines of a script.
 
 use crate::setup::SetupPart;
-use dds_base::{Moment, Octets};
-use dds_machine::{Endpoint, WorldEvent};
+use dds_base::{Endpoint, Moment, Octets};
+use dds_machine::WorldEvent;
 use dds_script::{
-    ListenerLine, call_of, decimal, decimal_u8, listener_line, reader_number, reader_options,
-    units, value, words_of, writer_number, writer_options,
+    ListenerLine, call_of, decimal, decimal_u8, listener_line, reader_end, reader_number,
+    reader_options, units, value, words_of, writer_end, writer_options,
 };
 use std::alloc::{AllocError, Global};
 
@@ -35,6 +35,14 @@ fn tick(peer: u8, words: &[&str]) -> Option<Line> {
     Some(Line::Event(WorldEvent::Tick { peer, now }))
 }
 
+fn resumption(peer: u8, words: &[&str]) -> Option<Line> {
+    let [reader] = words else {
+        return None;
+    };
+    let reader = reader_number(reader)?;
+    Some(Line::Event(WorldEvent::Resume { peer, reader }))
+}
+
 fn delivery(words: &[&str]) -> Option<Line> {
     let [peer, packet] = words else {
         return None;
@@ -42,24 +50,6 @@ fn delivery(words: &[&str]) -> Option<Line> {
     let peer = decimal_u8(peer)?;
     let packet = decimal(packet)?;
     Some(Line::Event(WorldEvent::Deliver { peer, packet }))
-}
-
-/// A writer with its peer, as `1.w2`.
-fn writer_end(word: &str) -> Option<Endpoint> {
-    let (peer, number) = word.split_once('.')?;
-    Some(Endpoint {
-        peer: decimal_u8(peer)?,
-        number: writer_number(number)?,
-    })
-}
-
-/// A reader with its peer, as `1.r2`.
-fn reader_end(word: &str) -> Option<Endpoint> {
-    let (peer, number) = word.split_once('.')?;
-    Some(Endpoint {
-        peer: decimal_u8(peer)?,
-        number: reader_number(number)?,
-    })
 }
 
 fn round(words: &[&str]) -> Option<Line> {
@@ -117,6 +107,7 @@ fn call(alloc: Global, peer: u8, words: &[&str]) -> Result<Option<Line>, AllocEr
 fn operation(alloc: Global, peer: u8, words: &[&str]) -> Result<Option<Line>, AllocError> {
     match words {
         ["tick", operands @ ..] => Ok(tick(peer, operands)),
+        ["resume", operands @ ..] => Ok(resumption(peer, operands)),
         ["filter", operands @ ..] => filter(alloc, peer, operands),
         ["listener" | "unlisten", ..] => Ok(listener(peer, words)),
         words => call(alloc, peer, words),

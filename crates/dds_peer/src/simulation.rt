@@ -3,11 +3,11 @@
 use crate::script::Line;
 use crate::setup::{NumberedSetup, SetupPart};
 use crate::stream::Script;
-use dds_base::{Code, Config, Octets};
-use dds_machine::{Endpoint, Reply, WorldEvent};
+use dds_base::{Code, Config, Endpoint, Octets};
+use dds_machine::WorldEvent;
 use dds_notices::Recorder;
 use dds_script::{
-    Fault, ListenerLine, Prefix, SetupRefusal, Status, Traffic, TranscriptLine, print,
+    Fault, ListenerLine, Prefix, SetupRefusal, Side, Status, Traffic, TranscriptLine, print,
 };
 use dds_world::World as WorldOf;
 use std::alloc::{AllocError, Global};
@@ -52,9 +52,17 @@ fn opened(alloc: Global, setup: &mut NumberedSetup, line: u64) -> Result<World, 
     World::open(alloc, &config).map_err(|code| refusal(code, &config, line))
 }
 
+/// Whose matches an event looks at, if it is such a look.
+fn side_of(event: &WorldEvent) -> Side {
+    match event {
+        WorldEvent::Call { call, .. } => Side::of(call),
+        _ => Side::Reader,
+    }
+}
+
 fn push_event(text: &mut TranscriptLine, world: &mut World, event: WorldEvent) {
-    let (sent, unsent) = (world.sent(), world.unsent());
-    text.push_reply(&world.step(event));
+    let (sent, unsent, side) = (world.sent(), world.unsent(), side_of(&event));
+    text.push_reply(side, &world.step(event));
     text.push_traffic(Traffic {
         before: sent,
         after: world.sent(),
@@ -70,7 +78,7 @@ fn push_round(text: &mut TranscriptLine, world: &mut World, writer: Endpoint, re
                 if index > 0 {
                     text.end_line();
                 }
-                text.push_reply(&next.reply);
+                text.push_reply(Side::Reader, &next.reply);
                 text.push_traffic(Traffic {
                     before: sent,
                     after: next.sent,
@@ -79,14 +87,14 @@ fn push_round(text: &mut TranscriptLine, world: &mut World, writer: Endpoint, re
                 (sent, unsent) = (next.sent, next.unsent);
             }
         }
-        Err(code) => text.push_reply(&Reply::Refused(code)),
+        Err(code) => text.push_code(code),
     }
 }
 
 fn push_filter(text: &mut TranscriptLine, world: &mut World, peer: u8, octets: Octets) {
     match world.add_filter(peer, Prefix::new(octets)) {
-        Ok(number) => text.push_reply(&Reply::Created(number)),
-        Err((code, _)) => text.push_reply(&Reply::Refused(code)),
+        Ok(number) => text.push_created(number),
+        Err((code, _)) => text.push_code(code),
     }
 }
 

@@ -28,7 +28,7 @@ fn other_cause(alloc: Global, name: &str, words: &[&str]) -> Result<String, Allo
 
 fn words_cause(alloc: Global, words: &[&str]) -> Result<String, AllocError> {
     match words {
-        ["call" | "tick" | "deliver", ..] => event_cause(alloc, words),
+        ["call" | "tick" | "deliver" | "resume", ..] => event_cause(alloc, words),
         ["peer" | "writer" | "reader", ..] => setup_cause(alloc, words),
         [name, operands @ ..] => other_cause(alloc, name, operands),
         [] => String::from_str(alloc, "a line is wanted"),

@@ -5,7 +5,7 @@ use dds_base::{Guid, Moment, Octets};
 use dds_protocol::Event;
 use dds_script::{
     ListenerLine, SetupLine, call_of, decimal_u8, entity_id, guid_prefix, listener_line,
-    reader_options, units, value, words_of, writer_options,
+    reader_number, reader_options, units, value, words_of, writer_options,
 };
 use std::alloc::{AllocError, Global};
 
@@ -77,6 +77,14 @@ fn tick(words: &[&str]) -> Option<Line> {
     Some(Line::Event(Event::Tick(now)))
 }
 
+fn resumption(words: &[&str]) -> Option<Line> {
+    let [reader] = words else {
+        return None;
+    };
+    let reader = reader_number(reader)?;
+    Some(Line::Event(Event::Resume { reader }))
+}
+
 fn listener(words: &[&str]) -> Option<Line> {
     Some(Line::Listener(listener_line(words)?))
 }
@@ -90,6 +98,7 @@ fn short_line(name: &str, words: &[&str]) -> Option<Line> {
         "open" => open(words),
         "fragments" => fragments(words),
         "tick" => tick(words),
+        "resume" => resumption(words),
         _ => None,
     }
 }

@@ -9,8 +9,8 @@ use dds_machine::Reply;
 use dds_notices::Recorder;
 use dds_protocol::{Event, Output, Packet};
 use dds_script::{
-    Fault, Lines, ListenerLine, Prefix, Setup, SetupLine, SetupRefusal, Status, TranscriptLine,
-    print,
+    Fault, Lines, ListenerLine, Prefix, Setup, SetupLine, SetupRefusal, Side, Status,
+    TranscriptLine, print,
 };
 use rtps_fragments::Fragments;
 use std::alloc::{AllocError, Global};
@@ -55,12 +55,17 @@ fn whole_line(alloc: Global, bytes: &[u8]) -> Result<String, AllocError> {
     text.finish()
 }
 
-fn reply_line(alloc: Global, reply: &Reply, unsent: u64) -> Result<String, AllocError> {
+fn reply_line(alloc: Global, side: Side, reply: &Reply, unsent: u64) -> Result<String, AllocError> {
     let mut text = TranscriptLine::new(alloc);
     text.push_word("reply ");
-    text.push_reply(reply);
+    text.push_reply(side, reply);
     text.push_unsent(unsent);
     text.finish()
+}
+
+/// The line of a reply to what is no event.
+fn plain_line(alloc: Global, reply: &Reply) -> Result<String, AllocError> {
+    reply_line(alloc, Side::Reader, reply, 0)
 }
 
 /// What is printed of a listener that was set, or was not.
@@ -84,6 +89,14 @@ fn set_listener(
     match core.set_listener(asked.entity, asked.mask, listener) {
         Ok(old) => Ok(old),
         Err((code, _)) => Err(code),
+    }
+}
+
+/// Whose matches an event looks at, if it is such a look.
+fn side_of(event: &Event) -> Side {
+    match event {
+        Event::Call(call) => Side::of(call),
+        _ => Side::Reader,
     }
 }
 
@@ -117,6 +130,7 @@ fn step(alloc: Global, core: &mut Core, tables: &Tables, event: Event) -> Output
 fn print_output(
     alloc: Global,
     tables: &Tables,
+    side: Side,
     given: Output,
     output: &mut impl Write,
 ) -> Result<(), Fault> {
@@ -131,7 +145,7 @@ fn print_output(
             Err(_) => unsent = unsent.saturating_add(1),
         }
     }
-    print(output, reply_line(alloc, &reply, unsent)?.as_str())
+    print(output, reply_line(alloc, side, &reply, unsent)?.as_str())
 }
 
 /// Prints a line for each message that fragments made whole.
@@ -239,7 +253,7 @@ impl Session {
             Err(code) => Reply::Refused(code),
         };
         print_whole(self.alloc, &whole, output)?;
-        print(output, reply_line(self.alloc, &reply, 0)?.as_str())
+        print(output, plain_line(self.alloc, &reply)?.as_str())
     }
 
     /// An event at the peer, which needs to be open. Prints what answers it.
@@ -249,12 +263,13 @@ impl Session {
         };
         match self.kinds.tables() {
             Ok(tables) => {
+                let side = side_of(&event);
                 let given = step(self.alloc, core, &tables, event);
-                print_output(self.alloc, &tables, given, output)
+                print_output(self.alloc, &tables, side, given, output)
             }
             Err(AllocError) => {
                 let reply = Reply::Refused(Code::Memory);
-                print(output, reply_line(self.alloc, &reply, 0)?.as_str())
+                print(output, plain_line(self.alloc, &reply)?.as_str())
             }
         }
     }
@@ -289,11 +304,11 @@ impl Session {
             Line::Hear(bytes) => self.hear(bytes, number, output),
             Line::Open(peer) => {
                 let reply = self.open(peer, number)?;
-                print(output, reply_line(self.alloc, &reply, 0)?.as_str())
+                print(output, plain_line(self.alloc, &reply)?.as_str())
             }
             Line::Filter(octets) => {
                 let reply = self.add_filter(octets, number)?;
-                print(output, reply_line(self.alloc, &reply, 0)?.as_str())
+                print(output, plain_line(self.alloc, &reply)?.as_str())
             }
             Line::Listener(asked) => {
                 let text = self.set_listener(asked, number)?;

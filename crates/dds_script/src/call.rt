@@ -1,5 +1,6 @@
 //! The calls of a script.
 
+use crate::matching::matching_call;
 use crate::number::{decimal_i32, key, value};
 use crate::operand::{handle, masks, reader_number, writer_number};
 use crate::watching::watching_call;
@@ -167,7 +168,7 @@ fn write(alloc: Global, words: &[&str]) -> Result<Option<Call>, AllocError> {
     }
 }
 
-/// A call that names a writer, a reader or an instance, or an access of a reader.
+/// A call that names a writer, a reader, both or an instance, or an access of a reader.
 fn other_call(operation: &str, words: &[&str]) -> Option<Call> {
     match operation {
         "register" | "dispose" | "unregister" => instance_call(operation, words),
@@ -176,6 +177,7 @@ fn other_call(operation: &str, words: &[&str]) -> Option<Call> {
         "strength" => set_strength(words),
         "key" => key_value(words),
         "lookup" => lookup(words),
+        "match" | "part" | "matched" => matching_call(operation, words),
         _ => access(operation, words),
     }
 }

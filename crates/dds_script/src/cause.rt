@@ -1,7 +1,7 @@
 //! Why a line says nothing, in words.
 
 use crate::call::words_of;
-use crate::forms::{Explained, Form, Operand, call_form, peer_form};
+use crate::forms::{Explained, Form, Operand, call_form, matching_form, peer_form};
 use crate::options::{READER_OPTIONS, WRITER_OPTIONS, is_reader_option, is_writer_option};
 use std::alloc::{AllocError, Global};
 use std::fmt::{self, Write};
@@ -124,7 +124,7 @@ pub fn call_cause(alloc: Global, words: &[&str]) -> Result<String, AllocError> {
     let [name, operands @ ..] = words else {
         return String::from_str(alloc, "a call has a name");
     };
-    match call_form(name) {
+    match matching_form(name, operands).or(call_form(name)) {
         Some(form) => form_cause(alloc, name, form, operands),
         None => {
             let shown = Shown(name);
@@ -233,7 +233,7 @@ pub fn reader_options_cause(alloc: Global, words: &[&str]) -> Result<String, All
     options_cause(alloc, End::Reader, words)
 }
 
-/// Why words name nothing that happens to a peer: no call, no tick and no datagram.
+/// Why words name nothing that happens to a peer: no call, no tick, no datagram, and no reader whose places are tried again.
 ///
 /// # Errors
 ///
@@ -250,10 +250,13 @@ pub fn event_cause(alloc: Global, words: &[&str]) -> Result<String, AllocError> 
         ["deliver", operands @ ..] => {
             form_cause(alloc, "deliver", Form::of(&[Operand::Octets]), operands)
         }
+        ["resume", operands @ ..] => {
+            form_cause(alloc, "resume", Form::of(&[Operand::Reader]), operands)
+        }
         [name, ..] => {
             let shown = Shown(name);
             format!(in alloc;
-                "`{shown}` is no event, which are `call ..`, `tick M` and `deliver HEX`"
+                "`{shown}` is no event, which are `call ..`, `tick M`, `deliver HEX` and `resume R`"
             )
         }
         [] => String::from_str(alloc, "an event is wanted"),

@@ -5,7 +5,9 @@
 use crate::number::{
     decimal, decimal_i32, decimal_u8, entity_id, guid_prefix, is_value, key, units,
 };
-use crate::operand::{condition, entity, handle, mask, reader_number, writer_number};
+use crate::operand::{
+    condition, entity, handle, mask, reader_end, reader_number, writer_end, writer_number,
+};
 use std::fmt;
 
 /// What an operand of a line is.
@@ -16,6 +18,8 @@ pub enum Operand {
     Reader,
     WriterOfPeer,
     ReaderOfPeer,
+    End,
+    EndOfPeer,
     Packet,
     Key,
     Value,
@@ -54,18 +58,14 @@ const LIMITS: [Operand; 4] = [
     Operand::InstanceMask,
 ];
 
-fn is_writer_of_peer(word: &str) -> bool {
-    match word.split_once('.') {
-        Some((peer, writer)) => decimal_u8(peer).is_some() && writer_number(writer).is_some(),
-        None => false,
-    }
+/// A writer or a reader.
+fn is_end(word: &str) -> bool {
+    writer_number(word).is_some() || reader_number(word).is_some()
 }
 
-fn is_reader_of_peer(word: &str) -> bool {
-    match word.split_once('.') {
-        Some((peer, reader)) => decimal_u8(peer).is_some() && reader_number(reader).is_some(),
-        None => false,
-    }
+/// A writer or a reader with its peer.
+fn is_end_of_peer(word: &str) -> bool {
+    writer_end(word).is_some() || reader_end(word).is_some()
 }
 
 impl Operand {
@@ -75,8 +75,10 @@ impl Operand {
             Operand::Peer => decimal_u8(word).is_some(),
             Operand::Writer => writer_number(word).is_some(),
             Operand::Reader => reader_number(word).is_some(),
-            Operand::WriterOfPeer => is_writer_of_peer(word),
-            Operand::ReaderOfPeer => is_reader_of_peer(word),
+            Operand::WriterOfPeer => writer_end(word).is_some(),
+            Operand::ReaderOfPeer => reader_end(word).is_some(),
+            Operand::End => is_end(word),
+            Operand::EndOfPeer => is_end_of_peer(word),
             Operand::Key => key(word).is_some(),
             Operand::Value | Operand::Octets => is_value(word),
             Operand::Moment => units(word).is_some(),
@@ -108,6 +110,8 @@ impl Operand {
             Operand::Reader => "R",
             Operand::WriterOfPeer => "P.W",
             Operand::ReaderOfPeer => "P.R",
+            Operand::End => "W|R",
+            Operand::EndOfPeer => "P.R|P.W",
             Operand::Packet => "K",
             Operand::Key => "KEY",
             Operand::Value => "VALUE",
@@ -140,6 +144,8 @@ impl Operand {
             Operand::Reader => "`r` and the number of a reader, up to 255",
             Operand::WriterOfPeer => "a writer with its peer, as 1.w2",
             Operand::ReaderOfPeer => "a reader with its peer, as 1.r2",
+            Operand::End => "a writer as w2, or a reader as r2",
+            Operand::EndOfPeer => "behind a writer a reader with its peer, else a writer with its",
             Operand::Key => "1 to 32 hexadecimal digits",
             Operand::Value | Operand::Octets => {
                 "an even number of hexadecimal digits, or - for none"
@@ -239,6 +245,20 @@ impl fmt::Display for Form {
     }
 }
 
+/// What follows the name of a call that tells who is matched, by what stands behind the name; none of another call, and where
+/// that is neither a writer nor a reader.
+pub fn matching_form(name: &str, words: &[&str]) -> Option<Form> {
+    match (name, words) {
+        ("match" | "part", [end, ..]) if writer_number(end).is_some() => {
+            Some(Form::of(&[Operand::Writer, Operand::ReaderOfPeer]))
+        }
+        ("match" | "part", [end, ..]) if reader_number(end).is_some() => {
+            Some(Form::of(&[Operand::Reader, Operand::WriterOfPeer]))
+        }
+        _ => None,
+    }
+}
+
 /// What follows the name of a call that speaks of a writer or a reader; none where no such call has this name.
 fn end_call_form(name: &str) -> Option<Form> {
     match name {
@@ -248,6 +268,8 @@ fn end_call_form(name: &str) -> Option<Form> {
         }
         "assert" | "livelost" => Some(Form::of(&[Operand::Writer])),
         "strength" => Some(Form::of(&[Operand::Writer, Operand::Strength])),
+        "match" | "part" => Some(Form::of(&[Operand::End, Operand::EndOfPeer])),
+        "matched" => Some(Form::of(&[Operand::End])),
         "lost" | "changed" | "read_next_sample" | "take_next_sample" => {
             Some(Form::of(&[Operand::Reader]))
         }
@@ -325,6 +347,7 @@ pub fn call_form(name: &str) -> Option<Form> {
 pub fn peer_form(name: &str) -> Option<Form> {
     match name {
         "tick" => Some(Form::of(&[Operand::Moment])),
+        "resume" => Some(Form::of(&[Operand::Reader])),
         "filter" => Some(Form::of(&[Operand::Octets])),
         "listener" => Some(Form::of(&[Operand::Entity, Operand::StatusMask, Operand::Room])),
         "unlisten" => Some(Form::of(&[Operand::Entity])),

@@ -1,5 +1,6 @@
 //! How notices are printed, and that a listener was set.
 
+use crate::matching::Side;
 use crate::printing::TranscriptLine;
 use dds_base::Code;
 use dds_notices::{Listener, Notice, Status};
@@ -11,6 +12,8 @@ impl TranscriptLine {
             Status::DataAvailable => self.push("data"),
             Status::LivelinessLost(values) => self.push_liveliness_lost(values),
             Status::LivelinessChanged(values) => self.push_liveliness_changed(values),
+            Status::PublicationMatched(values) => self.push_matched(Side::Writer, values),
+            Status::SubscriptionMatched(values) => self.push_matched(Side::Reader, values),
         }
     }
 

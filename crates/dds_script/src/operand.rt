@@ -2,7 +2,9 @@
 
 use crate::number::{decimal_u8, decimal_u32};
 use bitflags::Flags;
-use dds_base::{Entity, Handle, InstanceStateMask, Masks, SampleStateMask, ViewStateMask};
+use dds_base::{
+    Endpoint, Entity, Handle, InstanceStateMask, Masks, SampleStateMask, ViewStateMask,
+};
 use dds_conditions::Cond;
 use dds_notices::StatusMask;
 
@@ -14,6 +16,24 @@ pub fn writer_number(word: &str) -> Option<u8> {
 /// The number of a reader, as `r2`.
 pub fn reader_number(word: &str) -> Option<u8> {
     decimal_u8(word.strip_prefix('r')?)
+}
+
+/// A writer with its peer, as `1.w2`.
+pub fn writer_end(word: &str) -> Option<Endpoint> {
+    let (peer, number) = word.split_once('.')?;
+    Some(Endpoint {
+        peer: decimal_u8(peer)?,
+        number: writer_number(number)?,
+    })
+}
+
+/// A reader with its peer, as `1.r2`.
+pub fn reader_end(word: &str) -> Option<Endpoint> {
+    let (peer, number) = word.split_once('.')?;
+    Some(Endpoint {
+        peer: decimal_u8(peer)?,
+        number: reader_number(number)?,
+    })
 }
 
 /// A mask: a number, or `any`.

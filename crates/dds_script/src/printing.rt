@@ -1,11 +1,12 @@
 //! What is printed.
 
 use crate::fault::Fault;
+use crate::matching::Side;
 use bitflags::Flags;
-use dds_base::{Code, Entity, Handle, Key};
+use dds_base::{Code, Endpoint, Entity, Handle, Key};
 use dds_conditions::Cond;
 use dds_machine::{
-    Endpoint, LivelinessChangedStatus, LivelinessLostStatus, Move, PassedRun, Reply, Report,
+    LivelinessChangedStatus, LivelinessLostStatus, MatchedStatus, Move, PassedRun, Reply, Report,
     SampleLostStatus,
 };
 use dds_notices::StatusMask;
@@ -106,6 +107,28 @@ impl TranscriptLine {
         self.push_total("livelost", status.total_count, status.total_count_change);
     }
 
+    /// The matches of a writer or a reader: in all and how many more, now and how many more, and the other end of the last.
+    pub(crate) fn push_matched(&mut self, side: Side, status: MatchedStatus) {
+        let MatchedStatus {
+            total_count,
+            total_count_change,
+            current_count,
+            current_count_change,
+            last,
+        } = status;
+        self.push_total("matched", total_count, total_count_change);
+        self.push(format_args!(" {current_count} {current_count_change} "));
+        match (side, last) {
+            (_, None) => self.push('-'),
+            (Side::Writer, Some(Endpoint { peer, number })) => {
+                self.push(format_args!("{peer}.r{number}"));
+            }
+            (Side::Reader, Some(Endpoint { peer, number })) => {
+                self.push(format_args!("{peer}.w{number}"));
+            }
+        }
+    }
+
     /// The participant, a writer or a reader, as `p`, `w2` and `r2`.
     pub(crate) fn push_entity(&mut self, entity: Entity) {
         match entity {
@@ -139,9 +162,15 @@ impl TranscriptLine {
         self.push(format_args!("flags {bits}"));
     }
 
-    pub(crate) fn push_code(&mut self, code: Code) {
+    /// A code, as a refusal.
+    pub fn push_code(&mut self, code: Code) {
         let number = code.number();
         self.push(format_args!("code {number}"));
+    }
+
+    /// The number of what was made.
+    pub fn push_created(&mut self, number: u32) {
+        self.push(format_args!("id {number}"));
     }
 
     fn push_range(&mut self, name: &str, first: u64, last: u64) {
@@ -213,8 +242,8 @@ impl TranscriptLine {
         self.push(word);
     }
 
-    /// A reply.
-    pub fn push_reply(&mut self, reply: &Reply) {
+    /// A reply; where it answers a look at matches, a look at this side's.
+    pub fn push_reply(&mut self, side: Side, reply: &Reply) {
         match reply {
             Reply::Done => self.push("ok"),
             Reply::Samples(samples) => self.push_samples(samples.as_slice()),
@@ -223,7 +252,8 @@ impl TranscriptLine {
             Reply::SampleLost(status) => self.push_sample_lost(*status),
             Reply::LivelinessChanged(status) => self.push_liveliness_changed(*status),
             Reply::LivelinessLost(status) => self.push_liveliness_lost(*status),
-            Reply::Created(number) => self.push(format_args!("id {number}")),
+            Reply::Matched(status) => self.push_matched(side, *status),
+            Reply::Created(number) => self.push_created(*number),
             Reply::TriggerValue(value) => self.push(*value),
             Reply::Conditions(all) => self.push_conditions("conditions", all.as_slice()),
             Reply::Active(active) => self.push_conditions("active", active.as_slice()),

@@ -2,7 +2,10 @@
 
 use crate::tests::rows::{Subject, Words, expect_rows, number_of, words_of};
 use bitflags::Flags;
-use dds_base::{Entity, Handle, LivelinessChangedStatus, LivelinessLostStatus, SampleLostStatus};
+use dds_base::{
+    Endpoint, Entity, Handle, LivelinessChangedStatus, LivelinessLostStatus, MatchedStatus,
+    SampleLostStatus,
+};
 use dds_notices::{Listener, Notice, Recorder, Status, StatusMask};
 use std::alloc::Global;
 use std::test::Fail;
@@ -14,15 +17,20 @@ names 128 lost => true
 names 1024 data => true
 names 2048 livelost => true
 names 4096 changed => true
+names 8192 publication => true
+names 16384 subscription => true
 names 65407 lost => false
 names 64511 data => false
 names 63487 livelost => false
 names 61439 changed => false
+names 57343 publication => false
+names 49151 subscription => false
 
 # Of several statuses each is named, and bits without a meaning name nothing.
 names 5120 data => true
 names 5120 changed => true
 names 5120 lost => false
+names 24576 subscription => true
 names 61311 changed => false
 names 0 data => false
 ";
@@ -50,9 +58,22 @@ held 2 => None
 livelost 1 => Some(Notice { entity: Reader(1), status: SampleLost(SampleLostStatus { total_count: 3, total_count_change: 3 }) })
 held 1 => Some(Notice { entity: Writer(1), status: LivelinessLost(LivelinessLostStatus { total_count: 1, total_count_change: 1 }) })
 held 2 => None
+publication 2 => Some(Notice { entity: Writer(1), status: LivelinessLost(LivelinessLostStatus { total_count: 1, total_count_change: 1 }) })
+held 1 => Some(Notice { entity: Writer(1), status: PublicationMatched(MatchedStatus { total_count: 2, total_count_change: 2, current_count: 1, current_count_change: -1, last: Some(Endpoint { peer: 2, number: 1 }) }) })
 room => 2
 fresh => false
 ";
+
+/// So many matches, of which the last one has ended.
+fn matches(count: u64) -> MatchedStatus {
+    MatchedStatus {
+        total_count: count,
+        total_count_change: count,
+        current_count: 1,
+        current_count_change: -1,
+        last: Some(Endpoint { peer: 2, number: 1 }),
+    }
+}
 
 pub fn status_of(name: &str, count: u64) -> Status {
     match name {
@@ -71,6 +92,8 @@ pub fn status_of(name: &str, count: u64) -> Status {
             not_alive_count_change: 0,
             last_publication_handle: Handle::new(1),
         }),
+        "publication" => Status::PublicationMatched(matches(count)),
+        "subscription" => Status::SubscriptionMatched(matches(count)),
         _ => Status::DataAvailable,
     }
 }
@@ -78,7 +101,7 @@ pub fn status_of(name: &str, count: u64) -> Status {
 fn notice_of(name: &str, count: u64) -> Notice {
     Notice {
         entity: match name {
-            "livelost" => Entity::Writer(1),
+            "livelost" | "publication" => Entity::Writer(1),
             _ => Entity::Reader(1),
         },
         status: status_of(name, count),

@@ -3,7 +3,7 @@
 use crate::tests::rows::{Subject, expect_rows, number_of};
 use crate::tests::world::{READER, WRITER, config_of};
 use dds_base::{Config, Moment, OwnershipQos};
-use dds_script::{TranscriptLine, call_of, words_of};
+use dds_script::{Side, TranscriptLine, call_of, words_of};
 use dds_world::{Reply, World, WorldEvent};
 use std::alloc::Global;
 use std::mem::replace;
@@ -109,7 +109,7 @@ fn event_of(alloc: Global, first: &str, operands: &str) -> Option<WorldEvent> {
 
 fn push_reply(alloc: Global, text: &mut String, reply: &Reply) {
     let mut line = TranscriptLine::new(alloc);
-    line.push_reply(reply);
+    line.push_reply(Side::Reader, reply);
     if let Ok(line) = line.finish() {
         let _ = write!(text, "[{}]", line.trim_end());
     }
