@@ -162,6 +162,16 @@ typedef struct cw_changed_status {
     uint64_t last_publication_handle; /* 0 for none */
 } cw_changed_status;
 
+/* DDS 1.4, 2.2.4.1: PUBLICATION_MATCHED of a writer, SUBSCRIPTION_MATCHED of a reader. */
+typedef struct cw_matched_status {
+    uint64_t total_count;
+    uint64_t total_count_change;
+    int64_t current_count;
+    int64_t current_count_change;
+    uint8_t last_peer;   /* the peer of the reader or writer with which the last match was made or ended, 0 for none */
+    uint8_t last_number; /* its number there */
+} cw_matched_status;
+
 /* The participant, a writer or a reader: the kind of an entity. */
 enum {
     CW_PARTICIPANT = 0, /* of number 0 */
@@ -174,7 +184,9 @@ enum {
     CW_SAMPLE_LOST = 128,
     CW_DATA_AVAILABLE = 1024,
     CW_LIVELINESS_LOST = 2048,
-    CW_LIVELINESS_CHANGED = 4096
+    CW_LIVELINESS_CHANGED = 4096,
+    CW_PUBLICATION_MATCHED = 8192,
+    CW_SUBSCRIPTION_MATCHED = 16384
 };
 
 /* That a status of an entity was raised, with its values; those that the status does not have are 0. */
@@ -184,6 +196,7 @@ typedef struct cw_notice_info {
     uint32_t status;
     cw_total_status total;
     cw_changed_status changed;
+    cw_matched_status matched;
 } cw_notice_info;
 
 /* Opens a peer of a configuration, by its number; what was open before is closed. A refusal changes nothing. */
@@ -306,9 +319,11 @@ uint8_t cw_outward(const cw_writer_kind *kinds, size_t kinds_len, const cw_key_f
 /* Events. Each makes the last answer anew: its packets, its samples, its values and its text. Where there was none, for
  * want of memory for a copy of its value, or of an open peer, or as a line names none, the answer before stays.
  *
- * A datagram comes, whatever its octets are; the time goes on, in units of 2^-32 second. */
+ * A datagram comes, whatever its octets are; the time goes on, in units of 2^-32 second; the places of a reader are tried
+ * again, as after a take that made room: what it holds comes as far as there is room, and nothing is sent. */
 uint8_t cw_deliver(cw_peer *peer, const uint8_t *datagram, size_t datagram_len);
 uint8_t cw_tick(cw_peer *peer, uint64_t now);
+uint8_t cw_resume(cw_peer *peer, uint8_t reader);
 
 /* Calls of a writer, by its number (DDS 1.4, 2.2.2.4); a value has at most as many octets as
  * the max_value of its writer says. */
@@ -319,6 +334,11 @@ uint8_t cw_unregister(cw_peer *peer, uint8_t writer, const uint8_t key[16]);
 uint8_t cw_assert_liveliness(cw_peer *peer, uint8_t writer);
 uint8_t cw_set_strength(cw_peer *peer, uint8_t writer, int32_t strength);
 uint8_t cw_get_liveliness_lost_status(cw_peer *peer, uint8_t writer);
+/* The writer is told that it is matched with a reader from now on, or no longer, by the reader's peer and number there (RTPS
+ * 2.5, 8.4.7.4). It waits for none that left, and sends a reader nothing that it wrote before their match. */
+uint8_t cw_match_reader(cw_peer *peer, uint8_t writer, uint8_t reader_peer, uint8_t reader);
+uint8_t cw_unmatch_reader(cw_peer *peer, uint8_t writer, uint8_t reader_peer, uint8_t reader);
+uint8_t cw_get_publication_matched_status(cw_peer *peer, uint8_t writer);
 
 /* Calls of a reader, by its number (DDS 1.4, 2.2.2.5). max is how many samples at most, -1 for all; the masks are sums of
  * states, or CW_ANY. Conditions are made by lines. */
@@ -344,8 +364,13 @@ uint8_t cw_get_key_value(cw_peer *peer, uint8_t reader, uint64_t handle);
 uint8_t cw_lookup_instance(cw_peer *peer, uint8_t reader, const uint8_t key[16]);
 uint8_t cw_get_sample_lost_status(cw_peer *peer, uint8_t reader);
 uint8_t cw_get_liveliness_changed_status(cw_peer *peer, uint8_t reader);
+/* The reader is told that it is matched with a writer from now on, or no longer (RTPS 2.5, 8.4.10.3). The instances of one that
+ * is gone go to the next owner, or are without writers. */
+uint8_t cw_match_writer(cw_peer *peer, uint8_t reader, uint8_t writer_peer, uint8_t writer);
+uint8_t cw_unmatch_writer(cw_peer *peer, uint8_t reader, uint8_t writer_peer, uint8_t writer);
+uint8_t cw_get_subscription_matched_status(cw_peer *peer, uint8_t reader);
 
-/* Any event, in a line of docs/PIPE.md without its line feed: "call ..", "tick M" or "deliver HEX". */
+/* Any event, in a line of docs/PIPE.md without its line feed: "call ..", "tick M", "deliver HEX" or "resume R". */
 uint8_t cw_line(cw_peer *peer, const uint8_t *line, size_t line_len);
 
 /* A filter, which values pass that begin with these octets: query conditions, which are made by lines, name it by its
@@ -371,10 +396,11 @@ enum {
 uint8_t cw_packet(cw_peer *peer, size_t at, uint8_t *to, uint8_t *buffer, size_t buffer_len, size_t *needed);
 uint8_t cw_sample(cw_peer *peer, size_t at, cw_sample_info *info, uint8_t *buffer, size_t buffer_len, size_t *needed);
 uint8_t cw_key(cw_peer *peer, uint8_t key[16]);                 /* of cw_get_key_value */
-uint8_t cw_handle(cw_peer *peer, uint64_t *handle);             /* of cw_lookup_instance; 0 where it is not known */
+uint8_t cw_handle(cw_peer *peer, uint64_t *handle);             /* of cw_lookup_instance; 0 where it is not known; of cw_match_writer that of the publication */
 uint8_t cw_number(cw_peer *peer, uint32_t *number);             /* of what a line made: a condition, a WaitSet */
 uint8_t cw_total(cw_peer *peer, cw_total_status *total);        /* of a look at SAMPLE_LOST or LIVELINESS_LOST */
 uint8_t cw_changed(cw_peer *peer, cw_changed_status *changed);  /* of a look at LIVELINESS_CHANGED */
+uint8_t cw_matched(cw_peer *peer, cw_matched_status *matched);  /* of a look at PUBLICATION_MATCHED or SUBSCRIPTION_MATCHED */
 /* How many packets found no memory, as if they were lost; 0 where another call is under way. */
 uint64_t cw_unsent(cw_peer *peer);
 /* The reply in words, and a line feed: what docs/PIPE.md has behind "reply". */
@@ -473,6 +499,7 @@ CW_MARKED_IF(cw_is_array(datagram, datagram_len), observe_writer, CW_NONNULL(1, 
               cw_observed *observed),
              (peer, writer_peer, writer, (const uint8_t *)cw_array(datagram), datagram_len, observed))
 CW_MARKED(tick, (cw_peer *peer, uint64_t now), (peer, now))
+CW_MARKED(resume, (cw_peer *peer, uint8_t reader), (peer, reader))
 CW_MARKED(register, (cw_peer *peer, uint8_t writer, const uint8_t key[16]), (peer, writer, key))
 CW_MARKED_IF(cw_is_array(value, value_len), write, CW_NONNULL(1, 3),
              (cw_peer *peer, uint8_t writer, const uint8_t key[16], const uint8_t *value, size_t value_len),
@@ -482,6 +509,11 @@ CW_MARKED(unregister, (cw_peer *peer, uint8_t writer, const uint8_t key[16]), (p
 CW_MARKED(assert_liveliness, (cw_peer *peer, uint8_t writer), (peer, writer))
 CW_MARKED(set_strength, (cw_peer *peer, uint8_t writer, int32_t strength), (peer, writer, strength))
 CW_MARKED(get_liveliness_lost_status, (cw_peer *peer, uint8_t writer), (peer, writer))
+CW_MARKED(match_reader, (cw_peer *peer, uint8_t writer, uint8_t reader_peer, uint8_t reader),
+          (peer, writer, reader_peer, reader))
+CW_MARKED(unmatch_reader, (cw_peer *peer, uint8_t writer, uint8_t reader_peer, uint8_t reader),
+          (peer, writer, reader_peer, reader))
+CW_MARKED(get_publication_matched_status, (cw_peer *peer, uint8_t writer), (peer, writer))
 CW_MARKED(read, (cw_peer *peer, uint8_t reader, int32_t max, uint32_t samples, uint32_t views, uint32_t instances),
           (peer, reader, max, samples, views, instances))
 CW_MARKED(take, (cw_peer *peer, uint8_t reader, int32_t max, uint32_t samples, uint32_t views, uint32_t instances),
@@ -514,6 +546,11 @@ CW_MARKED(get_key_value, (cw_peer *peer, uint8_t reader, uint64_t handle), (peer
 CW_MARKED(lookup_instance, (cw_peer *peer, uint8_t reader, const uint8_t key[16]), (peer, reader, key))
 CW_MARKED(get_sample_lost_status, (cw_peer *peer, uint8_t reader), (peer, reader))
 CW_MARKED(get_liveliness_changed_status, (cw_peer *peer, uint8_t reader), (peer, reader))
+CW_MARKED(match_writer, (cw_peer *peer, uint8_t reader, uint8_t writer_peer, uint8_t writer),
+          (peer, reader, writer_peer, writer))
+CW_MARKED(unmatch_writer, (cw_peer *peer, uint8_t reader, uint8_t writer_peer, uint8_t writer),
+          (peer, reader, writer_peer, writer))
+CW_MARKED(get_subscription_matched_status, (cw_peer *peer, uint8_t reader), (peer, reader))
 CW_MARKED_IF(cw_is_array(line, line_len), line, CW_NONNULL(1),
              (cw_peer *peer, const uint8_t *line, size_t line_len),
              (peer, (const uint8_t *)cw_array(line), line_len))
@@ -535,6 +572,7 @@ CW_MARKED(handle, (cw_peer *peer, uint64_t *handle), (peer, handle))
 CW_MARKED(number, (cw_peer *peer, uint32_t *number), (peer, number))
 CW_MARKED(total, (cw_peer *peer, cw_total_status *total), (peer, total))
 CW_MARKED(changed, (cw_peer *peer, cw_changed_status *changed), (peer, changed))
+CW_MARKED(matched, (cw_peer *peer, cw_matched_status *matched), (peer, matched))
 CW_MARKED_IF(cw_is_array(buffer, buffer_len), text, CW_NONNULL(1, 4),
              (cw_peer *peer, uint8_t *buffer, size_t buffer_len, size_t *needed),
              (peer, (uint8_t *)cw_array(buffer), buffer_len, needed))
@@ -567,6 +605,7 @@ static inline CW_NONNULL() uint64_t cw_marked_unsent(cw_peer *peer) {
 #define cw_observe cw_marked_observe
 #define cw_observe_writer cw_marked_observe_writer
 #define cw_tick cw_marked_tick
+#define cw_resume cw_marked_resume
 #define cw_register cw_marked_register
 #define cw_write cw_marked_write
 #define cw_dispose cw_marked_dispose
@@ -574,6 +613,9 @@ static inline CW_NONNULL() uint64_t cw_marked_unsent(cw_peer *peer) {
 #define cw_assert_liveliness cw_marked_assert_liveliness
 #define cw_set_strength cw_marked_set_strength
 #define cw_get_liveliness_lost_status cw_marked_get_liveliness_lost_status
+#define cw_match_reader cw_marked_match_reader
+#define cw_unmatch_reader cw_marked_unmatch_reader
+#define cw_get_publication_matched_status cw_marked_get_publication_matched_status
 #define cw_read cw_marked_read
 #define cw_take cw_marked_take
 #define cw_read_instance cw_marked_read_instance
@@ -590,6 +632,9 @@ static inline CW_NONNULL() uint64_t cw_marked_unsent(cw_peer *peer) {
 #define cw_lookup_instance cw_marked_lookup_instance
 #define cw_get_sample_lost_status cw_marked_get_sample_lost_status
 #define cw_get_liveliness_changed_status cw_marked_get_liveliness_changed_status
+#define cw_match_writer cw_marked_match_writer
+#define cw_unmatch_writer cw_marked_unmatch_writer
+#define cw_get_subscription_matched_status cw_marked_get_subscription_matched_status
 #define cw_line cw_marked_line
 #define cw_add_filter cw_marked_add_filter
 #define cw_set_recorder cw_marked_set_recorder
@@ -602,6 +647,7 @@ static inline CW_NONNULL() uint64_t cw_marked_unsent(cw_peer *peer) {
 #define cw_number cw_marked_number
 #define cw_total cw_marked_total
 #define cw_changed cw_marked_changed
+#define cw_matched cw_marked_matched
 #define cw_unsent cw_marked_unsent
 #define cw_text cw_marked_text
 

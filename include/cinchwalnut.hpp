@@ -83,6 +83,7 @@ public:
     }
     std::uint8_t deliver(const Octets &datagram) { return deliver(datagram.data(), datagram.size()); }
     std::uint8_t tick(std::uint64_t now) { return cw_tick(&peer_, now); }
+    std::uint8_t resume(std::uint8_t reader) { return cw_resume(&peer_, reader); }
     std::uint8_t read(std::uint8_t reader, std::int32_t max = -1) {
         return cw_read(&peer_, reader, max, CW_ANY, CW_ANY, CW_ANY);
     }

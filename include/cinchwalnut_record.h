@@ -185,6 +185,14 @@ static inline uint8_t cw_recorded_tick(cw_recording *run, uint64_t now) {
     return cw_recorded_answer(run, code);
 }
 
+static inline uint8_t cw_recorded_resume(cw_recording *run, uint8_t reader) {
+    uint8_t code = cw_resume(&run->peer, reader);
+    if (!cw_recorded_is_event(run, code))
+        return code;
+    fprintf(run->to, "resume r%u\n", (unsigned)reader);
+    return cw_recorded_answer(run, code);
+}
+
 static inline uint8_t cw_recorded_line(cw_recording *run, const uint8_t *line, size_t line_len) {
     uint8_t code = cw_line(&run->peer, line, line_len);
     if (!cw_recorded_is_event(run, code) || code == CW_BAD_PARAMETER)
@@ -276,6 +284,39 @@ static inline uint8_t cw_recorded_set_strength(cw_recording *run, uint8_t writer
         return code;
     fprintf(run->to, " %" PRId32, strength);
     return cw_recorded_end(run, code);
+}
+
+static inline uint8_t cw_recorded_get_publication_matched_status(cw_recording *run, uint8_t writer) {
+    return cw_recorded_plain(run, cw_get_publication_matched_status(&run->peer, writer), "matched", 'w', writer);
+}
+
+static inline uint8_t cw_recorded_get_subscription_matched_status(cw_recording *run, uint8_t reader) {
+    return cw_recorded_plain(run, cw_get_subscription_matched_status(&run->peer, reader), "matched", 'r', reader);
+}
+
+/* A match or a parting, with an end of the other kind. */
+static inline uint8_t cw_recorded_told(cw_recording *run, uint8_t code, const char *word, char kind, uint8_t number, uint8_t other_peer,
+                                       uint8_t other) {
+    if (!cw_recorded_call(run, code, word, kind, number))
+        return code;
+    fprintf(run->to, " %u.%c%u", (unsigned)other_peer, kind == 'w' ? 'r' : 'w', (unsigned)other);
+    return cw_recorded_end(run, code);
+}
+
+static inline uint8_t cw_recorded_match_reader(cw_recording *run, uint8_t writer, uint8_t reader_peer, uint8_t reader) {
+    return cw_recorded_told(run, cw_match_reader(&run->peer, writer, reader_peer, reader), "match", 'w', writer, reader_peer, reader);
+}
+
+static inline uint8_t cw_recorded_unmatch_reader(cw_recording *run, uint8_t writer, uint8_t reader_peer, uint8_t reader) {
+    return cw_recorded_told(run, cw_unmatch_reader(&run->peer, writer, reader_peer, reader), "part", 'w', writer, reader_peer, reader);
+}
+
+static inline uint8_t cw_recorded_match_writer(cw_recording *run, uint8_t reader, uint8_t writer_peer, uint8_t writer) {
+    return cw_recorded_told(run, cw_match_writer(&run->peer, reader, writer_peer, writer), "match", 'r', reader, writer_peer, writer);
+}
+
+static inline uint8_t cw_recorded_unmatch_writer(cw_recording *run, uint8_t reader, uint8_t writer_peer, uint8_t writer) {
+    return cw_recorded_told(run, cw_unmatch_writer(&run->peer, reader, writer_peer, writer), "part", 'r', reader, writer_peer, writer);
 }
 
 /* A handle in a line has 32 bits; no instance is known by a greater one. */
@@ -381,6 +422,17 @@ static inline uint8_t cw_recorded_add_filter(cw_recording *run, const uint8_t *o
     return code;
 }
 
+static inline void cw_recorded_matched(cw_recording *run, const cw_notice_info *it) {
+    const cw_matched_status *matched = &it->matched;
+    fprintf(run->to, " matched %" PRIu64 " %" PRIu64 " %" PRId64 " %" PRId64, matched->total_count, matched->total_count_change,
+            matched->current_count, matched->current_count_change);
+    if (matched->last_peer == 0)
+        fputs(" -]", run->to);
+    else
+        fprintf(run->to, " %u.%c%u]", (unsigned)matched->last_peer, it->status == CW_PUBLICATION_MATCHED ? 'r' : 'w',
+                (unsigned)matched->last_number);
+}
+
 static inline void cw_recorded_notice(cw_recording *run, const cw_notice_info *it) {
     fprintf(run->to, " [%c%u", it->entity_kind == CW_WRITER ? 'w' : 'r', (unsigned)it->entity_number);
     if (it->status == CW_DATA_AVAILABLE)
@@ -389,6 +441,8 @@ static inline void cw_recorded_notice(cw_recording *run, const cw_notice_info *i
         fprintf(run->to, " changed %" PRId32 " %" PRId32 " %" PRId32 " %" PRId32 " %" PRIu64 "]", it->changed.alive_count,
                 it->changed.not_alive_count, it->changed.alive_count_change, it->changed.not_alive_count_change,
                 it->changed.last_publication_handle);
+    else if (it->status == CW_PUBLICATION_MATCHED || it->status == CW_SUBSCRIPTION_MATCHED)
+        cw_recorded_matched(run, it);
     else
         fprintf(run->to, " %s %" PRIu64 " %" PRIu64 "]", it->status == CW_SAMPLE_LOST ? "lost" : "livelost", it->total.total_count,
                 it->total.total_count_change);

@@ -24,7 +24,7 @@ from ._codes import (
 from ._config import ReaderConfig, WriterConfig, reader, writer
 from ._faults import ConfigFault, config_fault, config_sum, line_fault, text_fault
 from ._adapter import Adapter, Carries, KeyField, WriterKind
-from ._peer import SECOND, ChangedStatus, NoticeInfo, Observed, Packet, Peer, Sample, SampleInfo, TotalStatus, ms
+from ._peer import SECOND, ChangedStatus, End, MatchedStatus, NoticeInfo, Observed, Packet, Peer, Sample, SampleInfo, TotalStatus, ms
 from ._recorded import RecordedPeer
 
 __all__ = [
@@ -36,10 +36,12 @@ __all__ = [
     "ChangedStatus",
     "Code",
     "ConfigFault",
+    "End",
     "EntityKind",
     "InconsistentPolicy",
     "InstanceState",
     "KeyField",
+    "MatchedStatus",
     "NoData",
     "NoticeInfo",
     "Observed",

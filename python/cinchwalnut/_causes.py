@@ -14,6 +14,9 @@ _CAUSES: Dict[Tuple[int, str], str] = {
     (_BAD, "key"): "no known instance has handle {1}",
     (_BAD, "querycond"): "there is no filter {4}",
     (_BAD, "trigger"): "there is no condition or entity {0}",
+    **{(_BAD, it): "{1} is none of the topic of {0}" for it in ("match", "part")},
+    (_NOT_NOW, "match"): "{0} and {1} are matched",
+    (_NOT_NOW, "part"): "{0} and {1} are not matched",
     **{(_BAD, it): "there is no condition {0}" for it in ("setguard", "delete")},
     **{(_BAD, it): "there is no WaitSet {0}, or no condition {1}" for it in ("attach", "detach")},
     **{(_BAD, it): "there is no WaitSet {0}" for it in ("delwaitset", "conditions", "begin", "look", "end")},
@@ -60,9 +63,7 @@ def cause(code: int, line: str, own: Own) -> str:
     words = line.split()
     if words[0] == "tick" and code == _BAD:
         return f"moment {words[1]} is before the last one, or from 2^63 units on"
-    if words[0] != "call":
-        return ""
-    name, operands = words[1], words[2:]
+    name, *operands = words[1:] if words[0] == "call" else words
     if code == _BAD and (nobody := _no_end(operands, own)):
         return nobody
     if code == _BAD and name == "write":

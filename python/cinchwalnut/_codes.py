@@ -45,6 +45,8 @@ class Status(enum.IntFlag):
     DATA_AVAILABLE = 1024
     LIVELINESS_LOST = 2048
     LIVELINESS_CHANGED = 4096
+    PUBLICATION_MATCHED = 8192
+    SUBSCRIPTION_MATCHED = 16384
 
 
 class Place(enum.IntEnum):

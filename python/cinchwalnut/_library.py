@@ -69,18 +69,20 @@ _MASKS = [_U32, _U32, _U32]
 _ARGUMENTS: Dict[str, List[Any]] = {
     **{"open": [*_ARRAYS, _U8], "open_text": [_OCTETS, _SIZE, _U8], "close": []},
     **{"deliver": [_OCTETS, _SIZE], "observe": [_OCTETS, _SIZE, _INTO], "tick": [_U64], "line": [_OCTETS, _SIZE]},
-    "observe_writer": [_U8, _U8, _OCTETS, _SIZE, _INTO],
+    **{"observe_writer": [_U8, _U8, _OCTETS, _SIZE, _INTO], "resume": [_U8]},
     **{it: [_U8, _OCTETS] for it in ("register", "dispose", "unregister", "lookup_instance")},
     **{"write": [_U8, _OCTETS, _OCTETS, _SIZE], "set_strength": [_U8, _I32], "get_key_value": [_U8, _U64]},
     **{it: [_U8] for it in ("assert_liveliness", "get_liveliness_lost_status", "get_sample_lost_status")},
     **{it: [_U8] for it in ("get_liveliness_changed_status", "read_next_sample", "take_next_sample")},
+    **{it: [_U8] for it in ("get_publication_matched_status", "get_subscription_matched_status")},
+    **{it: [_U8, _U8, _U8] for it in ("match_reader", "unmatch_reader", "match_writer", "unmatch_writer")},
     **{f"{it}": [_U8, _I32, *_MASKS] for it in ("read", "take")},
     **{f"{it}_instance": [_U8, _I32, _U64, *_MASKS] for it in ("read", "take", "read_next", "take_next")},
     **{f"{it}_w_condition": [_U8, _I32, _U32] for it in ("read", "take")},
     **{f"{it}_next_instance_w_condition": [_U8, _I32, _U64, _U32] for it in ("read", "take")},
     **{"add_filter": [_OCTETS, _SIZE, _INTO], "set_recorder": [_U8, _U8, _U32, _SIZE], "clear_recorder": [_U8, _U8]},
     **{it: [_SIZE, _INTO, _INTO, _SIZE, _INTO] for it in ("packet", "sample")},
-    **{it: [_INTO] for it in ("key", "handle", "number", "total", "changed")},
+    **{it: [_INTO] for it in ("key", "handle", "number", "total", "changed", "matched")},
     **{"notice": [_SIZE, _INTO], "text": [_INTO, _SIZE, _INTO], "unsent": []},
 }
 

@@ -74,6 +74,20 @@ class ChangedStatus(NamedTuple):
     last_publication_handle: int
 
 
+End = Tuple[int, int]  # a writer or a reader, by the number of its peer and its number there
+
+
+class MatchedStatus(NamedTuple):
+    """PUBLICATION_MATCHED of a writer, SUBSCRIPTION_MATCHED of a reader; the last is the reader or writer with which the last
+    match was made or ended, None before that."""
+
+    total_count: int
+    total_count_change: int
+    current_count: int
+    current_count_change: int
+    last: Optional[End]
+
+
 class NoticeInfo(NamedTuple):
     """That a status of an entity was raised, with its values; those that it does not have are 0."""
 
@@ -82,14 +96,15 @@ class NoticeInfo(NamedTuple):
     status: Status
     total: TotalStatus
     changed: ChangedStatus
+    matched: MatchedStatus
 
 
 Packet = Tuple[int, bytes]  # the number of the peer that it is for, and its octets
 Sample = Tuple[SampleInfo, bytes]
 
 # As the structs of the header lie in memory.
-_INFO, _NOTICE = struct.Struct("=16s8Q3I?3x"), struct.Struct("=BB2xI2Q4iQ")
-_TOTAL, _CHANGED = struct.Struct("=2Q"), struct.Struct("=4iQ")
+_INFO, _NOTICE = struct.Struct("=16s8Q3I?3x"), struct.Struct("=BB2xI2Q4iQ2Q2q2B6x")
+_TOTAL, _CHANGED, _MATCHED = struct.Struct("=2Q"), struct.Struct("=4iQ"), struct.Struct("=2Q2q2B6x")
 _OBSERVED = struct.Struct("=3Q")
 _NUMBER, _HANDLE, _KEY = struct.Struct("=I"), struct.Struct("=Q"), struct.Struct("=16s")
 _SAMPLE_STATES = {int(it): it for it in SampleState}
@@ -170,18 +185,18 @@ class Peer:
             self._event(line, call, *arguments)
             return self._each(self._packet)
 
-    # Events: a datagram comes, the time goes on.
+    # Events: a datagram comes, the time goes on, places of a reader are tried again.
 
     def deliver(self, datagram: Octets) -> List[Packet]:
         came = octets(datagram, "a datagram")
         return self._sent(lambda: f"deliver {came.hex() if 0 < len(came) < 1 << 16 else '-'}", _LIBRARY.cw_deliver, came, len(came))
 
-    def observe(self, datagram: Octets, writer: Optional[Tuple[int, int]] = None) -> Observed:
+    def observe(self, datagram: Octets, writer: Optional[End] = None) -> Observed:
         """What a datagram holds that would be nothing to the peer, as it stands before it is delivered. It changes nothing.
         Old DATA and HEARTBEATs are those of all writers, or of one, by the number of its peer and its number there."""
         came = octets(datagram, "a datagram")
         looked = _LIBRARY.cw_observe if writer is None else _LIBRARY.cw_observe_writer
-        whose = () if writer is None else _named(writer)
+        whose = () if writer is None else _named(writer, "writer")
         with self._lock:
             if code := looked(self._at, *whose, came, len(came), self._value_at):
                 raise self._refused(code)
@@ -191,6 +206,12 @@ class Peer:
         """The time goes on to this moment, in units of 2^-32 second."""
         u64(now, "now")
         return self._sent(lambda: f"tick {now}", _LIBRARY.cw_tick, now)
+
+    def resume(self, number: int) -> List[Packet]:
+        """The places of a reader are tried again, as after a take that made room: what it holds comes as far as there is room.
+        Nothing is sent; `text` says what moved."""
+        u8(number, "number")
+        return self._sent(lambda: f"resume r{number}", _LIBRARY.cw_resume, number)
 
     # Calls of a writer, by its number.
 
@@ -226,6 +247,25 @@ class Peer:
         with self._lock:
             self._event(lambda: f"call livelost w{number}", _LIBRARY.cw_get_liveliness_lost_status, number)
             return self.total()
+
+    def match_reader(self, number: int, reader: End) -> List[Packet]:
+        """The writer is told that it is matched with a reader from now on, by the number of its peer and its number there."""
+        return self._told("match", _LIBRARY.cw_match_reader, number, reader)
+
+    def unmatch_reader(self, number: int, reader: End) -> List[Packet]:
+        """The writer is told that a reader is gone: it waits for it no longer, and sends it nothing."""
+        return self._told("part", _LIBRARY.cw_unmatch_reader, number, reader)
+
+    def _told(self, word: str, call: Any, number: int, reader: End) -> List[Packet]:
+        u8(number, "number")
+        peer, there = _named(reader, "reader")
+        return self._sent(lambda: f"call {word} w{number} {peer}.r{there}", call, number, peer, there)
+
+    def get_publication_matched_status(self, number: int) -> MatchedStatus:
+        u8(number, "number")
+        with self._lock:
+            self._event(lambda: f"call matched w{number}", _LIBRARY.cw_get_publication_matched_status, number)
+            return self.matched()
 
     # Calls of a reader, by its number. Where there is no sample, the list is empty.
 
@@ -315,6 +355,27 @@ class Peer:
             self._event(lambda: f"call changed r{number}", _LIBRARY.cw_get_liveliness_changed_status, number)
             return self.changed()
 
+    def match_writer(self, number: int, writer: End) -> int:
+        """The reader is told that it is matched with a writer from now on, by the number of its peer and its number there; gives
+        the publication handle."""
+        u8(number, "number")
+        peer, there = _named(writer, "writer")
+        with self._lock:
+            self._event(lambda: f"call match r{number} {peer}.w{there}", _LIBRARY.cw_match_writer, number, peer, there)
+            return self.handle()
+
+    def unmatch_writer(self, number: int, writer: End) -> List[Packet]:
+        """The reader is told that a writer is gone: its instances go to the next owner, or are without writers."""
+        u8(number, "number")
+        peer, there = _named(writer, "writer")
+        return self._sent(lambda: f"call part r{number} {peer}.w{there}", _LIBRARY.cw_unmatch_writer, number, peer, there)
+
+    def get_subscription_matched_status(self, number: int) -> MatchedStatus:
+        u8(number, "number")
+        with self._lock:
+            self._event(lambda: f"call matched r{number}", _LIBRARY.cw_get_subscription_matched_status, number)
+            return self.matched()
+
     # Any event in a line, filters and recorders.
 
     def line(self, line: str) -> str:
@@ -400,14 +461,15 @@ class Peer:
         if found is None:
             return None
         kind, number, status, *values = found
-        return NoticeInfo(EntityKind(kind), number, Status(status), TotalStatus(*values[:2]), ChangedStatus(*values[2:]))
+        total, changed, matched = TotalStatus(*values[:2]), ChangedStatus(*values[2:7]), _matched(values[7:])
+        return NoticeInfo(EntityKind(kind), number, Status(status), total, changed, matched)
 
     def key(self) -> bytes:
         """Of get_key_value."""
         return bytes(self._there(self._fetched(_KEY, _LIBRARY.cw_key), "key")[0])
 
     def handle(self) -> int:
-        """Of lookup_instance."""
+        """Of lookup_instance, or of match_writer."""
         return int(self._there(self._fetched(_HANDLE, _LIBRARY.cw_handle), "handle")[0])
 
     def number(self) -> int:
@@ -421,6 +483,10 @@ class Peer:
     def changed(self) -> ChangedStatus:
         """Of a look at LIVELINESS_CHANGED."""
         return ChangedStatus(*self._there(self._fetched(_CHANGED, _LIBRARY.cw_changed), "counts of LIVELINESS_CHANGED"))
+
+    def matched(self) -> MatchedStatus:
+        """Of a look at PUBLICATION_MATCHED or SUBSCRIPTION_MATCHED."""
+        return _matched(self._there(self._fetched(_MATCHED, _LIBRARY.cw_matched), "counts of matches"))
 
     def unsent(self) -> int:
         """How many packets found no memory, as if they were lost."""
@@ -480,10 +546,16 @@ class Peer:
         self._buffer_at = c.addressof(self._buffer)
 
 
-def _named(writer: Tuple[int, int]) -> Tuple[int, int]:
-    if not isinstance(writer, tuple) or len(writer) != 2:
-        raise TypeError(f"writer is {writer!r}, and no pair of the number of its peer and its number there")
-    return u8(writer[0], "the writer's peer"), u8(writer[1], "the writer")
+def _named(end: End, kind: str) -> End:
+    if not isinstance(end, tuple) or len(end) != 2:
+        raise TypeError(f"{kind} is {end!r}, and no pair of the number of its peer and its number there")
+    return u8(end[0], f"the {kind}'s peer"), u8(end[1], f"the {kind}")
+
+
+def _matched(values: Sequence[int]) -> MatchedStatus:
+    """As the struct has them, in which a peer of 0 is none."""
+    *counts, peer, number = values
+    return MatchedStatus(*counts, (peer, number) if peer else None)
 
 
 def _handle_in_line(handle: int) -> int:

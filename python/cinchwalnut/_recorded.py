@@ -91,8 +91,18 @@ def _notice(it: NoticeInfo) -> str:
         Status.LIVELINESS_CHANGED: ["changed", *it.changed],
         Status.SAMPLE_LOST: ["lost", *it.total],
     }
+    if it.status in (Status.PUBLICATION_MATCHED, Status.SUBSCRIPTION_MATCHED):
+        of_status[it.status] = ["matched", *it.matched[:4], _last(it)]
     words = of_status.get(it.status, ["livelost", *it.total])
     return f" [{' '.join(map(str, [_entity(it.entity_kind, it.entity_number), *words]))}]"
+
+
+def _last(it: NoticeInfo) -> str:
+    """The other end of the last match, `-` for none."""
+    if it.matched.last is None:
+        return "-"
+    peer, number = it.matched.last
+    return f"{peer}.{'r' if it.status == Status.PUBLICATION_MATCHED else 'w'}{number}"
 
 
 def _options(end: _End) -> str:

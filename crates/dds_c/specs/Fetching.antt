@@ -3,13 +3,16 @@
 -- DDS 1.4, 2.2.2.5 (SampleInfo), 2.2.4.1 (communication statuses), 2.3.3 (the bits of states).
 use Rattle.std.specs.Prelude.{◌≡◌, ◌⊎◌, ℕ, List, ◌++◌, length, drop, slice_get, nat_lt, if◌then◌else◌, Option, Some, None}
 use Rattle.dds_base.specs.declared.sample.Sample.{Sample}
+use Rattle.dds_base.specs.declared.endpoint.Endpoint.{Endpoint}
 use Rattle.dds_base.specs.declared.status.LivelinessChangedStatus.{LivelinessChangedStatus}
+use Rattle.dds_base.specs.declared.status.MatchedStatus.{MatchedStatus}
 use Rattle.dds_base.specs.Access.{instance_state_bit, sample_state_bit, view_state_bit}
 use Rattle.dds_machine.specs.declared.reply.Reply.{Reply}
-use Rattle.dds_machine.specs.declared.reply.Reply.TheVariants.{Created, InstanceHandle, KeyValue, LivelinessChanged, LivelinessLost, SampleLost, Samples}
+use Rattle.dds_machine.specs.declared.reply.Reply.TheVariants.{Created, InstanceHandle, KeyValue, LivelinessChanged, LivelinessLost, Matched, SampleLost, Samples}
 use Rattle.dds_protocol.specs.declared.event.Packet.{Packet}
 use Rattle.dds_c.specs.declared.out.FlatChanged.{FlatChanged}
 use Rattle.dds_c.specs.declared.out.FlatInfo.{FlatInfo}
+use Rattle.dds_c.specs.declared.out.FlatMatched.{FlatMatched}
 use Rattle.dds_c.specs.declared.out.FlatTotal.{FlatTotal}
 use Rattle.dds_c.specs.declared.session.Session.{Session}
 
@@ -130,6 +133,32 @@ changed_of status = record {
 abbrev pub changed_said : Reply → Option FlatChanged
 changed_said (LivelinessChanged status) = Some (changed_of status)
 changed_said _ = None
+
+-- the peer of an end, 0 where there is none
+abbrev pub last_peer : Option Endpoint → ℕ
+last_peer (Some end) = end.peer
+last_peer None = 0
+
+-- the number of an end there, likewise
+abbrev pub last_number : Option Endpoint → ℕ
+last_number (Some end) = end.number
+last_number None = 0
+
+-- PUBLICATION_MATCHED, or SUBSCRIPTION_MATCHED
+abbrev pub matched_of : MatchedStatus → FlatMatched
+matched_of status = record {
+  total_count = status.total_count;
+  total_count_change = status.total_count_change;
+  current_count = status.current_count;
+  current_count_change = status.current_count_change;
+  last_peer = last_peer status.last;
+  last_number = last_number status.last;
+}
+
+-- a look at one of the two
+abbrev pub matched_said : Reply → Option FlatMatched
+matched_said (Matched status) = Some (matched_of status)
+matched_said _ = None
 
 -- how many packets of the last event found no memory
 abbrev pub unsent_of : Option Session → ℕ

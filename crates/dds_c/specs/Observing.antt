@@ -3,7 +3,7 @@
 -- RTPS 2.5, 8.3.4 (the message receiver); that it is asked before a datagram is delivered is this project's own.
 use Rattle.std.specs.Prelude.{◌≡◌, ℕ, List, Option, Some, None}
 use Rattle.dds_base.specs.declared.config.Config.{Config}
-use Rattle.dds_machine.specs.declared.endpoint.Endpoint.{Endpoint}
+use Rattle.dds_base.specs.declared.endpoint.Endpoint.{Endpoint}
 use Rattle.dds_protocol.specs.Peer.{Peer}
 use Rattle.dds_core.specs.Observing.{Observes}
 use Rattle.dds_core.specs.Standing.{StandsFor}

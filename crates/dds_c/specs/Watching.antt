@@ -11,12 +11,13 @@ use Rattle.dds_notices.specs.Notices.{Recording}
 use Rattle.dds_notices.specs.declared.mask.StatusMask.{StatusMask}
 use Rattle.dds_notices.specs.declared.notice.Notice.{Notice}
 use Rattle.dds_notices.specs.declared.notice.Status.{Status}
-use Rattle.dds_notices.specs.declared.notice.Status.TheVariants.{LivelinessChanged, LivelinessLost, SampleLost}
+use Rattle.dds_notices.specs.declared.notice.Status.TheVariants.{LivelinessChanged, LivelinessLost, PublicationMatched, SampleLost, SubscriptionMatched}
 use Rattle.dds_script.specs.declared.prefix.Prefix.{Prefix}
 use Rattle.dds_c.specs.Answering.{refusing_number}
-use Rattle.dds_c.specs.Fetching.{changed_of}
+use Rattle.dds_c.specs.Fetching.{changed_of, matched_of}
 use Rattle.dds_c.specs.Meaning.{recorder_notices, recorder_capacity, recorder_becomes}
 use Rattle.dds_c.specs.declared.out.FlatChanged.{FlatChanged}
+use Rattle.dds_c.specs.declared.out.FlatMatched.{FlatMatched}
 use Rattle.dds_c.specs.declared.out.FlatTotal.{FlatTotal}
 use Rattle.dds_c.specs.declared.session.Session.{Session}
 use Rattle.dds_c.specs.declared.watching.FlatNotice.{FlatNotice}
@@ -34,6 +35,7 @@ prefix_of octets = record { 0 = octets }
 pub record FilterIsAdded (filter : Prefix) (number : ℕ) (old new : Session) : Type 0 where
   pub adds : Adds recorder_notices recorder_capacity recorder_becomes old.core filter number new.core
   pub last : new.last ≡ old.last
+  pub side : new.side ≡ old.side
   pub told : new.told ≡ old.told
 
 -- the entity of a kind (0 the participant, 1 a writer, 2 a reader) and a number, if there is such a kind
@@ -47,6 +49,7 @@ pub record ListenerIsSet (entity : Entity) (mask : StatusMask) (recorder : Optio
   pub sets : Sets recorder_notices recorder_capacity recorder_becomes old.core entity mask recorder
       new.told new.core
   pub last : new.last ≡ old.last
+  pub side : new.side ≡ old.side
 
 -- the same at the entity of a kind and a number
 abbrev pub SetAt : Option Entity → StatusMask → Option Recording → Session → Session → Type 0
@@ -88,6 +91,17 @@ no_change = record {
   last_publication_handle = 0;
 }
 
+-- nothing of matches
+abbrev pub no_match : FlatMatched
+no_match = record {
+  total_count = 0;
+  total_count_change = 0;
+  current_count = pos 0;
+  current_count_change = pos 0;
+  last_peer = 0;
+  last_number = 0;
+}
+
 -- the kind of an entity, and its number
 abbrev pub kind_of : Entity → ℕ
 kind_of Participant = 0
@@ -111,6 +125,12 @@ abbrev pub changed_in : Status → FlatChanged
 changed_in (LivelinessChanged status) = changed_of status
 changed_in _ = no_change
 
+-- PUBLICATION_MATCHED, or SUBSCRIPTION_MATCHED
+abbrev pub matched_in : Status → FlatMatched
+matched_in (PublicationMatched status) = matched_of status
+matched_in (SubscriptionMatched status) = matched_of status
+matched_in _ = no_match
+
 -- a notice: whose status it is, which, and its values
 abbrev pub notice_of : Notice → FlatNotice
 notice_of n = record {
@@ -119,6 +139,7 @@ notice_of n = record {
   status = status_bit n.status;
   total = total_in n.status;
   changed = changed_in n.status;
+  matched = matched_in n.status;
 }
 
 -- the notice of this place that a recorder keeps, if there is one

@@ -4,10 +4,12 @@
 //! DDS 1.4, 2.2.2.5 (SampleInfo). The interface for C is this project's own.
 
 ghost use Rattle.std.specs.Prelude.{◌≡◌, slice_get};
-ghost use Rattle.dds_c.specs.Fetching.{PacketCopied, PacketFetched, SampleCopied, SampleFetched, ValueFetched, ValueWritten, changed_said, handle_said, key_said, number_said, sample_at, total_said, unsent_of};
+ghost use Rattle.dds_c.specs.Fetching.{PacketCopied, PacketFetched, SampleCopied, SampleFetched, ValueFetched, ValueWritten, changed_said, handle_said, key_said, matched_said, number_said, sample_at, total_said, unsent_of};
 
 use crate::events::NOT_OPEN;
-use crate::out::{FlatChanged, FlatInfo, FlatTotal, changed_of, copy_out, info_of};
+use crate::out::{
+    FlatChanged, FlatInfo, FlatMatched, FlatTotal, changed_of, copy_out, info_of, matched_of,
+};
 use crate::peer::Peer;
 use dds_base::Code;
 use dds_machine::Reply;
@@ -162,7 +164,7 @@ fn handle_out(reply: &Reply, handle: &mut u64) -> u8
 }
 
 /// The handle that `cw_lookup_instance` asked for, 0 where the instance is not known (DDS 1.4, 2.2.2.5,
-/// lookup_instance).
+/// lookup_instance); after `cw_match_writer` that of the publication.
 ///
 /// # Errors
 ///
@@ -279,6 +281,36 @@ pub extern "C" fn cw_changed(alloc: Global, peer: &mut Peer, changed: &mut FlatC
         return NOT_OPEN.number();
     };
     let code = changed_out(&session.last.reply, changed);
+    peer.put(session);
+    code
+}
+
+fn matched_out(reply: &Reply, matched: &mut FlatMatched) -> u8
+    ensures written { ValueWritten (matched_said reply.now) matched.old matched.new result }
+{
+    match reply {
+        Reply::Matched(status) => *matched = matched_of(*status),
+        _ => return NOTHING.number(),
+    }
+    Code::Ok.number()
+}
+
+/// What a look at PUBLICATION_MATCHED or at SUBSCRIPTION_MATCHED found (DDS 1.4, 2.2.4.1).
+///
+/// # Errors
+///
+/// PRECONDITION_NOT_MET where no peer is open, NO_DATA where the last answer is no such look. Nothing is written then.
+#[unsafe(no_mangle)]
+pub extern "C" fn cw_matched(alloc: Global, peer: &mut Peer, matched: &mut FlatMatched) -> u8
+    // It is what the last answer says, wherever that is such a value.
+    ensures value { ValueFetched matched_said peer.old.held.session matched.old matched.new result }
+    // Nothing happens to the peer.
+    ensures keeps { peer.new.held.session ≡ peer.old.held.session }
+{
+    let Some(session) = peer.take(alloc) else {
+        return NOT_OPEN.number();
+    };
+    let code = matched_out(&session.last.reply, matched);
     peer.put(session);
     code
 }

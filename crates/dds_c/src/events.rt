@@ -1,9 +1,9 @@
-//! What happens to a peer but for its calls: datagrams that come, and time that goes on.
+//! What happens to a peer but for its calls: datagrams that come, time that goes on, and places that are tried again.
 //!
 //! RTPS 2.5, 8.3.4 (the message receiver). The interface for C is this project's own.
 
 ghost use Rattle.std.specs.Prelude.{◌≡◌, None, Some};
-ghost use Rattle.dds_protocol.specs.declared.event.Event.TheVariants.{Deliver, Tick};
+ghost use Rattle.dds_protocol.specs.declared.event.Event.TheVariants.{Deliver, Resume, Tick};
 ghost use Rattle.dds_c.specs.Answering.{Happens, code_number};
 
 use crate::peer::Peer;
@@ -70,4 +70,20 @@ pub extern "C" fn cw_tick(alloc: Global, peer: &mut Peer, now: u64) -> u8
     ensures step { Happens peer.old.held.session (Tick now) result peer.new.held.session }
 {
     step(alloc, peer, Event::Tick(Moment::new(now)))
+}
+
+/// The places of a reader are tried again, as after a take that made room: what it holds comes as far as there is room, and
+/// nothing is sent. The answer is a report.
+///
+/// # Errors
+///
+/// PRECONDITION_NOT_MET where no peer is open; BAD_PARAMETER where there is no such reader.
+///
+/// RTPS 2.5, 8.4.12 (reliable StatefulReader); that places are tried again is this project's own.
+#[unsafe(no_mangle)]
+pub extern "C" fn cw_resume(alloc: Global, peer: &mut Peer, reader: u8) -> u8
+    // It is one step of the peer.
+    ensures step { Happens peer.old.held.session (Resume reader) result peer.new.held.session }
+{
+    step(alloc, peer, Event::Resume { reader })
 }

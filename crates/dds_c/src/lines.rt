@@ -15,8 +15,8 @@ use crate::session::Session;
 use dds_base::{Code, Config, Moment};
 use dds_protocol::Event;
 use dds_script::{
-    Setup, SetupLine, TranscriptLine, call_of, entity_id, event_cause, guid_prefix, reader_options,
-    setup_cause, units, value, words_of, words_or_cause, writer_options,
+    Setup, SetupLine, TranscriptLine, call_of, entity_id, event_cause, guid_prefix, reader_number,
+    reader_options, setup_cause, units, value, words_of, words_or_cause, writer_options,
 };
 use std::alloc::{AllocError, Global};
 
@@ -72,6 +72,10 @@ fn event_of_words(alloc: Global, words: &[&str]) -> Result<Option<Event>, AllocE
         },
         ["deliver", octets] => match value(alloc, octets)? {
             Some(octets) => Ok(Some(Event::Deliver(octets))),
+            None => Ok(None),
+        },
+        ["resume", reader] => match reader_number(reader) {
+            Some(reader) => Ok(Some(Event::Resume { reader })),
             None => Ok(None),
         },
         _ => Ok(None),
@@ -190,7 +194,8 @@ pub extern "C" fn cw_text_fault(
     }
 }
 
-/// An event in a line of docs/PIPE.md, without its line feed: `call ..`, `tick M` or `deliver HEX`.
+/// An event in a line of docs/PIPE.md, without its line feed: `call ..`, `tick M`, `deliver HEX` or
+/// `resume R`.
 ///
 /// # Errors
 ///
@@ -210,7 +215,7 @@ pub extern "C" fn cw_line(alloc: Global, peer: &mut Peer, line: &[u8]) -> u8
 
 fn reply_text(alloc: Global, session: &Session) -> Result<String, AllocError> {
     let mut text = TranscriptLine::new(alloc);
-    text.push_reply(&session.last.reply);
+    text.push_reply(session.side, &session.last.reply);
     text.push_unsent(session.last.unsent);
     text.finish()
 }

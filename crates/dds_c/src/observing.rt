@@ -8,9 +8,8 @@ ghost use Rattle.dds_c.specs.Observing.{IsObserved, ObservedBy, observed_of};
 use crate::events::NOT_OPEN;
 use crate::peer::Peer;
 use crate::session::Session;
-use dds_base::Code;
+use dds_base::{Code, Endpoint};
 use dds_core::Observed;
-use dds_machine::Endpoint;
 use std::alloc::Global;
 
 /// What a datagram holds that would be nothing to a peer, as it stands before the datagram is delivered.

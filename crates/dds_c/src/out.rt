@@ -4,9 +4,12 @@
 
 ghost use Rattle.std.specs.Prelude.{◌≡◌};
 ghost use Rattle.dds_base.specs.Access.{instance_state_bit, sample_state_bit, view_state_bit};
-ghost use Rattle.dds_c.specs.Fetching.{Copies, changed_of, info_of};
+ghost use Rattle.dds_c.specs.Fetching.{Copies, changed_of, info_of, last_number, last_peer, matched_of};
 
-use dds_base::{Code, InstanceState, LivelinessChangedStatus, Sample, SampleState, ViewState};
+use dds_base::{
+    Code, Endpoint, InstanceState, LivelinessChangedStatus, MatchedStatus, Sample, SampleState,
+    ViewState,
+};
 
 /// What is said of a sample, and its key. The states are bits.
 ///
@@ -56,6 +59,22 @@ pub struct FlatChanged {
     pub not_alive_count_change: i32,
     /// 0 for none.
     pub last_publication_handle: u64,
+}
+
+/// PUBLICATION_MATCHED of a writer, SUBSCRIPTION_MATCHED of a reader.
+///
+/// DDS 1.4, 2.2.4.1.
+#[repr(C)]
+#[derive(Clone, Copy)]
+pub struct FlatMatched {
+    pub total_count: u64,
+    pub total_count_change: u64,
+    pub current_count: i64,
+    pub current_count_change: i64,
+    /// The peer of the reader or writer with which the last match was made or ended, 0 for none.
+    pub last_peer: u8,
+    /// The number of that reader or writer there, 0 for none.
+    pub last_number: u8,
 }
 
 fn sample_bit(state: SampleState) -> u32
@@ -118,6 +137,38 @@ pub fn changed_of(status: LivelinessChangedStatus) -> FlatChanged
         alive_count_change: status.alive_count_change,
         not_alive_count_change: status.not_alive_count_change,
         last_publication_handle: status.last_publication_handle.number(),
+    }
+}
+
+fn last_peer(last: Option<Endpoint>) -> u8
+    ensures { result ≡ last_peer last }
+{
+    match last {
+        Some(end) => end.peer,
+        None => 0,
+    }
+}
+
+fn last_number(last: Option<Endpoint>) -> u8
+    ensures { result ≡ last_number last }
+{
+    match last {
+        Some(end) => end.number,
+        None => 0,
+    }
+}
+
+/// PUBLICATION_MATCHED or SUBSCRIPTION_MATCHED, as C reads it.
+pub fn matched_of(status: MatchedStatus) -> FlatMatched
+    ensures { result ≡ matched_of status }
+{
+    FlatMatched {
+        total_count: status.total_count,
+        total_count_change: status.total_count_change,
+        current_count: status.current_count,
+        current_count_change: status.current_count_change,
+        last_peer: last_peer(status.last),
+        last_number: last_number(status.last),
     }
 }
 

@@ -6,16 +6,17 @@
 ghost use Rattle.std.specs.Prelude.{◌≡◌};
 ghost use Rattle.dds_base.specs.declared.selection.Scope.TheVariants as Scope;
 ghost use Rattle.dds_base.specs.declared.selection.Selection.TheVariants as Selection;
-ghost use Rattle.dds_machine.specs.declared.call.Call.TheVariants.{GetKeyValue, GetLivelinessChanged, GetSampleLost, LookupInstance, Read, ReadByCondition, Take, TakeByCondition};
+ghost use Rattle.dds_machine.specs.declared.call.Call.TheVariants.{GetKeyValue, GetLivelinessChanged, GetSampleLost, GetSubscriptionMatched, LookupInstance, MatchWriter, Read, ReadByCondition, Take, TakeByCondition, UnmatchWriter};
 ghost use Rattle.dds_protocol.specs.declared.event.Event.TheVariants.{Call as Asked};
 ghost use Rattle.dds_c.specs.Answering.{Happens};
-ghost use Rattle.dds_c.specs.Asking.{masks_of};
+ghost use Rattle.dds_c.specs.Asking.{end_of, masks_of};
 
 use crate::events::step;
 use crate::peer::Peer;
 use bitflags::Flags;
 use dds_base::{
-    Handle, InstanceStateMask, Key, Masks, SampleStateMask, Scope, Selection, ViewStateMask,
+    Endpoint, Handle, InstanceStateMask, Key, Masks, SampleStateMask, Scope, Selection,
+    ViewStateMask,
 };
 use dds_machine::Call;
 use dds_protocol::Event;
@@ -414,5 +415,65 @@ pub extern "C" fn cw_get_liveliness_changed_status(alloc: Global, peer: &mut Pee
         (Asked (GetLivelinessChanged reader)) result peer.new.held.session }
 {
     let call = Call::GetLivelinessChanged { reader };
+    step(alloc, peer, Event::Call(call))
+}
+
+/// A reader is told of a writer of its topic, by its peer and its number there: the two are matched from now on (RTPS 2.5,
+/// 8.4.10.3, matched_writer_add); `cw_handle` fetches the publication handle. It is refused as `Call::MatchWriter`.
+#[unsafe(no_mangle)]
+pub extern "C" fn cw_match_writer(
+    alloc: Global,
+    peer: &mut Peer,
+    reader: u8,
+    writer_peer: u8,
+    writer: u8,
+) -> u8
+    // It is one step of the peer.
+    ensures step { Happens peer.old.held.session
+        (Asked (MatchWriter reader (end_of writer_peer writer))) result peer.new.held.session }
+{
+    let writer = Endpoint {
+        peer: writer_peer,
+        number: writer,
+    };
+    let call = Call::MatchWriter { reader, writer };
+    step(alloc, peer, Event::Call(call))
+}
+
+/// A reader is told that a writer has left (RTPS 2.5, 8.4.10.3, matched_writer_remove). It is refused as
+/// `Call::UnmatchWriter`.
+#[unsafe(no_mangle)]
+pub extern "C" fn cw_unmatch_writer(
+    alloc: Global,
+    peer: &mut Peer,
+    reader: u8,
+    writer_peer: u8,
+    writer: u8,
+) -> u8
+    // It is one step of the peer.
+    ensures step { Happens peer.old.held.session
+        (Asked (UnmatchWriter reader (end_of writer_peer writer))) result peer.new.held.session }
+{
+    let writer = Endpoint {
+        peer: writer_peer,
+        number: writer,
+    };
+    let call = Call::UnmatchWriter { reader, writer };
+    step(alloc, peer, Event::Call(call))
+}
+
+/// Looks at SUBSCRIPTION_MATCHED (DDS 1.4, 2.2.2.5, get_subscription_matched_status); `cw_matched` fetches it. It is
+/// refused as `Call::GetSubscriptionMatched`.
+#[unsafe(no_mangle)]
+pub extern "C" fn cw_get_subscription_matched_status(
+    alloc: Global,
+    peer: &mut Peer,
+    reader: u8,
+) -> u8
+    // It is one step of the peer.
+    ensures step { Happens peer.old.held.session
+        (Asked (GetSubscriptionMatched reader)) result peer.new.held.session }
+{
+    let call = Call::GetSubscriptionMatched { reader };
     step(alloc, peer, Event::Call(call))
 }

@@ -18,7 +18,7 @@ use dds_core::Core as CoreOf;
 use dds_machine::Reply;
 use dds_notices::Recorder;
 use dds_protocol::{Event, Output};
-use dds_script::Prefix;
+use dds_script::{Prefix, Side};
 use std::alloc::Global;
 use std::mem;
 
@@ -30,6 +30,8 @@ pub type Core = CoreOf<Prefix, Recorder>;
 pub struct Session {
     pub core: Core,
     pub last: Output,
+    /// Whose matches the last event looked at, if it was such a look.
+    pub side: Side,
     /// The recorder that was replaced or taken away last.
     pub told: Option<Recorder>,
 }
@@ -52,6 +54,14 @@ pub fn refusal(code: Code) -> u8
     match code {
         Code::Ok => Code::Error.number(),
         code => code.number(),
+    }
+}
+
+/// Whose matches an event looks at, if it is such a look.
+fn side_of(event: &Event) -> Side {
+    match event {
+        Event::Call(call) => Side::of(call),
+        _ => Side::Reader,
     }
 }
 
@@ -80,6 +90,7 @@ impl Session {
         Ok(Session {
             core,
             last: nothing(alloc),
+            side: Side::Reader,
             told: None,
         })
     }
@@ -103,6 +114,7 @@ impl Session {
         ensures told { self.new.told ≡ self.old.told }
     {
         self.recycle(alloc);
+        self.side = side_of(&event);
         self.last = self.core.step(event);
     }
 

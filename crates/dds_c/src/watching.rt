@@ -8,10 +8,10 @@ ghost use Rattle.dds_core.specs.Listening.{RefusesFilter, RefusesListener};
 ghost use Rattle.dds_notices.specs.Notices.{opened, room_refusal};
 ghost use Rattle.dds_c.specs.Meaning.{recorder_notices, recorder_capacity, recorder_becomes};
 ghost use Rattle.dds_notices.specs.Masks.{status_bit};
-ghost use Rattle.dds_c.specs.Watching.{Between, FilterIsAdded, ListenerIsSet, NoticeFetched, NoticeWritten, RefusesToAdd, RefusesToSet, RefusesWith, changed_in, entity_of, kept_at, kind_of, notice_of, prefix_of, number_of, total_in, SetAt};
+ghost use Rattle.dds_c.specs.Watching.{Between, FilterIsAdded, ListenerIsSet, NoticeFetched, NoticeWritten, RefusesToAdd, RefusesToSet, RefusesWith, changed_in, entity_of, kept_at, kind_of, matched_in, notice_of, prefix_of, number_of, total_in, SetAt};
 
 use crate::events::NOT_OPEN;
-use crate::out::{FlatChanged, FlatTotal, changed_of};
+use crate::out::{FlatChanged, FlatMatched, FlatTotal, changed_of, matched_of};
 use crate::peer::Peer;
 use crate::session::{Session, refusal};
 use bitflags::Flags;
@@ -30,10 +30,12 @@ pub struct FlatNotice {
     pub entity_kind: u8,
     /// From 1, 0 of the participant.
     pub entity_number: u8,
-    /// 128 SAMPLE_LOST, 1024 DATA_AVAILABLE, 2048 LIVELINESS_LOST, 4096 LIVELINESS_CHANGED.
+    /// 128 SAMPLE_LOST, 1024 DATA_AVAILABLE, 2048 LIVELINESS_LOST, 4096 LIVELINESS_CHANGED, 8192 PUBLICATION_MATCHED,
+    /// 16384 SUBSCRIPTION_MATCHED.
     pub status: u32,
     pub total: FlatTotal,
     pub changed: FlatChanged,
+    pub matched: FlatMatched,
 }
 
 const NO_TOTAL: FlatTotal = FlatTotal {
@@ -47,6 +49,15 @@ const NO_CHANGE: FlatChanged = FlatChanged {
     alive_count_change: 0,
     not_alive_count_change: 0,
     last_publication_handle: 0,
+};
+
+const NO_MATCH: FlatMatched = FlatMatched {
+    total_count: 0,
+    total_count_change: 0,
+    current_count: 0,
+    current_count_change: 0,
+    last_peer: 0,
+    last_number: 0,
 };
 
 fn kind_of(entity: Entity) -> u8
@@ -76,6 +87,8 @@ fn bit_of(status: Status) -> u32
         Status::DataAvailable => StatusMask::DATA_AVAILABLE,
         Status::LivelinessLost(_) => StatusMask::LIVELINESS_LOST,
         Status::LivelinessChanged(_) => StatusMask::LIVELINESS_CHANGED,
+        Status::PublicationMatched(_) => StatusMask::PUBLICATION_MATCHED,
+        Status::SubscriptionMatched(_) => StatusMask::SUBSCRIPTION_MATCHED,
     };
     mask.bits()
 }
@@ -105,6 +118,17 @@ fn changed_in(status: Status) -> FlatChanged
     }
 }
 
+fn matched_in(status: Status) -> FlatMatched
+    ensures { result ≡ matched_in status }
+{
+    match status {
+        Status::PublicationMatched(values) | Status::SubscriptionMatched(values) => matched_of(
+            values,
+        ),
+        _ => NO_MATCH,
+    }
+}
+
 fn notice_of(notice: Notice) -> FlatNotice
     ensures { result ≡ notice_of notice }
 {
@@ -114,6 +138,7 @@ fn notice_of(notice: Notice) -> FlatNotice
         status: bit_of(notice.status),
         total: total_in(notice.status),
         changed: changed_in(notice.status),
+        matched: matched_in(notice.status),
     }
 }
 

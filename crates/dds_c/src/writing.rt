@@ -2,13 +2,14 @@
 //!
 //! DDS 1.4, 2.2.2.4 (DataWriter).
 
-ghost use Rattle.dds_machine.specs.declared.call.Call.TheVariants.{AssertLiveliness, Dispose, GetLivelinessLost, Register, SetStrength, Unregister, Write};
+ghost use Rattle.dds_machine.specs.declared.call.Call.TheVariants.{AssertLiveliness, Dispose, GetLivelinessLost, GetPublicationMatched, MatchReader, Register, SetStrength, UnmatchReader, Unregister, Write};
 ghost use Rattle.dds_protocol.specs.declared.event.Event.TheVariants.{Call as Asked};
 ghost use Rattle.dds_c.specs.Answering.{Happens, HappensCopied};
+ghost use Rattle.dds_c.specs.Asking.{end_of};
 
 use crate::events::step;
 use crate::peer::Peer;
-use dds_base::{Code, Key, Octets};
+use dds_base::{Code, Endpoint, Key, Octets};
 use dds_machine::Call;
 use dds_protocol::Event;
 use std::alloc::Global;
@@ -105,4 +106,64 @@ pub extern "C" fn cw_get_liveliness_lost_status(alloc: Global, peer: &mut Peer, 
         (Asked (GetLivelinessLost writer)) result peer.new.held.session }
 {
     step(alloc, peer, Event::Call(Call::GetLivelinessLost { writer }))
+}
+
+/// A writer is told of a reader of its topic, by its peer and its number there: the two are matched from now on (RTPS 2.5,
+/// 8.4.7.4, matched_reader_add). It is refused as `Call::MatchReader`.
+#[unsafe(no_mangle)]
+pub extern "C" fn cw_match_reader(
+    alloc: Global,
+    peer: &mut Peer,
+    writer: u8,
+    reader_peer: u8,
+    reader: u8,
+) -> u8
+    // It is one step of the peer.
+    ensures step { Happens peer.old.held.session
+        (Asked (MatchReader writer (end_of reader_peer reader))) result peer.new.held.session }
+{
+    let reader = Endpoint {
+        peer: reader_peer,
+        number: reader,
+    };
+    let call = Call::MatchReader { writer, reader };
+    step(alloc, peer, Event::Call(call))
+}
+
+/// A writer is told that a reader has left (RTPS 2.5, 8.4.7.4, matched_reader_remove). It is refused as
+/// `Call::UnmatchReader`.
+#[unsafe(no_mangle)]
+pub extern "C" fn cw_unmatch_reader(
+    alloc: Global,
+    peer: &mut Peer,
+    writer: u8,
+    reader_peer: u8,
+    reader: u8,
+) -> u8
+    // It is one step of the peer.
+    ensures step { Happens peer.old.held.session
+        (Asked (UnmatchReader writer (end_of reader_peer reader))) result peer.new.held.session }
+{
+    let reader = Endpoint {
+        peer: reader_peer,
+        number: reader,
+    };
+    let call = Call::UnmatchReader { writer, reader };
+    step(alloc, peer, Event::Call(call))
+}
+
+/// Looks at PUBLICATION_MATCHED (DDS 1.4, 2.2.2.4, get_publication_matched_status); `cw_matched` fetches it. It is refused
+/// as `Call::GetPublicationMatched`.
+#[unsafe(no_mangle)]
+pub extern "C" fn cw_get_publication_matched_status(
+    alloc: Global,
+    peer: &mut Peer,
+    writer: u8,
+) -> u8
+    // It is one step of the peer.
+    ensures step { Happens peer.old.held.session
+        (Asked (GetPublicationMatched writer)) result peer.new.held.session }
+{
+    let call = Call::GetPublicationMatched { writer };
+    step(alloc, peer, Event::Call(call))
 }
