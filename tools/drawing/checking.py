@@ -13,6 +13,7 @@ from .story import BRACKETED, Follower, Told, sample_of
 
 STATES = {"A": ALIVE, "D": DISPOSED, "W": NO_WRITERS}
 NOTICES = {"data": "DATA_AVAILABLE", "lost": "SAMPLE_LOST", "changed": "LIVELINESS_CHANGED", "livelost": "LIVELINESS_LOST"}
+MATCHED = {"w": "PUBLICATION_MATCHED", "r": "SUBSCRIPTION_MATCHED"}  # by whose notice it is
 
 
 class Checker(Follower):
@@ -56,7 +57,7 @@ class Checker(Follower):
         words = [it.split(" ") for it in BRACKETED.findall(event.reply)]
         told = self.kept.pop((event.peer, event.words[1]), [])
         if event.reply.startswith("ok old"):
-            self.compare(event, "notices", told[len(told) - len(words) :], [f"{it[0]} {NOTICES[it[1]]}" for it in words])
+            self.compare(event, "notices", told[len(told) - len(words) :], [f"{it[0]} {NOTICES.get(it[1]) or MATCHED[it[0][0]]}" for it in words])
 
     def compare_acknack(self, event: Event, number: int) -> None:
         """What an ACKNACK asks for is what its reader misses."""

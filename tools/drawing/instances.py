@@ -11,7 +11,9 @@ from .proxies import Change
 ALIVE, DISPOSED, NO_WRITERS = "ALIVE", "DISPOSED", "NO_WRITERS"
 DATA_AVAILABLE, SAMPLE_LOST = "DATA_AVAILABLE", "SAMPLE_LOST"
 LIVELINESS_CHANGED, LIVELINESS_LOST = "LIVELINESS_CHANGED", "LIVELINESS_LOST"
-BITS = {SAMPLE_LOST: 128, DATA_AVAILABLE: 1024, LIVELINESS_LOST: 2048, LIVELINESS_CHANGED: 4096}
+PUBLICATION_MATCHED, SUBSCRIPTION_MATCHED = "PUBLICATION_MATCHED", "SUBSCRIPTION_MATCHED"
+BITS = {SAMPLE_LOST: 128, DATA_AVAILABLE: 1024, LIVELINESS_LOST: 2048, LIVELINESS_CHANGED: 4096, PUBLICATION_MATCHED: 8192,
+        SUBSCRIPTION_MATCHED: 16384}
 
 
 class Band(NamedTuple):
@@ -63,10 +65,15 @@ class Instances:
         self.lives: dict[bytes, Life] = {}
         self.begun, self.now = 0, 0
         self.alive: dict[int, int] = {}  # since when, by publication handle
+        self.dead: set[int] = set()
         self.open: dict[bytes, Band] = {}
         self.bands: list[Band] = []
         self.raised: list[str] = []
         self.touched: set[bytes] = set()
+
+    def handle(self, writer: str) -> int:
+        """The publication handle of the writer of a path."""
+        return 1 + [it.path for it in self.writers].index(writer)
 
     def rank(self, writer: int) -> tuple[int, bytes]:
         """The least rank is the owner's."""
@@ -82,6 +89,7 @@ class Instances:
     def hear(self, writer: int) -> None:
         if writer not in self.alive:
             self.raise_status(LIVELINESS_CHANGED)
+        self.dead.discard(writer)
         self.alive[writer] = self.now
 
     def come(self, writer: int, change: Change) -> None:
@@ -130,12 +138,29 @@ class Instances:
         self.now = now
         for writer, end in enumerate(self.writers, 1):
             if end.lease is not None and writer in self.alive and now - self.alive[writer] >= end.lease:
-                del self.alive[writer]
-                self.raise_status(LIVELINESS_CHANGED)
-                for key, life in [it for it in self.lives.items() if writer in it[1].registered]:
-                    before = life.state
-                    life.registered.discard(writer)
-                    self.touch(key, life, before, writer, now)
+                self.die(writer)
+                self.dead.add(writer)
+
+    def die(self, writer: int) -> None:
+        """A writer is alive no more, and registered for nothing."""
+        del self.alive[writer]
+        self.raise_status(LIVELINESS_CHANGED)
+        for key, life in [it for it in self.lives.items() if writer in it[1].registered]:
+            before = life.state
+            life.registered.discard(writer)
+            self.touch(key, life, before, writer, self.now)
+
+    def part(self, writer: int) -> None:
+        """A writer has left: it dies if it is alive, and counts as neither from then on."""
+        if writer in self.alive:
+            self.die(writer)
+        if writer in self.dead:
+            self.dead.discard(writer)
+            self.raise_status(LIVELINESS_CHANGED)
+        self.raise_status(SUBSCRIPTION_MATCHED)
+
+    def match(self) -> None:
+        self.raise_status(SUBSCRIPTION_MATCHED)
 
     def access(self, samples: list[Sample], is_take: bool) -> None:
         """A read or a take returned these samples. They come in the order of those that are present."""

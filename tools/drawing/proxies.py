@@ -97,6 +97,10 @@ class Proxy:
         self.last = max(self.last, to - 1)
         return came
 
+    def begin(self, at: int) -> None:
+        """The place begins here since a match: what lies before was not for the reader, and is not lost."""
+        self.go_on(at, [])
+
     def settle(self) -> None:
         """What a best-effort reader did not take at once it does not hold."""
         if self.is_best_effort:

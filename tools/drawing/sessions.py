@@ -15,14 +15,14 @@ from .events import Event, Run
 from .scripts import Ask, plain
 
 PACKET = re.compile(r"packet (\d+) ((?:[0-9a-fA-F]{2})+)")
-COUNTS = r"(?:lost|livelost) \d+ \d+|changed \d+ \d+ -?\d+ -?\d+ \d+"
+COUNTS = r"(?:lost|livelost) \d+ \d+|changed \d+ \d+ -?\d+ -?\d+ \d+|matched \d+ \d+ \d+ -?\d+ (?:-|\d+\.[wr]\d+)"
 SAMPLE = r"\[[0-9a-f]{1,32} (?:-|!|(?:[0-9a-f]{2})+) [NR] [NO] [ADW](?: \d+){8}\]"
-MOVE = r"\[(?:place \d+\.w\d+ r\d+ \d+(?: lost \d+-\d+)*|acked w\d+ \d+\.r\d+ \d+|heard \d+\.w\d+ r\d+)\]"
+MOVE = r"\[(?:place \d+\.w\d+ r\d+ \d+(?: lost \d+-\d+)*|acked w\d+ \d+\.r\d+ \d+|heard \d+\.w\d+ r\d+|begun \d+\.w\d+ r\d+ \d+ \d+)\]"
 CONDITION = r"(?:\d+|s:(?:p|[wr]\d+))"
 REPLY = re.compile(
     rf"(?:ok(?: old(?: \[[rw]\d+ (?:data|{COUNTS})\])*)?|code \d+|samples \d+(?: {SAMPLE})+|key [0-9a-f]{{1,32}}|handle \d+|{COUNTS}"
     rf"|id \d+|true|false|(?:conditions|active)(?: {CONDITION})*|waiting|flags \d+|report(?: {MOVE})*(?: nomem \d+)?)(?: unsent \d+)?")
-EVENTS = re.compile(r"(?:call [a-z]|filter |listener |unlisten |tick \d|deliver (?:(?:[0-9a-fA-F]{2})+|-)$)")
+EVENTS = re.compile(r"(?:call [a-z]|filter |listener |unlisten |tick \d|resume r\d|deliver (?:(?:[0-9a-fA-F]{2})+|-)$)")
 
 
 @dataclasses.dataclass

@@ -11,12 +11,12 @@ import datagrams as dg
 from . import wire
 from .config import End, Fault, units
 from .events import Event, Packet, Run
-from .instances import BITS, LIVELINESS_LOST, Instances, Sample
+from .instances import BITS, LIVELINESS_LOST, PUBLICATION_MATCHED, Instances, Sample
 from .proxies import Proxy, shown, text_of_runs
 
 CODES = {3: "BAD_PARAMETER", 4: "PRECONDITION_NOT_MET", 5: "OUT_OF_RESOURCES", 8: "INCONSISTENT_POLICY", 10: "TIMEOUT",
          11: "NO_DATA", 100: "out of memory"}
-MOVE = re.compile(r"\[(place|acked|heard) ([^\]]*)\]")
+MOVE = re.compile(r"\[(place|acked|heard|begun) ([^\]]*)\]")
 BRACKETED = re.compile(r"\[([^\]]*)\]")
 RUN = re.compile(r"(\d+)-(\d+)")
 MOST_SAMPLES, LONGEST = 12, 14  # samples that are shown of a reply; letters of a word
@@ -74,6 +74,8 @@ class Follower:
         self.readers = [it for it in self.config.ends if it.kind == "r"]
         self.instances = {it.path: Instances(self.config, it) for it in self.readers}
         self.proxies = {(it.path, other.path): Proxy(it.is_best_effort) for it in self.readers for other in self.config.matched(it)}
+        self.away: set[tuple[str, str]] = set()  # those of them whose reader was told of a parting
+        self.waiting: set[tuple[str, str]] = set()  # those whose place has not begun since a match
         self.texts: dict[tuple[str, str], str] = {}  # what was last told of each pair
         self.listeners: dict[tuple[int, str], int] = {}
         self.live: dict[str, int] = {}  # writers, since their last change or assertion
@@ -91,6 +93,8 @@ class Follower:
         reply = re.sub(r"( sent \d+-\d+)?( unsent \d+)?$", "", event.reply)
         if event.kind == "deliver" and event.brought is not None:
             self.deliver(event, reply, told)
+        elif event.kind == "resume" and reply.startswith("report"):
+            self.resume(event, reply, told)
         else:
             told.add("call", call_of(event.words))
             self.answer(event, reply, told)
@@ -115,7 +119,7 @@ class Follower:
                 told.add("notice", it, "a notice that the listener kept")
         else:
             told.add("reply", reply or "no reply")
-        if word == "ok":
+        if word == "ok" or (event.kind, word) == ("match", "handle"):
             self.take_effect(event)
 
     def show_samples(self, event: Event, reply: str, told: Told) -> None:
@@ -140,10 +144,24 @@ class Follower:
                 self.instances[it.path].tick(self.now[peer])
         elif event.kind in ("write", "dispose", "unregister", "assert"):
             self.live[f"{peer}.{words[1]}"] = self.now[peer]
+        elif event.kind in ("match", "part") and words[1].startswith("r"):
+            self.tell(f"{peer}.{words[1]}", words[2], event.kind)
         elif event.kind == "listener":
             self.listeners[peer, words[1]] = 65_535 if words[2] == "any" else int(words[2])
         elif event.kind == "unlisten":
             self.listeners.pop((peer, words[1]), None)
+
+    def tell(self, reader: str, writer: str, word: str) -> None:
+        """A reader is told that it is matched with a writer, or no longer."""
+        instances, pair = self.instances[reader], (reader, writer)
+        if word == "part":
+            self.away.add(pair)
+            self.waiting.discard(pair)
+            instances.part(instances.handle(writer))
+        else:
+            self.away.discard(pair)
+            self.waiting.add(pair)
+            instances.match()
 
     # Deliveries.
 
@@ -161,6 +179,22 @@ class Follower:
         if len(told.pieces) == before:
             told.add("quiet", "answers" if event.sent else "nothing new")
 
+    def resume(self, event: Event, reply: str, told: Told) -> None:
+        """Places of a reader that are tried again, at one writer after another."""
+        told.add("call", call_of(event.words))
+        touched: dict[tuple[str, str], str] = {}
+        for kind, text in MOVE.findall(reply):
+            words = text.split(" ")
+            pair = f"{event.peer}.{words[1]}", words[0]
+            touched.setdefault(pair, self.texts.get(pair) or self.proxies[pair].text())
+            self.move(event.peer, kind, words, told)
+        for pair, before in touched.items():
+            self.tell_pair(pair, before, told)
+        if "nomem" in reply:
+            told.add("bad", reply[reply.index("nomem") :], "memory ran out at this writer")
+        if not touched:
+            told.add("quiet", "nothing new")
+
     def take_up(self, peer: int, packet: Packet, moves: list[tuple[str, str]], told: Told) -> None:
         """Each submessage in turn, with the moves that it makes, which are taken off the list."""
         own = self.config.prefixes[peer - 1]
@@ -170,11 +204,11 @@ class Follower:
         touched: dict[tuple[str, str], str] = {}
         for it in said:
             writer = self.entity(source, "w", it.writer) if source and it.kind != "acknack" else None
-            for reader in self.named(peer, it.reader, writer) if writer else []:
+            for reader in self.named(peer, it, writer) if writer else []:
                 pair = reader.path, writer.path
                 touched.setdefault(pair, self.texts.get(pair) or self.proxies[pair].text())
                 self.proxies[pair].hear(it)
-                self.take_moves(pair, reader, writer, moves, told)
+                self.take_moves(pair, reader, writer, it, moves, told)
                 self.proxies[pair].settle()
         for pair, before in touched.items():
             self.tell_pair(pair, before, told)
@@ -182,18 +216,26 @@ class Follower:
     def entity(self, peer: int | None, kind: str, entity: bytes) -> End | None:
         return next((it for it in self.config.of(peer or 0, kind) if it.entity == entity), None)
 
-    def named(self, peer: int, entity: bytes, writer: End) -> list[End]:
-        """The matched readers of a peer that a submessage names."""
-        return [it for it in self.config.of(peer, "r") if it.topic == writer.topic and entity in (dg.UNKNOWN, it.entity)]
+    def named(self, peer: int, said: dg.Said, writer: End) -> list[End]:
+        """The matched readers of a peer that a submessage names; where the place waits, those at which it may begin."""
+        found = [it for it in self.config.of(peer, "r") if it.topic == writer.topic and said.reader in (dg.UNKNOWN, it.entity)]
+        return [it for it in found if (it.path, writer.path) not in self.away
+                and ((it.path, writer.path) not in self.waiting or self.begins(it, said))]
 
-    def take_moves(self, pair: tuple[str, str], reader: End, writer: End, moves: list[tuple[str, str]], told: Told) -> None:
-        """The moves of this pair that come next, as far as what is known reaches."""
+    def begins(self, reader: End, said: dg.Said) -> bool:
+        """Whether a place may begin by such a submessage; a best-effort reader's only hears others."""
+        return said.kind == "heartbeat" or reader.is_best_effort and said.kind == "data"
+
+    def take_moves(self, pair: tuple[str, str], reader: End, writer: End, said: dg.Said, moves: list[tuple[str, str]], told: Told) -> None:
+        """The moves of this pair that come next at a submessage, as far as what is known reaches."""
         while moves:
             kind, text = moves[0]
             words = text.split(" ")
             if kind == "acked" or words[:2] != [writer.path, reader.name]:
                 return
             if kind == "place" and not self.proxies[pair].place < int(words[2]) <= self.proxies[pair].reach():
+                return
+            if kind == "begun" and said.kind != ("data" if reader.is_best_effort else "heartbeat"):
                 return
             self.move(reader.peer, *(kind, words), told)
             del moves[0]
@@ -206,10 +248,15 @@ class Follower:
             return
         reader, writer = f"{peer}.{words[1]}", words[0]
         instances = self.instances[reader]
-        handle = 1 + [it.path for it in instances.writers].index(writer)
+        handle = instances.handle(writer)
         if kind == "heard":
             instances.hear(handle)
             told.add("acked", f"heard {writer}")
+            return
+        if kind == "begun":
+            self.waiting.discard((reader, writer))
+            self.proxies[reader, writer].begin(int(words[3]))
+            told.add("acked", f"begun at {words[3]}", f"{writer}: what the reader missed before is not lost")
             return
         lost = [(int(first), int(last)) for first, last in RUN.findall(" ".join(words[4:]))] if "lost" in words else []
         self.texts.pop((reader, writer), None)
@@ -245,6 +292,8 @@ class Follower:
                 if it.lease is not None and it.path in self.live and self.now[event.peer] - self.live[it.path] >= it.lease:
                     del self.live[it.path]
                     self.tell_status(it, LIVELINESS_LOST, told)
+        if event.kind in ("match", "part") and not event.is_refused and (end := self.config.end(f"{event.peer}.{event.words[1]}")) and end.kind == "w":
+            self.tell_status(end, PUBLICATION_MATCHED, told)
         for it in self.config.of(event.peer, "r"):
             for name in self.instances[it.path].end_event(at):
                 self.tell_status(it, name, told)

@@ -109,7 +109,7 @@ def wrong() -> Iterator[bool]:
         yield fault_of(lambda: read("a", f"{line}\n\n")) == "line 1: not a command"
     for reply in ("maybe", "samples 1 [7]", "report [place 1.w1]", "code x"):
         yield fault_of(lambda: read("a", first + f"call take r1\nreply {reply}\n")) == "line 20: not a command"
-    for call, reply in (("call write", "ok"), ("deliver -", "report [place 9.w9 r1 7]"), ("call listener r1", "ok")):
+    for call, reply in (("call write", "ok"), ("deliver -", "report [place 9.w9 r1 7]"), ("resume r1", "report [place 9.w9 r1 7]"), ("call listener r1", "ok")):
         run = sessions.run_of_sessions([read("a", first + f"{call}\nreply {reply}\n")])
         yield fault_of(lambda: layout.picture_of(run)).startswith("line 19: not the reply to")
     yield fault_of(lambda: read("a", first.replace("tick 7", "tock 7"))) == "line 13: not a command"
