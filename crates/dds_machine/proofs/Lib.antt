@@ -1,4 +1,5 @@
 pub mod Tables
+pub mod InTurn
 mod WorkedNotices
 mod WorkedConditions
 mod WorkedMatching

@@ -34,9 +34,8 @@ use Rattle.dds_conditions.specs.declared.condition.Condition.TheVariants.{Guard,
 use Rattle.dds_conditions.specs.Attached.{active_of, is_attached}
 use Rattle.dds_conditions.specs.Watched.{Watched, attach_refusal, conditions_of, detaching_refusal, free_refusal, guard_refusal, is_timed_out, knows, knows_entity, number_refusal, unless_there, use_refusal, with_attached, with_condition, with_condition_at, with_deadline, with_detached, with_enabled, with_wait_set, with_wait_set_at, without_condition}
 use Rattle.dds_machine.specs.Matching.{Telling, MatchReader as HasReader, UnmatchReader as HasReaderNoMore, MatchWriter as HasWriter, UnmatchWriter as HasWriterNoMore, TellingMayWantMemory, after_telling, handle_among, knows_reliable, publication_matched, reader_looked_at, seen_after_telling, subscription_matched, telling_refusal, writer_looked_at}
-use Rattle.dds_machine.specs.Numbered.{numbered, with_numbered}
 use Rattle.dds_machine.specs.Watching.{Test, Tests, condition_refusal, condition_selection, condition_test, query_condition_refusal, read_condition_refusal, status_changes, trigger_value}
-use Rattle.dds_machine.specs.Part.{Part, Rtps, Dds, Seen, Reader, Writer, no_writer, own_writer, own_proxies, own_reader}
+use Rattle.dds_machine.specs.Part.{Part, Rtps, Dds, Seen, Reader, Writer, own_writer, own_proxies, own_reader, with_reader, with_writer}
 use Rattle.dds_machine.specs.Refusals.{change_made, unregister_kind, writer_refusal, write_refusal, dispose_refusal, unregister_refusal, assert_refusal, strength_refusal, access_refusal, key_of, key_refusal, reader_refusal}
 
 -- the samples that an access of the peer's reader returns
@@ -46,19 +45,12 @@ picked_at test part reader selection =
 
 -- a peer's reader, of whose statuses this was seen
 abbrev pub after_look : Part → ℕ → Seen → Dds
-after_look part reader seen =
-    record part.dds {
-      readers = with_numbered part.dds.readers reader
-          (record (own_reader part reader) { seen = seen });
-    }
+after_look part reader seen = with_reader part.dds reader (record (own_reader part reader) { seen = seen })
 
 -- what a peer's calls see once SUBSCRIPTION_MATCHED of its reader was looked at
 abbrev pub after_matches_look : Part → ℕ → Dds
 after_matches_look part reader =
-    record part.dds {
-      readers = with_numbered part.dds.readers reader
-          (reader_looked_at (own_proxies part reader) (own_reader part reader));
-    }
+    with_reader part.dds reader (reader_looked_at (own_proxies part reader) (own_reader part reader))
 
 -- what is seen of a reader's statuses once its SAMPLE_LOST was looked at
 abbrev pub seen_lost : Reader → Seen
@@ -74,11 +66,8 @@ seen_liveliness r = record r.seen {
 
 -- a peer's reader, after one more thing happened there
 abbrev pub with_happening : Part → ℕ → Happening → Dds
-with_happening part reader happening =
-    record part.dds {
-      readers = with_numbered part.dds.readers reader
-          (record (own_reader part reader) { happened = happening ∷ (own_reader part reader).happened });
-    }
+with_happening part reader happening = with_reader part.dds reader
+    (record (own_reader part reader) { happened = happening ∷ (own_reader part reader).happened })
 
 -- the handle by which a reader knows an instance's key
 abbrev pub handle_at : Reader → Key → ℕ
@@ -111,16 +100,9 @@ with_written w entry = record w { written = entry ∷ w.written }
 -- a peer's writers and places after an effect
 abbrev pub effect : Rtps → Effect → Rtps
 effect old nothing = old
-effect old (writes writer entry) =
-    record old {
-      writers = with_numbered old.writers writer
-          (with_written (numbered old.writers writer no_writer) entry);
-    }
+effect old (writes writer entry) = with_writer old writer (λ w. with_written w entry)
 effect old (tells telling) = after_telling old telling
-effect old (looks_at_matches writer) =
-    record old {
-      writers = with_numbered old.writers writer (writer_looked_at (numbered old.writers writer no_writer));
-    }
+effect old (looks_at_matches writer) = with_writer old writer writer_looked_at
 
 -- what the call tells of a reader: whether it is a reliable one, the writer knows
 abbrev pub reader_told : Part → ℕ → Endpoint → Telling

@@ -32,7 +32,7 @@ part_at m peer = numbered m.parts peer no_part
 abbrev pub writer_at : Machine → Endpoint → Writer
 writer_at m writer = own_writer (part_at m writer.peer) writer.number
 
--- the place of a reader in a writer's list, if they are matched
+-- the place of a reader in a writer's list, if it knows the writer
 abbrev pub place_at : Machine → Endpoint → Endpoint → Option ℕ
 place_at m reader writer = place_of (own_proxies (part_at m reader.peer) reader.number) writer
 

@@ -15,7 +15,7 @@ use Rattle.dds_base.specs.Refusal.{Refuses}
 use Rattle.dds_base.specs.declared.endpoint.Endpoint.{Endpoint}
 use Rattle.dds_base.specs.declared.status.MatchedStatus.{MatchedStatus}
 use Rattle.dds_machine.specs.Numbered.{numbered, with_numbered}
-use Rattle.dds_machine.specs.Part.{Attachment, Away, Waiting, Matches, ReaderProxy, TopicReader, WriterProxy, Writer, Reader, Rtps, Dds, Part, no_writer, own_writer, own_proxies, own_reader, writer_changes, same_endpoint, row_of, with_row, how_of, is_attached, publication_among}
+use Rattle.dds_machine.specs.Part.{Attachment, Away, Waiting, Matches, ReaderProxy, TopicReader, WriterProxy, Writer, Reader, Rtps, Dds, Part, own_writer, own_proxies, own_reader, writer_changes, same_endpoint, row_of, with_row, how_of, is_attached, publication_among, with_reader, with_writer}
 
 -- ---- at a writer
 
@@ -173,12 +173,8 @@ telling_refusal part (UnmatchWriter reader writer) =
 
 -- what a telling does to a peer's writers and to the rows of its readers
 abbrev pub after_telling : Rtps → Telling → Rtps
-after_telling old (MatchReader writer reader reliable) =
-    record old {
-      writers = with_numbered old.writers writer (joined (numbered old.writers writer no_writer) reader reliable);
-    }
-after_telling old (UnmatchReader writer reader) =
-    record old { writers = with_numbered old.writers writer (left (numbered old.writers writer no_writer) reader) }
+after_telling old (MatchReader writer reader reliable) = with_writer old writer (λ w. joined w reader reliable)
+after_telling old (UnmatchReader writer reader) = with_writer old writer (λ w. left w reader)
 after_telling old (MatchWriter reader writer) =
     record old { readers = with_numbered old.readers reader (with_match (numbered old.readers reader []) writer) }
 after_telling old (UnmatchWriter reader writer) =
@@ -193,22 +189,17 @@ parted_at part reader writer =
 -- what it does to what the peer's own calls see
 abbrev pub seen_after_telling : Part → Telling → Dds
 seen_after_telling old (MatchWriter reader writer) =
-    record old.dds {
-      readers = with_numbered old.dds.readers reader (reader_joined (own_reader old reader) writer);
-    }
+    with_reader old.dds reader (reader_joined (own_reader old reader) writer)
 seen_after_telling old (UnmatchWriter reader writer) =
-    record old.dds {
-      readers = with_numbered old.dds.readers reader
-          (reader_left (own_reader old reader) writer (parted_at old reader writer));
-    }
+    with_reader old.dds reader (reader_left (own_reader old reader) writer (parted_at old reader writer))
 seen_after_telling old other = old.dds
 
--- A match may want memory. That a reader has left never does, nor that a writer has, but where more would have happened
--- at the reader than can be counted.
+-- A writer that is told of a reader may want memory. That a writer has left does so only where more would have happened
+-- at the reader than can be counted, and nothing else ever does.
 abbrev pub TellingMayWantMemory : Part → Telling → Type 0
-TellingMayWantMemory part (UnmatchReader writer reader) = ⊥
+TellingMayWantMemory part (MatchReader writer reader reliable) = Unit {0}
 TellingMayWantMemory part (UnmatchWriter reader writer) = 2 ^ 64 - 1 < length (parted_at part reader writer)
-TellingMayWantMemory part other = Unit {0}
+TellingMayWantMemory part other = ⊥
 
 -- One telling at a peer: it is done; or the first cause refuses it, or want of memory where there is none, and nothing
 -- changes.

@@ -4,7 +4,7 @@
 --
 -- DDS 1.4, 2.2.4.1 (communication statuses), 2.2.4.2.1 (changes in plain communication status), 2.2.4.3 (access through
 -- listeners).
-use Rattle.std.specs.Prelude.{ℕ, zero, suc, ◌==◌, nat_lt, List, length, Option, None, Some, if◌then◌else◌}
+use Rattle.std.specs.Prelude.{ℕ, zero, suc, ◌==◌, nat_lt, List, length, Option, None, Some, is_some, if◌then◌else◌}
 use Rattle.dds_base.specs.declared.entity.Entity.{Entity}
 use Rattle.dds_base.specs.declared.entity.Entity.TheVariants as entity
 use Rattle.dds_base.specs.Liveliness.{liveliness_changed_status}
@@ -90,50 +90,26 @@ told_of part entity status = record (looked_at part entity status) {
       { listeners = after_notice part.dds.listeners (record { entity = entity; status = status }) };
 }
 
--- where nobody takes the status nothing happens
-abbrev pub told_to : Option Entity → Part → Entity → Status → Part
-told_to None part entity status = part
-told_to (Some taker) part entity status = told_of part entity status
-
--- a part, once a status of an entity, if it was raised, was told to whoever takes it
+-- a part, once a status of an entity, if it was raised, was told to whoever takes it, if somebody does
 abbrev pub told : Part → Entity → Option Status → Part
 told part entity None = part
-told part entity (Some status) = told_to (taker_of part.dds.listeners entity status) part entity status
+told part entity (Some status) =
+    if is_some (taker_of part.dds.listeners entity status) then told_of part entity status else part
 
--- a part, once SAMPLE_LOST of the reader of this number was told, if it was raised since the part was as before
-abbrev pub lost_told : Part → ℕ → Part → Part
-lost_told before n part = told part (entity.Reader n) (lost_raised (own_reader before n) (own_reader part n))
-
--- a part, once DATA_AVAILABLE of the reader of this number was told, if it was raised since the part was as before
-abbrev pub data_told : Part → ℕ → Part → Part
-data_told before n part = told part (entity.Reader n) (data_raised (own_reader before n) (own_reader part n))
-
--- a part, once LIVELINESS_CHANGED of the reader of this number was told, if it was raised since the part was as before
-abbrev pub turn_told : Part → ℕ → Part → Part
-turn_told before n part = told part (entity.Reader n) (turn_raised (own_reader before n) (own_reader part n))
-
--- a part, once SUBSCRIPTION_MATCHED of the reader of this number was told, if it was raised since the part was as before
-abbrev pub subscription_told : Part → ℕ → Part → Part
-subscription_told before n part = told part (entity.Reader n)
-    (subscription_raised (own_proxies before n) (own_proxies part n) (own_reader part n))
-
--- a part, once the raised statuses of the reader of this number were told, by ascending bit (2.3.3)
+-- A part, once the statuses of the reader of this number that were raised since the part was as before were told, by
+-- ascending bit (2.3.3): SAMPLE_LOST, DATA_AVAILABLE, LIVELINESS_CHANGED and SUBSCRIPTION_MATCHED.
 abbrev pub reader_told : Part → ℕ → Part → Part
 reader_told before n part =
-    subscription_told before n (turn_told before n (data_told before n (lost_told before n part)))
+    let lost : Part = told part (entity.Reader n) (lost_raised (own_reader before n) (own_reader part n)) in
+    let came : Part = told lost (entity.Reader n) (data_raised (own_reader before n) (own_reader lost n)) in
+    let turn : Part = told came (entity.Reader n) (turn_raised (own_reader before n) (own_reader came n)) in
+    told turn (entity.Reader n) (subscription_raised (own_proxies before n) (own_proxies turn n) (own_reader turn n))
 
--- a part, once LIVELINESS_LOST of the writer of this number was told, if it was raised since the part was as before
-abbrev pub loss_told : Part → ℕ → Part → Part
-loss_told before n part = told part (entity.Writer n) (loss_raised (own_writer before n) (own_writer part n))
-
--- a part, once PUBLICATION_MATCHED of the writer of this number was told, if it was raised since the part was as before
-abbrev pub publication_told : Part → ℕ → Part → Part
-publication_told before n part =
-    told part (entity.Writer n) (publication_raised (own_writer before n) (own_writer part n))
-
--- a part, once the raised statuses of the writer of this number were told, by ascending bit (2.3.3)
+-- a part, once those of the writer of this number were told likewise: LIVELINESS_LOST and PUBLICATION_MATCHED
 abbrev pub writer_told : Part → ℕ → Part → Part
-writer_told before n part = publication_told before n (loss_told before n part)
+writer_told before n part =
+    let lost : Part = told part (entity.Writer n) (loss_raised (own_writer before n) (own_writer part n)) in
+    told lost (entity.Writer n) (publication_raised (own_writer before n) (own_writer lost n))
 
 -- the first so many entities, in their order
 abbrev pub each_told : (ℕ → Part → Part) → ℕ → Part → Part
@@ -154,14 +130,11 @@ peer_of (event.Tick peer now) = peer
 peer_of (event.Deliver peer packet) = peer
 peer_of (event.Resume peer reader) = peer
 
--- the machine at the end of what came to the peer of this number, as the machine was before
-abbrev pub peer_ended : Machine → ℕ → Machine → Machine
-peer_ended before peer m =
-    record { parts = with_numbered m.parts peer (at_end (part_at before peer) (part_at m peer)) }
-
 -- the machine at the end of an event, which came to it as it was before
 abbrev pub machine_ended : Machine → WorldEvent → Machine → Machine
-machine_ended before e m = peer_ended before (peer_of e) m
+machine_ended before e m = record {
+  parts = with_numbered m.parts (peer_of e) (at_end (part_at before (peer_of e)) (part_at m (peer_of e)));
+}
 
 -- ---- listeners that are set
 

@@ -83,7 +83,7 @@ pub record Writer : Type 0 where
   pub readers : List ReaderProxy
   pub matches : Matches
 
--- a peer's writers, and for each of its readers the matched writers in the order of their publication handles
+-- a peer's writers, and for each of its readers the writers that it knows, in the order of their publication handles
 pub record Rtps : Type 0 where
   pub writers : List Writer
   pub readers : List (List WriterProxy)
@@ -152,8 +152,7 @@ no_reader = record {
     max_arrivals = usual_arrivals;
     writers = [];
   };
-  happened =
-      [];
+  happened = [];
   seen = nothing_seen;
   matches = opened_with [];
 }
@@ -169,7 +168,7 @@ no_part = record {
 abbrev pub own_writer : Part → ℕ → Writer
 own_writer part writer = numbered part.rtps.writers writer no_writer
 
--- the matched writers of a peer's own reader, by its number
+-- the writers that a peer's own reader knows, by the reader's number
 abbrev pub own_proxies : Part → ℕ → List WriterProxy
 own_proxies part reader = numbered part.rtps.readers reader []
 
@@ -220,7 +219,7 @@ owed_from w reader =
     (length (writer_changes w) + 1))
     (length (writer_changes w) + 1)
 
--- the place in this writer's list, if it is matched
+-- the place in this writer's list, if the reader knows it
 abbrev pub place_of : List WriterProxy → Endpoint → Option ℕ
 place_of rows writer = option_map (λ (p : WriterProxy). p.place) (row_of (λ (p : WriterProxy). p.writer) rows writer)
 
@@ -229,7 +228,7 @@ abbrev pub with_place : List WriterProxy → Endpoint → ℕ → List WriterPro
 with_place rows writer to =
     with_row (λ (p : WriterProxy). p.writer) (λ (p : WriterProxy). record p { place = to }) rows writer
 
--- the count by which this writer was heard last, if it is matched
+-- the count by which this writer was heard last, if the reader knows it
 abbrev pub heard_of : List WriterProxy → Endpoint → Option (Option ℤ)
 heard_of rows writer = option_map (λ (p : WriterProxy). p.heard) (row_of (λ (p : WriterProxy). p.writer) rows writer)
 
@@ -260,7 +259,7 @@ publication_from n [] writer = None
 publication_from n (p ∷ ps) writer =
     if same_endpoint p.writer writer then Some n else publication_from (n + 1) ps writer
 
--- the publication handle of this writer, if it is matched (DDS 1.4, 2.2.2.5, publication_handle)
+-- the publication handle of this writer, if the reader knows it (DDS 1.4, 2.2.2.5, publication_handle)
 abbrev pub publication_among : List WriterProxy → Endpoint → Option ℕ
 publication_among rows writer = publication_from 1 rows writer
 
@@ -313,15 +312,20 @@ abbrev pub is_assertion : Writer → ℤ → Bool
 is_assertion w (pos n) = numbered (counts_of w.written) n false
 is_assertion w (negsuc n) = false
 
--- a peer's reader has these matched writers, and this happened there
+-- what a peer's own calls see, once its reader of this number is as given
+abbrev pub with_reader : Dds → ℕ → Reader → Dds
+with_reader dds n r = record dds { readers = with_numbered dds.readers n r }
+
+-- a peer's reader knows these writers, and this happened there
 abbrev pub at_reader : Part → ℕ → List WriterProxy → List Happening → Part
 at_reader part reader proxies happened = record part {
   rtps = record part.rtps { readers = with_numbered part.rtps.readers reader proxies };
-  dds = record part.dds {
-    readers = with_numbered part.dds.readers reader
-        (record (own_reader part reader) { happened = happened });
-  };
+  dds = with_reader part.dds reader (record (own_reader part reader) { happened = happened });
 }
+
+-- a peer's writers and places, once this was done to its writer of this number
+abbrev pub with_writer : Rtps → ℕ → (Writer → Writer) → Rtps
+with_writer old n change = record old { writers = with_numbered old.writers n (change (numbered old.writers n no_writer)) }
 
 -- a peer's writer has become this one
 abbrev pub at_writer : Part → ℕ → Writer → Part

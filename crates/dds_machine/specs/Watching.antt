@@ -31,39 +31,26 @@ use Rattle.dds_machine.specs.Part.{Part, Reader, Writer, WriterProxy, own_proxie
 
 -- ---- statuses
 
--- changes were passed over since SAMPLE_LOST was looked at
-abbrev pub is_lost_flagged : Reader → Bool
-is_lost_flagged r = is_after r.seen.entries_at_lost (passed_at r.happened)
-
--- a sample came since the last read or take, and no listener was told of it
-abbrev pub is_data_flagged : Reader → Bool
-is_data_flagged r = is_after r.seen.entries_at_data (data_available_at r.qos r.happened)
-
--- a writer became alive, or not alive, since LIVELINESS_CHANGED was looked at
-abbrev pub is_turn_flagged : Reader → Bool
-is_turn_flagged r = is_after r.seen.entries_at_turn (turned_at r.happened)
-
 -- the bit, where the test holds
 abbrev pub bit_if : Bool → ℕ → ℕ
 bit_if b bit = if b then bit else 0
 
--- the flagged statuses of a reader that knows these writers, as a mask: SAMPLE_LOST, DATA_AVAILABLE, LIVELINESS_CHANGED
--- and SUBSCRIPTION_MATCHED (2.3.3)
+-- The flagged statuses of a reader that knows these writers, as a mask (2.3.3): SAMPLE_LOST, where changes were passed
+-- over since it was looked at; DATA_AVAILABLE, where a sample came since the last read or take, and no listener was told
+-- of it; LIVELINESS_CHANGED, where a writer became alive, or not alive, since it was looked at; and SUBSCRIPTION_MATCHED.
 abbrev pub reader_statuses : List WriterProxy → Reader → StatusMask
 reader_statuses rows r = record {
-  0 = bit_if (is_lost_flagged r) sample_lost_bit
-      + (bit_if (is_data_flagged r) data_available_bit + (bit_if (is_turn_flagged r) liveliness_changed_bit
+  0 = bit_if (is_after r.seen.entries_at_lost (passed_at r.happened)) sample_lost_bit
+      + (bit_if (is_after r.seen.entries_at_data (data_available_at r.qos r.happened)) data_available_bit
+      + (bit_if (is_after r.seen.entries_at_turn (turned_at r.happened)) liveliness_changed_bit
       + bit_if (is_match_flagged r.matches (attached_count rows)) subscription_matched_bit));
 }
 
--- the writer's liveliness was lost since LIVELINESS_LOST was looked at
-abbrev pub is_loss_flagged : Writer → Bool
-is_loss_flagged w = nat_lt 0 (liveliness_lost_status w.lease w.written).total_count_change
-
--- the flagged statuses of a writer, as a mask: LIVELINESS_LOST and PUBLICATION_MATCHED (2.3.3)
+-- The flagged statuses of a writer, as a mask (2.3.3): LIVELINESS_LOST, where its liveliness was lost since that was
+-- looked at, and PUBLICATION_MATCHED.
 abbrev pub writer_statuses : Writer → StatusMask
 writer_statuses w = record {
-  0 = bit_if (is_loss_flagged w) liveliness_lost_bit
+  0 = bit_if (nat_lt 0 (liveliness_lost_status w.lease w.written).total_count_change) liveliness_lost_bit
       + bit_if (is_match_flagged w.matches (length w.matched)) publication_matched_bit;
 }
 

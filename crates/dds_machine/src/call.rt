@@ -21,8 +21,8 @@ pub enum Call {
         writer: u8,
         key: Key,
     },
-    /// Writes a value of an instance, and registers it (DDS 1.4, 2.2.2.4, write). `BadParameter` for a value above
-    /// 1,024 octets.
+    /// Writes a value of an instance, and registers it (DDS 1.4, 2.2.2.4, write). `BadParameter` for a value of more
+    /// octets than the writer's `max_value`.
     Write {
         writer: u8,
         key: Key,
@@ -40,7 +40,7 @@ pub enum Call {
         writer: u8,
         key: Key,
     },
-    /// Asserts a writer's liveliness (DDS 1.4, 2.2.2.4, assert_liveliness), and sends a HEARTBEAT that says so to each
+    /// Asserts a writer's liveliness (DDS 1.4, 2.2.2.4, assert_liveliness), and sends HEARTBEATs that say so to each
     /// peer with a matched reader. `OutOfResources` where at least 2^31 - 1 HEARTBEAT counts of the writer were due. It
     /// is never refused for want of memory.
     AssertLiveliness {
@@ -214,7 +214,7 @@ pub enum Call {
     /// A reader is told of a writer of its topic: the two are matched from now on, and its place in the writer's list
     /// begins where it was, or further on, by what comes of that writer (RTPS 2.5, 8.4.10.3, matched_writer_add). It
     /// answers the publication handle. `BadParameter` for a writer that is none of the reader's topic,
-    /// `PreconditionNotMet` where the two are matched. It sends nothing.
+    /// `PreconditionNotMet` where the two are matched. It sends nothing, and is never refused for want of memory.
     MatchWriter {
         reader: u8,
         writer: Endpoint,

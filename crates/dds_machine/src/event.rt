@@ -11,7 +11,8 @@ pub enum WorldEvent {
     /// A call at a peer, as `Call` says.
     Call { peer: u8, call: Call },
     /// The time of a peer goes on to this moment: those whose lease is over die at its readers. `BadParameter` where
-    /// it would go back, or to 2^63 units of 2^-32 second and beyond; `Memory` only where somebody dies.
+    /// it would go back, or to 2^63 units of 2^-32 second and beyond; `Memory` only where, with those that die, more
+    /// than 2^64 - 1 entries would have happened at a reader: no death needs memory.
     Tick { peer: u8, now: Moment },
     /// The packet of this number, counted from 1 among all that were ever sent, comes at a peer.
     Deliver { peer: u8, packet: u64 },

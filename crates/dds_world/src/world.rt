@@ -2,7 +2,7 @@
 //!
 //! It is this project's own; its peers behave by RTPS 2.5, 8.4, and answer by DDS 1.4, 2.2.2.4 and 2.2.2.5.
 
-ghost use Rattle.std.specs.Prelude.{◌≡◌, ℕ, ◌&&◌, ◌+◌, ◌-◌, ◌^◌, ◌<◌, ◌≤◌, false, nat_lt, nat_le, IfOk, IfErr, OnErr, MatchOption, length, slice_get, None, [], vec_len, vec_capacity};
+ghost use Rattle.std.specs.Prelude.{◌≡◌, ℕ, ◌&&◌, ◌+◌, ◌-◌, ◌^◌, ◌<◌, ◌≤◌, false, nat_lt, nat_le, IfOk, IfErr, OnErr, MatchOption, length, map, slice_get, None, [], vec_len, vec_capacity};
 ghost use Rattle.std.specs.Option.{option_copied};
 ghost use Rattle.dds_base.specs.Checked.{check_refusal};
 ghost use Rattle.dds_base.specs.declared.config.Config.{Config as ConfigOf};
@@ -22,7 +22,7 @@ ghost use Rattle.dds_core.specs.Listening.{StandsFor as CoreStandsFor, no_listen
 ghost use Rattle.dds_world.specs.WorldStanding.{traffic, KeepsRules, RunsByRules, StandsFor};
 ghost use Rattle.dds_world.specs.Posting.{Posts};
 ghost use Rattle.dds_world.specs.Acting.{Counts, IsQuiet, OpensFirst};
-ghost use Rattle.dds_world.specs.Holding.{Adds, RefusesFilter, RefusesListener, Sets, MachineStandsFor, filters_of, kept_of, none_given, tests_in};
+ghost use Rattle.dds_world.specs.Holding.{Adds, RefusesFilter, RefusesListener, Sets, MachineStandsFor, filters_of, kept_of, none_given, tests_by, tests_in};
 ghost use Rattle.dds_world.specs.HeldSteps.{ActsIn, IsOfPeer, StepsIn};
 
 use dds_base::{Code, Config, Endpoint, Entity, Sequence, Sn, index_of};
@@ -184,7 +184,8 @@ impl<F: Filter, L: Listener> World<F, L> {
         // the machine without packets gives, by what the filters mean, and the network stands for the machine at the
         // event's end, once listeners were told: this is the theorem.
         ensures step { (given : ℕ → ByEntity L) → Steps (MachineStandsFor L.notices L.capacity L.becomes given)
-            (tests_in F.meaning self.old) (length self.old.sent) self.old event result self.new }
+            (tests_by F.meaning (map (λ core. core.filtered.filters) self.old.cores)) (length self.old.sent)
+            self.old event result self.new }
         // The event is one by the rules of the protocol, by which that is so: each message that they make due is sent,
         // or counted, and a delivered packet is taken up, submessage by submessage.
         ensures rules { (given : ℕ → ByEntity L) → KeepsRules (tests_in F.meaning self.old)
