@@ -1,6 +1,6 @@
 -- What the end of an event leaves as it was.
 use Rattle.std.proofs.Common.{◌≡◌, ◌≤◌, ◌+◌, ◌==◌, ℕ, zero, suc, Bool, true, false, List, [], ◌∷◌, Option, Some, None, length, arith, refl, ap, ◌∙◌}
-use Rattle.std.specs.Prelude.{nat_lt, if◌then◌else◌}
+use Rattle.std.specs.Prelude.{nat_lt, is_some, if◌then◌else◌}
 use Rattle.std.proofs.lemmas.Bool.Decides.{nat_tests}
 use Rattle.dds_base.specs.declared.entity.Entity.{Entity}
 use Rattle.dds_base.specs.declared.entity.Entity.TheVariants as entity
@@ -19,19 +19,21 @@ use Rattle.dds_notices.specs.Listeners.{taker_of}
 use Rattle.dds_machine.specs.Passing.{passed_at}
 use Rattle.dds_machine.specs.Part.{Part, Reader, Writer, own_proxies, own_reader, own_writer}
 use Rattle.dds_machine.specs.Matching.{attached_count, publication_matched, subscription_matched}
-use Rattle.dds_machine.specs.Noticing.{at_end, data_raised, data_told, each_told, loss_raised, loss_told, losses_of, lost_raised, lost_told, publication_raised, publication_told, reader_told, subscription_raised, subscription_told, told, told_of, told_to, turn_raised, turn_told, writer_told}
+use Rattle.dds_machine.specs.Noticing.{at_end, data_raised, each_told, loss_raised, losses_of, lost_raised, publication_raised, reader_told, subscription_raised, told, told_of, turn_raised, writer_told}
+use Rattle.dds_machine.proofs.InTurn.{data_told, loss_told, lost_told, publication_told, subscription_told, turn_told}
 
 -- ---- what holds of each notice
 
 module _ (R : Part → Part → Type 0) (same : (part : Part) → R part part) (on : (a b c : Part) → R a b → R b c → R a c)
     (one : (part : Part) (e : Entity) (status : Status) → R part (told_of part e status)) where
-  to_so : (o : Option Entity) (part : Part) (e : Entity) (status : Status) → R part (told_to o part e status)
-  to_so None part e status = same part
-  to_so (Some taker) part e status = one part e status
+  to_so : (takes : Bool) (part : Part) (e : Entity) (status : Status)
+      → R part (if takes then told_of part e status else part)
+  to_so false part e status = same part
+  to_so true part e status = one part e status
 
   told_so : (part : Part) (e : Entity) (raised : Option Status) → R part (told part e raised)
   told_so part e None = same part
-  told_so part e (Some status) = to_so (taker_of part.dds.listeners e status) part e status
+  told_so part e (Some status) = to_so (is_some (taker_of part.dds.listeners e status)) part e status
 
   each_so : (tell : ℕ → Part → Part) → ((n : ℕ) (part : Part) → R part (tell n part)) → (count : ℕ) (part : Part)
       → R part (each_told tell count part)
@@ -103,7 +105,8 @@ end_rows before part = end_keeps (λ (p : Part). p.rtps.readers) rows_same befor
 untold : (part : Part) → NobodyTakes part.dds.listeners → (e : Entity) (raised : Option Status)
     → told part e raised ≡ part
 untold part nobody e None = refl
-untold part nobody e (Some status) = ap (λ (o : Option Entity). told_to o part e status) (nobody e status)
+untold part nobody e (Some status) =
+    ap (λ (o : Option Entity). if is_some o then told_of part e status else part) (nobody e status)
 
 each_untold : (tell : ℕ → Part → Part) (part : Part) → ((n : ℕ) → tell n part ≡ part) → (count : ℕ)
     → each_told tell count part ≡ part

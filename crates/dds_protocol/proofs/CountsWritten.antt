@@ -17,7 +17,7 @@ use Rattle.rtps_wire.specs.Sought.{IsSought, HasSought}
 use Rattle.rtps_writer.specs.declared.answer.Answer.{Answer}
 use Rattle.rtps_writer.specs.declared.answer.Answer.TheVariants.{Data as AnswersData, Gap as AnswersGap}
 use Rattle.dds_base.specs.declared.endpoint.Endpoint.{Endpoint}
-use Rattle.dds_protocol.specs.Claims.{Receiver, receiver_of, after_submessage, StandsAt, StandsIn, IsWriter, IsToWriter}
+use Rattle.dds_protocol.specs.Claims.{Receiver, receiver_of, after_submessage, StandsAt, StandsIn, IsToWriter}
 use Rattle.dds_protocol.specs.DueMessages.{Due, data_of, submessages_of}
 use Rattle.dds_protocol.specs.Fresh.{HasHeartbeat, HasAckNack}
 use Rattle.dds_protocol.proofs.Composed.{front_or_rest, later_in}
@@ -101,36 +101,9 @@ no_beat h to e = cc
 no_ask : (a : AckNackBody) (to : GuidPrefix) → AckNack a ≡ InfoDst to → ⊥
 no_ask a to e = cc
 
-beat_of : HeartbeatBody → Submessage → HeartbeatBody
-beat_of d (Heartbeat h) = h
-beat_of d _ = d
-
 ask_of : AckNackBody → Submessage → AckNackBody
 ask_of d (AckNack a) = a
 ask_of d _ = d
-
--- a HEARTBEAT alone
-pub one_beat : (config : Config) (own to : GuidPrefix) (body : HeartbeatBody) (w : Endpoint) (count : ℤ)
-    → IsWritable (message_to own to (Heartbeat body ∷ []))
-    → HasHeartbeat config (spelling_of (message_to own to (Heartbeat body ∷ []))) w count
-    → IsWriter config own body.writer_id w × (count ≡ body.count)
-unfolding beat_of
-one_beat config own to body w count writable h =
-    let here =
-    read_alone own to (Heartbeat body) h.own h.at (Heartbeat h.heartbeat) writable h.there (no_beat h.heartbeat to) in
-    let is : h.heartbeat ≡ body = ap (λ (s : Submessage). beat_of body s) here.1 in (
-      subst (λ (b : HeartbeatBody). IsWriter config own b.writer_id w) is
-          (subst (λ (x : Receiver). IsWriter config x.source_guid_prefix h.heartbeat.writer_id w) here.0 h.from),
-      sym h.same_count ∙ ap (λ (b : HeartbeatBody). b.count) is,
-    )
-
-pub one_beat_asks : (config : Config) (own to : GuidPrefix) (body : HeartbeatBody) (w r : Endpoint) (count : ℤ)
-    → IsWritable (message_to own to (Heartbeat body ∷ []))
-    → HasAckNack config (spelling_of (message_to own to (Heartbeat body ∷ []))) w r count → ⊥
-one_beat_asks config own to body w r count writable h =
-    let here =
-    read_alone own to (Heartbeat body) h.own h.at (AckNack h.acknack) writable h.there (no_ask h.acknack to) in
-    let e = here.1 in absurd cc
 
 -- an ACKNACK alone
 pub one_ask : (config : Config) (own to : GuidPrefix) (body : AckNackBody) (w r : Endpoint) (count : ℤ)

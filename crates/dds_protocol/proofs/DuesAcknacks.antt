@@ -1,5 +1,5 @@
 -- An ACKNACK that is due to a writer claims no more than the place of the reader in that writer's list.
-use Rattle.std.proofs.Common.{◌≡◌, ◌⊎◌, ℕ, Bool, true, false, ◌||◌, List, [], Option, Some, None, refl, subst, ap, sym, ◌∙◌, inl, inr, ⊎_elim, arith}
+use Rattle.std.proofs.Common.{◌≡◌, ◌⊎◌, ℕ, Bool, true, false, List, [], Option, Some, None, subst, ap, sym, ◌∙◌, inl, inr, ⊎_elim, arith}
 use Rattle.std.proofs.lemmas.List.Elements.{All-cons, All-nil}
 use Rattle.dds_base.specs.declared.config.Config.{Config}
 use Rattle.dds_base.specs.declared.guid.EntityId.{EntityId}
@@ -26,13 +26,9 @@ use Rattle.dds_protocol.specs.Backed.{reader_at}
 use Rattle.dds_protocol.specs.Dues.{IsTruthful, AreTruthful}
 use Rattle.dds_protocol.proofs.Dues.{addressed, told_alone}
 use Rattle.dds_protocol.proofs.Framing.{has_reader, tracked_here}
-use Rattle.dds_protocol.proofs.OwnGuids.{prefix-Decides, one_writer, one_reader, not_every_reader, not_every_peer}
+use Rattle.dds_protocol.proofs.OwnGuids.{first_of, prefix-Decides, one_writer, one_reader, not_every_reader, not_every_peer}
 use Rattle.dds_protocol.proofs.RuledReaders.{Coming}
 use Rattle.dds_machine.proofs.Tables.{numbered-same, place-hits}
-
-pub first_of : (a b : Bool) → (a || b) ≡ true → b ≡ false → a ≡ true
-first_of true b h none = refl
-first_of false b h none = cc
 
 -- the ACKNACK of a reader, as it is written
 abbrev pub ask_body : EntityId → EntityId → AckNackDue → AckNackBody

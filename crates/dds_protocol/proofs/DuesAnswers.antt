@@ -1,7 +1,7 @@
 -- What a writer answers to an ACKNACK is true: a DATA tells a change of its list, and a GAP names what the reader that
 -- asked may pass over.
 use Rattle.std.proofs.Common.{◌≡◌, ◌⊎◌, ℕ, zero, suc, ◌+◌, ◌^◌, ◌<◌, ◌≤◌, max, Bool, true, false, List, [], ◌∷◌, ◌++◌, Option, Some, None, length, get_or, map, nat_lt, refl, subst, ap, sym, ◌∙◌, inl, inr, ⊎_elim, arith}
-use Rattle.std.specs.Prelude.{if◌then◌else◌, nat_le, ◌&&◌, ◌||◌}
+use Rattle.std.specs.Prelude.{if◌then◌else◌, nat_le, ◌&&◌}
 use Rattle.std.specs.List.{All, flat_map}
 use Rattle.std.proofs.lemmas.Bool.{and_parts, cases_lt, leb-true}
 use Rattle.std.proofs.lemmas.Bool.Decides.{nat_tests}
@@ -10,7 +10,7 @@ use Rattle.dds_base.specs.declared.change.Change.{Change}
 use Rattle.dds_base.specs.declared.config.Config.{Config}
 use Rattle.dds_base.specs.declared.guid.EntityId.{EntityId}
 use Rattle.dds_base.specs.declared.guid.GuidPrefix.{GuidPrefix}
-use Rattle.dds_base.specs.Checked.{check_refusal, same_prefix}
+use Rattle.dds_base.specs.Checked.{check_refusal}
 use Rattle.dds_base.specs.Kept.{WriterHistory, change_at, is_kept, numbers_from}
 use Rattle.rtps_sets.specs.NumberSet.{NumberSet, has_number, empty_from}
 use Rattle.rtps_sets.proofs.MemberLaws.{empty_has_none}
@@ -27,15 +27,15 @@ use Rattle.dds_base.specs.declared.endpoint.Endpoint.{Endpoint}
 use Rattle.dds_machine.specs.declared.reply.Move.{Move}
 use Rattle.dds_machine.specs.Numbered.{HasNumber}
 use Rattle.dds_machine.specs.Part.{IsBelow, Part, Writer, no_writer, own_writer, acknowledged_of, owed_from, writer_changes, history_of, at_writer}
-use Rattle.dds_protocol.specs.Claims.{Receiver, Names, is_for, every_peer, stamp_of, after_submessage, StandsAt, IsReader, IsWriter, IsToReader, IsToWriter, Claim, ChangeIs, MayPass, PlaceReached, Asserts, Says}
+use Rattle.dds_protocol.specs.Claims.{Receiver, is_for, stamp_of, after_submessage, StandsAt, IsReader, IsWriter, IsToReader, IsToWriter, Claim, ChangeIs, MayPass, PlaceReached, Asserts, Says}
 use Rattle.dds_protocol.specs.Peer.{IsTrueAt}
 use Rattle.dds_protocol.specs.DueMessages.{Due, answer_message, data_of, submessages_of}
 use Rattle.dds_protocol.specs.Protocol.{State, TakesAckNack, WriterTakes, AreGrouped, answered_from, has_for}
 use Rattle.dds_protocol.specs.Dues.{IsTellable, AreTellable, IsTruthful, AreTruthful}
 use Rattle.dds_protocol.proofs.Dues.{addressed, told_to, ts_says}
-use Rattle.dds_protocol.proofs.DuesAcknacks.{first_of, none_due}
+use Rattle.dds_protocol.proofs.DuesAcknacks.{none_due}
 use Rattle.dds_protocol.proofs.DuesUnkept.{Passes, unkept_dropped}
-use Rattle.dds_protocol.proofs.OwnGuids.{not_every_peer_of, not_every_reader, one_reader, one_writer, prefix-Decides}
+use Rattle.dds_protocol.proofs.OwnGuids.{one_named, one_writer}
 use Rattle.dds_protocol.proofs.RuledReaders.{Coming}
 use Rattle.dds_machine.proofs.Tables.{numbered-same, acknowledged-hits}
 
@@ -65,24 +65,8 @@ IsBetweenPeers x r = (r.source_guid_prefix ≡ x.own) × (r.dest_guid_prefix ≡
 -- the reader that a GAP names is the one that asked
 asked_by : (x : Answering) (far : GuidPrefix) (at : Receiver) → at.dest_guid_prefix ≡ x.to → (w r : Endpoint)
     → IsToReader x.config far at x.reader_entity x.entity w r → r ≡ x.reader
-asked_by x far at dest w r h = by h.entity h.named h.to
-  where
-    unknown : same_prefix x.to every_peer ≡ false
-    unknown = not_every_peer_of x.config x.to x.reader_entity x.reader x.checked x.asks
-
-    same : x.to ≡ far
-    same =
-        (prefix-Decides x.to far).0
-        (first_of (same_prefix x.to far) (same_prefix x.to every_peer)
-        (ap (λ (p : GuidPrefix). same_prefix p far || same_prefix p every_peer) (sym dest) ∙ h.is_for) unknown)
-
-    by : (entity : EntityId) → Names x.reader_entity entity → IsReader x.config far entity r → r ≡ x.reader
-    by entity (inl e) named =
-        one_reader x.config x.to x.reader_entity r x.reader x.checked
-        (subst (λ (p : GuidPrefix). IsReader x.config p x.reader_entity r) (sym same)
-        (subst (λ (i : EntityId). IsReader x.config far i r) (sym e) named)) x.asks
-    by entity (inr every) named =
-        absurd (not_every_reader x.config x.to x.reader_entity x.reader x.checked x.asks every)
+asked_by x far at dest w r h =
+    one_named x.config x.to x.reader_entity x.entity far at w r x.reader x.checked dest x.asks h
 
 -- the name in a submessage is that of the writer
 named : (x : Answering) (prefix : GuidPrefix) → prefix ≡ x.own → (w : Endpoint) → IsWriter x.config prefix x.entity w

@@ -8,11 +8,10 @@ use Rattle.std.proofs.lemmas.List.Elements.{All-map, All-nil}
 use Rattle.dds_base.specs.declared.code.Code.{Code}
 use Rattle.dds_base.specs.declared.code.Code.TheVariants.{BadParameter, OutOfResources}
 use Rattle.dds_base.specs.declared.config.Config.{Config}
-use Rattle.dds_base.specs.declared.guid.EntityId.{EntityId}
 use Rattle.dds_base.specs.declared.guid.GuidPrefix.{GuidPrefix}
 use Rattle.dds_base.specs.Checked.{check_refusal}
 use Rattle.dds_base.specs.Written.{Asserted, counts_of}
-use Rattle.rtps_wire.specs.declared.submessage.Submessage.TheVariants.{Heartbeat}
+use Rattle.rtps_wire.specs.declared.heartbeat.Heartbeat.{Heartbeat as HeartbeatBody}
 use Rattle.dds_machine.specs.declared.call.Call.TheVariants.{AssertLiveliness}
 use Rattle.dds_base.specs.declared.endpoint.Endpoint.{Endpoint}
 use Rattle.dds_machine.specs.declared.reply.Reply.TheVariants.{Done}
@@ -21,28 +20,21 @@ use Rattle.dds_machine.specs.Part.{Dds, Part, ReaderProxy, Rtps, Writer, acknowl
 use Rattle.dds_machine.specs.Calls.{CallStep, IsAnswered, effect, with_written, writes}
 use Rattle.dds_machine.specs.Refusals.{assert_refusal}
 use Rattle.dds_machine.specs.Watching.{Tests}
-use Rattle.dds_protocol.specs.Claims.{Claim, ChangeIs, MayPass, PlaceReached, Asserts, Says}
-use Rattle.dds_protocol.specs.Receipt.{prefix_of}
+use Rattle.dds_protocol.specs.Claims.{Claim, ChangeIs, MayPass, PlaceReached, Asserts}
 use Rattle.dds_protocol.specs.Peer.{IsTrueAt}
-use Rattle.dds_protocol.specs.DueMessages.{Due, assertion_message, assertions_due, writer_entity}
-use Rattle.dds_protocol.specs.Dues.{IsPartOf, IsTruthful, AreTruthful, IsSized, HasSmallChanges, CanBeWritten}
-use Rattle.dds_protocol.proofs.Dues.{addressed, told_alone}
+use Rattle.dds_protocol.specs.DueMessages.{Due, heartbeats_due_to, assertions_due}
+use Rattle.dds_protocol.specs.Dues.{IsPartOf, IsTruthful, AreTruthful, IsSized, HasSmallChanges, HasFewMatches, CanBeWritten}
+use Rattle.dds_protocol.proofs.DuesFew.{matched_few}
 use Rattle.dds_protocol.proofs.DuesGrowth.{true_on}
-use Rattle.dds_protocol.proofs.DuesHeartbeats.{Beating, all_of, beat, first_says, prefix_octets}
+use Rattle.dds_protocol.proofs.DuesHeartbeats.{Beating, IsBeatOf, SaysAt, all_of, due_says, due_writable, first_says, names_writer}
 use Rattle.dds_protocol.proofs.DuesMatched.{OwnName, own_name}
-use Rattle.dds_protocol.proofs.DuesWritable.{heartbeat_writable}
-use Rattle.dds_protocol.proofs.DuesWritten.{writer_octets}
 use Rattle.dds_protocol.proofs.Growth.{CallStep-grows, CallStep-readers}
-use Rattle.dds_protocol.proofs.OwnGuids.{one_writer}
 use Rattle.dds_machine.proofs.Tables.{no_less_same, number_there, numbered-same}
 
 -- the message that tells an assertion of the peer's writer to the peer of this number
 abbrev pub assertion_due : Config → ℕ → Part → ℕ → ℕ → Due
-assertion_due config peer part number to = record {
-  to = to;
-  message = assertion_message (prefix_of config peer) (prefix_of config to) (writer_entity config peer number)
-      (own_writer part number);
-}
+assertion_due config peer part number to =
+    heartbeats_due_to config true true peer number (own_writer part number) (own_writer part number).matched to
 
 -- it is so of each message that tells an assertion of a writer that is there and has readers
 abbrev pub OfEachTold : Config → ℕ → Part → ℕ → (Due → Type 0) → Type 0
@@ -77,8 +69,8 @@ told_each config peer part number P each = by (own_writer part number).matched r
         let lengths = ap (λ (all : List Endpoint). length all) some in
         let matched : has_readers (own_writer part number) ≡ true = grind (arith, nat_tests, lengths) in
         All-map P (assertion_due config peer part number) (peers_of (own_writer part number).matched)
-        (all_of (λ to. P (assertion_due config peer part number to)) (λ to. each (there e es some) matched to)
-        (peers_of (own_writer part number).matched))
+        (all_of (λ to. P (assertion_due config peer part number to)) (peers_of (own_writer part number).matched)
+        (λ to among. each (there e es some) matched to))
 
 -- ---- the count of an assertion
 
@@ -112,28 +104,25 @@ record HasAsserted (b : Beating) (tests : Tests) (new : Part) : Type 0 where
   step : CallStep tests b.part (AssertLiveliness b.number) Done new
 
 told_says : (b : Beating) (tests : Tests) (new : Part) → HasAsserted b tests new
-    → (far to : GuidPrefix) (claim : Claim)
-    → Says b.config far (addressed (prefix_of b.config b.peer) to) (Heartbeat (beat b true true)) claim
-    → IsTrueAt b.peer new claim
-told_says b tests new t far to (ChangeIs v r n c) h = absurd h
-told_says b tests new t far to (PlaceReached v r base) h = absurd h
-told_says b tests new t far to (MayPass v r n) h =
+    → (to : ℕ) (h : HeartbeatBody) → IsBeatOf b true true to h → (far : GuidPrefix) (claim : Claim)
+    → SaysAt b far to h claim → IsTrueAt b.peer new claim
+told_says b tests new t to h is far (ChangeIs v r n c) says = absurd says
+told_says b tests new t to h is far (PlaceReached v r base) says = absurd says
+told_says b tests new t to h is far (MayPass v r n) says =
     true_on b.peer b.part new (CallStep-grows tests b.part (AssertLiveliness b.number) Done new t.step)
     (λ w e.
     subst (λ (rows : List ReaderProxy). NoLess (acknowledged_of (own_writer b.part w).readers e)
     (acknowledged_of rows e))
     (sym (CallStep-readers tests b.part (AssertLiveliness b.number) Done new t.step tt w))
     (no_less_same (acknowledged_of (own_writer b.part w).readers e)))
-    (MayPass v r n) (first_says b true true far to v r n h)
-told_says b tests new t far to (Asserts v r k) h =
-    let me : Endpoint = record { peer = b.peer; number = b.number } in
-    let same : v ≡ me =
-    one_writer b.config (prefix_of b.config b.peer) (writer_entity b.config b.peer b.number) v me b.checked h.0.from
-    b.own.name in
+    (MayPass v r n) (first_says b true true to h is far v r n says)
+told_says b tests new t to h is far (Asserts v r k) says =
+    let same = names_writer b true true to h is v says.0.from in
     let w : Writer = own_writer b.part b.number in
     let after = asserted_writer b.part new b.number b.part.dds.moment t.there t.step.rtps in
+    let count = says.2 ∙ ap (λ (x : HeartbeatBody). x.count) is.is in
     let asserts : is_assertion (own_writer new b.number) k ≡ true =
-    ap (λ c. is_assertion (own_writer new b.number) c) h.2
+    ap (λ c. is_assertion (own_writer new b.number) c) count
     ∙ (ap (λ (x : Writer). is_assertion x (pos (heartbeats_used w + 1))) after
     ∙ next_asserts w b.part.dds.moment) in (
       ap (λ (e : Endpoint). e.peer) same,
@@ -151,11 +140,8 @@ assertions_true config tests peer writer old new checked of step =
     let own : OwnName config peer old writer = own_name config peer old of writer there in
     let b : Beating =
     record { config = config; checked = checked; peer = peer; part = old; number = writer; own = own } in
-    let t =
-    told_alone config (prefix_of config peer) (prefix_of config to)
-    (Heartbeat (beat b true true)) claim writable says in
-    told_says b tests new (record { there = there; matched = matched; step = step }) t.0
-    (prefix_of config to) claim t.1)
+    let t = due_says b true true (own_writer old writer).matched to claim writable says in
+    told_says b tests new (record { there = there; matched = matched; step = step }) to t.body t.is t.far claim t.says)
 
 -- ---- its written form
 
@@ -174,16 +160,12 @@ left_if_done false b h = cc
 pub assertions_writable : (config : Config) (tests : Tests) (peer writer : ℕ) (old new : Part)
     → IsPartOf config peer old
     → CallStep tests old (AssertLiveliness writer) Done new → IsSized config → HasSmallChanges old
+    → HasFewMatches old
     → All CanBeWritten (assertions_due config (record { peer = peer; number = writer }) (own_writer old writer))
-assertions_writable config tests peer writer old new of step sized small =
+assertions_writable config tests peer writer old new of step sized small few =
     told_each config peer old writer CanBeWritten
-    (λ there matched to places.
-    let me : Endpoint = record { peer = peer; number = writer } in
-    let entity : EntityId = writer_entity config peer writer in
-    let name = (own_name config peer old of writer there).name in
-    heartbeat_writable true true (prefix_of config peer) (prefix_of config to) entity (own_writer old writer)
-    (prefix_octets config sized peer) (prefix_octets config sized to)
-    (writer_octets config sized (prefix_of config peer) entity me name).1 (small writer).few left)
+    (λ there matched to places. due_writable config true true peer old writer to (own_writer old writer).matched of
+    sized small there (matched_few (own_writer old writer) (few writer)) left)
   where
     used : nat_le (2 ^ 31 - 1) (heartbeats_used (own_writer old writer)) ≡ false
     used =

@@ -1,31 +1,35 @@
--- A HEARTBEAT that is due at a tick claims only what its writer has dropped, or the reader has acknowledged.
-use Rattle.std.proofs.Common.{◌≡◌, ℕ, zero, suc, ◌+◌, ◌-◌, ◌^◌, ◌<◌, Bool, true, false, List, [], ◌∷◌, length, get_or, map, filter, cond, ◌||◌, nat_le, refl, subst, ap, sym, arith, nat_lt}
-use Rattle.std.specs.Prelude.{if◌then◌else◌, pos, Some, None, slice_get}
+-- A HEARTBEAT that is due at a tick claims only what its writer has dropped, or does not owe the reader, or the reader has
+-- acknowledged.
+use Rattle.std.proofs.Common.{◌≡◌, ℕ, zero, suc, ◌+◌, ◌-◌, ◌^◌, ◌<◌, ◌≤◌, Bool, true, false, ◌||◌, cond, List, [], ◌∷◌, length, Contains, get_or, map, filter, refl, subst, ap, sym, ◌∙◌, inl, inr, ⊎_elim, arith, nat_le, nat_lt}
+use Rattle.std.specs.Prelude.{if◌then◌else◌, Some, None, slice_get}
 use Rattle.std.proofs.lemmas.Bool.Decides.{nat_tests}
 use Rattle.std.specs.List.{All, list_any}
-use Rattle.std.proofs.lemmas.List.Elements.{All-append, All-map, All-nil}
+use Rattle.std.proofs.lemmas.List.Elements.{All-append, All-contains_itself, All-map, All-nil, All-weaker}
 use Rattle.dds_base.specs.declared.config.Config.{Config}
 use Rattle.dds_base.specs.declared.guid.EntityId.{EntityId}
 use Rattle.dds_base.specs.declared.guid.GuidPrefix.{GuidPrefix}
 use Rattle.dds_base.specs.Checked.{check_refusal, unknown_prefix}
 use Rattle.dds_base.specs.declared.config.PeerConfig.{PeerConfig}
-use Rattle.dds_base.specs.Kept.{first_kept}
 use Rattle.rtps_wire.specs.declared.heartbeat.Heartbeat.{Heartbeat as HeartbeatBody}
 use Rattle.rtps_wire.specs.declared.submessage.Submessage.TheVariants.{Heartbeat}
+use Rattle.rtps_wire.specs.Fields.{IsEntityId}
+use Rattle.rtps_wire.specs.Messages.{IsWritable, spelling_of}
 use Rattle.dds_base.specs.declared.endpoint.Endpoint.{Endpoint}
 use Rattle.dds_machine.specs.Numbered.{HasNumber}
-use Rattle.dds_machine.specs.Part.{Part, ReaderProxy, Writer, is_behind, no_writer, own_writer, writer_changes, heartbeats_used, history_of, peers_of}
-use Rattle.dds_protocol.specs.Claims.{every_reader, Claim, ChangeIs, MayPass, PlaceReached, Asserts, Says}
+use Rattle.dds_machine.specs.Part.{Part, ReaderProxy, Writer, is_behind, no_writer, own_writer, writer_changes, heartbeats_used, peers_of}
+use Rattle.dds_protocol.specs.Claims.{Receiver, IsWriter, IsToReader, Claim, ChangeIs, MayPass, PlaceReached, Asserts, Says, Claims}
 use Rattle.dds_protocol.specs.Receipt.{prefix_of}
 use Rattle.dds_protocol.specs.Peer.{IsTrueAt}
-use Rattle.dds_protocol.specs.DueMessages.{Due, writer_entity, readers_behind, heartbeat_message, heartbeats_of, heartbeats_from, heartbeats_due}
-use Rattle.dds_protocol.specs.Dues.{IsPartOf, IsTruthful, AreTruthful, IsSized, HasSmallChanges, CanBeWritten}
-use Rattle.dds_protocol.proofs.Dues.{addressed, told_alone}
-use Rattle.dds_protocol.proofs.DuesMatched.{OwnName, own_name}
-use Rattle.dds_protocol.proofs.DuesUnkept.{Passes, below_first_passes}
-use Rattle.dds_protocol.proofs.DuesWritable.{heartbeat_writable}
-use Rattle.dds_protocol.proofs.DuesWritten.{writer_octets}
-use Rattle.dds_protocol.proofs.OwnGuids.{one_writer}
+use Rattle.dds_protocol.specs.DueMessages.{Due, reader_entity, writer_entity, readers_behind, begins_at, heartbeats_to, heartbeats_due_to, heartbeats_of, heartbeats_from, heartbeats_due}
+use Rattle.dds_protocol.specs.Dues.{IsPartOf, IsTruthful, AreTruthful, IsSized, HasSmallChanges, AreFew, HasFewMatches, CanBeWritten}
+use Rattle.dds_protocol.proofs.BeatsTo.{BeatSays, IsBeatTo, IsToSome, are_beats, beat_says}
+use Rattle.dds_protocol.proofs.Dues.{addressed}
+use Rattle.dds_protocol.proofs.DuesFew.{behind_few}
+use Rattle.dds_protocol.proofs.DuesMatched.{OwnName, own_name, reader_named}
+use Rattle.dds_protocol.proofs.DuesUnkept.{Passes, below_begin_passes, below_first_passes}
+use Rattle.dds_protocol.proofs.DuesWritable.{heartbeats_writable}
+use Rattle.dds_protocol.proofs.DuesWritten.{reader_octets, writer_octets}
+use Rattle.dds_protocol.proofs.OwnGuids.{none_named, one_named, one_writer}
 
 -- a writer of the peer, which the configuration has
 pub record Beating : Type 0 where
@@ -36,69 +40,111 @@ pub record Beating : Type 0 where
   pub number : ℕ
   pub own : OwnName config peer part number
 
--- the next HEARTBEAT of the peer's writer of this number, with these flags
-abbrev pub beat_body : Config → ℕ → Part → ℕ → (final liveliness : Bool) → HeartbeatBody
-beat_body config peer part number final liveliness = record {
-  reader_id = every_reader;
-  writer_id = writer_entity config peer number;
-  first_sn = first_kept (history_of (own_writer part number));
-  last_sn = length (writer_changes (own_writer part number));
-  count = pos (heartbeats_used (own_writer part number) + 1);
-  final_flag = final;
-  liveliness_flag = liveliness;
-}
+-- the HEARTBEAT is one of those that are due of it to this peer, with these flags
+abbrev pub IsBeatOf : Beating → (final liveliness : Bool) → ℕ → HeartbeatBody → Type 0
+IsBeatOf b final liveliness to h =
+    IsBeatTo b.config final liveliness b.peer b.number (own_writer b.part b.number) to h
 
--- that of such a writer
-abbrev pub beat : Beating → (final liveliness : Bool) → HeartbeatBody
-beat b final liveliness = beat_body b.config b.peer b.part b.number final liveliness
+-- one of these submessages says it there
+abbrev pub SaysAt : Beating → GuidPrefix → ℕ → HeartbeatBody → Claim → Type 0
+SaysAt b far to h claim =
+    Says b.config far (addressed (prefix_of b.config b.peer) (prefix_of b.config to)) (Heartbeat h) claim
 
--- it names the writer, and claims what that one does not keep
-pub first_says : (b : Beating) (final liveliness : Bool) (far to : GuidPrefix) (v r : Endpoint) (n : ℕ)
-    → Says b.config far (addressed (prefix_of b.config b.peer) to) (Heartbeat (beat b final liveliness)) (MayPass v r n)
+-- it names the writer
+pub names_writer : (b : Beating) (final liveliness : Bool) (to : ℕ) (h : HeartbeatBody) → IsBeatOf b final liveliness to h
+    → (v : Endpoint) → IsWriter b.config (prefix_of b.config b.peer) h.writer_id v
+    → v ≡ record { peer = b.peer; number = b.number }
+names_writer b final liveliness to h is v from =
+    one_writer b.config (prefix_of b.config b.peer) (writer_entity b.config b.peer b.number) v
+    (record { peer = b.peer; number = b.number }) b.checked
+    (subst (λ (e : EntityId). IsWriter b.config (prefix_of b.config b.peer) e v)
+    (ap (λ (x : HeartbeatBody). x.writer_id) is.is) from) b.own.name
+
+-- a reader may pass over the numbers below the first of a HEARTBEAT that is to it
+passes : (b : Beating) (to : ℕ) (h : HeartbeatBody) (far : GuidPrefix) (v r : Endpoint) (n : ℕ)
+    → IsToReader b.config far (addressed (prefix_of b.config b.peer) (prefix_of b.config to)) h.reader_id h.writer_id v r
+    → 1 ≤ n → n < h.first_sn → IsToSome b.config (own_writer b.part b.number) to h.reader_id h.first_sn
+    → Passes (own_writer b.part b.number) r n
+passes b to h far v r n is_to low less (inl all) =
+    let first = all.1 in below_first_passes (own_writer b.part b.number) r n low (omega (arith, less, first))
+passes b to h far v r n is_to low less (inr one) = below_begin_passes w r n low (omega (arith, less, begins))
+  where
+    w : Writer
+    w = own_writer b.part b.number
+
+    at : Receiver
+    at = addressed (prefix_of b.config b.peer) (prefix_of b.config to)
+
+    named : EntityId
+    named = reader_entity b.config one.0.peer one.0.number
+
+    is_named : IsToReader b.config far at named h.writer_id v r
+    is_named = subst (λ (e : EntityId). IsToReader b.config far at e h.writer_id v r) one.2 is_to
+
+    same : r ≡ one.0
+    same =
+        ⊎_elim
+        (λ is. one_named b.config (prefix_of b.config one.0.peer) named h.writer_id far at v r one.0 b.checked
+        (ap (λ (k : ℕ). prefix_of b.config k) (sym one.1)) is is_named)
+        (λ none. absurd (none_named b.config h.writer_id far at v r b.checked
+        (subst (λ (e : EntityId). IsToReader b.config far at e h.writer_id v r) none is_named)))
+        (reader_named b.config one.0)
+
+    begins : h.first_sn ≡ begins_at w r
+    begins = one.3 ∙ ap (λ (e : Endpoint). begins_at w e) (sym same)
+
+-- it claims what the writer does not keep, or does not owe
+pub first_says : (b : Beating) (final liveliness : Bool) (to : ℕ) (h : HeartbeatBody) → IsBeatOf b final liveliness to h
+    → (far : GuidPrefix) (v r : Endpoint) (n : ℕ) → SaysAt b far to h (MayPass v r n)
     → IsTrueAt b.peer b.part (MayPass v r n)
-first_says b final liveliness far to v r n h =
-    let me : Endpoint = record { peer = b.peer; number = b.number } in
-    let own : GuidPrefix = prefix_of b.config b.peer in
-    let entity : EntityId = writer_entity b.config b.peer b.number in
-    let to_it = h.0.is_to in
-    let same : v ≡ me = one_writer b.config own entity v me b.checked to_it.from b.own.name in (
+first_says b final liveliness to h is far v r n says =
+    let same = names_writer b final liveliness to h is v says.0.is_to.from in (
       ap (λ (e : Endpoint). e.peer) same,
       subst (λ (e : Endpoint). Passes (own_writer b.part e.number) r n) (sym same)
-          (below_first_passes (own_writer b.part b.number) r n h.1 h.2),
+          (passes b to h far v r n says.0.is_to says.1 says.2 is.whom),
     )
 
 -- that of a tick claims nothing besides
-beat_says : (b : Beating) (far to : GuidPrefix) (claim : Claim)
-    → Says b.config far (addressed (prefix_of b.config b.peer) to) (Heartbeat (beat b false false)) claim
-    → IsTrueAt b.peer b.part claim
-beat_says b far to (ChangeIs v r n c) h = absurd h
-beat_says b far to (PlaceReached v r base) h = absurd h
-beat_says b far to (Asserts v r k) h = absurd cc
-beat_says b far to (MayPass v r n) h = first_says b false false far to v r n h
+tick_says : (b : Beating) (to : ℕ) (h : HeartbeatBody) → IsBeatOf b false false to h → (far : GuidPrefix) (claim : Claim)
+    → SaysAt b far to h claim → IsTrueAt b.peer b.part claim
+tick_says b to h is far (ChangeIs v r n c) says = absurd says
+tick_says b to h is far (PlaceReached v r base) says = absurd says
+tick_says b to h is far (Asserts v r k) says =
+    let flag = sym says.1 ∙ ap (λ (x : HeartbeatBody). x.liveliness_flag) is.is in absurd cc
+tick_says b to h is far (MayPass v r n) says = first_says b false false to h is far v r n says
 
--- the message with the HEARTBEAT of a writer, to the peer of this number
+-- the message with the HEARTBEATs of a tick, to the peer of this number
 abbrev pub heartbeat_due : Config → ℕ → Part → ℕ → ℕ → Due
-heartbeat_due config peer part number to = record {
-  to = to;
-  message = heartbeat_message (prefix_of config peer) (prefix_of config to) (writer_entity config peer number)
-      (own_writer part number);
-}
+heartbeat_due config peer part number to =
+    heartbeats_due_to config false false peer number (own_writer part number) (readers_behind (own_writer part number))
+    to
 
--- That message is true.
+-- what a message with such HEARTBEATs claims, one of them says
+pub due_says : (b : Beating) (final liveliness : Bool) (readers : List Endpoint) (to : ℕ) (claim : Claim)
+    → IsWritable (heartbeats_due_to b.config final liveliness b.peer b.number (own_writer b.part b.number) readers to).message
+    → Claims b.config (spelling_of (heartbeats_due_to b.config final liveliness b.peer b.number
+    (own_writer b.part b.number) readers to).message) claim
+    → BeatSays b.config (prefix_of b.config b.peer) (prefix_of b.config to) (IsBeatOf b final liveliness to) claim
+due_says b final liveliness readers to claim writable says =
+    beat_says b.config (prefix_of b.config b.peer) (prefix_of b.config to) (IsBeatOf b final liveliness to)
+    (heartbeats_to b.config final liveliness b.peer b.number (own_writer b.part b.number) readers to) claim
+    (are_beats b.config final liveliness b.peer b.number (own_writer b.part b.number) readers to) writable says
+
+-- That of a tick is true.
 beat_truthful : (b : Beating) (to : ℕ)
     → IsTruthful b.config b.peer b.part (heartbeat_due b.config b.peer b.part b.number to)
 beat_truthful b to claim writable says =
-    let own : GuidPrefix = prefix_of b.config b.peer in
-    let t = told_alone b.config own (prefix_of b.config to) (Heartbeat (beat b false false)) claim writable says in
-    beat_says b t.0 (prefix_of b.config to) claim t.1
+    let t = due_says b false false (readers_behind (own_writer b.part b.number)) to claim writable says in
+    tick_says b to t.body t.is t.far claim t.says
 
 -- ---- all that is due at a tick
 
--- it is so of each HEARTBEAT of the peer's writers that a reader is behind, while there are counts left
+-- it is so of each message with HEARTBEATs of the peer's writers, to the peers of those that are behind, while there are
+-- counts left
 abbrev pub OfEach : Config → ℕ → Part → (Due → Type 0) → Type 0
 OfEach config peer part P =
     (number to : ℕ) → HasNumber part.rtps.writers number → heartbeats_used (own_writer part number) < 2 ^ 31 - 1
-    → is_behind (own_writer part number) ≡ true → P (heartbeat_due config peer part number to)
+    → Contains (peers_of (readers_behind (own_writer part number))) to → P (heartbeat_due config peer part number to)
 
 -- what none passes has nothing left
 none_left : {X : Type 0} (test : X → Bool) (xs : List X) → list_any test xs ≡ false → filter test xs ≡ []
@@ -110,9 +156,21 @@ none_left {X = X} test (x ∷ xs) none = by (test x) (list_any test xs) none (λ
     by true b h later = cc
     by false b h later = later h
 
--- what is so of all is so of those in a list
-pub all_of : {X : Type 0} (P : X → Type 0) → ((x : X) → P x) → (xs : List X) → All P xs
-all_of P f xs = λ i d lt. f (get_or xs i d)
+-- some reader is behind where there is a peer of one
+pub some_behind : (w : Writer) (to : ℕ) → Contains (peers_of (readers_behind w)) to → is_behind w ≡ true
+some_behind w to among = by (is_behind w) refl
+  where
+    by : (b : Bool) → is_behind w ≡ b → is_behind w ≡ true
+    by true is = is
+    by false is =
+        let empty : peers_of (readers_behind w) ≡ [] =
+        ap (λ (ps : List ReaderProxy). peers_of (map (λ (p : ReaderProxy). p.reader) ps))
+        (none_left (λ (p : ReaderProxy). nat_le p.acknowledged (length (writer_changes w))) w.readers is) in
+        let none = ap (λ (ns : List ℕ). length ns) empty in let lt = among.1 in absurd (omega (arith, none, lt))
+
+-- what is so of each element of a list is so of all
+pub all_of : {X : Type 0} (P : X → Type 0) (xs : List X) → ((x : X) → Contains xs x → P x) → All P xs
+all_of P xs f = All-weaker (Contains xs) P f xs (All-contains_itself xs)
 
 -- the HEARTBEATs of one writer
 of_writer : (config : Config) (peer : ℕ) (part : Part) (P : Due → Type 0) → OfEach config peer part P → (number : ℕ)
@@ -128,19 +186,10 @@ of_writer config peer part P each number there = by (nat_lt (heartbeats_used w) 
     by : (left : Bool) → nat_lt (heartbeats_used w) (2 ^ 31 - 1) ≡ left
         → All P (if left then map (heartbeat_due config peer part number) ends else [])
     by true e =
-        let left : heartbeats_used w < 2 ^ 31 - 1 = grind (arith, nat_tests) in behind left (is_behind w) refl
-      where
-        behind : heartbeats_used w < 2 ^ 31 - 1 → (b : Bool) → is_behind w ≡ b
-            → All P (map (heartbeat_due config peer part number) ends)
-        behind left true is =
-            All-map P (heartbeat_due config peer part number) ends
-            (all_of (λ to. P (heartbeat_due config peer part number to)) (λ to. each number to there left is) ends)
-        behind left false none =
-            let empty : readers_behind w ≡ [] =
-            ap (λ (ps : List ReaderProxy). map (λ (p : ReaderProxy). p.reader) ps)
-            (none_left (λ (p : ReaderProxy). nat_le p.acknowledged (length (writer_changes w))) w.readers none) in
-            subst (λ (es : List Endpoint). All P (map (heartbeat_due config peer part number) (peers_of es)))
-            (sym empty) (All-nil P)
+        let left : heartbeats_used w < 2 ^ 31 - 1 = grind (arith, nat_tests) in
+        All-map P (heartbeat_due config peer part number) ends
+        (all_of (λ to. P (heartbeat_due config peer part number to)) ends
+        (λ to among. each number to there left among))
     by false e = All-nil P
 
 -- these are the peer's writers from this number on
@@ -180,7 +229,7 @@ pub heartbeats_truthful : (config : Config) (peer : ℕ) (part : Part) → check
     → IsPartOf config peer part → AreTruthful config peer part (heartbeats_due config peer part)
 heartbeats_truthful config peer part checked of =
     of_all config peer part (IsTruthful config peer part)
-    (λ number to there left behind.
+    (λ number to there left among.
     let own : OwnName config peer part number = own_name config peer part of number there in
     beat_truthful
     (record { config = config; checked = checked; peer = peer; part = part; number = number; own = own }) to)
@@ -201,15 +250,30 @@ prefix_octets config sized (suc i) =
     let back : k ≡ k + 1 - 1 = omega arith in
     sized.prefix (k + 1) p (omega arith, subst (λ (n : ℕ). slice_get config.peers n ≡ Some p) back at))
 
--- All that is due at a tick can be written.
-pub heartbeats_writable : (config : Config) (peer : ℕ) (part : Part) → IsPartOf config peer part → IsSized config
-    → HasSmallChanges part → All CanBeWritten (heartbeats_due config peer part)
-heartbeats_writable config peer part of sized small =
-    of_all config peer part CanBeWritten
-    (λ number to there left behind places.
+-- the names of the writer and of each reader have their octets
+pub reader_sized : (config : Config) → IsSized config → (r : Endpoint)
+    → IsEntityId (reader_entity config r.peer r.number)
+reader_sized config sized r =
+    ⊎_elim (λ is. (reader_octets config sized (prefix_of config r.peer) (reader_entity config r.peer r.number) r is).1)
+    (λ none. subst (λ (e : EntityId). IsEntityId e) (sym none) refl) (reader_named config r)
+
+pub due_writable : (config : Config) (final liveliness : Bool) (peer : ℕ) (part : Part) (number to : ℕ)
+    (readers : List Endpoint) → IsPartOf config peer part → IsSized config → HasSmallChanges part
+    → HasNumber part.rtps.writers number → AreFew readers → heartbeats_used (own_writer part number) < 2 ^ 31 - 1
+    → IsWritable (heartbeats_due_to config final liveliness peer number (own_writer part number) readers to).message
+due_writable config final liveliness peer part number to readers of sized small there few left =
     let me : Endpoint = record { peer = peer; number = number } in
     let entity : EntityId = writer_entity config peer number in
     let name = (own_name config peer part of number there).name in
-    heartbeat_writable false false (prefix_of config peer) (prefix_of config to) entity (own_writer part number)
+    heartbeats_writable config final liveliness peer number to (own_writer part number) readers
     (prefix_octets config sized peer) (prefix_octets config sized to)
-    (writer_octets config sized (prefix_of config peer) entity me name).1 (small number).few left)
+    (writer_octets config sized (prefix_of config peer) entity me name).1 (reader_sized config sized) (few to)
+    (small number).few left
+
+-- All that is due at a tick can be written.
+pub ticks_writable : (config : Config) (peer : ℕ) (part : Part) → IsPartOf config peer part → IsSized config
+    → HasSmallChanges part → HasFewMatches part → All CanBeWritten (heartbeats_due config peer part)
+ticks_writable config peer part of sized small few =
+    of_all config peer part CanBeWritten
+    (λ number to there left among places. due_writable config false false peer part number to
+    (readers_behind (own_writer part number)) of sized small there (behind_few (own_writer part number) (few number)) left)

@@ -1,6 +1,7 @@
--- A writer of a configuration has its name there, and each reader of its topic has a row at it.
+-- A writer and a reader of a configuration have their names there, and each reader of a topic has a row at its writers.
 use Rattle.std.proofs.Common.{◌≡◌, ◌⊎◌, ℕ, zero, suc, ◌+◌, ◌-◌, ◌<◌, Bool, true, false, ◌&&◌, cond, List, [], ◌∷◌, Option, Some, Contains, map, length, slice_get, refl, subst, ap, sym, ◌∙◌, inl, inr, ⊎_elim, arith, eq-eqb}
 use Rattle.std.specs.Option.{option_map, option_map_or}
+use Rattle.std.proofs.lemmas.List.{length-map}
 use Rattle.std.proofs.lemmas.List.Elements.{Contains-append_left, Contains-append_right}
 use Rattle.std.proofs.lemmas.Option.{same_Some}
 use Rattle.dds_base.specs.declared.config.Config.{Config}
@@ -9,14 +10,16 @@ use Rattle.dds_base.specs.declared.config.ReaderConfig.{ReaderConfig}
 use Rattle.dds_base.specs.declared.config.WriterConfig.{WriterConfig}
 use Rattle.dds_base.specs.declared.guid.EntityId.{EntityId}
 use Rattle.dds_base.specs.declared.guid.GuidPrefix.{GuidPrefix}
+use Rattle.dds_base.specs.Checked.{unknown_prefix}
 use Rattle.dds_base.specs.Matched.{same_topic, is_reliable_reader, of_reliable_readers}
 use Rattle.dds_base.specs.MatchedAt.{of_readers_in}
 use Rattle.dds_base.specs.declared.endpoint.Endpoint.{Endpoint}
-use Rattle.dds_machine.specs.Numbered.{HasNumber}
+use Rattle.dds_machine.specs.Numbered.{numbered, HasNumber}
 use Rattle.dds_machine.specs.Part.{Part, ReaderProxy, same_endpoint, row_of, acknowledged_of}
-use Rattle.dds_protocol.specs.Claims.{IsNumbered, IsWriter, every_reader}
+use Rattle.dds_machine.proofs.Tables.{number_there}
+use Rattle.dds_protocol.specs.Claims.{IsNumbered, IsReader, IsWriter, every_reader, participant_entity}
 use Rattle.dds_protocol.specs.Receipt.{prefix_of}
-use Rattle.dds_protocol.specs.DueMessages.{writer_entity}
+use Rattle.dds_protocol.specs.DueMessages.{reader_entity, writer_entity}
 use Rattle.dds_protocol.specs.Dues.{IsPartOf}
 use Rattle.dds_protocol.proofs.Composed.{front_or_rest, later_in}
 use Rattle.dds_protocol.proofs.InOrder.{same_self}
@@ -134,6 +137,78 @@ own_name config peer part of number there =
             ∙ ap (λ (o : Option WriterConfig). option_map_or (λ (w : WriterConfig). w.entity) o every_reader) found.1);
       };
     }
+
+-- ---- a peer's readers
+
+-- the peer of this number, or one that has nothing
+abbrev peer_there : Config → ℕ → PeerConfig
+peer_there config n = numbered config.peers n (record { prefix = unknown_prefix; writers = []; readers = [] })
+
+get_map : {X Y : Type 0} (f : X → Y) (xs : List X) (i : ℕ) (x : X) → slice_get xs i ≡ Some x
+    → slice_get (map f xs) i ≡ Some (f x)
+get_map f [] i x at = cc
+get_map f (y ∷ ys) zero x at = ap (λ z. Some (f z)) (same_Some y x at)
+get_map f (y ∷ ys) (suc i) x at = get_map f ys i x at
+
+entity_there : (ps : List ReaderConfig) (k : ℕ) (r : ReaderConfig) → IsNumbered ps k r
+    → numbered (map (λ (x : ReaderConfig). x.entity) ps) k participant_entity ≡ r.entity
+entity_there ps k r at =
+    numbered_is (map (λ (x : ReaderConfig). x.entity) ps) k r.entity participant_entity at.0
+    (get_map (λ (x : ReaderConfig). x.entity) ps (k - 1) r at.1)
+
+-- the entity id of a reader that the configuration has
+pub reader_entity_is : (config : Config) (prefix : GuidPrefix) (entity : EntityId) (r : Endpoint)
+    → IsReader config prefix entity r → reader_entity config r.peer r.number ≡ entity
+reader_entity_is config prefix entity r is =
+    ap (λ (p : PeerConfig). numbered (map (λ (x : ReaderConfig). x.entity) p.readers) r.number participant_entity)
+    (numbered_is config.peers r.peer is.peer _ is.at_peer.0 is.at_peer.1)
+    ∙ (entity_there is.peer.readers r.number is.end is.at_reader ∙ is.same_entity)
+
+none_there : {X : Type 0} (n : ℕ) (x : X) → numbered [] n x ≡ x
+none_there zero x = refl
+none_there (suc n) x = refl
+
+-- the element of a number that there is
+element : {X : Type 0} (xs : List X) (n : ℕ) → HasNumber xs n → (x : X) × IsNumbered xs n x
+element xs n there =
+    let low = there.0 in
+    let high = there.1 in
+    let found = get_some xs (n - 1) (omega (arith, low, high)) in (found.0, (low, found.1))
+
+-- the configuration has the reader, with that entity id, or this is no reader's
+pub reader_named : (config : Config) (r : Endpoint)
+    → IsReader config (prefix_of config r.peer) (reader_entity config r.peer r.number) r
+    ⊎ (reader_entity config r.peer r.number ≡ participant_entity)
+reader_named config r =
+    ⊎_elim (λ there. let p = element config.peers r.peer there in of_peer p.0 p.1) (λ e. inr (none e))
+    (number_there config.peers r.peer (peer_there config 0))
+  where
+    entity_in : PeerConfig → EntityId
+    entity_in p = numbered (map (λ (x : ReaderConfig). x.entity) p.readers) r.number participant_entity
+
+    none : peer_there config r.peer ≡ peer_there config 0 → reader_entity config r.peer r.number ≡ participant_entity
+    none e = ap entity_in e ∙ none_there r.number participant_entity
+
+    of_peer : (p : PeerConfig) → IsNumbered config.peers r.peer p
+        → IsReader config (prefix_of config r.peer) (reader_entity config r.peer r.number) r
+        ⊎ (reader_entity config r.peer r.number ≡ participant_entity)
+    of_peer p at =
+        let same : peer_there config r.peer ≡ p = numbered_is config.peers r.peer p _ at.0 at.1 in
+        ⊎_elim
+        (λ there.
+        let high = there.1 in
+        let count = length-map p.readers (λ (x : ReaderConfig). x.entity) in
+        let found = element p.readers r.number (there.0, omega (arith, high, count)) in
+        inl (record {
+          peer = p;
+          at_peer = at;
+          same_prefix = ap (λ (x : PeerConfig). x.prefix) (sym same);
+          end = found.0;
+          at_reader = found.1;
+          same_entity = sym (ap entity_in same ∙ entity_there p.readers r.number found.0 found.1);
+        }))
+        (λ e. inr (ap entity_in same ∙ e))
+        (number_there (map (λ (x : ReaderConfig). x.entity) p.readers) r.number participant_entity)
 
 -- two names of one writer are told of one entry
 pub same_end : (config : Config) (p q : GuidPrefix) (d e : EntityId) (v w : Endpoint) (x : IsWriter config p d v)

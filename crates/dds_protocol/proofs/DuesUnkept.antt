@@ -1,13 +1,15 @@
 -- What a writer does not keep, a matched reader has acknowledged, or it is dropped.
-use Rattle.std.proofs.Common.{◌≡◌, ◌⊎◌, ℕ, zero, suc, ◌+◌, ◌<◌, ◌≤◌, Bool, true, false, cond, List, [], ◌∷◌, Option, Some, None, map, get_or, length, refl, subst, ap, sym, ◌∙◌, inl, inr, ⊎_elim, arith}
+use Rattle.std.proofs.Common.{◌≡◌, ◌⊎◌, ℕ, zero, suc, ◌+◌, ◌<◌, ◌≤◌, Bool, true, false, cond, List, [], ◌∷◌, Option, Some, None, map, max, min, get_or, length, refl, subst, ap, sym, ◌∙◌, inl, inr, ⊎_elim, arith}
 use Rattle.std.specs.Prelude.{find, nat_lt}
-use Rattle.std.specs.Option.{option_map, unwrap_or}
+use Rattle.std.specs.Option.{option_map, option_map_or, unwrap_or}
+use Rattle.std.proofs.lemmas.Bool.{cases_lt}
 use Rattle.std.proofs.lemmas.Bool.Decides.{nat_tests}
 use Rattle.std.proofs.lemmas.Option.{same_Some}
 use Rattle.dds_base.specs.Kept.{WriterHistory, numbers_from, is_kept, is_dropped, first_kept}
 use Rattle.rtps_writer.proofs.AnswerFacts.{unkept-is-dropped}
 use Rattle.dds_base.specs.declared.endpoint.Endpoint.{Endpoint}
 use Rattle.dds_machine.specs.Part.{ReaderProxy, Writer, same_endpoint, row_of, acknowledged_of, owed_from, writer_changes, history_of, IsBelow}
+use Rattle.dds_protocol.specs.DueMessages.{owed_to, begins_at}
 use Rattle.dds_protocol.proofs.Framing.{number_or_not}
 use Rattle.dds_protocol.proofs.Owing.{owed_apart}
 
@@ -105,3 +107,22 @@ below_first_passes w r n low h = row (acknowledged_of w.readers r) refl
         let below = (below_first (history_of w) n low h).1 in
         inr (inl (omega (arith, apart, below)))
     row (Some a) is = row_passes w r a n is low h
+
+-- so may a reader over the numbers below where a HEARTBEAT to it begins
+pub below_begin_passes : (w : Writer) (r : Endpoint) (n : ℕ) → 1 ≤ n → n < begins_at w r → Passes w r n
+below_begin_passes w r n low h = by (row_of (λ (p : ReaderProxy). p.reader) w.readers r) refl h
+  where
+    first : ℕ
+    first = first_kept (history_of w)
+
+    last : ℕ
+    last = length (writer_changes w)
+
+    by : (o : Option ReaderProxy) → row_of (λ (p : ReaderProxy). p.reader) w.readers r ≡ o
+        → n < max first (option_map_or (owed_to w) o 0) → Passes w r n
+    by None none less = below_first_passes w r n low (omega (arith, less))
+    by (Some p) row less =
+        let owed : owed_from w r ≡ owed_to w p =
+        ap (λ (o : Option ReaderProxy). min (option_map_or (λ (q : ReaderProxy). q.first) o (last + 1)) (last + 1)) row in
+        ⊎_elim (λ below. below_first_passes w r n low below) (λ more. inr (inl (omega (arith, owed, less, more))))
+        (cases_lt n first)

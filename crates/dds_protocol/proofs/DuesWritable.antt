@@ -1,25 +1,34 @@
 -- The messages that are due can be written: their numbers are small, and they are short.
-use Rattle.std.proofs.Common.{◌≡◌, ℕ, zero, suc, ◌+◌, ◌-◌, ◌*◌, ◌^◌, ◌<◌, ◌≤◌, Bool, true, false, cond, List, [], ◌∷◌, ◌++◌, Option, Some, None, length, length-append, nat_lt, refl, subst, sym, arith}
-use Rattle.std.specs.Prelude.{FitsSigned, find, if◌then◌else◌, nat_le, pos, slice_get}
+use Rattle.std.proofs.Common.{◌≡◌, ℕ, zero, suc, ◌+◌, ◌-◌, ◌*◌, ◌^◌, ◌<◌, ◌≤◌, Bool, true, false, cond, List, [], ◌∷◌, ◌++◌, Option, Some, None, length, length-append, map, max, nat_lt, refl, subst, sym, arith}
+use Rattle.std.specs.Prelude.{FitsSigned, filter, find, if◌then◌else◌, nat_le, pos, slice_get, ◌==◌}
 use Rattle.std.proofs.Math.Nat.{suc-mul}
 use Rattle.std.specs.Int.{w32}
-use Rattle.std.specs.List.{All, AllByRecursion, flat_map}
-use Rattle.std.specs.Option.{unwrap_or}
+use Rattle.std.specs.List.{All, AllByRecursion, count_by, flat_map}
+use Rattle.std.specs.Option.{option_map_or, unwrap_or}
 use Rattle.std.proofs.lemmas.Bool.Decides.{nat_tests}
 use Rattle.std.proofs.lemmas.Int.{fits_signed_from_abs}
+use Rattle.std.proofs.lemmas.List.{length-map}
 use Rattle.std.proofs.lemmas.List.Elements.{All-head, All-tail}
+use Rattle.std.proofs.lemmas.List.Sums.{length-filter}
 use Rattle.dds_base.specs.declared.change.Change.{Change}
+use Rattle.dds_base.specs.declared.config.Config.{Config}
+use Rattle.dds_base.specs.declared.endpoint.Endpoint.{Endpoint}
 use Rattle.dds_base.specs.declared.guid.EntityId.{EntityId}
 use Rattle.dds_base.specs.declared.guid.GuidPrefix.{GuidPrefix}
+use Rattle.dds_base.specs.Bounds.{max_ends}
 use Rattle.dds_base.specs.Kept.{WriterHistory, change_at, is_kept, first_kept, numbers_from}
 use Rattle.rtps_reader.specs.declared.step.AckNackDue.{AckNackDue}
 use Rattle.rtps_reader.specs.Answer.{AnswersHeartbeat}
 use Rattle.rtps_reader.specs.Tracked.{Tracked}
 use Rattle.rtps_wire.specs.declared.data.Data.{Data as DataBody}
+use Rattle.rtps_wire.specs.declared.heartbeat.Heartbeat.{Heartbeat as HeartbeatBody}
+use Rattle.rtps_wire.specs.declared.message.Message.{Message}
 use Rattle.rtps_wire.specs.declared.submessage.Submessage.{Submessage}
+use Rattle.rtps_wire.specs.declared.submessage.Submessage.TheVariants.{InfoDst, Heartbeat}
 use Rattle.rtps_wire.specs.Content.{content_of}
 use Rattle.rtps_wire.specs.Data.{IsContent, IsData}
 use Rattle.rtps_wire.specs.Fields.{IsEntityId}
+use Rattle.rtps_wire.specs.Heartbeat.{IsHeartbeat}
 use Rattle.rtps_wire.specs.Messages.{IsWritable}
 use Rattle.rtps_wire.specs.Sets.{IsSet}
 use Rattle.rtps_wire.specs.Submessages.{IsSpellable, all_value_octets}
@@ -27,9 +36,12 @@ use Rattle.rtps_wire.proofs.ContentLaws.{content_octets}
 use Rattle.rtps_wire.proofs.LengthLaws.{short_writable}
 use Rattle.rtps_writer.specs.declared.answer.Answer.{Answer}
 use Rattle.rtps_writer.specs.declared.answer.Answer.TheVariants.{Data as AnswersData, Gap as AnswersGap}
-use Rattle.dds_machine.specs.Part.{Writer, writer_changes, heartbeats_used, history_of}
-use Rattle.dds_protocol.specs.DueMessages.{acknack_message, answer_message, data_of, submessages_of, heartbeat_with}
+use Rattle.dds_machine.specs.Part.{ReaderProxy, Writer, row_of, writer_changes, heartbeats_used, history_of}
+use Rattle.dds_protocol.specs.DueMessages.{acknack_message, answer_message, data_of, submessages_of, reader_entity, writer_entity, owed_to, begins_at, is_one_for_all, heartbeat_from, heartbeats_due_to}
+use Rattle.dds_protocol.specs.Claims.{every_reader}
 use Rattle.dds_protocol.specs.Protocol.{answers_per}
+use Rattle.dds_protocol.specs.Receipt.{prefix_of}
+use Rattle.dds_protocol.proofs.BeatsTo.{beat_body}
 use Rattle.dds_protocol.proofs.Growth.{change_at-within}
 
 -- a count from 1 to 2^31 - 1
@@ -87,29 +99,95 @@ first_within w =
     subst (λ (n : ℕ). (1 ≤ unwrap_or (find test (numbers_from 1 (length w.changes))) n) × (unwrap_or
     (find test (numbers_from 1 (length w.changes))) n ≤ n)) count (found_within test 1 (length w.changes))
 
--- That of a writer with fewer than 2^62 changes can be written, while there are counts left.
-pub heartbeat_writable : (final liveliness : Bool) (own to : GuidPrefix) (writer : EntityId) (w : Writer)
-    → length own.0 ≡ 12 → length to.0 ≡ 12 → IsEntityId writer → length (writer_changes w) < 2 ^ 62
-    → heartbeats_used w < 2 ^ 31 - 1 → IsWritable (heartbeat_with final liveliness own to writer w)
-heartbeat_writable final liveliness own to writer w own_octets to_octets writer_octets few left =
-    let first = first_within (history_of w) in
-    let low = first.0 in
-    let high = first.1 in
-    short_writable (heartbeat_with final liveliness own to writer w) own_octets (
-      to_octets,
-      (
-        record {
-          reader = refl;
-          writer = writer_octets;
-          first = low;
-          not_past = high;
-          first_small = omega (arith, high, few);
-          last_small = omega (arith, few);
-          count = count_fits (heartbeats_used w) left;
-        },
-        tt,
-      ),
-    ) (omega arith)
+-- One of a writer with fewer than 2^62 changes can be written, while there are counts left.
+pub beat_spellable : (final liveliness : Bool) (reader writer : EntityId) (first : ℕ) (w : Writer) → IsEntityId reader
+    → IsEntityId writer → (1 ≤ first) × (first ≤ length (writer_changes w) + 1) → length (writer_changes w) < 2 ^ 62
+    → heartbeats_used w < 2 ^ 31 - 1 → IsSpellable (heartbeat_from final liveliness reader writer first w)
+beat_spellable final liveliness reader writer first w of_reader of_writer within few left =
+    let low = within.0 in
+    let high = within.1 in
+    record {
+      reader = of_reader;
+      writer = of_writer;
+      first = low;
+      not_past = high;
+      first_small = omega (arith, high, few);
+      last_small = omega (arith, few);
+      count = count_fits (heartbeats_used w) left;
+    }
+
+-- where it begins: no later than at the number of the next change
+begins_within : (w : Writer) (r : Endpoint) → (1 ≤ begins_at w r) × (begins_at w r ≤ length (writer_changes w) + 1)
+begins_within w r = by (row_of (λ (p : ReaderProxy). p.reader) w.readers r)
+  where
+    first : (1 ≤ first_kept (history_of w)) × (first_kept (history_of w) ≤ length (writer_changes w) + 1)
+    first = first_within (history_of w)
+
+    by : (o : Option ReaderProxy) → (1 ≤ max (first_kept (history_of w)) (option_map_or (owed_to w) o 0))
+        × (max (first_kept (history_of w)) (option_map_or (owed_to w) o 0) ≤ length (writer_changes w) + 1)
+    by None = let low = first.0 in let high = first.1 in (omega (arith, low), omega (arith, high))
+    by (Some p) = let low = first.0 in let high = first.1 in (omega (arith, low), omega (arith, high))
+
+-- these are HEARTBEATs that can be written
+record AreWritten (ss : List Submessage) : Type 0 where
+  each : AllByRecursion IsSpellable ss
+  light : all_value_octets ss ≡ 0
+
+-- those by name
+named_written : {X : Type 0} (beat : X → HeartbeatBody) → ((x : X) → IsHeartbeat (beat x)) → (xs : List X)
+    → AreWritten (map (λ x. Heartbeat (beat x)) xs)
+named_written beat each [] = record { each = tt; light = refl }
+named_written beat each (x ∷ xs) =
+    let rest = named_written beat each xs in
+    let light = rest.light in record { each = (each x, rest.each); light = omega (arith, light) }
+
+-- The message with those to a peer can be written, where that one has few of the readers.
+pub heartbeats_writable : (config : Config) (final liveliness : Bool) (peer number to : ℕ) (w : Writer)
+    (readers : List Endpoint) → length (prefix_of config peer).0 ≡ 12 → length (prefix_of config to).0 ≡ 12
+    → IsEntityId (writer_entity config peer number)
+    → ((r : Endpoint) → IsEntityId (reader_entity config r.peer r.number))
+    → count_by (λ (r : Endpoint). r.peer == to) readers ≤ max_ends → length (writer_changes w) < 2 ^ 62
+    → heartbeats_used w < 2 ^ 31 - 1
+    → IsWritable (heartbeats_due_to config final liveliness peer number w readers to).message
+heartbeats_writable config final liveliness peer number to w readers own_octets to_octets of_writer of_reader few small
+    left = by (is_one_for_all w to)
+  where
+    entity : EntityId
+    entity = writer_entity config peer number
+
+    here : List Endpoint
+    here = filter (λ (r : Endpoint). r.peer == to) readers
+
+    beats : Bool → List Submessage
+    beats b =
+        if b then heartbeat_from final liveliness every_reader entity (first_kept (history_of w)) w ∷ []
+        else map (λ (r : Endpoint). heartbeat_from final liveliness (reader_entity config r.peer r.number) entity
+        (begins_at w r) w) here
+
+    message : Bool → Message
+    message b = record { prefix = prefix_of config peer; submessages = InfoDst (prefix_of config to) ∷ beats b }
+
+    by : (b : Bool) → IsWritable (message b)
+    by true =
+        let first = first_within (history_of w) in
+        short_writable (message true) own_octets (
+          to_octets,
+          (
+            beat_spellable final liveliness every_reader entity (first_kept (history_of w)) w refl of_writer
+                first small left,
+            tt,
+          ),
+        ) (omega arith)
+    by false =
+        let written : AreWritten (beats false) =
+        named_written (λ (r : Endpoint). beat_body final liveliness (reader_entity config r.peer r.number) entity
+        (begins_at w r) w) (λ r. beat_spellable final liveliness (reader_entity config r.peer r.number) entity
+        (begins_at w r) w (of_reader r) of_writer (begins_within w r) small left) here in
+        let light = written.light in
+        let same = length-map here (λ (r : Endpoint). heartbeat_from final liveliness
+        (reader_entity config r.peer r.number) entity (begins_at w r) w) in
+        let count = length-filter (λ (r : Endpoint). r.peer == to) readers in
+        short_writable (message false) own_octets (to_octets, written.each) (omega (arith, light, same, count, few))
 
 -- ---- answers
 

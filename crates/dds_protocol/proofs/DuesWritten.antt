@@ -44,7 +44,7 @@ none_written dues none = subst (λ (ds : List Due). All CanBeWritten ds) (sym no
 -- ---- names of a configuration
 
 -- a reader's peer has a prefix of 12 octets, and the reader an entity id of 4
-reader_octets : (config : Config) → IsSized config → (prefix : GuidPrefix) (entity : EntityId) (r : Endpoint)
+pub reader_octets : (config : Config) → IsSized config → (prefix : GuidPrefix) (entity : EntityId) (r : Endpoint)
     → IsReader config prefix entity r → (length prefix.0 ≡ 12) × IsEntityId entity
 reader_octets config sized prefix entity r is = (
   subst (λ (p : GuidPrefix). length p.0 ≡ 12) is.same_prefix (sized.prefix r.peer is.peer is.at_peer),

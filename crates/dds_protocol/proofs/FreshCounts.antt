@@ -10,6 +10,7 @@ use Rattle.dds_base.specs.declared.guid.EntityId.{EntityId}
 use Rattle.dds_base.specs.declared.guid.GuidPrefix.{GuidPrefix}
 use Rattle.dds_base.specs.Checked.{check_refusal}
 use Rattle.dds_base.specs.Written.{Written, Registered, Changed, Asserted, LookedAt, StrengthSet, Ticked, counts_of}
+use Rattle.rtps_wire.specs.declared.heartbeat.Heartbeat.{Heartbeat as HeartbeatBody}
 use Rattle.rtps_wire.specs.declared.submessage.Submessage.{Submessage}
 use Rattle.rtps_wire.specs.Messages.{IsWritable, spelling_of}
 use Rattle.dds_machine.specs.declared.call.Call.{Call}
@@ -29,23 +30,24 @@ use Rattle.dds_machine.specs.Moves.{Grounds}
 use Rattle.dds_machine.specs.Ticks.{ticked, after_tick, TickStep}
 use Rattle.dds_machine.specs.Calls.{Effect, nothing, writes, tells, looks_at_matches, effect, effect_of, with_written}
 use Rattle.dds_machine.specs.Watching.{Tests}
-use Rattle.dds_protocol.specs.Claims.{Receiver, receiver_of, after_submessage, every_reader}
+use Rattle.dds_protocol.specs.Claims.{Receiver, receiver_of, after_submessage, every_reader, IsWriter}
 use Rattle.dds_protocol.specs.Receipt.{TakesUp, Receives, prefix_of}
 use Rattle.dds_protocol.specs.Dues.{IsPartOf}
 use Rattle.dds_machine.specs.Machine.{Machine, AllTests, part_at, writer_at}
 use Rattle.dds_protocol.specs.Peer.{Peer, EventStep, Knows, no_peer, claimed, claimed_by, packets_of, state_of}
-use Rattle.dds_protocol.specs.DueMessages.{Due, writer_entity, change_message, heartbeat_with, assertions_due, heartbeats_due}
+use Rattle.dds_protocol.specs.DueMessages.{Due, writer_entity, change_message, readers_behind, heartbeats_to, heartbeats_due_to, assertions_due, heartbeats_due}
 use Rattle.dds_protocol.specs.Protocol.{Known, State, TakesPacket}
 use Rattle.dds_protocol.specs.Resuming.{Resumes}
 use Rattle.dds_protocol.specs.World.{WorldState, WorldStep, PeerSteps, peer_at, machine_of}
 use Rattle.dds_protocol.specs.Rules.{announcements_due, AreDue, RuledStep}
 use Rattle.dds_protocol.specs.Fresh.{HasHeartbeat, HasAckNack, heartbeats_used_at, tracked_at, acknacks_used_at, HasUsedCounts}
+use Rattle.dds_protocol.proofs.BeatsTo.{AreBeats, IsBeatTo, are_beats, beat_read, no_ask_read}
 use Rattle.dds_protocol.proofs.Composed.{parts_at, machine_after, world_after, contains_at}
 use Rattle.dds_protocol.proofs.CountsTaken.{Counting, Counts, again_counts, packet_counts}
-use Rattle.dds_protocol.proofs.CountsWritten.{plain_beats, plain_asks, plain_data, one_beat, one_beat_asks, each_of}
+use Rattle.dds_protocol.proofs.CountsWritten.{plain_beats, plain_asks, plain_data, each_of}
 use Rattle.dds_protocol.proofs.DuesAssertions.{OfEachTold, told_each, asserted_writer}
 use Rattle.dds_protocol.proofs.DuesGrowth.{Gains, gains_same, gains_on, AreMoves-gains, is_part_kept}
-use Rattle.dds_protocol.proofs.DuesHeartbeats.{beat_body, of_all}
+use Rattle.dds_protocol.proofs.DuesHeartbeats.{of_all, some_behind}
 use Rattle.dds_protocol.proofs.DuesMatched.{own_name}
 use Rattle.dds_protocol.proofs.DuesPackets.{IsOfDue, sent_is_due}
 use Rattle.dds_protocol.proofs.DuesParts.{call_part, tick_part}
@@ -361,36 +363,47 @@ silent_beat config peer after due h = record {
   ask = h.ask;
 }
 
--- the next HEARTBEAT of the peer's writer is such a one where one count more is used afterwards
+-- the next HEARTBEATs of the peer's writer are such ones where one count more is used afterwards
 next_beat : (config : Config) (peer : ℕ) (part after : Part) (number to : ℕ) (final liveliness : Bool)
+    (readers : List Endpoint)
     → check_refusal config.peers ≡ None → IsPartOf config peer part → HasNumber part.rtps.writers number
     → heartbeats_used (own_writer after number) ≡ heartbeats_used (own_writer part number) + 1
-    → IsBeat config peer after
-    (record {
-      to = to;
-      message = heartbeat_with final liveliness (prefix_of config peer) (prefix_of config to)
-          (writer_entity config peer number) (own_writer part number);
-    })
-next_beat config peer part after number to final liveliness checked of there more = record {
+    → IsBeat config peer after (heartbeats_due_to config final liveliness peer number (own_writer part number) readers to)
+next_beat config peer part after number to final liveliness readers checked of there more = record {
   beat = λ w count writable has.
       let me : Endpoint = record { peer = peer; number = number } in
       let found =
-      one_beat config (prefix_of config peer) (prefix_of config to)
-      (beat_body config peer part number final liveliness) w count writable has in
+      beat_read each (prefix_of config peer) (prefix_of config to) has.own has.at beats has.heartbeat all writable
+      has.there in
+      let source = ap (λ (r : Receiver). r.source_guid_prefix) found.0 in
+      let from : IsWriter config (prefix_of config peer) (writer_entity config peer number) w =
+      subst (λ (p : GuidPrefix). IsWriter config p (writer_entity config peer number) w) source
+      (subst (λ (e : EntityId). IsWriter config has.at.source_guid_prefix e w)
+      (ap (λ (h : HeartbeatBody). h.writer_id) found.1.is) has.from) in
       let same : w ≡ me =
-      one_writer config (prefix_of config peer) (writer_entity config peer number) w me checked found.0
+      one_writer config (prefix_of config peer) (writer_entity config peer number) w me checked from
       (own_name config peer part of number there).name in
+      let is : count ≡ pos (heartbeats_used (own_writer part number) + 1) =
+      sym has.same_count ∙ ap (λ (h : HeartbeatBody). h.count) found.1.is in
       let at : count ≤ℤ pos (heartbeats_used (own_writer after number)) =
-      subst (λ (z : ℤ). z ≤ℤ pos (heartbeats_used (own_writer after number))) (sym found.1) (omega (arith, ints, more))
-      in (
+      subst (λ (z : ℤ). z ≤ℤ pos (heartbeats_used (own_writer after number))) (sym is) (omega (arith, ints, more)) in (
         ap (λ (e : Endpoint). e.peer) same,
         subst
             (λ (e : Endpoint). count ≤ℤ pos (heartbeats_used (own_writer after e.number))) (sym same) at,
       );
   ask =
-      λ w r count writable has. one_beat_asks config (prefix_of config peer) (prefix_of config to)
-      (beat_body config peer part number final liveliness) w r count writable has;
+      λ w r count writable has. no_ask_read each (prefix_of config peer) (prefix_of config to) has.own has.at beats
+      has.acknack all writable has.there;
 }
+  where
+    each : HeartbeatBody → Type 0
+    each h = IsBeatTo config final liveliness peer number (own_writer part number) to h
+
+    beats : List Submessage
+    beats = heartbeats_to config final liveliness peer number (own_writer part number) readers to
+
+    all : AreBeats each beats
+    all = are_beats config final liveliness peer number (own_writer part number) readers to
 
 -- an event at which such messages are due, and nothing is learned
 uses_beats : (config : Config) (tests : Tests) (old : WorldState) (peer : ℕ) (ev : Event) (reply : Reply)
@@ -440,8 +453,9 @@ beats_are : (config : Config) (peer : ℕ) (part : Part) (now : ℕ) → check_r
     → IsPartOf config peer part → All (IsBeat config peer (after_tick part now)) (heartbeats_due config peer part)
 beats_are config peer part now checked of =
     of_all config peer part (IsBeat config peer (after_tick part now))
-    (λ number to there left behind. next_beat config peer part
-    (after_tick part now) number to false false checked of there (used_after_tick part now number behind))
+    (λ number to there left among. next_beat config peer part (after_tick part now) number to false false
+    (readers_behind (own_writer part number)) checked of there
+    (used_after_tick part now number (some_behind (own_writer part number) to among)))
 
 uses_tick : (config : Config) (tests : Tests) (old : WorldState) (peer now : ℕ) (dues : List Due)
     (packets : List Packet) (new : WorldState) → check_refusal config.peers ≡ None → HasUsedCounts config old
@@ -496,7 +510,8 @@ uses_call config tests old peer call reply dues packets new checked h step are w
         let after =
         asserted_writer part step.after.part writer moment there
         (entered ∙ ap (λ (e : Effect). effect part.rtps e) is) in
-        next_beat config peer part step.after.part writer to true true checked (h.of_config peer step.within) there
+        next_beat config peer part step.after.part writer to true true (own_writer part writer).matched checked
+        (h.of_config peer step.within) there
         (ap (λ (w : Writer). heartbeats_used w) after ∙ used_asserted (own_writer part writer) moment)
 
 -- at no peer

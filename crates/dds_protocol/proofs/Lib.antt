@@ -38,6 +38,7 @@ pub mod DuesGrowth
 pub mod DuesAcknacks
 pub mod DuesUnkept
 pub mod DuesMatched
+pub mod DuesFew
 pub mod DuesHeartbeats
 pub mod DuesAssertions
 pub mod DuesAnswers
@@ -53,15 +54,18 @@ pub mod CountsTaken
 pub mod CountsOpened
 pub mod FreshCounts
 pub mod CaughtUp
+pub mod BeatsTo
 pub mod PairTurns
 pub mod PairPackets
 pub mod PairAsked
 pub mod PairReader
 pub mod PairMessages
+pub mod PairTold
 pub mod PairTicked
 pub mod PairHeard
 pub mod PairAnswered
 pub mod PairBegun
+pub mod PairMissed
 pub mod PairFew
 pub mod PairCaughtUp
 pub mod PairBeats

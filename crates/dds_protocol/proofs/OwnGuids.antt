@@ -23,7 +23,7 @@ use Rattle.dds_base.specs.MatchedAt.{of_writers_in}
 use Rattle.dds_base.specs.Ownership.{HaveOwnGuids}
 use Rattle.dds_base.specs.declared.endpoint.Endpoint.{Endpoint}
 use Rattle.dds_base.specs.declared.config.Config.{Config}
-use Rattle.dds_protocol.specs.Claims.{IsNumbered, IsWriter, IsReader, every_reader, every_peer}
+use Rattle.dds_protocol.specs.Claims.{Receiver, Names, IsNumbered, IsWriter, IsReader, IsToReader, every_reader, every_peer, participant_entity}
 use Rattle.std.proofs.lemmas.Option.{same_Some}
 use Rattle.dds_machine.specs.Part.{Begun, WriterProxy, same_endpoint, publication_from}
 use Rattle.dds_machine.specs.Opening.{matched_writers, writer_qos, reader_qos}
@@ -436,3 +436,46 @@ not_every_peer_of config prefix entity a fits x =
     let good = checked config.peers fits in
     ap (λ (p : GuidPrefix). same_prefix p unknown_prefix) (sym x.same_prefix)
     ∙ good.known (a.peer - 1) x.peer x.at_peer.1
+
+pub first_of : (a b : Bool) → (a || b) ≡ true → b ≡ false → a ≡ true
+first_of true b h none = refl
+first_of false b h none = cc
+
+-- a submessage for the peer of a reader, which it names, is for that reader alone
+pub one_named : (config : Config) (prefix : GuidPrefix) (entity writer_id : EntityId) (far : GuidPrefix) (at : Receiver)
+    (w r reader : Endpoint) → check_refusal config.peers ≡ None → at.dest_guid_prefix ≡ prefix
+    → IsReader config prefix entity reader → IsToReader config far at entity writer_id w r → r ≡ reader
+one_named config prefix entity writer_id far at w r reader fits dest is h = by h.entity h.named h.to
+  where
+    unknown : same_prefix prefix every_peer ≡ false
+    unknown = not_every_peer_of config prefix entity reader fits is
+
+    same : prefix ≡ far
+    same =
+        (prefix-Decides prefix far).0
+        (first_of (same_prefix prefix far) (same_prefix prefix every_peer)
+        (ap (λ (p : GuidPrefix). same_prefix p far || same_prefix p every_peer) (sym dest) ∙ h.is_for) unknown)
+
+    by : (named : EntityId) → Names entity named → IsReader config far named r → r ≡ reader
+    by named (inl e) there =
+        one_reader config prefix entity r reader fits
+        (subst (λ (p : GuidPrefix). IsReader config p entity r) (sym same)
+        (subst (λ (i : EntityId). IsReader config far i r) (sym e) there)) is
+    by named (inr every) there = absurd (not_every_reader config prefix entity reader fits is every)
+
+-- one that names a participant is for no reader
+pub none_named : (config : Config) (writer_id : EntityId) (far : GuidPrefix) (at : Receiver) (w r : Endpoint)
+    → check_refusal config.peers ≡ None → IsToReader config far at participant_entity writer_id w r → ⊥
+none_named config writer_id far at w r fits h = by h.entity h.named h.to
+  where
+    by : (named : EntityId) → Names participant_entity named → IsReader config far named r → ⊥
+    by named (inl e) there =
+        let good = checked config.peers fits in
+        let kind : has_kind 7 there.end.entity ≡ true =
+        good.kinds (r.peer - 1) there.peer there.at_peer.1 (r.number - 1) there.end there.at_reader.1 in
+        let other : has_kind 7 there.end.entity ≡ false =
+        ap (λ (i : EntityId). has_kind 7 i) (there.same_entity ∙ sym e) in
+        absurd cc
+    by named (inr every) there =
+        let apart : has_kind 193 participant_entity ≡ has_kind 193 every_reader =
+        ap (λ (i : EntityId). has_kind 193 i) every in absurd cc

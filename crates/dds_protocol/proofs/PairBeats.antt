@@ -1,12 +1,11 @@
 -- A tick sends a HEARTBEAT to the peer of each reader that is behind.
-use Rattle.std.proofs.Common.{◌≡◌, ℕ, zero, suc, ◌+◌, ◌-◌, ◌^◌, ◌<◌, ◌≤◌, Bool, true, false, cond, nat_lt, nat_le, List, [], ◌∷◌, Some, None, Contains, length, map, filter, get_or, refl, subst, ap, sym, arith}
+use Rattle.std.proofs.Common.{◌≡◌, ℕ, zero, suc, ◌+◌, ◌-◌, ◌^◌, ◌<◌, ◌≤◌, Bool, true, false, nat_lt, List, [], ◌∷◌, Some, None, Contains, length, map, get_or, refl, subst, ap, sym, arith}
 use Rattle.std.specs.Prelude.{if◌then◌else◌}
-use Rattle.std.specs.Option.{option_map}
 use Rattle.std.proofs.lemmas.Bool.Decides.{nat_tests}
 use Rattle.std.proofs.lemmas.List.Elements.{Contains-append_left, Contains-append_right}
-use Rattle.std.proofs.lemmas.Option.{same_Some}
 use Rattle.dds_base.specs.declared.config.Config.{Config}
 use Rattle.dds_base.specs.Checked.{check_refusal}
+use Rattle.rtps_wire.specs.declared.heartbeat.Heartbeat.{Heartbeat as HeartbeatBody}
 use Rattle.rtps_wire.specs.declared.submessage.Submessage.TheVariants.{Heartbeat}
 use Rattle.rtps_wire.specs.Messages.{IsWritable}
 use Rattle.dds_base.specs.declared.endpoint.Endpoint.{Endpoint}
@@ -14,7 +13,8 @@ use Rattle.dds_protocol.specs.declared.event.Packet.{Packet}
 use Rattle.dds_machine.specs.declared.event.WorldEvent.TheVariants as world
 use Rattle.dds_machine.specs.declared.reply.Reply.TheVariants.{Done}
 use Rattle.dds_machine.specs.Numbered.{HasNumber}
-use Rattle.dds_machine.specs.Part.{Part, ReaderProxy, Writer, no_writer, same_endpoint, row_of, own_writer, acknowledged_of, peers_of, writer_changes, heartbeats_used}
+use Rattle.dds_machine.specs.Part.{Part, Writer, no_writer, own_writer, acknowledged_of, peers_of, writer_changes, heartbeats_used}
+use Rattle.dds_protocol.specs.Claims.{IsWriter, StandsAt, receiver_of}
 use Rattle.dds_protocol.specs.Receipt.{prefix_of}
 use Rattle.dds_protocol.specs.Dues.{IsPartOf}
 use Rattle.dds_machine.specs.Machine.{AllTests, writer_at}
@@ -23,6 +23,7 @@ use Rattle.dds_protocol.specs.World.{WorldState, peer_at, machine_of}
 use Rattle.dds_protocol.specs.Fresh.{HasUsedCounts, heartbeats_used_at}
 use Rattle.dds_protocol.specs.Repair.{HasBeatTo}
 use Rattle.dds_protocol.specs.Rules.{RuledStep}
+use Rattle.dds_protocol.proofs.BeatsTo.{AreBeats, IsBeatOf, NamedBeat, beat_among, beat_stands, beats_are, beats_to, named_beat, reader_behind}
 use Rattle.dds_protocol.proofs.Composed.{parts_at}
 use Rattle.dds_protocol.proofs.CountsWritten.{contains_map}
 use Rattle.dds_protocol.proofs.Dues.{addressed, stands_in}
@@ -30,47 +31,8 @@ use Rattle.dds_protocol.proofs.DuesHeartbeats.{heartbeat_due}
 use Rattle.dds_protocol.proofs.DuesMatched.{own_name}
 use Rattle.dds_protocol.proofs.PairAnswered.{post, all_sent, due_writable}
 use Rattle.dds_protocol.proofs.PairAsked.{has_writer}
-use Rattle.dds_protocol.proofs.PeersOf.{peer_first, peer_later}
-use Rattle.dds_protocol.proofs.PairTicked.{beat_of, beat_message, ticks_there}
-use Rattle.dds_machine.proofs.Tables.{same_is}
-
--- ---- the peers of these readers
-
--- a reader that is behind is among those that are
-behind_peer : (n : ℕ) (rows : List ReaderProxy) (r : Endpoint) (a : ℕ) → acknowledged_of rows r ≡ Some a → a ≤ n
-    → Contains (peers_of (map (λ (p : ReaderProxy). p.reader)
-    (filter (λ (p : ReaderProxy). nat_le p.acknowledged n) rows))) r.peer
-behind_peer n [] r a h low = cc
-behind_peer n (p ∷ ps) r a h low = by (same_endpoint p.reader r) refl h (λ k. behind_peer n ps r a k low)
-  where
-    ends : List ReaderProxy → List Endpoint
-    ends qs = map (λ (q : ReaderProxy). q.reader) qs
-
-    rest : List ReaderProxy
-    rest = filter (λ (q : ReaderProxy). nat_le q.acknowledged n) ps
-
-    kept : (t : Bool) → Contains (peers_of (ends rest)) r.peer
-        → Contains (peers_of (ends (cond t (p ∷ rest) rest))) r.peer
-    kept true k =
-        peer_later p.reader (ends rest) r.peer k
-    kept false k = k
-
-    here : p.reader ≡ r → (t : Bool) → t ≡ true → Contains (peers_of (ends (cond t (p ∷ rest) rest))) r.peer
-    here e true is =
-        subst (λ (x : Endpoint). Contains (peers_of (ends (p ∷ rest))) x.peer) e
-        (peer_first p.reader (ends rest))
-    here e false is = cc
-
-    by : (b : Bool) → same_endpoint p.reader r ≡ b
-        → option_map (λ (q : ReaderProxy). q.acknowledged)
-        (cond b (Some p) (row_of (λ (q : ReaderProxy). q.reader) ps r)) ≡ Some a
-        → (acknowledged_of ps r ≡ Some a → Contains (peers_of (ends rest)) r.peer)
-        → Contains (peers_of (ends (cond (nat_le p.acknowledged n) (p ∷ rest) rest))) r.peer
-    by true e k later =
-        let is = same_Some p.acknowledged a k in
-        let small : nat_le p.acknowledged n ≡ true = grind (arith, nat_tests, is, low) in
-        here (same_is p.reader r e) (nat_le p.acknowledged n) small
-    by false e k later = kept (nat_le p.acknowledged n) (later k)
+use Rattle.dds_protocol.proofs.PeersOf.{peer_among}
+use Rattle.dds_protocol.proofs.PairTicked.{ticks_there}
 
 -- ---- what is due
 
@@ -130,16 +92,18 @@ beats_are_sent config tests writer reader acknowledged now old new checked used 
       subst (λ (ps : List Packet). Contains ps (post due)) (sym (all_sent step.dues step.packets 0 refl step.are_sent))
       (contains_map post step.dues due is_due);
   to = refl;
-  count = (beat_of config writer.peer part writer.number).count;
+  count = beat.body.count;
   has = record {
     own = prefix_of config reader.peer;
     at = addressed (prefix_of config writer.peer) (prefix_of config reader.peer);
-    heartbeat = beat_of config writer.peer part writer.number;
+    heartbeat = beat.body;
     there =
-        stands_in (beat_message config writer.peer part writer.number reader.peer) (prefix_of config reader.peer) 1
-        (addressed (prefix_of config writer.peer) (prefix_of config reader.peer))
-        (Heartbeat (beat_of config writer.peer part writer.number)) writable (refl, refl);
-    from = (own_name config writer.peer part of writer.number here).name;
+        stands_in due.message (prefix_of config reader.peer) stands.0
+        (addressed (prefix_of config writer.peer) (prefix_of config reader.peer)) (Heartbeat beat.body) writable
+        stands.1;
+    from =
+        subst (λ (h : HeartbeatBody). IsWriter config (prefix_of config writer.peer) h.writer_id writer) (sym is_beat)
+        (own_name config writer.peer part of writer.number here).name;
     same_count = refl;
   };
 }
@@ -173,8 +137,28 @@ beats_are_sent config tests writer reader acknowledged now old new checked used 
         subst (λ (ds : List Due). Contains ds due) (sym step.due)
         (among_dues config writer.peer part writer.number due here
         (due_of config writer.peer part writer.number reader.peer left'
-        (behind_peer (length (writer_changes (own_writer part writer.number)))
-        (own_writer part writer.number).readers reader acknowledged row' behind')))
+        (peer_among (readers_behind (own_writer part writer.number)) reader
+        (reader_behind (own_writer part writer.number) reader acknowledged row' behind'))))
 
     writable : IsWritable due.message
     writable = due_writable step.dues step.packets 0 due refl step.are_sent is_due
+
+    beats : AreBeats (IsBeatOf config writer.peer part writer.number)
+        (beats_to config writer.peer part writer.number reader.peer)
+    beats = beats_are config writer.peer part writer.number reader.peer
+
+    beat : NamedBeat config writer.peer part writer.number reader
+    beat = named_beat config writer.peer part writer.number reader acknowledged row' behind'
+
+    is_beat : IsBeatOf config writer.peer part writer.number beat.body
+    is_beat =
+        beat_among (IsBeatOf config writer.peer part writer.number)
+        (beats_to config writer.peer part writer.number reader.peer) beat.body beats beat.among
+
+    stands : (index : ℕ)
+        × StandsAt (prefix_of config reader.peer) (receiver_of (prefix_of config writer.peer)) due.message.submessages
+        index (addressed (prefix_of config writer.peer) (prefix_of config reader.peer)) (Heartbeat beat.body)
+    stands =
+        beat_stands (IsBeatOf config writer.peer part writer.number) (prefix_of config writer.peer)
+        (prefix_of config reader.peer) (prefix_of config reader.peer)
+        (beats_to config writer.peer part writer.number reader.peer) (Heartbeat beat.body) beats beat.among

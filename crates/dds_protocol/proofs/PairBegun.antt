@@ -1,5 +1,5 @@
 -- How a round of repair of a writer and a reader begins: the HEARTBEAT is taken, and the reader's place goes on.
-use Rattle.std.proofs.Common.{◌≡◌, ℕ, pos, ◌+◌, ◌≤◌, ◌≤ℤ◌, true, List, [], Some, None, length, refl, subst, ap, sym, ◌∙◌, ⊎_elim, arith}
+use Rattle.std.proofs.Common.{◌≡◌, ℕ, pos, ◌+◌, ◌≤◌, ◌≤ℤ◌, true, List, [], Some, None, length, refl, subst, ap, sym, ◌∙◌, ◌⊎◌, inl, inr, ⊎_elim, arith}
 use Rattle.dds_base.specs.declared.change.Change.{Change}
 use Rattle.dds_base.specs.declared.config.Config.{Config}
 use Rattle.dds_base.specs.Checked.{check_refusal}
@@ -30,11 +30,13 @@ use Rattle.dds_protocol.proofs.Framing.{has_reader, number_or_not}
 use Rattle.dds_protocol.proofs.InOrder.{publication_there}
 use Rattle.dds_protocol.proofs.Knowing.{answered_same}
 use Rattle.dds_protocol.proofs.PairAsked.{has_writer}
-use Rattle.dds_protocol.proofs.PairHeard.{Pairing, reader_host, there, Heard, hears_beat, delivered_others, stays_sound}
+use Rattle.dds_protocol.proofs.PairHeard.{Pairing, reader_host, there, Heard, ToldPacket, MissedPacket, hears_beats, delivered_others, stays_sound}
 use Rattle.dds_protocol.proofs.PairReader.{standing_of, Seat, SeatAs, HearsBy}
 use Rattle.dds_protocol.proofs.EndsBeside.{ended_sound, world_bounded}
 use Rattle.dds_protocol.proofs.PairEnded.{changes_ended, values_ended, known_ended, leaves_ended, rows_ended, seat_ended, standing_ended}
-use Rattle.dds_protocol.proofs.PairTicked.{ticks_there, new_count, beat_of, beat_message, BeatPacket, beat_packet, TickLeaves, tick_leaves}
+use Rattle.dds_protocol.proofs.PairTicked.{ticks_there, new_count, BeatPacket, beat_packet, TickLeaves, tick_leaves}
+use Rattle.dds_protocol.proofs.PairTurns.{Keeps}
+use Rattle.dds_protocol.proofs.BeatsTo.{beat_of, beat_message}
 
 -- the beginning of a round, and what it rests on
 pub record Begun : Type 0 where
@@ -128,9 +130,6 @@ left c p =
     leaves_ended c.old (world.Tick c.writer.peer c.begins.now) c.begins.ticked p c.old
     (tick_leaves c.config c.tests c.old c.writer.peer c.begins.now c.begins.ticked c.begins.ticks.step p)
 
-abbrev pub body : Begun → HeartbeatBody
-body c = beat_of c.config c.writer.peer (writer_part c) c.writer.number
-
 pub beaten : (c : Begun) → BeatPacket c.config (writer_part c) c.writer c.begins.beat
 beaten c =
     beat_packet c.config c.tests c.old c.begins.now c.begins.lost_beats c.begins.ticked c.writer c.begins.beat
@@ -176,7 +175,8 @@ seat_ticked c = record {
       (left c c.reader.peer).rows;
 }
 
-pub beat_later : (c : Begun) → is_later ((ticked_reader c).known.tracked c.writer c.reader.number).count (body c).count
+beat_later : (c : Begun) → is_later ((ticked_reader c).known.tracked c.writer c.reader.number).count
+    (pos (heartbeats_used (the_writer c) + 1))
     ≡ true
 beat_later c =
     new_count ((ticked_reader c).known.tracked c.writer c.reader.number).count (heartbeats_used (the_writer c))
@@ -185,61 +185,86 @@ beat_later c =
     (c.used.heartbeat_taken c.writer c.reader count
     (sym (ap (λ (k : Known). (k.tracked c.writer c.reader.number).count) (left c c.reader.peer).known) ∙ e)))
 
--- ---- the HEARTBEAT
+-- ---- the HEARTBEATs
 
 abbrev pub heard_reader : Begun → State
 heard_reader c = state_of (peer_at c.heard c.reader.peer)
 
-pub packet : (c : Begun) → Heard (pairing c) (body c) (match c) (ticked_reader c) c.begins.hears.step.dues
-    (heard_reader c)
-packet c =
-    hears_beat (stood c) c.stands.attached (pairing c) c.tests (writer_part c) (match c) (noted_tick c) c.begins.beat
+-- one told the reader, and was heard
+pub record Told (c : Begun) : Type 0 where
+  pub of : ToldPacket (pairing c) (writer_part c) (match c) (ticked_reader c) c.begins.hears.step.dues (heard_reader c)
+
+-- none did, and the reader was not behind
+pub record Missed (c : Begun) : Type 0 where
+  pub of : MissedPacket (pairing c) (writer_part c) (ticked_reader c) c.begins.hears.step.dues (heard_reader c)
+
+pub met : (c : Begun) → Told c ⊎ Missed c
+met c =
+    ⊎_elim (λ t. inl (record { of = t })) (λ m. inr (record { of = m }))
+    (hears_beats (stood c) c.stands.attached (pairing c) c.tests (writer_part c) (match c) (noted_tick c) c.begins.beat
     c.begins.lost_asks c.heard
     (subst (λ (n : ℕ). IsWritable (beat_message c.config c.writer.peer (writer_part c) c.writer.number n))
     c.begins.beat_to (beaten c).writable)
     ((beaten c).bytes
     ∙ ap (λ (n : ℕ). spelling_of (beat_message c.config c.writer.peer (writer_part c) c.writer.number n))
     c.begins.beat_to)
-    c.begins.hears (seat_ticked c) (beat_later c)
+    c.begins.hears (seat_ticked c) (beat_later c))
+
+-- where the reader was behind, it was told
+pub told_of : (c : Begun) → c.acknowledged ≤ length (writer_changes (the_writer c)) → Told c
+told_of c behind =
+    ⊎_elim (λ t. t)
+    (λ (m : Missed c). let past = m.of.past c.acknowledged (row_old c) in absurd (omega (arith, behind, past))) (met c)
+
+-- what the delivery leaves at the reader's peer
+keeps : (c : Begun) → Keeps (ticked_reader c) (heard_reader c)
+keeps c = ⊎_elim (λ (t : Told c). t.of.heard.keeps) (λ (m : Missed c). m.of.spares.keeps) (met c)
+
+-- ---- the HEARTBEAT that was heard
+
+abbrev pub body : {c : Begun} → Told c → HeartbeatBody
+body {c} t = beat_of c.config c.writer.peer (writer_part c) c.writer.number t.of.reader_id t.of.first
+
+abbrev pub packet : {c : Begun} → (t : Told c)
+    → Heard (pairing c) (body t) (match c) (ticked_reader c) c.begins.hears.step.dues (heard_reader c)
+packet t = t.of.heard
 
 -- what the reader knows once it heard the HEARTBEAT
-abbrev pub hears : (c : Begun) → HearsBy (reader_host (pairing c)) (there (pairing c)) (body c) (match c)
-    (pairing c).writer (pairing c).reader.number (ticked_reader c) (packet c).due (heard_reader c)
-hears c = (packet c).hears
+abbrev pub hears : {c : Begun} → (t : Told c) → HearsBy (reader_host (pairing c)) (there (pairing c)) (body t) (match c)
+    (pairing c).writer (pairing c).reader.number (ticked_reader c) (packet t).due (heard_reader c)
+hears t = (packet t).hears
 
-abbrev pub heard_of : Begun → Tracked
-heard_of c = (hears c).heard.known.tracked (pairing c).writer (pairing c).reader.number
+abbrev pub heard_of : {c : Begun} → Told c → Tracked
+heard_of {c} t = (hears t).heard.known.tracked (pairing c).writer (pairing c).reader.number
 
 abbrev pub the_last : Begun → ℕ
 the_last c = length (writer_changes (the_writer c))
 
 -- where the reader's place began, or had
-abbrev pub started_at : Begun → Standing
-started_at c = (hears c).started
+abbrev pub started_at : {c : Begun} → Told c → Standing
+started_at t = (hears t).started
 
-pub goes : (c : Begun) → GoesOn (match c) (with_heartbeat (body c).first_sn (body c).count (started_at c).tracked)
-    (started_at c).happened (standing_of (hears c).heard c.writer c.reader.number)
-goes c = (hears c).goes
+pub goes : {c : Begun} → (t : Told c) → GoesOn (match c)
+    (with_heartbeat (body t).first_sn (body t).count (started_at t).tracked) (started_at t).happened
+    (standing_of (hears t).heard c.writer c.reader.number)
+goes t = (hears t).goes
 
-pub started_on : (c : Begun) → c.place ≤ (started_at c).tracked.place
-started_on c = let le = (hears c).further in let same = knows_place c in omega (arith, le, same)
+pub started_on : {c : Begun} → (t : Told c) → c.place ≤ (started_at t).tracked.place
+started_on {c} t = let le = (hears t).further in let same = knows_place c in omega (arith, le, same)
 
-pub forward : (c : Begun) → c.place ≤ (heard_of c).place
-forward c =
+pub forward : {c : Begun} → (t : Told c) → c.place ≤ (heard_of t).place
+forward {c} t =
     let le =
-    on_forward (match c) (with_heartbeat (body c).first_sn (body c).count (started_at c).tracked)
-    (started_at c).happened (standing_of (hears c).heard c.writer c.reader.number) (goes c) in
-    let on = started_on c in omega (arith, le, on)
+    on_forward (match c) (with_heartbeat (body t).first_sn (body t).count (started_at t).tracked)
+    (started_at t).happened (standing_of (hears t).heard c.writer c.reader.number) (goes t) in
+    let on = started_on t in omega (arith, le, on)
 
 -- the reader's ACKNACKs so far
-pub acknacks : (c : Begun) → (heard_of c).acknacks ≡ (tracked_at c.old c.writer c.reader).acknacks
-acknacks c =
-    (goes c).2.stays.acknacks
-    ∙ ((hears c).acknacks ∙ ap (λ (k : Known). (k.tracked c.writer c.reader.number).acknacks)
+pub acknacks : {c : Begun} → (t : Told c) → (heard_of t).acknacks ≡ (tracked_at c.old c.writer c.reader).acknacks
+acknacks {c} t =
+    (goes t).2.stays.acknacks
+    ∙ ((hears t).acknacks ∙ ap (λ (k : Known). (k.tracked c.writer c.reader.number).acknacks)
     (left c c.reader.peer).known)
-
-pub seat_heard : (c : Begun) → Seat (match c) c.writer c.reader.number (heard_reader c)
-seat_heard c = (hears c).seat
 
 -- ---- the writer's peer, once the HEARTBEAT was heard
 
@@ -256,7 +281,7 @@ heard_writer c = state_of (peer_at (noted_beat c) c.writer.peer)
 same_writers : (c : Begun) → (peer_at c.heard c.writer.peer).part.rtps.writers ≡ (ticked_writer c).part.rtps.writers
 same_writers c =
     ⊎_elim (λ e. subst (λ (n : ℕ). (peer_at c.heard n).part.rtps.writers ≡ (peer_at (noted_tick c) n).part.rtps.writers)
-    (sym e) (packet c).keeps.writers)
+    (sym e) (keeps c).writers)
     (λ apart. ap (λ (x : Peer). x.part.rtps.writers)
     (delivered_others c.config c.tests
     (noted_tick c) c.reader.peer c.begins.beat c.begins.lost_asks c.heard c.begins.hears c.writer.peer apart))
@@ -270,7 +295,7 @@ same_answered c =
     ∙ (⊎_elim
     (λ e. subst (λ (n : ℕ). (peer_at c.heard n).known.answered c.writer.number c.reader
     ≡ (peer_at (noted_tick c) n).known.answered c.writer.number c.reader) (sym e)
-    ((packet c).keeps.answered c.writer.number c.reader))
+    ((keeps c).answered c.writer.number c.reader))
     (λ apart. ap (λ (x : Peer). x.known.answered c.writer.number c.reader)
     (delivered_others c.config c.tests
     (noted_tick c) c.reader.peer c.begins.beat c.begins.lost_asks c.heard c.begins.hears c.writer.peer apart))
@@ -305,10 +330,11 @@ values_heard c =
     ∙ (left c c.writer.peer).values c.writer.number)
 
 -- the reader at the end of it
-pub seat_noted : (c : Begun) → Seat (match c) c.writer c.reader.number (state_of (peer_at (noted_beat c) c.reader.peer))
-seat_noted c =
+pub seat_noted : {c : Begun} → Told c
+    → Seat (match c) c.writer c.reader.number (state_of (peer_at (noted_beat c) c.reader.peer))
+seat_noted {c} t =
     seat_ended (noted_tick c) (world.Deliver c.reader.peer c.begins.hears.number) c.heard c.reader.peer
-    (match c) c.writer c.reader.number (seat_heard c)
+    (match c) c.writer c.reader.number (hears t).seat
 
 pub standing_noted : (c : Begun)
     → standing_of (state_of (peer_at (noted_beat c) c.reader.peer)) c.writer c.reader.number
@@ -330,13 +356,13 @@ sound_heard c =
     (world_bounded c.old (world.Tick c.writer.peer c.begins.now) c.begins.ticked first.1)
 
 -- the place of the ACKNACK is not past the next number
-pub place_heard : (c : Begun) → (heard_of c).place ≤ the_last c + 1
-place_heard c =
-    let place : ((heard_reader c).known.tracked c.writer c.reader.number).place ≡ (heard_of c).place =
-    ap (λ (s : Standing). s.tracked.place) (hears c).after ∙ (answered_same (hears c).answer (heard_of c)).0 in
-    let at : place_at (machine_of c.heard) c.reader c.writer ≡ Some (heard_of c).place =
-    place_is c.heard c.reader c.writer ∙ ((seat_heard c).place ∙ ap (λ (n : ℕ). Some n) place) in
-    let le = (sound_heard c).1 c.reader c.writer (heard_of c).place at in
+pub place_heard : {c : Begun} → (t : Told c) → (heard_of t).place ≤ the_last c + 1
+place_heard {c} t =
+    let place : ((heard_reader c).known.tracked c.writer c.reader.number).place ≡ (heard_of t).place =
+    ap (λ (s : Standing). s.tracked.place) (hears t).after ∙ (answered_same (hears t).answer (heard_of t)).0 in
+    let at : place_at (machine_of c.heard) c.reader c.writer ≡ Some (heard_of t).place =
+    place_is c.heard c.reader c.writer ∙ ((hears t).seat.place ∙ ap (λ (n : ℕ). Some n) place) in
+    let le = (sound_heard c).1 c.reader c.writer (heard_of t).place at in
     let last : length (writer_changes (writer_at (machine_of c.heard) c.writer))
     ≡ length (writer_changes (the_writer c)) =
     ap (λ (w : Writer). length (writer_changes w)) (writer_is c.heard c.writer)

@@ -35,7 +35,7 @@ use Rattle.dds_protocol.specs.Repair.{AsksInRound, Delivers, DeliversAll, IsPair
 use Rattle.dds_protocol.proofs.CaughtUp.{window_catches_up}
 use Rattle.dds_protocol.proofs.DuesAnswers.{all_grouped}
 use Rattle.dds_protocol.proofs.Framing.{number_or_not}
-use Rattle.dds_protocol.proofs.FreshCounts.{sent_written}
+use Rattle.dds_protocol.proofs.FreshCounts.{IsWrittenOf, sent_written}
 use Rattle.dds_protocol.proofs.PairAnswered.{asking, took_acknowledged, took_seat, took_standing, answers_of, have_changes, all_answered, post, all_sent, each_writable, ungrouped, group_due, Repaired, answers_delivered}
 use Rattle.dds_protocol.specs.Repair.{packets_for}
 use Rattle.dds_protocol.proofs.PairFew.{few_groups}
@@ -43,19 +43,20 @@ use Rattle.dds_protocol.proofs.Owing.{owed_acknowledged, owed_same}
 use Rattle.dds_base.specs.Counts.{is_later}
 use Rattle.std.proofs.lemmas.List.{length-map}
 use Rattle.dds_protocol.proofs.PairAsked.{Asking, Took}
-use Rattle.dds_protocol.proofs.PairHeard.{writer_prefix, reader_prefix, HasAsked, ask_found, delivered_takes, delivered_others, reader_entities}
+use Rattle.dds_protocol.proofs.PairHeard.{writer_prefix, reader_prefix, HasAsked, not_other, ask_found, delivered_takes, delivered_others}
 use Rattle.dds_protocol.proofs.PairMessages.{HasChange, acknack_packet}
-use Rattle.dds_protocol.proofs.PairReader.{standing, standing_of, Seat}
+use Rattle.dds_protocol.proofs.PairReader.{standing, standing_of, Seat, reader_entities}
 use Rattle.dds_protocol.proofs.PairTicked.{new_count}
 use Rattle.dds_machine.proofs.Tables.{acknowledged-hits}
 use Rattle.dds_machine.specs.declared.event.WorldEvent.{WorldEvent}
 use Rattle.dds_protocol.specs.Noticing.{world_ended}
 use Rattle.dds_protocol.proofs.PairEnded.{rows_ended, seat_ended, standing_ended}
-use Rattle.dds_protocol.proofs.PairBegun.{rows_heard, the_writer, noted_beat, noted_tick, seat_noted, standing_noted, Begun, the_begun, HasRow, writer_is, place_is, pairing, body, ticked_reader, match, started_at, started_on, heard_reader, hears, heard_of, the_last, goes, forward, acknacks, heard_writer, same_answered, writer_heard, row_heard, changes_heard, values_heard, place_heard, packet}
+use Rattle.dds_protocol.proofs.PairBegun.{rows_heard, the_writer, noted_beat, noted_tick, seat_noted, standing_noted, Begun, the_begun, Told, Missed, met, HasRow, writer_is, place_is, pairing, body, ticked_reader, match, started_at, started_on, heard_reader, hears, heard_of, the_last, goes, forward, acknacks, heard_writer, same_answered, writer_heard, row_heard, changes_heard, values_heard, place_heard, packet}
 
 -- a round, but for its answers
 record AskedRound : Type 0 where
   first : Begun
+  told : Told first
   ask : Packet
   ask_sent : Contains first.begins.hears.step.packets ask
   ask_count : ℤ
@@ -63,37 +64,50 @@ record AskedRound : Type 0 where
   after_ask : WorldState
   answers : Delivers first.config first.tests (noted_beat first) first.writer.peer ask 0 after_ask
 
--- the reader's ACKNACK
-asked : (c : AskedRound) → HasAsked (pairing c.first) (body c.first) (match c.first) (ticked_reader c.first)
-    (heard_reader c.first) c.first.begins.hears.step.dues (packet c.first) c.ask
-asked c =
-    ask_found (pairing c.first) (body c.first) refl (match c.first) (ticked_reader c.first)
-    (heard_reader c.first) c.first.begins.hears.step.dues (packet c.first) c.ask c.ask_count c.ask_of
-    (sent_written c.first.config c.first.tests (noted_tick c.first)
-    (world.Deliver c.first.reader.peer c.first.begins.hears.number)
-    (Reported c.first.begins.hears.report) c.first.begins.lost_asks c.first.heard c.first.begins.hears.step c.ask
-    c.ask_sent)
+-- the packet of the ACKNACK, as it is due
+ask_written : (c : Begun) (ask : Packet) → Contains c.begins.hears.step.packets ask
+    → IsWrittenOf c.begins.hears.step.dues ask
+ask_written c ask sent =
+    sent_written c.config c.tests (noted_tick c) (world.Deliver c.reader.peer c.begins.hears.number)
+    (Reported c.begins.hears.report) c.begins.lost_asks c.heard c.begins.hears.step ask sent
 
-tells : (c : AskedRound) → Tells (heard_of c.first) (the_last c.first) (asked c).x
+-- a reader that sent one was told
+asked_told : (c : Begun) (ask : Packet) (count : ℤ) → Contains c.begins.hears.step.packets ask
+    → HasAckNack c.config ask.bytes c.writer c.reader count → Told c
+asked_told c ask count sent has =
+    let d : IsWrittenOf c.begins.hears.step.dues ask = ask_written c ask sent in
+    ⊎_elim (λ t. t)
+    (λ (m : Missed c). absurd (not_other (pairing c) c.begins.hears.step.dues ask count has d
+    (m.of.spares.others d.due d.among))) (met c)
+
+-- the reader's ACKNACK
+asked : (c : AskedRound) → HasAsked (pairing c.first) (body c.told) (match c.first) (ticked_reader c.first)
+    (heard_reader c.first) c.first.begins.hears.step.dues (packet c.told) c.ask
+asked c =
+    ask_found (pairing c.first) (body c.told) refl (match c.first) (ticked_reader c.first)
+    (heard_reader c.first) c.first.begins.hears.step.dues (packet c.told) c.ask c.ask_count c.ask_of
+    (ask_written c.first c.ask c.ask_sent)
+
+tells : (c : AskedRound) → Tells (heard_of c.told) (the_last c.first) (asked c).x
 tells c =
-    let a : AnswersHeartbeat (heard_of c.first) (the_last c.first) false (Some (asked c).x) =
-    subst (λ (o : Option AckNackDue). AnswersHeartbeat (heard_of c.first) (the_last c.first) false o) (asked c).answer
-    (hears c.first).answers in
+    let a : AnswersHeartbeat (heard_of c.told) (the_last c.first) false (Some (asked c).x) =
+    subst (λ (o : Option AckNackDue). AnswersHeartbeat (heard_of c.told) (the_last c.first) false o) (asked c).answer
+    (hears c.told).answers in
     a.3
 
 -- where the reader stands once its ACKNACK was made
-told : (c : AskedRound) → standing_of (heard_reader c.first) c.first.writer c.first.reader.number
-    ≡ standing (answered (Some (asked c).x) (heard_of c.first))
-    (own_reader (hears c.first).heard.part c.first.reader.number).happened
-told c =
-    (hears c.first).after
-    ∙ ap (λ (o : Option AckNackDue). standing (answered o (heard_of c.first))
-    (own_reader (hears c.first).heard.part c.first.reader.number).happened) (asked c).answer
+standing_told : (c : AskedRound) → standing_of (heard_reader c.first) c.first.writer c.first.reader.number
+    ≡ standing (answered (Some (asked c).x) (heard_of c.told))
+    (own_reader (hears c.told).heard.part c.first.reader.number).happened
+standing_told c =
+    (hears c.told).after
+    ∙ ap (λ (o : Option AckNackDue). standing (answered o (heard_of c.told))
+    (own_reader (hears c.told).heard.part c.first.reader.number).happened) (asked c).answer
 
 -- ---- the ACKNACK
 
 abbrev asks : AskedRound → Asking
-asks c = asking (pairing c.first) (body c.first).reader_id (hears c.first).is (asked c).x
+asks c = asking (pairing c.first) (body c.told).reader_id (hears c.told).is (asked c).x
 
 both_true : (a b : Bool) → a ≡ true → b ≡ true → (a && b) ≡ true
 both_true true b e f = f
@@ -111,15 +125,15 @@ ask_new c =
         ap (λ (z : ℤ). is_later ((heard_writer c.first).known.answered c.first.writer.number c.first.reader) z)
         (tells c).count
         ∙ new_count ((heard_writer c.first).known.answered c.first.writer.number c.first.reader)
-        (heard_of c.first).acknacks
+        (heard_of c.told).acknacks
         (λ count e.
         let low = c.first.used.acknack_taken c.first.writer c.first.reader count (sym (same_answered c.first) ∙ e) in
-        let same = acknacks c.first in omega (arith, ints, low, same))
+        let same = acknacks c.told in omega (arith, ints, low, same))
 
     within : nat_le (asked c).x.missing.base (length (writer_changes (writer_heard c.first)) + 1) ≡ true
     within =
         let base = (tells c).set_base in
-        let le = place_heard c.first in
+        let le = place_heard c.told in
         let count = ap (λ (cs : List Change). length cs) (changes_heard c.first) in
         let low : (asked c).x.missing.base ≤ length (writer_changes (writer_heard c.first)) + 1 =
         omega (arith, base, le, count) in
@@ -224,12 +238,12 @@ seat_asked c =
     (took_seat (asks c) (heard_writer c.first) (asked_writer c) c.answers.step.dues (took c)
     (match c.first) c.first.writer c.first.reader.number
     (subst (λ (n : ℕ). Seat (match c.first) c.first.writer c.first.reader.number
-    (state_of (peer_at (noted_beat c.first) n))) e (seat_noted c.first))))
+    (state_of (peer_at (noted_beat c.first) n))) e (seat_noted c.told))))
     (λ apart.
     subst (λ (x : Peer). Seat (match c.first) c.first.writer c.first.reader.number (state_of x))
     (sym (delivered_others c.first.config c.first.tests
     (noted_beat c.first) c.first.writer.peer c.ask 0 c.after_ask c.answers c.first.reader.peer apart))
-    (seat_noted c.first))
+    (seat_noted c.told))
     (number_or_not c.first.reader.peer c.first.writer.peer)
 
 standing_asked : (c : AskedRound) → standing_of (asked_reader c) c.first.writer c.first.reader.number
@@ -306,27 +320,27 @@ abbrev new_reader : Round → State
 new_reader c = state_of (peer_at c.new c.given.first.reader.peer)
 
 takes_all : (c : Round) → TakesAnswers (match c.given.first) (the_answers c.given)
-    (standing (answered (Some (asked c.given).x) (heard_of c.given.first))
-    (own_reader (hears c.given.first).heard.part c.given.first.reader.number).happened)
+    (standing (answered (Some (asked c.given).x) (heard_of c.given.told))
+    (own_reader (hears c.given.told).heard.part c.given.first.reader.number).happened)
     (standing_of (new_reader c) c.given.first.writer c.given.first.reader.number)
 takes_all c =
     subst (λ (s : Standing). TakesAnswers (match c.given.first) (the_answers c.given) s
     (standing_of (new_reader c) c.given.first.writer c.given.first.reader.number))
     (standing_ended (noted_beat c.given.first)
     (ask_event c.given) c.given.after_ask c.given.first.reader.peer c.given.first.writer c.given.first.reader.number
-    ∙ (standing_asked c.given ∙ told c.given))
+    ∙ (standing_asked c.given ∙ standing_told c.given))
     (ungrouped (match c.given.first) _ (the_answers c.given) (took c.given).takes.groups
     (standing_of (state_of (peer_at (noted_ask c.given) c.given.first.reader.peer)) c.given.first.writer
     c.given.first.reader.number) (standing_of (new_reader c) c.given.first.writer c.given.first.reader.number)
     (took c.given).takes.grouped (repaired c).takes)
 
 window : (c : Round) → IsRepaired (match c.given.first) (the_last c.given.first) (asked_from c.given)
-    (started_at c.given.first) (standing_of (new_reader c) c.given.first.writer c.given.first.reader.number)
+    (started_at c.given.told) (standing_of (new_reader c) c.given.first.writer c.given.first.reader.number)
 window c = record {
-  first = (body c.given.first).first_sn;
-  count = (body c.given.first).count;
-  heard = standing_of (hears c.given.first).heard c.given.first.writer c.given.first.reader.number;
-  hears = goes c.given.first;
+  first = (body c.given.told).first_sn;
+  count = (body c.given.told).count;
+  heard = standing_of (hears c.given.told).heard c.given.first.writer c.given.first.reader.number;
+  hears = goes c.given.told;
   due = (asked c.given).x;
   tells = tells c.given;
   answers = the_answers c.given;
@@ -339,7 +353,7 @@ window c = record {
 
 low : (c : AskedRound) → asked_from c ≤ (asked c).x.base
 low c =
-    let on = forward c.first in
+    let on = forward c.told in
     let base = (tells c).base in
     let set = (tells c).set_base in
     let least =
@@ -349,12 +363,12 @@ low c =
     omega (arith, least, on, base, set)
 
 caught : (c : Round) → HasGoneOn (match c.given.first) (the_last c.given.first)
-    (started_at c.given.first).tracked.place
+    (started_at c.given.told).tracked.place
     (standing_of (new_reader c) c.given.first.writer c.given.first.reader.number)
 unfolding window
 caught c =
     (window_catches_up (match c.given.first) (the_last c.given.first) (asked_from c.given)
-    (started_at c.given.first)
+    (started_at c.given.told)
     (standing_of (new_reader c) c.given.first.writer c.given.first.reader.number) (window c) (low c.given)).0
 
 -- ---- what holds after the round
@@ -409,9 +423,9 @@ round_catches_up c = record {
   };
   begun = (repaired c).seat.stands;
   reached =
-      ⊎_elim (λ far. inl (let on = started_on c.given.first in let last = last_is in omega (arith, far, on, last)))
+      ⊎_elim (λ far. inl (let on = started_on c.given.told in let last = last_is in omega (arith, far, on, last)))
       (λ f. inr (without_room c f)) (caught c);
-  told = let on = forward c.given.first in let set = (tells c.given).set_base in omega (arith, on, set);
+  told = let on = forward c.given.told in let set = (tells c.given).set_base in omega (arith, on, set);
 }
   where
     last_is : length (writer_changes (writer_at (machine_of c.given.first.old) c.given.first.writer))
@@ -446,17 +460,20 @@ the_asked : (config : Config) (tests : AllTests) (writer reader : Endpoint) (pla
     (old after : WorldState) → check_refusal config.peers ≡ None → Sound config old → HasUsedCounts config old
     → IsBounded (machine_of old) → IsPair config writer reader → StandsAt old writer reader place acknowledged
     → AsksInRound config tests writer reader old after → AskedRound
-the_asked config tests writer reader place acknowledged old after checked sound used bounded pair stands asks = record {
-  first =
-      the_begun config tests writer reader place acknowledged old asks.heard checked sound used bounded pair stands
-      asks.begins;
-  ask = asks.ask;
-  ask_sent = asks.ask_sent;
-  ask_count = asks.ask_count;
-  ask_of = asks.ask_of;
-  after_ask = after;
-  answers = asks.answers;
-}
+the_asked config tests writer reader place acknowledged old after checked sound used bounded pair stands asks =
+    let first : Begun =
+    the_begun config tests writer reader place acknowledged old asks.heard checked sound used bounded pair stands
+    asks.begins in
+    record {
+      first = first;
+      told = asked_told first asks.ask asks.ask_count asks.ask_sent asks.ask_of;
+      ask = asks.ask;
+      ask_sent = asks.ask_sent;
+      ask_count = asks.ask_count;
+      ask_of = asks.ask_of;
+      after_ask = after;
+      answers = asks.answers;
+    }
 
 pub pair_catches_up : (config : Config) (tests : AllTests) (writer reader : Endpoint) (place acknowledged : ℕ)
     (old new : WorldState) → check_refusal config.peers ≡ None → Sound config old → HasUsedCounts config old

@@ -7,13 +7,14 @@ use Rattle.dds_base.specs.declared.config.WriterConfig.{WriterConfig}
 use Rattle.dds_base.specs.declared.guid.EntityId.{EntityId}
 use Rattle.dds_base.specs.declared.guid.GuidPrefix.{GuidPrefix}
 use Rattle.rtps_reader.specs.declared.step.AckNackDue.{AckNackDue}
+use Rattle.rtps_wire.specs.declared.heartbeat.Heartbeat.{Heartbeat as HeartbeatBody}
 use Rattle.rtps_wire.specs.declared.message.Message.{Message}
 use Rattle.rtps_wire.specs.declared.seek.Sought.{Sought}
 use Rattle.rtps_wire.specs.declared.seek.Sought.TheVariants as sought
 use Rattle.rtps_wire.specs.declared.submessage.Submessage.{Submessage}
-use Rattle.rtps_wire.specs.declared.submessage.Submessage.TheVariants.{Heartbeat}
+use Rattle.rtps_wire.specs.declared.submessage.Submessage.TheVariants.{InfoDst, Heartbeat}
 use Rattle.rtps_wire.specs.Messages.{IsWritable, spelling_of}
-use Rattle.rtps_wire.specs.Sought.{HasSought, Has}
+use Rattle.rtps_wire.specs.Sought.{IsSought, HasSought, Has}
 use Rattle.dds_base.specs.declared.endpoint.Endpoint.{Endpoint}
 use Rattle.dds_protocol.specs.declared.event.Packet.{Packet}
 use Rattle.dds_machine.specs.declared.event.WorldEvent.TheVariants as world
@@ -29,17 +30,16 @@ use Rattle.dds_protocol.specs.World.{WorldState, peer_at}
 use Rattle.dds_protocol.specs.Backed.{reader_at}
 use Rattle.dds_protocol.specs.Fresh.{HasHeartbeat, HasAckNack}
 use Rattle.dds_protocol.specs.Rules.{RuledStep}
-use Rattle.dds_protocol.proofs.Composed.{is_alone, later_in}
-use Rattle.dds_protocol.proofs.CountsWritten.{one_sought}
+use Rattle.dds_protocol.proofs.BeatsTo.{IsBeatOf, beat_message, beat_stands, beats_are, beats_to}
+use Rattle.dds_protocol.proofs.Composed.{front_or_rest, is_alone, later_in}
 use Rattle.dds_protocol.proofs.Dues.{addressed, read_again, stands_in}
 use Rattle.dds_protocol.proofs.DuesHeartbeats.{of_all}
 use Rattle.dds_protocol.proofs.DuesMatched.{own_name, same_end}
 use Rattle.dds_protocol.proofs.FreshCounts.{IsWrittenOf, sent_written}
 use Rattle.dds_protocol.proofs.OwnGuids.{one_reader}
 use Rattle.dds_protocol.proofs.PairAsks.{ask_due, is_ask}
-use Rattle.dds_protocol.proofs.PairBegun.{noted_tick, Begun, pairing, body, hears, packet}
+use Rattle.dds_protocol.proofs.PairBegun.{noted_tick, Begun, Told, Missed, met, pairing, body, hears, packet}
 use Rattle.dds_protocol.proofs.PairHeard.{writer_prefix, reader_prefix, reader_host}
-use Rattle.dds_protocol.proofs.PairTicked.{beat_of, beat_message}
 use Rattle.dds_protocol.proofs.PairTurns.{OfOther}
 
 -- what is looked for in a written message is among its submessages
@@ -63,26 +63,42 @@ beats_found : (config : Config) (part : Part) (writer : Endpoint) → IsPartOf c
 beats_found config part writer of here =
     of_all config writer.peer part (IsFoundBeat config writer)
     (λ number to there left behind. record {
-      found = λ writable has.
-          let same : writer_entity config writer.peer number ≡ writer_entity config writer.peer writer.number =
-          one_sought (sought.Heartbeat (writer_entity config writer.peer writer.number)) (prefix_of config to)
-          (Heartbeat (beat_of config writer.peer part number)) (λ none. none) has in (
-            (beat_of config writer.peer part number).count,
-            record {
-              own = prefix_of config to;
-              at = addressed (prefix_of config writer.peer) (prefix_of config to);
-              heartbeat = beat_of config writer.peer part number;
-              there =
-                  stands_in (beat_message config writer.peer part number to) (prefix_of config to) 1
-                  (addressed (prefix_of config writer.peer) (prefix_of config to))
-                  (Heartbeat (beat_of config writer.peer part number)) writable (refl, refl);
-              from =
-                  subst (λ (i : EntityId). IsWriter config (prefix_of config writer.peer) i writer) (sym same)
-                  (own_name config writer.peer part of writer.number here).name;
-              same_count = refl;
-            },
-          );
+      found = λ writable has. from_sought number to writable has.0 has.1 has.2;
     })
+  where
+    from_beat : (number to : ℕ) → IsWritable (beat_message config writer.peer part number to) → (h : HeartbeatBody)
+        → Contains (beats_to config writer.peer part number to) (Heartbeat h)
+        → h.writer_id ≡ writer_entity config writer.peer writer.number
+        → (count : ℤ) × HasHeartbeat config (spelling_of (beat_message config writer.peer part number to)) writer count
+    from_beat number to writable h among is =
+        let stands =
+        beat_stands (IsBeatOf config writer.peer part number) (prefix_of config writer.peer) (prefix_of config to)
+        (prefix_of config to) (beats_to config writer.peer part number to) (Heartbeat h)
+        (beats_are config writer.peer part number to) among in (
+          h.count,
+          record {
+            own = prefix_of config to;
+            at = addressed (prefix_of config writer.peer) (prefix_of config to);
+            heartbeat = h;
+            there =
+                stands_in (beat_message config writer.peer part number to) (prefix_of config to) stands.0
+                (addressed (prefix_of config writer.peer) (prefix_of config to)) (Heartbeat h) writable stands.1;
+            from =
+                subst (λ (i : EntityId). IsWriter config (prefix_of config writer.peer) i writer) (sym is)
+                (own_name config writer.peer part of writer.number here).name;
+            same_count = refl;
+          },
+        )
+
+    from_sought : (number to : ℕ) → IsWritable (beat_message config writer.peer part number to) → (s : Submessage)
+        → Contains (InfoDst (prefix_of config to) ∷ beats_to config writer.peer part number to) s
+        → IsSought (sought.Heartbeat (writer_entity config writer.peer writer.number)) s
+        → (count : ℤ) × HasHeartbeat config (spelling_of (beat_message config writer.peer part number to)) writer count
+    from_sought number to writable (Heartbeat h) among is =
+        ⊎_elim (λ first. absurd cc) (λ later. from_beat number to writable h later is)
+        (front_or_rest (InfoDst (prefix_of config to)) (beats_to config writer.peer part number to) (Heartbeat h)
+        among.0 among.1 among.2)
+    from_sought number to writable other among is = absurd is
 
 -- one that a tick sent is that of the writer
 pub beat_found : (config : Config) (tests : AllTests) (old : WorldState) (now lost : ℕ) (new : WorldState)
@@ -143,7 +159,10 @@ beat_sought config writer bytes count prefix entity name h = record {
 pub ask_found_among : (c : Begun) (ask : Packet) → Contains c.begins.hears.step.packets ask
     → Has ask.bytes (sought.AckNack c.pair.reader_entity (writer_entity c.config c.writer.peer c.writer.number))
     → (count : ℤ) × HasAckNack c.config ask.bytes c.writer c.reader count
-ask_found_among c ask among has = ⊎_elim (λ o. own o) (λ o. absurd (not_other o)) ((packet c).each d.due d.among)
+ask_found_among c ask among has =
+    ⊎_elim
+    (λ (t : Told c). ⊎_elim (λ o. own t o) (λ o. absurd (not_other o)) ((packet t).each d.due d.among))
+    (λ (m : Missed c). absurd (not_other (m.of.spares.others d.due d.among))) (met c)
   where
     wanted : Sought
     wanted = sought.AckNack c.pair.reader_entity (writer_entity c.config c.writer.peer c.writer.number)
@@ -164,20 +183,21 @@ ask_found_among c ask among has = ⊎_elim (λ o. own o) (λ o. absurd (not_othe
         c.pair.is_reader in
         o.other (ap (λ (e : Endpoint). e.number) one)
 
-    by : (a : Option AckNackDue)
+    by : (t : Told c) (a : Option AckNackDue)
         → Contains (acknacks_due (reader_prefix (pairing c)) (writer_prefix (pairing c)) c.writer.peer
-        (hears c).is.entity (body c).writer_id a) d.due
+        (hears t).is.entity (body t).writer_id a) d.due
         → (count : ℤ) × HasAckNack c.config ask.bytes c.writer c.reader count
-    by None among = let lt = among.1 in absurd (omega (arith, lt))
-    by (Some x) among =
-        let due : Due = ask_due c x in
+    by t None among = let lt = among.1 in absurd (omega (arith, lt))
+    by t (Some x) among =
+        let due : Due = ask_due t x in
         let message : due.message ≡ d.due.message = ap (λ (y : Due). y.message) (is_alone due d.due among) in
         let bytes : ask.bytes ≡ spelling_of due.message =
         ap (λ (q : Packet). q.bytes) d.is ∙ ap (λ (m : Message). spelling_of m) (sym message) in (
           x.count,
           subst (λ (b : List ℕ). HasAckNack c.config b c.writer c.reader x.count) (sym bytes)
-              (is_ask c x (subst (λ (m : Message). IsWritable m) (sym message) d.writable)),
+              (is_ask t x (subst (λ (m : Message). IsWritable m) (sym message) d.writable)),
         )
 
-    own : Contains (packet c).due d.due → (count : ℤ) × HasAckNack c.config ask.bytes c.writer c.reader count
-    own o = by (hears c).answer (subst (λ (ds : List Due). Contains ds d.due) (hears c).dues_are o)
+    own : (t : Told c) → Contains (packet t).due d.due
+        → (count : ℤ) × HasAckNack c.config ask.bytes c.writer c.reader count
+    own t o = by t (hears t).answer (subst (λ (ds : List Due). Contains ds d.due) (hears t).dues_are o)

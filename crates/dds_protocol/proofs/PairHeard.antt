@@ -1,8 +1,7 @@
--- The HEARTBEAT of a round at the reader's peer, and the ACKNACK that the reader sends.
-use Rattle.std.proofs.Common.{◌≡◌, ℕ, ℤ, ◌||◌, Bool, true, List, [], ◌∷◌, Option, Some, None, Contains, length, refl, subst, ap, sym, ◌∙◌, inl, inr, ⊎_elim, arith}
+-- The HEARTBEATs of a round at the reader's peer, and the ACKNACK that the reader sends.
+use Rattle.std.proofs.Common.{◌≡◌, ◌⊎◌, ℕ, ℤ, pos, ◌+◌, ◌<◌, ◌||◌, Bool, true, List, [], ◌∷◌, Option, Some, None, Contains, length, refl, subst, ap, sym, ◌∙◌, inl, inr, ⊎_elim, arith}
 use Rattle.std.proofs.lemmas.Option.{same_Some}
 use Rattle.dds_base.specs.declared.config.Config.{Config}
-use Rattle.dds_base.specs.declared.config.ReaderConfig.{ReaderConfig}
 use Rattle.dds_base.specs.declared.config.WriterConfig.{WriterConfig}
 use Rattle.dds_base.specs.declared.guid.EntityId.{EntityId}
 use Rattle.dds_base.specs.declared.guid.GuidPrefix.{GuidPrefix}
@@ -12,7 +11,10 @@ use Rattle.dds_base.specs.Counts.{is_later}
 use Rattle.rtps_reader.specs.declared.step.AckNackDue.{AckNackDue}
 use Rattle.rtps_wire.specs.declared.heartbeat.Heartbeat.{Heartbeat as HeartbeatBody}
 use Rattle.rtps_wire.specs.declared.message.Message.{Message}
-use Rattle.rtps_wire.specs.declared.submessage.Submessage.TheVariants.{AckNack, Heartbeat}
+use Rattle.rtps_wire.specs.declared.submessage.Submessage.TheVariants.{AckNack}
+use Rattle.rtps_wire.specs.declared.submessage.Submessage.{Submessage}
+use Rattle.dds_machine.specs.declared.reply.Move.{Move}
+use Rattle.std.proofs.lemmas.Bool.{cases_lt}
 use Rattle.rtps_wire.specs.Messages.{IsWritable, spelling_of}
 use Rattle.dds_base.specs.declared.endpoint.Endpoint.{Endpoint}
 use Rattle.dds_protocol.specs.declared.event.Event.TheVariants as event
@@ -21,13 +23,13 @@ use Rattle.dds_machine.specs.declared.event.WorldEvent.{WorldEvent}
 use Rattle.dds_machine.specs.declared.event.WorldEvent.TheVariants as world
 use Rattle.dds_machine.specs.declared.reply.Reply.{Reply}
 use Rattle.dds_machine.specs.declared.reply.Reply.TheVariants.{Reported}
-use Rattle.dds_machine.specs.Part.{Attachment, is_attached, Part}
-use Rattle.dds_protocol.specs.Claims.{Receiver, is_for, every_peer, Names, IsWriter, IsReader, IsToReliable}
+use Rattle.dds_machine.specs.Part.{Attachment, is_attached, Part, acknowledged_of, heartbeats_used, own_writer, writer_changes}
+use Rattle.dds_protocol.specs.Claims.{Receiver, is_for, every_peer, Names, IsWriter, IsToReliable}
 use Rattle.dds_protocol.specs.Receipt.{prefix_of}
 use Rattle.dds_machine.specs.Machine.{AllTests}
 use Rattle.dds_protocol.specs.Peer.{state_of}
 use Rattle.dds_protocol.specs.DueMessages.{Due, writer_entity, acknacks_due}
-use Rattle.dds_protocol.specs.Protocol.{State, TakesPacket}
+use Rattle.dds_protocol.specs.Protocol.{State, FollowsMessage, TakesPacket}
 use Rattle.dds_protocol.specs.World.{WorldState, WorldStep, peer_at, machine_of, Sound}
 use Rattle.dds_protocol.specs.Bounds.{IsBounded}
 use Rattle.dds_protocol.specs.Fresh.{HasAckNack}
@@ -37,13 +39,14 @@ use Rattle.dds_protocol.proofs.Bounded.{steps_bounded}
 use Rattle.dds_protocol.proofs.Composed.{composes, is_alone}
 use Rattle.dds_protocol.proofs.Dues.{addressed, message_to}
 use Rattle.dds_protocol.proofs.DuesAcknacks.{ask_body}
-use Rattle.dds_protocol.proofs.DuesMatched.{same_end}
+use Rattle.dds_protocol.proofs.DuesMatched.{reader_entity_is, same_end}
 use Rattle.dds_protocol.proofs.FreshCounts.{IsWrittenOf, steps_stays}
 use Rattle.dds_protocol.proofs.OwnGuids.{prefix-Decides}
-use Rattle.dds_protocol.proofs.PairMessages.{HeardPacket, heartbeat_packet}
-use Rattle.dds_protocol.proofs.PairReader.{SeatAs, reader_ends}
-use Rattle.dds_protocol.proofs.PairTicked.{beat_of, beat_message}
-use Rattle.dds_protocol.proofs.PairTurns.{Host, OfOther}
+use Rattle.dds_protocol.proofs.PairPackets.{FollowsOn, read_addressed}
+use Rattle.dds_protocol.proofs.PairReader.{SeatAs}
+use Rattle.dds_protocol.proofs.PairTold.{HeardPacket, IsFirstTo, IsPassed, IsUnnamed, NamesFirst, IsBeside, beats_passed, first_or_none, hears_first, not_named}
+use Rattle.dds_protocol.proofs.PairTurns.{Host, OfOther, Spares}
+use Rattle.dds_protocol.proofs.BeatsTo.{AreBeats, IsBeatOf, beat_among, beat_message, beat_of, beats_are, beats_to, beats_weaker, named_beat}
 
 -- ---- a packet that is delivered
 
@@ -136,12 +139,6 @@ to_reader p id named = record {
   reliable = p.pair.reliable;
 }
 
--- two names of one reader have one entity id
-pub reader_entities : (config : Config) (p q : GuidPrefix) (d e : EntityId) (r : Endpoint) (x : IsReader config p d r)
-    (y : IsReader config q e r) → d ≡ e
-reader_entities config p q d e r x y =
-    sym x.same_entity ∙ (ap (λ (z : ReaderConfig). z.entity) (reader_ends config p q d e r x y) ∙ y.same_entity)
-
 -- ---- the HEARTBEAT is heard
 
 abbrev pub ask_message : Pairing → EntityId → AckNackDue → Message
@@ -158,20 +155,23 @@ pub record HasAsked (p : Pairing) (h : HeartbeatBody) (m : Match) (old new : Sta
   pub writable : IsWritable (ask_message p hp.hears.is.entity x)
   pub bytes : ask.bytes ≡ spelling_of (ask_message p hp.hears.is.entity x)
 
+-- a packet with an ACKNACK of the reader is of no other one
+pub not_other : (p : Pairing) (dues : List Due) (ask : Packet) (count : ℤ)
+    → HasAckNack p.config ask.bytes p.writer p.reader count → (d : IsWrittenOf dues ask)
+    → OfOther (reader_host p) p.reader.number d.due → ⊥
+not_other p dues ask count of d o =
+    o.other (sym (ap (λ (e : Endpoint). e.number)
+    (o.asks.is p.writer p.reader count d.writable
+    (subst (λ (q : Packet). HasAckNack p.config q.bytes p.writer p.reader count) d.is of))))
+
 -- of the messages that are due, one with an ACKNACK of the reader is its own
 pub ask_found : (p : Pairing) (h : HeartbeatBody) → h.writer_id ≡ writer_id p
     → (m : Match) (old new : State) (dues : List Due) (hp : Heard p h m old dues new)
     → (ask : Packet) (count : ℤ) → HasAckNack p.config ask.bytes p.writer p.reader count → (d : IsWrittenOf dues ask)
     → HasAsked p h m old new dues hp ask
 ask_found p h id m old new dues hp ask count of d =
-    ⊎_elim (λ o. own o) (λ o. absurd (not_other o)) (hp.each d.due d.among)
+    ⊎_elim (λ o. own o) (λ o. absurd (not_other p dues ask count of d o)) (hp.each d.due d.among)
   where
-    has : HasAckNack p.config (spelling_of d.due.message) p.writer p.reader count
-    has = subst (λ (q : Packet). HasAckNack p.config q.bytes p.writer p.reader count) d.is of
-
-    not_other : OfOther (reader_host p) p.reader.number d.due → ⊥
-    not_other o = o.other (sym (ap (λ (e : Endpoint). e.number) (o.asks.is p.writer p.reader count d.writable has)))
-
     by : (a : Option AckNackDue) → hp.hears.answer ≡ a
         → Contains (acknacks_due (reader_prefix p) (writer_prefix p) p.writer.peer hp.hears.is.entity h.writer_id a)
         d.due → HasAsked p h m old new dues hp ask
@@ -198,30 +198,102 @@ ask_found p h id m old new dues hp ask count of d =
     own : Contains hp.due d.due → HasAsked p h m old new dues hp ask
     own among = by hp.hears.answer refl (subst (λ (ds : List Due). Contains ds d.due) hp.hears.dues_are among)
 
--- a HEARTBEAT that is new is heard
-pub hears_beat : (how : Attachment) → is_attached how ≡ true → (p : Pairing) (tests : AllTests) (part : Part) (m : Match)
-    (old : WorldState) (beat : Packet) (lost : ℕ) (new : WorldState)
+-- ---- the HEARTBEATs of a tick
+
+-- one of them tells the reader, which took it
+pub record ToldPacket (p : Pairing) (part : Part) (m : Match) (old : State) (dues : List Due)
+    (new : State) : Type 0 where
+  pub reader_id : EntityId
+  pub first : ℕ
+  pub heard : Heard p (beat_of p.config p.writer.peer part p.writer.number reader_id first) m old dues new
+
+-- none of them does: then the reader was not behind, and is as it was
+pub record MissedPacket (p : Pairing) (part : Part) (old : State) (dues : List Due) (new : State) : Type 0 where
+  pub spares : Spares (reader_host p) p.reader.number old dues new
+  pub past : (a : ℕ) → acknowledged_of (own_writer part p.writer.number).readers p.reader ≡ Some a
+      → length (writer_changes (own_writer part p.writer.number)) < a
+
+module _ (how : Attachment) (met : is_attached how ≡ true) (p : Pairing) (part : Part) (m : Match) (old new : State)
+    (moves : List Move) (dues : List Due) (seat : SeatAs how m p.writer p.reader.number old)
+    (follows : FollowsMessage p.config (reader_prefix p) p.reader.peer 1 (there p)
+    (beats_to p.config p.writer.peer part p.writer.number p.reader.peer) old moves None dues new) where
+  -- they are these
+  abbrev beats : List Submessage
+  beats = beats_to p.config p.writer.peer part p.writer.number p.reader.peer
+
+  abbrev IsOne : HeartbeatBody → Type 0
+  IsOne h = IsBeatOf p.config p.writer.peer part p.writer.number h
+
+  told_packet : is_later (old.known.tracked p.writer p.reader.number).count
+      (pos (heartbeats_used (own_writer part p.writer.number) + 1)) ≡ true
+      → NamesFirst (reader_host p) (there p) p.reader.number p.pair.reader_entity IsOne beats
+      → ToldPacket p part m old dues new
+  told_packet later f =
+      let body : HeartbeatBody =
+      beat_of p.config p.writer.peer part p.writer.number f.body.reader_id f.body.first_sn in
+      record {
+        reader_id = f.body.reader_id;
+        first = f.body.first_sn;
+        heard =
+            hears_first how met (reader_host p) (there p) body m p.writer p.reader.number refl
+            (to_reader p f.body.reader_id f.named) beats
+            (beats_weaker IsOne (IsBeside body)
+            (λ k is. (ap (λ (b : HeartbeatBody). b.writer_id) is, ap (λ (b : HeartbeatBody). b.count) is)) beats
+            (beats_are p.config p.writer.peer part p.writer.number p.reader.peer))
+            (subst (λ (b : HeartbeatBody). IsFirstTo (reader_host p) (there p) p.reader.number b beats) f.is f.first)
+            1 old moves dues new seat later follows;
+      }
+
+  missed_packet : AreBeats (IsUnnamed p.pair.reader_entity) beats → MissedPacket p part old dues new
+  missed_packet none = record {
+    spares =
+        beats_passed (reader_host p) (there p) p.reader.number 1 beats old moves dues new seat.rows
+        (beats_weaker (IsUnnamed p.pair.reader_entity) (IsPassed (reader_host p) (there p) p.reader.number old)
+        (λ k other w to. absurd (not_named (reader_host p) (there p) p.reader.number p.pair.reader_entity
+        p.pair.is_reader k other w to)) beats none)
+        follows;
+    past = λ a row.
+        ⊎_elim (λ past. past)
+        (λ behind.
+        let beat = named_beat p.config p.writer.peer part p.writer.number p.reader a row behind in
+        let entity =
+        reader_entity_is p.config (reader_prefix p) p.pair.reader_entity p.reader p.pair.is_reader in
+        absurd (beat_among (IsUnnamed p.pair.reader_entity) beats beat.body none beat.among
+        (subst (λ (e : EntityId). Names beat.body.reader_id e) entity beat.named)))
+        (cases_lt (length (writer_changes (own_writer part p.writer.number))) a);
+  }
+
+  -- HEARTBEATs that are new tell the reader, or it was not behind
+  pub told_or_missed : is_later (old.known.tracked p.writer p.reader.number).count
+      (pos (heartbeats_used (own_writer part p.writer.number) + 1)) ≡ true
+      → ToldPacket p part m old dues new ⊎ MissedPacket p part old dues new
+  told_or_missed later =
+      ⊎_elim (λ f. inl (told_packet later f)) (λ none. inr (missed_packet none))
+      (first_or_none (reader_host p) (there p) p.reader.number p.pair.reader_entity p.pair.is_reader IsOne beats
+      (beats_are p.config p.writer.peer part p.writer.number p.reader.peer))
+
+-- so it is where they are delivered in a packet
+pub hears_beats : (how : Attachment) → is_attached how ≡ true → (p : Pairing) (tests : AllTests) (part : Part)
+    (m : Match) (old : WorldState) (beat : Packet) (lost : ℕ) (new : WorldState)
     → IsWritable (beat_message p.config p.writer.peer part p.writer.number p.reader.peer)
     → beat.bytes ≡ spelling_of (beat_message p.config p.writer.peer part p.writer.number p.reader.peer)
     → (h : Delivers p.config tests old p.reader.peer beat lost new)
     → SeatAs how m p.writer p.reader.number (state_of (peer_at old p.reader.peer))
     → is_later ((peer_at old p.reader.peer).known.tracked p.writer p.reader.number).count
-    (beat_of p.config p.writer.peer part p.writer.number).count ≡ true
-    → Heard p (beat_of p.config p.writer.peer part p.writer.number) m (state_of (peer_at old p.reader.peer)) h.step.dues
-    (state_of (peer_at new p.reader.peer))
-hears_beat how met p tests part m old beat lost new writable bytes h seat later =
-    heartbeat_packet how met (reader_host p) refl (writer_prefix p)
-    (reader_prefix p) body m p.writer p.reader.number refl (to_reader p body.reader_id (inr refl))
-    (state_of (peer_at old p.reader.peer)) h.report h.step.dues
-    (state_of (peer_at new p.reader.peer)) seat later writable h.whole takes
+    (pos (heartbeats_used (own_writer part p.writer.number) + 1)) ≡ true
+    → ToldPacket p part m (state_of (peer_at old p.reader.peer)) h.step.dues (state_of (peer_at new p.reader.peer))
+    ⊎ MissedPacket p part (state_of (peer_at old p.reader.peer)) h.step.dues (state_of (peer_at new p.reader.peer))
+hears_beats how met p tests part m old beat lost new writable bytes h seat later =
+    told_or_missed how met p part m (state_of (peer_at old p.reader.peer)) (state_of (peer_at new p.reader.peer))
+    on.moves h.step.dues seat on.follows later
   where
-    body : HeartbeatBody
-    body = beat_of p.config p.writer.peer part p.writer.number
-
-    takes : TakesPacket p.config p.reader.peer
-        (spelling_of (message_to (writer_prefix p) (reader_prefix p) (Heartbeat body ∷ [])))
-        (state_of (peer_at old p.reader.peer)) h.report h.step.dues (state_of (peer_at new p.reader.peer))
-    takes =
-        subst (λ (b : List ℕ). TakesPacket p.config p.reader.peer b
+    on : FollowsOn p.config (reader_prefix p) p.reader.peer 1 (there p)
+        (beats_to p.config p.writer.peer part p.writer.number p.reader.peer) (state_of (peer_at old p.reader.peer))
+        h.step.dues (state_of (peer_at new p.reader.peer))
+    on =
+        read_addressed p.config (reader_prefix p) p.reader.peer refl (writer_prefix p) (reader_prefix p)
+        (beats_to p.config p.writer.peer part p.writer.number p.reader.peer) (state_of (peer_at old p.reader.peer))
+        h.report h.step.dues (state_of (peer_at new p.reader.peer)) writable h.whole
+        (subst (λ (b : List ℕ). TakesPacket p.config p.reader.peer b
         (state_of (peer_at old p.reader.peer)) h.report h.step.dues (state_of (peer_at new p.reader.peer))) bytes
-        (delivered_takes p.config tests old p.reader.peer beat lost new h)
+        (delivered_takes p.config tests old p.reader.peer beat lost new h))

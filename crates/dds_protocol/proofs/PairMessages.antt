@@ -1,5 +1,6 @@
--- What the messages of a round do at a pair: a HEARTBEAT and answers at the reader, an ACKNACK at the writer.
-use Rattle.std.proofs.Common.{◌≡◌, ◌⊎◌, ℕ, ◌+◌, Bool, true, false, List, [], ◌∷◌, ◌++◌, Option, Some, None, Contains, length, flat_map, refl, subst, ap, sym, ◌∙◌, inl, inr, arith}
+-- What the messages of a round do at a pair once the HEARTBEAT was heard: an ACKNACK at the writer, answers at the
+-- reader.
+use Rattle.std.proofs.Common.{◌≡◌, ℕ, ◌+◌, Bool, true, false, List, [], ◌∷◌, ◌++◌, Option, Some, None, length, flat_map, refl, subst, sym, arith}
 use Rattle.std.specs.Prelude.{if◌then◌else◌}
 use Rattle.std.specs.List.{All}
 use Rattle.std.proofs.lemmas.List.Elements.{All-head, All-tail}
@@ -8,14 +9,12 @@ use Rattle.dds_base.specs.declared.guid.EntityId.{EntityId}
 use Rattle.dds_base.specs.declared.guid.GuidPrefix.{GuidPrefix}
 use Rattle.dds_base.specs.Kept.{change_at, numbers_from}
 use Rattle.dds_base.specs.Places.{Match}
-use Rattle.dds_base.specs.Counts.{is_later}
 use Rattle.rtps_reader.specs.Tracked.{with_data, with_gap}
 use Rattle.rtps_sets.specs.NumberSet.{empty_from}
 use Rattle.rtps_wire.specs.declared.data.Data.{Data as DataBody}
 use Rattle.rtps_wire.specs.declared.gap.Gap.{Gap as GapBody}
-use Rattle.rtps_wire.specs.declared.heartbeat.Heartbeat.{Heartbeat as HeartbeatBody}
 use Rattle.rtps_wire.specs.declared.submessage.Submessage.{Submessage}
-use Rattle.rtps_wire.specs.declared.submessage.Submessage.TheVariants.{InfoDst, InfoTs, Data, Heartbeat, AckNack, Gap}
+use Rattle.rtps_wire.specs.declared.submessage.Submessage.TheVariants.{InfoTs, Data, AckNack, Gap}
 use Rattle.rtps_wire.specs.Content.{change_in, content_of}
 use Rattle.rtps_wire.specs.Messages.{IsWritable, spelling_of}
 use Rattle.rtps_writer.specs.declared.answer.Answer.{Answer}
@@ -23,8 +22,8 @@ use Rattle.rtps_writer.specs.declared.answer.Answer.TheVariants.{Data as Answers
 use Rattle.dds_base.specs.declared.endpoint.Endpoint.{Endpoint}
 use Rattle.dds_machine.specs.declared.reply.Move.{Move}
 use Rattle.dds_machine.specs.declared.reply.Report.{Report}
-use Rattle.dds_machine.specs.Part.{Attachment, is_attached, own_writer}
-use Rattle.dds_protocol.specs.Claims.{Receiver, receiver_of, after_submessage, is_for, stamp_of, IsToReliable}
+use Rattle.dds_machine.specs.Part.{own_writer}
+use Rattle.dds_protocol.specs.Claims.{Receiver, after_submessage, is_for, stamp_of, IsToReliable}
 use Rattle.dds_protocol.specs.Receipt.{prefix_of}
 use Rattle.dds_protocol.specs.DueMessages.{Due, data_of, submessages_of, answer_message}
 use Rattle.dds_protocol.specs.Protocol.{State, InTurn, ReaderTakes, is_taken_up, Takes, FollowsMessage, TakesPacket}
@@ -32,74 +31,9 @@ use Rattle.dds_protocol.specs.Backed.{reader_at}
 use Rattle.dds_protocol.specs.CatchUp.{TakesAnswer, TakesAnswers}
 use Rattle.dds_protocol.proofs.Dues.{addressed, message_to}
 use Rattle.dds_protocol.proofs.PairAsked.{Asking, Took, HasRow, asked_takes}
-use Rattle.dds_protocol.proofs.PairPackets.{read_whole, FollowsOn, idle_head, dst_idle, ts_idle, TakesLast, last_head}
-use Rattle.dds_protocol.proofs.PairReader.{standing_of, Seat, SeatAs, seat_kept, MovesBy, moves_between, data_moves, gap_moves, HearsBy, heartbeat_moves, hears_between}
-use Rattle.dds_protocol.proofs.PairTurns.{Host, Keeps, keeps_same, keeps_on, OfOther, TurnOf, turns_keep, turn_of}
-
--- ---- a HEARTBEAT
-
--- the reader took it, and what is due is its ACKNACK, or of other readers of its peer
-pub record HeardPacket (c : Host) (at : Receiver) (h : HeartbeatBody) (m : Match) (w : Endpoint) (r : ℕ) (old : State)
-    (dues : List Due) (new : State) : Type 0 where
-  pub due : List Due
-  pub hears : HearsBy c at h m w r old due new
-  pub keeps : Keeps old new
-  pub each : (d : Due) → Contains dues d → Contains due d ⊎ OfOther c r d
-  pub among : (d : Due) → Contains due d → Contains dues d
-
-pub heartbeat_packet : (how : Attachment) → is_attached how ≡ true → (c : Host) → c.own ≡ prefix_of c.config c.peer
-    → (from to : GuidPrefix) (h : HeartbeatBody) (m : Match) (w : Endpoint) (r : ℕ)
-    → h.liveliness_flag ≡ false → IsToReliable c.config c.own (addressed from to) h.reader_id h.writer_id w
-    (reader_at c.peer r)
-    → (old : State) (report : Report) (dues : List Due) (new : State) → SeatAs how m w r old
-    → is_later (old.known.tracked w r).count h.count ≡ true
-    → IsWritable (message_to from to (Heartbeat h ∷ [])) → report.refused ≡ None
-    → TakesPacket c.config c.peer (spelling_of (message_to from to (Heartbeat h ∷ []))) old report dues new
-    → HeardPacket c (addressed from to) h m w r old dues new
-heartbeat_packet how met c own from to h m w r quiet is old report dues new s later writable whole takes =
-    record {
-      due = turn.due;
-      hears =
-          hears_between c at h m w r old turn.before turn.after new turn.due turn.same_before turn.same_after
-          turn.keeps_before keeps s hears;
-      keeps = keeps;
-      each = turn.each;
-      among = turn.among;
-    }
-  where
-    at : Receiver
-    at = addressed from to
-
-    ss : List Submessage
-    ss = InfoDst to ∷ Heartbeat h ∷ []
-
-    follows : FollowsMessage c.config c.own c.peer 0 (receiver_of from) ss old report.moves None dues new
-    follows =
-        subst (λ (p : GuidPrefix). FollowsMessage c.config p c.peer 0
-        (receiver_of from) ss old report.moves None dues new) (sym own)
-        (read_whole c.config c.peer (message_to from to (Heartbeat h ∷ [])) old report dues new writable whole takes)
-
-    next : FollowsOn c.config c.own c.peer (0 + 1) at (Heartbeat h ∷ []) old dues new
-    next =
-        idle_head c.config c.own c.peer 0 (receiver_of from) (InfoDst to) (Heartbeat h ∷ []) old report.moves dues new
-        (λ made first mid k. dst_idle c.config c.own c.peer (receiver_of from) to old made first mid k) follows
-
-    last : TakesLast c.config c.own c.peer at (Heartbeat h) old dues new
-    last = last_head c.config c.own c.peer (0 + 1) at (Heartbeat h) old next.moves dues new next.follows
-
-    turn : TurnOf c at (Heartbeat h) r old dues new
-    turn =
-        let low = s.rows.0 in let high = s.rows.1 in turn_of c at (Heartbeat h) r 1
-        (length old.part.rtps.readers) old last.moves dues new low (omega (arith, high)) last.takes
-
-    keeps : Keeps old new
-    keeps = turns_keep c at (Heartbeat h) 1 (length old.part.rtps.readers) old last.moves dues new last.takes
-
-    hears : HearsBy c at h m w r turn.before turn.due turn.after
-    hears =
-        heartbeat_moves how met c at h m w r quiet is turn.before turn.made turn.due turn.after
-        (seat_kept m w r old turn.before turn.same_before turn.keeps_before s)
-        (ap (λ t. is_later t.count h.count) (turn.same_before.tracked w) ∙ later) turn.takes
+use Rattle.dds_protocol.proofs.PairPackets.{FollowsOn, read_addressed, idle_head, ts_idle, TakesFirst, first_head, TakesLast, last_head}
+use Rattle.dds_protocol.proofs.PairReader.{standing_of, Seat, seat_kept, MovesBy, moves_between, data_moves, gap_moves}
+use Rattle.dds_protocol.proofs.PairTurns.{Host, Keeps, keeps_same, keeps_on, TurnOf, turns_keep, turn_of}
 
 -- ---- answers
 
@@ -119,24 +53,6 @@ answered_more : (m : Match) (w : Endpoint) (r : ℕ) (a : Answer) (rest : List A
     → Answered m w r (a ∷ rest) old new
 answered_more m w r a rest old mid new one k h =
     record { seat = h.seat; keeps = keeps_on old mid new k h.keeps; takes = (standing_of mid w r, one, h.takes) }
-
--- a submessage for readers, which comes first
-record First (c : Host) (index : ℕ) (at : Receiver) (s : Submessage) (ss : List Submessage) (old : State)
-    (new : State) : Type 0 where
-  made : List Move
-  first : List Due
-  mid : State
-  takes : Takes c.config c.own c.peer at s old made first mid
-  later : List Move
-  dues : List Due
-  follows : FollowsMessage c.config c.own c.peer (index + 1) (after_submessage c.own at s) ss mid later None dues new
-
-first_of : (c : Host) (index : ℕ) (at : Receiver) (s : Submessage) (ss : List Submessage) (old : State)
-    (moves : List Move) (dues : List Due) (new : State)
-    → FollowsMessage c.config c.own c.peer index at (s ∷ ss) old moves None dues new → First c index at s ss old new
-first_of c index at s ss old moves dues new (inl h) = let none = h.0 in absurd cc
-first_of c index at s ss old moves dues new (inr h) =
-    record { made = h.0; first = h.2; mid = h.4; takes = h.7; later = h.1; dues = h.3; follows = h.8 }
 
 -- a reader's turn at a submessage for readers
 turn_at : (c : Host) (at : Receiver) (s : Submessage) (m : Match) (w : Endpoint) (r : ℕ) (old : State)
@@ -231,11 +147,13 @@ take_data c changes reader writer m w r n rest change (Some x) is later index at
     idle_head c.config c.own c.peer index at (InfoTs stamp)
     (Data body ∷ all_of changes reader writer rest) old moves dues new
     (λ made first mid k. ts_idle c.config c.own c.peer at stamp old made first mid k) h in
-    let f : First c (index + 1) at' (Data body) (all_of changes reader writer rest) old new =
-    first_of c (index + 1) at' (Data body) (all_of changes reader writer rest) old on.moves dues new on.follows in
+    let f : TakesFirst c.config c.own c.peer (index + 1) at' (Data body) (all_of changes reader writer rest) old dues
+    new =
+    first_head c.config c.own c.peer (index + 1) at' (Data body) (all_of changes reader writer rest) old on.moves dues
+    new on.follows in
     let one = data_answers c at' body m w r to' old f.made f.first f.mid s f.takes in
     answered_more m w r (AnswersData n) rest old f.mid new (change_in (content_of x) at'.timestamp, one.0.goes) one.1
-    (later (index + 1 + 1) at' f.mid f.later f.dues new to' one.0.seat f.follows)
+    (later (index + 1 + 1) at' f.mid f.later f.rest new to' one.0.seat f.follows)
 
 take_gap : (c : Host) (changes : List Change) (reader writer : EntityId) (m : Match) (w : Endpoint) (r first last : ℕ)
     (rest : List Answer) → TakesRest c changes reader writer m w r rest
@@ -247,11 +165,11 @@ take_gap : (c : Host) (changes : List Change) (reader writer : EntityId) (m : Ma
 take_gap c changes reader writer m w r first last rest later index at old moves dues new to s h =
     let body : GapBody =
     record { reader_id = reader; writer_id = writer; gap_start = first; gap_list = empty_from (last + 1) } in
-    let f : First c index at (Gap body) (all_of changes reader writer rest) old new =
-    first_of c index at (Gap body) (all_of changes reader writer rest) old moves dues new h in
+    let f : TakesFirst c.config c.own c.peer index at (Gap body) (all_of changes reader writer rest) old dues new =
+    first_head c.config c.own c.peer index at (Gap body) (all_of changes reader writer rest) old moves dues new h in
     let one = gap_answers c at body m w r to old f.made f.first f.mid s f.takes in
     answered_more m w r (AnswersGap first last) rest old f.mid new one.0.goes one.1
-    (later (index + 1) at f.mid f.later f.dues new to one.0.seat f.follows)
+    (later (index + 1) at f.mid f.later f.rest new to one.0.seat f.follows)
 
 takes_answers : (c : Host) (changes : List Change) (reader writer : EntityId) (m : Match) (w : Endpoint) (r : ℕ)
     (answers : List Answer) → All (HasChange changes) answers → TakesRest c changes reader writer m w r answers
@@ -280,25 +198,10 @@ pub answers_packet : (c : Host) → c.own ≡ prefix_of c.config c.peer
     dues new
     → Answered m w r answers old new
 answers_packet c own from to reader writer changes answers m w r is all old report dues new s writable whole takes =
-    takes_answers c changes reader writer m w r answers all (0 + 1)
-    (addressed from to) old next.moves dues new is s next.follows
-  where
-    ss : List Submessage
-    ss = InfoDst to ∷ all_of changes reader writer answers
-
-    follows : FollowsMessage c.config c.own c.peer 0 (receiver_of from) ss old report.moves None dues new
-    follows =
-        subst (λ (p : GuidPrefix). FollowsMessage c.config p c.peer 0
-        (receiver_of from) ss old report.moves None dues new) (sym own)
-        (read_whole c.config c.peer (answer_message from to reader writer changes answers) old report dues new writable
-        whole takes)
-
-    next : FollowsOn c.config c.own c.peer (0 + 1) (addressed from to)
-        (all_of changes reader writer answers) old dues new
-    next =
-        idle_head c.config c.own c.peer 0 (receiver_of from) (InfoDst to)
-        (all_of changes reader writer answers) old report.moves dues new
-        (λ made first mid k. dst_idle c.config c.own c.peer (receiver_of from) to old made first mid k) follows
+    let on : FollowsOn c.config c.own c.peer 1 (addressed from to) (all_of changes reader writer answers) old dues new =
+    read_addressed c.config c.own c.peer own from to (all_of changes reader writer answers) old report dues new writable
+    whole takes in
+    takes_answers c changes reader writer m w r answers all 1 (addressed from to) old on.moves dues new is s on.follows
 
 -- ---- an ACKNACK
 
@@ -318,20 +221,9 @@ acknack_packet c own from to at old report dues new taken row writable whole tak
     h : Host
     h = c.host
 
-    follows : FollowsMessage h.config h.own h.peer 0 (receiver_of from)
-        (InfoDst to ∷ AckNack c.body ∷ []) old report.moves None dues new
-    follows =
-        subst (λ (p : GuidPrefix). FollowsMessage h.config p h.peer 0 (receiver_of from)
-        (InfoDst to ∷ AckNack c.body ∷ []) old report.moves None dues new) (sym own)
-        (read_whole h.config h.peer (message_to from to (AckNack c.body ∷ [])) old report dues new writable whole takes)
-
-    next : FollowsOn h.config h.own h.peer (0 + 1) (addressed from to) (AckNack c.body ∷ []) old dues new
-    next =
-        idle_head h.config h.own h.peer 0 (receiver_of from) (InfoDst to)
-        (AckNack c.body ∷ []) old report.moves dues new
-        (λ made first mid k. dst_idle h.config h.own h.peer (receiver_of from) to old made first mid k) follows
+    on : FollowsOn h.config h.own h.peer 1 (addressed from to) (AckNack c.body ∷ []) old dues new
+    on =
+        read_addressed h.config h.own h.peer own from to (AckNack c.body ∷ []) old report dues new writable whole takes
 
     last : TakesLast h.config h.own h.peer (addressed from to) (AckNack c.body) old dues new
-    last =
-        last_head h.config h.own h.peer (0 + 1) (addressed from to)
-        (AckNack c.body) old next.moves dues new next.follows
+    last = last_head h.config h.own h.peer 1 (addressed from to) (AckNack c.body) old on.moves dues new on.follows

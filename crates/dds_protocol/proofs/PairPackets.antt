@@ -14,7 +14,7 @@ use Rattle.dds_protocol.specs.Claims.{Receiver, receiver_of, after_submessage}
 use Rattle.dds_protocol.specs.Receipt.{prefix_of}
 use Rattle.dds_protocol.specs.DueMessages.{Due}
 use Rattle.dds_protocol.specs.Protocol.{State, InTurn, Idles, ReaderTakes, Takes, FollowsMessage, TakesPacket}
-use Rattle.dds_protocol.proofs.Dues.{read_again}
+use Rattle.dds_protocol.proofs.Dues.{addressed, message_to, read_again}
 use Rattle.dds_machine.proofs.Tables.{append_nothing}
 
 -- the packet is that message, all of which is taken up
@@ -86,6 +86,39 @@ ts_idle config own peer at moment old made first mid h =
     idle_turns (ReaderTakes config own peer at (InfoTs moment)) (λ x o m d n k. k)
     (numbers_from 1 (length old.part.rtps.readers)) old made first mid h
 
+-- a message for this peer is taken up as what follows its INFO_DST
+pub read_addressed : (config : Config) (own : GuidPrefix) (peer : ℕ) → own ≡ prefix_of config peer
+    → (from to : GuidPrefix) (ss : List Submessage) (old : State) (report : Report) (dues : List Due) (new : State)
+    → IsWritable (message_to from to ss) → report.refused ≡ None
+    → TakesPacket config peer (spelling_of (message_to from to ss)) old report dues new
+    → FollowsOn config own peer 1 (addressed from to) ss old dues new
+read_addressed config own peer is from to ss old report dues new writable whole takes =
+    idle_head config own peer 0 (receiver_of from) (InfoDst to) ss old report.moves dues new
+    (λ made first mid k. dst_idle config own peer (receiver_of from) to old made first mid k)
+    (subst (λ (p : GuidPrefix). FollowsMessage config p peer 0
+    (receiver_of from) (InfoDst to ∷ ss) old report.moves None dues new) (sym is)
+    (read_whole config peer (message_to from to ss) old report dues new writable whole takes))
+
+-- a submessage that comes first, and those that follow
+pub record TakesFirst (config : Config) (own : GuidPrefix) (peer index : ℕ) (at : Receiver) (s : Submessage)
+    (ss : List Submessage) (old : State) (dues : List Due) (new : State) : Type 0 where
+  pub made : List Move
+  pub first : List Due
+  pub mid : State
+  pub takes : Takes config own peer at s old made first mid
+  pub later : List Move
+  pub rest : List Due
+  pub all : dues ≡ first ++ rest
+  pub follows : FollowsMessage config own peer (index + 1) (after_submessage own at s) ss mid later None rest new
+
+pub first_head : (config : Config) (own : GuidPrefix) (peer index : ℕ) (at : Receiver) (s : Submessage)
+    (ss : List Submessage) (old : State) (moves : List Move) (dues : List Due) (new : State)
+    → FollowsMessage config own peer index at (s ∷ ss) old moves None dues new
+    → TakesFirst config own peer index at s ss old dues new
+first_head config own peer index at s ss old moves dues new (inl h) = let none = h.0 in absurd cc
+first_head config own peer index at s ss old moves dues new (inr h) =
+    record { made = h.0; first = h.2; mid = h.4; takes = h.7; later = h.1; rest = h.3; all = h.6; follows = h.8 }
+
 -- a submessage that stands alone at the end
 pub record TakesLast (config : Config) (own : GuidPrefix) (peer : ℕ) (at : Receiver) (s : Submessage) (old : State)
     (dues : List Due) (new : State) : Type 0 where
@@ -96,11 +129,13 @@ pub last_head : (config : Config) (own : GuidPrefix) (peer index : ℕ) (at : Re
     (moves : List Move) (dues : List Due) (new : State)
     → FollowsMessage config own peer index at (s ∷ []) old moves None dues new
     → TakesLast config own peer at s old dues new
-last_head config own peer index at s old moves dues new (inl h) = let none = h.0 in absurd cc
-last_head config own peer index at s old moves dues new (inr h) = record {
-  moves = h.0;
-  takes =
-      subst (λ (ds : List Due). Takes config own peer at s old h.0 ds new)
-      (sym (h.6 ∙ (ap (λ (ds : List Due). h.2 ++ ds) h.8.1.1 ∙ append_nothing h.2)))
-      (subst (λ (x : State). Takes config own peer at s old h.0 h.2 x) (sym h.8.1.2) h.7);
-}
+last_head config own peer index at s old moves dues new h =
+    let f : TakesFirst config own peer index at s [] old dues new =
+    first_head config own peer index at s [] old moves dues new h in
+    record {
+      moves = f.made;
+      takes =
+          subst (λ (ds : List Due). Takes config own peer at s old f.made ds new)
+          (sym (f.all ∙ (ap (λ (ds : List Due). f.first ++ ds) f.follows.1.1 ∙ append_nothing f.first)))
+          (subst (λ (x : State). Takes config own peer at s old f.made f.first x) (sym f.follows.1.2) f.takes);
+    }

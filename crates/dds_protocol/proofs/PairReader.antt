@@ -64,7 +64,7 @@ pub record SeatAs (how : Attachment) (m : Match) (w : Endpoint) (r : ℕ) (s : S
 abbrev pub Seat : Match → Endpoint → ℕ → State → Type 0
 Seat m w r s = SeatAs Begun m w r s
 
-has_as : {X : Type 0} (xs ys : List X) (n : ℕ) → length ys ≡ length xs → HasNumber xs n → HasNumber ys n
+pub has_as : {X : Type 0} (xs ys : List X) (n : ℕ) → length ys ≡ length xs → HasNumber xs n → HasNumber ys n
 has_as xs ys n e h = let low = h.0 in let high = h.1 in (low, omega (arith, high, e))
 
 pub seat_as : {how : Attachment} (m : Match) (w : Endpoint) (r : ℕ) (old new : State) → SameAt old new r
@@ -176,6 +176,12 @@ reader_ends config p q d e r x y =
     let within : slice_get y.peer.readers (r.number - 1) ≡ Some x.end =
     subst (λ (z : PeerConfig). slice_get z.readers (r.number - 1) ≡ Some x.end) peer x.at_reader.1 in
     same_Some x.end y.end (sym within ∙ y.at_reader.1)
+
+-- they have one entity id
+pub reader_entities : (config : Config) (p q : GuidPrefix) (d e : EntityId) (r : Endpoint) (x : IsReader config p d r)
+    (y : IsReader config q e r) → d ≡ e
+reader_entities config p q d e r x y =
+    sym x.same_entity ∙ (ap (λ (z : ReaderConfig). z.entity) (reader_ends config p q d e r x y) ∙ y.same_entity)
 
 -- so it is reliable by any of its names, where it is by one
 reliable_too : (c : Host) (at : Receiver) (reader_id writer_id : EntityId) (w v x : Endpoint)

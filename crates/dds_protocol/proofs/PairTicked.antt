@@ -1,5 +1,5 @@
 -- A tick sends each HEARTBEAT of a writer as one message, and leaves what its readers have and know.
-use Rattle.std.proofs.Common.{◌≡◌, ◌⊎◌, ℕ, ℤ, pos, ◌+◌, ◌≤ℤ◌, Bool, true, false, List, [], ◌∷◌, Option, Some, None, Contains, length, refl, subst, ap, sym, ◌∙◌, inl, inr, ⊎_elim, arith, int_lt}
+use Rattle.std.proofs.Common.{◌≡◌, ◌⊎◌, ℕ, ℤ, pos, ◌+◌, ◌≤ℤ◌, Bool, true, false, List, Option, Some, None, Contains, length, refl, subst, ap, sym, ◌∙◌, inl, inr, ⊎_elim, arith, int_lt}
 use Rattle.std.specs.List.{All}
 use Rattle.std.proofs.lemmas.Int.{ints}
 use Rattle.std.proofs.lemmas.List.Elements.{All-contains}
@@ -8,7 +8,6 @@ use Rattle.dds_base.specs.Checked.{check_refusal}
 use Rattle.dds_base.specs.Counts.{is_later}
 use Rattle.rtps_wire.specs.declared.heartbeat.Heartbeat.{Heartbeat as HeartbeatBody}
 use Rattle.rtps_wire.specs.declared.message.Message.{Message}
-use Rattle.rtps_wire.specs.declared.submessage.Submessage.TheVariants.{Heartbeat}
 use Rattle.rtps_wire.specs.Messages.{IsWritable, spelling_of}
 use Rattle.dds_base.specs.declared.endpoint.Endpoint.{Endpoint}
 use Rattle.dds_protocol.specs.declared.event.Event.TheVariants as event
@@ -18,6 +17,7 @@ use Rattle.dds_machine.specs.declared.reply.Reply.{Reply}
 use Rattle.dds_machine.specs.declared.reply.Reply.TheVariants.{Done}
 use Rattle.dds_machine.specs.Part.{Part, own_writer, writer_changes}
 use Rattle.dds_machine.specs.Ticks.{TickStep}
+use Rattle.dds_protocol.specs.Claims.{IsWriter, Receiver}
 use Rattle.dds_protocol.specs.Receipt.{prefix_of}
 use Rattle.dds_protocol.specs.Dues.{IsPartOf}
 use Rattle.dds_machine.specs.Machine.{AllTests}
@@ -27,9 +27,8 @@ use Rattle.dds_machine.specs.Numbered.{HasNumber}
 use Rattle.dds_protocol.specs.World.{WorldState, WorldStep, PeerSteps, peer_at}
 use Rattle.dds_protocol.specs.Fresh.{HasHeartbeat}
 use Rattle.dds_protocol.specs.Rules.{RuledStep}
-use Rattle.dds_protocol.proofs.CountsWritten.{one_beat}
-use Rattle.dds_protocol.proofs.Dues.{message_to}
-use Rattle.dds_protocol.proofs.DuesHeartbeats.{beat_body, of_all}
+use Rattle.dds_protocol.proofs.BeatsTo.{IsBeatOf, beat_message, beat_read, beats_are, beats_to}
+use Rattle.dds_protocol.proofs.DuesHeartbeats.{of_all}
 use Rattle.dds_protocol.proofs.DuesMatched.{own_name}
 use Rattle.dds_protocol.proofs.DuesParts.{tick_changes}
 use Rattle.dds_protocol.proofs.FreshCounts.{IsWrittenOf, sent_written, known_of}
@@ -47,31 +46,26 @@ new_count (Some last) n used = by (int_lt last (pos (n + 1))) refl
     by true e = e
     by false e = let low = used last refl in absurd (omega (arith, ints, low))
 
--- the HEARTBEAT of the peer's writer of this number
-abbrev pub beat_of : Config → ℕ → Part → ℕ → HeartbeatBody
-beat_of config peer part number = beat_body config peer part number false false
-
-abbrev pub beat_message : Config → ℕ → Part → ℕ → ℕ → Message
-beat_message config peer part number to =
-    message_to (prefix_of config peer) (prefix_of config to) (Heartbeat (beat_of config peer part number) ∷ [])
-
 -- a message with a HEARTBEAT of a writer is that of the peer's writer
-record IsBeatOf (config : Config) (peer : ℕ) (part : Part) (due : Due) : Type 0 where
+record HasBeatOf (config : Config) (peer : ℕ) (part : Part) (due : Due) : Type 0 where
   is : (w : Endpoint) (count : ℤ) → IsWritable due.message → HasHeartbeat config (spelling_of due.message) w count
       → due.message ≡ beat_message config peer part w.number due.to
 
 beats_of : (config : Config) (peer : ℕ) (part : Part) → check_refusal config.peers ≡ None → IsPartOf config peer part
-    → All (IsBeatOf config peer part) (heartbeats_due config peer part)
+    → All (HasBeatOf config peer part) (heartbeats_due config peer part)
 beats_of config peer part checked of =
-    of_all config peer part (IsBeatOf config peer part)
+    of_all config peer part (HasBeatOf config peer part)
     (λ number to there left behind. record {
       is = λ w count writable has.
           let me : Endpoint = record { peer = peer; number = number } in
           let found =
-          one_beat config (prefix_of config peer) (prefix_of config to)
-          (beat_of config peer part number) w count writable has in
+          beat_read (IsBeatOf config peer part number) (prefix_of config peer) (prefix_of config to) has.own has.at
+          (beats_to config peer part number to) has.heartbeat (beats_are config peer part number to) writable has.there in
+          let from : IsWriter config (prefix_of config peer) (writer_entity config peer number) w =
+          subst (λ (r : Receiver). IsWriter config r.source_guid_prefix (writer_entity config peer number) w) found.0
+          (subst (λ (h : HeartbeatBody). IsWriter config has.at.source_guid_prefix h.writer_id w) found.1 has.from) in
           let same : w ≡ me =
-          one_writer config (prefix_of config peer) (writer_entity config peer number) w me checked found.0
+          one_writer config (prefix_of config peer) (writer_entity config peer number) w me checked from
           (own_name config peer part of number there).name in
           ap (λ (e : Endpoint). beat_message config peer part e.number to) (sym same);
     })
@@ -99,9 +93,9 @@ beat_packet config tests old now lost new writer packet count checked of h among
     d : IsWrittenOf h.dues packet
     d = sent_written config tests old (world.Tick writer.peer now) Done lost new h packet among
 
-    is_beat : IsBeatOf config writer.peer part d.due
+    is_beat : HasBeatOf config writer.peer part d.due
     is_beat =
-        All-contains (IsBeatOf config writer.peer part) (heartbeats_due config writer.peer part) d.due
+        All-contains (HasBeatOf config writer.peer part) (heartbeats_due config writer.peer part) d.due
         (beats_of config writer.peer part checked of)
         (subst (λ (ds : List Due). Contains ds d.due) h.due d.among)
 

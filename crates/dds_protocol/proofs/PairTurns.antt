@@ -1,5 +1,5 @@
 -- The readers of a peer take a submessage up in turn: what one of them does, the others leave as it is.
-use Rattle.std.proofs.Common.{◌≡◌, ◌⊎◌, ℕ, ℤ, zero, suc, ◌+◌, ◌<◌, ◌≤◌, Bool, true, false, List, [], Option, Some, None, Contains, length, refl, subst, ap, sym, ◌∙◌, inl, inr, ⊎_elim, arith, max}
+use Rattle.std.proofs.Common.{◌≡◌, ◌⊎◌, ℕ, ℤ, zero, suc, ◌+◌, ◌<◌, ◌≤◌, Bool, true, false, List, [], ◌++◌, Option, Some, None, Contains, length, refl, subst, ap, sym, ◌∙◌, inl, inr, ⊎_elim, arith, max}
 use Rattle.std.proofs.lemmas.Bool.{cases_lt}
 use Rattle.std.proofs.lemmas.List.Elements.{Contains-append_cases, Contains-append_left, Contains-append_right}
 use Rattle.dds_base.specs.declared.config.Config.{Config}
@@ -304,39 +304,58 @@ turns_keep c at s first count old moves dues new h =
     (ReaderTakes c.config c.own c.peer at s)
     (λ k a ms ds b t. (reader_leaves c at s k a ms ds b t).keeps) (numbers_from first count) old moves dues new h
 
--- those after it
-record Later (c : Host) (r : ℕ) (old : State) (dues : List Due) (new : State) : Type 0 where
-  same : SameAt old new r
-  others : (d : Due) → Contains dues d → OfOther c r d
+-- What others did leaves this reader as it was, and what is due is of them.
+pub record Spares (c : Host) (r : ℕ) (old : State) (dues : List Due) (new : State) : Type 0 where
+  pub same : SameAt old new r
+  pub keeps : Keeps old new
+  pub others : (d : Due) → Contains dues d → OfOther c r d
 
-later_turns : (c : Host) (at : Receiver) (s : Submessage) (r first count : ℕ) (old : State) (moves : List Move)
-    (dues : List Due) (new : State) → r < first → Turns c at s first count old moves dues new → Later c r old dues new
-later_turns c at s r first zero old moves dues new past h = record {
+pub spares_idle : (c : Host) (r : ℕ) (old : State) (moves : List Move) (dues : List Due) (new : State)
+    → Idles old moves dues new → Spares c r old dues new
+spares_idle c r old moves dues new h = record {
   same = subst (λ (x : State). SameAt old x r) (sym h.2) (at_same old r);
+  keeps = subst (λ (x : State). Keeps old x) (sym h.2) (keeps_same old);
   others =
       λ d among. let empty = ap (λ (ds : List Due). length ds) h.1 in let lt = among.1 in
       absurd (omega (arith, empty, lt));
 }
-later_turns c at s r first (suc count) old moves dues new past h =
-    let rest : Later c r h.4 h.3 new =
-    later_turns c at s r (first + 1) count h.4 h.1 h.3 new (omega (arith, past)) h.8 in
-    let not_r : r ≡ first → ⊥ = λ e. omega (arith, past, e) in
+
+pub spares_on : (c : Host) (r : ℕ) (old mid new : State) (first rest dues : List Due) → dues ≡ first ++ rest
+    → Spares c r old first mid → Spares c r mid rest new → Spares c r old dues new
+spares_on c r old mid new first rest dues all f g = record {
+  same = same_on old mid new r f.same g.same;
+  keeps = keeps_on old mid new f.keeps g.keeps;
+  others = λ d among.
+      ⊎_elim (λ o. f.others d o) (λ o. g.others d o)
+      (Contains-append_cases first rest d (subst (λ (ds : List Due). Contains ds d) all among));
+}
+
+-- the turn of another reader
+other_turn : (c : Host) (at : Receiver) (s : Submessage) (r k : ℕ) → (r ≡ k → ⊥)
+    → (old : State) (moves : List Move) (dues : List Due) (new : State)
+    → ReaderTakes c.config c.own c.peer at s k old moves dues new → Spares c r old dues new
+other_turn c at s r k apart old moves dues new h =
+    let left : Leaves old k new = reader_leaves c at s k old moves dues new h in
     record {
-      same = same_on old h.4 new r ((reader_leaves c at s first old h.0 h.2 h.4 h.7).same r not_r) rest.same;
+      same = left.same r apart;
+      keeps = left.keeps;
       others = λ d among.
-          ⊎_elim (λ f. record {
-            reader = first;
-            other = λ e. not_r
-                (sym e);
-            asks = reader_asks c at s first old h.0 h.2 h.4 h.7 d f;
-          }) (λ l. rest.others d l)
-          (Contains-append_cases h.2 h.3 d (subst (λ (ds : List Due). Contains ds d) h.6 among));
+          record { reader = k; other = λ e. apart (sym e); asks = reader_asks c at s k old moves dues new h d among };
     }
+
+-- those after it
+later_turns : (c : Host) (at : Receiver) (s : Submessage) (r first count : ℕ) (old : State) (moves : List Move)
+    (dues : List Due) (new : State) → r < first → Turns c at s first count old moves dues new → Spares c r old dues new
+later_turns c at s r first zero old moves dues new past h = spares_idle c r old moves dues new h
+later_turns c at s r first (suc count) old moves dues new past h =
+    spares_on c r old h.4 new h.2 h.3 dues h.6
+    (other_turn c at s r first (λ e. omega (arith, past, e)) old h.0 h.2 h.4 h.7)
+    (later_turns c at s r (first + 1) count h.4 h.1 h.3 new (omega (arith, past)) h.8)
 
 turn_first : (c : Host) (at : Receiver) (s : Submessage) (r count : ℕ) (old : State) (moves : List Move)
     (dues : List Due) (new : State) → Turns c at s r (suc count) old moves dues new → TurnOf c at s r old dues new
 turn_first c at s r count old moves dues new h =
-    let rest : Later c r h.4 h.3 new = later_turns c at s r (r + 1) count h.4 h.1 h.3 new (omega arith) h.8 in
+    let rest : Spares c r h.4 h.3 new = later_turns c at s r (r + 1) count h.4 h.1 h.3 new (omega arith) h.8 in
     record {
       before = old;
       after = h.4;
@@ -361,23 +380,18 @@ turn_later c at s r first count old moves dues new not_r h t = record {
   after = t.after;
   made = t.made;
   due = t.due;
-  same_before = same_on old h.4 t.before r (left.same r not_r) t.same_before;
-  keeps_before = keeps_on old h.4 t.before left.keeps t.keeps_before;
+  same_before = same_on old h.4 t.before r one.same t.same_before;
+  keeps_before = keeps_on old h.4 t.before one.keeps t.keeps_before;
   takes = t.takes;
   same_after = t.same_after;
   each = λ d among.
-      ⊎_elim (λ f. inr (record {
-        reader = first;
-        other = λ e. not_r
-            (sym e);
-        asks = reader_asks c at s first old h.0 h.2 h.4 h.7 d f;
-      })) (λ l. t.each d l)
+      ⊎_elim (λ f. inr (one.others d f)) (λ l. t.each d l)
       (Contains-append_cases h.2 h.3 d (subst (λ (ds : List Due). Contains ds d) h.6 among));
   among = λ d own. subst (λ (ds : List Due). Contains ds d) (sym h.6) (Contains-append_right h.2 h.3 d (t.among d own));
 }
   where
-    left : Leaves old first h.4
-    left = reader_leaves c at s first old h.0 h.2 h.4 h.7
+    one : Spares c r old h.2 h.4
+    one = other_turn c at s r first not_r old h.0 h.2 h.4 h.7
 
 -- another number that is no less is greater
 pub above : (r first : ℕ) → first ≤ r → (r ≡ first → ⊥) → first + 1 ≤ r

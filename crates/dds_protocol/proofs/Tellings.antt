@@ -7,7 +7,7 @@ use Rattle.dds_base.specs.Kept.{change_at}
 use Rattle.dds_base.specs.declared.endpoint.Endpoint.{Endpoint}
 use Rattle.dds_machine.specs.declared.call.Call.{Call}
 use Rattle.dds_machine.specs.declared.reply.Reply.{Reply}
-use Rattle.dds_machine.specs.Calls.{CallStep, effect, effect_of, tells}
+use Rattle.dds_machine.specs.Calls.{CallStep, Effect, effect, effect_of, tells}
 use Rattle.dds_machine.specs.Matching.{Telling, TellStep}
 use Rattle.dds_machine.specs.Numbered.{numbered}
 use Rattle.dds_machine.specs.Part.{Part, Rtps, WriterProxy, heard_of, no_writer, own_proxies, own_writer, place_of, writer_changes}
@@ -16,8 +16,9 @@ use Rattle.dds_protocol.specs.Backed.{IsBacked}
 use Rattle.dds_protocol.specs.Dues.{AreSmall, StaysDue}
 use Rattle.dds_protocol.specs.Peer.{Delivery}
 use Rattle.dds_protocol.specs.Protocol.{State}
+use Rattle.dds_protocol.proofs.DuesFew.{few_told}
 use Rattle.dds_protocol.proofs.DuesParts.{call_part}
-use Rattle.dds_protocol.proofs.Growth.{CallStep-grows, CallStep-rows, none_before}
+use Rattle.dds_protocol.proofs.Growth.{CallStep-grows, CallStep-rows, Untold, none_before}
 use Rattle.dds_protocol.proofs.Told.{OrNew, telling_keeps, telling_places, telling_readers, telling_rows, told_so, untold_or_told}
 
 -- what is there of the rows of readers was there, or is that of a new row; and there are as many readers
@@ -83,6 +84,9 @@ call_stays_due config peer tests old c reply new t is h = record {
       subst (λ (most : ℕ). AreSmall most (writer_changes (own_writer new w)))
       (sym ((CallStep-grows tests old c reply new h).writers w).values)
       (subst (λ (xs : List Change). AreSmall (own_writer old w).max_value xs) (sym (changes w)) (all w));
+  few = λ all.
+      ⊎_elim (λ untold. absurd (subst (λ (e : Effect). Untold e) is untold))
+      (λ told. few_told old told.0 new told.1 all) (untold_or_told tests old c reply new h);
 }
   where
     changes : (w : ℕ) → writer_changes (own_writer new w) ≡ writer_changes (own_writer old w)

@@ -97,6 +97,10 @@ StandsAt own receiver (s ∷ ss) (suc index) at submessage =
 abbrev pub every_reader : EntityId
 every_reader = record { 0 = replicate 4 0 }
 
+-- the entity id that names a participant itself, and so no reader: ENTITYID_PARTICIPANT (RTPS 2.5, 9.3)
+abbrev pub participant_entity : EntityId
+participant_entity = record { 0 = 0x00 ∷ 0x00 ∷ 0x01 ∷ 0xc1 ∷ [] }
+
 -- the readerId names the reader of this entity id
 abbrev pub Names : EntityId → EntityId → Type 0
 Names reader_id entity = (reader_id ≡ entity) ⊎ (reader_id ≡ every_reader)

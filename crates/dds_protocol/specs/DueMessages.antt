@@ -2,16 +2,18 @@
 -- assertion and a HEARTBEAT also to whom.
 --
 -- RTPS 2.5, 8.4.9 (reliable StatefulWriter), 8.4.12 (reliable StatefulReader), 8.3.8 (AckNack, Data, Gap, Heartbeat).
-use Rattle.std.specs.Prelude.{◌≡◌, ◌⊎◌, ℕ, ◌+◌, ◌-◌, Bool, true, false, if◌then◌else◌, nat_lt, nat_le, List, [], ◌∷◌, ◌++◌, length, map, filter, Option, Some, None, pos, slice_get}
-use Rattle.std.specs.List.{flat_map}
+use Rattle.std.specs.Prelude.{◌≡◌, ◌⊎◌, ℕ, ◌+◌, ◌-◌, ◌==◌, ◌||◌, Bool, true, false, not, if◌then◌else◌, nat_lt, nat_le, max, min, List, [], ◌∷◌, ◌++◌, length, map, filter, Option, Some, None, pos, slice_get}
+use Rattle.std.specs.List.{flat_map, list_all}
 use Rattle.std.specs.Option.{option_map_or}
 use Rattle.dds_base.specs.declared.change.Change.{Change}
 use Rattle.dds_base.specs.declared.config.Config.{Config}
 use Rattle.dds_base.specs.declared.config.PeerConfig.{PeerConfig}
+use Rattle.dds_base.specs.declared.config.ReaderConfig.{ReaderConfig}
 use Rattle.dds_base.specs.declared.config.WriterConfig.{WriterConfig}
 use Rattle.dds_base.specs.declared.guid.EntityId.{EntityId}
 use Rattle.dds_base.specs.declared.guid.GuidPrefix.{GuidPrefix}
 use Rattle.dds_base.specs.Bounds.{max_count}
+use Rattle.dds_base.specs.Checked.{unknown_prefix}
 use Rattle.dds_base.specs.Kept.{change_at, first_kept}
 use Rattle.rtps_wire.specs.declared.message.Message.{Message}
 use Rattle.rtps_wire.specs.declared.submessage.Submessage.{Submessage}
@@ -24,8 +26,9 @@ use Rattle.rtps_writer.specs.declared.answer.Answer.{Answer}
 use Rattle.rtps_writer.specs.declared.answer.Answer.TheVariants.{Data as AnswersData, Gap as AnswersGap}
 use Rattle.dds_base.specs.declared.endpoint.Endpoint.{Endpoint}
 use Rattle.dds_protocol.specs.declared.event.Packet.{Packet}
-use Rattle.dds_machine.specs.Part.{Part, ReaderProxy, Writer, peers_of, writer_changes, heartbeats_used, history_of}
-use Rattle.dds_protocol.specs.Claims.{every_reader}
+use Rattle.dds_machine.specs.Numbered.{numbered}
+use Rattle.dds_machine.specs.Part.{Part, ReaderProxy, Writer, peers_of, writer_changes, heartbeats_used, history_of, row_of}
+use Rattle.dds_protocol.specs.Claims.{every_reader, participant_entity}
 use Rattle.dds_protocol.specs.Receipt.{prefix_of}
 
 -- a message that is due to the peer of this number
@@ -79,6 +82,15 @@ writer_entity config peer number =
     option_map_or (λ (p : PeerConfig). option_map_or (λ (w : WriterConfig). w.entity)
     (slice_get p.writers (number - 1)) every_reader) (slice_get config.peers (peer - 1)) every_reader
 
+-- the entity ids of a peer's readers, by the configuration
+abbrev pub reader_entities : Config → ℕ → List EntityId
+reader_entities config peer = map (λ (r : ReaderConfig). r.entity)
+    (numbered config.peers peer (record { prefix = unknown_prefix; writers = []; readers = [] })).readers
+
+-- the entity id of a peer's reader; where there is none, one that no reader has
+abbrev pub reader_entity : Config → ℕ → ℕ → EntityId
+reader_entity config peer number = numbered (reader_entities config peer) number participant_entity
+
 -- a change is announced at once to each peer with a matched reader, for all of its readers
 abbrev pub change_message : (own to : GuidPrefix) (writer : EntityId) → ℕ → Change → Message
 change_message own to writer number change =
@@ -98,38 +110,69 @@ abbrev pub readers_behind : Writer → List Endpoint
 readers_behind w = map (λ (p : ReaderProxy). p.reader)
     (filter (λ (p : ReaderProxy). nat_le p.acknowledged (length (writer_changes w))) w.readers)
 
--- a HEARTBEAT of a writer with these flags: from its first kept number to its last, with the next count
-abbrev pub heartbeat_with : (final liveliness : Bool) (own to : GuidPrefix) (writer : EntityId) → Writer → Message
-heartbeat_with final liveliness own to writer w = record {
-  prefix = own;
-  submessages = InfoDst to ∷ Heartbeat (record {
-    reader_id = every_reader;
-    writer_id = writer;
-    first_sn = first_kept (history_of w);
-    last_sn = length (writer_changes w);
-    count = pos (heartbeats_used w + 1);
-    final_flag = final;
-    liveliness_flag = liveliness;
-  }) ∷ [];
+-- the reader of this row is owed the changes from this number on
+abbrev pub owed_to : Writer → ReaderProxy → ℕ
+owed_to w p = min p.first (length (writer_changes w) + 1)
+
+-- where a HEARTBEAT to a reader begins: at the first number that is kept, or at the first that the reader is owed, if
+-- that is greater; a best-effort one has no row, and is owed none
+abbrev pub begins_at : Writer → Endpoint → ℕ
+begins_at w reader =
+    max (first_kept (history_of w))
+    (option_map_or (owed_to w) (row_of (λ (p : ReaderProxy). p.reader) w.readers reader) 0)
+
+-- one HEARTBEAT is for all readers at this peer: each reliable one there is owed all that is kept
+abbrev pub is_one_for_all : Writer → ℕ → Bool
+is_one_for_all w to = list_all (λ (p : ReaderProxy).
+    not (p.reader.peer == to) || nat_le (owed_to w p) (first_kept (history_of w))) w.readers
+
+-- a HEARTBEAT of a writer with these flags, to readers of this entity id: from this number to its last, with the next
+-- count
+abbrev pub heartbeat_from : (final liveliness : Bool) (reader writer : EntityId) → ℕ → Writer → Submessage
+heartbeat_from final liveliness reader writer first w =
+    Heartbeat (record {
+      reader_id = reader;
+      writer_id = writer;
+      first_sn = first;
+      last_sn = length (writer_changes w);
+      count = pos (heartbeats_used w + 1);
+      final_flag = final;
+      liveliness_flag = liveliness;
+    })
+
+-- The HEARTBEATs of a writer to those of these readers that are at this peer: one for all of them, from the first kept
+-- number; or, where some reader there is owed no more than what comes later, one by name to each, from where that one
+-- begins (RTPS 2.5, 8.3.8: a HEARTBEAT's readerId).
+abbrev pub heartbeats_to : Config → (final liveliness : Bool) → (peer number : ℕ) → Writer → List Endpoint → ℕ
+    → List Submessage
+heartbeats_to config final liveliness peer number w readers to =
+    if is_one_for_all w to
+    then heartbeat_from final liveliness every_reader (writer_entity config peer number) (first_kept (history_of w)) w
+    ∷ []
+    else map (λ (r : Endpoint). heartbeat_from final liveliness (reader_entity config r.peer r.number)
+    (writer_entity config peer number) (begins_at w r) w) (filter (λ (r : Endpoint). r.peer == to) readers)
+
+-- the message to this peer with these
+abbrev pub heartbeats_due_to : Config → (final liveliness : Bool) → (peer number : ℕ) → Writer → List Endpoint → ℕ
+    → Due
+heartbeats_due_to config final liveliness peer number w readers to = record {
+  to = to;
+  message = record {
+    prefix = prefix_of config peer;
+    submessages = InfoDst (prefix_of config to) ∷ heartbeats_to config final liveliness peer number w readers to;
+  };
 }
 
--- the HEARTBEAT of a tick, which asks for an answer
-abbrev pub heartbeat_message : (own to : GuidPrefix) (writer : EntityId) → Writer → Message
-heartbeat_message own to writer w = heartbeat_with false false own to writer w
+-- what is due to these readers of a writer: a message to each of their peers
+abbrev pub heartbeats_for : Config → (final liveliness : Bool) → (peer number : ℕ) → Writer → List Endpoint → List Due
+heartbeats_for config final liveliness peer number w readers =
+    map (heartbeats_due_to config final liveliness peer number w readers) (peers_of readers)
 
--- the HEARTBEAT of an assertion, which asks for none (RTPS 2.5, 8.3.8: FinalFlag, LivelinessFlag)
-abbrev pub assertion_message : (own to : GuidPrefix) (writer : EntityId) → Writer → Message
-assertion_message own to writer w = heartbeat_with true true own to writer w
-
--- at a tick, one to each peer with a reader that is behind, while there are counts left
+-- at a tick, those that are behind are asked for an answer, while there are counts left
 abbrev pub heartbeats_of : Config → ℕ → ℕ → Writer → List Due
 heartbeats_of config peer number w =
     if nat_lt (heartbeats_used w) max_count
-    then map (λ to. record {
-      to = to;
-      message = heartbeat_message (prefix_of config peer) (prefix_of config to) (writer_entity config peer number) w;
-    })
-    (peers_of (readers_behind w))
+    then heartbeats_for config false false peer number w (readers_behind w)
     else []
 
 -- the HEARTBEATs that are due at a tick from these writers, the first of which has this number
@@ -142,14 +185,10 @@ heartbeats_from config peer number (w ∷ ws) =
 abbrev pub heartbeats_due : Config → ℕ → Part → List Due
 heartbeats_due config peer part = heartbeats_from config peer 1 part.rtps.writers
 
--- a writer's assertion is told at once to each peer with a matched reader
+-- a writer's assertion is told at once to all its matched readers, and asks for no answer (RTPS 2.5, 8.3.8: FinalFlag,
+-- LivelinessFlag)
 abbrev pub assertions_due : Config → Endpoint → Writer → List Due
-assertions_due config writer w =
-    map (λ to. record {
-      to = to;
-      message = assertion_message (prefix_of config writer.peer) (prefix_of config to)
-          (writer_entity config writer.peer writer.number) w;
-    }) (peers_of w.matched)
+assertions_due config writer w = heartbeats_for config true true writer.peer writer.number w w.matched
 
 -- the packet of a message that is due, in the one written form that it has
 abbrev pub packet_of : Due → Packet

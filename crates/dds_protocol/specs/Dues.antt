@@ -2,14 +2,15 @@
 --
 -- A notion of this project, of the messages of RTPS 2.5, 8.4.9 (reliable StatefulWriter) and 8.4.12 (reliable
 -- StatefulReader); 8.3.8 has what each submessage means.
-use Rattle.std.specs.Prelude.{◌≡◌, ℕ, ◌<◌, ◌≤◌, List, length, Some}
-use Rattle.std.specs.List.{All, AllByRecursion}
+use Rattle.std.specs.Prelude.{◌≡◌, ℕ, ◌<◌, ◌≤◌, ◌==◌, true, List, length, map, Some}
+use Rattle.std.specs.List.{All, AllByRecursion, count_by}
 use Rattle.dds_base.specs.declared.change.Change.{Change}
 use Rattle.dds_base.specs.declared.config.Config.{Config}
 use Rattle.dds_base.specs.declared.config.PeerConfig.{PeerConfig}
 use Rattle.dds_base.specs.declared.config.ReaderConfig.{ReaderConfig}
 use Rattle.dds_base.specs.declared.config.WriterConfig.{WriterConfig}
-use Rattle.dds_base.specs.Bounds.{end_of_moments, greatest_value, key_octets, max_sn, window_width}
+use Rattle.dds_base.specs.declared.endpoint.Endpoint.{Endpoint}
+use Rattle.dds_base.specs.Bounds.{end_of_moments, greatest_value, key_octets, max_ends, max_sn, window_width}
 use Rattle.dds_base.specs.Kept.{change_at}
 use Rattle.rtps_wire.specs.declared.submessage.Submessage.{Submessage}
 use Rattle.rtps_wire.specs.declared.submessage.Submessage.TheVariants.{AckNack}
@@ -20,8 +21,8 @@ use Rattle.rtps_wire.specs.Messages.{IsWritable, spelling_of}
 use Rattle.dds_machine.specs.declared.call.Call.{Call}
 use Rattle.dds_machine.specs.declared.reply.Reply.{Reply}
 use Rattle.dds_machine.specs.Calls.{CallStep, effect_of, tells}
-use Rattle.dds_machine.specs.Matching.{Telling}
-use Rattle.dds_machine.specs.Part.{Part, own_writer, writer_changes}
+use Rattle.dds_machine.specs.Matching.{Telling, is_matched, knows_reader}
+use Rattle.dds_machine.specs.Part.{Part, ReaderProxy, TopicReader, Writer, own_writer, same_endpoint, writer_changes}
 use Rattle.dds_machine.specs.Watching.{Tests}
 use Rattle.dds_protocol.specs.Claims.{IsNumbered, Claim, Claims}
 use Rattle.dds_protocol.specs.Peer.{IsTrueAt}
@@ -74,11 +75,29 @@ abbrev pub HasSmallChanges : Part → Type 0
 HasSmallChanges part = (writer : ℕ)
     → AreSmall (own_writer part writer).max_value (writer_changes (own_writer part writer))
 
+-- no peer has more of these readers than a peer may have
+abbrev pub AreFew : List Endpoint → Type 0
+AreFew readers = (peer : ℕ) → count_by (λ (r : Endpoint). r.peer == peer) readers ≤ max_ends
+
+-- the readers of the writer's topic are few; it is matched with none but those, and with none twice; its rows are of
+-- matched ones
+pub record MatchesFew (w : Writer) : Type 0 where
+  pub few : AreFew (map (λ (k : TopicReader). k.reader) w.known)
+  pub known : (reader : Endpoint) → is_matched w reader ≡ true → knows_reader w reader ≡ true
+  pub once : (reader : Endpoint) → count_by (λ e. same_endpoint e reader) w.matched ≤ 1
+  pub rows : (reader : Endpoint) → count_by (λ (p : ReaderProxy). same_endpoint p.reader reader) w.readers
+      ≤ count_by (λ e. same_endpoint e reader) w.matched
+
+-- so is each of the peer's writers
+abbrev pub HasFewMatches : Part → Type 0
+HasFewMatches part = (writer : ℕ) → MatchesFew (own_writer part writer)
+
 -- what the truth of due messages, and that they can be written, rest on stays so of a peer's part
 pub record StaysDue (config : Config) (peer : ℕ) (old new : Part) : Type 0 where
   pub part : IsPartOf config peer old → IsPartOf config peer new
   pub tellable : AreTellable old → AreTellable new
   pub small : HasSmallChanges old → HasSmallChanges new
+  pub few : HasFewMatches old → HasFewMatches new
 
 -- so it is after a call that tells a writer or a reader that the two are matched, or no longer
 abbrev pub CallsStayDue : Type 0

@@ -31,7 +31,7 @@ use Rattle.dds_protocol.specs.DueMessages.{Due, assertions_due, heartbeats_due}
 use Rattle.dds_protocol.specs.Protocol.{State, TakesPacket}
 use Rattle.dds_protocol.specs.Resuming.{Resumes}
 use Rattle.dds_protocol.specs.Backed.{IsBacked}
-use Rattle.dds_protocol.specs.Dues.{AreTellable, IsPartOf, AreTruthful, IsSized, HasSmallChanges, CanBeWritten}
+use Rattle.dds_protocol.specs.Dues.{AreTellable, IsPartOf, AreTruthful, IsSized, HasSmallChanges, HasFewMatches, CanBeWritten}
 use Rattle.dds_machine.specs.Moves.{ArePlaces, AreMoves}
 use Rattle.dds_machine.specs.Ticks.{TickStep}
 use Rattle.dds_machine.specs.Calls.{CallStep}
@@ -192,6 +192,12 @@ HeartbeatsAreTrue = (config : Config) (peer : ℕ) (old : Part) (now : ℕ) (rep
     → check_refusal config.peers ≡ None → IsPartOf config peer old → TickStep old now reply new
     → AreTruthful config peer new (heartbeats_due config peer old)
 
+-- each message with them can be written, in a configuration whose names have their octets, where the changes are small
+-- and the matched readers few
+abbrev pub HeartbeatsCanBeWritten : Type 0
+HeartbeatsCanBeWritten = (config : Config) (peer : ℕ) (part : Part) → IsPartOf config peer part → IsSized config
+    → HasSmallChanges part → HasFewMatches part → All CanBeWritten (heartbeats_due config peer part)
+
 -- and the HEARTBEATs that tell an assertion are true of the peer that has entered it
 abbrev pub AssertionsAreTrue : Type 0
 AssertionsAreTrue = (config : Config) (tests : Tests) (peer writer : ℕ) (old new : Part)
@@ -200,9 +206,9 @@ AssertionsAreTrue = (config : Config) (tests : Tests) (peer writer : ℕ) (old n
     → AreTruthful config peer new
     (assertions_due config (record { peer = peer; number = writer }) (own_writer old writer))
 
--- each HEARTBEAT that tells an assertion can be written, in a configuration whose names have their octets, where the
--- changes are small
+-- each message that tells an assertion can be written too
 abbrev pub AssertionsCanBeWritten : Type 0
 AssertionsCanBeWritten = (config : Config) (tests : Tests) (peer writer : ℕ) (old new : Part) → IsPartOf config peer old
     → CallStep tests old (AssertLiveliness writer) Done new → IsSized config → HasSmallChanges old
+    → HasFewMatches old
     → All CanBeWritten (assertions_due config (record { peer = peer; number = writer }) (own_writer old writer))

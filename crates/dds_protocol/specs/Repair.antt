@@ -171,12 +171,13 @@ pub record HasAskOf (config : Config) (writer reader : Endpoint) (packets : List
   pub count : ℤ
   pub has : HasAckNack config packet.bytes writer reader count
 
--- a HEARTBEAT that begins a round is answered by an ACKNACK, which is sent where nothing is lost, while there are
--- counts left, and numbers
+-- a HEARTBEAT that begins a round of a reader that has not acknowledged all changes is answered by an ACKNACK, which is
+-- sent where nothing is lost, while there are counts left, and numbers
 abbrev pub AsksAreSent : Type 0
 AsksAreSent = (config : Config) (tests : AllTests) (writer reader : Endpoint) (place acknowledged : ℕ)
     (old heard : WorldState) → check_refusal config.peers ≡ None → Sound config old → HasUsedCounts config old
     → IsBounded (machine_of old) → IsPair config writer reader → StandsAt old writer reader place acknowledged
+    → acknowledged ≤ length (writer_changes (writer_at (machine_of old) writer))
     → length (writer_changes (writer_at (machine_of old) writer)) < max_sn
     → acknacks_used_at old writer reader < max_count
     → (begins : BeginsRound config tests writer reader old heard) → begins.lost_asks ≡ 0

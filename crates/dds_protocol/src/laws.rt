@@ -12,7 +12,7 @@ ghost use Rattle.dds_protocol.specs.DueMessages.{AreSent, Due, packet_of};
 ghost use Rattle.dds_protocol.specs.Dues.{CallsStayDue};
 ghost use Rattle.dds_protocol.specs.Fresh.{OpensUsed, StepsUsed};
 ghost use Rattle.dds_protocol.specs.InOrder.{ChangesComeInOrder};
-ghost use Rattle.dds_protocol.specs.Laws.{AnswersAreTrue, AnswersCanBeWritten, AssertionsAreTrue, AssertionsCanBeWritten, Composes, ComposesRuns, HeartbeatsAreTrue, KeepAllIsKept, OpensBacked, OpensSound, OwnersExist, ReadersTellWritersApart, ResumesRestOnClaims, RulesRestOnClaims};
+ghost use Rattle.dds_protocol.specs.Laws.{AnswersAreTrue, AnswersCanBeWritten, AssertionsAreTrue, AssertionsCanBeWritten, Composes, ComposesRuns, HeartbeatsAreTrue, HeartbeatsCanBeWritten, KeepAllIsKept, OpensBacked, OpensSound, OwnersExist, ReadersTellWritersApart, ResumesRestOnClaims, RulesRestOnClaims};
 ghost use Rattle.dds_protocol.specs.Protocol.{answers_per};
 ghost use Rattle.dds_protocol.specs.Repair.{AnswersAreFew, AsksAreSent, BeatsAreSent, PairCatchesUp, packets_for};
 ghost use Rattle.dds_protocol.specs.Tellings.{RunsOweNoMore, StepsOweNoMore};
@@ -157,6 +157,8 @@ pub fn what_is_due_is_true()
     ensures packet { AnswersAreTrue }
     // So do the HEARTBEATs that are due at a tick.
     ensures tick { HeartbeatsAreTrue }
+    // They have a written form, whichever readers are behind.
+    ensures ticked { HeartbeatsCanBeWritten }
     // What is due to a packet has a written form, whatever the packet asked for.
     ensures written { AnswersCanBeWritten }
     // So do the HEARTBEATs that tell an assertion.
@@ -210,7 +212,7 @@ pub fn pair_catches_up()
     ensures round { PairCatchesUp }
     // It begins with a HEARTBEAT where the reader is behind.
     ensures beat { BeatsAreSent }
-    // The reader answers that with an ACKNACK.
+    // A reader that is behind answers that with an ACKNACK.
     ensures ask { AsksAreSent }
     // The answers to that go in 32 packets at most, or in 256 where values may be longer than usual.
     ensures answers { AnswersAreFew }
