@@ -1,12 +1,12 @@
 -- What an assertion of one of the peer's writers does.
-use Rattle.std.proofs.Common.{◌≡◌, ℕ, suc, ◌+◌, ◌-◌, ◌^◌, ◌<◌, Bool, true, false, not, List, Some, None, map, length, slice_get, refl, ap, sym, ◌∙◌, subst, arith}
+use Rattle.std.proofs.Common.{◌≡◌, ℕ, suc, ◌+◌, ◌-◌, ◌^◌, ◌<◌, Bool, true, false, not, List, Some, None, length, slice_get, refl, ap, sym, ◌∙◌, subst, arith}
 use Rattle.std.specs.Prelude.{nat_le, if◌then◌else◌}
 use Rattle.dds_base.specs.declared.code.Code.{Code}
 use Rattle.dds_base.specs.declared.code.Code.TheVariants.{BadParameter, OutOfResources}
 use Rattle.dds_base.specs.declared.config.Config.{Config}
-use Rattle.dds_base.specs.declared.guid.EntityId.{EntityId}
 use Rattle.dds_base.specs.declared.guid.GuidPrefix.{GuidPrefix}
 use Rattle.dds_base.specs.Written.{Asserted}
+use Rattle.dds_base.specs.declared.endpoint.Endpoint.{Endpoint}
 use Rattle.dds_machine.specs.declared.call.Call.TheVariants as call
 use Rattle.dds_protocol.specs.declared.event.Event.TheVariants as event
 use Rattle.dds_protocol.specs.declared.event.Packet.{Packet}
@@ -17,15 +17,13 @@ use Rattle.dds_machine.specs.Numbered.{has_element}
 use Rattle.dds_conditions.specs.NoFilters.{no_filters}
 use Rattle.dds_machine.specs.Part.{Writer, heartbeats_used, own_writer}
 use Rattle.dds_protocol.specs.Peer.{Peer}
-use Rattle.dds_protocol.specs.DueMessages.{Due, AreSent, assertion_message, assertions_due, writer_entity}
-use Rattle.dds_protocol.specs.Receipt.{prefix_of}
+use Rattle.dds_protocol.specs.DueMessages.{Due, AreSent, assertions_due, heartbeats_for}
 use Rattle.dds_protocol.proofs.DuesAssertions.{assertions_true}
-use Rattle.dds_core.specs.declared.matching.Destination.{Destination}
-use Rattle.dds_core.specs.Beating.{HasNoCount, TellsOf, assertions_of, due_to}
+use Rattle.dds_core.specs.Beating.{HasNoCount, TellsOf, assertions_of}
 use Rattle.dds_core.specs.Kept.{WriterKept, PeerKept}
 use Rattle.dds_core.specs.Standing.{StandsFor}
 use Rattle.dds_core.specs.Stepping.{Enters}
-use Rattle.dds_core.proofs.BeatsDue.{IsNamed, all_named, by_number, named, part_of, sends_to, sent_true}
+use Rattle.dds_core.proofs.BeatsDue.{IsNamed, all_named, named, named_reader, part_of, sent_are_due, sent_true}
 use Rattle.dds_core.proofs.CallSteps.{Follows, answered_as, number_is, refused_as, refused_call, there_is}
 use Rattle.dds_core.proofs.Ends.{with_writer, entered_at, own_writer_stepped, unchanged_with}
 use Rattle.dds_core.proofs.Taking.{silent}
@@ -36,16 +34,10 @@ pub assertions_are : (config : Config) (peer : ℕ) (prefix : GuidPrefix) (numbe
     → IsNamed config peer prefix number k w
     → assertions_of prefix k w ≡ assertions_due config (record { peer = peer; number = number }) w
 assertions_are config peer prefix number k w is =
-    let ds : List Destination = k.destinations in
-    let own : GuidPrefix = prefix_of config peer in
-    let entity : EntityId = writer_entity config peer number in
-    sym (ap (λ (ns : List ℕ). map (λ (to : ℕ). due_to to (assertion_message own (prefix_of config to) entity w)) ns)
-    (sends_to config peer prefix number k w is)
-    ∙ (by_number config (λ to. assertion_message own to entity w) ds (all_named config is.topic k.matched ds k.readers is.ends)
-    ∙ (ap (λ (x : GuidPrefix). map (λ (d : Destination). due_to d.peer (assertion_message x d.prefix entity w)) ds)
-    is.own
-    ∙ ap (λ (x : EntityId). map (λ (d : Destination). due_to d.peer (assertion_message prefix d.prefix x w)) ds)
-    is.entity)))
+    sent_are_due config true peer prefix number k.entity w k.matched k.destinations is.own is.entity
+    (λ j n at. named_reader config is.topic n (is.ends.readers j n at))
+    is.ends.sent_to (all_named config is.topic k.matched k.destinations k.readers is.ends)
+    ∙ ap (λ (es : List Endpoint). heartbeats_for config true true peer number w es) (sym is.matched)
 
 -- the peer's writer of this index, and what is told of it
 told_at : (kept : PeerKept) (i : ℕ) (k : WriterKept) (config : Config) (peer : Peer)

@@ -16,30 +16,27 @@ use Rattle.rtps_writer.specs.declared.heartbeat.HeartbeatDue.{HeartbeatDue}
 use Rattle.dds_base.specs.declared.endpoint.Endpoint.{Endpoint}
 use Rattle.dds_protocol.specs.declared.event.Packet.{Packet}
 use Rattle.dds_machine.specs.Part.{Writer, heartbeats_used}
-use Rattle.dds_protocol.specs.DueMessages.{Due, AreSent, assertion_message}
-use Rattle.dds_core.specs.declared.heartbeat.Beat.{Beat}
+use Rattle.dds_protocol.specs.DueMessages.{Due, AreSent}
 use Rattle.dds_core.specs.declared.matching.Destination.{Destination}
-use Rattle.dds_core.specs.Beating.{Adds, IsHeartbeatValid, assertions_of, due_to, message_to, told_to}
+use Rattle.dds_core.specs.Beating.{Adds, IsDueOf, assertions_of, beat_of, beats_message}
 use Rattle.dds_core.specs.Kept.{WriterKept}
 use Rattle.dds_core.specs.Standing.{state_of}
-use Rattle.dds_core.proofs.Beating.{due_by, made_is, valid_next, written_on}
+use Rattle.dds_core.proofs.Beating.{due_by, made_is, written_on}
 
 -- ---- one destination more
 
-pub told_more : (beat : Beat) (ds : List Destination) (i : ℕ) (d : Destination) (p q : List Packet) (m n : ℕ)
-    → i < length ds
-    → AreSent (told_to beat (take i ds)) p m
-    → Adds (due_to (get_or ds i d).peer (message_to beat (get_or ds i d).prefix) ∷ []) p m q n
-    → AreSent (told_to beat (take (i + 1) ds)) q n
-told_more beat ds i d p q m n lt h k =
-    let tell : Destination → Due = λ e. due_to e.peer (message_to beat e.prefix) in
+pub told_more : (tell : Destination → Due) (ds : List Destination) (i : ℕ) (d : Destination) (p q : List Packet) (m n : ℕ)
+    → i < length ds → AreSent (map tell (take i ds)) p m → Adds (tell (get_or ds i d) ∷ []) p m q n
+    → AreSent (map tell (take (i + 1) ds)) q n
+told_more tell ds i d p q m n lt h k =
     let last : Destination = get_or ds i d in
-    let all : told_to beat (take (i + 1) ds) ≡ told_to beat (take i ds) ++ tell last ∷ [] =
+    let told : List Due = map tell (take i ds) in
+    let all : map tell (take (i + 1) ds) ≡ told ++ tell last ∷ [] =
     ap (λ (es : List Destination). map tell es) (take_more ds i d lt) ∙ map-append tell (take i ds) (last ∷ []) in
     subst (λ (dues : List Due). AreSent dues q n) (sym all)
-    (subst (λ (xs : List Packet). AreSent (told_to beat (take i ds) ++ tell last ∷ []) xs n) (sym k.sent)
-    (subst (λ (j : ℕ). AreSent (told_to beat (take i ds) ++ tell last ∷ []) (p ++ k.packets) j) (sym k.lost)
-    (written_on (told_to beat (take i ds)) (tell last ∷ []) p k.packets m k.unsent h k.written)))
+    (subst (λ (xs : List Packet). AreSent (told ++ tell last ∷ []) xs n) (sym k.sent)
+    (subst (λ (j : ℕ). AreSent (told ++ tell last ∷ []) (p ++ k.packets) j) (sym k.lost)
+    (written_on told (tell last ∷ []) p k.packets m k.unsent h k.written)))
 
 -- ---- what is due
 
@@ -54,16 +51,22 @@ none_told : (b : Bool) (due : HeartbeatDue) → (if b then Some due else None) �
 none_told true due is = absurd cc
 none_told false due is = refl
 
+-- what is due says so
+pub told_is : (w : Writer) (answered : Endpoint → Option ℤ) (is_matched : Bool) (now : ℕ) (due : HeartbeatDue)
+    → heartbeat_asserted (state_of w answered) is_matched now ≡ Some due → due ≡ due_by w (heartbeats_used w + 1)
+told_is w answered is_matched now due is = some_told is_matched (counts_of w.written) (due_by w) due is
+
 -- the HEARTBEATs that are sent are those of the writer
 pub told_are : (prefix : GuidPrefix) (kept : WriterKept) (w : Writer) (answered : Endpoint → Option ℤ)
     (is_matched : Bool) (now : ℕ) (due : HeartbeatDue)
     → heartbeat_asserted (state_of w answered) is_matched now ≡ Some due
-    → told_to (record { prefix = prefix; entity = kept.entity; due = due; asserts = true }) kept.destinations
-    ≡ assertions_of prefix kept w
+    → map (beats_message (record { prefix = prefix; entity = kept.entity; due = due; asserts = true }) w kept.matched)
+    kept.destinations ≡ assertions_of prefix kept w
 told_are prefix kept w answered is_matched now due is =
-    let d = some_told is_matched (counts_of w.written) (due_by w) due is in
-    ap (λ (x : HeartbeatDue). told_to
-    (record { prefix = prefix; entity = kept.entity; due = x; asserts = true }) kept.destinations) d
+    let d = told_is w answered is_matched now due is in
+    ap (λ (x : HeartbeatDue). map
+    (beats_message (record { prefix = prefix; entity = kept.entity; due = x; asserts = true }) w kept.matched)
+    kept.destinations) d
 
 -- where nobody is counted, nobody is sent to
 pub nowhere : (ds : List Destination) (n : ℕ) → n ≡ length ds → nat_lt 0 n ≡ false → ds ≡ []
@@ -79,17 +82,22 @@ pub told_none : (prefix : GuidPrefix) (kept : WriterKept) (w : Writer) (answered
 told_none prefix kept w answered is_matched now nowhere is =
     let nobody = none_told is_matched (due_by w (length (counts_of w.written ++ true ∷ []))) is in
     sym (ap (λ (ds : List Destination). map
-    (λ (e : Destination). due_to e.peer (assertion_message prefix e.prefix kept.entity w)) ds) (nowhere nobody))
+    (beats_message (beat_of prefix kept.entity true w) w kept.matched) ds) (nowhere nobody))
 
--- it can be written
-pub valid_told : (kept : Kept) (s : WriterState) (is_matched : Bool) (now : ℕ) (due : HeartbeatDue)
-    → RtpsStandsFor kept s → heartbeat_asserted s is_matched now ≡ Some due → IsHeartbeatValid due
-valid_told kept s is_matched now due stands is =
-    let count : ℤ = pos (counts_due (asserted s now)) in
-    subst (λ (d : HeartbeatDue). IsHeartbeatValid d)
-    (made_is is_matched
-    (record { first = first_kept (rtps_history_of s); last = last_of s; count = count }) due is)
-    (valid_next kept s count stands)
+-- one that is due for an assertion is of the writer after it
+pub due_told : (kept : Kept) (s : WriterState) (is_matched : Bool) (now : ℕ) (due : HeartbeatDue)
+    → RtpsStandsFor kept (asserted s now) → heartbeat_asserted s is_matched now ≡ Some due → IsDueOf kept due
+due_told kept s is_matched now due stands is =
+    let same =
+    made_is is_matched
+    (record { first = first_kept (rtps_history_of s); last = last_of s; count = pos (counts_due (asserted s now)) }) due
+    is in
+    record {
+      state = asserted s now;
+      stands = stands;
+      first = sym (ap (λ (d : HeartbeatDue). d.first) same);
+      last = sym (ap (λ (d : HeartbeatDue). d.last) same);
+    }
 
 -- ---- counts that are left
 

@@ -1,7 +1,8 @@
 -- The HEARTBEATs of a writer at a tick, and those of all writers of a peer.
 use Rattle.std.proofs.Common.{◌≡◌, ◌⊎◌, ℕ, zero, suc, ◌+◌, ◌-◌, ◌^◌, ◌<◌, ◌≤◌, ◌==◌, Bool, true, false, cond, ◌&&◌, ◌||◌, List, [], ◌∷◌, ◌++◌, Option, Some, None, not, map, take, drop, length, get_or, refl, ap, sym, ◌∙◌, subst, arith, inl, inr, ⊎_elim, length-append, eq-eqb, eqb-true, append_assoc, append-nil, Contains}
-use Rattle.std.specs.Prelude.{ℤ, pos, find, nat_le, nat_lt, if◌then◌else◌}
+use Rattle.std.specs.Prelude.{ℤ, pos, find, nat_le, nat_lt, if◌then◌else◌, slice_index}
 use Rattle.std.specs.List.{list_any}
+use Rattle.std.proofs.Math.Nat.{le-max_right, max-le, min-le_right}
 use Rattle.std.proofs.lemmas.Bool.Decides.{nat_tests}
 use Rattle.std.specs.Option.{option_map_or, unwrap_or}
 use Rattle.std.proofs.lemmas.List.{get_or-map, length-map, length-take, map-append, take_all, take_more}
@@ -14,17 +15,17 @@ use Rattle.rtps_wire.specs.declared.submessage.Submessage.{Submessage}
 use Rattle.rtps_wire.specs.Messages.{IsWritable, HasFrame, HasSubmessage, ReadsAll, ReadsMessage, spelling_of}
 use Rattle.rtps_wire.proofs.SpellingLaws.{message_again}
 use Rattle.rtps_writer.specs.Standing.{Kept, StandsFor as RtpsStandsFor}
-use Rattle.rtps_writer.specs.WriterState.{WriterState, counts_due, heartbeat_due, is_behind, is_reader_behind, last_of, history_of as rtps_history_of, ticked as rtps_ticked}
+use Rattle.rtps_writer.specs.WriterState.{WriterState, counts_due, first_for, heartbeat_due, is_behind, is_reader_behind, last_of, owed_from, history_of as rtps_history_of, ticked as rtps_ticked}
 use Rattle.rtps_writer.specs.declared.heartbeat.HeartbeatDue.{HeartbeatDue}
 use Rattle.dds_base.specs.declared.endpoint.Endpoint.{Endpoint}
 use Rattle.dds_protocol.specs.declared.event.Packet.{Packet}
 use Rattle.dds_machine.specs.Part.{ReaderProxy, Writer, no_writer, writer_changes, history_of}
-use Rattle.dds_protocol.specs.DueMessages.{Due, AreSent, heartbeat_message}
+use Rattle.dds_protocol.specs.DueMessages.{Due, AreSent}
 use Rattle.dds_core.specs.declared.heartbeat.Beat.{Beat}
 use Rattle.dds_core.specs.declared.matching.Destination.{Destination}
 use Rattle.dds_core.specs.declared.matching.ReaderName.{ReaderName}
 use Rattle.dds_core.specs.declared.sending.Announced.{Announced}
-use Rattle.dds_core.specs.Beating.{IsHeartbeatValid, AreReadersOf, BeatsOfAll, Adds, AddsTo, Beats, BeatsOf, beats_of, beats_of_all, beats_to, due_to, message_to, told_to, first_peers, is_first_behind, is_peer_behind, names_behind, peer_of, peers_behind}
+use Rattle.dds_core.specs.Beating.{AreReadersOf, BeatsOfAll, Adds, AddsTo, Beats, BeatsOf, ForEach, CanBegin, IsDueOf, beat_of, beats_message, beats_of, beats_of_all, beats_to, due_to, first_peers, is_first_behind, is_peer_behind, names_behind, peer_of, peers_behind}
 use Rattle.dds_core.specs.Coming.{has_reader_at, with_peer}
 use Rattle.dds_core.specs.Kept.{WriterKept}
 use Rattle.dds_core.specs.Sending.{AreMessages}
@@ -322,11 +323,35 @@ names_of_peer last peer (p ∷ ps) (n ∷ ns) same =
         none true = refl
         none false = refl
 
+-- what comes of one more, if it is there
+pub map_if : {X Y : Type 0} (f : X → Y) (xs : List X) (x : X) (b : Bool)
+    → map f (xs ++ cond b (x ∷ []) []) ≡ map f xs ++ cond b (f x ∷ []) []
+map_if f xs x true = map-append f xs (x ∷ [])
+map_if f xs x false = map-append f xs []
+
 map_take : {X Y : Type 0} (f : X → Y) (n : ℕ) (xs : List X) → map f (take n xs) ≡ take n (map f xs)
 map_take f zero [] = refl
 map_take f zero (x ∷ xs) = refl
 map_take f (suc n) [] = refl
 map_take f (suc n) (x ∷ xs) = ap (λ ys. f x ∷ ys) (map_take f n xs)
+
+-- those that are behind up to a row, by those before it
+pub names_next : (w : Writer) (names : List ReaderName) (row : ℕ) → AreReadersOf w names → row < length names
+    → names_behind (length (writer_changes w)) (take (row + 1) w.readers) (take (row + 1) names)
+    ≡ names_behind (length (writer_changes w)) (take row w.readers) (take row names)
+    ++ cond (nat_le (get_or w.readers row no_row).acknowledged (length (writer_changes w)))
+    (get_or names row no_name ∷ []) []
+names_next w names row same lt =
+    let at = row_at w names row same lt in
+    let first = length-take row w.readers in
+    let second = length-take row names in
+    let within = at.0 in
+    let last : ℕ = length (writer_changes w) in
+    ap (λ (rows : List ReaderProxy). names_behind last rows (take (row + 1) names)) (take_more w.readers row no_row within)
+    ∙ (ap (λ (ns : List ReaderName). names_behind last (take row w.readers ++ get_or w.readers row no_row ∷ []) ns)
+    (take_more names row no_name lt)
+    ∙ names_last last (take row w.readers) (take row names) (get_or w.readers row no_row) (get_or names row no_name)
+    (omega (arith, first, second, within, lt)))
 
 -- what comes of a row, and what comes of those before it
 pub peers_next : (w : Writer) (answered : Endpoint → Option ℤ) (names : List ReaderName) (row : ℕ) (b : Bool)
@@ -337,19 +362,11 @@ pub peers_next : (w : Writer) (answered : Endpoint → Option ℤ) (names : List
     ++ cond b (peer_of (get_or names row no_name) ∷ []) []
 peers_next w answered names row b same lt is =
     let at = row_at w names row same lt in
-    let first = length-take row w.readers in
-    let second = length-take row names in
-    let within = at.0 in
-    ap (λ (rows : List ReaderProxy). peers_behind last rows (take (row + 1) names)) (take_more w.readers row no_row within)
-    ∙ (ap (λ (ns : List ReaderName). peers_behind last (take row w.readers ++ get_or w.readers row no_row ∷ []) ns)
-    (take_more names row no_name lt)
-    ∙ (ap (λ (ns : List ReaderName). first_peers ns)
-    (names_last last (take row w.readers) (take row names) (get_or w.readers row no_row) n
-    (omega (arith, first, second, within, lt)))
+    ap (λ (ns : List ReaderName). first_peers ns) (names_next w names row same lt)
     ∙ by (nat_le (get_or w.readers row no_row).acknowledged last)
     (is_peer_behind last n.reader.peer (take row w.readers)) b refl refl
     (ap (λ (a : ℕ). nat_le a last && not (is_peer_behind last n.reader.peer (take row w.readers))) (sym at.2)
-    ∙ (sym (first_at w answered names row same lt) ∙ is))))
+    ∙ (sym (first_at w answered names row same lt) ∙ is))
   where
     last : ℕ
     last = length (writer_changes w)
@@ -399,13 +416,21 @@ peers_next w answered names row b same lt is =
     by false c false e f h =
         ap (λ (ns : List ReaderName). first_peers ns) (append-nil before) ∙ sym (append-nil (first_peers before))
 
--- what was sent to the peers that come of the rows before this one
+-- the message to a peer with a reader that is behind
+abbrev pub behind_message : Beat → Writer → List ReaderName → Destination → Due
+behind_message beat w names = beats_message beat w (names_behind (length (writer_changes w)) w.readers names)
+
+-- those to the peers that come of the rows before this one
+abbrev pub beats_before : Beat → Writer → List ReaderName → ℕ → List Due
+beats_before beat w names row =
+    map (behind_message beat w names)
+    (peers_behind (length (writer_changes w)) (take row w.readers) (take row names))
+
+-- they were sent
 pub record SentBefore (beat : Beat) (kept : Kept) (names : List ReaderName) (row : ℕ) (old new : Announced)
     : Type 0 where
   pub few : new.unsent ≤ old.unsent + row
-  pub beats : (w : Writer) (answered : Endpoint → Option ℤ) → AreReadersOf w names
-      → RtpsStandsFor kept (state_of w answered)
-      → AddsTo (told_to beat (peers_behind (length (writer_changes w)) (take row w.readers) (take row names))) old new
+  pub beats : ForEach beat.due.first kept names (λ w. AddsTo (beats_before beat w names row) old new)
   pub messages : AreMessages old.packets.items → AreMessages new.packets.items
 
 nobody_first : (last : ℕ) (rows : List ReaderProxy) (names : List ReaderName)
@@ -418,8 +443,8 @@ pub sent_none : (beat : Beat) (kept : Kept) (names : List ReaderName) (old : Ann
     → SentBefore beat kept names 0 old old
 sent_none beat kept names old = record {
   few = omega arith;
-  beats = λ w answered same stands.
-      subst (λ (ds : List Destination). AddsTo (told_to beat ds) old old)
+  beats = λ w answered b.
+      subst (λ (ds : List Destination). AddsTo (map (behind_message beat w names) ds) old old)
       (sym (nobody_first (length (writer_changes w)) w.readers names)) (adds_none old.packets.items old.unsent);
   messages = λ h. h;
 }
@@ -427,34 +452,24 @@ sent_none beat kept names old = record {
 pub beats_more : (beat : Beat) (w : Writer) (answered : Endpoint → Option ℤ) (names : List ReaderName) (i : ℕ) (b : Bool)
     (old mid new : Announced) → AreReadersOf w names → i < length names
     → is_first_behind (length (writer_changes w)) w.readers i ≡ b
-    → AddsTo (told_to beat (peers_behind (length (writer_changes w)) (take i w.readers) (take i names))) old mid
-    → AddsTo (cond b (due_to (get_or names i no_name).reader.peer
-    (message_to beat (get_or names i no_name).guid.prefix) ∷ []) []) mid new
-    → AddsTo (told_to beat (peers_behind (length (writer_changes w)) (take (i + 1) w.readers) (take (i + 1) names)))
-    old new
+    → AddsTo (beats_before beat w names i) old mid
+    → AddsTo (cond b (behind_message beat w names (peer_of (get_or names i no_name)) ∷ []) []) mid new
+    → AddsTo (beats_before beat w names (i + 1)) old new
 beats_more beat w answered names i b old mid new same lt is h k =
+    let tell : Destination → Due = behind_message beat w names in
     let d : Destination = peer_of (get_or names i no_name) in
-    let one : List Due = cond b (due_to d.peer (message_to beat d.prefix) ∷ []) [] in
     let ds : List Destination = peers_behind (length (writer_changes w)) (take i w.readers) (take i names) in
     subst (λ (dues : List Due). AddsTo dues old new)
-    (sym (ap (λ (es : List Destination). told_to beat es) (peers_next w answered names i b same lt is)
-    ∙ told_last beat d ds b))
-    (adds_on (told_to beat ds) one old.packets.items mid.packets.items new.packets.items old.unsent mid.unsent
-    new.unsent h k)
-  where
-    told_last : (beat : Beat) (d : Destination) (ds : List Destination) (b : Bool)
-        → told_to beat (ds ++ cond b (d ∷ []) [])
-        ≡ told_to beat ds ++ cond b (due_to d.peer (message_to beat d.prefix) ∷ []) []
-    told_last beat d ds true = map-append (λ (x : Destination). due_to x.peer (message_to beat x.prefix)) ds (d ∷ [])
-    told_last beat d ds false = map-append (λ (x : Destination). due_to x.peer (message_to beat x.prefix)) ds []
+    (sym (ap (λ (es : List Destination). map tell es) (peers_next w answered names i b same lt is)
+    ∙ map_if tell ds d b))
+    (adds_on (map tell ds) (cond b (tell d ∷ []) []) old.packets.items mid.packets.items new.packets.items old.unsent
+    mid.unsent new.unsent h k)
 
 -- where nothing comes of the row
 pub beats_same : (beat : Beat) (w : Writer) (answered : Endpoint → Option ℤ) (names : List ReaderName) (i : ℕ)
     (old new : Announced) → AreReadersOf w names → i < length names
     → is_first_behind (length (writer_changes w)) w.readers i ≡ false
-    → AddsTo (told_to beat (peers_behind (length (writer_changes w)) (take i w.readers) (take i names))) old new
-    → AddsTo (told_to beat (peers_behind (length (writer_changes w)) (take (i + 1) w.readers) (take (i + 1) names)))
-    old new
+    → AddsTo (beats_before beat w names i) old new → AddsTo (beats_before beat w names (i + 1)) old new
 beats_same beat w answered names i old new same lt is h =
     beats_more beat w answered names i false old new new same lt is h (adds_none new.packets.items new.unsent)
 
@@ -462,15 +477,16 @@ beats_same beat w answered names i old new same lt is h =
 pub sent_all : (beat : Beat) (kept : Kept) (names : List ReaderName) (row : ℕ) (old new : Announced)
     → length names ≤ row → SentBefore beat kept names row old new
     → Beats beat kept names old.packets.items old.unsent new.packets.items new.unsent
-sent_all beat kept names row old new le s w answered same stands =
-    let size = ap (λ (es : List Endpoint). length es) same in
+sent_all beat kept names row old new le s w answered b =
+    let size = ap (λ (es : List Endpoint). length es) b.names_are in
     let rows = length-map w.readers (λ (p : ReaderProxy). p.reader) in
     let all = length-map names (λ (n : ReaderName). n.reader) in
-    subst (λ (ps : List ReaderProxy). AddsTo (told_to beat (peers_behind (length (writer_changes w)) ps names)) old new)
+    let last : ℕ = length (writer_changes w) in
+    let tell : Destination → Due = behind_message beat w names in
+    subst (λ (ps : List ReaderProxy). AddsTo (map tell (peers_behind last ps names)) old new)
     (take_all row w.readers (omega (arith, le, size, rows, all)))
-    (subst (λ (ns : List ReaderName).
-    AddsTo (told_to beat (peers_behind (length (writer_changes w)) (take row w.readers) ns)) old new)
-    (take_all row names le) (s.beats w answered same stands))
+    (subst (λ (ns : List ReaderName). AddsTo (map tell (peers_behind last (take row w.readers) ns)) old new)
+    (take_all row names le) (s.beats w answered b))
 
 -- ---- what is due at a tick of a writer
 
@@ -517,9 +533,7 @@ beats_are prefix kept w answered now due is =
     let d = due_is w answered now due is in
     ap (λ (x : HeartbeatDue). beats_to
     (record { prefix = prefix; entity = kept.entity; due = x; asserts = false }) w kept.readers) d.1
-    ∙ sym (ap (λ (b : Bool). if b then map
-    (λ (e : Destination). due_to e.peer (heartbeat_message prefix e.prefix kept.entity w))
-    (peers_behind (length (writer_changes w)) w.readers kept.readers) else []) d.0)
+    ∙ sym (ap (λ (b : Bool). if b then beats_to (beat_of prefix kept.entity false w) w kept.readers else []) d.0)
 
 -- where nobody is behind, no peer is
 no_peers : (last : ℕ) (rows : List ReaderProxy) (names : List ReaderName)
@@ -557,7 +571,7 @@ pub beats_none : (prefix : GuidPrefix) (kept : WriterKept) (w : Writer) (answere
 beats_none prefix kept w answered now is =
     let counts = counts_due (rtps_ticked (state_of w answered) now) in
     let make : List Destination → List Due =
-    λ ds. map (λ (e : Destination). due_to e.peer (heartbeat_message prefix e.prefix kept.entity w)) ds in
+    λ ds. map (behind_message (beat_of prefix kept.entity false w) w kept.readers) ds in
     ⊎_elim
     (λ nobody. sym (ap (λ (ds : List Destination). if nat_lt (counts_before w) (2 ^ 31 - 1) then make ds else [])
     (no_peers (length (writer_changes w)) w.readers kept.readers nobody)
@@ -598,28 +612,59 @@ first_within h =
     × (unwrap_or (find (λ k. is_kept h k) (numbers_from 1 (length h.changes))) m ≤ m)) past
     (first_found (λ k. is_kept h k) 1 (length h.changes))
 
--- what a writer would send next is such, whatever its count
-pub valid_next : (kept : Kept) (s : WriterState) (count : ℤ) → RtpsStandsFor kept s
-    → IsHeartbeatValid (record { first = first_kept (rtps_history_of s); last = last_of s; count = count })
-valid_next kept s count stands =
-    let first = first_within (rtps_history_of s) in
-    let last = stands.history.last in
-    let few = stands.history.few in
-    record { first = first.0; not_past = first.1; last = omega (arith, last, few) }
+-- one that is due can begin at the first kept number
+pub can_begin : (kept : Kept) (due : HeartbeatDue) → IsDueOf kept due → CanBegin due due.first
+can_begin kept due d =
+    let within = first_within (rtps_history_of d.state) in
+    let low = within.0 in
+    let high = within.1 in
+    let held = d.stands.history.last in
+    let few = d.stands.history.few in
+    let first = d.first in
+    let last = d.last in
+    record {
+      first = omega (arith, low, first);
+      not_past = omega (arith, high, first, last);
+      last = omega (arith, held, few, last);
+    }
+
+-- or where one to a reader of it begins
+pub can_begin_for : (kept : Kept) (due : HeartbeatDue) (row n : ℕ) (d : IsDueOf kept due) → n ≡ first_for d.state row
+    → CanBegin due n
+can_begin_for kept due row n d is =
+    let whole = can_begin kept due d in
+    let low = whole.first in
+    let high = whole.not_past in
+    let first = d.first in
+    let last = d.last in
+    let least = le-max_right (owed_from d.state row) (first_kept (rtps_history_of d.state)) in
+    let kept_most : first_kept (rtps_history_of d.state) ≤ last_of d.state + 1 = omega (arith, high, first, last) in
+    let most = max-le (min-le_right (slice_index d.state.firsts row) (last_of d.state + 1)) kept_most in
+    record {
+      first = omega (arith, least, low, first, is);
+      not_past = omega (arith, most, last, is);
+      last = whole.last;
+    }
 
 -- what is made only so is that
 pub made_is : (b : Bool) (d due : HeartbeatDue) → (if b then Some d else None) ≡ Some due → d ≡ due
 made_is true d due h = same_Some d due h
 made_is false d due h = absurd cc
 
-pub valid_due : (kept : Kept) (s : WriterState) (now : ℕ) (due : HeartbeatDue) → RtpsStandsFor kept s
-    → heartbeat_due s now ≡ Some due → IsHeartbeatValid due
-valid_due kept s now due stands is =
+-- one that is due at a tick is of the writer after it
+pub due_at : (kept : Kept) (s : WriterState) (now : ℕ) (due : HeartbeatDue) → RtpsStandsFor kept (rtps_ticked s now)
+    → heartbeat_due s now ≡ Some due → IsDueOf kept due
+due_at kept s now due stands is =
     let counts = counts_due (rtps_ticked s now) in
-    subst (λ (d : HeartbeatDue). IsHeartbeatValid d)
-    (made_is (is_behind s && nat_lt counts (2 ^ 31))
-    (record { first = first_kept (rtps_history_of s); last = last_of s; count = pos counts }) due is)
-    (valid_next kept s (pos counts) stands)
+    let same =
+    made_is (is_behind s && nat_lt counts (2 ^ 31))
+    (record { first = first_kept (rtps_history_of s); last = last_of s; count = pos counts }) due is in
+    record {
+      state = rtps_ticked s now;
+      stands = stands;
+      first = sym (ap (λ (d : HeartbeatDue). d.first) same);
+      last = sym (ap (λ (d : HeartbeatDue). d.last) same);
+    }
 
 -- ---- the writers of a peer, one after the other
 

@@ -1,13 +1,18 @@
 -- What a peer sends at a tick is what is due, and it is true.
-use Rattle.std.proofs.Common.{◌≡◌, ℕ, zero, suc, ◌+◌, ◌-◌, ◌^◌, Bool, true, false, List, [], ◌∷◌, ◌++◌, Option, Some, None, map, length, get_or, slice_get, refl, ap, sym, ◌∙◌, subst, arith, inl, inr, ⊎_elim, Contains}
+use Rattle.std.proofs.Common.{◌≡◌, ℕ, zero, suc, ◌+◌, ◌-◌, ◌^◌, ◌==◌, Bool, true, false, List, [], ◌∷◌, ◌++◌, Option, Some, None, map, length, get_or, slice_get, refl, ap, sym, ◌∙◌, subst, arith, inl, inr, ⊎_elim, Contains}
 use Rattle.std.specs.Prelude.{nat_le, nat_lt, if◌then◌else◌}
 use Rattle.std.specs.Option.{option_map_or}
 use Rattle.std.proofs.lemmas.List.{length-map}
 use Rattle.dds_base.specs.declared.config.Config.{Config}
 use Rattle.dds_base.specs.declared.config.PeerConfig.{PeerConfig}
 use Rattle.dds_base.specs.declared.config.WriterConfig.{WriterConfig}
+use Rattle.dds_base.specs.declared.guid.EntityId.{EntityId}
 use Rattle.dds_base.specs.declared.guid.GuidPrefix.{GuidPrefix}
+use Rattle.dds_base.specs.Kept.{first_kept}
 use Rattle.dds_base.specs.Written.{counts_of}
+use Rattle.rtps_wire.specs.declared.message.Message.{Message}
+use Rattle.rtps_wire.specs.declared.submessage.Submessage.{Submessage}
+use Rattle.rtps_wire.specs.declared.submessage.Submessage.TheVariants.{InfoDst}
 use Rattle.rtps_wire.specs.Messages.{spelling_of}
 use Rattle.dds_base.specs.declared.endpoint.Endpoint.{Endpoint}
 use Rattle.dds_protocol.specs.declared.event.Packet.{Packet}
@@ -15,24 +20,26 @@ use Rattle.dds_machine.specs.declared.reply.Reply.TheVariants.{Done}
 use Rattle.dds_machine.specs.Ticks.{TickStep, tick_refusal, after_tick}
 use Rattle.dds_protocol.specs.Claims.{Claim, Claims, every_reader}
 use Rattle.dds_protocol.specs.Dues.{IsPartOf, AreTruthful}
-use Rattle.dds_machine.specs.Part.{Part, ReaderProxy, Writer, no_writer, own_writer, acknowledged_of, peers_of, writer_changes, NoLess}
+use Rattle.dds_machine.specs.Part.{Part, ReaderProxy, Writer, no_writer, own_writer, acknowledged_of, history_of, peers_of, writer_changes, NoLess}
 use Rattle.dds_protocol.specs.Peer.{Peer, IsTrueAt}
-use Rattle.dds_protocol.specs.DueMessages.{Due, AreSent, heartbeat_message, heartbeats_of, heartbeats_from, heartbeats_due, readers_behind, writer_entity}
+use Rattle.dds_protocol.specs.DueMessages.{Due, AreSent, writer_entity, begins_at, heartbeat_from, heartbeats_due, heartbeats_for, heartbeats_from, heartbeats_of, heartbeats_to, is_one_for_all, reader_entity}
 use Rattle.dds_protocol.specs.Receipt.{prefix_of}
 use Rattle.dds_protocol.proofs.DuesGrowth.{true_on}
 use Rattle.dds_protocol.proofs.DuesHeartbeats.{heartbeats_truthful}
+use Rattle.dds_protocol.proofs.DuesMatched.{reader_entity_is}
 use Rattle.dds_protocol.proofs.Growth.{TickStep-acknowledged, TickStep-grows}
 use Rattle.dds_machine.proofs.Tables.{no_less_same}
+use Rattle.dds_core.specs.declared.heartbeat.Beat.{Beat}
 use Rattle.dds_core.specs.declared.matching.Destination.{Destination}
 use Rattle.dds_core.specs.declared.matching.ReaderName.{ReaderName}
-use Rattle.dds_core.specs.Beating.{BeatsOfAll, beats_of, beats_of_all, due_to, names_behind, peers_behind}
+use Rattle.dds_core.specs.Beating.{BeatsOfAll, beat_of, beats_at, beats_message, beats_of, beats_of_all, due_to, names_behind, peers_behind}
 use Rattle.dds_core.specs.Kept.{WriterKept, PeerKept}
 use Rattle.dds_core.specs.Identity.{WriterIdentity, writer_identity}
-use Rattle.dds_core.specs.MatchedEnds.{AreMatchedNow, IsReliableName, readers_of}
+use Rattle.dds_core.specs.MatchedEnds.{AreMatchedNow, IsNameOf, IsReliableName, readers_of}
 use Rattle.dds_core.specs.Standing.{StandsFor}
 use Rattle.dds_core.proofs.Names.{configured}
-use Rattle.dds_core.proofs.FirstPeers.{peer_from}
-use Rattle.dds_core.proofs.PeersBehind.{peers_are_behind}
+use Rattle.dds_core.proofs.FirstPeers.{first_peers_are, map-filter_by, peer_from}
+use Rattle.dds_core.proofs.PeersBehind.{names_are}
 use Rattle.dds_core.proofs.Sent.{contains_cases}
 use Rattle.dds_core.proofs.Taking.{numbered_prefix, prefix_is}
 
@@ -97,15 +104,34 @@ named_behind config last rows names each =
     let g = name_behind last rows names f.0 f.1 f.2 in
     subst (λ (x : Destination). prefix_of config x.peer ≡ x.prefix) f.3 (each g.0 f.1 g.1))
 
-pub by_number : (config : Config) (message : GuidPrefix → _) (ds : List Destination) → AreNamed config ds
-    → map (λ (to : ℕ). due_to to (message (prefix_of config to))) (map (λ (d : Destination). d.peer) ds)
-    ≡ map (λ (d : Destination). due_to d.peer (message d.prefix)) ds
+pub by_number : (config : Config) (message : ℕ → GuidPrefix → Message) (ds : List Destination) → AreNamed config ds
+    → map (λ (to : ℕ). due_to to (message to (prefix_of config to))) (map (λ (d : Destination). d.peer) ds)
+    ≡ map (λ (d : Destination). due_to d.peer (message d.peer d.prefix)) ds
 unfolding AreNamed
 by_number config message [] h = refl
 by_number config message (d ∷ ds) h =
-    ap (λ (p : GuidPrefix). due_to d.peer (message p) ∷ map (λ (to : ℕ). due_to to (message (prefix_of config to)))
-    (map (λ (e : Destination). e.peer) ds)) h.0
-    ∙ ap (λ (dues : List Due). due_to d.peer (message d.prefix) ∷ dues) (by_number config message ds h.1)
+    ap (λ (p : GuidPrefix). due_to d.peer (message d.peer p)
+    ∷ map (λ (to : ℕ). due_to to (message to (prefix_of config to))) (map (λ (e : Destination). e.peer) ds)) h.0
+    ∙ ap (λ (dues : List Due). due_to d.peer (message d.peer d.prefix) ∷ dues) (by_number config message ds h.1)
+
+-- names of readers with the entity ids of the configuration
+abbrev pub AreReaders : Config → List ReaderName → Type 0
+AreReaders config names = (k : ℕ) (n : ReaderName) → slice_get names k ≡ Some n
+    → n.guid.entity ≡ reader_entity config n.reader.peer n.reader.number
+
+pub named_reader : (config : Config) (topic : ℕ) (n : ReaderName) → IsNameOf config.peers topic n
+    → n.guid.entity ≡ reader_entity config n.reader.peer n.reader.number
+named_reader config topic n name =
+    let is = name.is in
+    sym (reader_entity_is config n.guid.prefix n.guid.entity n.reader
+    (record {
+      peer = is.peer;
+      at_peer = is.at_peer;
+      same_prefix = name.same_prefix;
+      end = is.end;
+      at_reader = is.at_reader;
+      same_entity = name.same_entity;
+    }))
 
 -- those of a writer are so
 pub all_named : (config : Config) (topic : ℕ) (es : List ReaderName) (ds : List Destination) (names : List ReaderName)
@@ -146,28 +172,81 @@ pub sends_to : (config : Config) (peer : ℕ) (prefix : GuidPrefix) (number : �
 sends_to config peer prefix number k w is =
     ap (λ (es : List Endpoint). peers_of es) is.matched ∙ is.ends.sent_to
 
+-- a writer's HEARTBEATs to those of the readers of these names that are at a peer are those by the configuration
+heartbeats_are : (config : Config) (asserts : Bool) (peer number : ℕ) (w : Writer) (names : List ReaderName) (to : ℕ)
+    → AreReaders config names
+    → beats_at (beat_of (prefix_of config peer) (writer_entity config peer number) asserts w) w names to
+    ≡ heartbeats_to config asserts asserts peer number w (readers_of names) to
+heartbeats_are config asserts peer number w names to readers =
+    let writer : EntityId = writer_entity config peer number in
+    ap (λ (ss : List Submessage). if is_one_for_all w to
+    then heartbeat_from asserts asserts every_reader writer (first_kept (history_of w)) w ∷ []
+    else ss)
+    (map-filter_by (λ (n : ReaderName). n.reader) (λ (r : Endpoint). r.peer == to)
+    (λ (n : ReaderName). heartbeat_from asserts asserts n.guid.entity writer (begins_at w n.reader) w)
+    (λ (r : Endpoint). heartbeat_from asserts asserts (reader_entity config r.peer r.number) writer (begins_at w r) w)
+    names
+    (λ k n at. ap (λ (e : EntityId). heartbeat_from asserts asserts e writer (begins_at w n.reader) w) (readers k n at)))
+
+-- so are the messages with them
+messages_are : (config : Config) (asserts : Bool) (peer number : ℕ) (w : Writer) (names : List ReaderName)
+    (ds : List Destination) → AreReaders config names
+    → map (beats_message (beat_of (prefix_of config peer) (writer_entity config peer number) asserts w) w names) ds
+    ≡ map (λ (d : Destination). due_to d.peer (record {
+      prefix = prefix_of config peer;
+      submessages = InfoDst d.prefix
+          ∷ heartbeats_to config asserts asserts peer number w (readers_of names) d.peer;
+    })) ds
+messages_are config asserts peer number w names [] readers = refl
+messages_are config asserts peer number w names (d ∷ ds) readers =
+    let beat : Beat = beat_of (prefix_of config peer) (writer_entity config peer number) asserts w in
+    ap (λ (ss : List Submessage). due_to d.peer
+    (record { prefix = prefix_of config peer; submessages = InfoDst d.prefix ∷ ss })
+    ∷ map (beats_message beat w names) ds)
+    (heartbeats_are config asserts peer number w names d.peer readers)
+    ∙ ap (λ (dues : List Due). due_to d.peer (record {
+      prefix = prefix_of config peer;
+      submessages = InfoDst d.prefix ∷ heartbeats_to config asserts asserts peer number w (readers_of names) d.peer;
+    }) ∷ dues)
+    (messages_are config asserts peer number w names ds readers)
+
+-- what is sent to readers of these names, of a writer of that entity id, is what is due to these readers
+pub sent_are_due : (config : Config) (asserts : Bool) (peer : ℕ) (prefix : GuidPrefix) (number : ℕ) (entity : EntityId)
+    (w : Writer) (names : List ReaderName) (ds : List Destination) → prefix_of config peer ≡ prefix
+    → writer_entity config peer number ≡ entity → AreReaders config names
+    → peers_of (readers_of names) ≡ map (λ (d : Destination). d.peer) ds → AreNamed config ds
+    → map (beats_message (beat_of prefix entity asserts w) w names) ds
+    ≡ heartbeats_for config asserts asserts peer number w (readers_of names)
+sent_are_due config asserts peer prefix number entity w names ds own writer readers peers named =
+    let message : ℕ → GuidPrefix → Message = λ to p. record {
+      prefix = prefix_of config peer;
+      submessages = InfoDst p ∷ heartbeats_to config asserts asserts peer number w (readers_of names) to;
+    } in
+    sym (ap (λ (p : GuidPrefix). map (beats_message (beat_of p (writer_entity config peer number) asserts w) w names) ds)
+    own
+    ∙ ap (λ (e : EntityId). map (beats_message (beat_of prefix e asserts w) w names) ds) writer)
+    ∙ (messages_are config asserts peer number w names ds readers
+    ∙ sym (ap (λ (ns : List ℕ). map (λ (to : ℕ). due_to to (message to (prefix_of config to))) ns) peers
+    ∙ by_number config message ds named))
+
 beats_due_of : (config : Config) (peer : ℕ) (prefix : GuidPrefix) (number : ℕ) (k : WriterKept) (w : Writer)
     → IsNamed config peer prefix number k w → beats_of prefix k w ≡ heartbeats_of config peer number w
 beats_due_of config peer prefix number k w is =
-    let message =
-    λ (to : GuidPrefix). heartbeat_message (prefix_of config peer) to (writer_entity config peer number) w in
-    let ds : List Destination = peers_behind (length (writer_changes w)) w.readers k.readers in
-    let passed : peers_of (readers_behind w) ≡ map (λ (d : Destination). d.peer) ds =
-    sym (peers_are_behind (length (writer_changes w)) w.readers k.readers is.readers) in
-    let named : AreNamed config ds =
-    named_behind config (length (writer_changes w)) w.readers k.readers
+    let last : ℕ = length (writer_changes w) in
+    let names : List ReaderName = names_behind last w.readers k.readers in
+    let readers : AreReaders config names = λ j n at.
+    let f = name_behind last w.readers k.readers j n at in
+    named_reader config is.topic n (is.ends.named f.0 n f.1).name_is in
+    let named : AreNamed config (peers_behind last w.readers k.readers) =
+    named_behind config last w.readers k.readers
     (λ j n at.
     let name = (is.ends.named j n at).name_is in
     numbered_prefix config.peers n.reader.peer name.is.peer name.is.at_peer ∙ name.same_prefix) in
-    let all : map (λ (to : ℕ). due_to to (message (prefix_of config to))) (peers_of (readers_behind w))
-    ≡ map (λ (d : Destination). due_to d.peer (heartbeat_message prefix d.prefix k.entity w)) ds =
-    ap (λ (ns : List ℕ). map (λ (to : ℕ). due_to to (message (prefix_of config to))) ns) passed
-    ∙ (by_number config message ds named
-    ∙ (ap (λ (p : GuidPrefix). map
-    (λ (d : Destination). due_to d.peer (heartbeat_message p d.prefix (writer_entity config peer number) w)) ds) is.own
-    ∙ ap (λ e. map (λ (d : Destination). due_to d.peer (heartbeat_message prefix d.prefix e w)) ds) is.entity)) in
     ap (λ (dues : List Due). if nat_lt (length (counts_of w.written)) (2 ^ 31 - 1) then dues else [])
-    (sym all)
+    (sent_are_due config false peer prefix number k.entity w names (peers_behind last w.readers k.readers) is.own is.entity
+    readers (first_peers_are names) named
+    ∙ ap (λ (rs : List Endpoint). heartbeats_for config false false peer number w rs)
+    (names_are last w.readers k.readers is.readers))
 
 beats_due_from : (config : Config) (peer : ℕ) (prefix : GuidPrefix) (n : ℕ) (ks : List WriterKept) (ws : List Writer)
     → length ws ≡ length ks

@@ -77,7 +77,7 @@ change_sent config peer prefix number sn k w change packets unsent is are count 
     let all : changes_due config (record { peer = peer; number = number }) w.matched sn change
     ≡ map (λ (d : Destination). due_to d.peer (message prefix k.entity d.prefix)) ds =
     ap (λ (ns : List ℕ). map (λ (to : ℕ). due_to to (message own entity (prefix_of config to))) ns) peers
-    ∙ (by_number config (message own entity) ds (all_named config is.topic k.matched ds k.readers is.ends)
+    ∙ (by_number config (λ to. message own entity) ds (all_named config is.topic k.matched ds k.readers is.ends)
     ∙ (ap (λ (p : GuidPrefix). map (λ (d : Destination). due_to d.peer (message p entity d.prefix)) ds) is.own
     ∙ ap (λ (e : EntityId). map (λ (d : Destination). due_to d.peer (message prefix e d.prefix)) ds) is.entity)) in
     subst (λ (dues : List Due). AreSent dues packets unsent) (sym all)

@@ -28,6 +28,21 @@ map-filter f b (x ∷ xs) = by (b (f x)) (map-filter f b xs)
     by true h = ap (λ ys. f x ∷ ys) h
     by false h = h
 
+-- what comes of those that are left is what comes of the values that are left, where it comes of the value of each
+pub map-filter_by : {X Y Z : Type 0} (f : X → Y) (b : Y → Bool) (g : X → Z) (h : Y → Z) (xs : List X)
+    → ((k : ℕ) (x : X) → slice_get xs k ≡ Some x → g x ≡ h (f x))
+    → map g (filter (λ x. b (f x)) xs) ≡ map h (filter b (map f xs))
+map-filter_by f b g h [] each = refl
+map-filter_by f b g h (x ∷ xs) each =
+    by (b (f x)) (map-filter_by f b g h xs (λ k y at. each (suc k) y at))
+  where
+    by : (c : Bool) → map g (filter (λ y. b (f y)) xs) ≡ map h (filter b (map f xs))
+        → map g (cond c (x ∷ filter (λ y. b (f y)) xs) (filter (λ y. b (f y)) xs))
+        ≡ map h (cond c (f x ∷ filter b (map f xs)) (filter b (map f xs)))
+    by true rest =
+        ap (λ z. z ∷ map g (filter (λ y. b (f y)) xs)) (each zero x refl) ∙ ap (λ zs. h (f x) ∷ zs) rest
+    by false rest = rest
+
 pub any-map : {X Y : Type 0} (f : X → Y) (b : Y → Bool) (xs : List X) → list_any b (map f xs) ≡ list_any (λ x. b (f x)) xs
 any-map f b [] = refl
 any-map f b (x ∷ xs) = ap (λ (c : Bool). b (f x) || c) (any-map f b xs)

@@ -2,6 +2,8 @@ pub mod AnyTests
 pub mod Twice
 pub mod Announcing
 pub mod Beating
+pub mod Begins
+pub mod ByName
 pub mod Asserting
 pub mod BeatsDue
 pub mod CallSteps

@@ -1,5 +1,6 @@
 -- What a peer and its listeners stand for, as they are told of what was raised.
-use Rattle.std.proofs.Common.{◌≡◌, ℕ, suc, ◌+◌, ◌-◌, ◌<◌, ◌≤◌, true, false, List, [], ◌∷◌, Option, Some, None, is_some, length, get_or, slice_get, arith, ⊎_elim, refl, ap, sym, ◌∙◌, subst}
+use Rattle.std.proofs.Common.{◌≡◌, ℕ, suc, ◌+◌, ◌-◌, ◌<◌, ◌≤◌, Bool, true, false, List, [], ◌∷◌, Option, Some, None, is_some, length, get_or, slice_get, arith, ⊎_elim, refl, ap, sym, ◌∙◌, subst}
+use Rattle.std.specs.Prelude.{if◌then◌else◌}
 use Rattle.std.proofs.lemmas.Bool.{cases_lt}
 use Rattle.std.proofs.lemmas.Option.{slice_get-get_or, slice_get_read}
 use Rattle.dds_base.specs.declared.config.Config.{Config}
@@ -18,7 +19,7 @@ use Rattle.dds_notices.specs.declared.notice.Status.{Status}
 use Rattle.dds_notices.specs.declared.notice.Status.TheVariants.{SampleLost, DataAvailable, LivelinessLost, LivelinessChanged, PublicationMatched, SubscriptionMatched}
 use Rattle.dds_notices.specs.Listeners.{ByEntity, Places, Slotted, StandsFor as SlotsStandFor, after_notice, taker_of}
 use Rattle.dds_base.specs.declared.endpoint.Endpoint.{Endpoint}
-use Rattle.dds_machine.specs.Noticing.{each_told, looked_at, seen_by, told, told_of, told_to}
+use Rattle.dds_machine.specs.Noticing.{each_told, looked_at, seen_by, told, told_of}
 use Rattle.dds_machine.specs.Part.{Part, Reader, Seen, Writer, WriterProxy, no_reader, no_writer, own_proxies, own_reader, own_writer}
 use Rattle.dds_protocol.specs.Peer.{Peer}
 use Rattle.rtps_reader.specs.Tracked.{Tracked}
@@ -35,16 +36,6 @@ use Rattle.dds_core.proofs.Lists.{past_end}
 use Rattle.dds_core.proofs.Taking.{stands_beside}
 
 -- ---- who is told
-
-to_taker : (o : Option Entity) (part : Part) (e : Entity) (status : Status) → is_some o ≡ true
-    → told_to o part e status ≡ told_of part e status
-to_taker (Some taker) part e status h = refl
-to_taker None part e status h = cc
-
-to_nobody : (o : Option Entity) (part : Part) (e : Entity) (status : Status) → is_some o ≡ false
-    → told_to o part e status ≡ part
-to_nobody (Some taker) part e status h = cc
-to_nobody None part e status h = refl
 
 -- the end of a number stands in an open peer at the index before it, and so it does in the peer
 pub end_found : {X : Type 0} (ends : PeerKept → List X) (inside now : PeerKept) (n from : ℕ) (x : X) → inside ≡ now
@@ -108,8 +99,8 @@ module _ {L : Type 0} (notices : L → List Notice) (capacity : L → ℕ) (beco
   tells_nobody e status kept slots takes = λ given config peer s l.
       subst (λ (p : Part). StandsFor kept config (record peer { part = p })
       × SlotsStandFor notices capacity becomes given slots p.dds.listeners)
-      (sym (to_nobody (taker_of peer.part.dds.listeners e status) peer.part e status
-      (sym (takes given peer.part.dds.listeners l)))) (s, l)
+      (ap (λ (b : Bool). if b then told_of peer.part e status else peer.part) (takes given peer.part.dds.listeners l))
+      (s, l)
 
   -- somebody takes it: it was looked at, and the listener was told
   pub told_by : (e : Entity) (status : Status) (old : PeerKept) (slots : Slotted L) (new : PeerKept) (after : Slotted L)
@@ -123,8 +114,7 @@ module _ {L : Type 0} (notices : L → List Notice) (capacity : L → ℕ) (beco
       let places = after_notice peer.part.dds.listeners (record { entity = e; status = status }) in
       subst (λ (p : Part). StandsFor new config (record peer { part = p })
       × SlotsStandFor notices capacity becomes given after p.dds.listeners)
-      (sym (to_taker (taker_of peer.part.dds.listeners e status) peer.part e status
-      (sym (takes given peer.part.dds.listeners l)))) (
+      (ap (λ (b : Bool). if b then told_of peer.part e status else peer.part) (takes given peer.part.dds.listeners l)) (
         listeners_apart new config (record peer { part = looked_at peer.part e status }) places
             (look config peer s),
         tell given peer.part.dds.listeners l,

@@ -1,30 +1,26 @@
 -- A writer and a reader that it is matched with, and the place of a reader, by what a peer keeps.
-use Rattle.std.proofs.Common.{◌≡◌, ℕ, ℤ, zero, suc, ◌+◌, ◌-◌, ◌<◌, ◌≤◌, Bool, true, false, cond, List, [], ◌∷◌, Option, Some, None, map, length, get_or, slice_get, refl, ap, sym, ◌∙◌, subst, arith}
+use Rattle.std.proofs.Common.{◌≡◌, ℕ, ℤ, zero, suc, ◌+◌, ◌<◌, ◌≤◌, Bool, true, false, cond, List, [], ◌∷◌, Option, Some, None, map, length, get_or, slice_get, refl, ap, sym, ◌∙◌, subst, arith}
 use Rattle.std.specs.Prelude.{◌&&◌, nat_lt, nat_le, IsSome, slice_index}
 use Rattle.std.specs.Option.{option_map, option_map_or}
 use Rattle.std.proofs.lemmas.Bool.Decides.{nat_tests}
 use Rattle.std.proofs.lemmas.Option.{same_Some}
 use Rattle.dds_base.specs.declared.config.Config.{Config}
-use Rattle.dds_base.specs.declared.config.PeerConfig.{PeerConfig}
-use Rattle.dds_base.specs.declared.config.ReaderConfig.{ReaderConfig}
 use Rattle.dds_base.specs.declared.guid.EntityId.{EntityId}
 use Rattle.rtps_reader.specs.Tracked.{Tracked}
 use Rattle.dds_base.specs.declared.endpoint.Endpoint.{Endpoint}
-use Rattle.dds_protocol.specs.Claims.{every_reader}
 use Rattle.dds_machine.specs.Part.{ReaderProxy, Writer, WriterProxy, no_writer, own_proxies, same_endpoint, row_of, acknowledged_of, is_reader_behind, place_of, writer_changes}
 use Rattle.dds_protocol.specs.Peer.{Peer}
-use Rattle.dds_protocol.specs.DueMessages.{writer_entity}
+use Rattle.dds_protocol.specs.DueMessages.{reader_entity, writer_entity}
 use Rattle.dds_machine.proofs.Tables.{same_is}
 use Rattle.dds_protocol.proofs.InOrder.{same_self}
 use Rattle.dds_core.specs.declared.matching.ReaderName.{ReaderName}
 use Rattle.dds_core.specs.declared.matching.WriterName.{WriterName}
 use Rattle.dds_core.specs.declared.pairing.Pair.{Pair}
 use Rattle.dds_core.specs.Kept.{PeerKept, ReaderKept, WriterKept}
-use Rattle.dds_core.specs.MatchedEnds.{IsNameOf}
-use Rattle.dds_core.specs.Pairs.{IsPair, reader_entity}
+use Rattle.dds_core.specs.Pairs.{IsPair}
 use Rattle.dds_core.specs.Readiness.{IsPlaceAt}
 use Rattle.dds_core.specs.Standing.{StandsFor, WriterStands, IsFirstReader, IsFirstRow}
-use Rattle.dds_core.proofs.BeatsDue.{writer_named, readers_named}
+use Rattle.dds_core.proofs.BeatsDue.{named_reader, readers_named, writer_named}
 use Rattle.dds_core.proofs.Lists.{get-map, map-get, past_end}
 use Rattle.dds_core.proofs.Rows.{IsFirstOf, is_first_of, no_row, place_there, proxied}
 
@@ -123,17 +119,6 @@ not_among kept i number k reader is at none config peer s =
     none j f.0 f.1 f.2)) in
     let next : suc i ≡ number = omega (arith, is) in
     subst (λ (m : ℕ). IsPair config peer m reader None) next nobody
-
-named_reader : (config : Config) (topic : ℕ) (n : ReaderName) → IsNameOf config.peers topic n
-    → n.guid.entity ≡ reader_entity config n.reader.peer n.reader.number
-named_reader config topic n name =
-    let is = name.is in
-    let configured : reader_entity config n.reader.peer n.reader.number ≡ is.end.entity =
-    ap (λ (o : Option PeerConfig). option_map_or
-    (λ (p : PeerConfig). option_map_or (λ (r : ReaderConfig). r.entity)
-    (slice_get p.readers (n.reader.number - 1)) every_reader) o every_reader) is.at_peer.1
-    ∙ ap (λ (o : Option ReaderConfig). option_map_or (λ (r : ReaderConfig). r.entity) o every_reader) is.at_reader.1 in
-    sym (configured ∙ name.same_entity)
 
 -- a pair, by what the peer keeps of the writer
 abbrev pair_of : WriterKept → EntityId → Bool → ℕ → Pair

@@ -1,19 +1,17 @@
--- The peers with a reader that is behind, in the order of their first rows.
+-- The readers that are behind, by their names.
 use Rattle.std.proofs.Common.{◌≡◌, ℕ, Bool, true, false, cond, List, [], ◌∷◌, map, drop, length, get_or, refl, ap, sym, ◌∙◌, arith}
 use Rattle.std.specs.Prelude.{filter, nat_le, if◌then◌else◌}
 use Rattle.dds_base.specs.declared.endpoint.Endpoint.{Endpoint}
-use Rattle.dds_machine.specs.Part.{ReaderProxy, peers_of}
-use Rattle.dds_core.specs.declared.matching.Destination.{Destination}
+use Rattle.dds_machine.specs.Part.{ReaderProxy}
 use Rattle.dds_core.specs.declared.matching.ReaderName.{ReaderName}
-use Rattle.dds_core.specs.Beating.{names_behind, peers_behind}
+use Rattle.dds_core.specs.Beating.{names_behind}
 use Rattle.dds_core.specs.MatchedEnds.{readers_of}
-use Rattle.dds_core.proofs.FirstPeers.{first_peers_are}
 
 abbrev ends_of : List ReaderProxy → List Endpoint
 ends_of rows = map (λ (p : ReaderProxy). p.reader) rows
 
 -- those that are behind, by their names, are the rows that are
-names_are : (last : ℕ) (rows : List ReaderProxy) (names : List ReaderName) → ends_of rows ≡ readers_of names
+pub names_are : (last : ℕ) (rows : List ReaderProxy) (names : List ReaderName) → ends_of rows ≡ readers_of names
     → readers_of (names_behind last rows names)
     ≡ ends_of (filter (λ (p : ReaderProxy). nat_le p.acknowledged last) rows)
 names_are last [] names same = refl
@@ -34,12 +32,3 @@ names_are last (p ∷ ps) (n ∷ ns) same =
         ap (λ (es : List Endpoint). n.reader ∷ es) h
         ∙ ap (λ (e : Endpoint). e ∷ ends_of (filter (λ (q : ReaderProxy). nat_le q.acknowledged last) ps)) head
     one false h = h
-
--- the peers of the rows that are behind are those to which a HEARTBEAT goes, by the names
-pub peers_are_behind : (last : ℕ) (rows : List ReaderProxy) (names : List ReaderName)
-    → ends_of rows ≡ map (λ (n : ReaderName). n.reader) names
-    → map (λ (d : Destination). d.peer) (peers_behind last rows names)
-    ≡ peers_of (ends_of (filter (λ (p : ReaderProxy). nat_le p.acknowledged last) rows))
-peers_are_behind last rows names same =
-    sym (first_peers_are (names_behind last rows names))
-    ∙ ap (λ (es : List Endpoint). peers_of es) (names_are last rows names same)

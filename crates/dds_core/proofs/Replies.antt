@@ -68,12 +68,12 @@ rooms_more own entity at a names rooms rooms' i d one lt count is each new j nam
 
 -- ---- what can be written
 
-more_spells : (old more : List Submessage) → AllByRecursion IsSpellable more → AllByRecursion IsSpellable old
+pub more_spells : (old more : List Submessage) → AllByRecursion IsSpellable more → AllByRecursion IsSpellable old
     → AllByRecursion IsSpellable (old ++ more)
 more_spells [] more h k = h
 more_spells (x ∷ xs) more h k = (k.0, more_spells xs more h k.1)
 
-both_octets : (old more : List Submessage) → all_value_octets (old ++ more)
+pub both_octets : (old more : List Submessage) → all_value_octets (old ++ more)
     ≡ all_value_octets old + all_value_octets more
 both_octets [] more = omega arith
 both_octets (x ∷ xs) more = let rest = both_octets xs more in omega (arith, rest)

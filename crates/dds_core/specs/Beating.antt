@@ -2,20 +2,25 @@
 -- cite this: nothing here has to be believed.
 --
 -- RTPS 2.5, 8.4.9 (reliable StatefulWriter: heartbeatPeriod), 8.3.8 (Heartbeat).
-use Rattle.std.specs.Prelude.{◌≡◌, ℕ, ◌+◌, ◌≤◌, ◌==◌, ◌&&◌, Bool, not, if◌then◌else◌, nat_lt, nat_le, true, false, List, [], ◌∷◌, ◌++◌, length, map, filter, take, slice_get, Option, ℤ}
-use Rattle.std.specs.List.{list_any}
+use Rattle.std.specs.Prelude.{◌≡◌, ℕ, ◌+◌, ◌≤◌, ◌==◌, ◌&&◌, Bool, not, if◌then◌else◌, nat_lt, nat_le, true, false, List, [], ◌∷◌, ◌++◌, length, map, filter, take, slice_get, Option, ℤ, pos}
+use Rattle.std.specs.List.{list_any, AllByRecursion}
 use Rattle.std.specs.Option.{option_map_or}
 use Rattle.dds_base.specs.declared.guid.GuidPrefix.{GuidPrefix}
+use Rattle.dds_base.specs.declared.guid.EntityId.{EntityId}
 use Rattle.dds_base.specs.Bounds.{max_changes, max_count}
+use Rattle.dds_base.specs.Kept.{first_kept}
 use Rattle.rtps_wire.specs.declared.message.Message.{Message}
+use Rattle.rtps_wire.specs.declared.submessage.Submessage.{Submessage}
 use Rattle.rtps_wire.specs.declared.submessage.Submessage.TheVariants.{InfoDst, Heartbeat}
 use Rattle.rtps_writer.specs.declared.heartbeat.HeartbeatDue.{HeartbeatDue}
+use Rattle.rtps_wire.specs.Submessages.{IsSpellable, all_value_octets}
 use Rattle.rtps_writer.specs.Standing.{Kept, StandsFor as RtpsStandsFor}
+use Rattle.rtps_writer.specs.WriterState.{WriterState, last_of, history_of as rtps_history_of}
 use Rattle.dds_base.specs.declared.endpoint.Endpoint.{Endpoint}
 use Rattle.dds_protocol.specs.declared.event.Packet.{Packet}
-use Rattle.dds_machine.specs.Part.{ReaderProxy, Writer, writer_changes, heartbeats_used}
+use Rattle.dds_machine.specs.Part.{ReaderProxy, Writer, writer_changes, heartbeats_used, history_of}
 use Rattle.dds_protocol.specs.Claims.{every_reader}
-use Rattle.dds_protocol.specs.DueMessages.{Due, AreSent, assertion_message, heartbeat_message}
+use Rattle.dds_protocol.specs.DueMessages.{Due, AreSent, begins_at, is_one_for_all}
 use Rattle.dds_core.specs.declared.heartbeat.Beat.{Beat}
 use Rattle.dds_core.specs.declared.matching.Destination.{Destination}
 use Rattle.dds_core.specs.declared.matching.ReaderName.{ReaderName}
@@ -23,34 +28,56 @@ use Rattle.dds_core.specs.declared.sending.Announced.{Announced}
 use Rattle.dds_core.specs.Kept.{WriterKept}
 use Rattle.dds_core.specs.Standing.{WriterStands, WritersStand, state_of}
 
--- the numbers of a HEARTBEAT that can be written
-pub record IsHeartbeatValid (due : HeartbeatDue) : Type 0 where
-  pub first : 1 ≤ due.first
-  pub not_past : due.first ≤ due.last + 1
+-- a HEARTBEAT that is due can be written so that it begins at this number
+pub record CanBegin (due : HeartbeatDue) (number : ℕ) : Type 0 where
+  pub first : 1 ≤ number
+  pub not_past : number ≤ due.last + 1
   pub last : due.last ≤ max_changes
 
--- the HEARTBEAT as a message to the peer of this prefix
-abbrev pub message_to : Beat → GuidPrefix → Message
-message_to beat to = record {
-  prefix = beat.prefix;
-  submessages = InfoDst to ∷ Heartbeat (record {
-    reader_id = every_reader;
-    writer_id = beat.entity;
-    first_sn = beat.due.first;
-    last_sn = beat.due.last;
-    count = beat.due.count;
-    final_flag = beat.asserts;
-    liveliness_flag = beat.asserts;
-  }) ∷ [];
-}
+-- it is from the first kept number to the last one of a state for which what a writer keeps stands
+pub record IsDueOf (kept : Kept) (due : HeartbeatDue) : Type 0 where
+  pub state : WriterState
+  pub stands : RtpsStandsFor kept state
+  pub first : due.first ≡ first_kept (rtps_history_of state)
+  pub last : due.last ≡ last_of state
+
+-- the HEARTBEAT to readers of this entity id, from this number on
+abbrev pub beat_from : Beat → EntityId → ℕ → Submessage
+beat_from beat reader first =
+    Heartbeat (record {
+      reader_id = reader;
+      writer_id = beat.entity;
+      first_sn = first;
+      last_sn = beat.due.last;
+      count = beat.due.count;
+      final_flag = beat.asserts;
+      liveliness_flag = beat.asserts;
+    })
 
 -- a message that is due to a peer
 abbrev pub due_to : ℕ → Message → Due
 due_to to message = record { to = to; message = message }
 
--- the HEARTBEAT to each of these peers
-abbrev pub told_to : Beat → List Destination → List Due
-told_to beat ds = map (λ (d : Destination). due_to d.peer (message_to beat d.prefix)) ds
+-- by name to a reader
+abbrev pub beat_for : Beat → Writer → ReaderName → Submessage
+beat_for beat w n = beat_from beat n.guid.entity (begins_at w n.reader)
+
+-- by name to those of these readers that are at a peer
+abbrev pub beats_for : Beat → Writer → List ReaderName → ℕ → List Submessage
+beats_for beat w names to = map (beat_for beat w) (filter (λ (n : ReaderName). n.reader.peer == to) names)
+
+-- to those of these readers that are at a peer: one for all of them, or one by name to each
+abbrev pub beats_at : Beat → Writer → List ReaderName → ℕ → List Submessage
+beats_at beat w names to =
+    if is_one_for_all w to then beat_from beat every_reader beat.due.first ∷ [] else beats_for beat w names to
+
+-- these as a message to the peer of this prefix
+abbrev pub message_to : Beat → GuidPrefix → List Submessage → Message
+message_to beat to beats = record { prefix = beat.prefix; submessages = InfoDst to ∷ beats }
+
+-- the message to a peer with these
+abbrev pub beats_message : Beat → Writer → List ReaderName → Destination → Due
+beats_message beat w names d = due_to d.peer (message_to beat d.prefix (beats_at beat w names d.peer))
 
 -- some of these readers of a writer that has made so many changes is of this peer, and has not acknowledged all
 abbrev pub is_peer_behind : ℕ → ℕ → List ReaderProxy → Bool
@@ -84,22 +111,34 @@ names_behind last (p ∷ ps) (n ∷ ns) =
 abbrev pub peers_behind : ℕ → List ReaderProxy → List ReaderName → List Destination
 peers_behind last rows names = first_peers (names_behind last rows names)
 
--- the HEARTBEAT to each of the peers of a writer's readers, of these names, that are behind
+-- those of a writer's readers, by these names of them all, that are behind are told
 abbrev pub beats_to : Beat → Writer → List ReaderName → List Due
-beats_to beat w names = told_to beat (peers_behind (length (writer_changes w)) w.readers names)
+beats_to beat w names =
+    map (beats_message beat w (names_behind (length (writer_changes w)) w.readers names))
+    (peers_behind (length (writer_changes w)) w.readers names)
+
+-- the HEARTBEAT that is due of a writer, from a peer of this prefix
+abbrev pub beat_of : GuidPrefix → EntityId → Bool → Writer → Beat
+beat_of prefix entity asserts w = record {
+  prefix = prefix;
+  entity = entity;
+  due = record {
+    first = first_kept (history_of w);
+    last = length (writer_changes w);
+    count = pos (heartbeats_used w + 1);
+  };
+  asserts = asserts;
+}
 
 -- what tells an assertion of a writer, from a peer of this prefix
 abbrev pub assertions_of : GuidPrefix → WriterKept → Writer → List Due
 assertions_of prefix kept w =
-    map (λ (d : Destination). due_to d.peer (assertion_message prefix d.prefix kept.entity w)) kept.destinations
+    map (beats_message (beat_of prefix kept.entity true w) w kept.matched) kept.destinations
 
 -- what is due at a tick of a writer, from a peer of this prefix
 abbrev pub beats_of : GuidPrefix → WriterKept → Writer → List Due
 beats_of prefix kept w =
-    if nat_lt (heartbeats_used w) max_count
-    then map (λ (d : Destination). due_to d.peer (heartbeat_message prefix d.prefix kept.entity w))
-    (peers_behind (length (writer_changes w)) w.readers kept.readers)
-    else []
+    if nat_lt (heartbeats_used w) max_count then beats_to (beat_of prefix kept.entity false w) w kept.readers else []
 
 -- what is due at a tick of these writers, in their order
 abbrev pub beats_of_all : GuidPrefix → List WriterKept → List Writer → List Due
@@ -123,11 +162,34 @@ AddsTo dues old new = Adds dues old.packets.items old.unsent new.packets.items n
 abbrev pub AreReadersOf : Writer → List ReaderName → Type 0
 AreReadersOf w readers = map (λ (p : ReaderProxy). p.reader) w.readers ≡ map (λ (r : ReaderName). r.reader) readers
 
+-- a writer that a writer's parts stand for, with its readers by their names, whose first kept number this is
+pub record BeginsAt (first : ℕ) (kept : Kept) (names : List ReaderName) (w : Writer) (answered : Endpoint → Option ℤ)
+    : Type 0 where
+  pub names_are : AreReadersOf w names
+  pub stands : RtpsStandsFor kept (state_of w answered)
+  pub first_is : first ≡ first_kept (history_of w)
+
+-- it is so of each such writer
+abbrev pub ForEach : ℕ → Kept → List ReaderName → (Writer → Type 0) → Type 0
+ForEach first kept names P =
+    (w : Writer) (answered : Endpoint → Option ℤ) → BeginsAt first kept names w answered → P w
+
+-- so many submessages at most were added, which can be written and have no value
+pub record AddsBare (count : ℕ) (old new : List Submessage) : Type 0 where
+  pub each : AllByRecursion IsSpellable old → AllByRecursion IsSpellable new
+  pub more : length old ≤ length new
+  pub few : length new ≤ length old + count
+  pub bare : all_value_octets new ≤ all_value_octets old
+
 -- for each writer that a writer's parts stand for, the HEARTBEATs to the peers that are behind are added
 abbrev pub Beats : Beat → Kept → List ReaderName → List Packet → ℕ → List Packet → ℕ → Type 0
-Beats beat kept names old before new after = (w : Writer) (answered : Endpoint → Option ℤ)
-    → AreReadersOf w names → RtpsStandsFor kept (state_of w answered)
-    → Adds (beats_to beat w names) old before new after
+Beats beat kept names old before new after =
+    ForEach beat.due.first kept names (λ w. Adds (beats_to beat w names) old before new after)
+
+-- for each of those, the HEARTBEATs to these matched readers at these peers are sent
+abbrev pub Tells : Beat → Kept → List ReaderName → List ReaderName → List Destination → List Packet → ℕ → Type 0
+Tells beat kept names matched ds packets unsent =
+    ForEach beat.due.first kept names (λ w. AreSent (map (beats_message beat w matched) ds) packets unsent)
 
 -- for each writer that is stood for, what is due at its tick is added
 abbrev pub BeatsOf : GuidPrefix → WriterKept → List Packet → ℕ → List Packet → ℕ → Type 0

@@ -1,22 +1,11 @@
 -- A writer of a peer and a reader that it is matched with, by their entity ids (RTPS 2.5, 8.2.4, 8.4.7).
-use Rattle.std.specs.Prelude.{◌≡◌, ℕ, ◌-◌, length, slice_get, IsSome, Option, Some, None}
-use Rattle.std.specs.Option.{option_map_or}
+use Rattle.std.specs.Prelude.{◌≡◌, ℕ, length, IsSome, Option, Some, None}
 use Rattle.dds_base.specs.declared.config.Config.{Config}
-use Rattle.dds_base.specs.declared.config.PeerConfig.{PeerConfig}
-use Rattle.dds_base.specs.declared.config.ReaderConfig.{ReaderConfig}
-use Rattle.dds_base.specs.declared.guid.EntityId.{EntityId}
 use Rattle.dds_base.specs.declared.endpoint.Endpoint.{Endpoint}
-use Rattle.dds_protocol.specs.Claims.{every_reader}
 use Rattle.dds_machine.specs.Part.{own_writer, acknowledged_of, is_reader_behind, writer_changes}
 use Rattle.dds_protocol.specs.Peer.{Peer}
-use Rattle.dds_protocol.specs.DueMessages.{writer_entity}
+use Rattle.dds_protocol.specs.DueMessages.{reader_entity, writer_entity}
 use Rattle.dds_core.specs.declared.pairing.Pair.{Pair}
-
--- the entity id of a peer's reader, by the configuration
-abbrev pub reader_entity : Config → ℕ → ℕ → EntityId
-reader_entity config peer number =
-    option_map_or (λ (p : PeerConfig). option_map_or (λ (r : ReaderConfig). r.entity)
-    (slice_get p.readers (number - 1)) every_reader) (slice_get config.peers (peer - 1)) every_reader
 
 -- the peer's writer is matched with the reader, these are their entity ids, the reader is behind exactly so, and the
 -- writer has made so many changes; or they are not matched

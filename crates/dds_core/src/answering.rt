@@ -3,9 +3,7 @@
 //! RTPS 2.5, 8.4.7 (ReaderProxy), 8.4.9 (reliable StatefulWriter), 8.3.8 (AckNack, Data, Gap).
 
 ghost use Rattle.std.specs.Prelude.{◌≡◌, ◌++◌, ◌+◌, ◌^◌, ◌<◌, ◌≤◌, ◌↔◌, ◌∷◌, IsTrue, Some, length, IfOk, OnOk, []};
-ghost use Rattle.std.specs.Result.{ForOk};
 ghost use Rattle.rtps_wire.specs.Messages.{IsWritable};
-ghost use Rattle.rtps_wire.specs.declared.message.Message.{Message as MessageOf};
 ghost use Rattle.rtps_writer.specs.declared.answer.Answer.TheVariants as answer;
 ghost use Rattle.rtps_writer.specs.Standing.{StandsFor as RtpsStandsFor};
 ghost use Rattle.rtps_writer.specs.WriterState.{WriterState};
@@ -14,14 +12,13 @@ ghost use Rattle.dds_base.specs.Written.{changes_of};
 ghost use Rattle.dds_protocol.specs.DueMessages.{data_of, submessages_of};
 ghost use Rattle.dds_protocol.specs.Protocol.{answers_per};
 ghost use Rattle.dds_core.specs.Answering.{SpellsMore, IsFrom, HasRoom, AreRooms, AreAnswerable, CanAnswer, SendsAnswers, message_of};
-ghost use Rattle.dds_core.specs.Beating.{AddsTo, due_to};
 ghost use Rattle.dds_core.specs.Readiness.{receiver_at};
-ghost use Rattle.dds_core.specs.Sending.{AreMessages, max_unsent};
+ghost use Rattle.dds_core.specs.Sending.{AreMessages};
 ghost use Rattle.dds_core.specs.Standing.{IsShort};
 
 use crate::matching::ReaderName;
 use crate::receiver::{MessageReceiver, is_for};
-use crate::sending::{Announced, send};
+use crate::sending::{Announced, send_made};
 use dds_base::{Change, EntityId, GuidPrefix, Sn, USUAL_VALUE};
 use rtps_sets::SnSet;
 use rtps_wire::{AckNack, Data, DataContent, Gap, Message, Submessage, Submessages};
@@ -235,22 +232,6 @@ fn message<'a>(
         prefix: answering.own,
         submessages,
     })
-}
-
-/// Sends a message with answers, or counts it where it found no memory.
-fn send_made(alloc: Global, sent: &mut Announced, message: Result<Message<'_>, AllocError>, to: u8)
-    requires writable { ForOk message IsWritable }
-    requires some { ForOk message (λ m. 1 ≤ length m.submessages) }
-    requires room { sent.old.unsent < max_unsent }
-    ensures few { sent.new.unsent ≤ sent.old.unsent + 1 }
-    ensures adds { (m : MessageOf) → IfOk message.entry (λ x. x ≡ m)
-        → AddsTo (due_to to m ∷ []) sent.old sent.new }
-    ensures messages { AreMessages sent.old.packets.items → AreMessages sent.new.packets.items }
-{
-    match message {
-        Ok(message) => send(alloc, sent, &message, to),
-        Err(_) => sent.unsent += 1,
-    }
 }
 
 /// Sends answers, as many in a packet as stand there, but in the last one.

@@ -95,7 +95,7 @@ impl<F: Filter, L: Listener> Core<F, L> {
     /// to that of the participant, and its flag is cleared, as by a look; where none takes it the flag stays. The
     /// writers come first, in their order, then the readers, and the statuses of each by ascending bit.
     /// Packets go out for a change that was made and for an assertion, one for each peer with a matched reader; at a
-    /// tick for each writer, a HEARTBEAT for each peer with a reader that is behind; and at a delivery the ACKNACKs
+    /// tick for each writer, HEARTBEATs to each peer with a reader that is behind; and at a delivery the ACKNACKs
     /// that its HEARTBEATs ask for, and the changes and GAPs that its ACKNACKs do. Those for which there is no memory
     /// are counted in `unsent`.
     ///

@@ -85,7 +85,7 @@ impl<F: Filter> FilteredPeer<F> {
     /// liveliness whose own lease is over, and then HEARTBEATs are sent. What is refused changes nothing, but for
     /// `NoData`, which is entered as the access that it is, and `Timeout` of a look at a WaitSet, which ends the wait.
     /// Packets go out for a change that was made and for an assertion, one for each peer with a matched reader; at a
-    /// tick for each writer, a HEARTBEAT for each peer with a reader that is behind; and at a delivery the ACKNACKs
+    /// tick for each writer, HEARTBEATs to each peer with a reader that is behind; and at a delivery the ACKNACKs
     /// that its HEARTBEATs ask for, and the changes and GAPs that its ACKNACKs do. Those for which there is no memory
     /// are counted in `unsent`. Where two replies are asked for, all memory for both is asked for before anything changes.
     ///

@@ -1,25 +1,29 @@
-//! The HEARTBEATs of a writer: at a tick one to each peer with a matched reader that is behind, for an assertion one to
-//! each peer with a matched reader.
+//! The HEARTBEATs of a writer: at a tick a message to each peer with a matched reader that is behind, for an assertion
+//! one to each peer with a matched reader. The message has one HEARTBEAT for all readers there, or, where some of them
+//! is not owed all that is kept, one by name to each, which begins where that one does.
 //!
 //! RTPS 2.5, 8.4.9 (reliable StatefulWriter: heartbeatPeriod), 8.3.8 (Heartbeat), 8.7.2.2 (LIVELINESS).
 
-ghost use Rattle.std.specs.Prelude.{◌≡◌, ◌+◌, ◌<◌, ◌≤◌, ◌∷◌, [], ℤ, Option, length, take};
+ghost use Rattle.std.specs.Prelude.{◌≡◌, ◌+◌, ◌++◌, ◌<◌, ◌≤◌, ◌∷◌, [], ℤ, Option, IfOk, OnOk, length, take};
 ghost use Rattle.dds_base.specs.Bounds.{max_readers};
 ghost use Rattle.rtps_wire.specs.Messages.{IsWritable};
+ghost use Rattle.rtps_wire.specs.Submessages.{IsSpellable};
 ghost use Rattle.rtps_writer.specs.Standing.{reader_count, StandsFor as RtpsStandsFor};
-ghost use Rattle.dds_base.specs.declared.endpoint.Endpoint.{Endpoint};
+ghost use Rattle.dds_base.specs.declared.endpoint.Endpoint.{Endpoint as EndpointOf};
 ghost use Rattle.dds_machine.specs.Part.{Writer, writer_changes};
-ghost use Rattle.dds_protocol.specs.DueMessages.{AreSent};
-ghost use Rattle.dds_core.specs.Beating.{IsHeartbeatValid, AddsTo, due_to, message_to, told_to, is_first_behind, is_peer_behind, AreReadersOf, Beats};
-ghost use Rattle.dds_core.specs.Sending.{AreMessages, max_unsent};
+ghost use Rattle.dds_protocol.specs.Claims.{every_reader};
+ghost use Rattle.dds_protocol.specs.DueMessages.{begins_at, is_one_for_all};
+ghost use Rattle.dds_core.specs.Beating.{AddsBare, AreReadersOf, Beats, CanBegin, ForEach, IsDueOf, Tells, beat_for, beat_from, beats_at, beats_for, is_first_behind, is_peer_behind, message_to, names_behind};
+ghost use Rattle.dds_core.specs.Sending.{AreMessages};
 ghost use Rattle.dds_core.specs.Standing.{state_of};
 
 use crate::matching::{Destination, ReaderName};
-use crate::sending::{Announced, send};
-use dds_base::{EntityId, GuidPrefix};
+use crate::pairing::row_among;
+use crate::sending::{Announced, send_made};
+use dds_base::{Endpoint, EntityId, GuidPrefix, Sn};
 use rtps_wire::{Heartbeat, Message, Submessage, Submessages};
 use rtps_writer::{HeartbeatDue, StatefulWriter};
-use std::alloc::Global;
+use std::alloc::{AllocError, Global};
 
 /// A HEARTBEAT of a writer, without a peer that it is for.
 #[derive(Clone, Copy)]
@@ -32,35 +36,207 @@ pub struct Beat {
     pub asserts: bool,
 }
 
-/// The HEARTBEAT, as a message to the peer of this prefix.
-fn message(alloc: Global, beat: &Beat, to: GuidPrefix) -> Message<'static>
-    requires { IsHeartbeatValid beat.now.due }
-    ensures says { result ≡ message_to beat.now to }
-    ensures writable { IsWritable result }
-    ensures some { 1 ≤ length result.submessages }
+/// The HEARTBEAT to readers of this entity id, from this number on.
+fn beat_from(beat: &Beat, reader: EntityId, first: Sn) -> Submessage<'static>
+    requires { CanBegin beat.now.due first }
+    ensures says { result ≡ beat_from beat.now reader first }
+    ensures spells { IsSpellable result }
 {
     // These show the prover how many octets the names have.
-    let (_prefix, _entity, _to) = (
-        beat.prefix.as_slice(),
-        beat.entity.as_slice(),
-        to.as_slice(),
-    );
-    let heartbeat = Heartbeat {
-        reader_id: EntityId::UNKNOWN,
+    let (_reader, _writer) = (reader.as_slice(), beat.entity.as_slice());
+    Submessage::Heartbeat(Heartbeat {
+        reader_id: reader,
         writer_id: beat.entity,
-        first_sn: beat.due.first,
+        first_sn: first,
         last_sn: beat.due.last,
         count: beat.due.count,
         final_flag: beat.asserts,
         liveliness_flag: beat.asserts,
-    };
+    })
+}
+
+/// The HEARTBEAT to all readers, as a message to the peer of this prefix.
+fn message_for_all(alloc: Global, beat: &Beat, to: GuidPrefix) -> Message<'static>
+    requires { CanBegin beat.now.due beat.now.due.first }
+    ensures says { result
+        ≡ message_to beat.now to (beat_from beat.now every_reader beat.now.due.first ∷ []) }
+    ensures writable { IsWritable result }
+    ensures some { 1 ≤ length result.submessages }
+{
+    // These show the prover how many octets the names have.
+    let (_prefix, _to) = (beat.prefix.as_slice(), to.as_slice());
     let mut submessages = Submessages::new(alloc);
     submessages.push_in_place(Submessage::InfoDst(to));
-    submessages.push_in_place(Submessage::Heartbeat(heartbeat));
+    submessages.push_in_place(beat_from(beat, EntityId::UNKNOWN, beat.due.first));
     Message {
         prefix: beat.prefix,
         submessages,
     }
+}
+
+/// Where a HEARTBEAT that is due of a writer begins, by name to this reader.
+fn begins_at(
+    due: &HeartbeatDue,
+    writer: &StatefulWriter,
+    readers: &[ReaderName],
+    reader: Endpoint,
+) -> Sn
+    requires due { IsDueOf writer.now due.now }
+    requires count { reader_count writer.now ≡ length readers.now }
+    ensures begins { ForEach due.now.first writer.now readers.now (λ w. result ≡ begins_at w reader) }
+    ensures can { CanBegin due.now result }
+{
+    match row_among(readers, reader) {
+        Some(row) => writer.first_for(row),
+        None => due.first,
+    }
+}
+
+/// Adds the HEARTBEAT by name to this reader, if there is memory for it.
+fn push_beat(
+    submessages: &mut Submessages<'_>,
+    beat: &Beat,
+    writer: &StatefulWriter,
+    readers: &[ReaderName],
+    name: &ReaderName,
+) -> Result<(), AllocError>
+    requires due { IsDueOf writer.now beat.now.due }
+    requires count { reader_count writer.now ≡ length readers.now }
+    ensures bare { OnOk result (AddsBare 1 submessages.old submessages.new) }
+    ensures adds { OnOk result (ForEach beat.now.due.first writer.now readers.now
+        (λ w. submessages.new ≡ submessages.old ++ beat_for beat.now w name.now ∷ [])) }
+{
+    let first = begins_at(&beat.due, writer, readers, name.reader);
+    submessages.push(beat_from(beat, name.guid.entity, first))?;
+    Ok(())
+}
+
+/// Adds a HEARTBEAT by name to each reader of this peer that is behind, among these of a writer, in their order.
+fn push_behind(
+    submessages: &mut Submessages<'_>,
+    beat: &Beat,
+    writer: &StatefulWriter,
+    readers: &[ReaderName],
+    peer: u8,
+) -> Result<(), AllocError>
+    requires due { IsDueOf writer.now beat.now.due }
+    requires count { reader_count writer.now ≡ length readers.now }
+    ensures bare { OnOk result (AddsBare (length readers.now) submessages.old submessages.new) }
+    ensures adds { OnOk result (ForEach beat.now.due.first writer.now readers.now
+        (λ w. submessages.new
+        ≡ submessages.old
+        ++ beats_for beat.now w
+        (names_behind (length (writer_changes w)) w.readers readers.now) peer)) }
+{
+    for row in 0..readers.len() {
+        let name = &readers[row];
+        if writer.is_behind(row) && name.reader.peer == peer {
+            push_beat(submessages, beat, writer, readers, name)?;
+        }
+    }
+    Ok(())
+}
+
+/// Adds a HEARTBEAT by name to each of these matched readers that is of this peer, in their order.
+fn push_matched(
+    submessages: &mut Submessages<'_>,
+    beat: &Beat,
+    writer: &StatefulWriter,
+    readers: &[ReaderName],
+    matched: &[ReaderName],
+    peer: u8,
+) -> Result<(), AllocError>
+    requires due { IsDueOf writer.now beat.now.due }
+    requires count { reader_count writer.now ≡ length readers.now }
+    ensures bare { OnOk result (AddsBare (length matched.now) submessages.old submessages.new) }
+    ensures adds { OnOk result (ForEach beat.now.due.first writer.now readers.now
+        (λ w. submessages.new ≡ submessages.old ++ beats_for beat.now w matched.now peer)) }
+{
+    for name in matched {
+        if name.reader.peer == peer {
+            push_beat(submessages, beat, writer, readers, name)?;
+        }
+    }
+    Ok(())
+}
+
+/// Whether one HEARTBEAT, from this first kept number on, is for all readers at a peer: each of a writer's reliable ones
+/// there is owed all that is kept.
+fn is_one_for_all(writer: &StatefulWriter, readers: &[ReaderName], first: Sn, peer: u8) -> bool
+    requires count { reader_count writer.now ≡ length readers.now }
+    ensures { ForEach first writer.now readers.now (λ w. result ≡ is_one_for_all w peer) }
+{
+    for row in 0..readers.len() {
+        if readers[row].reader.peer == peer && first < writer.first_for(row) {
+            return false;
+        }
+    }
+    true
+}
+
+/// The message of a tick to a peer: to the readers there that are behind, among these of a writer.
+fn message_to_behind(
+    alloc: Global,
+    beat: &Beat,
+    writer: &StatefulWriter,
+    readers: &[ReaderName],
+    to: &Destination,
+) -> Result<Message<'static>, AllocError>
+    requires due { IsDueOf writer.now beat.now.due }
+    requires count { reader_count writer.now ≡ length readers.now }
+    requires few { length readers.now ≤ max_readers }
+    ensures says { ForEach beat.now.due.first writer.now readers.now (λ w. IfOk result
+        (λ m. m
+        ≡ message_to beat.now to.now.prefix
+        (beats_at beat.now w
+        (names_behind (length (writer_changes w)) w.readers readers.now) to.now.peer))) }
+    ensures writable { IfOk result IsWritable }
+    ensures some { IfOk result (λ m. 1 ≤ length m.submessages) }
+{
+    if is_one_for_all(writer, readers, beat.due.first, to.peer) {
+        return Ok(message_for_all(alloc, beat, to.prefix));
+    }
+    // These show the prover how many octets the names have.
+    let (_prefix, _to) = (beat.prefix.as_slice(), to.prefix.as_slice());
+    let mut submessages = Submessages::new(alloc);
+    submessages.push_in_place(Submessage::InfoDst(to.prefix));
+    push_behind(&mut submessages, beat, writer, readers, to.peer)?;
+    Ok(Message {
+        prefix: beat.prefix,
+        submessages,
+    })
+}
+
+/// The message of an assertion to a peer: to those of these matched readers that are there.
+fn message_to_matched(
+    alloc: Global,
+    beat: &Beat,
+    writer: &StatefulWriter,
+    readers: &[ReaderName],
+    matched: &[ReaderName],
+    to: &Destination,
+) -> Result<Message<'static>, AllocError>
+    requires due { IsDueOf writer.now beat.now.due }
+    requires count { reader_count writer.now ≡ length readers.now }
+    requires few { length matched.now ≤ max_readers }
+    ensures says { ForEach beat.now.due.first writer.now readers.now (λ w. IfOk result
+        (λ m. m
+        ≡ message_to beat.now to.now.prefix (beats_at beat.now w matched.now to.now.peer))) }
+    ensures writable { IfOk result IsWritable }
+    ensures some { IfOk result (λ m. 1 ≤ length m.submessages) }
+{
+    if is_one_for_all(writer, readers, beat.due.first, to.peer) {
+        return Ok(message_for_all(alloc, beat, to.prefix));
+    }
+    // These show the prover how many octets the names have.
+    let (_prefix, _to) = (beat.prefix.as_slice(), to.prefix.as_slice());
+    let mut submessages = Submessages::new(alloc);
+    submessages.push_in_place(Submessage::InfoDst(to.prefix));
+    push_matched(&mut submessages, beat, writer, readers, matched, to.peer)?;
+    Ok(Message {
+        prefix: beat.prefix,
+        submessages,
+    })
 }
 
 /// Whether some reader of this peer, among the first so many of these readers of a writer, has not acknowledged all
@@ -70,7 +246,7 @@ fn message(alloc: Global, beat: &Beat, to: GuidPrefix) -> Message<'static>
 fn is_peer_behind(writer: &StatefulWriter, readers: &[ReaderName], to: usize, peer: u8) -> bool
     requires count { reader_count writer.now ≡ length readers.now }
     requires to { to ≤ length readers.now }
-    ensures { (w : Writer) (answered : Endpoint → Option ℤ)
+    ensures { (w : Writer) (answered : EndpointOf → Option ℤ)
         → AreReadersOf w readers.now
         → RtpsStandsFor writer.now (state_of w answered)
         → result ≡ is_peer_behind (length (writer_changes w)) peer (take to w.readers) }
@@ -89,7 +265,7 @@ fn is_peer_behind(writer: &StatefulWriter, readers: &[ReaderName], to: usize, pe
 fn is_first_behind(writer: &StatefulWriter, readers: &[ReaderName], row: usize) -> bool
     requires count { reader_count writer.now ≡ length readers.now }
     requires row { row < length readers.now }
-    ensures { (w : Writer) (answered : Endpoint → Option ℤ)
+    ensures { (w : Writer) (answered : EndpointOf → Option ℤ)
         → AreReadersOf w readers.now
         → RtpsStandsFor writer.now (state_of w answered)
         → result ≡ is_first_behind (length (writer_changes w)) w.readers row }
@@ -98,21 +274,7 @@ fn is_first_behind(writer: &StatefulWriter, readers: &[ReaderName], row: usize) 
     writer.is_behind(row) && !is_peer_behind(writer, readers, row, peer)
 }
 
-/// Sends a HEARTBEAT to a peer.
-fn send_beat(alloc: Global, beat: &Beat, destination: &Destination, sent: &mut Announced)
-    requires valid { IsHeartbeatValid beat.now.due }
-    requires room { sent.old.unsent < max_unsent }
-    ensures few { sent.new.unsent ≤ sent.old.unsent + 1 }
-    ensures adds { AddsTo
-        (due_to destination.now.peer (message_to beat.now destination.now.prefix) ∷ []) sent.old
-        sent.new }
-    ensures messages { AreMessages sent.old.packets.items → AreMessages sent.new.packets.items }
-{
-    let message = message(alloc, beat, destination.prefix);
-    send(alloc, sent, &message, destination.peer);
-}
-
-/// Sends a HEARTBEAT to each peer with a reader that is behind, among these readers of a writer, in the order of the
+/// Sends HEARTBEATs to each peer with a reader that is behind, among these readers of a writer, in the order of the
 /// first such reader of each.
 pub fn send_beats(
     alloc: Global,
@@ -121,7 +283,7 @@ pub fn send_beats(
     readers: &[ReaderName],
     sent: &mut Announced,
 )
-    requires valid { IsHeartbeatValid beat.now.due }
+    requires due { IsDueOf writer.now beat.now.due }
     requires count { reader_count writer.now ≡ length readers.now }
     requires few { length readers.now ≤ max_readers }
     requires room { sent.old.unsent ≤ 4096 }
@@ -132,17 +294,28 @@ pub fn send_beats(
 {
     for row in 0..readers.len() {
         if is_first_behind(writer, readers, row) {
-            let destination = readers[row].peer();
-            send_beat(alloc, beat, &destination, sent);
+            let to = readers[row].peer();
+            let message = message_to_behind(alloc, beat, writer, readers, &to);
+            send_made(alloc, sent, message, to.peer);
         }
     }
 }
 
-/// Sends a HEARTBEAT to each of these peers.
-pub fn send_to_all(alloc: Global, beat: &Beat, destinations: &[Destination]) -> Announced
-    requires valid { IsHeartbeatValid beat.now.due }
+/// Sends HEARTBEATs to these matched readers, at each of these peers.
+pub fn send_to_all(
+    alloc: Global,
+    beat: &Beat,
+    writer: &StatefulWriter,
+    readers: &[ReaderName],
+    matched: &[ReaderName],
+    destinations: &[Destination],
+) -> Announced
+    requires due { IsDueOf writer.now beat.now.due }
+    requires count { reader_count writer.now ≡ length readers.now }
     requires few { length destinations.now ≤ max_readers }
-    ensures sent { AreSent (told_to beat.now destinations.now) result.packets.items result.unsent }
+    requires many { length matched.now ≤ max_readers }
+    ensures sent { Tells beat.now writer.now readers.now matched.now destinations.now
+        result.packets.items result.unsent }
     ensures few { result.unsent ≤ max_readers }
     ensures messages { AreMessages result.packets.items }
 {
@@ -150,8 +323,9 @@ pub fn send_to_all(alloc: Global, beat: &Beat, destinations: &[Destination]) -> 
         packets: Vec::new(alloc),
         unsent: 0,
     };
-    for destination in destinations {
-        send_beat(alloc, beat, destination, &mut sent);
+    for to in destinations {
+        let message = message_to_matched(alloc, beat, writer, readers, matched, to);
+        send_made(alloc, &mut sent, message, to.peer);
     }
     sent
 }

@@ -2,10 +2,12 @@
 //!
 //! RTPS 2.5, 8.4.9 (the behaviour of a reliable StatefulWriter).
 
-ghost use Rattle.std.specs.Prelude.{◌≡◌, ◌+◌, ◌^◌, ◌<◌, ◌≤◌, [], ◌∷◌, length};
+ghost use Rattle.std.specs.Prelude.{◌≡◌, ◌+◌, ◌^◌, ◌<◌, ◌≤◌, [], ◌∷◌, IfOk, length};
+ghost use Rattle.std.specs.Result.{ForOk};
 ghost use Rattle.dds_base.specs.Bounds.{max_changes};
 ghost use Rattle.rtps_wire.specs.Data.{IsContent};
 ghost use Rattle.rtps_wire.specs.Messages.{IsWritable};
+ghost use Rattle.rtps_wire.specs.declared.message.Message.{Message as MessageOf};
 ghost use Rattle.dds_core.specs.Beating.{AddsTo, due_to};
 ghost use Rattle.dds_core.specs.Sending.{AreMessages, max_unsent};
 ghost use Rattle.dds_core.specs.Announcing.{message_of, AreAnnouncements, AddsOctets, AddsPacket};
@@ -14,7 +16,7 @@ use crate::matching::Destination;
 use dds_base::{EntityId, GuidPrefix, Moment, Octets, Sn};
 use dds_protocol::Packet;
 use rtps_wire::{Data, DataContent, Message, write_change, write_message};
-use std::alloc::Global;
+use std::alloc::{AllocError, Global};
 
 /// Who announces a change, and when it was made.
 #[derive(Clone, Copy)]
@@ -63,6 +65,27 @@ pub fn send(alloc: Global, sent: &mut Announced, message: &Message, to: u8)
     push_packet(alloc, &mut sent.packets, message, to);
     if sent.packets.len() == before {
         sent.unsent += 1;
+    }
+}
+
+/// Sends a message that was made for a peer, or counts it where it found no memory.
+pub fn send_made(
+    alloc: Global,
+    sent: &mut Announced,
+    message: Result<Message<'_>, AllocError>,
+    to: u8,
+)
+    requires writable { ForOk message IsWritable }
+    requires some { ForOk message (λ m. 1 ≤ length m.submessages) }
+    requires room { sent.old.unsent < max_unsent }
+    ensures few { sent.new.unsent ≤ sent.old.unsent + 1 }
+    ensures adds { (m : MessageOf) → IfOk message.entry (λ x. x ≡ m)
+        → AddsTo (due_to to m ∷ []) sent.old sent.new }
+    ensures messages { AreMessages sent.old.packets.items → AreMessages sent.new.packets.items }
+{
+    match message {
+        Ok(message) => send(alloc, sent, &message, to),
+        Err(_) => sent.unsent += 1,
     }
 }
 

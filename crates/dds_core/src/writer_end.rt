@@ -622,7 +622,14 @@ impl WriterEnd {
             due,
             asserts: true,
         };
-        Ok(send_to_all(alloc, &beat, self.destinations.as_slice()))
+        Ok(send_to_all(
+            alloc,
+            &beat,
+            &self.writer,
+            self.readers.as_slice(),
+            self.matched.as_slice(),
+            self.destinations.as_slice(),
+        ))
     }
 
     /// The time of its peer, of this prefix, has gone on to this moment: sends the HEARTBEATs that are then due.

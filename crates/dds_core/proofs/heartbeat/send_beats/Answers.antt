@@ -1,8 +1,8 @@
-use Rattle.std.proofs.Common.{◌+◌, ◌<◌, [], ◌∷◌, length, sym, subst, ◌∙◌, arith, rules, true}
+use Rattle.std.proofs.Common.{◌+◌, ◌<◌, [], ◌∷◌, length, true, sym, subst, ◌∙◌, arith, rules}
 use Rattle.dds_core.specs.declared.matching.Destination.{Destination}
 use Rattle.dds_core.specs.declared.sending.Announced.{Announced}
-use Rattle.dds_core.specs.Beating.{AddsTo, due_to, message_to}
-use Rattle.dds_core.proofs.Beating.{SentBefore, beats_more, beats_same}
+use Rattle.dds_core.specs.Beating.{AddsTo}
+use Rattle.dds_core.proofs.Beating.{SentBefore, beats_more, beats_same, behind_message}
 use Rattle.dds_core.proofs.heartbeat.send_beats.Goals as goal
 use Rattle.dds_core.proofs.heartbeat.send_beats.Goals.{then-is_first_behind, else-is_first_behind}
 
@@ -16,26 +16,27 @@ loop-row-preserved c =
     let lt : row < length names = search rules in
     elim c.if-is_first_behind.branch [
       | then-is_first_behind v ↦
-          let more = v.send_beat.ensures.few in
+          let more = v.send_made.ensures.few in
           subst (λ (x : Announced). SentBefore beat c.args.writer.now names (row + 1) c.args.sent.now x) (sym v.sent-is)
           (record {
             few = omega (arith, few, more);
-            beats = λ w answered same stands.
-                beats_more beat w answered names row true c.args.sent.now c.loop-row.sent v.send_beat.new.sent same lt
-                (sym (c.is_first_behind.ensures w answered same stands) ∙ v.if-is_first_behind.true)
-                (before.beats w answered same stands)
-                (subst (λ (d : Destination). AddsTo (due_to d.peer (message_to beat d.prefix) ∷ []) c.loop-row.sent
-                v.send_beat.new.sent) v.peer-destination.ensures v.send_beat.ensures.adds);
-            messages = λ h. v.send_beat.ensures.messages (before.messages h);
+            beats = λ w answered b.
+                beats_more beat w answered names row true c.args.sent.now c.loop-row.sent v.send_made.new.sent b.names_are lt
+                (sym (c.is_first_behind.ensures w answered b.names_are b.stands) ∙ v.if-is_first_behind.true)
+                (before.beats w answered b)
+                (subst (λ (d : Destination). AddsTo (behind_message beat w names d ∷ []) c.loop-row.sent
+                v.send_made.new.sent) v.peer-to.ensures
+                (v.send_made.ensures.adds _ (v.message_to_behind-message.ensures.says w answered b)));
+            messages = λ h. v.send_made.ensures.messages (before.messages h);
           })
       | else-is_first_behind v ↦
           subst (λ (x : Announced). SentBefore beat c.args.writer.now names (row + 1) c.args.sent.now x) (sym v.sent-is)
           (record {
             few = omega (arith, few);
-            beats = λ w answered same stands.
-                beats_same beat w answered names row c.args.sent.now c.loop-row.sent same lt
-                (sym (c.is_first_behind.ensures w answered same stands) ∙ v.if-is_first_behind.false)
-                (before.beats w answered same stands);
+            beats = λ w answered b.
+                beats_same beat w answered names row c.args.sent.now c.loop-row.sent b.names_are lt
+                (sym (c.is_first_behind.ensures w answered b.names_are b.stands) ∙ v.if-is_first_behind.false)
+                (before.beats w answered b);
             messages = before.messages;
           })
     ]

@@ -1,20 +1,20 @@
 use Rattle.std.proofs.Common.{arith}
+use Rattle.dds_core.specs.Beating.{beats_message}
 use Rattle.dds_core.proofs.Asserting.{told_more}
 use Rattle.dds_core.proofs.heartbeat.send_to_all.Goals as goal
 
-pub loop-destination-preserved : goal.loop-destination-preserved
-loop-destination-preserved c =
+pub loop-to-preserved : goal.loop-to-preserved
+loop-to-preserved c =
     let beat = c.args.beat.now in
-    let before = c.loop-destination.invariant in
+    let before = c.loop-to.invariant in
     let few = before.few in
-    let more = c.send_beat.ensures.few in
+    let more = c.send_made.ensures.few in
     record {
       few = omega (arith, few, more);
-      sent =
-          told_more beat c.args.destinations.now c.loop-destination.destination-index _
-          c.loop-destination.sent.packets.items
-          c.send_beat.new.sent.packets.items c.loop-destination.sent.unsent c.send_beat.new.sent.unsent
-          c.loop-destination-test.true
-          before.sent c.send_beat.ensures.adds;
-      messages = c.send_beat.ensures.messages before.messages;
+      sent = λ w answered b.
+          told_more (beats_message beat w c.args.matched.now) c.args.destinations.now c.loop-to.to-index _
+          c.loop-to.sent.packets.items c.send_made.new.sent.packets.items c.loop-to.sent.unsent
+          c.send_made.new.sent.unsent c.loop-to-test.true (before.sent w answered b)
+          (c.send_made.ensures.adds _ (c.message_to_matched-message.ensures.says w answered b));
+      messages = c.send_made.ensures.messages before.messages;
     }

@@ -1,12 +1,14 @@
-use Rattle.std.proofs.Common.{◌≤◌, take}
+use Rattle.std.proofs.Common.{◌≤◌, map, take}
 use Rattle.dds_protocol.specs.DueMessages.{AreSent}
-use Rattle.dds_core.specs.Beating.{told_to}
+use Rattle.dds_core.specs.Beating.{ForEach, beats_message}
 use Rattle.dds_core.specs.Sending.{AreMessages}
 use Rattle.dds_core.proofs.heartbeat.send_to_all.Given as goal
 
-abbrev pub invariant-loop-destination : goal.invariant-loop-destination
-invariant-loop-destination l = record {
-  few : l.sent.unsent ≤ l.destination-index;
-  sent : AreSent (told_to l.fn.beat (take l.destination-index l.fn.destinations)) l.sent.packets.items l.sent.unsent;
+abbrev pub invariant-loop-to : goal.invariant-loop-to
+invariant-loop-to l = record {
+  few : l.sent.unsent ≤ l.to-index;
+  sent : ForEach l.fn.beat.due.first l.fn.writer l.fn.readers (λ w.
+      AreSent (map (beats_message l.fn.beat w l.fn.matched) (take l.to-index l.fn.destinations))
+      l.sent.packets.items l.sent.unsent);
   messages : AreMessages l.sent.packets.items;
 }

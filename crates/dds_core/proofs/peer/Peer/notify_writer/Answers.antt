@@ -1,5 +1,6 @@
 use Rattle.std.proofs.Common.{ℕ, ◌-◌, arith}
-use Rattle.dds_machine.specs.Noticing.{loss_raised, loss_told, publication_raised, publication_told}
+use Rattle.dds_machine.specs.Noticing.{loss_raised, publication_raised}
+use Rattle.dds_machine.proofs.InTurn.{loss_told, publication_told}
 use Rattle.dds_core.specs.Kept.{PeerKept}
 use Rattle.dds_core.proofs.Notified.{end_found, tells_then}
 use Rattle.dds_core.proofs.WriterNotified.{writer_raised}

@@ -1,21 +1,31 @@
-use Rattle.std.proofs.Common.{true, List, refl, ap, sym, subst, ◌∙◌}
+use Rattle.std.proofs.Common.{true, List, length, map, refl, ap, sym, subst, ◌∙◌, arith}
 use Rattle.std.specs.Prelude.{Ok}
 use Rattle.dds_base.specs.Written.{Asserted}
+use Rattle.rtps_writer.specs.declared.heartbeat.HeartbeatDue.{HeartbeatDue}
+use Rattle.dds_machine.specs.Calls.{with_written}
 use Rattle.dds_protocol.specs.DueMessages.{Due, AreSent}
 use Rattle.dds_core.specs.declared.heartbeat.Beat.{Beat}
 use Rattle.dds_core.specs.declared.matching.Destination.{Destination}
-use Rattle.dds_core.specs.Beating.{assertions_of, told_to}
+use Rattle.dds_core.specs.declared.matching.ReaderName.{ReaderName}
+use Rattle.dds_core.specs.Beating.{assertions_of, beats_message}
 use Rattle.dds_core.specs.Kept.{WriterKept}
 use Rattle.dds_core.specs.Standing.{state_of}
-use Rattle.dds_core.proofs.Asserting.{count_left, nowhere, told_are, told_none, valid_told}
+use Rattle.dds_core.proofs.Among.{few_matched}
+use Rattle.dds_core.proofs.Asserting.{count_left, due_told, nowhere, told_are, told_is, told_none}
 use Rattle.dds_core.proofs.WriterEnds.{enters_if, kept_as, stands_there}
 use Rattle.dds_core.proofs.writer_end.WriterEnd.assert.Goals as goal
 
-pub send_to_all-requires-clause-valid : goal.send_to_all-requires-clause-valid
-send_to_all-requires-clause-valid c =
+pub send_to_all-requires-clause-due : goal.send_to_all-requires-clause-due
+send_to_all-requires-clause-due c =
     let whole = c.self.invariant in
-    valid_told c.self.inside.writer whole.state _ c.args.now c.in-Some.due whole.stands
+    due_told c.assert.new.self whole.state _ c.args.now c.in-Some.due (c.in_ok-due.ensures.ok whole.state whole.stands)
     (sym (c.in_ok-due.ensures.accepted whole.state whole.stands).1 ∙ c.in-Some.is)
+
+pub send_to_all-requires-clause-many : goal.send_to_all-requires-clause-many
+send_to_all-requires-clause-many c =
+    let few = few_matched c.self.invariant in
+    let same = ap (λ (ns : List ReaderName). length ns) c.as_slice-2.ensures.value in
+    omega (arith, few, same)
 
 pub returns-clause-ok : goal.returns-clause-ok
 returns-clause-ok c =
@@ -34,14 +44,26 @@ returns-clause-tells c = λ w answered s.
     let sent = c.send_to_all.result in
     let here = stands_there kept c.args.self.now w answered c.self.view_is s in
     let accepted = c.in_ok-due.ensures.accepted (state_of w answered) here.writer in
-    let due = sym accepted.1 ∙ c.in-Some.is in (
+    let due = sym accepted.1 ∙ c.in-Some.is in
+    let entered =
+    enters_if {A = Unit {0}} {B = Unit {0}} (Ok tt) kept c.args.self.now (Asserted c.args.now) c.assert.new.self
+    c.self.view_is c.in_ok-due.ensures.ok in
+    let told =
+    c.send_to_all.ensures.sent (with_written w (Asserted c.args.now)) answered
+    (record {
+      names_are = here.readers ∙ ap (λ (ns : List ReaderName). map (λ (n : ReaderName). n.reader) ns)
+          (sym c.as_slice.ensures.value);
+      stands = (entered.stands w answered s).writer;
+      first_is = ap (λ (d : HeartbeatDue). d.first) (told_is w answered _ c.args.now c.in-Some.due due);
+    }) in (
       count_left w answered accepted.0,
       subst (λ (k : WriterKept). AreSent (assertions_of c.args.prefix k w) sent.packets.items sent.unsent)
           c.self.view_is
           (subst (λ (dues : List Due). AreSent dues sent.packets.items sent.unsent)
-          (ap (λ (ds : List Destination). told_to beat ds) c.as_slice.ensures.value
-          ∙ told_are c.args.prefix kept w answered _ c.args.now c.in-Some.due due)
-          c.send_to_all.ensures.sent),
+          (ap (λ (ns : List ReaderName). map (beats_message beat w ns) c.as_slice-3.result.now) c.as_slice-2.ensures.value
+          ∙ (ap (λ (ds : List Destination). map (beats_message beat w kept.matched) ds) c.as_slice-3.ensures.value
+          ∙ told_are c.args.prefix kept w answered _ c.args.now c.in-Some.due due))
+          told),
     )
 
 pub returns-in_default-clause-ok : goal.returns-in_default-clause-ok

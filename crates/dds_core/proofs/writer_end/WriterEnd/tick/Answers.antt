@@ -1,5 +1,6 @@
 use Rattle.std.proofs.Common.{◌≡◌, false, List, Some, map, ap, sym, subst, ◌∙◌}
 use Rattle.rtps_writer.specs.WriterState.{heartbeat_due}
+use Rattle.rtps_writer.specs.declared.heartbeat.HeartbeatDue.{HeartbeatDue}
 use Rattle.dds_machine.specs.Ticks.{ticked}
 use Rattle.dds_protocol.specs.DueMessages.{Due}
 use Rattle.dds_core.specs.declared.heartbeat.Beat.{Beat}
@@ -7,14 +8,14 @@ use Rattle.dds_core.specs.declared.matching.ReaderName.{ReaderName}
 use Rattle.dds_core.specs.Beating.{Adds, beats_of, beats_to}
 use Rattle.dds_core.specs.Kept.{WriterKept}
 use Rattle.dds_core.specs.Standing.{state_of}
-use Rattle.dds_core.proofs.Beating.{adds_none, beats_are, beats_none, valid_due}
+use Rattle.dds_core.proofs.Beating.{adds_none, beats_are, beats_none, due_at, due_is}
 use Rattle.dds_core.proofs.WriterEnds.{kept_as, stands_there, ticks}
 use Rattle.dds_core.proofs.writer_end.WriterEnd.tick.Goals as goal
 
-pub send_beats-requires-clause-valid : goal.send_beats-requires-clause-valid
-send_beats-requires-clause-valid c =
+pub send_beats-requires-clause-due : goal.send_beats-requires-clause-due
+send_beats-requires-clause-due c =
     let whole = c.self.invariant in
-    valid_due c.self.inside.writer whole.state c.args.now c.in-Some.due whole.stands
+    due_at c.tick.new.self whole.state c.args.now c.in-Some.due (c.tick.ensures.stands whole.state whole.stands)
     (sym (c.tick.ensures.due whole.state whole.stands) ∙ c.in-Some.is)
 
 pub returns-in_default-clause-ticks : goal.returns-in_default-clause-ticks
@@ -50,8 +51,12 @@ returns-clause-beats c = λ w answered s.
     sym (c.tick.ensures.due (state_of w answered) here.writer) ∙ c.in-Some.is in
     let sent =
     c.send_beats.ensures.beats (ticked c.args.now w) answered
-    (here.readers ∙ ap (λ (ns : List ReaderName). map (λ (n : ReaderName). n.reader) ns)
-    (sym c.as_slice.ensures.value)) after.writer in
+    (record {
+      names_are = here.readers ∙ ap (λ (ns : List ReaderName). map (λ (n : ReaderName). n.reader) ns)
+          (sym c.as_slice.ensures.value);
+      stands = after.writer;
+      first_is = ap (λ (d : HeartbeatDue). d.first) (due_is w answered c.args.now c.in-Some.due due).1;
+    }) in
     subst (λ (k : WriterKept). Adds (beats_of c.args.prefix k w) old.packets.items old.unsent new.packets.items
     new.unsent) c.self.view_is
     (subst (λ (dues : List Due). Adds dues old.packets.items old.unsent new.packets.items new.unsent)

@@ -1,7 +1,7 @@
 use Rattle.std.proofs.Common.{refl}
 use Rattle.dds_core.specs.Beating.{due_to}
 use Rattle.dds_core.proofs.Beating.{adds_lost}
-use Rattle.dds_core.proofs.answering.send_made.Goals as goal
+use Rattle.dds_core.proofs.sending.send_made.Goals as goal
 
 pub returns-in-Err-clause-adds : goal.returns-in-Err-clause-adds
 returns-in-Err-clause-adds c =

@@ -1,0 +1,183 @@
+-- HEARTBEATs by name, one after the other, and the messages with them.
+use Rattle.std.proofs.Common.{◌≡◌, ◌⊎◌, ⊎_elim, ℕ, ◌+◌, ◌<◌, ◌≤◌, ◌==◌, Bool, true, false, cond, ◌&&◌, List, [], ◌∷◌, ◌++◌, map, take, length, get_or, refl, ap, sym, ◌∙◌, subst, arith, append_assoc, append-nil, length-append}
+use Rattle.std.specs.Prelude.{ℤ, Option, filter, nat_le}
+use Rattle.std.specs.List.{AllByRecursion}
+use Rattle.std.proofs.lemmas.List.Elements.{filter-append}
+use Rattle.dds_base.specs.declared.endpoint.Endpoint.{Endpoint}
+use Rattle.dds_base.specs.declared.guid.EntityId.{EntityId}
+use Rattle.dds_base.specs.declared.guid.GuidPrefix.{GuidPrefix}
+use Rattle.rtps_wire.specs.declared.submessage.Submessage.{Submessage}
+use Rattle.rtps_wire.specs.declared.submessage.Submessage.TheVariants.{InfoDst}
+use Rattle.rtps_wire.specs.Messages.{IsWritable}
+use Rattle.rtps_wire.specs.Submessages.{IsSpellable, all_value_octets}
+use Rattle.rtps_wire.proofs.LengthLaws.{short_writable}
+use Rattle.rtps_writer.specs.Standing.{Kept}
+use Rattle.rtps_writer.specs.WriterState.{is_reader_behind}
+use Rattle.dds_machine.specs.Part.{Writer, writer_changes}
+use Rattle.dds_core.specs.declared.heartbeat.Beat.{Beat}
+use Rattle.dds_core.specs.declared.matching.ReaderName.{ReaderName}
+use Rattle.dds_core.specs.Beating.{AddsBare, AreReadersOf, ForEach, beat_for, beat_from, beats_for, names_behind}
+use Rattle.dds_core.specs.Standing.{state_of}
+use Rattle.dds_core.proofs.Beating.{map_if, names_next, row_at}
+use Rattle.dds_core.proofs.Joining.{no_name}
+use Rattle.dds_core.proofs.Replies.{both_octets, more_spells}
+
+-- ---- one
+
+-- a HEARTBEAT has no value
+pub bare_one : (beat : Beat) (reader : EntityId) (first : ℕ) (old new : List Submessage)
+    → IsSpellable (beat_from beat reader first) → new ≡ old ++ beat_from beat reader first ∷ [] → AddsBare 1 old new
+bare_one beat reader first old new spells is =
+    let one : List Submessage = beat_from beat reader first ∷ [] in
+    let count = length-append old one in
+    let size = ap (λ (ss : List Submessage). length ss) is in
+    let octets = both_octets old one in
+    let sum = ap (λ (ss : List Submessage). all_value_octets ss) is in
+    record {
+      each = λ h.
+          subst (λ (ss : List Submessage). AllByRecursion IsSpellable ss) (sym is) (more_spells old one (spells, tt) h);
+      more = omega (arith, count, size);
+      few = omega (arith, count, size);
+      bare = omega (arith, octets, sum);
+    }
+
+-- ---- what was added so far
+
+-- HEARTBEATs by name to those at a peer of the readers that are told so far, by the writer that is stood for
+pub record Pushed (beat : Beat) (kept : Kept) (names : List ReaderName) (told : Writer → List ReaderName) (count peer : ℕ)
+    (old new : List Submessage) : Type 0 where
+  pub bare : AddsBare count old new
+  pub adds : ForEach beat.due.first kept names (λ w. new ≡ old ++ beats_for beat w (told w) peer)
+
+-- one more
+pub pushed_one : (beat : Beat) (kept : Kept) (names : List ReaderName) (told more : Writer → List ReaderName)
+    (count peer : ℕ) (n : ReaderName) (old mid new : List Submessage) → Pushed beat kept names told count peer old mid
+    → AddsBare 1 mid new → ForEach beat.due.first kept names (λ w. new ≡ mid ++ beat_for beat w n ∷ [])
+    → ForEach beat.due.first kept names
+    (λ w. beats_for beat w (more w) peer ≡ beats_for beat w (told w) peer ++ beat_for beat w n ∷ [])
+    → Pushed beat kept names more (count + 1) peer old new
+pushed_one beat kept names told more count peer n old mid new before one adds are =
+    let first = before.bare in
+    let longer = first.more in
+    let few = first.few in
+    let bare = first.bare in
+    let then_longer = one.more in
+    let then_few = one.few in
+    let then_bare = one.bare in
+    record {
+      bare = record {
+        each = λ h. one.each (first.each h);
+        more = omega (arith, longer, then_longer);
+        few = omega (arith, few, then_few);
+        bare = omega (arith, bare, then_bare);
+      };
+      adds = λ w answered b.
+          adds w answered b
+          ∙ (ap (λ (ss : List Submessage). ss ++ beat_for beat w n ∷ []) (before.adds w answered b)
+          ∙ (append_assoc old (beats_for beat w (told w) peer) (beat_for beat w n ∷ [])
+          ∙ ap (λ (ss : List Submessage). old ++ ss) (sym (are w answered b))));
+    }
+
+-- one more that is told nothing
+pub pushed_same : (beat : Beat) (kept : Kept) (names : List ReaderName) (told more : Writer → List ReaderName)
+    (count peer : ℕ) (old new : List Submessage) → Pushed beat kept names told count peer old new
+    → ForEach beat.due.first kept names (λ w. beats_for beat w (more w) peer ≡ beats_for beat w (told w) peer)
+    → Pushed beat kept names more (count + 1) peer old new
+pushed_same beat kept names told more count peer old new before are =
+    let few = before.bare.few in
+    record {
+      bare = record {
+        each = before.bare.each;
+        more = before.bare.more;
+        few = omega (arith, few);
+        bare = before.bare.bare;
+      };
+      adds = λ w answered b.
+          before.adds w answered b ∙ ap (λ (ss : List Submessage). old ++ ss) (sym (are w answered b));
+    }
+
+-- ---- whom they are for
+
+beats_last : (beat : Beat) (w : Writer) (ns : List ReaderName) (n : ReaderName) (peer : ℕ) (b : Bool)
+    → (n.reader.peer == peer) ≡ b
+    → beats_for beat w (ns ++ n ∷ []) peer ≡ beats_for beat w ns peer ++ cond b (beat_for beat w n ∷ []) []
+beats_last beat w ns n peer b is =
+    ap (λ (ms : List ReaderName). map (beat_for beat w) ms)
+    (filter-append (λ (m : ReaderName). m.reader.peer == peer) ns (n ∷ [])
+    ∙ ap (λ (c : Bool). filter (λ (m : ReaderName). m.reader.peer == peer) ns ++ cond c (n ∷ []) []) is)
+    ∙ map_if (beat_for beat w) (filter (λ (m : ReaderName). m.reader.peer == peer) ns) n b
+
+-- the readers that are behind, of the rows before this one
+abbrev pub behind_before : List ReaderName → ℕ → Writer → List ReaderName
+behind_before names row w = names_behind (length (writer_changes w)) (take row w.readers) (take row names)
+
+-- one more of the rows
+pub behind_more : (beat : Beat) (w : Writer) (answered : Endpoint → Option ℤ) (names : List ReaderName)
+    (row peer : ℕ) (a b : Bool) → AreReadersOf w names → row < length names
+    → ((get_or names row no_name).reader.peer == peer) ≡ a → is_reader_behind (state_of w answered) row ≡ b
+    → beats_for beat w (behind_before names (row + 1) w) peer
+    ≡ beats_for beat w (behind_before names row w) peer
+    ++ cond (a && b) (beat_for beat w (get_or names row no_name) ∷ []) []
+behind_more beat w answered names row peer a b same lt there behind =
+    ap (λ (ns : List ReaderName). beats_for beat w ns peer)
+    (names_next w names row same lt
+    ∙ ap (λ (c : Bool). before ++ cond c (n ∷ []) [])
+    (ap (λ (k : ℕ). nat_le k (length (writer_changes w))) (sym (row_at w names row same lt).2) ∙ behind))
+    ∙ by a b there
+  where
+    n : ReaderName
+    n = get_or names row no_name
+
+    before : List ReaderName
+    before = behind_before names row w
+
+    none : beats_for beat w (before ++ []) peer ≡ beats_for beat w before peer ++ []
+    none =
+        ap (λ (ns : List ReaderName). beats_for beat w ns peer) (append-nil before)
+        ∙ sym (append-nil (beats_for beat w before peer))
+
+    by : (a b : Bool) → (n.reader.peer == peer) ≡ a
+        → beats_for beat w (before ++ cond b (n ∷ []) []) peer
+        ≡ beats_for beat w before peer ++ cond (a && b) (beat_for beat w n ∷ []) []
+    by true true is = beats_last beat w before n peer true is
+    by false true is = beats_last beat w before n peer false is
+    by true false is = none
+    by false false is = none
+
+-- one that is elsewhere, or not behind
+pub behind_same : (beat : Beat) (w : Writer) (answered : Endpoint → Option ℤ) (names : List ReaderName) (row peer : ℕ)
+    → AreReadersOf w names → row < length names
+    → (((get_or names row no_name).reader.peer == peer) ≡ false) ⊎ (is_reader_behind (state_of w answered) row ≡ false)
+    → beats_for beat w (behind_before names (row + 1) w) peer ≡ beats_for beat w (behind_before names row w) peer
+behind_same beat w answered names row peer same lt either =
+    behind_more beat w answered names row peer _ _ same lt refl refl
+    ∙ (⊎_elim
+    (λ elsewhere. ap (λ (a : Bool). before ++ cond (a && is_reader_behind (state_of w answered) row) one []) elsewhere)
+    (λ not_so. ap (λ (b : Bool). before ++ cond (((get_or names row no_name).reader.peer == peer) && b) one []) not_so
+    ∙ nothing ((get_or names row no_name).reader.peer == peer)) either
+    ∙ append-nil before)
+  where
+    before : List Submessage
+    before = beats_for beat w (behind_before names row w) peer
+
+    one : List Submessage
+    one = beat_for beat w (get_or names row no_name) ∷ []
+
+    nothing : (a : Bool) → before ++ cond (a && false) one [] ≡ before ++ []
+    nothing true = refl
+    nothing false = refl
+
+-- ---- a message
+
+-- one with no more than 256 of them can be written
+pub beats_writable : (prefix to : GuidPrefix) (count : ℕ) (none first all : List Submessage) → length prefix.0 ≡ 12
+    → length to.0 ≡ 12 → count ≤ 256 → none ≡ [] → first ≡ none ++ InfoDst to ∷ [] → AddsBare count first all
+    → IsWritable (record { prefix = prefix; submessages = all })
+beats_writable prefix to count none first all of_prefix of_to most empty begun adds =
+    let bare =
+    subst (λ (ss : List Submessage). AddsBare count ss all)
+    (begun ∙ ap (λ (ss : List Submessage). ss ++ InfoDst to ∷ []) empty) adds in
+    let few = bare.few in
+    let light = bare.bare in
+    short_writable (record { prefix = prefix; submessages = all }) of_prefix (bare.each (of_to, tt))
+    (omega (arith, few, light, most))
