@@ -4,10 +4,7 @@ use Rattle.std.specs.Prelude.{IsSome, if◌then◌else◌, nat_le}
 use Rattle.std.proofs.lemmas.Bool.{cases_lt}
 use Rattle.std.proofs.lemmas.Bool.Decides.{nat_tests}
 use Rattle.dds_base.specs.declared.config.Config.{Config}
-use Rattle.dds_base.specs.declared.config.PeerConfig.{PeerConfig}
-use Rattle.dds_base.specs.declared.config.ReaderConfig.{ReaderConfig}
 use Rattle.dds_base.specs.declared.guid.EntityId.{EntityId}
-use Rattle.dds_base.specs.declared.guid.GuidPrefix.{GuidPrefix}
 use Rattle.dds_base.specs.Kept.{numbers_from}
 use Rattle.std.specs.Option.{option_map_or, unwrap_or}
 use Rattle.rtps_wire.specs.declared.seek.Sought.{Sought}
@@ -20,31 +17,28 @@ use Rattle.dds_machine.specs.declared.event.WorldEvent.{WorldEvent}
 use Rattle.dds_machine.specs.declared.event.WorldEvent.TheVariants as world
 use Rattle.dds_machine.specs.declared.reply.Reply.{Reply}
 use Rattle.dds_machine.specs.declared.reply.Reply.TheVariants.{Done}
-use Rattle.dds_protocol.specs.Claims.{IsReader, every_reader}
 use Rattle.dds_protocol.specs.Dues.{IsPartOf}
 use Rattle.dds_protocol.specs.Fresh.{HasHeartbeat, HasAckNack, heartbeats_used_at, acknacks_used_at}
 use Rattle.dds_machine.specs.Machine.{AllTests, part_at, place_at, writer_at}
-use Rattle.dds_machine.specs.Numbered.{numbered, HasNumber}
-use Rattle.dds_machine.specs.Part.{Attachment, Away, Begun as HasBegun, Waiting, Part, ReaderProxy, Writer, WriterProxy, IsCovered, NoLess, IsAtMost, own_proxies, own_writer, acknowledged_of, how_of, is_attached, is_reader_behind, owed_from, place_of, writer_changes}
+use Rattle.dds_machine.specs.Numbered.{HasNumber}
+use Rattle.dds_machine.specs.Part.{Part, Writer, NoLess, IsAtMost, own_proxies, own_writer, acknowledged_of, how_of, is_attached, writer_changes}
 use Rattle.dds_protocol.specs.DueMessages.{writer_entity}
-use Rattle.dds_protocol.specs.Protocol.{Known}
 use Rattle.dds_protocol.specs.Closed.{IsClosed}
 use Rattle.dds_protocol.specs.Repair.{AsksInRound, BeginsRound, Delivers, DeliversAll, HasCaughtUp, IsRepairRound, StandsAt, packets_for}
 use Rattle.dds_protocol.specs.Rules.{RuledStep, RuledRun}
 use Rattle.dds_protocol.specs.World.{WorldState, peer_at, machine_of}
-use Rattle.dds_protocol.proofs.ClosedSteps.{acknowledges_no_more}
 use Rattle.dds_protocol.proofs.Composed.{parts_at}
 use Rattle.dds_protocol.proofs.PairAsked.{has_writer}
 use Rattle.dds_protocol.proofs.PairAsks.{asks_found}
 use Rattle.dds_protocol.proofs.PairBeats.{beats_are_sent}
-use Rattle.dds_protocol.proofs.PairBegun.{Begun, the_begun, writer_is, place_is}
+use Rattle.dds_protocol.proofs.PairBegun.{Begun, Missed, Told, met, the_begun, writer_is}
 use Rattle.dds_protocol.proofs.PairCaughtUp.{pair_catches_up, answers_are_few}
 use Rattle.dds_protocol.proofs.PairEnded.{leaves_ended}
 use Rattle.dds_protocol.proofs.PairFound.{beat_found, beat_sought, ask_found_among}
+use Rattle.dds_protocol.proofs.PairMissed.{LeavesPair, missed_leaves_pair, not_behind, tick_leaves_pair}
 use Rattle.dds_protocol.proofs.PairNamed.{PairOf}
-use Rattle.dds_protocol.proofs.PairTicked.{TickLeaves, tick_leaves, ticks_there}
-use Rattle.dds_protocol.proofs.DuesMatched.{own_name}
-use Rattle.dds_core.specs.Pairs.{reader_entity}
+use Rattle.dds_protocol.proofs.PairTicked.{tick_leaves, ticks_there}
+use Rattle.dds_protocol.proofs.DuesMatched.{own_name, reader_entity_is}
 use Rattle.dds_core.proofs.KnownPairs.{pair_kept}
 use Rattle.dds_world.specs.declared.round.Matched.{Matched}
 use Rattle.dds_world.specs.declared.round.Round.{Round}
@@ -52,7 +46,7 @@ use Rattle.dds_world.specs.declared.round.RoundReply.{RoundReply}
 use Rattle.dds_world.specs.Repairing.{Knows, IsKnown, Stage, Answering, Acknowledging, Beating}
 use Rattle.dds_world.specs.Round.{IsExcused, IsHindered, has_unsent, IsStep, AreSteps, IsTo, HasNone, IsFirst, Rounds, answers_at, is_whole, are_whole, replies_of}
 use Rattle.dds_world.specs.WorldStanding.{Hearing, WorldKept, StandsFor}
-use Rattle.dds_world.proofs.Caught.{CoreAt, core_at, begun_where_placed, place_known, few_changes, places_after, unsent_shown, went, sent_by, whole_tick, delivers, first_whole, Ran, ran, none_lost, deliver_all, later_packet, among_none, get_later}
+use Rattle.dds_world.proofs.Caught.{CoreAt, core_at, place_known, few_changes, places_after, unsent_shown, went, sent_by, whole_tick, delivers, first_whole, Ran, ran, none_lost, deliver_all, later_packet, among_none, get_later}
 use Rattle.dds_world.proofs.Rounds.{BySteps, IsMatchedSo, IsPlace, acks_steps, beats_steps, round_is, stage_is}
 use Rattle.dds_world.proofs.RunSteps.{Went}
 
@@ -140,16 +134,6 @@ sent_since before packets d sent =
 some_is : (o : Option ℕ) → IsSome o → (x : ℕ) × (o ≡ Some x)
 some_is (Some x) h = (x, refl)
 some_is None h = absurd cc
-
--- the entity id that the configuration gives a reader
-entity_is : (config : Config) (prefix : GuidPrefix) (entity : EntityId) (r : Endpoint) → IsReader config prefix entity r
-    → reader_entity config r.peer r.number ≡ entity
-entity_is config prefix entity r is =
-    ap (λ (o : Option PeerConfig). option_map_or
-    (λ (p : PeerConfig). option_map_or (λ (x : ReaderConfig). x.entity)
-    (slice_get p.readers (r.number - 1)) every_reader) o every_reader) is.at_peer.1
-    ∙ (ap (λ (o : Option ReaderConfig). option_map_or (λ (x : ReaderConfig). x.entity) o every_reader) is.at_reader.1
-    ∙ is.same_entity)
 
 -- a tick of the writer's peer, for which memory was found and at which nothing was lost
 record Tick (hearing : Hearing) : Type 0 where
@@ -290,120 +274,18 @@ EndsSo tests config network old m place events replies new =
 abbrev Ends : {hearing : Hearing} → Tick hearing → List WorldEvent → List RoundReply → WorldKept hearing → Type 0
 Ends t events replies new = EndsSo t.tests t.config t.network t.old t.m t.place events replies new
 
--- how the reader stands to the writer
-abbrev how : {hearing : Hearing} → Tick hearing → Attachment
-how t = how_of (own_proxies (part_at (machine_of t.network) t.m.reader.peer) t.m.reader.number) t.m.writer
+-- so it is where the reader was not behind, and the two stand as they did
+abbrev Unhindered : {hearing : Hearing} → Tick hearing → WorldState → Type 0
+Unhindered t after =
+    IsExcusedSo t.network after t.m.writer t.m.reader t.place ⊎ HasCaughtUp after t.m.writer t.m.reader t.place (the_last t)
 
--- it has begun where nobody has come or left
-closed_begun : {hearing : Hearing} → (t : Tick hearing) → IsClosed (machine_of t.network) → how t ≡ HasBegun
-closed_begun t closed =
-    begun_where_placed (own_proxies (part_at (machine_of t.network) t.m.reader.peer) t.m.reader.number) t.m.writer
-    t.place t.at (closed.begun t.m.reader t.m.writer)
-
--- a reader that has acknowledged all is not behind
-not_told : {hearing : Hearing} → (t : Tick hearing) → the_last t < acknowledged t
-    → is_reader_behind (writer_at (machine_of t.network) t.m.writer) t.m.reader ≡ false
-not_told t past =
-    ap (λ (o : Option ℕ). option_map_or (λ a. nat_le a (the_last t)) o false) (row t)
-    ∙ is_past (acknowledged t) (the_last t) past
-  where
-    is_past : (a b : ℕ) → b < a → nat_le a b ≡ false
-    is_past a b past = grind (arith, nat_tests, past)
-
--- what the writer owes the reader, from this number on
-abbrev owed : {hearing : Hearing} → Tick hearing → ℕ
-owed t = owed_from (writer_at (machine_of t.network) t.m.writer) t.m.reader
-
--- where nobody has come or left, the writer has no more of the reader than its place
-no_more_than_place : {hearing : Hearing} → (t : Tick hearing) → IsClosed (machine_of t.network)
-    → acknowledged t ≤ t.place
-no_more_than_place t closed =
-    subst (λ (o : Option ℕ). NoLess o (Some t.place)) (row t)
-    (subst (λ (o : Option ℕ). NoLess
-    (acknowledged_of (writer_at (machine_of t.network) t.m.writer).readers t.m.reader) o) t.at
-    (acknowledges_no_more t.config t.network t.m.writer t.m.reader t.s.sound closed))
-
--- it has no more of the reader than its place, or than it owes
-covered : {hearing : Hearing} → (t : Tick hearing) → (acknowledged t ≤ owed t) ⊎ (acknowledged t ≤ t.place)
-covered t =
-    subst (λ (o : Option ℕ). IsCovered o (owed t) (Some t.place)) (row t)
-    (subst (λ (o : Option ℕ). IsCovered
-    (acknowledged_of (writer_at (machine_of t.network) t.m.writer).readers t.m.reader) (owed t) o) t.at
-    (t.s.sound.acknowledged t.m.writer t.m.reader))
+unhindered : {hearing : Hearing} → (t : Tick hearing) (after : WorldState)
+    → LeavesPair t.network after t.m.writer t.m.reader → the_last t < acknowledged t → Unhindered t after
+unhindered t after left past =
+    not_behind t.config t.network after t.m.writer t.m.reader t.place (acknowledged t) t.s.sound t.s.bounded left
+    (stands t) past
 
 -- ---- no HEARTBEAT was sent
-
--- where the reader is not behind, has begun, and the writer has no more of it than its place, it has caught up already
-not_behind : {hearing : Hearing} → (t : Tick hearing) → the_last t < acknowledged t → acknowledged t ≤ t.place
-    → how t ≡ HasBegun
-    → HasCaughtUp (noted_tick t) t.m.writer t.m.reader t.place (the_last t)
-not_behind t past low is_begun =
-    record {
-      place = t.place;
-      acknowledged = acknowledged t;
-      stands = record {
-        here =
-            subst (λ (n : ℕ). (1 ≤ t.m.reader.number) × (t.m.reader.number ≤ n)) (sym (left t.m.reader.peer).readers)
-            (stands t).here;
-        place_is = place_is (noted_tick t) t.m.reader t.m.writer
-            ∙ (ap (λ (rows : List (List WriterProxy)). place_of (numbered_rows rows) t.m.writer)
-            (left t.m.reader.peer).rows ∙ (sym (place_is t.network t.m.reader t.m.writer) ∙ t.at));
-        attached =
-            ap (λ (rows : List (List WriterProxy)). is_attached (how_of (numbered_rows rows) t.m.writer))
-            (left t.m.reader.peer).rows ∙ (stands t).attached;
-        known =
-            ap (λ (k : Known). (k.tracked t.m.writer t.m.reader.number).place) (left t.m.reader.peer).known
-            ∙ (stands t).known;
-        acknowledged_is =
-            ap (λ (w : Writer). acknowledged_of w.readers t.m.reader) (writer_is (noted_tick t) t.m.writer)
-            ∙ (ap (λ (rows : List ReaderProxy). acknowledged_of rows t.m.reader)
-            ((left t.m.writer.peer).acknowledged t.m.writer.number) ∙ own_row t);
-      };
-      begun = ap (λ (rows : List (List WriterProxy)). how_of (numbered_rows rows) t.m.writer) (left t.m.reader.peer).rows
-          ∙ (ap (λ (q : Part). how_of (own_proxies q t.m.reader.number) t.m.writer)
-          (sym (parts_at t.network t.m.reader.peer)) ∙ is_begun);
-      reached = inl (omega (arith, past, low));
-      told = omega (arith, past, high);
-    }
-  where
-    left : (p : ℕ) → TickLeaves t.network (noted_tick t) p
-    left p =
-        leaves_ended t.network (world.Tick t.m.writer.peer t.m.moment) (after_tick t) p t.network
-        (tick_leaves t.config t.tests t.network t.m.writer.peer t.m.moment (after_tick t) (ruled0 t).step p)
-
-    numbered_rows : List (List WriterProxy) → List WriterProxy
-    numbered_rows rows = numbered rows t.m.reader.number []
-
-    high : t.place ≤ the_last t + 1
-    high = t.s.bounded t.m.reader t.m.writer t.place t.at
-
--- else it is owed nothing
-not_owed : {hearing : Hearing} → (t : Tick hearing) → the_last t < acknowledged t → acknowledged t ≤ owed t
-    → IsExcusedSo t.network (noted_tick t) t.m.writer t.m.reader t.place
-not_owed t past low = (
-  inl (omega (arith, past, low)),
-  λ closed. not_behind t past (no_more_than_place t closed) (closed_begun t closed),
-)
-
--- a place that waits is not begun by a HEARTBEAT then
-none_heard : {hearing : Hearing} → (t : Tick hearing) → the_last t < acknowledged t → how t ≡ Waiting
-    → IsExcusedSo t.network (noted_tick t) t.m.writer t.m.reader t.place
-none_heard t past waits = (
-  inr (not_told t past, waits),
-  λ closed. let begun = closed_begun t closed in absurd cc,
-)
-
--- where the reader is not behind, and the writer has no more of it than its place, it has caught up, or it waits
-at_place : {hearing : Hearing} → (t : Tick hearing) → the_last t < acknowledged t → acknowledged t ≤ t.place
-    → IsExcusedSo t.network (noted_tick t) t.m.writer t.m.reader t.place
-    ⊎ HasCaughtUp (noted_tick t) t.m.writer t.m.reader t.place (the_last t)
-at_place t past low = by (how t) refl
-  where
-    by : (x : Attachment) → how t ≡ x → IsExcusedSo t.network (noted_tick t) t.m.writer t.m.reader t.place
-        ⊎ HasCaughtUp (noted_tick t) t.m.writer t.m.reader t.place (the_last t)
-    by Away e = let here = sym (ap (λ (x : Attachment). is_attached x) e) ∙ t.attached in absurd cc
-    by Waiting e = inl (none_heard t past e)
-    by HasBegun e = inr (not_behind t past low e)
 
 -- a HEARTBEAT that was sent is found
 beat_is_found : {hearing : Hearing} → (t : Tick hearing) → acknowledged t ≤ the_last t
@@ -440,14 +322,19 @@ no_beat t none = (
   noted_tick t,
   (after_tick t, t.mid.unsent, (w0 t).step, (refl, refl)),
   (w0 t).stands,
-  ⊎_elim (λ past.
-      inr (⊎_elim (λ low. inl (not_owed t past low)) (λ low. at_place t past low) (covered t)))
+  ⊎_elim (λ past. inr (unhindered t (noted_tick t) ticked past))
       (λ behind.
       ⊎_elim (λ left. absurd (beat_is_found t behind left none))
       (λ used. inl (inr (inr (inr (inl (refl, told_behind t behind, used))))))
       (cases_lt (heartbeats_used_at t.network t.m.writer) (2 ^ 31 - 1)))
       (cases_lt (the_last t) (acknowledged t)),
 )
+  where
+    ticked : LeavesPair t.network (noted_tick t) t.m.writer t.m.reader
+    ticked =
+        tick_leaves_pair t.network (noted_tick t) t.m.writer t.m.reader
+        (λ p. leaves_ended t.network (world.Tick t.m.writer.peer t.m.moment) (after_tick t) p t.network
+        (tick_leaves t.config t.tests t.network t.m.writer.peer t.m.moment (after_tick t) (ruled0 t).step p))
 
 -- ---- the HEARTBEAT was heard
 
@@ -522,21 +409,30 @@ ask_is : {hearing : Hearing} → (h : Hear hearing) → sought.AckNack (pair h.t
     (writer_entity h.t.config h.t.m.writer.peer h.t.m.writer.number) ≡ ask_of h
 ask_is h =
     let r : h.t.m.pair.reader ≡ (pair h.t).pair.reader_entity =
-    h.t.known.reader ∙ entity_is h.t.config _ (pair h.t).pair.reader_entity h.t.m.reader (pair h.t).pair.is_reader in
+    h.t.known.reader ∙ reader_entity_is h.t.config _ (pair h.t).pair.reader_entity h.t.m.reader (pair h.t).pair.is_reader in
     let w = h.t.known.writer in cc
 
--- one that was sent is found
-ask_is_found : {hearing : Hearing} → (h : Hear hearing)
+-- one that was sent, as the reader was told, is found
+ask_is_found : {hearing : Hearing} → (h : Hear hearing) → Told (begun h)
     → acknacks_used_at h.t.network h.t.m.writer h.t.m.reader < 2 ^ 31 - 1
     → HasNone (IsTo h.t.m.writer.peer (ask_of h)) h.beat.mid.sent (length h.t.mid.sent) (length h.beat.mid.sent) → ⊥
 unfolding begun begins w1 hears
-ask_is_found h left none =
+ask_is_found h told left none =
     let last : the_last h.t ≡ length (writer_changes (own_writer (part h.t) h.t.m.writer.number)) =
     ap (λ (w : Writer). length (writer_changes w)) (writer_is h.t.network h.t.m.writer) in
     let small = few h.t in
-    let ask = asks_found (begun h) (omega (arith, small, last)) left (none1 h) in
+    let ask = asks_found told (omega (arith, small, last)) left (none1 h) in
     among_none (IsTo h.t.m.writer.peer (ask_of h)) h.t.mid.sent (hears h).step.packets h.beat.mid.sent ask.0
     (sent1 h) ask.1 (ask.2, subst (λ (x : Sought). Has ask.0.bytes x) (ask_is h) ask.3) none
+
+-- where no HEARTBEAT told it, it was not behind
+told_nothing : {hearing : Hearing} → (h : Hear hearing) → Missed (begun h) → Unhindered h.t (noted_beat h)
+unfolding begun begins w1 hears
+told_nothing h missed =
+    let last : the_last h.t ≡ length (writer_changes (own_writer (part h.t) h.t.m.writer.number)) =
+    ap (λ (w : Writer). length (writer_changes w)) (writer_is h.t.network h.t.m.writer) in
+    let past = missed.of.past (acknowledged h.t) (own_row h.t) in
+    unhindered h.t (noted_beat h) (missed_leaves_pair (begun h) missed) (omega (arith, past, last))
 
 no_ask : {hearing : Hearing} → (h : Hear hearing)
     → HasNone (IsTo h.t.m.writer.peer (ask_of h)) h.beat.mid.sent (length h.t.mid.sent) (length h.beat.mid.sent)
@@ -546,9 +442,11 @@ no_ask h none = (
   noted_beat h,
   (after_tick h.t, h.t.mid.unsent, (w0 h.t).step, (after_beat h, h.beat.mid.unsent, (w1 h).step, (refl, refl))),
   (w1 h).stands,
-  inl
-      (⊎_elim (λ left. absurd (ask_is_found h left none)) (λ used. inr (inr (inr (inr (refl, used)))))
-      (cases_lt (acknacks_used_at h.t.network h.t.m.writer h.t.m.reader) (2 ^ 31 - 1))),
+  ⊎_elim
+      (λ told. inl
+      (⊎_elim (λ left. absurd (ask_is_found h told left none)) (λ used. inr (inr (inr (inr (refl, used)))))
+      (cases_lt (acknacks_used_at h.t.network h.t.m.writer h.t.m.reader) (2 ^ 31 - 1))))
+      (λ missed. inr (told_nothing h missed)) (met (begun h)),
 )
 
 -- ---- the ACKNACK was taken

@@ -1,7 +1,6 @@
 -- What a network of a round knows of the pair, and the steps of a round by the rules.
 use Rattle.std.proofs.Common.{◌≡◌, ℕ, zero, suc, ◌+◌, ◌-◌, ◌^◌, ◌<◌, ◌≤◌, ◌&&◌, ◌||◌, min, Bool, true, false, not, List, [], ◌∷◌, ◌++◌, Option, Some, None, Contains, map, length, get_or, slice_get, is_some, refl, subst, ap, sym, ◌∙◌, inl, inr, ⊎_elim, arith}
 use Rattle.std.specs.Prelude.{nat_lt}
-use Rattle.std.specs.Option.{option_map, option_map_or}
 use Rattle.std.proofs.lemmas.Bool.Decides.{nat_tests}
 use Rattle.dds_base.specs.declared.config.Config.{Config}
 use Rattle.dds_base.specs.Kept.{numbers_from}
@@ -18,14 +17,14 @@ use Rattle.dds_machine.specs.declared.reply.Reply.TheVariants.{Done, Reported}
 use Rattle.dds_machine.specs.declared.reply.Report.{Report}
 use Rattle.dds_machine.specs.Numbered.{numbered, HasNumber}
 use Rattle.dds_machine.specs.Machine.{AllTests, place_at}
-use Rattle.dds_machine.specs.Part.{Away, Begun, NoLess, Part, WriterProxy, how_of, own_writer, own_proxies, place_of, row_of, writer_changes}
+use Rattle.dds_machine.specs.Part.{NoLess, own_writer, own_proxies, place_of, writer_changes}
 use Rattle.dds_machine.specs.Ticks.{TickStep}
 use Rattle.dds_protocol.specs.Peer.{Peer, EventStep, no_peer}
 use Rattle.dds_protocol.specs.Repair.{Delivers, DeliversAll}
 use Rattle.dds_protocol.specs.Rules.{RuledStep, RuledRun}
 use Rattle.dds_protocol.specs.World.{WorldState, WorldStep, peer_at, machine_of}
 use Rattle.dds_protocol.specs.Fresh.{tracked_at}
-use Rattle.dds_protocol.proofs.Composed.{contains_at, front_or_rest, parts_at}
+use Rattle.dds_protocol.proofs.Composed.{contains_at, front_or_rest}
 use Rattle.dds_protocol.proofs.Framing.{has_reader}
 use Rattle.dds_protocol.proofs.FreshCounts.{stays_same, steps_stays}
 use Rattle.dds_protocol.proofs.PairBegun.{place_is}
@@ -67,20 +66,6 @@ peer_there peers (suc i) r has = (omega arith, within peers i has)
     within [] i k = let low = k.0 in let high = k.1 in absurd (omega (arith, low, high))
     within (p ∷ ps) zero k = omega arith
     within (p ∷ ps) (suc i) k = let rest = within ps i k in omega (arith, rest)
-
--- a place that is there has begun, where nobody has come or left
-pub begun_where_placed : (rows : List WriterProxy) (writer : Endpoint) (place : ℕ) → place_of rows writer ≡ Some place
-    → ((row : WriterProxy) → row_of (λ (p : WriterProxy). p.writer) rows writer ≡ Some row → row.how ≡ Begun)
-    → how_of rows writer ≡ Begun
-begun_where_placed rows writer place at begun = by (row_of (λ (p : WriterProxy). p.writer) rows writer) refl
-  where
-    by : (o : Option WriterProxy) → row_of (λ (p : WriterProxy). p.writer) rows writer ≡ o → how_of rows writer ≡ Begun
-    by None e =
-        let none : ◌≡◌ {A = Option ℕ} None (Some place) =
-        sym (ap (λ (x : Option WriterProxy). option_map (λ (p : WriterProxy). p.place) x) e) ∙ at in
-        cc
-    by (Some row) e =
-        ap (λ (x : Option WriterProxy). option_map_or (λ (p : WriterProxy). p.how) x Away) e ∙ begun row e
 
 -- the reader of a place is there, and knows of that place
 pub record PlaceKnown (network : WorldState) (writer reader : Endpoint) (place : ℕ) : Type 0 where

@@ -13,9 +13,8 @@ use Rattle.dds_machine.specs.declared.event.WorldEvent.{WorldEvent}
 use Rattle.dds_machine.specs.declared.event.WorldEvent.TheVariants.{Deliver}
 use Rattle.dds_machine.specs.Machine.{part_at, writer_at, AllTests}
 use Rattle.dds_machine.specs.Part.{acknowledged_of, is_reader_behind, writer_changes}
-use Rattle.dds_protocol.specs.DueMessages.{writer_entity}
+use Rattle.dds_protocol.specs.DueMessages.{reader_entity, writer_entity}
 use Rattle.dds_protocol.specs.World.{WorldState, machine_of}
-use Rattle.dds_core.specs.Pairs.{reader_entity}
 use Rattle.dds_world.specs.declared.round.Matched.{Matched}
 use Rattle.dds_world.specs.declared.round.RoundReply.{RoundReply}
 use Rattle.dds_world.specs.Holding.{Held, heard, kept_of, tests_in}

@@ -27,9 +27,8 @@ use Rattle.dds_protocol.specs.Closed.{IsClosed}
 use Rattle.dds_protocol.specs.Repair.{HasCaughtUp}
 use Rattle.dds_protocol.specs.Rules.{RuledRun}
 use Rattle.dds_machine.specs.Runs.{Run}
-use Rattle.dds_protocol.specs.DueMessages.{writer_entity}
+use Rattle.dds_protocol.specs.DueMessages.{reader_entity, writer_entity}
 use Rattle.dds_protocol.specs.World.{WorldState, machine_of}
-use Rattle.dds_core.specs.Pairs.{reader_entity}
 use Rattle.dds_world.specs.declared.round.Round.{Round}
 use Rattle.dds_world.specs.declared.round.RoundReply.{RoundReply}
 use Rattle.dds_world.specs.WorldStanding.{Hearing, WorldKept, StandsFor, KeepsRules}
@@ -155,14 +154,14 @@ IsHindered network writer reader answer =
     ⊎ ((length answer.replies ≡ 1) × (answer.was_behind ≡ true) × (max_count ≤ heartbeats_used_at network writer))
     ⊎ ((length answer.replies ≡ 2) × (max_count ≤ acknacks_used_at network writer reader))
 
--- Where ends come and go, no HEARTBEAT may be due either: the writer owes the reader no change that it has made; or the
--- reader is not behind, and its place waits.
+-- Where ends come and go, no HEARTBEAT may be due either, as the reader is not behind: the writer owes it no change that
+-- it has made, or its place waits.
 abbrev pub IsExcused : WorldState → Endpoint → Endpoint → Type 0
 IsExcused network writer reader =
-    (length (writer_changes (writer_at (machine_of network) writer))
+    (is_reader_behind (writer_at (machine_of network) writer) reader ≡ false)
+    × ((length (writer_changes (writer_at (machine_of network) writer))
     < owed_from (writer_at (machine_of network) writer) reader)
-    ⊎ ((is_reader_behind (writer_at (machine_of network) writer) reader ≡ false)
-    × (how_of (own_proxies (part_at (machine_of network) reader.peer) reader.number) writer ≡ Waiting))
+    ⊎ (how_of (own_proxies (part_at (machine_of network) reader.peer) reader.number) writer ≡ Waiting))
 
 -- the replies alone, without the counts of packets beside them
 abbrev pub replies_of : List RoundReply → List Reply

@@ -32,16 +32,18 @@ pub struct RoundReply {
 /// What a round of repair answers, and how the reader and the writer stood when it began, and the reader after it.
 ///
 /// The reader has caught up where `to` is at least the smaller one of `from` + 256 and `last` + 1, as `has_caught_up`
-/// says. Where it has not, one of these is so, and the answer shows which:
+/// says. Where it has not, one of these is so, and the answer shows which, but for the fifth:
 ///
 /// - memory lacked: a reply is a refusal, or a report whose `refused` names a submessage;
 /// - a packet was not sent: the `unsent` of a reply is greater than `unsent_before`; or that was 2^64 - 1, where it
 ///   stays;
 /// - the writer has used up its HEARTBEAT counts, 2^31 - 1: there is one reply, though the reader was behind;
 /// - the reader has used up its ACKNACK counts to the writer, as many: there are two replies;
+/// - no HEARTBEAT was due, where ends have come and gone: the writer owes the reader no change that it has made, or the
+///   reader was not behind, and its place waits to begin;
 /// - none of these: the reader holds the change of number `to`, and has no room for it.
 ///
-/// Where none of the first four is so, the writer knows that the reader had all changes below `from`.
+/// Where none of the first five is so, the writer knows that the reader had all changes below `from`.
 #[derive(Debug, Drop)]
 pub struct Round {
     /// The replies to its events, 1 to 259.
