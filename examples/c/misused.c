@@ -46,6 +46,28 @@ static uint64_t sum_of(size_t readers_len) {
     return sum;
 }
 
+/* What tells a writer, and what tells a reader, that it is matched, and that it is no longer. */
+static const struct {
+    const char *whom;
+    uint8_t (*match)(cw_peer *, uint8_t, uint8_t, uint8_t), (*part)(cw_peer *, uint8_t, uint8_t, uint8_t);
+} tellings[] = {{"a writer", cw_match_reader, cw_unmatch_reader}, {"a reader", cw_match_writer, cw_unmatch_writer}};
+
+static void say_matches(cw_peer *peer) {
+    cw_matched_status matched = {0};
+    for (int at = 0; at < 2; at++) {
+        printf("%s is told\n", tellings[at].whom);
+        say("of a match that there is", tellings[at].match(peer, 1, 1, 1));
+        say("of one with an end that there isn't", tellings[at].match(peer, 1, 1, 2));
+        say("of a parting", tellings[at].part(peer, 1, 1, 1));
+        say("of it once more", tellings[at].part(peer, 1, 1, 1));
+        say("of one from an end that there isn't", tellings[at].part(peer, 1, 9, 1));
+    }
+    say("matches of an answer that has none", cw_matched(peer, &matched));
+    say("those of a writer that there isn't", cw_get_publication_matched_status(peer, 2));
+    say("those of a reader that there isn't", cw_get_subscription_matched_status(peer, 2));
+    say("places of a reader that there isn't", cw_resume(peer, 2));
+}
+
 int main(void) {
     cw_peer peer = CW_PEER_NONE;
     const uint8_t key[16] = {1}, value[1025] = {0};
@@ -69,6 +91,7 @@ int main(void) {
     say("a reader that takes no change", cw_open(&peer, peers, 1, writers, 1, &lives[0], 1, 1));
     say("a reader that takes more than 2^63", cw_open(&peer, peers, 1, writers, 1, &lives[1], 1, 1));
     say("a reader that takes 2^63", cw_open(&peer, peers, 1, writers, 1, &lives[2], 1, 1));
+    say_matches(&peer);
     cw_close(&peer);
     say("a configuration that is none", cw_open_text(&peer, (const uint8_t *)"nonsense", 8, 1));
     say_words("why", "nonsense", cw_text_fault);

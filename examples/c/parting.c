@@ -1,5 +1,5 @@
 /* A reader dies while its writer is full. The writer is told that it is gone, and goes on; then it comes back, and goes on too:
- * what was written meanwhile is not lost. */
+ * what was written meanwhile is not lost. It has room for one sample, and the next comes once that is taken. */
 #include "cinchwalnut.h"
 #include <stdio.h>
 #include <stdlib.h>
@@ -9,7 +9,7 @@
 
 static const cw_peer_config peers[] = {{{1, 1, 1, 1, 1, 1, 1, 1, 1, 1, 1, 1}}, {{2, 2, 2, 2, 2, 2, 2, 2, 2, 2, 2, 2}}};
 static const cw_writer_config writers[] = {{.peer = 1, .entity = {0, 0, 1, 2}, .max_samples = 2}};
-static const cw_reader_config readers[] = {{.peer = 2, .entity = {0, 0, 1, 7}, .max_samples = -1, .max_instances = -1}};
+static const cw_reader_config readers[] = {{.peer = 2, .entity = {0, 0, 1, 7}, .max_samples = 1, .max_instances = -1}};
 static cw_peer writer = CW_PEER_NONE, reader = CW_PEER_NONE;
 
 static uint8_t write_text(const char *text) {
@@ -27,6 +27,15 @@ static size_t carry(cw_peer *from, cw_peer *to) {
     return at;
 }
 
+static void take(void) {
+    cw_sample_info info = {0};
+    uint8_t value[1024] = {0};
+    size_t len = 0;
+    CHECK(cw_take(&reader, 1, -1, CW_ANY, CW_ANY, CW_ANY) == CW_OK);
+    for (size_t at = 0; cw_sample(&reader, at, &info, value, sizeof value, &len) == CW_OK; at++)
+        printf("taken: %.*s\n", (int)len, (const char *)value);
+}
+
 static void show(const char *whose, const cw_matched_status *it) {
     printf("%s: %llu matches were made, %lld of them stand; the last one with %u of peer %u\n", whose, (unsigned long long)it->total_count,
            (long long)it->current_count, (unsigned)it->last_number, (unsigned)it->last_peer);
@@ -35,11 +44,8 @@ static void show(const char *whose, const cw_matched_status *it) {
 int main(void) {
     cw_matched_status matched = {0};
     cw_notice_info notice = {0};
-    cw_sample_info info = {0};
     cw_total_status lost = {0};
-    uint8_t value[1024] = {0};
     uint64_t handle = 0;
-    size_t len = 0;
     CHECK(cw_open(&writer, peers, 2, writers, 1, readers, 1, 1) == CW_OK);
     CHECK(cw_open(&reader, peers, 2, writers, 1, readers, 1, 2) == CW_OK);
     CHECK(cw_set_recorder(&writer, CW_WRITER, 1, CW_PUBLICATION_MATCHED, 4) == CW_OK);
@@ -57,11 +63,12 @@ int main(void) {
     CHECK(cw_match_reader(&writer, 1, 2, 1) == CW_OK);
     CHECK(cw_match_writer(&reader, 1, 1, 1) == CW_OK && cw_handle(&reader, &handle) == CW_OK && handle == 1);
     CHECK(write_text("fourth") == CW_OK && carry(&writer, &reader) == 1);
+    CHECK(write_text("fifth") == CW_OK && carry(&writer, &reader) == 1);
     CHECK(cw_tick(&writer, CW_SECOND) == CW_OK && carry(&writer, &reader) == 1);
     CHECK(carry(&reader, &writer) == 1 && carry(&writer, &reader) == 1);
-    CHECK(cw_take(&reader, 1, -1, CW_ANY, CW_ANY, CW_ANY) == CW_OK);
-    for (size_t at = 0; cw_sample(&reader, at, &info, value, sizeof value, &len) == CW_OK; at++)
-        printf("taken: %.*s\n", (int)len, (const char *)value);
+    take();
+    CHECK(cw_resume(&reader, 1) == CW_OK);
+    take();
     CHECK(cw_get_sample_lost_status(&reader, 1) == CW_OK && cw_total(&reader, &lost) == CW_OK);
     printf("lost: %llu\n", (unsigned long long)lost.total_count);
     CHECK(cw_get_subscription_matched_status(&reader, 1) == CW_OK && cw_matched(&reader, &matched) == CW_OK);

@@ -1,5 +1,6 @@
-/* Two peers that are recorded: of three changes the second is lost on its way, and repaired. What is printed are the
- * recordings of both, one after the other: dds_pipe answers each the same, and tools/draw draws both as one run. */
+/* Two peers that are recorded: of three changes the second is lost on its way, and repaired; the third finds room once these
+ * are taken. Then both ends part, and are matched again. What is printed are the recordings of both, one after the other:
+ * dds_pipe answers each the same, and tools/draw draws both as one run. */
 #include "cinchwalnut_record.h"
 #include <string.h>
 
@@ -9,7 +10,7 @@ static const cw_peer_config peers[] = {{{1, 1, 1, 1, 1, 1, 1, 1, 1, 1, 1, 1}}, {
 static const cw_writer_config writers[] = {
     {.peer = 1, .entity = {0, 0, 1, 2}, .autodispose = true, .max_samples = -1}};
 static const cw_reader_config readers[] = {
-    {.peer = 2, .entity = {0, 0, 1, 7}, .max_samples = -1, .max_instances = -1}};
+    {.peer = 2, .entity = {0, 0, 1, 7}, .max_samples = 2, .max_instances = -1}};
 static cw_recording writer = CW_RECORDING_NONE, reader = CW_RECORDING_NONE;
 
 static void open_recorded(cw_recording *run, uint8_t number) {
@@ -43,7 +44,8 @@ int main(void) {
     const char *line = "call take r2";
     open_recorded(&writer, 1);
     open_recorded(&reader, 2);
-    CHECK(cw_recorded_set_recorder(&reader, CW_READER, 1, CW_LIVELINESS_CHANGED, 4) == CW_OK);
+    CHECK(cw_recorded_set_recorder(&writer, CW_WRITER, 1, CW_PUBLICATION_MATCHED, 4) == CW_OK);
+    CHECK(cw_recorded_set_recorder(&reader, CW_READER, 1, CW_LIVELINESS_CHANGED | CW_SUBSCRIPTION_MATCHED, 4) == CW_OK);
     for (int i = 0; i < 3; i++) {
         CHECK(cw_recorded_write(&writer, 1, key, (const uint8_t *)values[i], strlen(values[i])) == CW_OK);
         if (i != 1)
@@ -54,7 +56,15 @@ int main(void) {
     carry(&reader, &writer); /* an ACKNACK */
     carry(&writer, &reader); /* the repair */
     CHECK(cw_recorded_take(&reader, 1, -1, CW_ANY, CW_ANY, CW_ANY) == CW_OK);
+    CHECK(cw_recorded_resume(&reader, 1) == CW_OK);
+    CHECK(cw_recorded_take(&reader, 1, -1, CW_ANY, CW_ANY, CW_ANY) == CW_OK);
     CHECK(cw_recorded_get_sample_lost_status(&reader, 1) == CW_OK);
+    CHECK(cw_recorded_unmatch_reader(&writer, 1, 2, 1) == CW_OK && cw_recorded_unmatch_writer(&reader, 1, 1, 1) == CW_OK);
+    CHECK(cw_recorded_match_reader(&writer, 1, 2, 1) == CW_OK && cw_recorded_match_writer(&reader, 1, 1, 1) == CW_OK);
+    CHECK(cw_recorded_match_writer(&reader, 1, 1, 1) == CW_PRECONDITION_NOT_MET);
+    CHECK(cw_recorded_get_publication_matched_status(&writer, 1) == CW_OK);
+    CHECK(cw_recorded_get_subscription_matched_status(&reader, 1) == CW_OK);
+    CHECK(cw_recorded_clear_recorder(&writer, CW_WRITER, 1) == CW_OK);
     CHECK(cw_recorded_clear_recorder(&reader, CW_READER, 1) == CW_OK);
     CHECK(cw_recorded_dispose(&writer, 2, key) == CW_BAD_PARAMETER);
     CHECK(cw_recorded_line(&reader, (const uint8_t *)line, strlen(line)) == CW_BAD_PARAMETER); /* not recorded */

@@ -1,4 +1,5 @@
-// Two peers in one process: of three changes the second is lost, and repaired.
+// Two peers in one process: of three changes the second is lost, and repaired; the third finds room once these are taken. Then
+// both ends part, and are matched again.
 #include "cinchwalnut.hpp"
 #include <cstdio>
 #include <string_view>
@@ -16,7 +17,7 @@ static cinchwalnut::Config two_peers() {
     writer.peer = 1, writer.entity[3] = 2, writer.max_samples = -1;
     config.writers.push_back(writer);
     cw_reader_config reader{};
-    reader.peer = 2, reader.entity[3] = 7, reader.max_samples = reader.max_instances = -1;
+    reader.peer = 2, reader.entity[3] = 7, reader.max_samples = 2, reader.max_instances = -1;
     config.readers.push_back(reader);
     return config;
 }
@@ -24,6 +25,13 @@ static cinchwalnut::Config two_peers() {
 static void carry(Peer &from, Peer &to) {
     for (const auto &packet : from.packets())
         to.deliver(packet.octets);
+}
+
+static void show(const char *whose, Peer &peer) {
+    cw_matched_status matched{};
+    if (cw_matched(peer.get(), &matched) == CW_OK)
+        std::printf("%s: %llu matches, %lld of them stand\n", whose, static_cast<unsigned long long>(matched.total_count),
+                    static_cast<long long>(matched.current_count));
 }
 
 int main() {
@@ -45,11 +53,21 @@ int main() {
     carry(writer, reader); // a HEARTBEAT
     carry(reader, writer); // an ACKNACK
     carry(writer, reader); // the repair
-    if (reader.take(1))
-        return 3;
-    for (const auto &sample : reader.samples())
-        std::printf("%.*s, rank %llu\n", static_cast<int>(sample.value.size()),
-                    reinterpret_cast<const char *>(sample.value.data()),
-                    static_cast<unsigned long long>(sample.info.sample_rank));
+    for (int turn = 0; turn < 2; turn++) {
+        if (reader.take(1))
+            return 3;
+        for (const auto &sample : reader.samples())
+            std::printf("%.*s, rank %llu\n", static_cast<int>(sample.value.size()),
+                        reinterpret_cast<const char *>(sample.value.data()),
+                        static_cast<unsigned long long>(sample.info.sample_rank));
+        if (reader.resume(1))
+            return 4;
+    }
+    if (cw_unmatch_reader(writer.get(), 1, 2, 1) || cw_unmatch_writer(reader.get(), 1, 1, 1) ||
+        cw_match_reader(writer.get(), 1, 2, 1) || cw_match_writer(reader.get(), 1, 1, 1) ||
+        cw_get_publication_matched_status(writer.get(), 1) || cw_get_subscription_matched_status(reader.get(), 1))
+        return 5;
+    show("the writer", writer);
+    show("the reader", reader);
     return 0;
 }
