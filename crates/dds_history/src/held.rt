@@ -26,8 +26,9 @@ use indexmap::IndexMap;
 use std::alloc::{AllocFailed, Global};
 use std::collections::VecDeque;
 
-/// So many keys may stand of which nothing is kept, beside twice as many as changes are.
-const IDLE_KEYS: u64 = 16;
+/// So many keys may stand of which nothing is kept, beside twice as many as changes are: a writer that goes over some hundred
+/// instances in turn finds each counted still, at some 40 octets a key.
+const IDLE_KEYS: u64 = 1024;
 
 /// A change, with its turn among those of its key.
 #[derive(Drop)]
@@ -121,8 +122,8 @@ fn recount(keys: &mut IndexMap<Key, KeyCount>, place: usize, count: KeyCount)
     }
 }
 
-/// Enters the key, which most likely stands at this place, and gives its place and what was counted of it. What is entered of
-/// it is right once it is counted anew.
+/// Enters the key, which most likely stands at this place or at the next, as keys are often gone over in turn, and gives its
+/// place and what was counted of it. What is entered of it is right once it is counted anew.
 fn enter(
     keys: &mut IndexMap<Key, KeyCount>,
     likely: usize,
@@ -136,6 +137,10 @@ fn enter(
 {
     if let Some(count) = count_at(keys, likely, &key) {
         return Ok((likely, count));
+    }
+    let following = likely.saturating_add(1);
+    if let Some(count) = count_at(keys, following, &key) {
+        return Ok((following, count));
     }
     let (place, before) = keys.insert_full(key, KeyCount { turns: 0, kept: 0 })?;
     Ok((place, before.unwrap_or(KeyCount { turns: 0, kept: 0 })))
