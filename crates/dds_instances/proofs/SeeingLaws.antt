@@ -1,5 +1,5 @@
 -- What a track takes up of samples that were returned.
-use Rattle.std.proofs.Common.{◌≡◌, ℕ, ◌<◌, List, [], ◌∷◌, ◌++◌, length, get_or, set, map, Bool, true, false, ◌&&◌, ◌||◌, sym, ap, ◌∙◌, refl, subst}
+use Rattle.std.proofs.Common.{◌≡◌, ℕ, ◌<◌, List, [], ◌∷◌, ◌++◌, length, get_or, set, map, Bool, true, false, ◌&&◌, ◌||◌, sym, ap, ◌∙◌, refl, subst, arith}
 use Rattle.std.specs.Prelude.{nat_le}
 use Rattle.std.specs.List.{All, list_any}
 use Rattle.std.proofs.lemmas.List.Elements.{All-set}
@@ -10,7 +10,7 @@ use Rattle.dds_base.specs.Instance.{is_since}
 use Rattle.dds_instances.specs.declared.track.InstanceTrack.{InstanceTrack}
 use Rattle.dds_instances.specs.Track.{Fits, seen_at, seen_in}
 
-or-none : (b : Bool) → (b || false) ≡ b
+pub or-none : (b : Bool) → (b || false) ≡ b
 or-none true = refl
 or-none false = refl
 
@@ -60,3 +60,9 @@ fits-saw n ts at position t x inside is sees fits =
     let after : Fits n (seen_at position t) =
     record { writes = before.writes; generations = before.generations; marker = before.marker } in
     All-set (Fits n) ts at x (subst (λ (y : InstanceTrack). Fits n y) (sym sees) after) fits
+
+-- a list of one sample
+pub one-sample : (ss : List SamplePosition) (d : SamplePosition) → length ss ≡ 1 → ss ≡ get_or ss 0 d ∷ []
+one-sample [] d one = absurd (omega (arith, one))
+one-sample (s ∷ []) d one = refl
+one-sample (s ∷ t ∷ ss) d one = absurd (omega (arith, one))

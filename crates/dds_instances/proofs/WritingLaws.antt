@@ -18,7 +18,7 @@ use Rattle.dds_base.specs.declared.qos.ReaderQos.{ReaderQos}
 use Rattle.dds_base.specs.Access.{lives_begun, state_of_known}
 use Rattle.dds_base.specs.Happening.{is_unregister, is_write_or_dispose, same_key}
 use Rattle.dds_base.specs.Instance.{introduced_by, is_disposed, is_known, is_without_writers, known_instances}
-use Rattle.dds_base.specs.Life.{becomes_not_alive, ends_life, is_nobody, is_write, last_accepted, state_after}
+use Rattle.dds_base.specs.Life.{becomes_not_alive, ends_life, is_nobody, is_write, state_after}
 use Rattle.dds_base.specs.Ownership.{accepted_kind, admits, is_registered, outranks_all, publication_handles, registered_writers}
 use Rattle.dds_base.proofs.KeyLaws.{same_key-refl}
 use Rattle.dds_base.proofs.LifeLaws.{ends-registered, same-state}

@@ -15,7 +15,7 @@ ghost use Rattle.dds_base.specs.declared.code.Code.TheVariants.{Memory};
 
 use crate::keeping::{
     add_blanks, bury_all, forget, forget_left, hold, hold_none, is_any_left, look_up,
-    note_strength, see_all, take_up, write_known,
+    note_strength, see_all, see_taken, take_up, write_known,
 };
 use crate::known::{KnownInstance, told, view_of};
 use crate::place::KeyIndex;
@@ -401,6 +401,7 @@ impl Instances {
     /// `Memory` after 2^64 - 1 entries, and never where room was reserved; nothing has changed then.
     ///
     /// DDS 1.4, 2.2.2.5 (take, view_state).
+    #[inline(always)]
     pub fn took(&mut self, samples: &[SamplePosition]) -> Result<(), Code>
         // A take returned them, where it was noted right of which instances something is left: it need not be where
         // somebody is registered for the instance of each.
@@ -419,9 +420,7 @@ impl Instances {
     {
         self.room = room_after(self.happened, self.room)?;
         self.happened += 1;
-        let is_any_left = is_any_left(&self.index, &self.tracks, samples);
-        see_all(&self.index, &mut self.tracks, samples);
-        if is_any_left {
+        if see_taken(&self.index, &mut self.tracks, samples) {
             forget_left(&mut self.index, &mut self.tracks);
         }
         Ok(())

@@ -141,8 +141,9 @@ pub fn bury_all(tracks: &mut Vec<InstanceTrack>, writer: Handle, position: u64)
     }
 }
 
-/// An instance takes up that a sample of it was returned, if it is kept.
-fn see_sample(index: &KeyIndex, tracks: &mut Vec<InstanceTrack>, sample: SamplePosition)
+/// An instance takes up that a sample of it was returned, if it is kept. Returns whether nobody is registered for it.
+#[inline(always)]
+fn see_sample(index: &KeyIndex, tracks: &mut Vec<InstanceTrack>, sample: SamplePosition) -> bool
     requires indexed { index.now.keys ≡ map key_of tracks.old.items }
     ensures fits { (n : ℕ) → All (Fits n) tracks.old.items → All (Fits n) tracks.new.items }
     ensures keys { map key_of tracks.new.items ≡ map key_of tracks.old.items }
@@ -151,9 +152,16 @@ fn see_sample(index: &KeyIndex, tracks: &mut Vec<InstanceTrack>, sample: SampleP
     ensures alive { count_by is_alive_track tracks.new.items
         ≡ count_by is_alive_track tracks.old.items }
     ensures sees { tracks.new.items ≡ map (seen_in (sample ∷ [])) tracks.old.items }
+    ensures left { (q : ReaderQos) (h : List Happening) → Follows q h tracks.old.items
+        → result ≡ is_nobody (registered_writers q sample.key h) }
 {
-    if let Some(at) = find(index, sample.key) {
-        tracks[at].see(sample.position);
+    match find(index, sample.key) {
+        Some(at) => {
+            let is_left = !tracks[at].owners.has_writers();
+            tracks[at].see(sample.position);
+            is_left
+        }
+        None => true,
     }
 }
 
@@ -276,6 +284,34 @@ pub fn is_any_left(index: &KeyIndex, tracks: &[InstanceTrack], samples: &[Sample
         }
     }
     false
+}
+
+/// All instances take up which samples a take returned. Returns whether nobody is registered for the instance of some of
+/// them. One sample is looked up once.
+#[inline(always)]
+pub fn see_taken(
+    index: &KeyIndex,
+    tracks: &mut Vec<InstanceTrack>,
+    samples: &[SamplePosition],
+) -> bool
+    requires indexed { index.now.keys ≡ map key_of tracks.old.items }
+    ensures fits { (n : ℕ) → All (Fits n) tracks.old.items → All (Fits n) tracks.new.items }
+    ensures keys { map key_of tracks.new.items ≡ map key_of tracks.old.items }
+    ensures len { vec_len tracks.new ≡ vec_len tracks.old }
+    ensures capacity { vec_capacity tracks.new ≡ vec_capacity tracks.old }
+    ensures alive { count_by is_alive_track tracks.new.items
+        ≡ count_by is_alive_track tracks.old.items }
+    ensures sees { tracks.new.items ≡ map (seen_in samples.now) tracks.old.items }
+    ensures left { (q : ReaderQos) (h : List Happening) → Follows q h tracks.old.items
+        → result ≡ is_any_left q h samples.now }
+{
+    if samples.len() == 1 {
+        let sample = samples[0];
+        return see_sample(index, tracks, sample);
+    }
+    let is_any_left = is_any_left(index, tracks, samples);
+    see_all(index, tracks, samples);
+    is_any_left
 }
 
 /// Makes an index anew of these instances, in the room that it has.

@@ -1,12 +1,15 @@
-use Rattle.std.proofs.Common.{◌≡◌, ◌<◌, List, [], ◌∷◌, length, get_or, map, subst, sym, ap, ◌∙◌, false, true, arith}
+use Rattle.std.proofs.Common.{not, Bool, ℕ, ◌≡◌, ◌<◌, List, [], ◌∷◌, length, get_or, map, subst, sym, ap, ◌∙◌, false, true, arith}
 use Rattle.std.specs.List.{list_any}
 use Rattle.std.proofs.lemmas.List.{length-map, get_or_default}
 use Rattle.dds_base.specs.declared.key.Key.{Key}
 use Rattle.dds_base.specs.Happening.{same_key}
+use Rattle.dds_base.specs.Life.{is_nobody}
+use Rattle.dds_owner.proofs.RegistrationLaws.{nobody-kept}
 use Rattle.dds_instances.specs.declared.track.InstanceTrack.{InstanceTrack}
 use Rattle.dds_instances.specs.Track.{is_alive_track, seen_at, seen_in}
 use Rattle.dds_instances.specs.Following.{key_of, IsPlaceOf}
-use Rattle.dds_instances.proofs.StandingLaws.{itself-same, keys-set, stranger-at, strangers-all}
+use Rattle.dds_instances.proofs.StandingLaws.{itself-same, keys-set, nothing-at, stranger-at, strangers-all, track-at}
+use Rattle.dds_instances.proofs.KnownLaws.{unknown}
 use Rattle.dds_instances.proofs.SeeingLaws.{fits-saw, saw-one}
 use Rattle.dds_instances.proofs.HoldingLaws.{map-none, set-map}
 use Rattle.dds_instances.proofs.MarkerLaws.{alive-kept}
@@ -46,11 +49,11 @@ returns-in-Some-clause-sees c =
     (λ k d within differ. sym (saw-one c.args.sample (get_or ts k d) false
     (stranger-at ts c.args.sample.key at k d place within differ)))
 
-pub returns-in_default-clause-sees : goal.returns-in_default-clause-sees
-returns-in_default-clause-sees c =
+pub returns-in-None-clause-sees : goal.returns-in-None-clause-sees
+returns-in-None-clause-sees c =
     let ts : List InstanceTrack = c.args.tracks.now.items in
     let absent : list_any (same_key c.args.sample.key) (map key_of ts) ≡ false =
-    ap (λ (ks : List Key). list_any (same_key c.args.sample.key) ks) (sym c.requires.indexed) ∙ c.in_default.ensures
+    ap (λ (ks : List Key). list_any (same_key c.args.sample.key) ks) (sym c.requires.indexed) ∙ c.in-None.ensures
     in
     map-none (seen_in (c.args.sample ∷ [])) ts
     (λ k d within. sym (saw-one c.args.sample (get_or ts k d) false (strangers-all c.args.sample.key ts absent k d within)))
@@ -60,3 +63,16 @@ returns-in-Some-clause-alive c =
     alive-kept c.args.tracks.now.items c.in-Some.at c.see.new.self c.index_mut.result.now
     (ap (λ (t : InstanceTrack). is_alive_track t) c.see.ensures
     ∙ ap (λ (t : InstanceTrack). is_alive_track t) c.index_mut.ensures.value)
+
+pub returns-in-Some-clause-left : goal.returns-in-Some-clause-left
+returns-in-Some-clause-left c = λ q h follows.
+    ap (λ (b : Bool). not b) c.has_writers-is_left.ensures.kept
+    ∙ sym (nobody-kept c.index.result.now.owners q c.args.sample.key h
+    (track-at q h c.args.tracks.now.items c.args.index.now.keys c.args.sample.key c.in-Some.at c.index.result.now
+    c.requires.indexed c.in-Some.ensures c.index.ensures follows).owners_are)
+
+pub returns-in-None-clause-left : goal.returns-in-None-clause-left
+returns-in-None-clause-left c = λ q h follows.
+    sym (ap (λ (ws : List ℕ). is_nobody ws) (unknown q c.args.sample.key h
+    (nothing-at q h c.args.tracks.now.items c.args.index.now.keys c.args.sample.key c.requires.indexed
+    c.in-None.ensures follows)).registered)

@@ -19,7 +19,7 @@ pub invariant_of-self : goal.invariant_of-self
 invariant_of-self c = record {
   indexed = c.forget_left.ensures.indexed;
   fits = c.forget_left.ensures.fits (c.self.inside.happened + 1 + 1)
-      (c.see_all.ensures.fits (c.self.inside.happened + 1 + 1)
+      (c.see_taken.ensures.fits (c.self.inside.happened + 1 + 1)
       (fits-more (c.self.inside.happened + 1) c.self.inside.tracks.items c.self.invariant.fits));
   blank = c.self.invariant.blank;
   places = omega (arith, c.self.invariant.places, c.in_ok-self-inside.ensures.less, c.forget_left.ensures.room);
@@ -28,8 +28,8 @@ invariant_of-self c = record {
         arith,
         c.self.invariant.tracks_fit,
         c.in_ok-self-inside.ensures.less,
-        c.see_all.ensures.len,
-        c.see_all.ensures.capacity,
+        c.see_taken.ensures.len,
+        c.see_taken.ensures.capacity,
         c.forget_left.ensures.len,
         c.forget_left.ensures.capacity,
       );
@@ -39,40 +39,36 @@ invariant_of-self c = record {
   counted = c.in_ok-self-inside.ensures.fits;
 }
 
-pub returns-then-is_any_left-clause-took : goal.returns-then-is_any_left-clause-took
-returns-then-is_any_left-clause-took c = λ q h stands fits right.
+pub returns-then-see_taken-clause-took : goal.returns-then-see_taken-clause-took
+returns-then-see_taken-clause-took c = λ q h stands fits right.
     let ss = c.args.samples.now in
     let e : Happening = Took ss in
     let ts : List InstanceTrack = c.self.inside.tracks.items in
     let s : Stands q (table_of c.self.inside) h = subst (λ (t : Table). Stands q t h) (sym c.self.view_is) stands in
     let left : is_any_left q h ss ≡ true =
-    sym (c.is_any_left-is_any_left.ensures q h
-    (subst (λ (xs : List InstanceTrack). Follows q h xs) (sym c.deref.ensures.value) s.follows))
-    ∙ c.if-is_any_left.true in
+    sym (c.see_taken.ensures.left q h s.follows) ∙ c.if-see_taken.true in
     let noted : HoldsLeft q h ss (table_of c.self.inside) =
     subst (λ (t : Table). HoldsLeft q h ss t) (sym c.self.view_is) (right left) in
     let held =
     held-right q h ts (λ i. has_there q (e ∷ h) i (last_marker q i h))
-    (subst (λ (ks : List Key). IsDistinct same_key ks) c.see_all.ensures.keys c.forget_left.ensures.distinct)
+    (subst (λ (ks : List Key). IsDistinct same_key ks) c.see_taken.ensures.keys c.forget_left.ensures.distinct)
     s.follows noted in
     stands-next q h e (table_of c.self.inside) _ refl refl refl refl (λ it. record { tells = it.tells; counts = it.counts }) refl
     (subst (λ (xs : List InstanceTrack). Follows q (e ∷ h) xs)
-    (sym (c.forget_left.ensures.kept ∙ ap (λ (xs : List InstanceTrack). filter lives_on xs) c.see_all.ensures.sees))
+    (sym (c.forget_left.ensures.kept ∙ ap (λ (xs : List InstanceTrack). filter lives_on xs) c.see_taken.ensures.sees))
     (follows-kept q h e lives_on (map (seen_in ss) ts) (reaches-took q h ss ts s.follows)
     (took-lives q h ss ts s.follows held)))
     (lawful-took q h ss fits s.lawful) s
 
-pub returns-else-is_any_left-clause-took : goal.returns-else-is_any_left-clause-took
-returns-else-is_any_left-clause-took c = λ q h stands fits right.
+pub returns-else-see_taken-clause-took : goal.returns-else-see_taken-clause-took
+returns-else-see_taken-clause-took c = λ q h stands fits right.
     let ss = c.args.samples.now in
     let e : Happening = Took ss in
     let ts : List InstanceTrack = c.self.inside.tracks.items in
     let s : Stands q (table_of c.self.inside) h = subst (λ (t : Table). Stands q t h) (sym c.self.view_is) stands in
     let none : is_any_left q h ss ≡ false =
-    sym (c.is_any_left-is_any_left.ensures q h
-    (subst (λ (xs : List InstanceTrack). Follows q h xs) (sym c.deref.ensures.value) s.follows))
-    ∙ c.if-is_any_left.false in
+    sym (c.see_taken.ensures.left q h s.follows) ∙ c.if-see_taken.false in
     stands-next q h e (table_of c.self.inside) _ refl refl refl refl (λ it. record { tells = it.tells; counts = it.counts }) refl
-    (subst (λ (xs : List InstanceTrack). Follows q (e ∷ h) xs) (sym c.see_all.ensures.sees)
+    (subst (λ (xs : List InstanceTrack). Follows q (e ∷ h) xs) (sym c.see_taken.ensures.sees)
     (follows-took q h ss ts none s.follows))
     (lawful-took q h ss fits s.lawful) s
