@@ -1,5 +1,5 @@
 -- What a take of the only kept sample picks, returns and leaves.
-use Rattle.std.proofs.Common.{◌≡◌, ℕ, zero, suc, List, [], ◌∷◌, length, get_or, map, filter, Bool, true, false, ◌||◌, not, sym, ap, ◌∙◌, refl, subst, cond, arith, inr, Option, None}
+use Rattle.std.proofs.Common.{◌≡◌, ℕ, zero, suc, List, [], ◌∷◌, length, get_or, map, filter, Bool, true, false, ◌||◌, not, sym, ap, ◌∙◌, refl, subst, cond, arith, inr, Option, None, Some}
 use Rattle.std.specs.Prelude.{if◌then◌else◌, nat_lt, pos, negsuc, slice_get, Ok, ℤ}
 use Rattle.std.specs.List.{All}
 use Rattle.std.proofs.lemmas.List.{take_all}
@@ -11,31 +11,36 @@ use Rattle.dds_base.specs.declared.happening.Happening.{Happening}
 use Rattle.dds_base.specs.declared.happening.Happening.TheVariants.{Took}
 use Rattle.dds_base.specs.declared.mask.Masks.{Masks}
 use Rattle.dds_base.specs.declared.qos.ReaderQos.{ReaderQos}
+use Rattle.dds_base.specs.declared.change.ChangeKind.{ChangeKind}
+use Rattle.dds_base.specs.declared.change.ChangeKind.TheVariants.{Write, Dispose, Unregister, DisposeUnregister}
+use Rattle.dds_base.specs.declared.sample.InstanceState.TheVariants.{Alive, NotAliveDisposed, NotAliveNoWriters}
 use Rattle.dds_base.specs.declared.sample.Picked.{Picked}
 use Rattle.dds_base.specs.declared.sample.Sample.{Sample}
 use Rattle.dds_base.specs.declared.selection.Selection.{Selection}
 use Rattle.dds_base.specs.declared.selection.Selection.TheVariants.{Any, Instance, NextInstance, NextSample}
-use Rattle.dds_base.specs.Access.{at_most, collection_of, with_ranks}
+use Rattle.dds_base.specs.Access.{at_most, collection_of, state_of_known, with_ranks}
 use Rattle.dds_base.specs.Checked.{is_maximum, limit_of}
-use Rattle.dds_base.specs.Instance.{known_instances}
+use Rattle.dds_base.specs.Instance.{instance_state_of, known_instances}
+use Rattle.dds_base.specs.Life.{is_nobody, last_accepted, state_after}
+use Rattle.dds_base.specs.Ownership.{registered_writers}
 use Rattle.dds_base.specs.Selection.{picked_by, unless_bad}
 use Rattle.dds_info.specs.declared.ranks.Next.{Next}
 use Rattle.dds_info.specs.Ranking.{AreTold, StandsBefore}
 use Rattle.dds_instances.specs.Known.{IsReturnable}
-use Rattle.dds_instances.specs.Table.{Table, Stands}
+use Rattle.dds_instances.specs.Table.{Table, Stands, is_any_left}
 use Rattle.dds_cache.specs.declared.access.Candidate.{Candidate}
 use Rattle.dds_cache.specs.declared.access_kind.AccessKind.{AccessKind}
 use Rattle.dds_cache.specs.declared.access_kind.AccessKind.TheVariants.{Read, Take}
 use Rattle.dds_cache.specs.declared.kept.Kept.{Kept}
 use Rattle.dds_cache.specs.Kept.{IsKept, is_in, taken}
 use Rattle.dds_cache.specs.Finding.{AreCandidates, Finds, Holds, IsCandidate, IsFound, handle_in, sample_of}
-use Rattle.dds_cache.specs.Only.{HoldsOnly, IsOnly, IsTakeOfAll, Returns}
+use Rattle.dds_cache.specs.Only.{HasState, HoldsOnly, IsOnly, IsTakeOfAll, Returns}
 use Rattle.dds_cache.specs.Picking.{Picks, value_at}
 use Rattle.dds_cache.specs.Standing.{AccessAnswers, Stored, StandsFor, entry_of}
 use Rattle.dds_cache.specs.Sweeping.{left_since, stays}
 use Rattle.dds_cache.proofs.CollectionLaws.{collected-is}
 use Rattle.dds_cache.proofs.FindingLaws.{found-candidate, matched}
-use Rattle.dds_cache.proofs.KeptLaws.{some_kept}
+use Rattle.dds_cache.proofs.KeptLaws.{kept-stated, some_kept}
 use Rattle.dds_cache.proofs.PickLaws.{picked}
 use Rattle.dds_cache.proofs.PlaceLaws.{same-sample}
 use Rattle.dds_cache.proofs.StandingLaws.{holds, holds-in, holds-took, past-all, stands-entered}
@@ -76,6 +81,34 @@ pub found-only : (q : ReaderQos) (table : Table) (h : List Happening) (masks : M
 found-only q table h masks test ks k c is holds found =
     subst (λ (xs : List Kept). Finds q h masks test xs (c ∷ [])) (sym is)
     (found-alone q table h masks test k c (subst (λ (xs : List Kept). Holds q table xs h) is holds) found)
+
+-- the instance of a sample that is kept and found has a state, which is said of it
+pub found-state : (q : ReaderQos) (h : List Happening) (masks : Masks) (test : Key → List ℕ → Bool) (k : Kept) (at : ℕ)
+    (c : Candidate) → IsKept q h k → IsFound q h masks test k at c → HasState q h c
+found-state q h masks test k at c kept found = record {
+  known = λ none. kept-stated q h k kept
+      (sym (ap (λ (s : SamplePosition). instance_state_of q s.key h) found.sample_is) ∙ none);
+  state_is =
+      ap (λ (p : Picked). p.instance_state) found.picked_is
+      ∙ sym (ap (λ (s : SamplePosition). state_of_known (instance_state_of q s.key h)) found.sample_is);
+}
+
+-- somebody is registered for an instance that is alive
+alive-somebody : (last : Option ChangeKind) (nobody : Bool) → (state_after last nobody ≡ None → ⊥)
+    → Alive ≡ state_of_known (state_after last nobody) → nobody ≡ false
+alive-somebody None nobody some alive = absurd (some refl)
+alive-somebody (Some Write) true some alive = absurd (let clash : Alive ≡ NotAliveNoWriters = alive in cc)
+alive-somebody (Some Write) false some alive = refl
+alive-somebody (Some Dispose) nobody some alive = absurd (let clash : Alive ≡ NotAliveDisposed = alive in cc)
+alive-somebody (Some Unregister) nobody some alive = absurd (let clash : Alive ≡ NotAliveDisposed = alive in cc)
+alive-somebody (Some DisposeUnregister) nobody some alive = absurd (let clash : Alive ≡ NotAliveDisposed = alive in cc)
+
+pub alive-stays : (q : ReaderQos) (h : List Happening) (c : Candidate) → HasState q h c
+    → c.picked.instance_state ≡ Alive → is_any_left q h (c.sample ∷ []) ≡ false
+alive-stays q h c has alive =
+    ap (λ (b : Bool). b || false)
+    (alive-somebody (last_accepted q c.sample.key h) (is_nobody (registered_writers q c.sample.key h)) has.known
+    (sym alive ∙ has.state_is))
 
 -- one is as many as any valid maximum allows
 at-most-one : (max : ℤ) (c : Candidate) → is_maximum max ≡ true → c ∷ [] ≡ at_most (limit_of max) (c ∷ [])

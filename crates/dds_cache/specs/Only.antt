@@ -1,7 +1,7 @@
 -- A take of the only sample that is kept. Inner functions alone cite this: nothing here has to be believed.
 --
 -- DDS 1.4, 2.2.2.5 (take).
-use Rattle.std.specs.Prelude.{◌≡◌, ℕ, List, [], ◌∷◌, Bool, true, false, slice_index_or, Ok}
+use Rattle.std.specs.Prelude.{◌≡◌, ℕ, List, [], ◌∷◌, None, Bool, true, false, slice_index_or, Ok}
 use Rattle.dds_base.specs.declared.happening.SamplePosition.{SamplePosition}
 use Rattle.dds_base.specs.declared.happening.Happening.{Happening}
 use Rattle.dds_base.specs.declared.key.Key.{Key}
@@ -10,7 +10,9 @@ use Rattle.dds_base.specs.declared.qos.ReaderQos.{ReaderQos}
 use Rattle.dds_base.specs.declared.sample.Sample.{Sample}
 use Rattle.dds_base.specs.declared.selection.Selection.{Selection}
 use Rattle.dds_base.specs.declared.selection.Selection.TheVariants.{Any, Instance, NextInstance, NextSample}
+use Rattle.dds_base.specs.Access.{state_of_known}
 use Rattle.dds_base.specs.Checked.{is_maximum}
+use Rattle.dds_base.specs.Instance.{instance_state_of}
 use Rattle.dds_instances.specs.Table.{Table, is_any_left}
 use Rattle.dds_cache.specs.declared.access.Candidate.{Candidate}
 use Rattle.dds_cache.specs.declared.access_kind.AccessKind.{AccessKind}
@@ -36,6 +38,11 @@ pub record IsOnly (q : ReaderQos) (h : List Happening) (masks : Masks) (test : K
     (c : Candidate) : Type 0 where
   pub finds : Finds q h masks test ks (c ∷ [])
   pub registered : is_any_left q h (c.sample ∷ []) ≡ false
+
+-- the instance of a candidate has a state, which is the one that is said of it
+pub record HasState (q : ReaderQos) (h : List Happening) (c : Candidate) : Type 0 where
+  pub known : instance_state_of q c.sample.key h ≡ None → ⊥
+  pub state_is : c.picked.instance_state ≡ state_of_known (instance_state_of q c.sample.key h)
 
 -- the instances and the samples are those of what happened, this sample stands first, and a take of it ends no life
 pub record HoldsOnly (q : ReaderQos) (table : Table) (s : SamplePosition) (ks : List Kept) (h : List Happening)

@@ -103,6 +103,7 @@ impl Chains {
     }
 
     /// Forgets all. It costs what there is to forget, however much there is room for.
+    #[inline(always)]
     pub fn clear(&mut self)
         ensures { AreChainsOf [] self.new }
     {

@@ -2,16 +2,16 @@
 //!
 //! DDS 1.4, 2.2.2.5 (take).
 
-ghost use Rattle.std.specs.Prelude.{◌≡◌, ◌+◌, ◌≤◌, ◌<◌, ◌^◌, List, [], ◌∷◌, All, IfSome, length, slice_get, vec_len, vec_capacity};
+ghost use Rattle.std.specs.Prelude.{false, ◌≡◌, ◌+◌, ◌≤◌, ◌<◌, ◌^◌, List, [], ◌∷◌, All, IfSome, length, slice_get, vec_len, vec_capacity};
 ghost use Rattle.dds_base.specs.declared.happening.Happening.{Happening};
 ghost use Rattle.dds_base.specs.declared.happening.Happening.TheVariants.{Took};
 ghost use Rattle.dds_base.specs.declared.qos.ReaderQos.{ReaderQos};
 ghost use Rattle.dds_base.specs.Access.{own_generations};
-ghost use Rattle.dds_instances.specs.Table.{alive_of, room_of};
+ghost use Rattle.dds_instances.specs.Table.{Stands, alive_of, is_any_left, room_of};
 ghost use Rattle.dds_cache.specs.declared.access_kind.AccessKind.TheVariants.{Read};
 ghost use Rattle.dds_cache.specs.Finding.{Holds, IsSmall};
 ghost use Rattle.dds_cache.specs.Kept.{IsSummary};
-ghost use Rattle.dds_cache.specs.Only.{HoldsOnly, IsOnly, IsTakeOfAll};
+ghost use Rattle.dds_cache.specs.Only.{HasState, HoldsOnly, IsOnly, IsTakeOfAll};
 ghost use Rattle.dds_cache.specs.Picking.{value_at};
 
 use crate::access::{Candidate, as_candidate};
@@ -19,7 +19,7 @@ use crate::access_kind::AccessKind;
 use crate::kept::Kept;
 use crate::summary::Summary;
 use crate::test::Test;
-use dds_base::{Masks, Octets, ReaderQos, SamplePosition, Selection};
+use dds_base::{InstanceState, Masks, Octets, ReaderQos, SamplePosition, Selection};
 use dds_instances::Instances;
 use std::alloc::Global;
 use std::slice;
@@ -40,6 +40,19 @@ pub fn masks_of_all(kind: AccessKind, selection: &Selection) -> Option<Masks>
             }
         }
         AccessKind::Read => None,
+    }
+}
+
+/// Whether a take of this sample may end the life of its instance. Somebody is registered for one that is alive, which is
+/// not looked up once more.
+#[inline(always)]
+fn may_end(instances: &Instances, only: &Candidate) -> bool
+    ensures { result ≡ false → (q : ReaderQos) (h : List Happening) → Stands q instances.now h
+        → HasState q h only.now → is_any_left q h (only.now.sample ∷ []) ≡ false }
+{
+    match only.picked.instance_state {
+        InstanceState::Alive => false,
+        _ => instances.is_any_left(slice::from_ref(&only.sample)),
     }
 }
 
@@ -66,7 +79,7 @@ pub fn find_only<T: Test>(
     let Some(only) = as_candidate(instances, qos, masks, test, kept, 0) else {
         return None;
     };
-    if instances.is_any_left(slice::from_ref(&only.sample)) {
+    if may_end(instances, &only) {
         return None;
     }
     Some(only)

@@ -1,10 +1,8 @@
-use Rattle.std.proofs.Common.{◌≡◌, ◌∙◌, List, length, sym, ap, subst, arith}
-use Rattle.dds_base.specs.declared.happening.SamplePosition.{SamplePosition}
+use Rattle.std.proofs.Common.{◌≡◌, List, length, sym, subst, arith}
 use Rattle.dds_base.specs.declared.qos.ReaderQos.{ReaderQos}
-use Rattle.dds_instances.specs.Table.{is_any_left}
 use Rattle.dds_cache.specs.declared.kept.Kept.{Kept}
 use Rattle.dds_cache.specs.Kept.{IsKept}
-use Rattle.dds_cache.proofs.OnlyLaws.{alone, found-only}
+use Rattle.dds_cache.proofs.OnlyLaws.{alone, found-only, found-state}
 use Rattle.dds_cache.proofs.only.find_only.Goals as goal
 
 pub returns-clause-only : goal.returns-clause-only
@@ -19,7 +17,7 @@ returns-clause-only g c = λ h holds.
       finds =
           found-only q c.args.instances.now h c.args.masks (g.T.Test.meaning c.args.test.now) ks k c.in-Some.only
           (alone ks k one c.kept-item.is) holds (c.in-Some.ensures.wanted h holds.instances kept);
-      registered =
-          ap (λ (ss : List SamplePosition). is_any_left q h ss) (sym c.from_ref.ensures.value)
-          ∙ (sym (c.is_any_left.ensures.left q h holds.instances) ∙ c.if-is_any_left.false);
+      registered = c.may_end.ensures c.if-may_end.false q h holds.instances
+          (found-state q h c.args.masks (g.T.Test.meaning c.args.test.now) k 0 c.in-Some.only kept
+          (c.in-Some.ensures.wanted h holds.instances kept));
     }
