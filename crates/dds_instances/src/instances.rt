@@ -385,6 +385,7 @@ impl Instances {
     }
 
     /// Whether nobody is registered for the instance of some of these samples: then a take of them may end its life.
+    #[inline(always)]
     pub fn is_any_left(&self, samples: &[SamplePosition]) -> bool
         // It is so by the definitions.
         ensures left { (q : ReaderQos) (h : List Happening) → Stands q self.now h
