@@ -9,7 +9,7 @@ ghost use Rattle.dds_core.specs.Twins.{Twins, wants_two};
 ghost use Rattle.dds_core.specs.declared.twin.Twin.TheVariants.{Kept};
 
 use crate::twin::Twin;
-use dds_base::{PassedRun, Sequence};
+use dds_base::{PassedRun, Sequence, reserve_few};
 use dds_machine::{Move, Reply, Report};
 use std::alloc::{AllocError, Global};
 use std::marker::Model;
@@ -211,7 +211,7 @@ impl Moves {
         ensures twice { self.new.twice ≡ self.old.twice }
         ensures ok { OnOk result (self.new.room ≡ count) }
     {
-        self.moves.reserve(count)?;
+        reserve_few(&mut self.moves, count)?;
         if let Some(copies) = &mut self.copies {
             copies.reserve(count)?;
         }

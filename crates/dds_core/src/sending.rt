@@ -13,7 +13,7 @@ ghost use Rattle.dds_core.specs.Sending.{AreMessages, max_unsent};
 ghost use Rattle.dds_core.specs.Announcing.{message_of, AreAnnouncements, AddsOctets, AddsPacket};
 
 use crate::matching::Destination;
-use dds_base::{EntityId, GuidPrefix, Moment, Octets, Sn};
+use dds_base::{EntityId, GuidPrefix, Moment, Octets, Sn, reserve_few};
 use dds_protocol::Packet;
 use rtps_wire::{Data, DataContent, Message, write_change, write_message};
 use std::alloc::{AllocError, Global};
@@ -132,6 +132,8 @@ pub fn announce(
         result.packets.items }
 {
     let mut packets = list;
+    // Where this is refused, each packet asks again.
+    let _room = reserve_few(&mut packets, destinations.len());
     let change = Data {
         reader_id: EntityId::UNKNOWN,
         writer_id: sender.entity,
