@@ -151,6 +151,7 @@ fn push_begun(moves: &mut Moves, writer: Endpoint, reader: u8, from: Sn, begun: 
 }
 
 /// Adds what a reader's step moved, for which there is room: the place in a writer's list goes on from this number.
+#[inline(always)]
 fn push_moves(moves: &mut Moves, writer: Endpoint, reader: u8, from: Sn, step: Step)
     requires few { length step.passed ≤ 257 }
     requires room { 3 ≤ moves.old.room }

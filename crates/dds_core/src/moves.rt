@@ -220,6 +220,7 @@ impl Moves {
     }
 
     /// Adds a move, for which there is room.
+    #[inline(always)]
     pub fn push_reserved(&mut self, made: Move)
         requires room { 1 ≤ self.old.room }
         requires few { IsFew made }
