@@ -14,7 +14,8 @@ pub data Written : Type 0 where
   Asserted : (moment : ℕ) → Written
   LookedAt : Written
   StrengthSet : (strength : ℤ) → Written
-  Ticked : (now : ℕ) → (behind : Bool) → Written  -- behind: some matched reliable reader had not acknowledged all
+  -- behind: some matched reliable reader had not acknowledged all, or had asked for a HEARTBEAT
+  Ticked : (now : ℕ) → (behind : Bool) → Written
 
 -- the changes, in the order of their numbers, which count from 1
 abbrev pub changes_of : List Written → List Change
@@ -82,7 +83,8 @@ liveliness_lost_status lease c = record {
 }
 
 -- What each HEARTBEAT count of a writer numbers, in order: an assertion, or not. A count is due to each assertion,
--- whether or not somebody is told of it, and to each tick at which some reader was behind.
+-- whether or not somebody is told of it, and to each tick at which some reader was behind, or had asked for a
+-- HEARTBEAT.
 abbrev pub counts_of : List Written → List Bool
 counts_of [] = []
 counts_of (Asserted moment ∷ c) = counts_of c ++ true ∷ []

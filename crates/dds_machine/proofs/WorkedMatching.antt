@@ -1,6 +1,6 @@
 -- Who is matched with whom, computed: a writer that a reader joins, leaves and joins again, and a reader that is told
 -- of writers, and that one has left.
-use Rattle.std.proofs.Common.{◌≡◌, ℕ, true, false, List, [], ◌∷◌, Option, Some, None, length, refl}
+use Rattle.std.proofs.Common.{◌≡◌, true, false, List, [], ◌∷◌, Some, None, length, refl}
 use Rattle.std.specs.Prelude.{negsuc, pos}
 use Rattle.dds_base.specs.declared.change.Change.{Change}
 use Rattle.dds_base.specs.declared.change.ChangeKind.TheVariants.{Write as Writes}
@@ -8,7 +8,7 @@ use Rattle.dds_base.specs.declared.code.Code.TheVariants.{BadParameter, Precondi
 use Rattle.dds_base.specs.declared.happening.Happening.TheVariants.{Died, Heard, Left}
 use Rattle.dds_base.specs.Written.{Changed}
 use Rattle.dds_base.specs.declared.endpoint.Endpoint.{Endpoint}
-use Rattle.dds_machine.specs.Matching.{MatchReader, MatchWriter, UnmatchReader, UnmatchWriter, after_telling, attached_count, happened_after, is_matched, joined, knows_reliable, left, matched_status, seen_matches, telling_refusal, with_how, with_match}
+use Rattle.dds_machine.specs.Matching.{MatchReader, MatchWriter, UnmatchReader, after_telling, attached_count, happened_after, is_matched, joined, knows_reliable, left, matched_status, seen_matches, telling_refusal, with_how, with_match}
 use Rattle.dds_machine.specs.Part.{Away, Begun, Matches, Waiting, Part, Writer, WriterProxy, acknowledged_of, has_readers, how_of, no_part, no_writer, opened_with, owed_from, own_writer, place_of, publication_among}
 
 abbrev r1 : Endpoint

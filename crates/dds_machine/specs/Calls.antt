@@ -6,6 +6,7 @@
 -- lookup_instance, get_sample_lost_status, get_liveliness_changed_status, get_subscription_matched_status), 2.2.1.1
 -- (return codes); RTPS 2.5, 8.4.7.4, 8.4.10.3 (matched_reader_add, matched_writer_add and their removals).
 use Rattle.std.specs.Prelude.{◌≡◌, ◌≢◌, ◌⊎◌, ℕ, ◌+◌, ◌-◌, ◌^◌, ◌≤◌, nat_lt, not, Bool, true, false, List, [], ◌∷◌, length, Option, Some, None, is_some}
+use Rattle.std.specs.Option.{option_map_or}
 use Rattle.dds_base.specs.declared.change.ChangeKind.TheVariants as kind
 use Rattle.dds_base.specs.declared.code.Code.{Code}
 use Rattle.dds_base.specs.declared.code.Code.TheVariants.{Memory, NoData, Timeout}
@@ -33,9 +34,9 @@ use Rattle.dds_conditions.specs.declared.condition.Cond.{Cond}
 use Rattle.dds_conditions.specs.declared.condition.Condition.TheVariants.{Guard, Samples as OfSamples}
 use Rattle.dds_conditions.specs.Attached.{active_of, is_attached}
 use Rattle.dds_conditions.specs.Watched.{Watched, attach_refusal, conditions_of, detaching_refusal, free_refusal, guard_refusal, is_timed_out, knows, knows_entity, number_refusal, unless_there, use_refusal, with_attached, with_condition, with_condition_at, with_deadline, with_detached, with_enabled, with_wait_set, with_wait_set_at, without_condition}
-use Rattle.dds_machine.specs.Matching.{Telling, MatchReader as HasReader, UnmatchReader as HasReaderNoMore, MatchWriter as HasWriter, UnmatchWriter as HasWriterNoMore, TellingMayWantMemory, after_telling, handle_among, knows_reliable, publication_matched, reader_looked_at, seen_after_telling, subscription_matched, telling_refusal, writer_looked_at}
+use Rattle.dds_machine.specs.Matching.{Telling, MatchReader as HasReader, UnmatchReader as HasReaderNoMore, MatchWriter as HasWriter, UnmatchWriter as HasWriterNoMore, TellingMayWantMemory, after_telling, knows_reliable, publication_matched, reader_looked_at, seen_after_telling, subscription_matched, telling_refusal, writer_looked_at}
 use Rattle.dds_machine.specs.Watching.{Test, Tests, condition_refusal, condition_selection, condition_test, query_condition_refusal, read_condition_refusal, status_changes, trigger_value}
-use Rattle.dds_machine.specs.Part.{Part, Rtps, Dds, Seen, Reader, Writer, own_writer, own_proxies, own_reader, with_reader, with_writer}
+use Rattle.dds_machine.specs.Part.{Part, Rtps, Dds, Seen, Reader, Writer, own_writer, own_proxies, own_reader, publication_among, with_reader, with_writer}
 use Rattle.dds_machine.specs.Refusals.{change_made, unregister_kind, writer_refusal, write_refusal, dispose_refusal, unregister_refusal, assert_refusal, strength_refusal, access_refusal, key_of, key_refusal, reader_refusal}
 
 -- the samples that an access of the peer's reader returns
@@ -118,7 +119,7 @@ effect_of part (Unregister writer key) Done =
 effect_of part (AssertLiveliness writer) Done = writes writer (Asserted part.dds.moment)
 effect_of part (SetStrength writer strength) Done = writes writer (StrengthSet strength)
 effect_of part (GetLivelinessLost writer) (LivelinessLost status) = writes writer LookedAt
-effect_of part (MatchReader writer reader) Done = tells (reader_told part writer reader)
+effect_of part (MatchReader writer reader greeted) Done = tells (reader_told part writer reader)
 effect_of part (UnmatchReader writer reader) Done = tells (HasReaderNoMore writer reader)
 effect_of part (MatchWriter reader writer) (InstanceHandle handle) = tells (HasWriter reader writer)
 effect_of part (UnmatchWriter reader writer) Done = tells (HasWriterNoMore reader writer)
@@ -297,13 +298,13 @@ Answers tests old (GetStatusChanges entity) reply dds =
     IsAnsweredWatching (unless_there (knows_entity old.dds.watch entity))
     (StatusChanges (status_changes old entity)) old.dds.watch old reply dds
 -- .. of who is matched with a writer or a reader
-Answers tests old (MatchReader writer reader) reply dds =
+Answers tests old (MatchReader writer reader greeted) reply dds =
     AnswersTelling (reader_told old writer reader) Done old reply dds
 Answers tests old (UnmatchReader writer reader) reply dds =
     AnswersTelling (HasReaderNoMore writer reader) Done old reply dds
 Answers tests old (MatchWriter reader writer) reply dds =
-    AnswersTelling (HasWriter reader writer) (InstanceHandle (handle_among (own_proxies old reader) writer)) old
-    reply dds
+    AnswersTelling (HasWriter reader writer)
+    (InstanceHandle (option_map_or (λ handle. handle) (publication_among (own_proxies old reader) writer) 0)) old reply dds
 Answers tests old (UnmatchWriter reader writer) reply dds =
     AnswersTelling (HasWriterNoMore reader writer) Done old reply dds
 Answers tests old (GetPublicationMatched writer) reply dds =

@@ -4,7 +4,7 @@
 -- RTPS 2.5, 8.4.7.4 (StatefulWriter, matched_reader_add, matched_reader_remove), 8.4.10.3 (StatefulReader,
 -- matched_writer_add, matched_writer_remove); DDS 1.4, 2.2.3 (DURABILITY: VOLATILE), 2.2.4.1
 -- (PUBLICATION_MATCHED, SUBSCRIPTION_MATCHED), 2.2.1.1 (return codes).
-use Rattle.std.specs.Prelude.{◌≡◌, ℕ, ◌+◌, ◌-◌, ◌^◌, ◌<◌, ◌==◌, ◌||◌, nat_lt, min, pos, ◌-ℤ◌, Bool, true, false, not, if◌then◌else◌, List, [], ◌∷◌, ◌++◌, length, filter, count_by, Option, Some, None, is_some}
+use Rattle.std.specs.Prelude.{◌≡◌, ℕ, ◌+◌, ◌-◌, ◌^◌, ◌<◌, ◌==◌, ◌||◌, nat_lt, min, pos, ◌-ℤ◌, Bool, false, not, if◌then◌else◌, List, [], ◌∷◌, ◌++◌, length, filter, count_by, Option, Some, None, is_some}
 use Rattle.std.specs.List.{list_any}
 use Rattle.std.specs.Option.{option_map_or}
 use Rattle.dds_base.specs.declared.code.Code.{Code}
@@ -80,10 +80,6 @@ abbrev pub with_match : List WriterProxy → Endpoint → List WriterProxy
 with_match rows writer =
     if is_known rows writer then with_how rows writer Waiting
     else rows ++ record { writer = writer; place = 1; heard = None; how = Waiting } ∷ []
-
--- the publication handle of the writer; NIL where the reader doesn't know it
-abbrev pub handle_among : List WriterProxy → Endpoint → ℕ
-handle_among rows writer = option_map_or (λ handle. handle) (publication_among rows writer) 0
 
 -- how many writers the reader is matched with
 abbrev pub attached_count : List WriterProxy → ℕ

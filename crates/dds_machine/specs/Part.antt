@@ -214,10 +214,8 @@ with_acknowledged rows reader to =
 -- there. To one that it is not matched with it owes none that it has made.
 abbrev pub owed_from : Writer → Endpoint → ℕ
 owed_from w reader =
-    min
-    (option_map_or (λ (p : ReaderProxy). p.first) (row_of (λ (p : ReaderProxy). p.reader) w.readers reader)
-    (length (writer_changes w) + 1))
-    (length (writer_changes w) + 1)
+    min (option_map_or (λ (p : ReaderProxy). p.first) (row_of (λ (p : ReaderProxy). p.reader) w.readers reader)
+    (length (writer_changes w) + 1)) (length (writer_changes w) + 1)
 
 -- the place in this writer's list, if the reader knows it
 abbrev pub place_of : List WriterProxy → Endpoint → Option ℕ

@@ -203,6 +203,10 @@ pub enum Call {
     MatchReader {
         writer: u8,
         reader: Endpoint,
+        /// Whether the reader is told no more than where it begins until it has answered: so a product that takes the
+        /// first HEARTBEAT which it hears as its start misses nothing (RTPS 2.5, 8.3.8: Heartbeat). It is nothing to a
+        /// best-effort reader.
+        greeted: bool,
     },
     /// A writer is told that a reader has left: it keeps nothing for it, waits for it no longer and sends it nothing
     /// (RTPS 2.5, 8.4.7.4, matched_reader_remove). `BadParameter` for a reader that is none of the writer's topic,
@@ -366,9 +370,14 @@ impl Clone for Call {
                 mask: *mask,
             },
             Call::GetStatusChanges { entity } => Call::GetStatusChanges { entity: *entity },
-            Call::MatchReader { writer, reader } => Call::MatchReader {
+            Call::MatchReader {
+                writer,
+                reader,
+                greeted,
+            } => Call::MatchReader {
                 writer: *writer,
                 reader: *reader,
+                greeted: *greeted,
             },
             Call::UnmatchReader { writer, reader } => Call::UnmatchReader {
                 writer: *writer,
