@@ -106,9 +106,12 @@ def take_number(order: str, octets: bytes, at: int, least: int = 1) -> int:
     return value
 
 
-def take_set(order: str, octets: bytes, at: int) -> Set:
-    base, (bits,) = take_number(order, octets, at), take(order, "I", octets, at + 8)
-    if bits > MOST_BITS:
+def take_set(order: str, octets: bytes, at: int, is_acknack: bool = False) -> Set:
+    """A set; an empty one of base 0 is one of base 1 where it is an ACKNACK's."""
+    base, (bits,) = take_number(order, octets, at, 0), take(order, "I", octets, at + 8)
+    if is_acknack and (base, bits) == (0, 0):
+        base = 1
+    if base < 1 or bits > MOST_BITS:
         raise ValueError
     words = take(order, f"{(bits + 31) // 32}I", octets, at + 12)
     members = frozenset(base + it for it in range(bits) if words[it // 32] >> (31 - it % 32) & 1)
@@ -173,7 +176,7 @@ def read_other(order: str, kind: int, flags: int, body: bytes) -> Said:
     if kind == GAP:
         start, numbers = take_number(order, body, 8), take_set(order, body, 16)
         return Said("gap", reader, writer, start, max([numbers.base - 1, *numbers.members]), (numbers.base, numbers.members))
-    asked = take_set(order, body, 8)
+    asked = take_set(order, body, 8, is_acknack=True)
     (count,) = take(order, "i", body, asked.end)
     return Said("acknack", reader, writer, asked.base, max([asked.base, *asked.members]), (count, asked.members))
 

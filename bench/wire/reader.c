@@ -144,9 +144,14 @@ static int take_ids(struct cursor *from, struct ids *ids) {
     return take_octets(from, ids->reader, 4) && take_octets(from, ids->writer, 4);
 }
 
-static int take_set(struct cursor *from, struct number_set *set) {
+/* An empty set of base 0 is one of base 1 where it is an ACKNACK's. */
+static int take_set(struct cursor *from, int is_acknack, struct number_set *set) {
     uint32_t bits;
-    if (!take_number(from, &set->base) || !take_u32(from, &bits) || set->base < 1 || bits > MOST_BITS)
+    if (!take_number(from, &set->base) || !take_u32(from, &bits) || bits > MOST_BITS)
+        return 0;
+    if (is_acknack && set->base == 0 && bits == 0)
+        set->base = 1;
+    if (set->base < 1)
         return 0;
     memset(set->words, 0, sizeof set->words);
     for (uint32_t at = 0; at < (bits + 31) / 32; at++)
@@ -268,11 +273,11 @@ static int read_heartbeat(uint8_t flags, struct cursor from, struct heartbeat *h
 
 static int read_acknack(uint8_t flags, struct cursor from, struct acknack *acknack) {
     acknack->final = (flags & FINAL) != 0;
-    return take_ids(&from, &acknack->ids) && take_set(&from, &acknack->missing) && take_count(&from, &acknack->count);
+    return take_ids(&from, &acknack->ids) && take_set(&from, 1, &acknack->missing) && take_count(&from, &acknack->count);
 }
 
 static int read_gap(struct cursor from, struct gap *gap) {
-    return take_ids(&from, &gap->ids) && take_number(&from, &gap->start) && gap->start >= 1 && take_set(&from, &gap->list);
+    return take_ids(&from, &gap->ids) && take_number(&from, &gap->start) && gap->start >= 1 && take_set(&from, 0, &gap->list);
 }
 
 static int read_info_ts(uint8_t flags, struct cursor from, struct info_ts *info) {

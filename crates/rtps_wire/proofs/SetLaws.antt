@@ -1,22 +1,23 @@
 -- Sets in bytes are read as they stand there.
-use Rattle.std.proofs.Common.{◌≡◌, ℕ, zero, suc, ◌+◌, ◌-◌, ◌*◌, ◌/◌, ◌%◌, ◌^◌, ◌<◌, ◌≤◌, Bool, false, cond, eqb, ltb, ◌&&◌, ◌||◌, List, [], ◌∷◌, ◌++◌, length, get_or, take, drop, replicate, Option, Some, None, refl, sym, ap, subst, ◌∙◌, append_assoc, arith, inl, inr}
+use Rattle.std.proofs.Common.{◌≡◌, ℕ, zero, suc, ◌+◌, ◌-◌, ◌*◌, ◌/◌, ◌%◌, ◌^◌, ◌<◌, ◌≤◌, Bool, true, false, cond, eqb, ltb, ◌&&◌, ◌||◌, List, [], ◌∷◌, ◌++◌, length, get_or, take, drop, replicate, Option, Some, None, refl, sym, ap, subst, ◌∙◌, append_assoc, arith, inl, inr}
 use Rattle.std.specs.Prelude.{◌⊎◌}
 use Rattle.std.specs.List.{flat_map, AllByRecursion}
 use Rattle.std.specs.Option.{option_map}
 use Rattle.std.specs.Int.{w32, bit_at}
 use Rattle.std.specs.Int.RustNames.{bit_and}
-use Rattle.std.proofs.lemmas.Bool.{cases_lt, ltb-false, le-ltb, lt-ltb}
+use Rattle.std.proofs.lemmas.Bool.Decides.{nat_tests}
+use Rattle.std.proofs.lemmas.Bool.{cases_lt, eqb-true, ltb-false, le-ltb, lt-ltb}
 use Rattle.std.proofs.lemmas.List.{length-append, length-replicate, get_or_append_left, get_or-append_right, get_or-append-add, get_or-replicate, get_or-take, ext_get_or, length-take-le, append-nil, drop-drop, length-drop}
 use Rattle.std.proofs.lemmas.Nat.Bits.{shr_and_one}
 use Rattle.std.proofs.lemmas.Option.{option_and_then_some}
 use Rattle.dds_base.specs.declared.endianness.Endianness.{Endianness}
 use Rattle.dds_base.specs.Fields.{number, number_at, number_of, ◌>>=◌}
-use Rattle.dds_base.proofs.FieldLaws.{AreOctets, Takes, Takes-then, IsField, guard_some, some_is, field_u32}
+use Rattle.dds_base.proofs.FieldLaws.{AreOctets, Takes, Takes-then, guard_some, some_is, field_u32}
 use Rattle.rtps_sets.specs.NumberSet.{NumberSet}
 use Rattle.rtps_wire.specs.Fields.{sn_text}
 use Rattle.rtps_wire.specs.FieldAt.{sn_at}
-use Rattle.rtps_wire.specs.Sets.{bits_below, word_bits, SetField, set_text, words_for, IsSetField, set_of, ReadsSet}
-use Rattle.rtps_wire.specs.SetAt.{words_at, set_field_at, set_at}
+use Rattle.rtps_wire.specs.Sets.{bits_below, word_bits, SetField, acknack_base, acknack_field, set_text, words_for, IsSetField, set_of, ReadsAckNackSet, ReadsSet}
+use Rattle.rtps_wire.specs.SetAt.{acknack_field_at, acknack_set_at, words_at, set_after, set_field_at, set_at}
 use Rattle.rtps_wire.proofs.WireFields.{field_sn}
 use Rattle.rtps_wire.proofs.TestLaws.{neither}
 
@@ -115,52 +116,87 @@ words_again order (suc n) (w ∷ ws) rest fits =
           (omega (arith, fits.0), fits.1.1),
     ) refl
 
-set_field_takes : (order : Endianness) (bytes : List ℕ) (r : SetField) (rest : List ℕ) → AreOctets bytes
-    → set_field_at order bytes ≡ Some (r, rest)
-    → Takes bytes (set_text order r) rest × IsSetField r
-unfolding set_field_at
-set_field_takes order bytes r rest octets e =
-    option_and_then_some (λ b. number_at order w32 b.1 >>= λ c. cond (ltb b.0 1 || ltb 256 c.0) None
-    (words_at order (words_for c.0) c.1) >>= λ w. Some (record { base = b.0; num_bits = c.0; words = w.0 }, w.1))
+-- what is read of a set after its base and its number of bits
+record TakesAfter (order : Endianness) (base bits : ℕ) (bytes : List ℕ) (r : SetField) (rest : List ℕ) : Type 0 where
+  is : r ≡ record { base = base; num_bits = bits; words = r.words }
+  valid : IsSetField r
+  text : Takes bytes (flat_map (number order w32) r.words) rest
+
+after_takes : (order : Endianness) (base num_bits : ℕ) (bytes : List ℕ) (r : SetField) (rest : List ℕ) → AreOctets bytes
+    → base ≤ 2 ^ 62 → set_after order base num_bits bytes ≡ Some (r, rest)
+    → TakesAfter order base num_bits bytes r rest
+unfolding set_after
+after_takes order base num_bits bytes r rest octets small e =
+    let refused = ltb base 1 || ltb 256 num_bits in
+    option_and_then_some (λ w. Some (record { base = base; num_bits = num_bits; words = w.0 }, w.1))
+    (cond (ltb base 1 || ltb 256 num_bits) None (words_at order (words_for num_bits) bytes)) (r, rest) e (λ w q e1.
+    let g = guard_some refused (words_at order (words_for num_bits) bytes) w q in
+    let n = neither (ltb base 1) (ltb 256 num_bits) g.0 in
+    let t = words_takes order (words_for num_bits) bytes w.0 w.1 octets g.1 in
+    let made : SetField × List ℕ = (record { base = base; num_bits = num_bits; words = w.0 }, w.1) in
+    subst (λ (p : SetField × List ℕ). TakesAfter order base num_bits bytes p.0 p.1) (some_is made (r, rest) e1)
+    (record {
+      is = refl;
+      valid =
+          record { first = ltb-false _ _ n.0; small = small; few = ltb-false _ _ n.1; enough = t.1.0; each = t.1.1 };
+      text = t.0;
+    }))
+
+-- a set that is read with a base by its own and its number of bits
+abbrev field_by : (ℕ → ℕ → ℕ) → Endianness → List ℕ → Option (SetField × List ℕ)
+field_by base_of order bytes =
+    sn_at order bytes >>= λ b. number_at order w32 b.1 >>= λ c. set_after order (base_of b.0 c.0) c.0 c.1
+
+abbrev with_base : (ℕ → ℕ → ℕ) → SetField → SetField
+with_base base_of f = record f { base = base_of f.base f.num_bits }
+
+record TakesField (base_of : ℕ → ℕ → ℕ) (order : Endianness) (bytes : List ℕ) (r : SetField) (rest : List ℕ)
+    : Type 0 where
+  field : SetField
+  is : r ≡ with_base base_of field
+  valid : IsSetField r
+  text : Takes bytes (set_text order field) rest
+
+field_takes : (base_of : ℕ → ℕ → ℕ) → ((base n : ℕ) → base ≤ 2 ^ 62 → base_of base n ≤ 2 ^ 62)
+    → (order : Endianness) (bytes : List ℕ) (r : SetField) (rest : List ℕ) → AreOctets bytes
+    → field_by base_of order bytes ≡ Some (r, rest) → TakesField base_of order bytes r rest
+field_takes base_of small order bytes r rest octets e =
+    option_and_then_some (λ b. number_at order w32 b.1 >>= λ c. set_after order (base_of b.0 c.0) c.0 c.1)
     (sn_at order bytes) (r, rest) e (λ b q1 e1.
     let t0 = (field_sn order).takes bytes b.0 b.1 octets q1 in
-    option_and_then_some (λ c. cond (ltb b.0 1 || ltb 256 c.0) None (words_at order (words_for c.0) c.1) >>= λ w. Some
-    (record { base = b.0; num_bits = c.0; words = w.0 }, w.1)) (number_at order w32 b.1) (r, rest) e1 (λ c q2 e2.
+    option_and_then_some (λ c. set_after order (base_of b.0 c.0) c.0 c.1) (number_at order w32 b.1) (r, rest) e1
+    (λ c q2 e2.
     let t1 = (field_u32 order).takes b.1 c.0 c.1 t0.0.octets q2 in
-    option_and_then_some (λ w. Some (record { base = b.0; num_bits = c.0; words = w.0 }, w.1))
-    (cond (ltb b.0 1 || ltb 256 c.0) None (words_at order (words_for c.0) c.1)) (r, rest) e2 (λ w q3 e3.
-    let g = guard_some (ltb b.0 1 || ltb 256 c.0) (words_at order (words_for c.0) c.1) w q3 in
-    let n = neither (ltb b.0 1) (ltb 256 c.0) g.0 in
-    let t2 = words_takes order (words_for c.0) c.1 w.0 w.1 t1.0.octets g.1 in
-    let made : SetField × List ℕ = (record { base = b.0; num_bits = c.0; words = w.0 }, w.1) in
-    subst (λ (p : SetField × List ℕ). Takes bytes (set_text order p.0) p.1 × IsSetField p.0) (some_is made (r, rest) e3) (
-      Takes-then bytes (sn_text order b.0 ++ number order w32 c.0) c.1 (flat_map (number order w32) w.0) w.1
-          (Takes-then bytes (sn_text order b.0) b.1 (number order w32 c.0) c.1 t0.0 t1.0) t2.0,
-      record { first = ltb-false _ _ n.0; small = t0.1; few = ltb-false _ _ n.1; enough = t2.1.0; each = t2.1.1 },
-    ))))
+    let t2 = after_takes order (base_of b.0 c.0) c.0 c.1 r rest t1.0.octets (small b.0 c.0 t0.1) e2 in
+    record {
+      field = record { base = b.0; num_bits = c.0; words = r.words };
+      is = t2.is;
+      valid = t2.valid;
+      text =
+          Takes-then bytes (sn_text order b.0 ++ number order w32 c.0) c.1 (flat_map (number order w32) r.words) rest
+          (Takes-then bytes (sn_text order b.0) b.1 (number order w32 c.0) c.1 t0.0 t1.0) t2.text;
+    }))
 
-set_field_again : (order : Endianness) (r : SetField) (rest : List ℕ) → IsSetField r
-    → set_field_at order (set_text order r ++ rest) ≡ Some (r, rest)
-unfolding set_field_at
-set_field_again order r rest fits =
-    let early : ltb r.base 1 ≡ false = le-ltb _ _ fits.first in
-    let many : ltb 256 r.num_bits ≡ false = le-ltb _ _ fits.few in
-    let small : r.num_bits < 2 ^ 32 = omega (arith, fits.few) in
-    ap (set_field_at order) (append_assoc (sn_text order r.base ++ number order w32 r.num_bits)
-    (flat_map (number order w32) r.words) rest
-    ∙ append_assoc (sn_text order r.base) (number order w32 r.num_bits)
-    (flat_map (number order w32) r.words ++ rest))
+field_again : (base_of : ℕ → ℕ → ℕ) (order : Endianness) (f : SetField) (rest : List ℕ) → f.base ≤ 2 ^ 62
+    → IsSetField (with_base base_of f)
+    → field_by base_of order (set_text order f ++ rest) ≡ Some (with_base base_of f, rest)
+unfolding set_after
+field_again base_of order f rest small fits =
+    let early : ltb (base_of f.base f.num_bits) 1 ≡ false = le-ltb _ _ fits.first in
+    let many : ltb 256 f.num_bits ≡ false = le-ltb _ _ fits.few in
+    let bits : f.num_bits < 2 ^ 32 = omega (arith, fits.few) in
+    ap (field_by base_of order) (append_assoc (sn_text order f.base ++ number order w32 f.num_bits)
+    (flat_map (number order w32) f.words) rest
+    ∙ append_assoc (sn_text order f.base) (number order w32 f.num_bits)
+    (flat_map (number order w32) f.words ++ rest))
     ∙ rw (
-      (field_sn order).again r.base (number order w32 r.num_bits ++ (flat_map (number order w32) r.words ++ rest))
-          fits.small,
-      (field_u32 order).again r.num_bits (flat_map (number order w32) r.words ++ rest) small,
+      (field_sn order).again f.base (number order w32 f.num_bits ++ (flat_map (number order w32) f.words ++ rest))
+          small,
+      (field_u32 order).again f.num_bits (flat_map (number order w32) f.words ++ rest) bits,
       early,
       many,
-      words_again order (words_for r.num_bits) r.words rest (fits.enough, fits.each),
+      words_again order (words_for f.num_bits) f.words rest (fits.enough, fits.each),
     ) refl
-
-pub field_set : (order : Endianness) → IsField (set_text order) IsSetField (set_field_at order)
-field_set order = record { takes = set_field_takes order; again = set_field_again order }
 
 -- ---- the bits
 
@@ -244,24 +280,95 @@ members_are ws count members few enough long each =
 
 -- ---- a set
 
-pub record TakesSet (order : Endianness) (bytes : List ℕ) (x : NumberSet × List ℕ) : Type 0 where
-  pub reads : ReadsSet order bytes x.0 x.1
+pub record TakesSet (Reads : NumberSet → List ℕ → Type 0) (x : NumberSet × List ℕ) : Type 0 where
+  pub reads : Reads x.0 x.1
   pub octets : AreOctets x.1
 
+own_base : ℕ → ℕ → ℕ
+own_base base n = base
+
 pub set_found : (order : Endianness) (bytes : List ℕ) (x : NumberSet × List ℕ) → AreOctets bytes
-    → set_at order bytes ≡ Some x → TakesSet order bytes x
-unfolding set_at
+    → set_at order bytes ≡ Some x → TakesSet (ReadsSet order bytes) x
+unfolding set_at set_field_at own_base
 set_found order bytes x octets e =
     option_and_then_some (λ r. Some (set_of r.0, r.1)) (set_field_at order bytes) x e (λ r q p.
-    let t = set_field_takes order bytes r.0 r.1 octets q in
-    subst (λ (y : NumberSet × List ℕ). TakesSet order bytes y) (some_is (set_of r.0, r.1) x p) (record {
-      reads = record { field = r.0; valid = t.1; text = t.0.parts; set = refl };
-      octets = t.0.octets;
+    let t = field_takes own_base (λ base n small. small) order bytes r.0 r.1 octets q in
+    subst (λ (y : NumberSet × List ℕ). TakesSet (ReadsSet order bytes) y) (some_is (set_of r.0, r.1) x p) (record {
+      reads =
+          record {
+            field = r.0;
+            valid = t.valid;
+            text = t.text.parts ∙ ap (λ (f : SetField). set_text order f ++ r.1) (sym t.is);
+            set = refl;
+          };
+      octets = t.text.octets;
     }))
 
 pub set_only : (order : Endianness) (bytes : List ℕ) (s : NumberSet) (rest : List ℕ) → ReadsSet order bytes s rest
     → set_at order bytes ≡ Some (s, rest)
-unfolding set_at
+unfolding set_at set_field_at own_base
 set_only order bytes s rest r =
-    ap (set_at order) r.text ∙ rw (set_field_again order r.field rest r.valid)
+    ap (set_at order) r.text ∙ rw (field_again own_base order r.field rest r.valid.small r.valid)
     (ap (λ (z : NumberSet). Some (z, rest)) (sym r.set))
+
+-- ---- the set of an ACKNACK
+
+acknack_base_small : (base n : ℕ) → base ≤ 2 ^ 62 → acknack_base base n ≤ 2 ^ 62
+acknack_base_small base n small = by (eqb base 0 && eqb n 0)
+  where
+    by : (b : Bool) → cond b 1 base ≤ 2 ^ 62
+    by true = omega arith
+    by false = small
+
+small_by_acknack_base : (base n : ℕ) → acknack_base base n ≤ 2 ^ 62 → base ≤ 2 ^ 62
+small_by_acknack_base base n small = by (eqb base 0) refl small
+  where
+    by : (b : Bool) → eqb base 0 ≡ b → cond (b && eqb n 0) 1 base ≤ 2 ^ 62 → base ≤ 2 ^ 62
+    by true is le = omega (arith, eqb-true base 0 is)
+    by false is le = le
+
+pub acknack_set_found : (order : Endianness) (bytes : List ℕ) (x : NumberSet × List ℕ) → AreOctets bytes
+    → acknack_set_at order bytes ≡ Some x → TakesSet (ReadsAckNackSet order bytes) x
+unfolding acknack_set_at acknack_field_at
+acknack_set_found order bytes x octets e =
+    option_and_then_some (λ r. Some (set_of r.0, r.1)) (acknack_field_at order bytes) x e (λ r q p.
+    let t = field_takes acknack_base acknack_base_small order bytes r.0 r.1 octets q in
+    subst (λ (y : NumberSet × List ℕ). TakesSet (ReadsAckNackSet order bytes) y) (some_is (set_of r.0, r.1) x p)
+    (record {
+      reads =
+          record {
+            field = t.field;
+            valid = subst (λ (f : SetField). IsSetField f) t.is t.valid;
+            text = t.text.parts;
+            set = ap set_of t.is;
+          };
+      octets = t.text.octets;
+    }))
+
+pub acknack_set_only : (order : Endianness) (bytes : List ℕ) (s : NumberSet) (rest : List ℕ)
+    → ReadsAckNackSet order bytes s rest → acknack_set_at order bytes ≡ Some (s, rest)
+unfolding acknack_set_at acknack_field_at
+acknack_set_only order bytes s rest r =
+    ap (acknack_set_at order) r.text ∙ rw (field_again acknack_base order r.field rest
+    (small_by_acknack_base r.field.base r.field.num_bits r.valid.small) r.valid)
+    (ap (λ (z : NumberSet). Some (z, rest)) (sym r.set))
+
+-- a base from 1 on stays
+acknack_base_same : (base n : ℕ) → 1 ≤ base → acknack_base base n ≡ base
+acknack_base_same base n first =
+    let other : eqb base 0 ≡ false = grind (arith, nat_tests, first) in
+    ap (λ (b : Bool). cond (b && eqb n 0) 1 base) other
+
+-- a valid set is read of an ACKNACK as it is
+pub reads_set : (order : Endianness) (bytes : List ℕ) (s : NumberSet) (rest : List ℕ) → ReadsSet order bytes s rest
+    → ReadsAckNackSet order bytes s rest
+reads_set order bytes s rest r =
+    let same : r.field ≡ acknack_field r.field =
+    ap (λ (base : ℕ). record r.field { base = base })
+    (sym (acknack_base_same r.field.base r.field.num_bits r.valid.first)) in
+    record {
+      field = r.field;
+      valid = subst (λ (f : SetField). IsSetField f) same r.valid;
+      text = r.text;
+      set = r.set ∙ ap set_of same;
+    }

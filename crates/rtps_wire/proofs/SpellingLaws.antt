@@ -24,6 +24,7 @@ use Rattle.rtps_wire.specs.AckNack.{text_of_acknack}
 use Rattle.rtps_wire.specs.Data.{data_head, SaysContent, HasStrength, ReadsData, IsBody, IsStrength, content_flags, flags_with, strength_text, sentinel_text, text_of_end, text_of_write, text_with, text_of_content}
 use Rattle.rtps_wire.specs.Submessages.{id_of, flags_of, body_of, padding, IsSpellable, IsKnownKind, spelling_of_submessage}
 use Rattle.rtps_wire.specs.Messages.{ReadsAll, ReadsMessage, IsWritable, spelling_of, header_text}
+use Rattle.rtps_wire.proofs.SetLaws.{reads_set}
 use Rattle.rtps_wire.proofs.SetSpelling.{set_field_valid, set_again, text_of_set_len}
 use Rattle.rtps_wire.proofs.TestLaws.{both_hold, match_false}
 use Rattle.rtps_wire.proofs.FrameLaws.{to_end_len}
@@ -255,12 +256,12 @@ spelled_known (submessages.AckNack a) valid =
         ids = append_assoc ids (set ++ n) zeros;
         set =
             rw (one_little a.final_flag)
-            (record {
+            (reads_set Little ((set ++ n) ++ zeros) a.reader_sn_state (n ++ zeros) (record {
               field = set_field_of a.reader_sn_state;
               valid = set_field_valid a.reader_sn_state valid.1;
               text = append_assoc set n zeros;
               set = set_again a.reader_sn_state valid.1;
-            });
+            }));
         count = rw (one_little a.final_flag) refl;
       };
       valid = valid.0;

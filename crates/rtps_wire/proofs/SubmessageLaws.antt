@@ -19,14 +19,14 @@ use Rattle.rtps_wire.specs.declared.submessage.Submessage.{Submessage}
 use Rattle.rtps_wire.specs.declared.submessage.Submessage.TheVariants as submessages
 use Rattle.rtps_wire.specs.Fields.{has_flag, order_of, sn_text}
 use Rattle.rtps_wire.specs.FieldAt.{entity_id_at, prefix_at, sn_at, count_at}
-use Rattle.rtps_wire.specs.SetAt.{set_at}
+use Rattle.rtps_wire.specs.SetAt.{acknack_set_at, set_at}
 use Rattle.rtps_wire.specs.Heartbeat.{heartbeat_text, IsHeartbeat}
 use Rattle.rtps_wire.specs.DataAt.{data_at}
 use Rattle.rtps_wire.specs.Submessages.{IsKnownKind, Reads}
 use Rattle.rtps_wire.specs.SubmessageAt.{info_dst_at, info_ts_at, heartbeat_at, acknack_at, gap_at, known_at}
 use Rattle.rtps_wire.proofs.WireFields.{field_entity_id, field_prefix, field_sn, field_count, halves_text, halves_are}
 use Rattle.rtps_wire.proofs.TestLaws.{neither}
-use Rattle.rtps_wire.proofs.SetLaws.{set_found, set_only}
+use Rattle.rtps_wire.proofs.SetLaws.{acknack_set_found, acknack_set_only, set_found, set_only}
 use Rattle.rtps_wire.proofs.DataLaws.{data_found, data_only, mapped_some}
 
 -- ---- INFO_DST
@@ -164,12 +164,13 @@ acknack_found : (flags : ℕ) (body : List ℕ) (s : AckNack) → AreOctets body
 unfolding acknack_at
 acknack_found flags body s octets e =
     let order = order_of flags in
-    option_and_then_some (λ ids. set_at (order_of flags) ids.1 >>= λ set. count_at (order_of flags) set.1 >>= λ n.
-    Some (acknack_said flags ids.0 set.0 n.0)) (both entity_id_at entity_id_at body) s e (λ ids q1 e1.
+    option_and_then_some (λ ids. acknack_set_at (order_of flags) ids.1 >>= λ set.
+    count_at (order_of flags) set.1 >>= λ n. Some (acknack_said flags ids.0 set.0 n.0))
+    (both entity_id_at entity_id_at body) s e (λ ids q1 e1.
     let t0 = (field_both field_entity_id field_entity_id).takes body ids.0 ids.1 octets q1 in
     option_and_then_some (λ set. count_at (order_of flags) set.1 >>= λ n.
-    Some (acknack_said flags ids.0 set.0 n.0)) (set_at (order_of flags) ids.1) s e1 (λ set q2 e2.
-    let t1 = set_found order ids.1 set t0.0.octets q2 in
+    Some (acknack_said flags ids.0 set.0 n.0)) (acknack_set_at (order_of flags) ids.1) s e1 (λ set q2 e2.
+    let t1 = acknack_set_found order ids.1 set t0.0.octets q2 in
     option_and_then_some
     (λ n. Some (acknack_said flags ids.0 set.0 n.0)) (count_at (order_of flags) set.1) s e2 (λ n q3 e3.
     let t2 = (field_count order).takes set.1 n.0 n.1 t1.octets q3 in
@@ -200,7 +201,7 @@ acknack_only flags a body k =
     ∙ rw (
       (field_both field_entity_id field_entity_id).again (a.reader_id, a.writer_id) x.from_set
           (k.valid.reader, k.valid.writer),
-      set_only (order_of flags) x.from_set a.reader_sn_state x.from_count x.set,
+      acknack_set_only (order_of flags) x.from_set a.reader_sn_state x.from_count x.set,
       last,
     )
     (ap (λ (b : Bool). Some (record a { final_flag = b })) k.flags_are)

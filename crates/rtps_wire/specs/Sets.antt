@@ -4,7 +4,7 @@
 -- |                   base: high half, low half                   |
 -- |                 number of bits, at most 256                   |
 -- |       a word for each 32 bits begun, highest bit first        |
-use Rattle.std.specs.Prelude.{◌≡◌, ℕ, zero, suc, ◌+◌, ◌-◌, ◌/◌, ◌^◌, ◌≤◌, ◌<◌, ◌==◌, Bool, false, List, [], ◌∷◌, ◌++◌, length, take, drop, replicate, if◌then◌else◌, slice_index_or}
+use Rattle.std.specs.Prelude.{◌≡◌, ℕ, zero, suc, ◌+◌, ◌-◌, ◌/◌, ◌^◌, ◌≤◌, ◌<◌, ◌==◌, ◌&&◌, Bool, false, List, [], ◌∷◌, ◌++◌, length, take, drop, replicate, if◌then◌else◌, slice_index_or}
 use Rattle.std.specs.List.{flat_map, AllByRecursion}
 use Rattle.std.specs.Int.{w32}
 use Rattle.std.specs.Int.RustNames.{bit_and}
@@ -56,12 +56,29 @@ set_of f = record {
       ++ replicate (max_bits - f.num_bits) false;
 }
 
+-- The base of the set of an ACKNACK that has this base and number of bits in bytes: 0 stands for 1 where that number is
+-- 0. Either says that all below 1 is acknowledged, which is nothing, and that nothing is missed. Where that number is not
+-- 0, base 0 is not valid, though no bit be set.
+abbrev pub acknack_base : ℕ → ℕ → ℕ
+acknack_base base num_bits = if base == 0 && num_bits == 0 then 1 else base
+
+-- the set of an ACKNACK as it is read, by how it stands in bytes
+abbrev pub acknack_field : SetField → SetField
+acknack_field f = record f { base = acknack_base f.base f.num_bits }
+
 -- The bytes begin with a set, in whichever way it stands there.
 pub record ReadsSet (order : Endianness) (bytes : List ℕ) (s : NumberSet) (rest : List ℕ) : Type 0 where
   pub field : SetField
   pub valid : IsSetField field
   pub text : bytes ≡ set_text order field ++ rest
   pub set : s ≡ set_of field
+
+-- The bytes begin with the set of an ACKNACK. That is a valid set, or an empty one of base 0: its number of bits is 0.
+pub record ReadsAckNackSet (order : Endianness) (bytes : List ℕ) (s : NumberSet) (rest : List ℕ) : Type 0 where
+  pub field : SetField
+  pub valid : IsSetField (acknack_field field)
+  pub text : bytes ≡ set_text order field ++ rest
+  pub set : s ≡ set_of (acknack_field field)
 
 -- a set that has a written form
 pub record IsSet (s : NumberSet) : Type 0 where

@@ -15,7 +15,7 @@ use Rattle.rtps_wire.specs.declared.submessage.Submessage.{Submessage}
 use Rattle.rtps_wire.specs.declared.submessage.Submessage.TheVariants as submessages
 use Rattle.rtps_wire.specs.Fields.{has_flag, order_of}
 use Rattle.rtps_wire.specs.FieldAt.{entity_id_at, prefix_at, sn_at, count_at}
-use Rattle.rtps_wire.specs.SetAt.{set_at}
+use Rattle.rtps_wire.specs.SetAt.{acknack_set_at, set_at}
 use Rattle.rtps_wire.specs.DataAt.{data_at}
 use Rattle.rtps_wire.specs.Names.{flag_final, flag_invalidate, flag_liveliness, half_range, id_acknack, id_data, id_gap, id_heartbeat, id_info_dst, id_info_ts, id_pad}
 
@@ -50,7 +50,7 @@ heartbeat_at flags body = do
 unfoldable pub acknack_at : ℕ → List ℕ → Option AckNack
 acknack_at flags body = do
   ids ← both entity_id_at entity_id_at body
-  set ← set_at (order_of flags) ids.1
+  set ← acknack_set_at (order_of flags) ids.1
   n ← count_at (order_of flags) set.1
   Some (record {
     reader_id = ids.0.0;

@@ -11,7 +11,7 @@ ghost use Rattle.rtps_wire.specs.SubmessageAt.{acknack_at};
 
 use crate::field::{has_flag, order_of, put_count, put_ids, take_count, take_ids};
 use crate::names::FLAG_FINAL;
-use crate::set_field::{put_set, take_set};
+use crate::set_field::{put_set, take_acknack_set};
 use dds_base::{Code, EntityId};
 use rtps_sets::SnSet;
 
@@ -24,7 +24,7 @@ pub struct AckNack {
     pub reader_id: EntityId,
     /// The writer that it is for, at the peer that INFO_DST names.
     pub writer_id: EntityId,
-    /// Its base is from 1 to 2^62.
+    /// Its base is from 1 to 2^62. An empty set of base 0 is read as that of base 1.
     pub reader_sn_state: SnSet,
     /// Each new one has a greater count.
     pub count: i32,
@@ -39,7 +39,7 @@ pub fn acknack_of(flags: u8, body: &[u8]) -> Option<AckNack>
 {
     let order = order_of(flags);
     let (ids, rest) = take_ids(body)?;
-    let Some((reader_sn_state, rest)) = take_set(order, rest) else {
+    let Some((reader_sn_state, rest)) = take_acknack_set(order, rest) else {
         return None;
     };
     let (count, _) = take_count(order, rest)?;

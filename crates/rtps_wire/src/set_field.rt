@@ -9,11 +9,12 @@ ghost use Rattle.std.specs.Option.{option_map};
 ghost use Rattle.std.specs.List.{flat_map};
 ghost use Rattle.std.specs.Int.{w32};
 ghost use Rattle.dds_base.specs.Bounds.{max_sn};
+ghost use Rattle.dds_base.specs.FieldPairs.{mapped};
 ghost use Rattle.dds_base.specs.Fields.{number_of};
 ghost use Rattle.dds_base.specs.declared.endianness.Endianness.TheVariants.{Little};
 ghost use Rattle.rtps_wire.specs.Names.{max_bits};
-ghost use Rattle.rtps_wire.specs.Sets.{words_for, set_of, set_text, words_of, text_of_set, IsSet};
-ghost use Rattle.rtps_wire.specs.SetAt.{words_at, set_field_at, set_at};
+ghost use Rattle.rtps_wire.specs.Sets.{acknack_base, words_for, set_of, set_text, words_of, text_of_set, IsSet};
+ghost use Rattle.rtps_wire.specs.SetAt.{words_at, set_after, set_at, acknack_set_at};
 
 use crate::field::{MAX_SN, take_sn};
 use crate::names::{
@@ -79,6 +80,21 @@ fn set_from(base: u64, count: usize, words: &[u32]) -> SnSet
     SnSet::from_words(Sn::new(base), count, words)
 }
 
+/// The set of this base and so many bits, whose words are at the front, and the bytes after them. `None` where there is
+/// no valid one.
+#[tactic(auto, unfolding(crate::specs::SetAt::set_after))]
+fn set_after(order: Endianness, base: u64, count: u32, bytes: &[u8]) -> Option<(SnSet, &[u8])>
+    requires { base ≤ max_sn }
+    ensures { option_map (λ x. (x.0, x.1.now)) result ≡ mapped set_of (set_after order base count) bytes.now }
+{
+    let count = count as usize;
+    if base < 1 || MAX_BITS < count {
+        return None;
+    }
+    let (words, rest) = take_words(order, words_for(count), bytes)?;
+    Some((set_from(base, count, words.as_slice()), rest))
+}
+
 /// The set at the front, and the bytes after it. `None` where there is no valid one.
 #[tactic(auto, unfolding(crate::specs::SetAt::set_field_at, crate::specs::SetAt::set_at))]
 pub fn take_set(order: Endianness, bytes: &[u8]) -> Option<(SnSet, &[u8])>
@@ -86,12 +102,26 @@ pub fn take_set(order: Endianness, bytes: &[u8]) -> Option<(SnSet, &[u8])>
 {
     let (base, rest) = take_sn(order, bytes)?;
     let (count, rest) = take_u32(order, rest)?;
-    let count = count as usize;
-    if base < 1 || MAX_BITS < count {
-        return None;
-    }
-    let (words, rest) = take_words(order, words_for(count), rest)?;
-    Some((set_from(base, count, words.as_slice()), rest))
+    set_after(order, base, count, rest)
+}
+
+/// The base of the set of an ACKNACK that has this base and so many bits in bytes: 0 stands for 1 where there are no
+/// bits.
+fn acknack_base(base: u64, count: u32) -> u64
+    ensures { result ≡ acknack_base base count }
+{
+    if base == 0 && count == 0 { 1 } else { base }
+}
+
+/// The set of an ACKNACK at the front, and the bytes after it. `None` where there is no valid one, nor an empty one of
+/// base 0.
+#[tactic(auto, unfolding(crate::specs::SetAt::acknack_field_at, crate::specs::SetAt::acknack_set_at))]
+pub fn take_acknack_set(order: Endianness, bytes: &[u8]) -> Option<(SnSet, &[u8])>
+    ensures { option_map (λ x. (x.0, x.1.now)) result ≡ acknack_set_at order bytes.now }
+{
+    let (base, rest) = take_sn(order, bytes)?;
+    let (count, rest) = take_u32(order, rest)?;
+    set_after(order, acknack_base(base, count), count, rest)
 }
 
 /// The octets of a set with so many bits, word by word: its base, their number, and the words of all its places.

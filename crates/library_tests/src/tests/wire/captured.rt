@@ -113,12 +113,13 @@ whole 52545053 0203 010f 010f78fd5c3715e100000000 \
 8001 3800 01000000f51c00000000000000000000000000007f000001e252066b4f44280f0300000000000000b8010000000000000000000000000000 \
 => 128; INFO_DST 010f78fd5a3727c300000000; \
 HEARTBEAT writer 00000102 reader 00000107 first 1 last 1 count 2 final true liveliness true; OTHER 80
-# An ACKNACK of base 0, which tshark calls preemptive. A set's base is at least 1, so it is not valid.
+# An ACKNACK of base 0 and without bits, which tshark calls preemptive: it is read as that of base 1.
 whole 52545053 0203 010f 010f78fd782503f900000000 \
 0e01 0c00 010f78fdfc27bb4c00000000 \
 0601 1800 000200c7 000200c2 00000000 00000000 00000000 01000000 \
 8001 3800 01000000f41c00000000000000000000000000007f0000017f52066bdab1fef70c000000000000003c100000000000000000000000000000 \
-=> 124; INFO_DST 010f78fdfc27bb4c00000000; OTHER 06; OTHER 80
+=> 124; INFO_DST 010f78fdfc27bb4c00000000; ACKNACK writer 000200c2 reader 000200c7 count 1 final false base 1 bits 0 members; \
+OTHER 80
 # A participant that leaves, by discovery: a parameter of the vendor's (800f) is skipped, and the key hash is its GUID. It is
 # read as a change of a writer (000100c2) with which no reader here is matched.
 whole 52545053 0203 010f 010f78fd7f1935c000000000 \

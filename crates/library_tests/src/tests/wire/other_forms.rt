@@ -86,8 +86,13 @@ read 0701 1c00 00000000 00000102 00000000 01000000 000000ff 00000000 01000000 =>
 
 # A set has at most 256 bits: here are 257, in nine words.
 read 0601 3c00 00000107 00000102 00000000 02000000 01010000 ffx36 01000000 => 84; OTHER 06
-# A base is at least 1, also of an empty set, which some products send; and so is gapStart.
-read 0601 1800 00000107 00000102 00000000 00000000 00000000 01000000 => 48; OTHER 06
+# The base of an ACKNACK may be 0 where its number of bits is 0, as some products send it: it is read as 1. With bits it
+# is at least 1, though none of them be set; so is that of a GAP, and its gapStart.
+read 0601 1800 00000107 00000102 00000000 00000000 00000000 01000000 \
+=> 48; ACKNACK writer 00000102 reader 00000107 count 1 final false base 1 bits 0 members; written in 48 octets
+read 0601 1c00 00000107 00000102 00000000 00000000 01000000 00000080 01000000 => 52; OTHER 06
+read 0601 1c00 00000107 00000102 00000000 00000000 01000000 00000000 01000000 => 52; OTHER 06
+read 0801 1c00 00000107 00000102 00000000 01000000 00000000 00000000 00000000 => 52; OTHER 08
 read 0801 1c00 00000107 00000102 00000000 00000000 00000000 03000000 00000000 => 52; OTHER 08
 
 # Flags of a DATA that no change has: D and K; D and N (10); neither; K without a status.
