@@ -344,9 +344,9 @@ one-more-from-1 (a ∷ rest) n some from =
     All-cons (λ n. 0 < n) a (rest ++ n ∷ []) (All-head (λ n. 0 < n) a rest from)
     (one-more-from-1 rest n some (All-tail (λ n. 0 < n) a rest from))
 
-pub joined-from-1 : (s : WriterState) (count : Option ℤ) → AreFrom1 s.acknowledged
-    → AreFrom1 (joined s count).acknowledged
-joined-from-1 s count from = one-more-from-1 s.acknowledged (last_of s + 1) (omega arith) from
+pub joined-from-1 : (s : WriterState) (count : Option ℤ) (silent : Bool) → AreFrom1 s.acknowledged
+    → AreFrom1 (joined s count silent).acknowledged
+joined-from-1 s count silent from = one-more-from-1 s.acknowledged (last_of s + 1) (omega arith) from
 
 one-fewer-from-1 : (acknowledged : List ℕ) (reader : ℕ) → AreFrom1 acknowledged
     → AreFrom1 (remove acknowledged reader)

@@ -1,5 +1,5 @@
 -- The parts of what a writer keeps, and what they stand for.
-use Rattle.std.proofs.Common.{◌≡◌, ℕ, ◌+◌, Bool, not, List, [], ◌∷◌, ◌++◌, Option, Some, None, ℤ, refl, sym, ap, ◌∙◌, subst}
+use Rattle.std.proofs.Common.{◌≡◌, ℕ, ◌+◌, Bool, false, not, List, [], ◌∷◌, ◌++◌, map, Option, Some, None, ℤ, refl, sym, ap, ◌∙◌, subst}
 use Rattle.std.specs.Prelude.{if◌then◌else◌}
 use Rattle.std.specs.List.{remove}
 use Rattle.dds_base.specs.declared.change.Change.{Change}
@@ -13,7 +13,7 @@ use Rattle.rtps_writer.specs.declared.liveliness.Liveliness.{Liveliness}
 use Rattle.rtps_writer.specs.LivelinessKept.{IsLiveliness}
 use Rattle.rtps_writer.specs.Registered.{is_among}
 use Rattle.rtps_writer.specs.Standing.{Kept, StandsFor}
-use Rattle.rtps_writer.specs.WriterState.{WriterState, entering, history_of, joined, last_of, left}
+use Rattle.rtps_writer.specs.WriterState.{WriterState, entering, history_of, joined, last_of, left, unasked}
 
 -- the same, of another name for what is kept
 pub stands_as : (a b : Kept) (s : WriterState) → a ≡ b → StandsFor a s → StandsFor b s
@@ -50,24 +50,30 @@ changes kept now s same given before keys held change reserved noted more live a
           (here.registered k));
       firsts = here.firsts;
       counts = here.counts;
+      asks = here.asks;
+      silents = here.silents;
       counts_used = here.counts_used;
       liveliness = asserts here.liveliness;
       strength = here.strength ∙ other-strength s.strength s.written (Changed change) (λ configured. refl);
     }
 
 -- a writer with one matched reader more
-pub stands-joined : (kept : Kept) (s : WriterState) (count : Option ℤ) (next : ℕ) (held : Held) (firsts : List ℕ)
-    (counts : List (Option ℤ)) → StandsFor kept s
+pub stands-joined : (kept : Kept) (s : WriterState) (count : Option ℤ) (silent : Bool) (next : ℕ) (held : Held)
+    (firsts : List ℕ) (counts : List (Option ℤ)) (asks silents : List Bool) → StandsFor kept s
     → next ≡ last_of s + 1 → HistoryStandsFor held (history_joined (history_of s))
-    → firsts ≡ kept.firsts ++ next ∷ [] → counts ≡ kept.counts ++ count ∷ []
-    → StandsFor (record kept { history = held; firsts = firsts; counts = counts }) (joined s count)
-stands-joined kept s count next held firsts counts given is more first last = record {
+    → firsts ≡ kept.firsts ++ next ∷ [] → counts ≡ kept.counts ++ count ∷ [] → asks ≡ kept.asks ++ false ∷ []
+    → silents ≡ kept.silents ++ silent ∷ []
+    → StandsFor (record kept { history = held; firsts = firsts; counts = counts; asks = asks; silents = silents })
+    (joined s count silent)
+stands-joined kept s count silent next held firsts counts asks silents given is more first last quiet mark = record {
   history = more;
   registered = given.registered;
   firsts =
       first
       ∙ (ap (λ (ns : List ℕ). ns ++ next ∷ []) given.firsts ∙ ap (λ (n : ℕ). s.firsts ++ n ∷ []) is);
   counts = last ∙ ap (λ (cs : List (Option ℤ)). cs ++ count ∷ []) given.counts;
+  asks = quiet ∙ ap (λ (bs : List Bool). bs ++ false ∷ []) given.asks;
+  silents = mark ∙ ap (λ (bs : List Bool). bs ++ silent ∷ []) given.silents;
   counts_used = given.counts_used;
   liveliness = given.liveliness;
   strength = given.strength;
@@ -75,15 +81,34 @@ stands-joined kept s count next held firsts counts given is more first last = re
 
 -- with one fewer
 pub stands-left : (kept : Kept) (s : WriterState) (reader : ℕ) (held : Held) (firsts : List ℕ)
-    (counts : List (Option ℤ)) → StandsFor kept s
+    (counts : List (Option ℤ)) (asks silents : List Bool) → StandsFor kept s
     → HistoryStandsFor held (history_left (history_of s) reader)
-    → firsts ≡ remove kept.firsts reader → counts ≡ remove kept.counts reader
-    → StandsFor (record kept { history = held; firsts = firsts; counts = counts }) (left s reader)
-stands-left kept s reader held firsts counts given fewer first last = record {
+    → firsts ≡ remove kept.firsts reader → counts ≡ remove kept.counts reader → asks ≡ remove kept.asks reader
+    → silents ≡ remove kept.silents reader
+    → StandsFor (record kept { history = held; firsts = firsts; counts = counts; asks = asks; silents = silents })
+    (left s reader)
+stands-left kept s reader held firsts counts asks silents given fewer first last others marks = record {
   history = fewer;
   registered = given.registered;
   firsts = first ∙ ap (λ (ns : List ℕ). remove ns reader) given.firsts;
   counts = last ∙ ap (λ (cs : List (Option ℤ)). remove cs reader) given.counts;
+  asks = others ∙ ap (λ (bs : List Bool). remove bs reader) given.asks;
+  silents = marks ∙ ap (λ (bs : List Bool). remove bs reader) given.silents;
+  counts_used = given.counts_used;
+  liveliness = given.liveliness;
+  strength = given.strength;
+}
+
+-- with no reader that asks for a HEARTBEAT
+pub stands-unasked : (kept : Kept) (s : WriterState) (asks : List Bool) → StandsFor kept s
+    → asks ≡ map (λ (b : Bool). false) kept.asks → StandsFor (record kept { asks = asks }) (unasked s)
+stands-unasked kept s asks given is = record {
+  history = given.history;
+  registered = given.registered;
+  firsts = given.firsts;
+  counts = given.counts;
+  asks = is ∙ ap (λ (bs : List Bool). map (λ (b : Bool). false) bs) given.asks;
+  silents = given.silents;
   counts_used = given.counts_used;
   liveliness = given.liveliness;
   strength = given.strength;

@@ -1,7 +1,7 @@
 -- What a writer keeps, and the state that it stands for.
 --
 -- RTPS 2.5, 8.4.7 (StatefulWriter, ReaderProxy); DDS 1.4, 2.2.3 (HISTORY, LIVELINESS, OWNERSHIP_STRENGTH).
-use Rattle.std.specs.Prelude.{◌≡◌, ℕ, List, length, min, Option, ℤ}
+use Rattle.std.specs.Prelude.{◌≡◌, ℕ, Bool, List, length, min, Option, ℤ}
 use Rattle.dds_base.specs.declared.key.Key.{Key}
 use Rattle.dds_base.specs.Bounds.{max_count}
 use Rattle.dds_base.specs.Written.{is_key_registered, strength_now}
@@ -17,6 +17,8 @@ pub record Kept : Type 0 where
   pub registered : List Key
   pub firsts : List ℕ
   pub counts : List (Option ℤ)
+  pub asks : List Bool
+  pub silents : List Bool
   pub counts_used : ℕ
   pub liveliness : Liveliness
   pub strength : Option ℤ
@@ -31,6 +33,8 @@ pub record StandsFor (kept : Kept) (s : WriterState) : Type 0 where
   pub registered : (key : Key) → is_among kept.registered key ≡ is_key_registered key s.written
   pub firsts : kept.firsts ≡ s.firsts
   pub counts : kept.counts ≡ s.counts
+  pub asks : kept.asks ≡ s.asks
+  pub silents : kept.silents ≡ s.silents
   pub counts_used : kept.counts_used ≡ min (counts_due s) max_count
   pub liveliness : IsLiveliness kept.liveliness s.lease s.written
   pub strength : kept.strength ≡ strength_now s.strength s.written

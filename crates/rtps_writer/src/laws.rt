@@ -2,7 +2,7 @@
 //!
 //! RTPS 2.5, 8.4.7 (ReaderProxy, requested_changes, acked_changes_set).
 
-ghost use Rattle.std.specs.Prelude.{◌≡◌, ◌≤◌, ◌<◌, ◌⊎◌, ℕ, ℤ, Option, length, true};
+ghost use Rattle.std.specs.Prelude.{◌≡◌, ◌≤◌, ◌<◌, ◌⊎◌, ℕ, ℤ, Bool, Option, length, true};
 ghost use Rattle.std.specs.List.{All, list_any};
 ghost use Rattle.dds_base.specs.declared.qos.HistoryQos.{HistoryQos};
 ghost use Rattle.dds_base.specs.Kept.{is_dropped};
@@ -47,8 +47,8 @@ pub fn acknowledgements_count_from_1()
         → All (λ n. 0 < n) s.acknowledged
         → All (λ n. 0 < n) (after_acknack s reader base count).acknowledged }
     // A reader that joins has one from 1 on.
-    ensures joined { (s : WriterState) (count : Option ℤ) → All (λ n. 0 < n) s.acknowledged
-        → All (λ n. 0 < n) (joined s count).acknowledged }
+    ensures joined { (s : WriterState) (count : Option ℤ) (silent : Bool) → All (λ n. 0 < n) s.acknowledged
+        → All (λ n. 0 < n) (joined s count silent).acknowledged }
     // One that leaves takes its own away.
     ensures left { (s : WriterState) (reader : ℕ) → All (λ n. 0 < n) s.acknowledged
         → All (λ n. 0 < n) (left s reader).acknowledged }

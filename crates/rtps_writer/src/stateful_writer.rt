@@ -14,7 +14,7 @@ ghost use Rattle.rtps_sets.specs.NumberSet.{span};
 ghost use Rattle.rtps_writer.specs.Acknack.{acknack_answers, after_acknack, answers_after, applied, if_later, is_applied, newly_acknowledged};
 ghost use Rattle.rtps_writer.specs.Liveliness.{assert_refusal, asserted, heartbeat_asserted};
 ghost use Rattle.rtps_writer.specs.Standing.{StandsFor, reader_count};
-ghost use Rattle.rtps_writer.specs.WriterState.{WantsRoom, WriterState, entering, first_for, heartbeat_due, history_of, is_reader_behind, joined, last_of, left, opening, owed_from, ticked};
+ghost use Rattle.rtps_writer.specs.WriterState.{WantsRoom, WriterState, answering, asking, entering, first_for, heartbeat_due, history_of, is_asked, is_reader_behind, is_reader_silent, is_reader_told, is_told, joined, last_for, last_of, left, opening, owed_from, ticked, unasked};
 
 use crate::answer::{Answer, Answered, answered_from, put_answers};
 use crate::heartbeat::HeartbeatDue;
@@ -52,6 +52,10 @@ pub struct StatefulWriter {
     firsts: Vec<u64>,
     /// Of each reader, the count of the last ACKNACK that was applied.
     counts: Vec<Option<i32>>,
+    /// Of each reader, whether it asks for a HEARTBEAT.
+    asks: Vec<bool>,
+    /// Of each reader, whether it is silent: it was greeted, and has not answered yet.
+    silents: Vec<bool>,
     /// How many HEARTBEAT counts were used.
     counts_used: u32,
     liveliness: Liveliness,
@@ -71,13 +75,17 @@ impl Model for StatefulWriter {
       registered = w.registered.keys;
       firsts = w.firsts.items;
       counts = w.counts.items;
+      asks = w.asks.items;
+      silents = w.silents.items;
       counts_used = w.counts_used;
       liveliness = w.liveliness;
       strength = w.strength;
     } };
 
     ghost invariant = { λ w. (length w.counts.items ≡ history_readers w.history)
-        × (length w.firsts.items ≡ history_readers w.history) };
+        × (length w.firsts.items ≡ history_readers w.history)
+        × (length w.asks.items ≡ history_readers w.history)
+        × (length w.silents.items ≡ history_readers w.history) };
 }
 
 impl StatefulWriter {
@@ -111,12 +119,16 @@ impl StatefulWriter {
         let history = History::open(alloc, policy, max_samples, readers)?;
         let firsts = vec![in alloc; 1u64; readers]?;
         let counts = vec![in alloc; None; readers]?;
+        let asks = vec![in alloc; false; readers]?;
+        let silents = vec![in alloc; false; readers]?;
         Ok(StatefulWriter {
             alloc,
             history,
             registered: RegisteredInstances::new(alloc),
             firsts,
             counts,
+            asks,
+            silents,
             counts_used: 0,
             liveliness: Liveliness::new(lease),
             strength,
@@ -125,16 +137,17 @@ impl StatefulWriter {
 
     /// One more reliable reader is matched, of whose ACKNACKs the last that was applied had this count, if one was. Its
     /// index is the next. It is owed what is made from now on, and counts as one that has acknowledged what was made.
+    /// One that was greeted is silent until it answers.
     ///
     /// # Errors
     ///
     /// `Memory` where a growth was refused; the writer is then as it was.
     ///
     /// RTPS 2.5, 8.4.7 (StatefulWriter, matched_reader_add); DDS 1.4, 2.2.3 (DURABILITY: VOLATILE).
-    pub fn join(&mut self, count: Option<i32>) -> Result<(), Code>
+    pub fn join(&mut self, count: Option<i32>, is_silent: bool) -> Result<(), Code>
         // It stands for the writer with the reader last.
         ensures ok { (s : WriterState) → StandsFor self.old s
-            → OnOk result (StandsFor self.new (joined s count)) }
+            → OnOk result (StandsFor self.new (joined s count is_silent)) }
         // There is one reader more.
         ensures readers { OnOk result (reader_count self.new ≡ reader_count self.old + 1) }
         // A refusal leaves the writer as it was.
@@ -145,10 +158,14 @@ impl StatefulWriter {
         // Before anything changes.
         self.firsts.reserve(1)?;
         self.counts.reserve(1)?;
+        self.asks.reserve(1)?;
+        self.silents.reserve(1)?;
         let next = self.history.last().number().saturating_add(1);
         self.history.join()?;
         self.firsts.push_reserved(next);
         self.counts.push_reserved(count);
+        self.asks.push_reserved(false);
+        self.silents.push_reserved(is_silent);
         Ok(())
     }
 
@@ -171,6 +188,8 @@ impl StatefulWriter {
     {
         self.history.leave(reader);
         let _ = self.firsts.remove(reader);
+        let _ = self.asks.remove(reader);
+        let _ = self.silents.remove(reader);
         self.counts.remove(reader)
     }
 
@@ -312,6 +331,33 @@ impl StatefulWriter {
         Sn::new(owed.max(self.history.first().number()))
     }
 
+    /// Whether this reader, by its index from 0, was greeted, and has not answered yet.
+    pub fn is_silent(&self, reader: usize) -> bool
+        // There is such a reader.
+        requires reader { reader < reader_count self.now }
+        // It is so exactly where that reader of the writer that it stands for is silent.
+        ensures silent { (s : WriterState) → StandsFor self.now s
+            → result ≡ is_reader_silent s reader }
+    {
+        self.silents[reader]
+    }
+
+    /// The last number that a HEARTBEAT to this reader alone, by its index from 0, names: that of the last change; but
+    /// of a silent one the number before the first.
+    ///
+    /// RTPS 2.5, 8.3.8 (Heartbeat: lastSN).
+    pub fn last_for(&self, reader: usize) -> Sn
+        // There is such a reader.
+        requires reader { reader < reader_count self.now }
+        ensures last { (s : WriterState) → StandsFor self.now s → result ≡ last_for s reader }
+    {
+        if self.is_silent(reader) {
+            Sn::new(self.first_for(reader).number().saturating_sub(1))
+        } else {
+            self.last()
+        }
+    }
+
     /// Whether this reader, by its index from 0, has not acknowledged all changes.
     ///
     /// RTPS 2.5, 8.4.7 (ReaderProxy, unacked_changes).
@@ -323,6 +369,77 @@ impl StatefulWriter {
             → result ≡ is_reader_behind s reader }
     {
         self.history.acknowledged(reader).number() <= self.history.last().number()
+    }
+
+    /// This reader, by its index from 0, asks for a HEARTBEAT.
+    ///
+    /// RTPS 2.5, 8.4.9 (reliable StatefulWriter), 8.3.8 (AckNack: FinalFlag).
+    pub fn ask(&mut self, reader: usize)
+        // There is such a reader.
+        requires reader { reader < reader_count self.old }
+        // It stands for the writer of which that reader asks for one.
+        ensures stands { (s : WriterState) → StandsFor self.old s
+            → StandsFor self.new (asking s reader) }
+        // The readers stay the same ones.
+        ensures readers { reader_count self.new ≡ reader_count self.old }
+    {
+        self.asks[reader] = true;
+    }
+
+    /// This reader, by its index from 0, has answered: it is silent no longer.
+    ///
+    /// RTPS 2.5, 8.4.9 (reliable StatefulWriter), 8.3.8 (AckNack).
+    pub fn answer_heard(&mut self, reader: usize)
+        // There is such a reader.
+        requires reader { reader < reader_count self.old }
+        // It stands for the writer of which that reader is not silent.
+        ensures stands { (s : WriterState) → StandsFor self.old s
+            → StandsFor self.new (answering s reader) }
+        // The readers stay the same ones.
+        ensures readers { reader_count self.new ≡ reader_count self.old }
+    {
+        self.silents[reader] = false;
+    }
+
+    /// Whether the next tick's HEARTBEAT is for this reader, by its index from 0: it has not acknowledged all changes,
+    /// asks for one, or is silent.
+    ///
+    /// RTPS 2.5, 8.4.7 (ReaderProxy, unacked_changes), 8.3.8 (AckNack: FinalFlag).
+    pub fn is_told(&self, reader: usize) -> bool
+        // There is such a reader.
+        requires reader { reader < reader_count self.now }
+        // It is so exactly where the HEARTBEAT of the writer that it stands for is for that reader.
+        ensures told { (s : WriterState) → StandsFor self.now s
+            → result ≡ is_reader_told s reader }
+    {
+        self.is_behind(reader) || self.asks[reader] || self.silents[reader]
+    }
+
+    /// Whether some reader asks for a HEARTBEAT, or is silent.
+    fn is_asked(&self) -> bool
+        ensures { (s : WriterState) → StandsFor self.now s → result ≡ is_asked s }
+    {
+        self.asks.contains(&true) || self.silents.contains(&true)
+    }
+
+    /// Whether the next tick's HEARTBEAT is for some reader.
+    fn tells_any(&self) -> bool
+        ensures { (s : WriterState) → StandsFor self.now s → result ≡ is_told s }
+    {
+        let last = self.history.last();
+        self.history.is_awaited(last) || self.is_asked()
+    }
+
+    /// No reader asks for a HEARTBEAT any longer: each was told.
+    ///
+    /// RTPS 2.5, 8.4.9 (reliable StatefulWriter), 8.3.8 (AckNack: FinalFlag).
+    pub fn tell_all(&mut self)
+        // It stands for the writer of which no reader asks for one.
+        ensures stands { (s : WriterState) → StandsFor self.old s → StandsFor self.new (unasked s) }
+        // The readers stay the same ones.
+        ensures readers { reader_count self.new ≡ reader_count self.old }
+    {
+        self.asks.fill(false);
     }
 
     /// The HEARTBEAT of the next count. One is left.
@@ -453,23 +570,24 @@ impl StatefulWriter {
     }
 
     /// The time of its peer has gone on: the HEARTBEAT that this asks for, if some reader has not acknowledged all
-    /// changes. Where its lease is over, the writer's liveliness is lost (DDS 1.4, 2.2.3, LIVELINESS).
+    /// changes, asks for one, or is silent. It is for those readers: `is_told` names them, and `tell_all` has to
+    /// follow. Where its lease is over, the writer's liveliness is lost (DDS 1.4, 2.2.3, LIVELINESS).
     ///
     /// Each HEARTBEAT of the writer has the next count from 1 on; after 2^31 - 1 there are no more.
     ///
     /// RTPS 2.5, 8.4.9 (reliable StatefulWriter: heartbeatPeriod).
     pub fn tick(&mut self, now: Moment) -> Option<HeartbeatDue>
-        // The tick is entered, with whether some reader was behind.
+        // The tick is entered, with whether its HEARTBEAT is for some reader.
         ensures stands { (s : WriterState) → StandsFor self.old s
             → StandsFor self.new (ticked s now) }
-        // A HEARTBEAT is due exactly where some reader is behind and a count is left, with the numbers that are kept.
+        // A HEARTBEAT is due exactly where it is for some reader and a count is left, with the numbers that are kept.
         ensures due { (s : WriterState) → StandsFor self.old s → result ≡ heartbeat_due s now }
         // The readers stay the same ones.
         ensures readers { reader_count self.new ≡ reader_count self.old }
     {
+        let tells_any = self.tells_any();
         self.liveliness.tick(now);
-        let last = self.history.last();
-        if !self.history.is_awaited(last) || MAX_COUNT <= self.counts_used {
+        if !tells_any || MAX_COUNT <= self.counts_used {
             return None;
         }
         Some(self.next_heartbeat())

@@ -8,7 +8,7 @@ pub returns-clause-acknack : goal.returns-clause-acknack
 returns-clause-acknack c = λ s reader base count from. acknack-from-1 s reader base count from
 
 pub returns-clause-joined : goal.returns-clause-joined
-returns-clause-joined c = λ s count from. joined-from-1 s count from
+returns-clause-joined c = λ s count silent from. joined-from-1 s count silent from
 
 pub returns-clause-left : goal.returns-clause-left
 returns-clause-left c = λ s reader from. left-from-1 s reader from

@@ -1,9 +1,9 @@
-use Rattle.std.proofs.Common.{ℕ, Bool, ◌&&◌, List, ap, ◌∙◌}
+use Rattle.std.proofs.Common.{ℕ, ◌&&◌, List, ap, ◌∙◌}
 use Rattle.std.specs.Prelude.{nat_le}
 use Rattle.dds_base.specs.Kept.{is_kept}
 use Rattle.rtps_writer.specs.declared.answer.Answer.{Answer}
 use Rattle.rtps_writer.specs.Answers.{answered_from, answers_to, requested}
-use Rattle.rtps_writer.specs.WriterState.{acknowledged_by, history_of, last_of, owed_from}
+use Rattle.rtps_writer.specs.WriterState.{history_of, last_of, owed_from}
 use Rattle.rtps_writer.proofs.Parts.{history_at}
 use Rattle.rtps_writer.proofs.stateful_writer.StatefulWriter.answer.Goals as goal
 

@@ -1,4 +1,4 @@
-use Rattle.std.proofs.Common.{◌≡◌, ℕ, ◌+◌, List, [], ◌∷◌, ◌++◌, Option, ap, sym, ◌∙◌, arith}
+use Rattle.std.proofs.Common.{◌≡◌, ℕ, ◌+◌, Bool, false, List, [], ◌∷◌, ◌++◌, Option, ap, sym, ◌∙◌, arith}
 use Rattle.std.specs.Prelude.{ℤ}
 use Rattle.rtps_writer.specs.WriterState.{history_of, last_of}
 use Rattle.rtps_writer.proofs.Parts.{history_at, stands-joined, stands_as}
@@ -18,7 +18,12 @@ returns-clause-ok c = λ s given.
           (history_of s) h,
       c.last.ensures.few (history_of s) h,
     ) in
-    stands-joined _ s c.args.count next c.join.new.self _ _ here next_is (c.in_ok-join.ensures.ok (history_of s) h)
+    stands-joined _ s c.args.count c.args.is_silent next c.join.new.self _ _ _ _ here next_is
+    (c.in_ok-join.ensures.ok (history_of s) h)
     (c.push_reserved.ensures.items ∙ ap (λ (ns : List ℕ). ns ++ next ∷ []) c.in_ok-reserve.ensures.items)
     (c.push_reserved-2.ensures.items
     ∙ ap (λ (cs : List (Option ℤ)). cs ++ c.args.count ∷ []) c.in_ok-reserve-2.ensures.items)
+    (c.push_reserved-3.ensures.items
+    ∙ ap (λ (bs : List Bool). bs ++ false ∷ []) c.in_ok-reserve-3.ensures.items)
+    (c.push_reserved-4.ensures.items
+    ∙ ap (λ (bs : List Bool). bs ++ c.args.is_silent ∷ []) c.in_ok-reserve-4.ensures.items)
