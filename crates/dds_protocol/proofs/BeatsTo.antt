@@ -1,7 +1,7 @@
 -- The HEARTBEATs of a writer to one peer: what each of them is, how they stand in their message; and, of those of a tick,
 -- that one of them names each reader there that is behind.
 use Rattle.std.proofs.Common.{◌≡◌, ℕ, zero, suc, ◌+◌, ◌≤◌, Bool, true, false, cond, nat_le, pos, List, [], ◌∷◌, Some, Contains, length, map, filter, refl, subst, ap, sym, ◌∙◌, ◌⊎◌, inl, inr, ⊎_elim, eqb-true, arith}
-use Rattle.std.specs.Prelude.{if◌then◌else◌, ◌==◌}
+use Rattle.std.specs.Prelude.{if◌then◌else◌, ◌==◌, ◌||◌}
 use Rattle.std.specs.List.{AllByRecursion}
 use Rattle.std.specs.Option.{option_map}
 use Rattle.std.proofs.lemmas.Bool.Decides.{nat_tests}
@@ -22,7 +22,8 @@ use Rattle.dds_machine.specs.Part.{Part, ReaderProxy, Writer, same_endpoint, row
 use Rattle.dds_machine.proofs.Tables.{same_is}
 use Rattle.dds_protocol.specs.Claims.{Receiver, receiver_of, every_reader, Names, StandsAt, StandsIn, Claim, Claims, Says}
 use Rattle.dds_protocol.specs.Receipt.{prefix_of}
-use Rattle.dds_protocol.specs.DueMessages.{reader_entity, writer_entity, readers_behind, begins_at, is_one_for_all, heartbeats_to}
+use Rattle.dds_protocol.specs.Contact.{Contact, awaits_heartbeat}
+use Rattle.dds_protocol.specs.DueMessages.{reader_entity, writer_entity, is_told, readers_told, begins_at, ends_at, is_one_for_all, heartbeats_to}
 use Rattle.dds_protocol.proofs.Composed.{front_or_rest, later_in}
 use Rattle.dds_protocol.proofs.CountsWritten.{contains_map}
 use Rattle.dds_protocol.proofs.Dues.{addressed, message_to, stands_again, told_to}
@@ -137,81 +138,89 @@ beat_says config own to P ss claim all writable h =
 
 -- ---- those of a writer
 
--- the next HEARTBEAT of a writer, with these flags, to readers of this entity id, from this first number on
-abbrev pub beat_body : (final liveliness : Bool) (reader writer : EntityId) → ℕ → Writer → HeartbeatBody
-beat_body final liveliness reader writer first w = record {
+-- the next HEARTBEAT of a writer, with these flags, to readers of this entity id, from this number to that
+abbrev pub beat_body : (final liveliness : Bool) (reader writer : EntityId) → ℕ → ℕ → Writer → HeartbeatBody
+beat_body final liveliness reader writer first last w = record {
   reader_id = reader;
   writer_id = writer;
   first_sn = first;
-  last_sn = length (writer_changes w);
+  last_sn = last;
   count = pos (heartbeats_used w + 1);
   final_flag = final;
   liveliness_flag = liveliness;
 }
 
--- to all readers, from the first kept number; or by name to one at this peer, from where that one begins
-abbrev pub IsToSome : Config → Writer → ℕ → EntityId → ℕ → Type 0
-IsToSome config w to reader first =
-    ((reader ≡ every_reader) × (first ≡ first_kept (history_of w)))
-    ⊎ ((r : Endpoint) × (r.peer ≡ to) × (reader ≡ reader_entity config r.peer r.number) × (first ≡ begins_at w r))
+-- to all readers, from the first kept number to the last; or by name to one at this peer, from where that one begins to
+-- where it ends
+abbrev pub IsToSome : Config → (Endpoint → Contact) → Writer → ℕ → EntityId → ℕ → ℕ → Type 0
+IsToSome config contacts w to reader first last =
+    ((reader ≡ every_reader) × (first ≡ first_kept (history_of w)) × (last ≡ length (writer_changes w)))
+    ⊎ ((r : Endpoint) × (r.peer ≡ to) × (reader ≡ reader_entity config r.peer r.number) × (first ≡ begins_at w r)
+    × (last ≡ ends_at contacts w r))
 
 -- the HEARTBEAT is such a one of the peer's writer of this number
-pub record IsBeatTo (config : Config) (final liveliness : Bool) (peer number : ℕ) (w : Writer) (to : ℕ)
-    (h : HeartbeatBody) : Type 0 where
-  pub is : h ≡ beat_body final liveliness h.reader_id (writer_entity config peer number) h.first_sn w
-  pub whom : IsToSome config w to h.reader_id h.first_sn
+pub record IsBeatTo (config : Config) (final liveliness : Bool) (peer number : ℕ) (contacts : Endpoint → Contact)
+    (w : Writer) (to : ℕ) (h : HeartbeatBody) : Type 0 where
+  pub is : h ≡ beat_body final liveliness h.reader_id (writer_entity config peer number) h.first_sn h.last_sn w
+  pub whom : IsToSome config contacts w to h.reader_id h.first_sn h.last_sn
 
 -- so is each of those to this peer's readers
-pub are_beats : (config : Config) (final liveliness : Bool) (peer number : ℕ) (w : Writer) (readers : List Endpoint)
-    (to : ℕ) → AreBeats (IsBeatTo config final liveliness peer number w to)
-    (heartbeats_to config final liveliness peer number w readers to)
-are_beats config final liveliness peer number w readers to = by (is_one_for_all w to)
+pub are_beats : (config : Config) (final liveliness : Bool) (peer number : ℕ) (contacts : Endpoint → Contact)
+    (w : Writer) (readers : List Endpoint) (to : ℕ)
+    → AreBeats (IsBeatTo config final liveliness peer number contacts w to)
+    (heartbeats_to config final liveliness peer number contacts w readers to)
+are_beats config final liveliness peer number contacts w readers to = by (is_one_for_all contacts w to)
   where
     entity : EntityId
     entity = writer_entity config peer number
 
     body : Endpoint → HeartbeatBody
-    body r = beat_body final liveliness (reader_entity config r.peer r.number) entity (begins_at w r) w
+    body r =
+        beat_body final liveliness (reader_entity config r.peer r.number) entity (begins_at w r) (ends_at contacts w r)
+        w
 
-    at_peer : (r : Endpoint) → (r.peer == to) ≡ true → IsBeatTo config final liveliness peer number w to (body r)
-    at_peer r is = record { is = refl; whom = inr (r, eqb-true r.peer to is, refl, refl) }
+    at_peer : (r : Endpoint) → (r.peer == to) ≡ true
+        → IsBeatTo config final liveliness peer number contacts w to (body r)
+    at_peer r is = record { is = refl; whom = inr (r, eqb-true r.peer to is, refl, refl, refl) }
 
-    by : (b : Bool) → AreBeats (IsBeatTo config final liveliness peer number w to)
-        (if b then Heartbeat (beat_body final liveliness every_reader entity (first_kept (history_of w)) w) ∷ []
+    by : (b : Bool) → AreBeats (IsBeatTo config final liveliness peer number contacts w to)
+        (if b then Heartbeat (beat_body final liveliness every_reader entity (first_kept (history_of w))
+        (length (writer_changes w)) w) ∷ []
         else map (λ (r : Endpoint). Heartbeat (body r)) (filter (λ (r : Endpoint). r.peer == to) readers))
-    by true = (record { is = refl; whom = inl (refl, refl) }, tt)
+    by true = (record { is = refl; whom = inl (refl, refl, refl) }, tt)
     by false =
-        beats_filter (IsBeatTo config final liveliness peer number w to) body (λ (r : Endpoint). r.peer == to) at_peer
-        readers
+        beats_filter (IsBeatTo config final liveliness peer number contacts w to) body (λ (r : Endpoint). r.peer == to)
+        at_peer readers
 
 -- ---- those of a tick
 
--- the next HEARTBEAT of the peer's writer of this number, to readers of this entity id, from this first number on
-abbrev pub beat_of : Config → ℕ → Part → ℕ → EntityId → ℕ → HeartbeatBody
-beat_of config peer part number reader_id first =
-    beat_body false false reader_id (writer_entity config peer number) first (own_writer part number)
+-- the next HEARTBEAT of the peer's writer of this number, to readers of this entity id, from this number to that
+abbrev pub beat_of : Config → ℕ → Part → ℕ → EntityId → ℕ → ℕ → HeartbeatBody
+beat_of config peer part number reader_id first last =
+    beat_body false false reader_id (writer_entity config peer number) first last (own_writer part number)
 
--- those to this peer's readers that are behind
-abbrev pub beats_to : Config → ℕ → Part → ℕ → ℕ → List Submessage
-beats_to config peer part number to =
-    heartbeats_to config false false peer number (own_writer part number) (readers_behind (own_writer part number)) to
+-- those to this peer's readers that are behind, ask for one, or are silent
+abbrev pub beats_to : Config → (ℕ → Endpoint → Contact) → ℕ → Part → ℕ → ℕ → List Submessage
+beats_to config contacts peer part number to =
+    heartbeats_to config false false peer number (contacts number) (own_writer part number)
+    (readers_told (contacts number) (own_writer part number)) to
 
-abbrev pub beat_message : Config → ℕ → Part → ℕ → ℕ → Message
-beat_message config peer part number to =
-    message_to (prefix_of config peer) (prefix_of config to) (beats_to config peer part number to)
+abbrev pub beat_message : Config → (ℕ → Endpoint → Contact) → ℕ → Part → ℕ → ℕ → Message
+beat_message config contacts peer part number to =
+    message_to (prefix_of config peer) (prefix_of config to) (beats_to config contacts peer part number to)
 
 -- each of them is such a one
-abbrev pub IsBeatOf : Config → ℕ → Part → ℕ → HeartbeatBody → Type 0
-IsBeatOf config peer part number h = h ≡ beat_of config peer part number h.reader_id h.first_sn
+abbrev pub IsBeatOf : Config → (ℕ → Endpoint → Contact) → ℕ → Part → ℕ → ℕ → HeartbeatBody → Type 0
+IsBeatOf config contacts peer part number to h =
+    IsBeatTo config false false peer number (contacts number) (own_writer part number) to h
 
-pub beats_are : (config : Config) (peer : ℕ) (part : Part) (number to : ℕ)
-    → AreBeats (IsBeatOf config peer part number) (beats_to config peer part number to)
-beats_are config peer part number to =
-    beats_weaker (IsBeatTo config false false peer number (own_writer part number) to) (IsBeatOf config peer part number)
-    (λ h k. k.is) (beats_to config peer part number to)
-    (are_beats config false false peer number (own_writer part number) (readers_behind (own_writer part number)) to)
+pub beats_are : (config : Config) (contacts : ℕ → Endpoint → Contact) (peer : ℕ) (part : Part) (number to : ℕ)
+    → AreBeats (IsBeatOf config contacts peer part number to) (beats_to config contacts peer part number to)
+beats_are config contacts peer part number to =
+    are_beats config false false peer number (contacts number) (own_writer part number)
+    (readers_told (contacts number) (own_writer part number)) to
 
--- ---- who is behind
+-- ---- who is told
 
 contains_filter : {X : Type 0} (test : X → Bool) (xs : List X) (x : X) → Contains xs x → test x ≡ true
     → Contains (filter test xs) x
@@ -258,15 +267,14 @@ row_there (p ∷ ps) r a h = by (same_endpoint p.reader r) refl h (λ k. row_the
           acknowledged = f.acknowledged;
         }
 
--- a reader that has not acknowledged all is among those that are behind
-pub reader_behind : (w : Writer) (r : Endpoint) (a : ℕ) → acknowledged_of w.readers r ≡ Some a
-    → a ≤ length (writer_changes w) → Contains (readers_behind w) r
-reader_behind w r a h low =
-    subst (λ (x : Endpoint). Contains (readers_behind w) x) f.is
-    (contains_map (λ (p : ReaderProxy). p.reader)
-    (filter (λ (p : ReaderProxy). nat_le p.acknowledged (length (writer_changes w))) w.readers) f.row
-    (contains_filter (λ (p : ReaderProxy). nat_le p.acknowledged (length (writer_changes w))) w.readers f.row f.among
-    small))
+-- a reader that has not acknowledged all is among those that are told
+pub reader_told : (contacts : Endpoint → Contact) (w : Writer) (r : Endpoint) (a : ℕ)
+    → acknowledged_of w.readers r ≡ Some a → a ≤ length (writer_changes w) → Contains (readers_told contacts w) r
+reader_told contacts w r a h low =
+    subst (λ (x : Endpoint). Contains (readers_told contacts w) x) f.is
+    (contains_map (λ (p : ReaderProxy). p.reader) (filter (is_told contacts w) w.readers) f.row
+    (contains_filter (is_told contacts w) w.readers f.row f.among
+    (ap (λ (b : Bool). b || awaits_heartbeat (contacts f.row.reader)) small)))
   where
     f : RowOf w.readers r a
     f = row_there w.readers r a h
@@ -275,44 +283,51 @@ reader_behind w r a h low =
     small = let same = f.acknowledged in grind (arith, nat_tests, same, low)
 
 -- one of the HEARTBEATs to its peer names it
-pub record NamedBeat (config : Config) (peer : ℕ) (part : Part) (number : ℕ) (reader : Endpoint) : Type 0 where
+pub record NamedBeat (config : Config) (contacts : ℕ → Endpoint → Contact) (peer : ℕ) (part : Part) (number : ℕ)
+    (reader : Endpoint) : Type 0 where
   pub body : HeartbeatBody
-  pub among : Contains (beats_to config peer part number reader.peer) (Heartbeat body)
+  pub among : Contains (beats_to config contacts peer part number reader.peer) (Heartbeat body)
   pub named : Names body.reader_id (reader_entity config reader.peer reader.number)
 
-pub named_beat : (config : Config) (peer : ℕ) (part : Part) (number : ℕ) (reader : Endpoint) (a : ℕ)
+pub named_beat : (config : Config) (contacts : ℕ → Endpoint → Contact) (peer : ℕ) (part : Part) (number : ℕ)
+    (reader : Endpoint) (a : ℕ)
     → acknowledged_of (own_writer part number).readers reader ≡ Some a
-    → a ≤ length (writer_changes (own_writer part number)) → NamedBeat config peer part number reader
-named_beat config peer part number reader a row low = by (is_one_for_all w reader.peer) (λ b among named. record {
-  body = b;
-  among = among;
-  named = named;
-})
+    → a ≤ length (writer_changes (own_writer part number)) → NamedBeat config contacts peer part number reader
+named_beat config contacts peer part number reader a row low =
+    by (is_one_for_all (contacts number) w reader.peer) (λ b among named. record {
+      body = b;
+      among = among;
+      named = named;
+    })
   where
     w : Writer
     w = own_writer part number
 
     ends : List Endpoint
-    ends = filter (λ (r : Endpoint). r.peer == reader.peer) (readers_behind w)
+    ends = filter (λ (r : Endpoint). r.peer == reader.peer) (readers_told (contacts number) w)
 
     body : Endpoint → HeartbeatBody
-    body r = beat_of config peer part number (reader_entity config r.peer r.number) (begins_at w r)
+    body r =
+        beat_of config peer part number (reader_entity config r.peer r.number) (begins_at w r)
+        (ends_at (contacts number) w r)
+
+    all : HeartbeatBody
+    all = beat_of config peer part number every_reader (first_kept (history_of w)) (length (writer_changes w))
 
     beats : Bool → List Submessage
     beats b =
-        if b then Heartbeat (beat_of config peer part number every_reader (first_kept (history_of w))) ∷ []
-        else map (λ (r : Endpoint). Heartbeat (body r)) ends
+        if b then Heartbeat all ∷ [] else map (λ (r : Endpoint). Heartbeat (body r)) ends
 
     by : (b : Bool)
         → ((x : HeartbeatBody) → Contains (beats b) (Heartbeat x)
-        → Names x.reader_id (reader_entity config reader.peer reader.number) → NamedBeat config peer part number reader)
-        → NamedBeat config peer part number reader
+        → Names x.reader_id (reader_entity config reader.peer reader.number)
+        → NamedBeat config contacts peer part number reader)
+        → NamedBeat config contacts peer part number reader
     by true make =
-        make (beat_of config peer part number every_reader (first_kept (history_of w))) (0, omega arith, refl)
-        (inr refl)
+        make all (0, omega arith, refl) (inr refl)
     by false make =
         make (body reader)
         (contains_map (λ (r : Endpoint). Heartbeat (body r)) ends reader
-        (contains_filter (λ (r : Endpoint). r.peer == reader.peer) (readers_behind w) reader
-        (reader_behind w reader a row low) (eqb-refl reader.peer)))
+        (contains_filter (λ (r : Endpoint). r.peer == reader.peer) (readers_told (contacts number) w) reader
+        (reader_told (contacts number) w reader a row low) (eqb-refl reader.peer)))
         (inl refl)

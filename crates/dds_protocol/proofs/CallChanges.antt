@@ -2,6 +2,7 @@
 -- cases, and has no rows by call.
 use Rattle.std.proofs.Common.{◌≡◌, ℕ, Bool, true, false, List, [], ◌∷◌, ◌++◌, map, refl, sym, subst, inl, inr}
 use Rattle.std.specs.Prelude.{Option, Some, None, set}
+use Rattle.std.specs.Option.{option_map_or}
 use Rattle.dds_base.specs.declared.code.Code.{Code}
 use Rattle.dds_base.specs.declared.code.Code.TheVariants.{NoData}
 use Rattle.dds_base.specs.declared.entity.Entity.{Entity}
@@ -18,9 +19,9 @@ use Rattle.dds_machine.specs.declared.call.Call.{Call}
 use Rattle.dds_machine.specs.declared.call.Call.TheVariants as call
 use Rattle.dds_machine.specs.declared.reply.Reply.{Reply}
 use Rattle.dds_machine.specs.declared.reply.Reply.TheVariants.{Done, InstanceHandle, Samples, KeyValue, Refused}
-use Rattle.dds_machine.specs.Part.{Part, Dds, Seen, own_proxies}
+use Rattle.dds_machine.specs.Part.{Part, Dds, Seen, own_proxies, publication_among}
 use Rattle.dds_machine.specs.Calls.{after_look, after_matches_look, with_happening, IsDoneUnless, IsAnswered, IsAnsweredInMemory, AnswersLook, AnswersAccess, AnswersByCondition, AnswersTelling, Answers, reader_told}
-use Rattle.dds_machine.specs.Matching.{Telling, MatchReader, UnmatchReader, MatchWriter, UnmatchWriter, handle_among, seen_after_telling}
+use Rattle.dds_machine.specs.Matching.{Telling, MatchReader, UnmatchReader, MatchWriter, UnmatchWriter, seen_after_telling}
 use Rattle.dds_machine.specs.Watching.{Test, Tests}
 
 -- of the WaitSets: nothing; one of them is another, or none; there is one more; or a condition is detached from each
@@ -173,10 +174,10 @@ changes_of tests old call.CreateWaitSet reply new a = in_memory _ _ _ _ old repl
 changes_of tests old (call.AttachCondition s c) reply new a = in_memory _ _ _ _ old reply new (search after_calls) a
 changes_of tests old (call.GetConditions s) reply new a = in_memory _ _ _ _ old reply new (search after_calls) a
 changes_of tests old (call.WaitLook s) reply new a = looked _ _ old s reply new a
-changes_of tests old (call.MatchReader v r) reply new a =
+changes_of tests old (call.MatchReader v r greeted) reply new a =
     told_or_not (reader_told old v r) Done old reply new a
 changes_of tests old (call.UnmatchReader v r) reply new a = told_or_not (UnmatchReader v r) Done old reply new a
 changes_of tests old (call.MatchWriter v w) reply new a =
-    told_or_not (MatchWriter v w) (InstanceHandle (handle_among (own_proxies old v) w)) old reply new a
+    told_or_not (MatchWriter v w) (InstanceHandle (option_map_or (λ handle. handle) (publication_among (own_proxies old v) w) 0)) old reply new a
 changes_of tests old (call.UnmatchWriter v w) reply new a = told_or_not (UnmatchWriter v w) Done old reply new a
 changes_of tests old c reply new a = answered _ _ _ old reply new (search after_calls) a

@@ -41,6 +41,7 @@ use Rattle.dds_machine.specs.Calls.{CallStep}
 use Rattle.dds_machine.specs.Matching.{Telling, TellStep}
 use Rattle.dds_machine.specs.Watching.{Tests}
 use Rattle.dds_protocol.specs.Claims.{Receiver, after_submessage, receiver_of, IsNumbered, IsToReliable, Says, Claim, ChangeIs, MayPass, PlaceReached, Asserts, Claims, Claimed}
+use Rattle.dds_protocol.specs.DueMessages.{was_asked}
 use Rattle.dds_protocol.specs.Peer.{Peer, Delivery, PeerStep, EventStep, no_peer, claimed, claimed_by, packets_of, IsTrueAt}
 use Rattle.dds_machine.specs.Machine.{Machine, AllTests, part_at, writer_at, place_at, grounds_of, AtPeer, Step, IsRefused}
 use Rattle.dds_protocol.specs.World.{WorldState, peer_at, machine_of, PeerSteps, IsRefusedIn, WorldStep, Holds, Sound}
@@ -499,7 +500,8 @@ part_step config tests m i (event.Call call) before reply after is at_i keeps se
       (λ (ds : List Delivery). DeliveredHold config m ds) (sym h.1) all,
 )
 part_step config tests m i (event.Tick now) before reply after is at_i keeps sent all h = (
-  subst (λ (q : Part). TickStep q now reply after.part) (sym at_i) h.0,
+  subst (λ (q : Part). TickStep q now reply after.part) (sym at_i)
+      (was_asked before.known.answered before.part, h.0),
   tt,
   subst
       (λ (ds : List Delivery). DeliveredHold config m ds) (sym h.1) all,

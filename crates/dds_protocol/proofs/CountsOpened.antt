@@ -118,5 +118,6 @@ opens_used config = record {
       let none =
       sym (ap (λ (k : Known). (k.tracked w r.number).count) (opened_is_fresh config r.peer).known) ∙ e in absurd cc;
   acknack_taken = λ w r count e.
-      let none = sym (ap (λ (k : Known). k.answered w.number r) (opened_is_fresh config w.peer).known) ∙ e in absurd cc;
+      let none =
+      sym (ap (λ (k : Known). (k.answered w.number r).count) (opened_is_fresh config w.peer).known) ∙ e in absurd cc;
 }

@@ -1,6 +1,6 @@
 -- While a packet is taken up, no count is taken that its sender has not used, and each ACKNACK that is due has a count
 -- that its reader uses with it.
-use Rattle.std.proofs.Common.{◌≡◌, ◌⊎◌, ℕ, ℤ, pos, suc, ◌+◌, ◌≤◌, ◌≤ℤ◌, ◌==◌, ◌&&◌, Bool, true, false, cond, List, [], ◌∷◌, ◌++◌, Option, Some, None, Contains, length, refl, subst, ap, sym, ◌∙◌, inl, inr, ⊎_elim, arith, eqb-true, max}
+use Rattle.std.proofs.Common.{◌≡◌, ◌⊎◌, ℕ, ℤ, pos, suc, ◌+◌, ◌≤◌, ◌≤ℤ◌, Bool, true, false, List, [], ◌∷◌, ◌++◌, Option, Some, None, Contains, length, refl, subst, ap, sym, ◌∙◌, inl, inr, ⊎_elim, arith, max}
 use Rattle.std.proofs.lemmas.Int.{ints}
 use Rattle.std.proofs.lemmas.List.Elements.{Contains-append_cases}
 use Rattle.std.proofs.lemmas.Option.{same_Some}
@@ -24,21 +24,22 @@ use Rattle.rtps_writer.specs.declared.answer.Answer.{Answer}
 use Rattle.dds_base.specs.declared.endpoint.Endpoint.{Endpoint}
 use Rattle.dds_machine.specs.declared.reply.Move.{Move}
 use Rattle.dds_machine.specs.declared.reply.Report.{Report}
-use Rattle.dds_machine.specs.Part.{Attachment, Away, Waiting, Begun, ReaderProxy, WriterProxy, same_endpoint, own_writer, writer_changes}
+use Rattle.dds_machine.specs.Part.{Attachment, Away, Waiting, Begun, ReaderProxy, WriterProxy, own_writer, writer_changes}
 use Rattle.dds_protocol.specs.Claims.{Receiver, receiver_of, after_submessage, StandsAt, StandsIn, IsWriter, IsToReader, IsToWriter}
 use Rattle.dds_protocol.specs.Receipt.{prefix_of}
 use Rattle.dds_protocol.specs.DueMessages.{Due, acknack_message, acknacks_due, answer_message}
-use Rattle.dds_protocol.specs.Protocol.{BeginsWith, HearsAlone, Known, State, stands_to, InTurn, TakesChange, heard_as, Idles, TakesHeartbeat, TakesAckNack, ReaderTakes, WriterTakes, Takes, FollowsMessage, TakesPacket, with_answered}
+use Rattle.dds_protocol.specs.Contact.{Contact}
+use Rattle.dds_protocol.specs.Protocol.{BeginsWith, HearsAlone, Known, State, stands_to, InTurn, TakesChange, heard_as, Idles, TakesHeartbeat, TakesAckNack, ReaderTakes, WriterTakes, Takes, FollowsMessage, TakesPacket, contact_after, with_answered}
 use Rattle.dds_protocol.specs.Resuming.{GoesAgain, GoAgain}
 use Rattle.dds_protocol.specs.Backed.{reader_at}
 use Rattle.dds_protocol.specs.Fresh.{HasHeartbeat, HasAckNack}
 use Rattle.dds_protocol.proofs.Composed.{is_alone}
+use Rattle.dds_protocol.proofs.Contacts.{with_one}
 use Rattle.dds_protocol.proofs.CountsWritten.{plain_beats, plain_asks, plain_answers, one_ask, one_ask_beats, each_of}
 use Rattle.dds_protocol.proofs.DuesAcknacks.{ask_body, answer_names}
 use Rattle.dds_protocol.proofs.Framing.{pair_or_not}
 use Rattle.dds_protocol.proofs.Ways.{Went, goes_went, after_change, after_change-same, change_went, gap_went, met_change, met_gap, met_heartbeat}
 use Rattle.dds_protocol.proofs.Learning.{Learns, alone_learns, asserting_known, starts_known, starts_learns, way_learns, heartbeat_learns}
-use Rattle.dds_machine.proofs.Tables.{same_is}
 use Rattle.dds_protocol.proofs.Turns.{in_turn}
 
 -- a peer of a configuration, and how many counts each writer has used, and each reader for each writer
@@ -71,8 +72,8 @@ pub record Counts (c : Counting) (old : State) (dues : List Due) (new : State) :
   pub asked : (w : Endpoint) (r : ℕ) → (old.known.tracked w r).acknacks ≤ (new.known.tracked w r).acknacks
   pub taken : (w : Endpoint) (r : ℕ) (count : ℤ) → (new.known.tracked w r).count ≡ Some count
       → ((old.known.tracked w r).count ≡ Some count) ⊎ (count ≤ℤ pos (c.beats w))
-  pub answered : (w : ℕ) (r : Endpoint) (count : ℤ) → new.known.answered w r ≡ Some count
-      → (old.known.answered w r ≡ Some count) ⊎ (count ≤ℤ pos (c.asks (reader_at c.peer w) r))
+  pub answered : (w : ℕ) (r : Endpoint) (count : ℤ) → (new.known.answered w r).count ≡ Some count
+      → ((old.known.answered w r).count ≡ Some count) ⊎ (count ≤ℤ pos (c.asks (reader_at c.peer w) r))
   pub counted : (due : Due) → Contains dues due → IsCounted c new due
 
 counts_none : (c : Counting) (s : State) → Counts c s [] s
@@ -122,7 +123,7 @@ learned_counts : (c : Counting) (old : State) (w : Endpoint) (r : ℕ) (t : Trac
 learned_counts c old w r t dues new l more counted all = record {
   asked = λ v k. asked_of v k (pair_or_not v k w r);
   taken = λ v k count e. taken_of v k count e (pair_or_not v k w r);
-  answered = λ v x count e. inl (sym (l.answered v x) ∙ e);
+  answered = λ v x count e. inl (sym (ap (λ (k : Contact). k.count) (l.answered v x)) ∙ e);
   counted = all;
 }
   where
@@ -309,21 +310,14 @@ reader_counts c at (Other x) used r old moves dues new h = counts_idle c old mov
 
 -- ---- a writer
 
-both_hold : (a b : Bool) → (a && b) ≡ true → (a ≡ true) × (b ≡ true)
-both_hold true b h = (refl, h)
-both_hold false b h = cc
-
-answered_now : (known : Known) (w : ℕ) (r : Endpoint) (n : ℤ) (v : ℕ) (x : Endpoint) (count : ℤ)
-    → (with_answered known w r n).answered v x ≡ Some count → (known.answered v x ≡ Some count)
-    ⊎ ((v ≡ w) × (x ≡ r) × (n ≡ count))
-answered_now known w r n v x count h = by ((v == w) && same_endpoint x r) refl h
-  where
-    by : (b : Bool) → ((v == w) && same_endpoint x r) ≡ b → cond b (Some n) (known.answered v x) ≡ Some count
-        → (known.answered v x ≡ Some count) ⊎ ((v ≡ w) × (x ≡ r) × (n ≡ count))
-    by true e k =
-        let both = both_hold (v == w) (same_endpoint x r) e in
-        inr (eqb-true v w both.0, same_is x r both.1, same_Some n count k)
-    by false e k = inl k
+answered_now : (known : Known) (w : ℕ) (r : Endpoint) (contact : Contact) (v : ℕ) (x : Endpoint) (count : ℤ)
+    → ((with_answered known w r contact).answered v x).count ≡ Some count
+    → ((known.answered v x).count ≡ Some count) ⊎ ((v ≡ w) × (x ≡ r) × (contact.count ≡ Some count))
+answered_now known w r contact v x count h =
+    with_one
+    (λ y z (c : Contact). c.count ≡ Some count
+    → ((known.answered y z).count ≡ Some count) ⊎ ((y ≡ w) × (z ≡ r) × (contact.count ≡ Some count)))
+    known w r contact (λ is. inr (refl, refl, is)) v x (λ is. inl is) h
 
 answer_counted : (c : Counting) (s : State) (own to : GuidPrefix) (reader writer : EntityId) (changes : List Change)
     (n : ℕ) (group : List Answer)
@@ -348,13 +342,13 @@ acknack_counts c at a used writer reader old is moves dues new k = record {
   taken = λ w r count e. inl (sym (ap (λ (s : State). (s.known.tracked w r).count) k.after) ∙ e);
   answered = λ v x count e.
       ⊎_elim (λ o. inl o)
-      (λ (n : (v ≡ writer) × (x ≡ reader) × (a.count ≡ count)).
-      inr (subst (λ (z : ℤ). z ≤ℤ pos (c.asks (reader_at c.peer v) x)) n.2
+      (λ (n : (v ≡ writer) × (x ≡ reader) × (◌≡◌ {A = Option ℤ} (Some a.count) (Some count))).
+      inr (subst (λ (z : ℤ). z ≤ℤ pos (c.asks (reader_at c.peer v) x)) (same_Some a.count count n.2)
       (subst (λ (y : Endpoint). a.count ≤ℤ pos (c.asks (reader_at c.peer v) y)) (sym n.1)
       (subst (λ (m : ℕ). a.count ≤ℤ pos (c.asks (reader_at c.peer m) reader)) (sym n.0)
       (used (reader_at c.peer writer) reader is)))))
-      (answered_now old.known writer reader a.count v x count
-      (sym (ap (λ (s : State). s.known.answered v x) k.after) ∙ e));
+      (answered_now old.known writer reader (contact_after (old.known.answered writer reader) a) v x count
+      (sym (ap (λ (s : State). (s.known.answered v x).count) k.after) ∙ e));
   counted = λ due among.
       each_of (IsCounted c new)
       (λ group. record {
@@ -473,6 +467,6 @@ packet_counts c bytes name beats asks old report dues new (inl h) =
 packet_counts c bytes name beats asks old report dues new (inr h) = record {
   asked = λ w r. let same = ap (λ (k : Known). (k.tracked w r).acknacks) h.1 in omega (arith, same);
   taken = λ w r count e. inl (sym (ap (λ (k : Known). (k.tracked w r).count) h.1) ∙ e);
-  answered = λ w r count e. inl (sym (ap (λ (k : Known). k.answered w r) h.1) ∙ e);
+  answered = λ w r count e. inl (sym (ap (λ (k : Known). (k.answered w r).count) h.1) ∙ e);
   counted = λ due among. no_dues c new dues h.2 due among;
 }

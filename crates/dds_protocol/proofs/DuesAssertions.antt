@@ -22,6 +22,7 @@ use Rattle.dds_machine.specs.Refusals.{assert_refusal}
 use Rattle.dds_machine.specs.Watching.{Tests}
 use Rattle.dds_protocol.specs.Claims.{Claim, ChangeIs, MayPass, PlaceReached, Asserts}
 use Rattle.dds_protocol.specs.Peer.{IsTrueAt}
+use Rattle.dds_protocol.specs.Contact.{Contact}
 use Rattle.dds_protocol.specs.DueMessages.{Due, heartbeats_due_to, assertions_due}
 use Rattle.dds_protocol.specs.Dues.{IsPartOf, IsTruthful, AreTruthful, IsSized, HasSmallChanges, HasFewMatches, CanBeWritten}
 use Rattle.dds_protocol.proofs.DuesFew.{matched_few}
@@ -32,23 +33,23 @@ use Rattle.dds_protocol.proofs.Growth.{CallStep-grows, CallStep-readers}
 use Rattle.dds_machine.proofs.Tables.{no_less_same, number_there, numbered-same}
 
 -- the message that tells an assertion of the peer's writer to the peer of this number
-abbrev pub assertion_due : Config → ℕ → Part → ℕ → ℕ → Due
-assertion_due config peer part number to =
-    heartbeats_due_to config true true peer number (own_writer part number) (own_writer part number).matched to
+abbrev pub assertion_due : Config → (Endpoint → Contact) → ℕ → Part → ℕ → ℕ → Due
+assertion_due config contacts peer part number to =
+    heartbeats_due_to config true true peer number contacts (own_writer part number) (own_writer part number).matched to
 
 -- it is so of each message that tells an assertion of a writer that is there and has readers
-abbrev pub OfEachTold : Config → ℕ → Part → ℕ → (Due → Type 0) → Type 0
-OfEachTold config peer part number P =
+abbrev pub OfEachTold : Config → (Endpoint → Contact) → ℕ → Part → ℕ → (Due → Type 0) → Type 0
+OfEachTold config contacts peer part number P =
     HasNumber part.rtps.writers number → has_readers (own_writer part number) ≡ true → (to : ℕ)
-    → P (assertion_due config peer part number to)
+    → P (assertion_due config contacts peer part number to)
 
-pub told_each : (config : Config) (peer : ℕ) (part : Part) (number : ℕ) (P : Due → Type 0)
-    → OfEachTold config peer part number P
-    → All P (assertions_due config (record { peer = peer; number = number }) (own_writer part number))
-told_each config peer part number P each = by (own_writer part number).matched refl
+pub told_each : (config : Config) (contacts : Endpoint → Contact) (peer : ℕ) (part : Part) (number : ℕ)
+    (P : Due → Type 0) → OfEachTold config contacts peer part number P
+    → All P (assertions_due config contacts (record { peer = peer; number = number }) (own_writer part number))
+told_each config contacts peer part number P each = by (own_writer part number).matched refl
   where
     tell : ℕ → Due
-    tell = assertion_due config peer part number
+    tell = assertion_due config contacts peer part number
 
     there : (e : Endpoint) (es : List Endpoint) → (own_writer part number).matched ≡ e ∷ es
         → HasNumber part.rtps.writers number
@@ -61,15 +62,14 @@ told_each config peer part number P each = by (own_writer part number).matched r
         (number_there part.rtps.writers number no_writer)
 
     by : (es : List Endpoint) → (own_writer part number).matched ≡ es
-        → All P (map (assertion_due config peer part number) (peers_of (own_writer part number).matched))
+        → All P (map tell (peers_of (own_writer part number).matched))
     by [] none =
-        subst (λ (es : List Endpoint). All P (map (assertion_due config peer part number) (peers_of es)))
-        (sym none) (All-nil P)
+        subst (λ (es : List Endpoint). All P (map tell (peers_of es))) (sym none) (All-nil P)
     by (e ∷ es) some =
         let lengths = ap (λ (all : List Endpoint). length all) some in
         let matched : has_readers (own_writer part number) ≡ true = grind (arith, nat_tests, lengths) in
-        All-map P (assertion_due config peer part number) (peers_of (own_writer part number).matched)
-        (all_of (λ to. P (assertion_due config peer part number to)) (peers_of (own_writer part number).matched)
+        All-map P tell (peers_of (own_writer part number).matched)
+        (all_of (λ to. P (tell to)) (peers_of (own_writer part number).matched)
         (λ to among. each (there e es some) matched to))
 
 -- ---- the count of an assertion
@@ -129,17 +129,25 @@ told_says b tests new t to h is far (Asserts v r k) says =
       ap (λ (e : Endpoint). is_assertion (own_writer new e.number) k) same ∙ asserts,
     )
 
-pub assertions_true : (config : Config) (tests : Tests) (peer writer : ℕ) (old new : Part)
-    → check_refusal config.peers ≡ None → IsPartOf config peer old
+pub assertions_true : (config : Config) (tests : Tests) (contacts : Endpoint → Contact) (peer writer : ℕ)
+    (old new : Part) → check_refusal config.peers ≡ None → IsPartOf config peer old
     → CallStep tests old (AssertLiveliness writer) Done new
     → AreTruthful config peer new
-    (assertions_due config (record { peer = peer; number = writer }) (own_writer old writer))
-assertions_true config tests peer writer old new checked of step =
-    told_each config peer old writer (IsTruthful config peer new)
+    (assertions_due config contacts (record { peer = peer; number = writer }) (own_writer old writer))
+assertions_true config tests contacts peer writer old new checked of step =
+    told_each config contacts peer old writer (IsTruthful config peer new)
     (λ there matched to claim writable says.
     let own : OwnName config peer old writer = own_name config peer old of writer there in
     let b : Beating =
-    record { config = config; checked = checked; peer = peer; part = old; number = writer; own = own } in
+    record {
+      config = config;
+      checked = checked;
+      peer = peer;
+      part = old;
+      number = writer;
+      contacts = contacts;
+      own = own;
+    } in
     let t = due_says b true true (own_writer old writer).matched to claim writable says in
     told_says b tests new (record { there = there; matched = matched; step = step }) to t.body t.is t.far claim t.says)
 
@@ -157,15 +165,15 @@ left_if_done true true h = cc
 left_if_done true false h = refl
 left_if_done false b h = cc
 
-pub assertions_writable : (config : Config) (tests : Tests) (peer writer : ℕ) (old new : Part)
-    → IsPartOf config peer old
-    → CallStep tests old (AssertLiveliness writer) Done new → IsSized config → HasSmallChanges old
-    → HasFewMatches old
-    → All CanBeWritten (assertions_due config (record { peer = peer; number = writer }) (own_writer old writer))
-assertions_writable config tests peer writer old new of step sized small few =
-    told_each config peer old writer CanBeWritten
-    (λ there matched to places. due_writable config true true peer old writer to (own_writer old writer).matched of
-    sized small there (matched_few (own_writer old writer) (few writer)) left)
+pub assertions_writable : (config : Config) (tests : Tests) (contacts : Endpoint → Contact) (peer writer : ℕ)
+    (old new : Part) → IsPartOf config peer old → CallStep tests old (AssertLiveliness writer) Done new
+    → IsSized config → HasSmallChanges old → HasFewMatches old
+    → All CanBeWritten
+    (assertions_due config contacts (record { peer = peer; number = writer }) (own_writer old writer))
+assertions_writable config tests contacts peer writer old new of step sized small few =
+    told_each config contacts peer old writer CanBeWritten
+    (λ there matched to places. due_writable config true true peer old writer to contacts
+    (own_writer old writer).matched of sized small there (matched_few (own_writer old writer) (few writer)) left)
   where
     used : nat_le (2 ^ 31 - 1) (heartbeats_used (own_writer old writer)) ≡ false
     used =

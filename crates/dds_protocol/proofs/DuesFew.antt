@@ -1,7 +1,7 @@
 -- A writer that is matched with none but the readers that it knows, once with each, is matched with no more of a peer than
 -- it knows there; and it stays so where it is told of readers.
 use Rattle.std.proofs.Common.{◌≡◌, ℕ, ◌+◌, ◌≤◌, Bool, true, false, not, cond, ◌||◌, List, [], ◌∷◌, ◌++◌, None, Some, map, filter, refl, subst, ap, sym, ◌∙◌, ⊎_elim, arith}
-use Rattle.std.specs.Prelude.{if◌then◌else◌, is_some, length, nat_le, ◌==◌}
+use Rattle.std.specs.Prelude.{if◌then◌else◌, is_some, ◌==◌}
 use Rattle.std.specs.List.{count_by, list_any}
 use Rattle.std.proofs.lemmas.Bool.{and_parts}
 use Rattle.std.proofs.lemmas.List.Folds.{list_any-append}
@@ -9,9 +9,10 @@ use Rattle.std.proofs.lemmas.List.Sums.{sum_by-append, sum_by-cons}
 use Rattle.std.proofs.lemmas.Map.Views.{any-filter_same}
 use Rattle.dds_base.specs.declared.endpoint.Endpoint.{Endpoint}
 use Rattle.dds_machine.specs.Matching.{new_row, Telling, MatchReader, UnmatchReader, MatchWriter, UnmatchWriter, TellStep, is_matched, joined, knows_reader, left, matching_refusal, telling_refusal}
-use Rattle.dds_machine.specs.Part.{Part, ReaderProxy, TopicReader, Writer, no_writer, own_writer, row_of, same_endpoint, writer_changes}
+use Rattle.dds_machine.specs.Part.{Part, ReaderProxy, TopicReader, Writer, no_writer, own_writer, row_of, same_endpoint}
 use Rattle.dds_machine.proofs.Tables.{numbered-cases, same_is}
-use Rattle.dds_protocol.specs.DueMessages.{readers_behind}
+use Rattle.dds_protocol.specs.Contact.{Contact}
+use Rattle.dds_protocol.specs.DueMessages.{is_told, readers_told}
 use Rattle.dds_protocol.specs.Dues.{AreFew, MatchesFew, HasFewMatches}
 use Rattle.dds_protocol.proofs.InOrder.{same_self}
 use Rattle.dds_protocol.proofs.Told.{after_told}
@@ -217,27 +218,24 @@ matched_few w m peer =
     (λ r there. sym (known_any w.known r) ∙ m.known r there) m.once in
     omega (arith, le, most)
 
--- so few are behind
-pub behind_few : (w : Writer) → MatchesFew w → AreFew (readers_behind w)
-behind_few w m peer =
+-- so few are told at a tick
+pub told_few : (contacts : Endpoint → Contact) (w : Writer) → MatchesFew w → AreFew (readers_told contacts w)
+told_few contacts w m peer =
     let test : Endpoint → Bool = λ r. r.peer == peer in
     let most = m.few peer in
-    let le = few_found test (map (λ (k : TopicReader). k.reader) w.known) (readers_behind w) found once in
+    let le = few_found test (map (λ (k : TopicReader). k.reader) w.known) (readers_told contacts w) found once in
     omega (arith, le, most)
   where
-    late : ReaderProxy → Bool
-    late p = nat_le p.acknowledged (length (writer_changes w))
-
-    fewer : (r : Endpoint) → count_by (is_end r) (readers_behind w) ≤ count_by (is_end r) w.matched
+    fewer : (r : Endpoint) → count_by (is_end r) (readers_told contacts w) ≤ count_by (is_end r) w.matched
     fewer r =
-        let same = count-map (is_end r) (λ (p : ReaderProxy). p.reader) (filter late w.readers) in
-        let le = count-filter (λ (p : ReaderProxy). same_endpoint p.reader r) late w.readers in
+        let same = count-map (is_end r) (λ (p : ReaderProxy). p.reader) (filter (is_told contacts w) w.readers) in
+        let le = count-filter (λ (p : ReaderProxy). same_endpoint p.reader r) (is_told contacts w) w.readers in
         let rows = m.rows r in omega (arith, same, le, rows)
 
-    once : (r : Endpoint) → count_by (is_end r) (readers_behind w) ≤ 1
+    once : (r : Endpoint) → count_by (is_end r) (readers_told contacts w) ≤ 1
     once r = let le = fewer r in let one = m.once r in omega (arith, le, one)
 
-    found : (r : Endpoint) → list_any (is_end r) (readers_behind w) ≡ true
+    found : (r : Endpoint) → list_any (is_end r) (readers_told contacts w) ≡ true
         → list_any (is_end r) (map (λ (k : TopicReader). k.reader) w.known) ≡ true
     found r there = by (is_matched w r) refl
       where
@@ -245,7 +243,7 @@ behind_few w m peer =
             → list_any (is_end r) (map (λ (k : TopicReader). k.reader) w.known) ≡ true
         by true is = sym (known_any w.known r) ∙ m.known r is
         by false is =
-            let some = count-some (is_end r) (readers_behind w) there in
+            let some = count-some (is_end r) (readers_told contacts w) there in
             let le = fewer r in
             let none = count-none (is_end r) w.matched is in absurd (omega (arith, some, le, none))
 

@@ -20,30 +20,32 @@ use Rattle.dds_machine.specs.Part.{Part, ReaderProxy, Writer, is_behind, no_writ
 use Rattle.dds_protocol.specs.Claims.{Receiver, IsWriter, IsToReader, Claim, ChangeIs, MayPass, PlaceReached, Asserts, Says, Claims}
 use Rattle.dds_protocol.specs.Receipt.{prefix_of}
 use Rattle.dds_protocol.specs.Peer.{IsTrueAt}
-use Rattle.dds_protocol.specs.DueMessages.{Due, reader_entity, writer_entity, readers_behind, begins_at, heartbeats_to, heartbeats_due_to, heartbeats_of, heartbeats_from, heartbeats_due}
+use Rattle.dds_protocol.specs.Contact.{Contact, awaits_heartbeat}
+use Rattle.dds_protocol.specs.DueMessages.{Due, reader_entity, writer_entity, readers_told, begins_at, heartbeats_to, heartbeats_due_to, heartbeats_of, heartbeats_from, heartbeats_due}
 use Rattle.dds_protocol.specs.Dues.{IsPartOf, IsTruthful, AreTruthful, IsSized, HasSmallChanges, AreFew, HasFewMatches, CanBeWritten}
 use Rattle.dds_protocol.proofs.BeatsTo.{BeatSays, IsBeatTo, IsToSome, are_beats, beat_says}
 use Rattle.dds_protocol.proofs.Dues.{addressed}
-use Rattle.dds_protocol.proofs.DuesFew.{behind_few}
+use Rattle.dds_protocol.proofs.DuesFew.{told_few}
 use Rattle.dds_protocol.proofs.DuesMatched.{OwnName, own_name, reader_named}
 use Rattle.dds_protocol.proofs.DuesUnkept.{Passes, below_begin_passes, below_first_passes}
 use Rattle.dds_protocol.proofs.DuesWritable.{heartbeats_writable}
 use Rattle.dds_protocol.proofs.DuesWritten.{reader_octets, writer_octets}
 use Rattle.dds_protocol.proofs.OwnGuids.{none_named, one_named, one_writer}
 
--- a writer of the peer, which the configuration has
+-- a writer of the peer, which the configuration has, and what it knows of its readers
 pub record Beating : Type 0 where
   pub config : Config
   pub checked : check_refusal config.peers ≡ None
   pub peer : ℕ
   pub part : Part
   pub number : ℕ
+  pub contacts : Endpoint → Contact
   pub own : OwnName config peer part number
 
 -- the HEARTBEAT is one of those that are due of it to this peer, with these flags
 abbrev pub IsBeatOf : Beating → (final liveliness : Bool) → ℕ → HeartbeatBody → Type 0
 IsBeatOf b final liveliness to h =
-    IsBeatTo b.config final liveliness b.peer b.number (own_writer b.part b.number) to h
+    IsBeatTo b.config final liveliness b.peer b.number b.contacts (own_writer b.part b.number) to h
 
 -- one of these submessages says it there
 abbrev pub SaysAt : Beating → GuidPrefix → ℕ → HeartbeatBody → Claim → Type 0
@@ -60,10 +62,32 @@ names_writer b final liveliness to h is v from =
     (subst (λ (e : EntityId). IsWriter b.config (prefix_of b.config b.peer) e v)
     (ap (λ (x : HeartbeatBody). x.writer_id) is.is) from) b.own.name
 
+-- whoever is named by the entity id of a reader at a peer is that reader
+pub named_one : (config : Config) (to : ℕ) (far from : GuidPrefix) (named writer_id : EntityId) (v r one : Endpoint)
+    → check_refusal config.peers ≡ None → one.peer ≡ to → named ≡ reader_entity config one.peer one.number
+    → IsToReader config far (addressed from (prefix_of config to)) named writer_id v r → r ≡ one
+named_one config to far from named writer_id v r one checked there is is_to =
+    ⊎_elim
+    (λ reader. one_named config (prefix_of config one.peer) entity writer_id far at v r one checked
+    (ap (λ (k : ℕ). prefix_of config k) (sym there)) reader is_named)
+    (λ none. absurd (none_named config writer_id far at v r checked
+    (subst (λ (e : EntityId). IsToReader config far at e writer_id v r) none is_named)))
+    (reader_named config one)
+  where
+    at : Receiver
+    at = addressed from (prefix_of config to)
+
+    entity : EntityId
+    entity = reader_entity config one.peer one.number
+
+    is_named : IsToReader config far at entity writer_id v r
+    is_named = subst (λ (e : EntityId). IsToReader config far at e writer_id v r) is is_to
+
 -- a reader may pass over the numbers below the first of a HEARTBEAT that is to it
 passes : (b : Beating) (to : ℕ) (h : HeartbeatBody) (far : GuidPrefix) (v r : Endpoint) (n : ℕ)
     → IsToReader b.config far (addressed (prefix_of b.config b.peer) (prefix_of b.config to)) h.reader_id h.writer_id v r
-    → 1 ≤ n → n < h.first_sn → IsToSome b.config (own_writer b.part b.number) to h.reader_id h.first_sn
+    → 1 ≤ n → n < h.first_sn
+    → IsToSome b.config b.contacts (own_writer b.part b.number) to h.reader_id h.first_sn h.last_sn
     → Passes (own_writer b.part b.number) r n
 passes b to h far v r n is_to low less (inl all) =
     let first = all.1 in below_first_passes (own_writer b.part b.number) r n low (omega (arith, less, first))
@@ -72,23 +96,10 @@ passes b to h far v r n is_to low less (inr one) = below_begin_passes w r n low 
     w : Writer
     w = own_writer b.part b.number
 
-    at : Receiver
-    at = addressed (prefix_of b.config b.peer) (prefix_of b.config to)
-
-    named : EntityId
-    named = reader_entity b.config one.0.peer one.0.number
-
-    is_named : IsToReader b.config far at named h.writer_id v r
-    is_named = subst (λ (e : EntityId). IsToReader b.config far at e h.writer_id v r) one.2 is_to
-
     same : r ≡ one.0
     same =
-        ⊎_elim
-        (λ is. one_named b.config (prefix_of b.config one.0.peer) named h.writer_id far at v r one.0 b.checked
-        (ap (λ (k : ℕ). prefix_of b.config k) (sym one.1)) is is_named)
-        (λ none. absurd (none_named b.config h.writer_id far at v r b.checked
-        (subst (λ (e : EntityId). IsToReader b.config far at e h.writer_id v r) none is_named)))
-        (reader_named b.config one.0)
+        named_one b.config to far (prefix_of b.config b.peer) h.reader_id h.writer_id v r one.0 b.checked one.1 one.2
+        is_to
 
     begins : h.first_sn ≡ begins_at w r
     begins = one.3 ∙ ap (λ (e : Endpoint). begins_at w e) (sym same)
@@ -114,58 +125,74 @@ tick_says b to h is far (Asserts v r k) says =
 tick_says b to h is far (MayPass v r n) says = first_says b false false to h is far v r n says
 
 -- the message with the HEARTBEATs of a tick, to the peer of this number
-abbrev pub heartbeat_due : Config → ℕ → Part → ℕ → ℕ → Due
-heartbeat_due config peer part number to =
-    heartbeats_due_to config false false peer number (own_writer part number) (readers_behind (own_writer part number))
-    to
+abbrev pub heartbeat_due : Config → (ℕ → Endpoint → Contact) → ℕ → Part → ℕ → ℕ → Due
+heartbeat_due config contacts peer part number to =
+    heartbeats_due_to config false false peer number (contacts number) (own_writer part number)
+    (readers_told (contacts number) (own_writer part number)) to
 
 -- what a message with such HEARTBEATs claims, one of them says
 pub due_says : (b : Beating) (final liveliness : Bool) (readers : List Endpoint) (to : ℕ) (claim : Claim)
-    → IsWritable (heartbeats_due_to b.config final liveliness b.peer b.number (own_writer b.part b.number) readers to).message
-    → Claims b.config (spelling_of (heartbeats_due_to b.config final liveliness b.peer b.number
+    → IsWritable (heartbeats_due_to b.config final liveliness b.peer b.number b.contacts (own_writer b.part b.number)
+    readers to).message
+    → Claims b.config (spelling_of (heartbeats_due_to b.config final liveliness b.peer b.number b.contacts
     (own_writer b.part b.number) readers to).message) claim
     → BeatSays b.config (prefix_of b.config b.peer) (prefix_of b.config to) (IsBeatOf b final liveliness to) claim
 due_says b final liveliness readers to claim writable says =
     beat_says b.config (prefix_of b.config b.peer) (prefix_of b.config to) (IsBeatOf b final liveliness to)
-    (heartbeats_to b.config final liveliness b.peer b.number (own_writer b.part b.number) readers to) claim
-    (are_beats b.config final liveliness b.peer b.number (own_writer b.part b.number) readers to) writable says
+    (heartbeats_to b.config final liveliness b.peer b.number b.contacts (own_writer b.part b.number) readers to) claim
+    (are_beats b.config final liveliness b.peer b.number b.contacts (own_writer b.part b.number) readers to) writable
+    says
 
 -- That of a tick is true.
-beat_truthful : (b : Beating) (to : ℕ)
-    → IsTruthful b.config b.peer b.part (heartbeat_due b.config b.peer b.part b.number to)
+beat_truthful : (b : Beating) (to : ℕ) → IsTruthful b.config b.peer b.part
+    (heartbeats_due_to b.config false false b.peer b.number b.contacts (own_writer b.part b.number)
+    (readers_told b.contacts (own_writer b.part b.number)) to)
 beat_truthful b to claim writable says =
-    let t = due_says b false false (readers_behind (own_writer b.part b.number)) to claim writable says in
+    let t = due_says b false false (readers_told b.contacts (own_writer b.part b.number)) to claim writable says in
     tick_says b to t.body t.is t.far claim t.says
 
 -- ---- all that is due at a tick
 
--- it is so of each message with HEARTBEATs of the peer's writers, to the peers of those that are behind, while there are
+-- it is so of each message with HEARTBEATs of the peer's writers, to the peers of those that are told, while there are
 -- counts left
-abbrev pub OfEach : Config → ℕ → Part → (Due → Type 0) → Type 0
-OfEach config peer part P =
+abbrev pub OfEach : Config → (ℕ → Endpoint → Contact) → ℕ → Part → (Due → Type 0) → Type 0
+OfEach config contacts peer part P =
     (number to : ℕ) → HasNumber part.rtps.writers number → heartbeats_used (own_writer part number) < 2 ^ 31 - 1
-    → Contains (peers_of (readers_behind (own_writer part number))) to → P (heartbeat_due config peer part number to)
+    → Contains (peers_of (readers_told (contacts number) (own_writer part number))) to
+    → P (heartbeat_due config contacts peer part number to)
 
--- what none passes has nothing left
-none_left : {X : Type 0} (test : X → Bool) (xs : List X) → list_any test xs ≡ false → filter test xs ≡ []
-none_left test [] none = refl
-none_left {X = X} test (x ∷ xs) none = by (test x) (list_any test xs) none (λ e. none_left test xs e)
+-- where none passes the one test or the other, nothing is left
+none_left : {X : Type 0} (test other : X → Bool) (xs : List X) → (list_any test xs || list_any other xs) ≡ false
+    → filter (λ x. test x || other x) xs ≡ []
+none_left test other [] none = refl
+none_left {X = X} test other (x ∷ xs) none =
+    by (test x) (list_any test xs) (other x) (list_any other xs) none (λ e. none_left test other xs e)
   where
-    by : (a b : Bool) → (a || b) ≡ false → (b ≡ false → filter test xs ≡ [])
-        → cond a (x ∷ filter test xs) (filter test xs) ≡ []
-    by true b h later = cc
-    by false b h later = later h
+    left : List X
+    left = filter (λ y. test y || other y) xs
 
--- some reader is behind where there is a peer of one
-pub some_behind : (w : Writer) (to : ℕ) → Contains (peers_of (readers_behind w)) to → is_behind w ≡ true
-some_behind w to among = by (is_behind w) refl
+    by : (a b c d : Bool) → ((a || b) || (c || d)) ≡ false → ((b || d) ≡ false → left ≡ [])
+        → cond (a || c) (x ∷ left) left ≡ []
+    by true b c d h later = cc
+    by false true c d h later = cc
+    by false false true d h later = cc
+    by false false false d h later = later h
+
+-- some reader is behind, asks, or is silent, where there is a peer of one that is told
+pub some_told : (contacts : Endpoint → Contact) (w : Writer) (to : ℕ) → Contains (peers_of (readers_told contacts w)) to
+    → (is_behind w || list_any (λ (p : ReaderProxy). awaits_heartbeat (contacts p.reader)) w.readers) ≡ true
+some_told contacts w to among =
+    by (is_behind w || list_any (λ (p : ReaderProxy). awaits_heartbeat (contacts p.reader)) w.readers) refl
   where
-    by : (b : Bool) → is_behind w ≡ b → is_behind w ≡ true
+    by : (b : Bool)
+        → (is_behind w || list_any (λ (p : ReaderProxy). awaits_heartbeat (contacts p.reader)) w.readers) ≡ b
+        → (is_behind w || list_any (λ (p : ReaderProxy). awaits_heartbeat (contacts p.reader)) w.readers) ≡ true
     by true is = is
     by false is =
-        let empty : peers_of (readers_behind w) ≡ [] =
+        let empty : peers_of (readers_told contacts w) ≡ [] =
         ap (λ (ps : List ReaderProxy). peers_of (map (λ (p : ReaderProxy). p.reader) ps))
-        (none_left (λ (p : ReaderProxy). nat_le p.acknowledged (length (writer_changes w))) w.readers is) in
+        (none_left (λ (p : ReaderProxy). nat_le p.acknowledged (length (writer_changes w)))
+        (λ (p : ReaderProxy). awaits_heartbeat (contacts p.reader)) w.readers is) in
         let none = ap (λ (ns : List ℕ). length ns) empty in let lt = among.1 in absurd (omega (arith, none, lt))
 
 -- what is so of each element of a list is so of all
@@ -173,22 +200,23 @@ pub all_of : {X : Type 0} (P : X → Type 0) (xs : List X) → ((x : X) → Cont
 all_of P xs f = All-weaker (Contains xs) P f xs (All-contains_itself xs)
 
 -- the HEARTBEATs of one writer
-of_writer : (config : Config) (peer : ℕ) (part : Part) (P : Due → Type 0) → OfEach config peer part P → (number : ℕ)
-    → HasNumber part.rtps.writers number → All P (heartbeats_of config peer number (own_writer part number))
-of_writer config peer part P each number there = by (nat_lt (heartbeats_used w) (2 ^ 31 - 1)) refl
+of_writer : (config : Config) (contacts : ℕ → Endpoint → Contact) (peer : ℕ) (part : Part) (P : Due → Type 0)
+    → OfEach config contacts peer part P → (number : ℕ) → HasNumber part.rtps.writers number
+    → All P (heartbeats_of config contacts peer number (own_writer part number))
+of_writer config contacts peer part P each number there = by (nat_lt (heartbeats_used w) (2 ^ 31 - 1)) refl
   where
     w : Writer
     w = own_writer part number
 
     ends : List ℕ
-    ends = peers_of (readers_behind w)
+    ends = peers_of (readers_told (contacts number) w)
 
     by : (left : Bool) → nat_lt (heartbeats_used w) (2 ^ 31 - 1) ≡ left
-        → All P (if left then map (heartbeat_due config peer part number) ends else [])
+        → All P (if left then map (heartbeat_due config contacts peer part number) ends else [])
     by true e =
         let left : heartbeats_used w < 2 ^ 31 - 1 = grind (arith, nat_tests) in
-        All-map P (heartbeat_due config peer part number) ends
-        (all_of (λ to. P (heartbeat_due config peer part number to)) ends
+        All-map P (heartbeat_due config contacts peer part number) ends
+        (all_of (λ to. P (heartbeat_due config contacts peer part number to)) ends
         (λ to among. each number to there left among))
     by false e = All-nil P
 
@@ -198,41 +226,50 @@ AreFrom part number ws =
     (k : ℕ) → k < length ws
     → HasNumber part.rtps.writers (number + k) × (own_writer part (number + k) ≡ get_or ws k no_writer)
 
-of_writers : (config : Config) (peer : ℕ) (part : Part) (P : Due → Type 0) → OfEach config peer part P
-    → (number : ℕ) (ws : List Writer) → AreFrom part number ws → All P (heartbeats_from config peer number ws)
-of_writers config peer part P each number [] rest = All-nil P
-of_writers config peer part P each number (w ∷ ws) rest =
+of_writers : (config : Config) (contacts : ℕ → Endpoint → Contact) (peer : ℕ) (part : Part) (P : Due → Type 0)
+    → OfEach config contacts peer part P
+    → (number : ℕ) (ws : List Writer) → AreFrom part number ws → All P (heartbeats_from config contacts peer number ws)
+of_writers config contacts peer part P each number [] rest = All-nil P
+of_writers config contacts peer part P each number (w ∷ ws) rest =
     let here : number + 0 ≡ number = omega arith in
     let first = rest 0 (omega arith) in
     let there : HasNumber part.rtps.writers number = subst (λ (n : ℕ). HasNumber part.rtps.writers n) here first.0 in
     let is : own_writer part number ≡ w = subst (λ (n : ℕ). own_writer part n ≡ w) here first.1 in
-    All-append P (heartbeats_of config peer number w) (heartbeats_from config peer (number + 1) ws)
-    (subst (λ (x : Writer). All P (heartbeats_of config peer number x)) is
-    (of_writer config peer part P each number there))
-    (of_writers config peer part P each (number + 1) ws
+    All-append P (heartbeats_of config contacts peer number w) (heartbeats_from config contacts peer (number + 1) ws)
+    (subst (λ (x : Writer). All P (heartbeats_of config contacts peer number x)) is
+    (of_writer config contacts peer part P each number there))
+    (of_writers config contacts peer part P each (number + 1) ws
     (λ k lt.
     let over : number + suc k ≡ number + 1 + k = omega arith in
     subst (λ (n : ℕ). HasNumber part.rtps.writers n × (own_writer part n ≡ get_or ws k no_writer)) over
     (rest (suc k) (omega (arith, lt)))))
 
-pub of_all : (config : Config) (peer : ℕ) (part : Part) (P : Due → Type 0) → OfEach config peer part P
-    → All P (heartbeats_due config peer part)
-of_all config peer part P each =
-    of_writers config peer part P each 1 part.rtps.writers
+pub of_all : (config : Config) (contacts : ℕ → Endpoint → Contact) (peer : ℕ) (part : Part) (P : Due → Type 0)
+    → OfEach config contacts peer part P → All P (heartbeats_due config contacts peer part)
+of_all config contacts peer part P each =
+    of_writers config contacts peer part P each 1 part.rtps.writers
     (λ k lt.
     let over : suc k ≡ 1 + k = omega arith in
     subst (λ (n : ℕ). HasNumber part.rtps.writers n × (own_writer part n ≡ get_or part.rtps.writers k no_writer)) over
     ((omega arith, omega (arith, lt)), refl))
 
 -- All that is due at a tick is true of the part that it finds.
-pub heartbeats_truthful : (config : Config) (peer : ℕ) (part : Part) → check_refusal config.peers ≡ None
-    → IsPartOf config peer part → AreTruthful config peer part (heartbeats_due config peer part)
-heartbeats_truthful config peer part checked of =
-    of_all config peer part (IsTruthful config peer part)
+pub heartbeats_truthful : (config : Config) (contacts : ℕ → Endpoint → Contact) (peer : ℕ) (part : Part)
+    → check_refusal config.peers ≡ None → IsPartOf config peer part
+    → AreTruthful config peer part (heartbeats_due config contacts peer part)
+heartbeats_truthful config contacts peer part checked of =
+    of_all config contacts peer part (IsTruthful config peer part)
     (λ number to there left among.
     let own : OwnName config peer part number = own_name config peer part of number there in
-    beat_truthful
-    (record { config = config; checked = checked; peer = peer; part = part; number = number; own = own }) to)
+    beat_truthful (record {
+      config = config;
+      checked = checked;
+      peer = peer;
+      part = part;
+      number = number;
+      contacts = contacts number;
+      own = own;
+    }) to)
 
 -- the prefix of each peer has 12 octets, and so has that of no peer
 octets_at : (ps : List PeerConfig) (i : ℕ)
@@ -258,22 +295,26 @@ reader_sized config sized r =
     (λ none. subst (λ (e : EntityId). IsEntityId e) (sym none) refl) (reader_named config r)
 
 pub due_writable : (config : Config) (final liveliness : Bool) (peer : ℕ) (part : Part) (number to : ℕ)
-    (readers : List Endpoint) → IsPartOf config peer part → IsSized config → HasSmallChanges part
-    → HasNumber part.rtps.writers number → AreFew readers → heartbeats_used (own_writer part number) < 2 ^ 31 - 1
-    → IsWritable (heartbeats_due_to config final liveliness peer number (own_writer part number) readers to).message
-due_writable config final liveliness peer part number to readers of sized small there few left =
+    (contacts : Endpoint → Contact) (readers : List Endpoint) → IsPartOf config peer part → IsSized config
+    → HasSmallChanges part → HasNumber part.rtps.writers number → AreFew readers
+    → heartbeats_used (own_writer part number) < 2 ^ 31 - 1
+    → IsWritable (heartbeats_due_to config final liveliness peer number contacts (own_writer part number) readers
+    to).message
+due_writable config final liveliness peer part number to contacts readers of sized small there few left =
     let me : Endpoint = record { peer = peer; number = number } in
     let entity : EntityId = writer_entity config peer number in
     let name = (own_name config peer part of number there).name in
-    heartbeats_writable config final liveliness peer number to (own_writer part number) readers
+    heartbeats_writable config final liveliness peer number to contacts (own_writer part number) readers
     (prefix_octets config sized peer) (prefix_octets config sized to)
     (writer_octets config sized (prefix_of config peer) entity me name).1 (reader_sized config sized) (few to)
     (small number).few left
 
 -- All that is due at a tick can be written.
-pub ticks_writable : (config : Config) (peer : ℕ) (part : Part) → IsPartOf config peer part → IsSized config
-    → HasSmallChanges part → HasFewMatches part → All CanBeWritten (heartbeats_due config peer part)
-ticks_writable config peer part of sized small few =
-    of_all config peer part CanBeWritten
-    (λ number to there left among places. due_writable config false false peer part number to
-    (readers_behind (own_writer part number)) of sized small there (behind_few (own_writer part number) (few number)) left)
+pub ticks_writable : (config : Config) (contacts : ℕ → Endpoint → Contact) (peer : ℕ) (part : Part)
+    → IsPartOf config peer part → IsSized config → HasSmallChanges part → HasFewMatches part
+    → All CanBeWritten (heartbeats_due config contacts peer part)
+ticks_writable config contacts peer part of sized small few =
+    of_all config contacts peer part CanBeWritten
+    (λ number to there left among places. due_writable config false false peer part number to (contacts number)
+    (readers_told (contacts number) (own_writer part number)) of sized small there
+    (told_few (contacts number) (own_writer part number) (few number)) left)

@@ -3,12 +3,13 @@ use Rattle.std.proofs.Common.{◌≡◌, ℕ, ◌+◌, List, [], ◌∷◌, Opti
 use Rattle.std.specs.List.{All, AllByRecursion}
 use Rattle.std.proofs.lemmas.List.Elements.{All-append, All-contains, All-nil}
 use Rattle.dds_base.specs.declared.config.Config.{Config}
+use Rattle.dds_base.specs.declared.endpoint.Endpoint.{Endpoint}
 use Rattle.dds_base.specs.Checked.{check_refusal}
 use Rattle.rtps_wire.specs.declared.message.Message.{Message}
 use Rattle.rtps_wire.specs.declared.submessage.Submessage.{Submessage}
 use Rattle.rtps_wire.specs.declared.submessage.Submessage.TheVariants.{Pad, InfoDst, InfoTs, Data, Heartbeat, AckNack, Gap, Other}
 use Rattle.rtps_wire.specs.Messages.{ReadsAll, ReadsMessage, IsWritable, spelling_of}
-use Rattle.rtps_wire.specs.Sets.{set_of}
+use Rattle.rtps_wire.specs.Sets.{acknack_field, set_of}
 use Rattle.rtps_wire.specs.Submessages.{Reads}
 use Rattle.dds_protocol.specs.declared.event.Packet.{Packet}
 use Rattle.dds_machine.specs.declared.reply.Move.{Move}
@@ -18,6 +19,7 @@ use Rattle.dds_machine.specs.Part.{Part, ReaderProxy, WriterProxy, own_writer, a
 use Rattle.dds_machine.specs.Ticks.{TickStep}
 use Rattle.dds_protocol.specs.Claims.{Receiver, receiver_of, after_submessage, Claim, Claims}
 use Rattle.dds_protocol.specs.Peer.{Delivery, packets_of, IsTrueAt}
+use Rattle.dds_protocol.specs.Contact.{Contact}
 use Rattle.dds_protocol.specs.DueMessages.{Due, AreSent, heartbeats_due}
 use Rattle.dds_protocol.specs.Protocol.{State, FollowsMessage, TakesMessage, TakesPacket}
 use Rattle.dds_protocol.specs.Backed.{IsBacked}
@@ -40,7 +42,7 @@ unfolding set_of
 base_read id flags body (AckNack a) h =
     let set = h.body_is.set in
     let first = set.valid.first in
-    let base : a.reader_sn_state.base ≡ set.field.base = ap (λ s. s.base) set.set in
+    let base : a.reader_sn_state.base ≡ (acknack_field set.field).base = ap (λ s. s.base) set.set in
     omega (arith, first, base)
 base_read id flags body (Data d) h = tt
 base_read id flags body (Gap g) h = tt
@@ -168,16 +170,16 @@ packet_gains config peer before bytes old report dues new checked b t (inr h) =
 -- ---- a tick
 
 -- What is due at a tick is true after it too.
-pub tick_truthful : (config : Config) (peer : ℕ) (old : Part) (now : ℕ) (reply : Reply) (new : Part)
-    → check_refusal config.peers ≡ None → IsPartOf config peer old → TickStep old now reply new
-    → AreTruthful config peer new (heartbeats_due config peer old)
-tick_truthful config peer old now reply new checked of step =
+pub tick_truthful : (config : Config) (contacts : ℕ → Endpoint → Contact) (peer : ℕ) (old : Part) (now : ℕ)
+    (reply : Reply) (new : Part) → check_refusal config.peers ≡ None → IsPartOf config peer old
+    → TickStep old now reply new → AreTruthful config peer new (heartbeats_due config contacts peer old)
+tick_truthful config contacts peer old now reply new checked of step =
     truthful_on config peer old new (TickStep-grows old now reply new step)
     (λ w r.
     subst (λ (rows : List ReaderProxy). NoLess (acknowledged_of (own_writer old w).readers r) (acknowledged_of rows r))
     (sym (TickStep-acknowledged old now reply new step w))
     (no_less_same (acknowledged_of (own_writer old w).readers r)))
-    (heartbeats_due config peer old) (heartbeats_truthful config peer old checked of)
+    (heartbeats_due config contacts peer old) (heartbeats_truthful config contacts peer old checked of)
 
 -- ---- what is sent
 

@@ -1,7 +1,6 @@
 -- What the truth of messages rests on stays so: calls and ticks leave a peer's part that of its configuration, and a
 -- tick leaves the changes.
-use Rattle.std.proofs.Common.{◌≡◌, ℕ, List, map, length, refl, subst, ap, sym, ◌∙◌, ⊎_elim}
-use Rattle.std.proofs.lemmas.List.{length-map}
+use Rattle.std.proofs.Common.{◌≡◌, ℕ, Bool, List, length, refl, subst, ap, sym, ◌∙◌, ⊎_elim}
 use Rattle.dds_base.specs.declared.change.Change.{Change}
 use Rattle.dds_base.specs.declared.config.Config.{Config}
 use Rattle.dds_base.specs.Kept.{change_at}
@@ -10,7 +9,7 @@ use Rattle.dds_machine.specs.declared.reply.Reply.{Reply}
 use Rattle.dds_machine.specs.declared.reply.Reply.TheVariants.{Done, Refused}
 use Rattle.dds_machine.specs.Numbered.{numbered}
 use Rattle.dds_machine.specs.Part.{Part, Rtps, Writer, no_writer, own_writer, writer_changes}
-use Rattle.dds_machine.specs.Ticks.{ticked, TickStep}
+use Rattle.dds_machine.specs.Ticks.{writers_ticked, TickStep}
 use Rattle.dds_machine.specs.Calls.{Effect, nothing, writes, tells, looks_at_matches, effect, effect_of, with_written, CallStep}
 use Rattle.dds_machine.specs.Matching.{writer_looked_at}
 use Rattle.dds_machine.specs.Watching.{Tests}
@@ -18,7 +17,8 @@ use Rattle.dds_protocol.specs.Dues.{AreTellable, AreSmall, HasSmallChanges, IsPa
 use Rattle.dds_protocol.proofs.DuesGrowth.{is_part_kept}
 use Rattle.dds_protocol.proofs.Growth.{TickStep-grows}
 use Rattle.dds_protocol.proofs.Told.{telling_count}
-use Rattle.dds_machine.proofs.Tables.{length-with_numbered, numbered-map-cases}
+use Rattle.dds_machine.proofs.Tables.{length-with_numbered}
+use Rattle.dds_machine.proofs.Ticked.{numbered-writers_ticked, length-writers_ticked}
 
 -- ---- a call
 
@@ -41,9 +41,10 @@ call_part config peer tests old call reply new h of =
 
 tick_count : (old : Part) (now : ℕ) (reply : Reply) (new : Part) → TickStep old now reply new
     → length new.rtps.writers ≡ length old.rtps.writers
-tick_count old now Done new h = ap (λ (p : Part). length p.rtps.writers) h.1 ∙ length-map old.rtps.writers (ticked now)
-tick_count old now (Refused code) new h = ap (λ (p : Part). length p.rtps.writers) h.1
-tick_count old now reply new h = absurd h
+tick_count old now Done new h =
+    ap (λ (p : Part). length p.rtps.writers) h.1.1 ∙ length-writers_ticked now h.0 1 old.rtps.writers
+tick_count old now (Refused code) new h = ap (λ (p : Part). length p.rtps.writers) h.1.1
+tick_count old now reply new h = absurd h.1
 
 -- so does a tick
 pub tick_part : (config : Config) (peer : ℕ) (old : Part) (now : ℕ) (reply : Reply) (new : Part)
@@ -51,19 +52,19 @@ pub tick_part : (config : Config) (peer : ℕ) (old : Part) (now : ℕ) (reply :
 tick_part config peer old now reply new h of =
     is_part_kept config peer old new (tick_count old now reply new h) of
 
-ticked_changes : (now : ℕ) (ws : List Writer) (w : ℕ)
-    → writer_changes (numbered (map (ticked now) ws) w no_writer) ≡ writer_changes (numbered ws w no_writer)
-ticked_changes now ws w =
+ticked_changes : (now : ℕ) (asked : ℕ → Bool) (ws : List Writer) (w : ℕ)
+    → writer_changes (numbered (writers_ticked now asked 1 ws) w no_writer) ≡ writer_changes (numbered ws w no_writer)
+ticked_changes now asked ws w =
     ⊎_elim (λ e. ap (λ (x : Writer). writer_changes x) e) (λ n. ap (λ (x : Writer). writer_changes x) (n.0 ∙ sym n.1))
-    (numbered-map-cases (ticked now) ws w no_writer)
+    (numbered-writers_ticked now asked ws w)
 
 -- and it leaves the changes
 pub tick_changes : (old : Part) (now : ℕ) (reply : Reply) (new : Part) → TickStep old now reply new → (w : ℕ)
     → writer_changes (own_writer new w) ≡ writer_changes (own_writer old w)
 tick_changes old now Done new h w =
-    ap (λ (p : Part). writer_changes (own_writer p w)) h.1 ∙ ticked_changes now old.rtps.writers w
-tick_changes old now (Refused code) new h w = ap (λ (p : Part). writer_changes (own_writer p w)) h.1
-tick_changes old now reply new h w = absurd h
+    ap (λ (p : Part). writer_changes (own_writer p w)) h.1.1 ∙ ticked_changes now h.0 old.rtps.writers w
+tick_changes old now (Refused code) new h w = ap (λ (p : Part). writer_changes (own_writer p w)) h.1.1
+tick_changes old now reply new h w = absurd h.1
 
 -- which can be told as before
 pub tick_tellable : (old : Part) (now : ℕ) (reply : Reply) (new : Part) → TickStep old now reply new → AreTellable old

@@ -37,7 +37,8 @@ use Rattle.rtps_wire.proofs.LengthLaws.{short_writable}
 use Rattle.rtps_writer.specs.declared.answer.Answer.{Answer}
 use Rattle.rtps_writer.specs.declared.answer.Answer.TheVariants.{Data as AnswersData, Gap as AnswersGap}
 use Rattle.dds_machine.specs.Part.{ReaderProxy, Writer, row_of, writer_changes, heartbeats_used, history_of}
-use Rattle.dds_protocol.specs.DueMessages.{acknack_message, answer_message, data_of, submessages_of, reader_entity, writer_entity, owed_to, begins_at, is_one_for_all, heartbeat_from, heartbeats_due_to}
+use Rattle.dds_protocol.specs.Contact.{Contact}
+use Rattle.dds_protocol.specs.DueMessages.{acknack_message, answer_message, data_of, submessages_of, reader_entity, writer_entity, owed_to, begins_at, ends_at, is_one_for_all, heartbeat_from, heartbeats_due_to}
 use Rattle.dds_protocol.specs.Claims.{every_reader}
 use Rattle.dds_protocol.specs.Protocol.{answers_per}
 use Rattle.dds_protocol.specs.Receipt.{prefix_of}
@@ -99,20 +100,27 @@ first_within w =
     subst (λ (n : ℕ). (1 ≤ unwrap_or (find test (numbers_from 1 (length w.changes))) n) × (unwrap_or
     (find test (numbers_from 1 (length w.changes))) n ≤ n)) count (found_within test 1 (length w.changes))
 
+-- these numbers go up to no more than the writer's last, and may be none
+pub record IsRun (w : Writer) (first last : ℕ) : Type 0 where
+  pub low : 1 ≤ first
+  pub order : first ≤ last + 1
+  pub high : last ≤ length (writer_changes w)
+
 -- One of a writer with fewer than 2^62 changes can be written, while there are counts left.
-pub beat_spellable : (final liveliness : Bool) (reader writer : EntityId) (first : ℕ) (w : Writer) → IsEntityId reader
-    → IsEntityId writer → (1 ≤ first) × (first ≤ length (writer_changes w) + 1) → length (writer_changes w) < 2 ^ 62
-    → heartbeats_used w < 2 ^ 31 - 1 → IsSpellable (heartbeat_from final liveliness reader writer first w)
-beat_spellable final liveliness reader writer first w of_reader of_writer within few left =
-    let low = within.0 in
-    let high = within.1 in
+pub beat_spellable : (final liveliness : Bool) (reader writer : EntityId) (first last : ℕ) (w : Writer)
+    → IsEntityId reader → IsEntityId writer → IsRun w first last → length (writer_changes w) < 2 ^ 62
+    → heartbeats_used w < 2 ^ 31 - 1 → IsSpellable (heartbeat_from final liveliness reader writer first last w)
+beat_spellable final liveliness reader writer first last w of_reader of_writer run few left =
+    let low = run.low in
+    let order = run.order in
+    let high = run.high in
     record {
       reader = of_reader;
       writer = of_writer;
       first = low;
-      not_past = high;
-      first_small = omega (arith, high, few);
-      last_small = omega (arith, few);
+      not_past = order;
+      first_small = omega (arith, order, high, few);
+      last_small = omega (arith, high, few);
       count = count_fits (heartbeats_used w) left;
     }
 
@@ -128,6 +136,23 @@ begins_within w r = by (row_of (λ (p : ReaderProxy). p.reader) w.readers r)
     by None = let low = first.0 in let high = first.1 in (omega (arith, low), omega (arith, high))
     by (Some p) = let low = first.0 in let high = first.1 in (omega (arith, low), omega (arith, high))
 
+-- the numbers to all readers, and to one
+all_run : (w : Writer) → IsRun w (first_kept (history_of w)) (length (writer_changes w))
+all_run w =
+    let first = first_within (history_of w) in record { low = first.0; order = first.1; high = omega arith }
+
+named_run : (contacts : Endpoint → Contact) (w : Writer) (r : Endpoint)
+    → IsRun w (begins_at w r) (ends_at contacts w r)
+named_run contacts w r = by (contacts r).silent
+  where
+    by : (b : Bool) → IsRun w (begins_at w r) (if b then begins_at w r - 1 else length (writer_changes w))
+    by true =
+        let begins = begins_within w r in
+        let low = begins.0 in
+        let high = begins.1 in
+        record { low = low; order = omega (arith, low); high = omega (arith, high) }
+    by false = let begins = begins_within w r in record { low = begins.0; order = begins.1; high = omega arith }
+
 -- these are HEARTBEATs that can be written
 record AreWritten (ss : List Submessage) : Type 0 where
   each : AllByRecursion IsSpellable ss
@@ -142,15 +167,16 @@ named_written beat each (x ∷ xs) =
     let light = rest.light in record { each = (each x, rest.each); light = omega (arith, light) }
 
 -- The message with those to a peer can be written, where that one has few of the readers.
-pub heartbeats_writable : (config : Config) (final liveliness : Bool) (peer number to : ℕ) (w : Writer)
-    (readers : List Endpoint) → length (prefix_of config peer).0 ≡ 12 → length (prefix_of config to).0 ≡ 12
+pub heartbeats_writable : (config : Config) (final liveliness : Bool) (peer number to : ℕ)
+    (contacts : Endpoint → Contact) (w : Writer) (readers : List Endpoint) → length (prefix_of config peer).0 ≡ 12
+    → length (prefix_of config to).0 ≡ 12
     → IsEntityId (writer_entity config peer number)
     → ((r : Endpoint) → IsEntityId (reader_entity config r.peer r.number))
     → count_by (λ (r : Endpoint). r.peer == to) readers ≤ max_ends → length (writer_changes w) < 2 ^ 62
     → heartbeats_used w < 2 ^ 31 - 1
-    → IsWritable (heartbeats_due_to config final liveliness peer number w readers to).message
-heartbeats_writable config final liveliness peer number to w readers own_octets to_octets of_writer of_reader few small
-    left = by (is_one_for_all w to)
+    → IsWritable (heartbeats_due_to config final liveliness peer number contacts w readers to).message
+heartbeats_writable config final liveliness peer number to contacts w readers own_octets to_octets of_writer of_reader
+    few small left = by (is_one_for_all contacts w to)
   where
     entity : EntityId
     entity = writer_entity config peer number
@@ -160,32 +186,34 @@ heartbeats_writable config final liveliness peer number to w readers own_octets 
 
     beats : Bool → List Submessage
     beats b =
-        if b then heartbeat_from final liveliness every_reader entity (first_kept (history_of w)) w ∷ []
+        if b
+        then heartbeat_from final liveliness every_reader entity (first_kept (history_of w)) (length (writer_changes w))
+        w ∷ []
         else map (λ (r : Endpoint). heartbeat_from final liveliness (reader_entity config r.peer r.number) entity
-        (begins_at w r) w) here
+        (begins_at w r) (ends_at contacts w r) w) here
 
     message : Bool → Message
     message b = record { prefix = prefix_of config peer; submessages = InfoDst (prefix_of config to) ∷ beats b }
 
     by : (b : Bool) → IsWritable (message b)
     by true =
-        let first = first_within (history_of w) in
         short_writable (message true) own_octets (
           to_octets,
           (
-            beat_spellable final liveliness every_reader entity (first_kept (history_of w)) w refl of_writer
-                first small left,
+            beat_spellable final liveliness every_reader entity (first_kept (history_of w)) (length (writer_changes w))
+                w refl of_writer (all_run w) small left,
             tt,
           ),
         ) (omega arith)
     by false =
         let written : AreWritten (beats false) =
         named_written (λ (r : Endpoint). beat_body final liveliness (reader_entity config r.peer r.number) entity
-        (begins_at w r) w) (λ r. beat_spellable final liveliness (reader_entity config r.peer r.number) entity
-        (begins_at w r) w (of_reader r) of_writer (begins_within w r) small left) here in
+        (begins_at w r) (ends_at contacts w r) w)
+        (λ r. beat_spellable final liveliness (reader_entity config r.peer r.number) entity (begins_at w r)
+        (ends_at contacts w r) w (of_reader r) of_writer (named_run contacts w r) small left) here in
         let light = written.light in
         let same = length-map here (λ (r : Endpoint). heartbeat_from final liveliness
-        (reader_entity config r.peer r.number) entity (begins_at w r) w) in
+        (reader_entity config r.peer r.number) entity (begins_at w r) (ends_at contacts w r) w) in
         let count = length-filter (λ (r : Endpoint). r.peer == to) readers in
         short_writable (message false) own_octets (to_octets, written.each) (omega (arith, light, same, count, few))
 

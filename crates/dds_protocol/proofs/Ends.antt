@@ -180,7 +180,7 @@ delivery_ends g old reply new h = absurd h
 -- nobody is told by the effect of a call by which nobody comes or goes
 none_told : (old : Part) (peer : ℕ) (c : Call) (reply : Reply) → TellsNobody (world.Call peer c)
     → Untold (effect_of old c reply)
-none_told old peer (call.MatchReader w r) reply h = absurd h
+none_told old peer (call.MatchReader w r greeted) reply h = absurd h
 none_told old peer (call.UnmatchReader w r) reply h = absurd h
 none_told old peer (call.MatchWriter r w) reply h = absurd h
 none_told old peer (call.UnmatchWriter r w) reply h = absurd h

@@ -1,7 +1,7 @@
 -- An event of a network by the rules sends and takes no count that its sender has not used.
 use Rattle.std.proofs.Common.{◌≡◌, ◌⊎◌, ℕ, ℤ, pos, ◌+◌, ◌-◌, ◌≤◌, ◌≤ℤ◌, Bool, true, false, List, [], ◌∷◌, ◌++◌, Option, Some, None, Contains, length, length-append, refl, subst, ap, sym, ◌∙◌, inl, inr, ⊎_elim, arith}
-use Rattle.std.specs.Prelude.{if◌then◌else◌}
-use Rattle.std.specs.List.{All}
+use Rattle.std.specs.Prelude.{if◌then◌else◌, ◌||◌}
+use Rattle.std.specs.List.{All, list_any}
 use Rattle.std.proofs.lemmas.Int.{ints}
 use Rattle.std.proofs.lemmas.List.Elements.{All-contains, Contains-append_cases}
 use Rattle.dds_base.specs.declared.change.Change.{Change}
@@ -10,6 +10,7 @@ use Rattle.dds_base.specs.declared.guid.EntityId.{EntityId}
 use Rattle.dds_base.specs.declared.guid.GuidPrefix.{GuidPrefix}
 use Rattle.dds_base.specs.Checked.{check_refusal}
 use Rattle.dds_base.specs.Written.{Written, Registered, Changed, Asserted, LookedAt, StrengthSet, Ticked, counts_of}
+use Rattle.rtps_reader.specs.Tracked.{Tracked}
 use Rattle.rtps_wire.specs.declared.heartbeat.Heartbeat.{Heartbeat as HeartbeatBody}
 use Rattle.rtps_wire.specs.declared.submessage.Submessage.{Submessage}
 use Rattle.rtps_wire.specs.Messages.{IsWritable, spelling_of}
@@ -25,9 +26,9 @@ use Rattle.dds_machine.specs.declared.reply.Report.{Report}
 use Rattle.dds_machine.specs.declared.reply.Reply.{Reply}
 use Rattle.dds_machine.specs.declared.reply.Reply.TheVariants.{Done, Reported}
 use Rattle.dds_machine.specs.Numbered.{HasNumber}
-use Rattle.dds_machine.specs.Part.{Part, Writer, no_writer, own_proxies, own_writer, writer_changes, is_behind, peers_of, heartbeats_used}
+use Rattle.dds_machine.specs.Part.{Part, ReaderProxy, Writer, own_proxies, own_writer, writer_changes, is_behind, peers_of, heartbeats_used}
 use Rattle.dds_machine.specs.Moves.{Grounds}
-use Rattle.dds_machine.specs.Ticks.{ticked, after_tick, TickStep}
+use Rattle.dds_machine.specs.Ticks.{ticked, after_tick, TicksAsked}
 use Rattle.dds_machine.specs.Calls.{Effect, nothing, writes, tells, looks_at_matches, effect, effect_of, with_written}
 use Rattle.dds_machine.specs.Watching.{Tests}
 use Rattle.dds_protocol.specs.Claims.{Receiver, receiver_of, after_submessage, every_reader, IsWriter}
@@ -35,7 +36,8 @@ use Rattle.dds_protocol.specs.Receipt.{TakesUp, Receives, prefix_of}
 use Rattle.dds_protocol.specs.Dues.{IsPartOf}
 use Rattle.dds_machine.specs.Machine.{Machine, AllTests, part_at, writer_at}
 use Rattle.dds_protocol.specs.Peer.{Peer, EventStep, Knows, no_peer, claimed, claimed_by, packets_of, state_of}
-use Rattle.dds_protocol.specs.DueMessages.{Due, writer_entity, change_message, readers_behind, heartbeats_to, heartbeats_due_to, assertions_due, heartbeats_due}
+use Rattle.dds_protocol.specs.Contact.{Contact, awaits_heartbeat}
+use Rattle.dds_protocol.specs.DueMessages.{Due, writer_entity, change_message, readers_told, was_asked, heartbeats_to, heartbeats_due_to, assertions_due, heartbeats_due}
 use Rattle.dds_protocol.specs.Protocol.{Known, State, TakesPacket}
 use Rattle.dds_protocol.specs.Resuming.{Resumes}
 use Rattle.dds_protocol.specs.World.{WorldState, WorldStep, PeerSteps, peer_at, machine_of}
@@ -43,11 +45,12 @@ use Rattle.dds_protocol.specs.Rules.{announcements_due, AreDue, RuledStep}
 use Rattle.dds_protocol.specs.Fresh.{HasHeartbeat, HasAckNack, heartbeats_used_at, tracked_at, acknacks_used_at, HasUsedCounts}
 use Rattle.dds_protocol.proofs.BeatsTo.{AreBeats, IsBeatTo, are_beats, beat_read, no_ask_read}
 use Rattle.dds_protocol.proofs.Composed.{parts_at, machine_after, world_after, contains_at}
+use Rattle.dds_protocol.proofs.Contacts.{KnowsAlike, call_knows, knows_same, tick_knows}
 use Rattle.dds_protocol.proofs.CountsTaken.{Counting, Counts, again_counts, packet_counts}
 use Rattle.dds_protocol.proofs.CountsWritten.{plain_beats, plain_asks, plain_data, each_of}
 use Rattle.dds_protocol.proofs.DuesAssertions.{OfEachTold, told_each, asserted_writer}
 use Rattle.dds_protocol.proofs.DuesGrowth.{Gains, gains_same, gains_on, AreMoves-gains, is_part_kept}
-use Rattle.dds_protocol.proofs.DuesHeartbeats.{of_all, some_behind}
+use Rattle.dds_protocol.proofs.DuesHeartbeats.{of_all, some_told}
 use Rattle.dds_protocol.proofs.DuesMatched.{own_name}
 use Rattle.dds_protocol.proofs.DuesPackets.{IsOfDue, sent_is_due}
 use Rattle.dds_protocol.proofs.DuesParts.{call_part, tick_part}
@@ -55,7 +58,8 @@ use Rattle.dds_protocol.proofs.Framing.{number_or_not}
 use Rattle.dds_protocol.proofs.Resumed.{as_moves}
 use Rattle.dds_protocol.proofs.Growth.{WriterGrows, writer_same, Grows, CallStep-grows, TickStep-grows, MachineGrows, with_part-grows, counts-more}
 use Rattle.dds_protocol.proofs.OwnGuids.{one_writer}
-use Rattle.dds_machine.proofs.Tables.{numbered-cases, numbered-same, numbered-map-cases, number_there, length-with_numbered, no_less_same}
+use Rattle.dds_machine.proofs.Tables.{numbered-cases, numbered-same, number_there, length-with_numbered, no_less_same}
+use Rattle.dds_machine.proofs.Ticked.{numbered-writers_ticked}
 
 -- the packet is the written form of one of these messages, which has one
 pub record IsWrittenOf (dues : List Due) (packet : Packet) : Type 0 where
@@ -110,8 +114,8 @@ event_lasts config tests peer before (event.Call call) reply after h = record {
   part = call_part config peer tests before.part call reply after.part h.0;
 }
 event_lasts config tests peer before (event.Tick now) reply after h = record {
-  grows = TickStep-grows before.part now reply after.part h.0;
-  part = tick_part config peer before.part now reply after.part h.0;
+  grows = TickStep-grows before.part now reply after.part (was_asked before.known.answered before.part, h.0);
+  part = tick_part config peer before.part now reply after.part (was_asked before.known.answered before.part, h.0);
 }
 event_lasts config tests peer before (event.Deliver packet) (Reported report) after h =
     let g : Gains before.part after.part =
@@ -199,8 +203,9 @@ pub record Uses (config : Config) (old : WorldState) (packets : List Packet) (ne
   pub asked : (w r : Endpoint) → acknacks_used_at old w r ≤ acknacks_used_at new w r
   pub taken : (w r : Endpoint) (count : ℤ) → (tracked_at new w r).count ≡ Some count
       → ((tracked_at old w r).count ≡ Some count) ⊎ (count ≤ℤ pos (heartbeats_used_at old w))
-  pub answered : (w r : Endpoint) (count : ℤ) → (peer_at new w.peer).known.answered w.number r ≡ Some count
-      → ((peer_at old w.peer).known.answered w.number r ≡ Some count) ⊎ (count ≤ℤ pos (acknacks_used_at old w r))
+  pub answered : (w r : Endpoint) (count : ℤ) → ((peer_at new w.peer).known.answered w.number r).count ≡ Some count
+      → (((peer_at old w.peer).known.answered w.number r).count ≡ Some count)
+      ⊎ (count ≤ℤ pos (acknacks_used_at old w r))
   pub beats : (p : Packet) (w : Endpoint) (count : ℤ) → Contains packets p → HasHeartbeat config p.bytes w count
       → count ≤ℤ pos (heartbeats_used_at new w)
   pub asks : (p : Packet) (w r : Endpoint) (count : ℤ) → Contains packets p → HasAckNack config p.bytes w r count
@@ -232,11 +237,11 @@ uses_used config old packets new sent h u = record {
         → count ≤ℤ pos (acknacks_used_at new w r)
     ask_on w r count low = let more = u.asked w r in omega (arith, ints, low, more)
 
--- ---- a call or a tick: what is known is as it was
+-- ---- a call or a tick: what is known is as it was, but for who asks
 
 pub uses_knowing : (config : Config) (old : WorldState) (packets : List Packet) (new : WorldState) (peer : ℕ)
     → Stays config old peer new → HasUsedCounts config old
-    → ((p : ℕ) → (peer_at new p).known ≡ (peer_at old p).known)
+    → ((p : ℕ) → KnowsAlike (peer_at old p).known (peer_at new p).known)
     → ((p : Packet) (w : Endpoint) (count : ℤ) → Contains packets p → HasHeartbeat config p.bytes w count
     → count ≤ℤ pos (heartbeats_used_at new w))
     → ((p : Packet) (w r : Endpoint) (count : ℤ) → Contains packets p → HasAckNack config p.bytes w r count → ⊥)
@@ -244,21 +249,31 @@ pub uses_knowing : (config : Config) (old : WorldState) (packets : List Packet) 
 uses_knowing config old packets new peer s h same beats asks = record {
   parts = s.parts h.of_config;
   grows = s.grows;
-  asked = λ w r. let e = ap (λ (k : Known). (k.tracked w r.number).acknacks) (same r.peer) in omega (arith, e);
-  taken = λ w r count e. inl (sym (ap (λ (k : Known). (k.tracked w r.number).count) (same r.peer)) ∙ e);
-  answered = λ w r count e. inl (sym (ap (λ (k : Known). k.answered w.number r) (same w.peer)) ∙ e);
+  asked = λ w r. let e = ap (λ (t : Tracked). t.acknacks) ((same r.peer).tracked w r.number) in omega (arith, e);
+  taken = λ w r count e. inl (sym (ap (λ (t : Tracked). t.count) ((same r.peer).tracked w r.number)) ∙ e);
+  answered = λ w r count e. inl (sym ((same w.peer).counts w.number r) ∙ e);
   beats = beats;
   asks = λ p w r count among has. absurd (asks p w r count among has);
 }
 
+-- what a peer's step does to what it knows, which is no less so of what is as it was, is so at each peer
+pub known_by : (R : Known → Known → Type 0) → ((known : Known) → R known known)
+    → (config : Config) (tests : Tests) (old : WorldState) (peer : ℕ) (ev : Event) (reply : Reply)
+    (new : WorldState) (h : PeerSteps config tests old peer ev reply new)
+    → R (peer_at old peer).known h.after.known → (p : ℕ) → R (peer_at old p).known (peer_at new p).known
+known_by R same config tests old peer ev reply new h one p =
+    subst (λ (x : WorldState). R (peer_at old p).known (peer_at x p).known) (sym h.changed)
+    (⊎_elim (λ e. subst (λ (x : Peer). R (peer_at old p).known x.known) (sym e) (same (peer_at old p).known))
+    (λ s. subst (λ (x : Peer). R (peer_at old p).known x.known) (sym s.1)
+    (subst (λ (n : ℕ). R (peer_at old n).known h.after.known) (sym s.0) one))
+    (numbered-cases old.peers peer h.after p no_peer))
+
 pub known_of : (config : Config) (tests : Tests) (old : WorldState) (peer : ℕ) (ev : Event) (reply : Reply)
     (new : WorldState) (h : PeerSteps config tests old peer ev reply new)
-    → h.after.known ≡ (peer_at old peer).known → (p : ℕ) → (peer_at new p).known ≡ (peer_at old p).known
-known_of config tests old peer ev reply new h same p =
-    ap (λ (x : WorldState). (peer_at x p).known) h.changed
-    ∙ ⊎_elim (λ e. ap (λ (x : Peer). x.known) e)
-    (λ s. ap (λ (x : Peer). x.known) s.1 ∙ (same ∙ ap (λ (n : ℕ). (peer_at old n).known) (sym s.0)))
-    (numbered-cases old.peers peer h.after p no_peer)
+    → KnowsAlike (peer_at old peer).known h.after.known → (p : ℕ)
+    → KnowsAlike (peer_at old p).known (peer_at new p).known
+known_of config tests old peer ev reply new h alike p =
+    known_by KnowsAlike (λ known. knows_same known known refl) config tests old peer ev reply new h alike p
 
 -- a change that is announced has neither a HEARTBEAT nor an ACKNACK
 record IsSilent (config : Config) (due : Due) : Type 0 where
@@ -278,12 +293,13 @@ change_silent config own to writer number change n = record {
 }
 
 -- What is so of silent messages, and of those that tell an assertion, is so of what is due for what a call enters.
-announced : (config : Config) (peer : ℕ) (part : Part) (e : Effect) (P : Due → Type 0)
+announced : (config : Config) (peer : ℕ) (old : State) (e : Effect) (P : Due → Type 0)
     → ((due : Due) → IsSilent config due → P due)
-    → ((writer moment : ℕ) → e ≡ writes writer (Asserted moment) → OfEachTold config peer part writer P)
-    → (due : Due) → Contains (announcements_due config peer part e) due → P due
-announced config peer part (writes writer (Changed change)) P silent told due among =
-    let number : ℕ = length (writer_changes (own_writer part writer)) + 1 in
+    → ((writer moment : ℕ) → e ≡ writes writer (Asserted moment)
+    → OfEachTold config (old.known.answered writer) peer old.part writer P)
+    → (due : Due) → Contains (announcements_due config peer old e) due → P due
+announced config peer old (writes writer (Changed change)) P silent told due among =
+    let number : ℕ = length (writer_changes (own_writer old.part writer)) + 1 in
     let entity : EntityId = writer_entity config peer writer in
     each_of P
     (λ to. record {
@@ -298,21 +314,23 @@ announced config peer part (writes writer (Changed change)) P silent told due am
           (prefix_of config to) entity number change;
     })
     (change_silent config (prefix_of config peer) (prefix_of config to) entity number change to))
-    (peers_of (own_writer part writer).matched) due among
-announced config peer part (writes writer (Asserted moment)) P silent told due among =
-    All-contains P (assertions_due config (record { peer = peer; number = writer }) (own_writer part writer)) due
-    (told_each config peer part writer P (told writer moment refl)) among
-announced config peer part (writes writer (Registered key)) P silent told due among =
+    (peers_of (own_writer old.part writer).matched) due among
+announced config peer old (writes writer (Asserted moment)) P silent told due among =
+    All-contains P
+    (assertions_due config (old.known.answered writer) (record { peer = peer; number = writer })
+    (own_writer old.part writer))
+    due (told_each config (old.known.answered writer) peer old.part writer P (told writer moment refl)) among
+announced config peer old (writes writer (Registered key)) P silent told due among =
     let lt = among.1 in absurd (omega (arith, lt))
-announced config peer part (writes writer LookedAt) P silent told due among =
+announced config peer old (writes writer LookedAt) P silent told due among =
     let lt = among.1 in absurd (omega (arith, lt))
-announced config peer part (writes writer (StrengthSet strength)) P silent told due among =
+announced config peer old (writes writer (StrengthSet strength)) P silent told due among =
     let lt = among.1 in absurd (omega (arith, lt))
-announced config peer part (writes writer (Ticked now behind)) P silent told due among =
+announced config peer old (writes writer (Ticked now behind)) P silent told due among =
     let lt = among.1 in absurd (omega (arith, lt))
 announced config peer part nothing P silent told due among = let lt = among.1 in absurd (omega (arith, lt))
-announced config peer part (tells t) P silent told due among = let lt = among.1 in absurd (omega (arith, lt))
-announced config peer part (looks_at_matches w) P silent told due among =
+announced config peer old (tells t) P silent told due among = let lt = among.1 in absurd (omega (arith, lt))
+announced config peer old (looks_at_matches w) P silent told due among =
     let lt = among.1 in absurd (omega (arith, lt))
 
 -- packets that are written forms of silent messages
@@ -334,7 +352,7 @@ silent_asks config dues packets written silent p w r count among has =
 
 uses_silent : (config : Config) (old : WorldState) (dues : List Due) (packets : List Packet) (new : WorldState)
     (peer : ℕ) → Stays config old peer new → HasUsedCounts config old
-    → ((p : ℕ) → (peer_at new p).known ≡ (peer_at old p).known)
+    → ((p : ℕ) → KnowsAlike (peer_at old p).known (peer_at new p).known)
     → ((p : Packet) → Contains packets p → IsWrittenOf dues p)
     → ((due : Due) → Contains dues due → IsSilent config due) → Uses config old packets new
 uses_silent config old dues packets new peer s h same written silent =
@@ -365,11 +383,12 @@ silent_beat config peer after due h = record {
 
 -- the next HEARTBEATs of the peer's writer are such ones where one count more is used afterwards
 next_beat : (config : Config) (peer : ℕ) (part after : Part) (number to : ℕ) (final liveliness : Bool)
-    (readers : List Endpoint)
+    (contacts : Endpoint → Contact) (readers : List Endpoint)
     → check_refusal config.peers ≡ None → IsPartOf config peer part → HasNumber part.rtps.writers number
     → heartbeats_used (own_writer after number) ≡ heartbeats_used (own_writer part number) + 1
-    → IsBeat config peer after (heartbeats_due_to config final liveliness peer number (own_writer part number) readers to)
-next_beat config peer part after number to final liveliness readers checked of there more = record {
+    → IsBeat config peer after
+    (heartbeats_due_to config final liveliness peer number contacts (own_writer part number) readers to)
+next_beat config peer part after number to final liveliness contacts readers checked of there more = record {
   beat = λ w count writable has.
       let me : Endpoint = record { peer = peer; number = number } in
       let found =
@@ -397,18 +416,18 @@ next_beat config peer part after number to final liveliness readers checked of t
 }
   where
     each : HeartbeatBody → Type 0
-    each h = IsBeatTo config final liveliness peer number (own_writer part number) to h
+    each h = IsBeatTo config final liveliness peer number contacts (own_writer part number) to h
 
     beats : List Submessage
-    beats = heartbeats_to config final liveliness peer number (own_writer part number) readers to
+    beats = heartbeats_to config final liveliness peer number contacts (own_writer part number) readers to
 
     all : AreBeats each beats
-    all = are_beats config final liveliness peer number (own_writer part number) readers to
+    all = are_beats config final liveliness peer number contacts (own_writer part number) readers to
 
 -- an event at which such messages are due, and nothing is learned
 uses_beats : (config : Config) (tests : Tests) (old : WorldState) (peer : ℕ) (ev : Event) (reply : Reply)
     (dues : List Due) (packets : List Packet) (new : WorldState) → HasUsedCounts config old
-    → (step : PeerSteps config tests old peer ev reply new) → step.after.known ≡ (peer_at old peer).known
+    → (step : PeerSteps config tests old peer ev reply new) → KnowsAlike (peer_at old peer).known step.after.known
     → ((due : Due) → Contains dues due → IsBeat config peer step.after.part due)
     → ((p : Packet) → Contains packets p → IsWrittenOf dues p) → Uses config old packets new
 uses_beats config tests old peer ev reply dues packets new h step same all written =
@@ -432,50 +451,69 @@ uses_beats config tests old peer ev reply dues packets new h step same all writt
 
 -- ---- a tick
 
-used_ticked : (now : ℕ) (w : Writer) (b : Bool) → is_behind w ≡ b → b ≡ true
-    → heartbeats_used (ticked now w) ≡ heartbeats_used w + 1
-used_ticked now w true is so =
+used_ticked : (now : ℕ) (asked : Bool) (w : Writer) (b : Bool) → (is_behind w || asked) ≡ b → b ≡ true
+    → heartbeats_used (ticked now asked w) ≡ heartbeats_used w + 1
+used_ticked now asked w true is so =
     let longer =
     ap (λ (c : Bool). length (if c then counts_of w.written ++ false ∷ [] else counts_of w.written)) is in
     let sum = length-append (counts_of w.written) (false ∷ []) in
     omega (arith, longer, sum)
-used_ticked now w false is so = cc
+used_ticked now asked w false is so = cc
 
-used_after_tick : (part : Part) (now number : ℕ) → is_behind (own_writer part number) ≡ true
-    → heartbeats_used (own_writer (after_tick part now) number) ≡ heartbeats_used (own_writer part number) + 1
-used_after_tick part now number behind =
+-- some reader is behind, asks, or is silent
+abbrev tells_some : (Endpoint → Contact) → Writer → Bool
+tells_some contacts w = is_behind w || list_any (λ (p : ReaderProxy). awaits_heartbeat (contacts p.reader)) w.readers
+
+used_after_tick : (contacts : ℕ → Endpoint → Contact) (part : Part) (now number : ℕ)
+    → tells_some (contacts number) (own_writer part number) ≡ true
+    → heartbeats_used (own_writer (after_tick (was_asked contacts part) part now) number)
+    ≡ heartbeats_used (own_writer part number) + 1
+used_after_tick contacts part now number told =
     ⊎_elim (λ e. ap (λ (x : Writer). heartbeats_used x) e
-    ∙ used_ticked now (own_writer part number) (is_behind (own_writer part number)) refl behind)
-    (λ n. let none : is_behind (own_writer part number) ≡ false = ap (λ (x : Writer). is_behind x) n.1 in absurd cc)
-    (numbered-map-cases (ticked now) part.rtps.writers number no_writer)
+    ∙ used_ticked now (was_asked contacts part number) (own_writer part number)
+    (tells_some (contacts number) (own_writer part number)) refl told)
+    (λ n.
+    let none : tells_some (contacts number) (own_writer part number) ≡ false =
+    ap (λ (x : Writer). tells_some (contacts number) x) n.1 in
+    absurd cc)
+    (numbered-writers_ticked now (was_asked contacts part) part.rtps.writers number)
 
-beats_are : (config : Config) (peer : ℕ) (part : Part) (now : ℕ) → check_refusal config.peers ≡ None
-    → IsPartOf config peer part → All (IsBeat config peer (after_tick part now)) (heartbeats_due config peer part)
-beats_are config peer part now checked of =
-    of_all config peer part (IsBeat config peer (after_tick part now))
-    (λ number to there left among. next_beat config peer part (after_tick part now) number to false false
-    (readers_behind (own_writer part number)) checked of there
-    (used_after_tick part now number (some_behind (own_writer part number) to among)))
+beats_are : (config : Config) (contacts : ℕ → Endpoint → Contact) (peer : ℕ) (part : Part) (now : ℕ)
+    → check_refusal config.peers ≡ None → IsPartOf config peer part
+    → All (IsBeat config peer (after_tick (was_asked contacts part) part now))
+    (heartbeats_due config contacts peer part)
+beats_are config contacts peer part now checked of =
+    of_all config contacts peer part (IsBeat config peer (after_tick (was_asked contacts part) part now))
+    (λ number to there left among. next_beat config peer part (after_tick (was_asked contacts part) part now) number to
+    false false (contacts number) (readers_told (contacts number) (own_writer part number)) checked of there
+    (used_after_tick contacts part now number (some_told (contacts number) (own_writer part number) to among)))
 
 uses_tick : (config : Config) (tests : Tests) (old : WorldState) (peer now : ℕ) (dues : List Due)
     (packets : List Packet) (new : WorldState) → check_refusal config.peers ≡ None → HasUsedCounts config old
     → PeerSteps config tests old peer (event.Tick now) Done new
-    → dues ≡ heartbeats_due config peer (peer_at old peer).part
+    → dues ≡ heartbeats_due config (peer_at old peer).known.answered peer (peer_at old peer).part
     → ((p : Packet) → Contains packets p → IsWrittenOf dues p) → Uses config old packets new
 uses_tick config tests old peer now dues packets new checked h step are written =
-    uses_beats config tests old peer (event.Tick now) Done dues packets new h step step.step.knows all written
+    uses_beats config tests old peer (event.Tick now) Done dues packets new h step
+    (tick_knows (peer_at old peer) now step.output.reply step.after step.step.knows) all written
   where
     part : Part
     part = (peer_at old peer).part
 
-    ticks : TickStep part now Done step.after.part
-    ticks = subst (λ (r : Reply). TickStep part now r step.after.part) step.replies step.step.step.0
+    contacts : ℕ → Endpoint → Contact
+    contacts = (peer_at old peer).known.answered
+
+    ticks : TicksAsked (was_asked contacts part) part now Done step.after.part
+    ticks =
+        subst (λ (r : Reply). TicksAsked (was_asked contacts part) part now r step.after.part) step.replies
+        step.step.step.0
 
     all : (due : Due) → Contains dues due → IsBeat config peer step.after.part due
     all due among =
         subst (λ (q : Part). IsBeat config peer q due) (sym ticks.1)
-        (All-contains (IsBeat config peer (after_tick part now)) (heartbeats_due config peer part) due
-        (beats_are config peer part now checked (h.of_config peer step.within))
+        (All-contains (IsBeat config peer (after_tick (was_asked contacts part) part now))
+        (heartbeats_due config contacts peer part) due
+        (beats_are config contacts peer part now checked (h.of_config peer step.within))
         (subst (λ (ds : List Due). Contains ds due) are among))
 
 -- ---- a call
@@ -489,12 +527,13 @@ uses_call : (config : Config) (tests : Tests) (old : WorldState) (peer : ℕ) (c
     (dues : List Due) (packets : List Packet) (new : WorldState) → check_refusal config.peers ≡ None
     → HasUsedCounts config old
     → PeerSteps config tests old peer (event.Call call) reply new
-    → dues ≡ announcements_due config peer (peer_at old peer).part (effect_of (peer_at old peer).part call reply)
+    → dues ≡ announcements_due config peer (state_of (peer_at old peer)) (effect_of (peer_at old peer).part call reply)
     → ((p : Packet) → Contains packets p → IsWrittenOf dues p) → Uses config old packets new
 uses_call config tests old peer call reply dues packets new checked h step are written =
-    uses_beats config tests old peer (event.Call call) reply dues packets new h step step.step.knows
+    uses_beats config tests old peer (event.Call call) reply dues packets new h step
+    (call_knows (peer_at old peer) call step.output.reply step.after step.step.knows)
     (λ due among.
-    announced config peer part (effect_of part call reply) (IsBeat config peer step.after.part)
+    announced config peer (state_of (peer_at old peer)) (effect_of part call reply) (IsBeat config peer step.after.part)
     (silent_beat config peer step.after.part) told due
     (subst (λ (ds : List Due). Contains ds due) are among)) written
   where
@@ -505,25 +544,30 @@ uses_call config tests old peer call reply dues packets new checked h step are w
     entered = step.step.step.0.rtps ∙ ap (λ (r : Reply). effect part.rtps (effect_of part call r)) step.replies
 
     told : (writer moment : ℕ) → effect_of part call reply ≡ writes writer (Asserted moment)
-        → OfEachTold config peer part writer (IsBeat config peer step.after.part)
+        → OfEachTold config ((peer_at old peer).known.answered writer) peer part writer
+        (IsBeat config peer step.after.part)
     told writer moment is there matched to =
         let after =
         asserted_writer part step.after.part writer moment there
         (entered ∙ ap (λ (e : Effect). effect part.rtps e) is) in
-        next_beat config peer part step.after.part writer to true true (own_writer part writer).matched checked
-        (h.of_config peer step.within) there
+        next_beat config peer part step.after.part writer to true true ((peer_at old peer).known.answered writer)
+        (own_writer part writer).matched checked (h.of_config peer step.within) there
         (ap (λ (w : Writer). heartbeats_used w) after ∙ used_asserted (own_writer part writer) moment)
+
+known_same : (old new : WorldState) → new ≡ old → (p : ℕ) → KnowsAlike (peer_at old p).known (peer_at new p).known
+known_same old new same p =
+    knows_same (peer_at old p).known (peer_at new p).known (ap (λ (x : WorldState). (peer_at x p).known) same)
 
 -- at no peer
 uses_no_call : (config : Config) (old : WorldState) (peer : ℕ) (e : Effect) (dues : List Due) (packets : List Packet)
     (new : WorldState) → HasUsedCounts config old → (HasNumber old.peers peer → ⊥) → new ≡ old
-    → dues ≡ announcements_due config peer (peer_at old peer).part e
+    → dues ≡ announcements_due config peer (state_of (peer_at old peer)) e
     → ((p : Packet) → Contains packets p → IsWrittenOf dues p) → Uses config old packets new
 uses_no_call config old peer e dues packets new h never same are written =
     uses_silent config old dues packets new peer (stays_same config old peer new same) h
-    (λ p. ap (λ (x : WorldState). (peer_at x p).known) same) written
+    (known_same old new same) written
     (λ due among.
-    announced config peer (peer_at old peer).part e (IsSilent config) (λ d s. s)
+    announced config peer (state_of (peer_at old peer)) e (IsSilent config) (λ d s. s)
     (λ writer moment is there. absurd (nobody writer there))
     due (subst (λ (ds : List Due). Contains ds due) are among))
   where
@@ -567,7 +611,7 @@ uses_counts config old peer dues packets new checked h s counts written = record
       (number_or_not r.peer peer);
   answered = λ w r count e.
       ⊎_elim (λ is. answered_here w r count is e)
-      (λ n. inl (sym (ap (λ (x : Peer). x.known.answered w.number r) (s.others w.peer n)) ∙ e))
+      (λ n. inl (sym (ap (λ (x : Peer). (x.known.answered w.number r).count) (s.others w.peer n)) ∙ e))
       (number_or_not w.peer peer);
   beats = λ p w count among has.
       let d = written p among in
@@ -595,13 +639,14 @@ uses_counts config old peer dues packets new checked h s counts written = record
         (subst (λ (n : ℕ). ((peer_at new n).known.tracked w r.number).count ≡ Some count) is e))
 
     answered_here : (w r : Endpoint) (count : ℤ) → w.peer ≡ peer
-        → (peer_at new w.peer).known.answered w.number r ≡ Some count
-        → ((peer_at old w.peer).known.answered w.number r ≡ Some count) ⊎ (count ≤ℤ pos (acknacks_used_at old w r))
+        → ((peer_at new w.peer).known.answered w.number r).count ≡ Some count
+        → (((peer_at old w.peer).known.answered w.number r).count ≡ Some count)
+        ⊎ (count ≤ℤ pos (acknacks_used_at old w r))
     answered_here w r count is e =
-        let at : (peer_at new peer).known.answered w.number r ≡ Some count =
-        subst (λ (n : ℕ). (peer_at new n).known.answered w.number r ≡ Some count) is e in
+        let at : ((peer_at new peer).known.answered w.number r).count ≡ Some count =
+        subst (λ (n : ℕ). ((peer_at new n).known.answered w.number r).count ≡ Some count) is e in
         let me : record { peer = peer; number = w.number } ≡ w = ap (λ (n : ℕ). endpoint_of n w.number) (sym is) in
-        ⊎_elim (λ o. inl (subst (λ (n : ℕ). (peer_at old n).known.answered w.number r ≡ Some count) (sym is) o))
+        ⊎_elim (λ o. inl (subst (λ (n : ℕ). ((peer_at old n).known.answered w.number r).count ≡ Some count) (sym is) o))
         (λ n. inr (subst (λ (x : Endpoint). count ≤ℤ pos (acknacks_used_at old x r)) me n))
         (counts.answered w.number r count at)
       where
@@ -639,13 +684,10 @@ uses_resume config old peer k report dues packets new checked h s none resumes w
 -- one at which nothing is due, and nothing is learned
 uses_nothing : (config : Config) (old : WorldState) (dues : List Due) (packets : List Packet) (new : WorldState)
     (peer : ℕ) → Stays config old peer new → HasUsedCounts config old
-    → ((p : ℕ) → (peer_at new p).known ≡ (peer_at old p).known)
+    → ((p : ℕ) → KnowsAlike (peer_at old p).known (peer_at new p).known)
     → ((p : Packet) → Contains packets p → IsWrittenOf dues p) → dues ≡ [] → Uses config old packets new
 uses_nothing config old dues packets new peer s used same written none =
     uses_silent config old dues packets new peer s used same written (none_silent config dues none)
-
-known_same : (old new : WorldState) → new ≡ old → (p : ℕ) → (peer_at new p).known ≡ (peer_at old p).known
-known_same old new same p = ap (λ (x : WorldState). (peer_at x p).known) same
 
 -- a tick that is not done
 uses_no_tick : (config : Config) (tests : Tests) (old : WorldState) (peer now : ℕ) (reply : Reply) (dues : List Due)
@@ -654,38 +696,54 @@ uses_no_tick : (config : Config) (tests : Tests) (old : WorldState) (peer now : 
     → ((p : Packet) → Contains packets p → IsWrittenOf dues p) → dues ≡ [] → Uses config old packets new
 uses_no_tick config tests old peer now reply dues packets new used s written none =
     uses_nothing config old dues packets new peer (steps_stays config tests old peer (event.Tick now) reply new s) used
-    (known_of config tests old peer (event.Tick now) reply new s s.step.knows) written none
+    (known_of config tests old peer (event.Tick now) reply new s
+    (tick_knows (peer_at old peer) now s.output.reply s.after s.step.knows)) written none
 
--- a delivery that is not reported
+-- a delivery that is not reported changes nothing
+pub not_reported : (config : Config) (tests : AllTests) (old : WorldState) (peer number : ℕ) (reply : Reply)
+    (new : WorldState) → WorldStep config tests old (world.Deliver peer number) reply new
+    → ((before : Peer) (bytes : List ℕ) (after : Peer)
+    → EventStep config (tests peer) before (event.Deliver bytes) reply after → ⊥) → new ≡ old
+not_reported config tests old peer number reply new (inl s) never =
+    absurd (never (peer_at old peer) s.0.bytes s.3.after
+    (subst (λ (r : Reply). EventStep config (tests peer) (peer_at old peer) (event.Deliver s.0.bytes) r s.3.after)
+    s.3.replies s.3.step.step))
+not_reported config tests old peer number reply new (inr s) never = s.1.after
+
 uses_no_report : (config : Config) (tests : AllTests) (old : WorldState) (peer number : ℕ) (reply : Reply)
     (dues : List Due) (packets : List Packet) (new : WorldState) → HasUsedCounts config old
     → WorldStep config tests old (world.Deliver peer number) reply new
     → ((before : Peer) (bytes : List ℕ) (after : Peer)
     → EventStep config (tests peer) before (event.Deliver bytes) reply after → ⊥)
     → ((p : Packet) → Contains packets p → IsWrittenOf dues p) → dues ≡ [] → Uses config old packets new
-uses_no_report config tests old peer number reply dues packets new used (inl s) never written none =
-    absurd (never (peer_at old peer) s.0.bytes s.3.after
-    (subst (λ (r : Reply). EventStep config (tests peer) (peer_at old peer) (event.Deliver s.0.bytes) r s.3.after)
-    s.3.replies s.3.step.step))
-uses_no_report config tests old peer number reply dues packets new used (inr s) never written none =
-    uses_nothing config old dues packets new peer (stays_same config old peer new s.1.after) used
-    (known_same old new s.1.after) written none
+uses_no_report config tests old peer number reply dues packets new used s never written none =
+    let same : new ≡ old = not_reported config tests old peer number reply new s never in
+    uses_nothing config old dues packets new peer (stays_same config old peer new same) used
+    (known_same old new same) written none
 
--- a reader that is not there
+-- nor does a peer know anew by a reader that is not there
+pub not_resumed : (config : Config) (tests : AllTests) (old : WorldState) (peer k : ℕ) (reply : Reply)
+    (new : WorldState) → WorldStep config tests old (world.Resume peer k) reply new
+    → ((before after : Peer) → Knows before (event.Resume k) reply after → after.known ≡ before.known)
+    → Stays config old peer new × ((p : ℕ) → (peer_at new p).known ≡ (peer_at old p).known)
+not_resumed config tests old peer k reply new (inl s) same = (
+  steps_stays config (tests peer) old peer (event.Resume k) reply new s,
+  known_by (λ before after. after ≡ before) (λ known. refl) config (tests peer) old peer (event.Resume k) reply new s
+      (same (peer_at old peer) s.after
+      (subst (λ (r : Reply). Knows (peer_at old peer) (event.Resume k) r s.after) s.replies s.step.knows)),
+)
+not_resumed config tests old peer k reply new (inr s) same =
+    (stays_same config old peer new s.1.after, λ p. ap (λ (x : WorldState). (peer_at x p).known) s.1.after)
+
 uses_no_resume : (config : Config) (tests : AllTests) (old : WorldState) (peer k : ℕ) (reply : Reply)
     (dues : List Due) (packets : List Packet) (new : WorldState) → HasUsedCounts config old
     → WorldStep config tests old (world.Resume peer k) reply new
     → ((before after : Peer) → Knows before (event.Resume k) reply after → after.known ≡ before.known)
     → ((p : Packet) → Contains packets p → IsWrittenOf dues p) → dues ≡ [] → Uses config old packets new
-uses_no_resume config tests old peer k reply dues packets new used (inl s) same written none =
-    uses_nothing config old dues packets new peer (steps_stays config (tests peer) old peer (event.Resume k) reply new s)
-    used
-    (known_of config (tests peer) old peer (event.Resume k) reply new s
-    (same (peer_at old peer) s.after
-    (subst (λ (r : Reply). Knows (peer_at old peer) (event.Resume k) r s.after) s.replies s.step.knows))) written none
-uses_no_resume config tests old peer k reply dues packets new used (inr s) same written none =
-    uses_nothing config old dues packets new peer (stays_same config old peer new s.1.after) used
-    (known_same old new s.1.after) written none
+uses_no_resume config tests old peer k reply dues packets new used s same written none =
+    let stays = not_resumed config tests old peer k reply new s same in
+    uses_nothing config old dues packets new peer stays.0 used
+    (λ p. knows_same (peer_at old p).known (peer_at new p).known (stays.1 p)) written none
 
 uses_step : (config : Config) (tests : AllTests) (old : WorldState) (ev : WorldEvent) (reply : Reply) (dues : List Due)
     (packets : List Packet) (new : WorldState) → check_refusal config.peers ≡ None → HasUsedCounts config old

@@ -28,6 +28,7 @@ use Rattle.dds_protocol.specs.declared.event.Event.TheVariants as event
 use Rattle.dds_protocol.specs.declared.event.Output.{Output}
 use Rattle.dds_protocol.specs.Claims.{Receiver, receiver_of, after_submessage}
 use Rattle.dds_protocol.proofs.Resumed.{as_moves}
+use Rattle.dds_protocol.specs.DueMessages.{was_asked}
 use Rattle.dds_protocol.specs.Peer.{Peer, PeerStep, EventStep, claimed, claimed_by, packets_of}
 use Rattle.dds_protocol.specs.Receipt.{TakesUp, Receives, prefix_of}
 use Rattle.dds_protocol.proofs.Alike.{AlikeParts, end_alike}
@@ -176,10 +177,10 @@ by_ticks now rs = λ n.
 by_tick : (old : Part) (now : ℕ) (reply : Reply) (new : Part) → TickStep old now reply new
     → AllGoOn old.dds.readers new.dds.readers
 by_tick old now Done new h =
-    subst (λ (p : Part). AllGoOn old.dds.readers p.dds.readers) (sym h.1) (by_ticks now old.dds.readers)
+    subst (λ (p : Part). AllGoOn old.dds.readers p.dds.readers) (sym h.1.1) (by_ticks now old.dds.readers)
 by_tick old now (Refused code) new h =
-    subst (λ (p : Part). AllGoOn old.dds.readers p.dds.readers) (sym h.1) (all_same old.dds.readers)
-by_tick old now reply new h = absurd h
+    subst (λ (p : Part). AllGoOn old.dds.readers p.dds.readers) (sym h.1.1) (all_same old.dds.readers)
+by_tick old now reply new h = absurd h.1
 
 -- ---- a delivery
 
@@ -263,7 +264,8 @@ by_event : (config : Config) (tests : Tests) (old : Peer) (e : Event) (reply : R
     → EventStep config tests old e reply new → AllGoOn old.part.dds.readers new.part.dds.readers
 by_event config tests old (event.Call call) reply new h =
     by_call old.part new.part.dds (changes_of tests old.part call reply new.part.dds h.0.answers)
-by_event config tests old (event.Tick now) reply new h = by_tick old.part now reply new.part h.0
+by_event config tests old (event.Tick now) reply new h =
+    by_tick old.part now reply new.part (was_asked old.known.answered old.part, h.0)
 by_event config tests old (event.Deliver packet) (Reported report) new h =
     by_packet config (claimed config old.delivered packet old.part.rtps.readers old.number) old.number packet old.part
     report new.part h.0

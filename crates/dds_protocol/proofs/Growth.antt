@@ -1,6 +1,6 @@
 -- Lists and places grow, and what is claimed stays true.
-use Rattle.std.proofs.Common.{◌≡◌, ℕ, ◌+◌, ◌-◌, ◌≤◌, Bool, true, false, cond, Option, ℤ, pos, negsuc, zero, suc, ◌⊎◌, List, [], ◌∷◌, ◌++◌, Some, None, map, get_or, refl, subst, ap, sym, ◌∙◌, inl, inr, ⊎_elim, arith, length, drop, count_by, slice_get, append_assoc}
-use Rattle.std.specs.Prelude.{if◌then◌else◌, nat_lt, nat_le}
+use Rattle.std.proofs.Common.{◌≡◌, ℕ, ◌+◌, ◌-◌, ◌≤◌, Bool, true, false, cond, Option, ℤ, pos, negsuc, zero, suc, ◌⊎◌, List, [], ◌∷◌, ◌++◌, Some, None, get_or, refl, subst, ap, sym, ◌∙◌, inl, inr, ⊎_elim, arith, length, drop, count_by, slice_get, append_assoc}
+use Rattle.std.specs.Prelude.{if◌then◌else◌, ◌||◌, nat_lt, nat_le}
 use Rattle.std.specs.Option.{option_map_or}
 use Rattle.std.proofs.lemmas.Bool.Decides.{nat_tests}
 use Rattle.std.proofs.lemmas.List.{drop-append-le, length-map}
@@ -21,7 +21,7 @@ use Rattle.dds_machine.specs.declared.reply.Reply.TheVariants.{Done, Refused, Re
 use Rattle.dds_machine.specs.Numbered.{numbered, with_numbered}
 use Rattle.dds_machine.specs.Part.{Attachment, Away, Waiting, WriterProxy, Writer, Rtps, Part, no_writer, no_part, own_writer, own_proxies, place_of, with_place, with_begun, with_heard, with_acknowledged, writer_changes, history_of, is_behind, is_assertion, owed_from, NoLess}
 use Rattle.dds_machine.specs.Moves.{Grounds, IsMove, AreMoves, DeliveryStep}
-use Rattle.dds_machine.specs.Ticks.{ticked, reader_ticked, TickStep}
+use Rattle.dds_machine.specs.Ticks.{ticked, writers_ticked, reader_ticked, TickStep}
 use Rattle.dds_machine.specs.Calls.{Effect, nothing, writes, tells, looks_at_matches, effect, effect_of, with_written, CallStep}
 use Rattle.dds_machine.specs.Matching.{Telling, MatchReader, UnmatchReader, MatchWriter, UnmatchWriter, after_telling, is_known, joined, left, with_how, with_match, writer_looked_at}
 use Rattle.dds_machine.specs.Watching.{Tests}
@@ -29,7 +29,8 @@ use Rattle.dds_protocol.specs.Claims.{Claim, ChangeIs, MayPass, PlaceReached, As
 use Rattle.dds_machine.specs.Machine.{Machine, part_at, writer_at, place_at}
 use Rattle.dds_protocol.specs.World.{Holds}
 use Rattle.dds_protocol.proofs.Owing.{changes-more, no_fewer, owed_same, owed_acknowledged, owed_joined, owed_left}
-use Rattle.dds_machine.proofs.Tables.{numbered-cases, numbered-map-cases, append_nothing, slice_get-append, place-append, place-cases, place-how, begun-cases, place-heard, no_less_same, no_less_on, none_on, at_most_on, below_on}
+use Rattle.dds_machine.proofs.Ticked.{numbered-writers_ticked}
+use Rattle.dds_machine.proofs.Tables.{numbered-cases, append_nothing, slice_get-append, place-append, place-cases, place-how, begun-cases, place-heard, no_less_same, no_less_on, none_on, at_most_on, below_on}
 
 pub record WriterGrows (old new : Writer) : Type 0 where
   pub policy : new.policy ≡ old.policy
@@ -312,55 +313,56 @@ CallStep-rows tests old call reply new h untold =
 
 -- what a tick does: each writer's list grows by one entry, and readers, places and acknowledgements stay
 
-ticked-grows : (now : ℕ) (w : Writer) → WriterGrows w (ticked now w)
-ticked-grows now w = entered-grows w (Ticked now (is_behind w))
+ticked-grows : (now : ℕ) (asked : Bool) (w : Writer) → WriterGrows w (ticked now asked w)
+ticked-grows now asked w = entered-grows w (Ticked now (is_behind w || asked))
 
-all_ticked-grows : (now : ℕ) (old : Rtps) → Grows old (record old { writers = map (ticked now) old.writers })
-all_ticked-grows now old = record {
+all_ticked-grows : (now : ℕ) (asked : ℕ → Bool) (old : Rtps)
+    → Grows old (record old { writers = writers_ticked now asked 1 old.writers })
+all_ticked-grows now asked old = record {
   writers = λ k.
       ⊎_elim (λ e. subst (λ (x : Writer). WriterGrows (numbered old.writers k no_writer) x) (sym e)
-      (ticked-grows now (numbered old.writers k no_writer)))
+      (ticked-grows now (asked k) (numbered old.writers k no_writer)))
       (λ n. subst (λ (x : Writer). WriterGrows (numbered old.writers k no_writer) x) (n.1 ∙ sym n.0)
       (writer_same (numbered old.writers k no_writer)))
-      (numbered-map-cases (ticked now) old.writers k no_writer);
+      (numbered-writers_ticked now asked old.writers k);
   places = λ r v. no_less_same (place_of (numbered old.readers r []) v);
 }
 
 pub TickStep-grows : (old : Part) (now : ℕ) (reply : Reply) (new : Part) → TickStep old now reply new
     → Grows old.rtps new.rtps
 TickStep-grows old now Done new h =
-    subst (λ (p : Part). Grows old.rtps p.rtps) (sym h.1) (all_ticked-grows now old.rtps)
+    subst (λ (p : Part). Grows old.rtps p.rtps) (sym h.1.1) (all_ticked-grows now h.0 old.rtps)
 TickStep-grows old now (Refused code) new h =
-    subst (λ (p : Part). Grows old.rtps p.rtps) (sym h.1) (grows_same old.rtps)
-TickStep-grows old now reply new h = absurd h
+    subst (λ (p : Part). Grows old.rtps p.rtps) (sym h.1.1) (grows_same old.rtps)
+TickStep-grows old now reply new h = absurd h.1
 
 -- a tick leaves the rows of readers, and what happened there
 pub TickStep-rows : (old : Part) (now : ℕ) (reply : Reply) (new : Part) → TickStep old now reply new
     → new.rtps.readers ≡ old.rtps.readers
-TickStep-rows old now Done new h = ap (λ (p : Part). p.rtps.readers) h.1
-TickStep-rows old now (Refused code) new h = ap (λ (p : Part). p.rtps.readers) h.1
-TickStep-rows old now reply new h = absurd h
+TickStep-rows old now Done new h = ap (λ (p : Part). p.rtps.readers) h.1.1
+TickStep-rows old now (Refused code) new h = ap (λ (p : Part). p.rtps.readers) h.1.1
+TickStep-rows old now reply new h = absurd h.1
 
 pub TickStep-readers : (old : Part) (now : ℕ) (reply : Reply) (new : Part) → TickStep old now reply new
     → length new.dds.readers ≡ length old.dds.readers
 TickStep-readers old now Done new h =
-    ap (λ (p : Part). length p.dds.readers) h.1 ∙ length-map old.dds.readers (reader_ticked now)
-TickStep-readers old now (Refused code) new h = ap (λ (p : Part). length p.dds.readers) h.1
-TickStep-readers old now reply new h = absurd h
+    ap (λ (p : Part). length p.dds.readers) h.1.1 ∙ length-map old.dds.readers (reader_ticked now)
+TickStep-readers old now (Refused code) new h = ap (λ (p : Part). length p.dds.readers) h.1.1
+TickStep-readers old now reply new h = absurd h.1
 
-ticked-readers : (now : ℕ) (ws : List Writer) (k : ℕ) → (numbered (map (ticked now) ws) k no_writer).readers
-    ≡ (numbered ws k no_writer).readers
-ticked-readers now ws k =
+ticked-readers : (now : ℕ) (asked : ℕ → Bool) (ws : List Writer) (k : ℕ)
+    → (numbered (writers_ticked now asked 1 ws) k no_writer).readers ≡ (numbered ws k no_writer).readers
+ticked-readers now asked ws k =
     ⊎_elim (λ e. ap (λ (x : Writer). x.readers) e) (λ n. ap (λ (x : Writer). x.readers) (n.0 ∙ sym n.1))
-    (numbered-map-cases (ticked now) ws k no_writer)
+    (numbered-writers_ticked now asked ws k)
 
 -- a tick leaves what each writer's readers have acknowledged
 pub TickStep-acknowledged : (old : Part) (now : ℕ) (reply : Reply) (new : Part) → TickStep old now reply new → (k : ℕ)
     → (own_writer new k).readers ≡ (own_writer old k).readers
 TickStep-acknowledged old now Done new h k =
-    ap (λ (p : Part). (own_writer p k).readers) h.1 ∙ ticked-readers now old.rtps.writers k
-TickStep-acknowledged old now (Refused code) new h k = ap (λ (p : Part). (own_writer p k).readers) h.1
-TickStep-acknowledged old now reply new h k = absurd h
+    ap (λ (p : Part). (own_writer p k).readers) h.1.1 ∙ ticked-readers now h.0 old.rtps.writers k
+TickStep-acknowledged old now (Refused code) new h k = ap (λ (p : Part). (own_writer p k).readers) h.1.1
+TickStep-acknowledged old now reply new h k = absurd h.1
 
 -- changes grow at their end
 

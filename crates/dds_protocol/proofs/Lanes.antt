@@ -459,9 +459,9 @@ ticked_came now rs r p =
 tick_came : (old : Part) (now : ℕ) (reply : Reply) (new : Part) → TickStep old now reply new → (r p : ℕ)
     → came_from p (own_reader new r).happened ≡ came_from p (own_reader old r).happened
 tick_came old now Done new h r p =
-    ap (λ (x : Part). came_from p (own_reader x r).happened) h.1 ∙ ticked_came now old.dds.readers r p
-tick_came old now (Refused code) new h r p = ap (λ (x : Part). came_from p (own_reader x r).happened) h.1
-tick_came old now reply new h r p = absurd h
+    ap (λ (x : Part). came_from p (own_reader x r).happened) h.1.1 ∙ ticked_came now old.dds.readers r p
+tick_came old now (Refused code) new h r p = ap (λ (x : Part). came_from p (own_reader x r).happened) h.1.1
+tick_came old now reply new h r p = absurd h.1
 
 pub lane_tick : (changes : List Change) (old : Part) (w : Endpoint) (r now : ℕ) (reply : Reply) (new : Part)
     → Lane changes old w r → TickStep old now reply new → Lane changes new w r

@@ -14,6 +14,7 @@ pub mod ResumedRows
 pub mod Opened
 pub mod OpenedPeers
 pub mod Bounded
+pub mod Contacts
 mod WorkedReceivers
 mod WorkedExamples
 mod WorkedPackets
@@ -87,3 +88,4 @@ pub mod Closed
 pub mod ClosedSteps
 pub mod Tellings
 pub mod GoesOn
+pub mod Answered

@@ -12,7 +12,8 @@ use Rattle.dds_machine.specs.Numbered.{HasNumber}
 use Rattle.dds_machine.specs.Part.{Part, ReaderProxy, Writer, no_writer, same_endpoint, row_of, own_writer, acknowledged_of, writer_changes}
 use Rattle.dds_protocol.specs.Claims.{Receiver, IsToWriter}
 use Rattle.dds_protocol.specs.DueMessages.{Due}
-use Rattle.dds_protocol.specs.Protocol.{Known, State, InTurn, TakesAckNack, is_taken_up, WriterTakes, Takes, with_answered}
+use Rattle.dds_protocol.specs.Contact.{Contact}
+use Rattle.dds_protocol.specs.Protocol.{Known, State, InTurn, TakesAckNack, is_taken_up, WriterTakes, Takes, contact_after, with_answered}
 use Rattle.dds_protocol.specs.Backed.{reader_at}
 use Rattle.dds_protocol.proofs.Framing.{number_or_not}
 use Rattle.dds_protocol.proofs.InOrder.{same_self}
@@ -65,10 +66,11 @@ rows_idle c k (p ∷ ps) old moves dues new none h =
         let rest = later t.1.2 in
         (h.6 ∙ (ap (λ (ds : List Due). ds ++ h.3) t.1.1 ∙ rest.0), rest.1)
 
-answered_here : (known : Known) (w : ℕ) (r : Endpoint) (n : ℤ) → (with_answered known w r n).answered w r ≡ Some n
-answered_here known w r n =
-    ap (λ (b : Bool). cond (b && same_endpoint r r) (Some n) (known.answered w r)) (eq-eqb w w refl)
-    ∙ ap (λ (b : Bool). cond b (Some n) (known.answered w r)) (same_self r)
+answered_here : (known : Known) (w : ℕ) (r : Endpoint) (contact : Contact)
+    → (with_answered known w r contact).answered w r ≡ contact
+answered_here known w r contact =
+    ap (λ (b : Bool). cond (b && same_endpoint r r) contact (known.answered w r)) (eq-eqb w w refl)
+    ∙ ap (λ (b : Bool). cond b contact (known.answered w r)) (same_self r)
 
 -- once it was taken it is no longer new
 taken_once : (c : Asking) (k : ℕ) (x : Endpoint) (entity : EntityId) (old : State) (made : List Move) (dues : List Due)
@@ -77,7 +79,9 @@ taken_once : (c : Asking) (k : ℕ) (x : Endpoint) (entity : EntityId) (old : St
 taken_once c k x entity old made dues new t =
     ap (λ (o : Option ℤ). is_later o c.body.count && nat_le c.body.reader_sn_state.base
     (length (writer_changes (own_writer new.part k)) + 1))
-    (ap (λ (s : State). s.known.answered k x) t.after ∙ answered_here old.known k x c.body.count)
+    (ap (λ (s : State). (s.known.answered k x).count) t.after
+    ∙ ap (λ (y : Contact). y.count)
+    (answered_here old.known k x (contact_after (old.known.answered k x) c.body)))
     ∙ ap (λ (b : Bool). b && nat_le c.body.reader_sn_state.base (length (writer_changes (own_writer new.part k)) + 1))
     (not_later_than_itself c.body.count)
 

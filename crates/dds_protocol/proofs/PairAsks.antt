@@ -82,7 +82,7 @@ ask_is_sent {c} t none x is = record {
         c.begins.hears.step.are_sent due
 
 answered_by : {c : Begun} → (t : Told c) → the_last c < 2 ^ 62 → acknacks_used_at c.old c.writer c.reader < 2 ^ 31 - 1
-    → (a : Option AckNackDue) → (hears t).answer ≡ a → AnswersHeartbeat (heard_of t) (the_last c) false a
+    → (a : Option AckNackDue) → (hears t).answer ≡ a → AnswersHeartbeat (heard_of t) (body t).last_sn false a
     → (x : AckNackDue) × ((hears t).answer ≡ Some x)
 answered_by t few left None is (inl (inl far)) = let le = place_heard t in absurd (omega (arith, few, le, far))
 answered_by t few left None is (inl (inr used)) = let same = acknacks t in absurd (omega (arith, left, used, same))

@@ -18,12 +18,13 @@ use Rattle.dds_protocol.specs.Claims.{IsWriter, StandsAt, receiver_of}
 use Rattle.dds_protocol.specs.Receipt.{prefix_of}
 use Rattle.dds_protocol.specs.Dues.{IsPartOf}
 use Rattle.dds_machine.specs.Machine.{AllTests, writer_at}
-use Rattle.dds_protocol.specs.DueMessages.{Due, readers_behind, heartbeats_of, heartbeats_from, heartbeats_due}
+use Rattle.dds_protocol.specs.Contact.{Contact}
+use Rattle.dds_protocol.specs.DueMessages.{Due, readers_told, heartbeats_of, heartbeats_from, heartbeats_due}
 use Rattle.dds_protocol.specs.World.{WorldState, peer_at, machine_of}
 use Rattle.dds_protocol.specs.Fresh.{HasUsedCounts, heartbeats_used_at}
 use Rattle.dds_protocol.specs.Repair.{HasBeatTo}
 use Rattle.dds_protocol.specs.Rules.{RuledStep}
-use Rattle.dds_protocol.proofs.BeatsTo.{AreBeats, IsBeatOf, NamedBeat, beat_among, beat_stands, beats_are, beats_to, named_beat, reader_behind}
+use Rattle.dds_protocol.proofs.BeatsTo.{AreBeats, IsBeatOf, NamedBeat, beat_among, beat_stands, beats_are, beats_to, named_beat, reader_told}
 use Rattle.dds_protocol.proofs.Composed.{parts_at}
 use Rattle.dds_protocol.proofs.CountsWritten.{contains_map}
 use Rattle.dds_protocol.proofs.Dues.{addressed, stands_in}
@@ -36,46 +37,54 @@ use Rattle.dds_protocol.proofs.PairTicked.{ticks_there}
 
 -- ---- what is due
 
-due_of : (config : Config) (peer : ℕ) (part : Part) (number to : ℕ)
+due_of : (config : Config) (contacts : ℕ → Endpoint → Contact) (peer : ℕ) (part : Part) (number to : ℕ)
     → heartbeats_used (own_writer part number) < 2 ^ 31 - 1
-    → Contains (peers_of (readers_behind (own_writer part number))) to
-    → Contains (heartbeats_of config peer number (own_writer part number)) (heartbeat_due config peer part number to)
-due_of config peer part number to low among = by (nat_lt (heartbeats_used (own_writer part number)) (2 ^ 31 - 1)) left
+    → Contains (peers_of (readers_told (contacts number) (own_writer part number))) to
+    → Contains (heartbeats_of config contacts peer number (own_writer part number))
+    (heartbeat_due config contacts peer part number to)
+due_of config contacts peer part number to low among =
+    by (nat_lt (heartbeats_used (own_writer part number)) (2 ^ 31 - 1)) left
   where
     left : nat_lt (heartbeats_used (own_writer part number)) (2 ^ 31 - 1) ≡ true
     left = grind (arith, nat_tests)
 
     by : (b : Bool) → b ≡ true
-        → Contains (if b then map (heartbeat_due config peer part number)
-        (peers_of (readers_behind (own_writer part number))) else []) (heartbeat_due config peer part number to)
+        → Contains (if b then map (heartbeat_due config contacts peer part number)
+        (peers_of (readers_told (contacts number) (own_writer part number))) else [])
+        (heartbeat_due config contacts peer part number to)
     by true e =
-        contains_map (heartbeat_due config peer part number)
-        (peers_of (readers_behind (own_writer part number))) to among
+        contains_map (heartbeat_due config contacts peer part number)
+        (peers_of (readers_told (contacts number) (own_writer part number))) to among
     by false e = cc
 
-among_all : (config : Config) (peer number : ℕ) (ws : List Writer) (k : ℕ) (d : Due) → k < length ws
-    → Contains (heartbeats_of config peer (number + k) (get_or ws k no_writer)) d
-    → Contains (heartbeats_from config peer number ws) d
-among_all config peer number [] k d lt h = absurd (omega (arith, lt))
-among_all config peer number (w ∷ ws) zero d lt h =
+among_all : (config : Config) (contacts : ℕ → Endpoint → Contact) (peer number : ℕ) (ws : List Writer) (k : ℕ) (d : Due)
+    → k < length ws
+    → Contains (heartbeats_of config contacts peer (number + k) (get_or ws k no_writer)) d
+    → Contains (heartbeats_from config contacts peer number ws) d
+among_all config contacts peer number [] k d lt h = absurd (omega (arith, lt))
+among_all config contacts peer number (w ∷ ws) zero d lt h =
     let here : number + 0 ≡ number = omega arith in
-    Contains-append_left (heartbeats_of config peer number w) (heartbeats_from config peer (number + 1) ws) d
-    (subst (λ (n : ℕ). Contains (heartbeats_of config peer n w) d) here h)
-among_all config peer number (w ∷ ws) (suc k) d lt h =
+    Contains-append_left (heartbeats_of config contacts peer number w)
+    (heartbeats_from config contacts peer (number + 1) ws) d
+    (subst (λ (n : ℕ). Contains (heartbeats_of config contacts peer n w) d) here h)
+among_all config contacts peer number (w ∷ ws) (suc k) d lt h =
     let over : number + suc k ≡ number + 1 + k = omega arith in
-    Contains-append_right (heartbeats_of config peer number w) (heartbeats_from config peer (number + 1) ws) d
-    (among_all config peer (number + 1) ws k d (omega (arith, lt))
-    (subst (λ (n : ℕ). Contains (heartbeats_of config peer n (get_or ws k no_writer)) d) over h))
+    Contains-append_right (heartbeats_of config contacts peer number w)
+    (heartbeats_from config contacts peer (number + 1) ws) d
+    (among_all config contacts peer (number + 1) ws k d (omega (arith, lt))
+    (subst (λ (n : ℕ). Contains (heartbeats_of config contacts peer n (get_or ws k no_writer)) d) over h))
 
-among_dues : (config : Config) (peer : ℕ) (part : Part) (number : ℕ) (d : Due) → HasNumber part.rtps.writers number
-    → Contains (heartbeats_of config peer number (own_writer part number)) d
-    → Contains (heartbeats_due config peer part) d
-among_dues config peer part zero d has h = let low = has.0 in absurd (omega (arith, low))
-among_dues config peer part (suc i) d has h =
+among_dues : (config : Config) (contacts : ℕ → Endpoint → Contact) (peer : ℕ) (part : Part) (number : ℕ) (d : Due)
+    → HasNumber part.rtps.writers number
+    → Contains (heartbeats_of config contacts peer number (own_writer part number)) d
+    → Contains (heartbeats_due config contacts peer part) d
+among_dues config contacts peer part zero d has h = let low = has.0 in absurd (omega (arith, low))
+among_dues config contacts peer part (suc i) d has h =
     let high = has.1 in
     let number : suc i ≡ 1 + i = omega arith in
-    among_all config peer 1 part.rtps.writers i d (omega (arith, high))
-    (subst (λ (n : ℕ). Contains (heartbeats_of config peer n (get_or part.rtps.writers i no_writer)) d) number h)
+    among_all config contacts peer 1 part.rtps.writers i d (omega (arith, high))
+    (subst (λ (n : ℕ). Contains (heartbeats_of config contacts peer n (get_or part.rtps.writers i no_writer)) d) number
+    h)
 
 -- ---- what is sent
 
@@ -102,7 +111,8 @@ beats_are_sent config tests writer reader acknowledged now old new checked used 
         (addressed (prefix_of config writer.peer) (prefix_of config reader.peer)) (Heartbeat beat.body) writable
         stands.1;
     from =
-        subst (λ (h : HeartbeatBody). IsWriter config (prefix_of config writer.peer) h.writer_id writer) (sym is_beat)
+        subst (λ (h : HeartbeatBody). IsWriter config (prefix_of config writer.peer) h.writer_id writer)
+        (sym is_beat.is)
         (own_name config writer.peer part of writer.number here).name;
     same_count = refl;
   };
@@ -110,6 +120,9 @@ beats_are_sent config tests writer reader acknowledged now old new checked used 
   where
     part : Part
     part = (peer_at old writer.peer).part
+
+    contacts : ℕ → Endpoint → Contact
+    contacts = (peer_at old writer.peer).known.answered
 
     same : writer_at (machine_of old) writer ≡ own_writer part writer.number
     same = ap (λ (p : Part). own_writer p writer.number) (parts_at old writer.peer)
@@ -130,35 +143,35 @@ beats_are_sent config tests writer reader acknowledged now old new checked used 
     here = has_writer part writer.number reader (acknowledged, row')
 
     due : Due
-    due = heartbeat_due config writer.peer part writer.number reader.peer
+    due = heartbeat_due config contacts writer.peer part writer.number reader.peer
 
     is_due : Contains step.dues due
     is_due =
         subst (λ (ds : List Due). Contains ds due) (sym step.due)
-        (among_dues config writer.peer part writer.number due here
-        (due_of config writer.peer part writer.number reader.peer left'
-        (peer_among (readers_behind (own_writer part writer.number)) reader
-        (reader_behind (own_writer part writer.number) reader acknowledged row' behind'))))
+        (among_dues config contacts writer.peer part writer.number due here
+        (due_of config contacts writer.peer part writer.number reader.peer left'
+        (peer_among (readers_told (contacts writer.number) (own_writer part writer.number)) reader
+        (reader_told (contacts writer.number) (own_writer part writer.number) reader acknowledged row' behind'))))
 
     writable : IsWritable due.message
     writable = due_writable step.dues step.packets 0 due refl step.are_sent is_due
 
-    beats : AreBeats (IsBeatOf config writer.peer part writer.number)
-        (beats_to config writer.peer part writer.number reader.peer)
-    beats = beats_are config writer.peer part writer.number reader.peer
+    beats : AreBeats (IsBeatOf config contacts writer.peer part writer.number reader.peer)
+        (beats_to config contacts writer.peer part writer.number reader.peer)
+    beats = beats_are config contacts writer.peer part writer.number reader.peer
 
-    beat : NamedBeat config writer.peer part writer.number reader
-    beat = named_beat config writer.peer part writer.number reader acknowledged row' behind'
+    beat : NamedBeat config contacts writer.peer part writer.number reader
+    beat = named_beat config contacts writer.peer part writer.number reader acknowledged row' behind'
 
-    is_beat : IsBeatOf config writer.peer part writer.number beat.body
+    is_beat : IsBeatOf config contacts writer.peer part writer.number reader.peer beat.body
     is_beat =
-        beat_among (IsBeatOf config writer.peer part writer.number)
-        (beats_to config writer.peer part writer.number reader.peer) beat.body beats beat.among
+        beat_among (IsBeatOf config contacts writer.peer part writer.number reader.peer)
+        (beats_to config contacts writer.peer part writer.number reader.peer) beat.body beats beat.among
 
     stands : (index : ℕ)
         × StandsAt (prefix_of config reader.peer) (receiver_of (prefix_of config writer.peer)) due.message.submessages
         index (addressed (prefix_of config writer.peer) (prefix_of config reader.peer)) (Heartbeat beat.body)
     stands =
-        beat_stands (IsBeatOf config writer.peer part writer.number) (prefix_of config writer.peer)
+        beat_stands (IsBeatOf config contacts writer.peer part writer.number reader.peer) (prefix_of config writer.peer)
         (prefix_of config reader.peer) (prefix_of config reader.peer)
-        (beats_to config writer.peer part writer.number reader.peer) (Heartbeat beat.body) beats beat.among
+        (beats_to config contacts writer.peer part writer.number reader.peer) (Heartbeat beat.body) beats beat.among

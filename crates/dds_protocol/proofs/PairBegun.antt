@@ -17,6 +17,7 @@ use Rattle.dds_machine.specs.Moves.{match_of}
 use Rattle.dds_protocol.specs.Dues.{IsPartOf}
 use Rattle.dds_machine.specs.Machine.{AllTests, writer_at, place_at}
 use Rattle.dds_protocol.specs.Peer.{Peer, state_of}
+use Rattle.dds_protocol.specs.Contact.{Contact}
 use Rattle.dds_protocol.specs.Protocol.{Known, State}
 use Rattle.dds_protocol.specs.World.{WorldState, peer_at, machine_of, Sound}
 use Rattle.dds_protocol.specs.Bounds.{IsBounded}
@@ -130,7 +131,11 @@ left c p =
     leaves_ended c.old (world.Tick c.writer.peer c.begins.now) c.begins.ticked p c.old
     (tick_leaves c.config c.tests c.old c.writer.peer c.begins.now c.begins.ticked c.begins.ticks.step p)
 
-pub beaten : (c : Begun) → BeatPacket c.config (writer_part c) c.writer c.begins.beat
+-- what the writer's peer knew of readers
+abbrev pub contacts_of : Begun → ℕ → Endpoint → Contact
+contacts_of c = (peer_at c.old c.writer.peer).known.answered
+
+pub beaten : (c : Begun) → BeatPacket c.config (contacts_of c) (writer_part c) c.writer c.begins.beat
 beaten c =
     beat_packet c.config c.tests c.old c.begins.now c.begins.lost_beats c.begins.ticked c.writer c.begins.beat
     c.begins.beat_count c.checked (part_of c) c.begins.ticks c.begins.beat_sent c.begins.beat_of
@@ -154,7 +159,7 @@ match c = match_of (ticked_reader c).part c.reader.number (handle_of c).0
 
 pub knows_place : (c : Begun) → ((ticked_reader c).known.tracked c.writer c.reader.number).place ≡ c.place
 knows_place c =
-    ap (λ (k : Known). (k.tracked c.writer c.reader.number).place) (left c c.reader.peer).known ∙ c.stands.known
+    ap (λ (t : Tracked). t.place) ((left c c.reader.peer).known.tracked c.writer c.reader.number) ∙ c.stands.known
 
 -- how the reader stands to the writer before the round
 abbrev pub stood : Begun → Attachment
@@ -183,7 +188,7 @@ beat_later c =
     (λ count e.
     subst (λ (w : Writer). count ≤ℤ pos (heartbeats_used w)) (writer_is c.old c.writer)
     (c.used.heartbeat_taken c.writer c.reader count
-    (sym (ap (λ (k : Known). (k.tracked c.writer c.reader.number).count) (left c c.reader.peer).known) ∙ e)))
+    (sym (ap (λ (t : Tracked). t.count) ((left c c.reader.peer).known.tracked c.writer c.reader.number)) ∙ e)))
 
 -- ---- the HEARTBEATs
 
@@ -192,7 +197,8 @@ heard_reader c = state_of (peer_at c.heard c.reader.peer)
 
 -- one told the reader, and was heard
 pub record Told (c : Begun) : Type 0 where
-  pub of : ToldPacket (pairing c) (writer_part c) (match c) (ticked_reader c) c.begins.hears.step.dues (heard_reader c)
+  pub of : ToldPacket (pairing c) (contacts_of c) (writer_part c) (match c) (ticked_reader c) c.begins.hears.step.dues
+      (heard_reader c)
 
 -- none did, and the reader was not behind
 pub record Missed (c : Begun) : Type 0 where
@@ -201,12 +207,14 @@ pub record Missed (c : Begun) : Type 0 where
 pub met : (c : Begun) → Told c ⊎ Missed c
 met c =
     ⊎_elim (λ t. inl (record { of = t })) (λ m. inr (record { of = m }))
-    (hears_beats (stood c) c.stands.attached (pairing c) c.tests (writer_part c) (match c) (noted_tick c) c.begins.beat
-    c.begins.lost_asks c.heard
-    (subst (λ (n : ℕ). IsWritable (beat_message c.config c.writer.peer (writer_part c) c.writer.number n))
+    (hears_beats (stood c) c.stands.attached (pairing c) (contacts_of c) c.tests (writer_part c) (match c)
+    (noted_tick c) c.begins.beat c.begins.lost_asks c.heard
+    (subst
+    (λ (n : ℕ). IsWritable (beat_message c.config (contacts_of c) c.writer.peer (writer_part c) c.writer.number n))
     c.begins.beat_to (beaten c).writable)
     ((beaten c).bytes
-    ∙ ap (λ (n : ℕ). spelling_of (beat_message c.config c.writer.peer (writer_part c) c.writer.number n))
+    ∙ ap
+    (λ (n : ℕ). spelling_of (beat_message c.config (contacts_of c) c.writer.peer (writer_part c) c.writer.number n))
     c.begins.beat_to)
     c.begins.hears (seat_ticked c) (beat_later c))
 
@@ -223,7 +231,7 @@ keeps c = ⊎_elim (λ (t : Told c). t.of.heard.keeps) (λ (m : Missed c). m.of.
 -- ---- the HEARTBEAT that was heard
 
 abbrev pub body : {c : Begun} → Told c → HeartbeatBody
-body {c} t = beat_of c.config c.writer.peer (writer_part c) c.writer.number t.of.reader_id t.of.first
+body {c} t = beat_of c.config c.writer.peer (writer_part c) c.writer.number t.of.reader_id t.of.first t.of.last
 
 abbrev pub packet : {c : Begun} → (t : Told c)
     → Heard (pairing c) (body t) (match c) (ticked_reader c) c.begins.hears.step.dues (heard_reader c)
@@ -263,8 +271,8 @@ forward {c} t =
 pub acknacks : {c : Begun} → (t : Told c) → (heard_of t).acknacks ≡ (tracked_at c.old c.writer c.reader).acknacks
 acknacks {c} t =
     (goes t).2.stays.acknacks
-    ∙ ((hears t).acknacks ∙ ap (λ (k : Known). (k.tracked c.writer c.reader.number).acknacks)
-    (left c c.reader.peer).known)
+    ∙ ((hears t).acknacks
+    ∙ ap (λ (t : Tracked). t.acknacks) ((left c c.reader.peer).known.tracked c.writer c.reader.number))
 
 -- ---- the writer's peer, once the HEARTBEAT was heard
 
@@ -287,20 +295,20 @@ same_writers c =
     (noted_tick c) c.reader.peer c.begins.beat c.begins.lost_asks c.heard c.begins.hears c.writer.peer apart))
     (number_or_not c.writer.peer c.reader.peer)
 
-pub same_answered : (c : Begun) → (heard_writer c).known.answered c.writer.number c.reader
-    ≡ (peer_at c.old c.writer.peer).known.answered c.writer.number c.reader
+pub same_answered : (c : Begun) → ((heard_writer c).known.answered c.writer.number c.reader).count
+    ≡ ((peer_at c.old c.writer.peer).known.answered c.writer.number c.reader).count
 same_answered c =
-    ap (λ (k : Known). k.answered c.writer.number c.reader)
+    ap (λ (k : Known). (k.answered c.writer.number c.reader).count)
     (known_ended (noted_tick c) (world.Deliver c.reader.peer c.begins.hears.number) c.heard c.writer.peer)
     ∙ (⊎_elim
-    (λ e. subst (λ (n : ℕ). (peer_at c.heard n).known.answered c.writer.number c.reader
-    ≡ (peer_at (noted_tick c) n).known.answered c.writer.number c.reader) (sym e)
-    ((keeps c).answered c.writer.number c.reader))
-    (λ apart. ap (λ (x : Peer). x.known.answered c.writer.number c.reader)
+    (λ e. subst (λ (n : ℕ). ((peer_at c.heard n).known.answered c.writer.number c.reader).count
+    ≡ ((peer_at (noted_tick c) n).known.answered c.writer.number c.reader).count) (sym e)
+    (ap (λ (x : Contact). x.count) ((keeps c).answered c.writer.number c.reader)))
+    (λ apart. ap (λ (x : Peer). (x.known.answered c.writer.number c.reader).count)
     (delivered_others c.config c.tests
     (noted_tick c) c.reader.peer c.begins.beat c.begins.lost_asks c.heard c.begins.hears c.writer.peer apart))
     (number_or_not c.writer.peer c.reader.peer)
-    ∙ ap (λ (k : Known). k.answered c.writer.number c.reader) (left c c.writer.peer).known)
+    ∙ (left c c.writer.peer).known.counts c.writer.number c.reader)
 
 abbrev pub writer_heard : Begun → Writer
 writer_heard c = own_writer (heard_writer c).part c.writer.number

@@ -51,7 +51,7 @@ use Rattle.dds_machine.proofs.Tables.{acknowledged-hits}
 use Rattle.dds_machine.specs.declared.event.WorldEvent.{WorldEvent}
 use Rattle.dds_protocol.specs.Noticing.{world_ended}
 use Rattle.dds_protocol.proofs.PairEnded.{rows_ended, seat_ended, standing_ended}
-use Rattle.dds_protocol.proofs.PairBegun.{rows_heard, the_writer, noted_beat, noted_tick, seat_noted, standing_noted, Begun, the_begun, Told, Missed, met, HasRow, writer_is, place_is, pairing, body, ticked_reader, match, started_at, started_on, heard_reader, hears, heard_of, the_last, goes, forward, acknacks, heard_writer, same_answered, writer_heard, row_heard, changes_heard, values_heard, place_heard, packet}
+use Rattle.dds_protocol.proofs.PairBegun.{rows_heard, the_writer, noted_beat, noted_tick, seat_noted, standing_noted, Begun, the_begun, Told, Missed, contacts_of, met, HasRow, writer_is, place_is, pairing, body, ticked_reader, match, started_at, started_on, heard_reader, hears, heard_of, the_last, goes, forward, acknacks, heard_writer, same_answered, writer_heard, row_heard, changes_heard, values_heard, place_heard, packet}
 
 -- a round, but for its answers
 record AskedRound : Type 0 where
@@ -88,11 +88,11 @@ asked c =
     (heard_reader c.first) c.first.begins.hears.step.dues (packet c.told) c.ask c.ask_count c.ask_of
     (ask_written c.first c.ask c.ask_sent)
 
-tells : (c : AskedRound) → Tells (heard_of c.told) (the_last c.first) (asked c).x
+tells : (c : AskedRound) → Tells (heard_of c.told) (body c.told).last_sn (asked c).x
 tells c =
-    let a : AnswersHeartbeat (heard_of c.told) (the_last c.first) false (Some (asked c).x) =
-    subst (λ (o : Option AckNackDue). AnswersHeartbeat (heard_of c.told) (the_last c.first) false o) (asked c).answer
-    (hears c.told).answers in
+    let a : AnswersHeartbeat (heard_of c.told) (body c.told).last_sn false (Some (asked c).x) =
+    subst (λ (o : Option AckNackDue). AnswersHeartbeat (heard_of c.told) (body c.told).last_sn false o)
+    (asked c).answer (hears c.told).answers in
     a.3
 
 -- where the reader stands once its ACKNACK was made
@@ -116,15 +116,16 @@ both_true false b e f = cc
 ask_new : (c : AskedRound) → is_taken_up (heard_writer c.first) c.first.writer.number c.first.reader (asks c).body
     ≡ true
 ask_new c =
-    both_true (is_later ((heard_writer c.first).known.answered c.first.writer.number c.first.reader) (asked c).x.count)
+    both_true
+    (is_later ((heard_writer c.first).known.answered c.first.writer.number c.first.reader).count (asked c).x.count)
     (nat_le (asked c).x.missing.base (length (writer_changes (writer_heard c.first)) + 1)) later within
   where
-    later : is_later ((heard_writer c.first).known.answered c.first.writer.number c.first.reader) (asked c).x.count
+    later : is_later ((heard_writer c.first).known.answered c.first.writer.number c.first.reader).count (asked c).x.count
         ≡ true
     later =
-        ap (λ (z : ℤ). is_later ((heard_writer c.first).known.answered c.first.writer.number c.first.reader) z)
+        ap (λ (z : ℤ). is_later ((heard_writer c.first).known.answered c.first.writer.number c.first.reader).count z)
         (tells c).count
-        ∙ new_count ((heard_writer c.first).known.answered c.first.writer.number c.first.reader)
+        ∙ new_count ((heard_writer c.first).known.answered c.first.writer.number c.first.reader).count
         (heard_of c.told).acknacks
         (λ count e.
         let low = c.first.used.acknack_taken c.first.writer c.first.reader count (sym (same_answered c.first) ∙ e) in
@@ -288,9 +289,10 @@ all_writable c =
 abbrev the_answers : AskedRound → List Answer
 the_answers c = answers_of (asks c) (heard_writer c.first) (asked_writer c) c.answers.step.dues (took c)
 
--- a round
+-- a round of a reader that was not silent
 record Round : Type 0 where
   given : AskedRound
+  answered : (contacts_of given.first given.first.writer.number given.first.reader).silent ≡ false
   new : WorldState
   repairs : DeliversAll given.first.config given.first.tests
       (noted_ask given) given.first.reader.peer given.answers.step.packets new
@@ -342,7 +344,9 @@ window c = record {
   heard = standing_of (hears c.given.told).heard c.given.first.writer c.given.first.reader.number;
   hears = goes c.given.told;
   due = (asked c.given).x;
-  tells = tells c.given;
+  tells =
+      subst (λ (n : ℕ). Tells (heard_of c.given.told) n (asked c.given).x) (c.given.told.of.whole c.answered)
+      (tells c.given);
   answers = the_answers c.given;
   complete = λ n has low high.
       let last = changes_there c.given in
@@ -478,14 +482,17 @@ the_asked config tests writer reader place acknowledged old after checked sound 
 pub pair_catches_up : (config : Config) (tests : AllTests) (writer reader : Endpoint) (place acknowledged : ℕ)
     (old new : WorldState) → check_refusal config.peers ≡ None → Sound config old → HasUsedCounts config old
     → IsBounded (machine_of old) → IsPair config writer reader → StandsAt old writer reader place acknowledged
+    → ((peer_at old writer.peer).known.answered writer.number reader).silent ≡ false
     → IsRepairRound config tests writer reader old new
     → HasCaughtUp new writer reader place (length (writer_changes (writer_at (machine_of old) writer)))
 unfolding the_asked
-pair_catches_up config tests writer reader place acknowledged old new checked sound used bounded pair stands round =
+pair_catches_up config tests writer reader place acknowledged old new checked sound used bounded pair stands spoken
+    round =
     round_catches_up (record {
       given =
           the_asked config tests writer reader place acknowledged old round.asked checked sound used bounded pair stands
           round.asks;
+      answered = spoken;
       new = new;
       repairs = round.repairs;
     })

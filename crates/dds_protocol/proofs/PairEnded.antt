@@ -11,6 +11,7 @@ use Rattle.dds_protocol.specs.Peer.{state_of}
 use Rattle.dds_protocol.specs.Protocol.{Known}
 use Rattle.dds_protocol.specs.World.{WorldState, peer_at}
 use Rattle.dds_protocol.proofs.Alike.{AlikeParts, alike_readers}
+use Rattle.dds_protocol.proofs.Contacts.{knows_on, knows_same}
 use Rattle.dds_protocol.proofs.EndsBeside.{world_beside}
 use Rattle.dds_protocol.proofs.PairReader.{Seat, standing, standing_of}
 use Rattle.dds_protocol.proofs.PairTicked.{TickLeaves}
@@ -41,7 +42,9 @@ module _ (before : WorldState) (e : WorldEvent) (world : WorldState) (p : ℕ) w
   -- what a tick leaves
   pub leaves_ended : (old : WorldState) → TickLeaves old world p → TickLeaves old (world_ended before e world) p
   leaves_ended old left = record {
-    known = known_ended ∙ left.known;
+    known =
+        knows_on (peer_at old p).known (peer_at world p).known (peer_at (world_ended before e world) p).known left.known
+        (knows_same (peer_at world p).known (peer_at (world_ended before e world) p).known known_ended);
     rows = alike.rows ∙ left.rows;
     readers = alike.readers ∙ left.readers;
     changes = λ k. changes_ended k ∙ left.changes k;

@@ -25,6 +25,7 @@ use Rattle.dds_protocol.specs.Receipt.{prefix_of}
 use Rattle.dds_protocol.specs.Dues.{IsPartOf}
 use Rattle.dds_machine.specs.Machine.{AllTests}
 use Rattle.dds_machine.specs.Numbered.{HasNumber}
+use Rattle.dds_protocol.specs.Contact.{Contact}
 use Rattle.dds_protocol.specs.DueMessages.{Due, writer_entity, heartbeats_due, acknacks_due}
 use Rattle.dds_protocol.specs.World.{WorldState, peer_at}
 use Rattle.dds_protocol.specs.Backed.{reader_at}
@@ -57,31 +58,32 @@ record IsFoundBeat (config : Config) (writer : Endpoint) (due : Due) : Type 0 wh
       → HasSought (sought.Heartbeat (writer_entity config writer.peer writer.number)) due.message.submessages
       → (count : ℤ) × HasHeartbeat config (spelling_of due.message) writer count
 
-beats_found : (config : Config) (part : Part) (writer : Endpoint) → IsPartOf config writer.peer part
-    → HasNumber part.rtps.writers writer.number
-    → All (IsFoundBeat config writer) (heartbeats_due config writer.peer part)
-beats_found config part writer of here =
-    of_all config writer.peer part (IsFoundBeat config writer)
+beats_found : (config : Config) (contacts : ℕ → Endpoint → Contact) (part : Part) (writer : Endpoint)
+    → IsPartOf config writer.peer part → HasNumber part.rtps.writers writer.number
+    → All (IsFoundBeat config writer) (heartbeats_due config contacts writer.peer part)
+beats_found config contacts part writer of here =
+    of_all config contacts writer.peer part (IsFoundBeat config writer)
     (λ number to there left behind. record {
       found = λ writable has. from_sought number to writable has.0 has.1 has.2;
     })
   where
-    from_beat : (number to : ℕ) → IsWritable (beat_message config writer.peer part number to) → (h : HeartbeatBody)
-        → Contains (beats_to config writer.peer part number to) (Heartbeat h)
+    from_beat : (number to : ℕ) → IsWritable (beat_message config contacts writer.peer part number to)
+        → (h : HeartbeatBody) → Contains (beats_to config contacts writer.peer part number to) (Heartbeat h)
         → h.writer_id ≡ writer_entity config writer.peer writer.number
-        → (count : ℤ) × HasHeartbeat config (spelling_of (beat_message config writer.peer part number to)) writer count
+        → (count : ℤ)
+        × HasHeartbeat config (spelling_of (beat_message config contacts writer.peer part number to)) writer count
     from_beat number to writable h among is =
         let stands =
-        beat_stands (IsBeatOf config writer.peer part number) (prefix_of config writer.peer) (prefix_of config to)
-        (prefix_of config to) (beats_to config writer.peer part number to) (Heartbeat h)
-        (beats_are config writer.peer part number to) among in (
+        beat_stands (IsBeatOf config contacts writer.peer part number to) (prefix_of config writer.peer)
+        (prefix_of config to) (prefix_of config to) (beats_to config contacts writer.peer part number to) (Heartbeat h)
+        (beats_are config contacts writer.peer part number to) among in (
           h.count,
           record {
             own = prefix_of config to;
             at = addressed (prefix_of config writer.peer) (prefix_of config to);
             heartbeat = h;
             there =
-                stands_in (beat_message config writer.peer part number to) (prefix_of config to) stands.0
+                stands_in (beat_message config contacts writer.peer part number to) (prefix_of config to) stands.0
                 (addressed (prefix_of config writer.peer) (prefix_of config to)) (Heartbeat h) writable stands.1;
             from =
                 subst (λ (i : EntityId). IsWriter config (prefix_of config writer.peer) i writer) (sym is)
@@ -90,14 +92,16 @@ beats_found config part writer of here =
           },
         )
 
-    from_sought : (number to : ℕ) → IsWritable (beat_message config writer.peer part number to) → (s : Submessage)
-        → Contains (InfoDst (prefix_of config to) ∷ beats_to config writer.peer part number to) s
+    from_sought : (number to : ℕ) → IsWritable (beat_message config contacts writer.peer part number to)
+        → (s : Submessage)
+        → Contains (InfoDst (prefix_of config to) ∷ beats_to config contacts writer.peer part number to) s
         → IsSought (sought.Heartbeat (writer_entity config writer.peer writer.number)) s
-        → (count : ℤ) × HasHeartbeat config (spelling_of (beat_message config writer.peer part number to)) writer count
+        → (count : ℤ)
+        × HasHeartbeat config (spelling_of (beat_message config contacts writer.peer part number to)) writer count
     from_sought number to writable (Heartbeat h) among is =
         ⊎_elim (λ first. absurd cc) (λ later. from_beat number to writable h later is)
-        (front_or_rest (InfoDst (prefix_of config to)) (beats_to config writer.peer part number to) (Heartbeat h)
-        among.0 among.1 among.2)
+        (front_or_rest (InfoDst (prefix_of config to)) (beats_to config contacts writer.peer part number to)
+        (Heartbeat h) among.0 among.1 among.2)
     from_sought number to writable other among is = absurd is
 
 -- one that a tick sent is that of the writer
@@ -119,11 +123,14 @@ beat_found config tests old now lost new writer packet of here h among has =
     d : IsWrittenOf h.dues packet
     d = sent_written config tests old (world.Tick writer.peer now) Done lost new h packet among
 
+    contacts : ℕ → Endpoint → Contact
+    contacts = (peer_at old writer.peer).known.answered
+
     each : IsFoundBeat config writer d.due
     each =
         All-contains (IsFoundBeat config writer)
-        (heartbeats_due config writer.peer (peer_at old writer.peer).part) d.due
-        (beats_found config (peer_at old writer.peer).part writer of here)
+        (heartbeats_due config contacts writer.peer (peer_at old writer.peer).part) d.due
+        (beats_found config contacts (peer_at old writer.peer).part writer of here)
         (subst (λ (ds : List Due). Contains ds d.due) h.due d.among)
 
 -- a packet with a HEARTBEAT of the writer is found where it is looked for by the entity id

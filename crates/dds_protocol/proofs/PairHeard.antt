@@ -1,5 +1,6 @@
 -- The HEARTBEATs of a round at the reader's peer, and the ACKNACK that the reader sends.
-use Rattle.std.proofs.Common.{◌≡◌, ◌⊎◌, ℕ, ℤ, pos, ◌+◌, ◌<◌, ◌||◌, Bool, true, List, [], ◌∷◌, Option, Some, None, Contains, length, refl, subst, ap, sym, ◌∙◌, inl, inr, ⊎_elim, arith}
+use Rattle.std.proofs.Common.{◌≡◌, ◌⊎◌, ℕ, ℤ, pos, ◌+◌, ◌-◌, ◌<◌, ◌||◌, Bool, true, false, List, [], ◌∷◌, Option, Some, None, Contains, length, refl, subst, ap, sym, ◌∙◌, inl, inr, ⊎_elim, arith}
+use Rattle.std.specs.Prelude.{if◌then◌else◌}
 use Rattle.std.proofs.lemmas.Option.{same_Some}
 use Rattle.dds_base.specs.declared.config.Config.{Config}
 use Rattle.dds_base.specs.declared.config.WriterConfig.{WriterConfig}
@@ -23,12 +24,13 @@ use Rattle.dds_machine.specs.declared.event.WorldEvent.{WorldEvent}
 use Rattle.dds_machine.specs.declared.event.WorldEvent.TheVariants as world
 use Rattle.dds_machine.specs.declared.reply.Reply.{Reply}
 use Rattle.dds_machine.specs.declared.reply.Reply.TheVariants.{Reported}
-use Rattle.dds_machine.specs.Part.{Attachment, is_attached, Part, acknowledged_of, heartbeats_used, own_writer, writer_changes}
+use Rattle.dds_machine.specs.Part.{Attachment, is_attached, Part, Writer, acknowledged_of, heartbeats_used, own_writer, writer_changes}
 use Rattle.dds_protocol.specs.Claims.{Receiver, is_for, every_peer, Names, IsWriter, IsToReliable}
 use Rattle.dds_protocol.specs.Receipt.{prefix_of}
 use Rattle.dds_machine.specs.Machine.{AllTests}
 use Rattle.dds_protocol.specs.Peer.{state_of}
-use Rattle.dds_protocol.specs.DueMessages.{Due, writer_entity, acknacks_due}
+use Rattle.dds_protocol.specs.Contact.{Contact}
+use Rattle.dds_protocol.specs.DueMessages.{Due, writer_entity, acknacks_due, begins_at, ends_at}
 use Rattle.dds_protocol.specs.Protocol.{State, FollowsMessage, TakesPacket}
 use Rattle.dds_protocol.specs.World.{WorldState, WorldStep, peer_at, machine_of, Sound}
 use Rattle.dds_protocol.specs.Bounds.{IsBounded}
@@ -39,6 +41,7 @@ use Rattle.dds_protocol.proofs.Bounded.{steps_bounded}
 use Rattle.dds_protocol.proofs.Composed.{composes, is_alone}
 use Rattle.dds_protocol.proofs.Dues.{addressed, message_to}
 use Rattle.dds_protocol.proofs.DuesAcknacks.{ask_body}
+use Rattle.dds_protocol.proofs.DuesHeartbeats.{named_one}
 use Rattle.dds_protocol.proofs.DuesMatched.{reader_entity_is, same_end}
 use Rattle.dds_protocol.proofs.FreshCounts.{IsWrittenOf, steps_stays}
 use Rattle.dds_protocol.proofs.OwnGuids.{prefix-Decides}
@@ -46,7 +49,7 @@ use Rattle.dds_protocol.proofs.PairPackets.{FollowsOn, read_addressed}
 use Rattle.dds_protocol.proofs.PairReader.{SeatAs}
 use Rattle.dds_protocol.proofs.PairTold.{HeardPacket, IsFirstTo, IsPassed, IsUnnamed, NamesFirst, IsBeside, beats_passed, first_or_none, hears_first, not_named}
 use Rattle.dds_protocol.proofs.PairTurns.{Host, OfOther, Spares}
-use Rattle.dds_protocol.proofs.BeatsTo.{AreBeats, IsBeatOf, beat_among, beat_message, beat_of, beats_are, beats_to, beats_weaker, named_beat}
+use Rattle.dds_protocol.proofs.BeatsTo.{AreBeats, IsBeatOf, IsToSome, beat_among, beat_message, beat_of, beats_are, beats_to, beats_weaker, named_beat}
 
 -- ---- a packet that is delivered
 
@@ -201,11 +204,15 @@ ask_found p h id m old new dues hp ask count of d =
 -- ---- the HEARTBEATs of a tick
 
 -- one of them tells the reader, which took it
-pub record ToldPacket (p : Pairing) (part : Part) (m : Match) (old : State) (dues : List Due)
-    (new : State) : Type 0 where
+pub record ToldPacket (p : Pairing) (contacts : ℕ → Endpoint → Contact) (part : Part) (m : Match) (old : State)
+    (dues : List Due) (new : State) : Type 0 where
   pub reader_id : EntityId
   pub first : ℕ
-  pub heard : Heard p (beat_of p.config p.writer.peer part p.writer.number reader_id first) m old dues new
+  pub last : ℕ
+  pub heard : Heard p (beat_of p.config p.writer.peer part p.writer.number reader_id first last) m old dues new
+  -- where the reader is not silent, of all changes
+  pub whole : (contacts p.writer.number p.reader).silent ≡ false
+      → last ≡ length (writer_changes (own_writer part p.writer.number))
 
 -- none of them does: then the reader was not behind, and is as it was
 pub record MissedPacket (p : Pairing) (part : Part) (old : State) (dues : List Due) (new : State) : Type 0 where
@@ -213,35 +220,53 @@ pub record MissedPacket (p : Pairing) (part : Part) (old : State) (dues : List D
   pub past : (a : ℕ) → acknowledged_of (own_writer part p.writer.number).readers p.reader ≡ Some a
       → length (writer_changes (own_writer part p.writer.number)) < a
 
-module _ (how : Attachment) (met : is_attached how ≡ true) (p : Pairing) (part : Part) (m : Match) (old new : State)
-    (moves : List Move) (dues : List Due) (seat : SeatAs how m p.writer p.reader.number old)
+module _ (how : Attachment) (met : is_attached how ≡ true) (p : Pairing) (contacts : ℕ → Endpoint → Contact)
+    (part : Part) (m : Match) (old new : State) (moves : List Move) (dues : List Due)
+    (seat : SeatAs how m p.writer p.reader.number old)
     (follows : FollowsMessage p.config (reader_prefix p) p.reader.peer 1 (there p)
-    (beats_to p.config p.writer.peer part p.writer.number p.reader.peer) old moves None dues new) where
+    (beats_to p.config contacts p.writer.peer part p.writer.number p.reader.peer) old moves None dues new) where
   -- they are these
   abbrev beats : List Submessage
-  beats = beats_to p.config p.writer.peer part p.writer.number p.reader.peer
+  beats = beats_to p.config contacts p.writer.peer part p.writer.number p.reader.peer
 
   abbrev IsOne : HeartbeatBody → Type 0
-  IsOne h = IsBeatOf p.config p.writer.peer part p.writer.number h
+  IsOne h = IsBeatOf p.config contacts p.writer.peer part p.writer.number p.reader.peer h
+
+  -- one that names a reader which is not silent is of all changes
+  last_told : (id : EntityId) (first last : ℕ) → (contacts p.writer.number p.reader).silent ≡ false
+      → Names id p.pair.reader_entity
+      → IsToSome p.config (contacts p.writer.number) (own_writer part p.writer.number) p.reader.peer id first last
+      → last ≡ length (writer_changes (own_writer part p.writer.number))
+  last_told id first last answered named (inl all) = all.2
+  last_told id first last answered named (inr one) =
+      let w : Writer = own_writer part p.writer.number in
+      let same : p.reader ≡ one.0 =
+      named_one p.config p.reader.peer (reader_prefix p) (writer_prefix p) id (writer_id p) p.writer p.reader one.0
+      p.checked one.1 one.2 (to_reader p id named).is_to in
+      one.4
+      ∙ (ap (λ (e : Endpoint). ends_at (contacts p.writer.number) w e) (sym same)
+      ∙ ap (λ (b : Bool). if b then begins_at w p.reader - 1 else length (writer_changes w)) answered)
 
   told_packet : is_later (old.known.tracked p.writer p.reader.number).count
       (pos (heartbeats_used (own_writer part p.writer.number) + 1)) ≡ true
       → NamesFirst (reader_host p) (there p) p.reader.number p.pair.reader_entity IsOne beats
-      → ToldPacket p part m old dues new
+      → ToldPacket p contacts part m old dues new
   told_packet later f =
       let body : HeartbeatBody =
-      beat_of p.config p.writer.peer part p.writer.number f.body.reader_id f.body.first_sn in
+      beat_of p.config p.writer.peer part p.writer.number f.body.reader_id f.body.first_sn f.body.last_sn in
       record {
         reader_id = f.body.reader_id;
         first = f.body.first_sn;
+        last = f.body.last_sn;
         heard =
             hears_first how met (reader_host p) (there p) body m p.writer p.reader.number refl
             (to_reader p f.body.reader_id f.named) beats
             (beats_weaker IsOne (IsBeside body)
-            (λ k is. (ap (λ (b : HeartbeatBody). b.writer_id) is, ap (λ (b : HeartbeatBody). b.count) is)) beats
-            (beats_are p.config p.writer.peer part p.writer.number p.reader.peer))
-            (subst (λ (b : HeartbeatBody). IsFirstTo (reader_host p) (there p) p.reader.number b beats) f.is f.first)
+            (λ k is. (ap (λ (b : HeartbeatBody). b.writer_id) is.is, ap (λ (b : HeartbeatBody). b.count) is.is)) beats
+            (beats_are p.config contacts p.writer.peer part p.writer.number p.reader.peer))
+            (subst (λ (b : HeartbeatBody). IsFirstTo (reader_host p) (there p) p.reader.number b beats) f.is.is f.first)
             1 old moves dues new seat later follows;
+        whole = λ answered. last_told f.body.reader_id f.body.first_sn f.body.last_sn answered f.named f.is.whom;
       }
 
   missed_packet : AreBeats (IsUnnamed p.pair.reader_entity) beats → MissedPacket p part old dues new
@@ -255,7 +280,7 @@ module _ (how : Attachment) (met : is_attached how ≡ true) (p : Pairing) (part
     past = λ a row.
         ⊎_elim (λ past. past)
         (λ behind.
-        let beat = named_beat p.config p.writer.peer part p.writer.number p.reader a row behind in
+        let beat = named_beat p.config contacts p.writer.peer part p.writer.number p.reader a row behind in
         let entity =
         reader_entity_is p.config (reader_prefix p) p.pair.reader_entity p.reader p.pair.is_reader in
         absurd (beat_among (IsUnnamed p.pair.reader_entity) beats beat.body none beat.among
@@ -266,34 +291,36 @@ module _ (how : Attachment) (met : is_attached how ≡ true) (p : Pairing) (part
   -- HEARTBEATs that are new tell the reader, or it was not behind
   pub told_or_missed : is_later (old.known.tracked p.writer p.reader.number).count
       (pos (heartbeats_used (own_writer part p.writer.number) + 1)) ≡ true
-      → ToldPacket p part m old dues new ⊎ MissedPacket p part old dues new
+      → ToldPacket p contacts part m old dues new ⊎ MissedPacket p part old dues new
   told_or_missed later =
       ⊎_elim (λ f. inl (told_packet later f)) (λ none. inr (missed_packet none))
       (first_or_none (reader_host p) (there p) p.reader.number p.pair.reader_entity p.pair.is_reader IsOne beats
-      (beats_are p.config p.writer.peer part p.writer.number p.reader.peer))
+      (beats_are p.config contacts p.writer.peer part p.writer.number p.reader.peer))
 
 -- so it is where they are delivered in a packet
-pub hears_beats : (how : Attachment) → is_attached how ≡ true → (p : Pairing) (tests : AllTests) (part : Part)
-    (m : Match) (old : WorldState) (beat : Packet) (lost : ℕ) (new : WorldState)
-    → IsWritable (beat_message p.config p.writer.peer part p.writer.number p.reader.peer)
-    → beat.bytes ≡ spelling_of (beat_message p.config p.writer.peer part p.writer.number p.reader.peer)
+pub hears_beats : (how : Attachment) → is_attached how ≡ true → (p : Pairing) (contacts : ℕ → Endpoint → Contact)
+    (tests : AllTests) (part : Part) (m : Match) (old : WorldState) (beat : Packet) (lost : ℕ) (new : WorldState)
+    → IsWritable (beat_message p.config contacts p.writer.peer part p.writer.number p.reader.peer)
+    → beat.bytes ≡ spelling_of (beat_message p.config contacts p.writer.peer part p.writer.number p.reader.peer)
     → (h : Delivers p.config tests old p.reader.peer beat lost new)
     → SeatAs how m p.writer p.reader.number (state_of (peer_at old p.reader.peer))
     → is_later ((peer_at old p.reader.peer).known.tracked p.writer p.reader.number).count
     (pos (heartbeats_used (own_writer part p.writer.number) + 1)) ≡ true
-    → ToldPacket p part m (state_of (peer_at old p.reader.peer)) h.step.dues (state_of (peer_at new p.reader.peer))
+    → ToldPacket p contacts part m (state_of (peer_at old p.reader.peer)) h.step.dues
+    (state_of (peer_at new p.reader.peer))
     ⊎ MissedPacket p part (state_of (peer_at old p.reader.peer)) h.step.dues (state_of (peer_at new p.reader.peer))
-hears_beats how met p tests part m old beat lost new writable bytes h seat later =
-    told_or_missed how met p part m (state_of (peer_at old p.reader.peer)) (state_of (peer_at new p.reader.peer))
-    on.moves h.step.dues seat on.follows later
+hears_beats how met p contacts tests part m old beat lost new writable bytes h seat later =
+    told_or_missed how met p contacts part m (state_of (peer_at old p.reader.peer))
+    (state_of (peer_at new p.reader.peer)) on.moves h.step.dues seat on.follows later
   where
     on : FollowsOn p.config (reader_prefix p) p.reader.peer 1 (there p)
-        (beats_to p.config p.writer.peer part p.writer.number p.reader.peer) (state_of (peer_at old p.reader.peer))
-        h.step.dues (state_of (peer_at new p.reader.peer))
+        (beats_to p.config contacts p.writer.peer part p.writer.number p.reader.peer)
+        (state_of (peer_at old p.reader.peer)) h.step.dues (state_of (peer_at new p.reader.peer))
     on =
         read_addressed p.config (reader_prefix p) p.reader.peer refl (writer_prefix p) (reader_prefix p)
-        (beats_to p.config p.writer.peer part p.writer.number p.reader.peer) (state_of (peer_at old p.reader.peer))
-        h.report h.step.dues (state_of (peer_at new p.reader.peer)) writable h.whole
+        (beats_to p.config contacts p.writer.peer part p.writer.number p.reader.peer)
+        (state_of (peer_at old p.reader.peer)) h.report h.step.dues (state_of (peer_at new p.reader.peer)) writable
+        h.whole
         (subst (λ (b : List ℕ). TakesPacket p.config p.reader.peer b
         (state_of (peer_at old p.reader.peer)) h.report h.step.dues (state_of (peer_at new p.reader.peer))) bytes
         (delivered_takes p.config tests old p.reader.peer beat lost new h))

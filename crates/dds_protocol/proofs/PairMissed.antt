@@ -38,7 +38,7 @@ pub tick_leaves_pair : (old new : WorldState) (writer reader : Endpoint) → ((p
 tick_leaves_pair old new writer reader left = record {
   readers = (left reader.peer).readers;
   proxies = ap (λ (rows : List (List WriterProxy)). numbered rows reader.number []) (left reader.peer).rows;
-  known = ap (λ (k : Known). (k.tracked writer reader.number).place) (left reader.peer).known;
+  known = ap (λ (t : Tracked). t.place) ((left reader.peer).known.tracked writer reader.number);
   rows = (left writer.peer).acknowledged writer.number;
 }
 

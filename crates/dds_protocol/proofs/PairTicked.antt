@@ -22,12 +22,14 @@ use Rattle.dds_protocol.specs.Receipt.{prefix_of}
 use Rattle.dds_protocol.specs.Dues.{IsPartOf}
 use Rattle.dds_machine.specs.Machine.{AllTests}
 use Rattle.dds_protocol.specs.Peer.{Peer, no_peer}
-use Rattle.dds_protocol.specs.DueMessages.{Due, writer_entity, heartbeats_due}
+use Rattle.dds_protocol.specs.Contact.{Contact}
+use Rattle.dds_protocol.specs.DueMessages.{Due, writer_entity, heartbeats_due, was_asked}
 use Rattle.dds_machine.specs.Numbered.{HasNumber}
 use Rattle.dds_protocol.specs.World.{WorldState, WorldStep, PeerSteps, peer_at}
 use Rattle.dds_protocol.specs.Fresh.{HasHeartbeat}
 use Rattle.dds_protocol.specs.Rules.{RuledStep}
 use Rattle.dds_protocol.proofs.BeatsTo.{IsBeatOf, beat_message, beat_read, beats_are, beats_to}
+use Rattle.dds_protocol.proofs.Contacts.{KnowsAlike, knows_same, tick_knows}
 use Rattle.dds_protocol.proofs.DuesHeartbeats.{of_all}
 use Rattle.dds_protocol.proofs.DuesMatched.{own_name}
 use Rattle.dds_protocol.proofs.DuesParts.{tick_changes}
@@ -47,40 +49,45 @@ new_count (Some last) n used = by (int_lt last (pos (n + 1))) refl
     by false e = let low = used last refl in absurd (omega (arith, ints, low))
 
 -- a message with a HEARTBEAT of a writer is that of the peer's writer
-record HasBeatOf (config : Config) (peer : ℕ) (part : Part) (due : Due) : Type 0 where
+record HasBeatOf (config : Config) (contacts : ℕ → Endpoint → Contact) (peer : ℕ) (part : Part)
+    (due : Due) : Type 0 where
   is : (w : Endpoint) (count : ℤ) → IsWritable due.message → HasHeartbeat config (spelling_of due.message) w count
-      → due.message ≡ beat_message config peer part w.number due.to
+      → due.message ≡ beat_message config contacts peer part w.number due.to
 
-beats_of : (config : Config) (peer : ℕ) (part : Part) → check_refusal config.peers ≡ None → IsPartOf config peer part
-    → All (HasBeatOf config peer part) (heartbeats_due config peer part)
-beats_of config peer part checked of =
-    of_all config peer part (HasBeatOf config peer part)
+beats_of : (config : Config) (contacts : ℕ → Endpoint → Contact) (peer : ℕ) (part : Part)
+    → check_refusal config.peers ≡ None → IsPartOf config peer part
+    → All (HasBeatOf config contacts peer part) (heartbeats_due config contacts peer part)
+beats_of config contacts peer part checked of =
+    of_all config contacts peer part (HasBeatOf config contacts peer part)
     (λ number to there left behind. record {
       is = λ w count writable has.
           let me : Endpoint = record { peer = peer; number = number } in
           let found =
-          beat_read (IsBeatOf config peer part number) (prefix_of config peer) (prefix_of config to) has.own has.at
-          (beats_to config peer part number to) has.heartbeat (beats_are config peer part number to) writable has.there in
+          beat_read (IsBeatOf config contacts peer part number to) (prefix_of config peer) (prefix_of config to) has.own
+          has.at (beats_to config contacts peer part number to) has.heartbeat
+          (beats_are config contacts peer part number to) writable has.there in
           let from : IsWriter config (prefix_of config peer) (writer_entity config peer number) w =
           subst (λ (r : Receiver). IsWriter config r.source_guid_prefix (writer_entity config peer number) w) found.0
-          (subst (λ (h : HeartbeatBody). IsWriter config has.at.source_guid_prefix h.writer_id w) found.1 has.from) in
+          (subst (λ (h : HeartbeatBody). IsWriter config has.at.source_guid_prefix h.writer_id w) found.1.is
+          has.from) in
           let same : w ≡ me =
           one_writer config (prefix_of config peer) (writer_entity config peer number) w me checked from
           (own_name config peer part of number there).name in
-          ap (λ (e : Endpoint). beat_message config peer part e.number to) (sym same);
+          ap (λ (e : Endpoint). beat_message config contacts peer part e.number to) (sym same);
     })
 
 -- a packet with a HEARTBEAT of the writer, as it is written
-pub record BeatPacket (config : Config) (part : Part) (writer : Endpoint) (packet : Packet) : Type 0 where
-  pub writable : IsWritable (beat_message config writer.peer part writer.number packet.to)
-  pub bytes : packet.bytes ≡ spelling_of (beat_message config writer.peer part writer.number packet.to)
+pub record BeatPacket (config : Config) (contacts : ℕ → Endpoint → Contact) (part : Part) (writer : Endpoint)
+    (packet : Packet) : Type 0 where
+  pub writable : IsWritable (beat_message config contacts writer.peer part writer.number packet.to)
+  pub bytes : packet.bytes ≡ spelling_of (beat_message config contacts writer.peer part writer.number packet.to)
 
 pub beat_packet : (config : Config) (tests : AllTests) (old : WorldState) (now lost : ℕ) (new : WorldState)
     (writer : Endpoint) (packet : Packet) (count : ℤ) → check_refusal config.peers ≡ None
     → IsPartOf config writer.peer (peer_at old writer.peer).part
     → (h : RuledStep config tests old (world.Tick writer.peer now) Done lost new)
     → Contains h.packets packet → HasHeartbeat config packet.bytes writer count
-    → BeatPacket config (peer_at old writer.peer).part writer packet
+    → BeatPacket config (peer_at old writer.peer).known.answered (peer_at old writer.peer).part writer packet
 beat_packet config tests old now lost new writer packet count checked of h among has =
     record {
       writable = subst (λ (m : Message). IsWritable m) message d.writable;
@@ -90,23 +97,26 @@ beat_packet config tests old now lost new writer packet count checked of h among
     part : Part
     part = (peer_at old writer.peer).part
 
+    contacts : ℕ → Endpoint → Contact
+    contacts = (peer_at old writer.peer).known.answered
+
     d : IsWrittenOf h.dues packet
     d = sent_written config tests old (world.Tick writer.peer now) Done lost new h packet among
 
-    is_beat : HasBeatOf config writer.peer part d.due
+    is_beat : HasBeatOf config contacts writer.peer part d.due
     is_beat =
-        All-contains (HasBeatOf config writer.peer part) (heartbeats_due config writer.peer part) d.due
-        (beats_of config writer.peer part checked of)
+        All-contains (HasBeatOf config contacts writer.peer part) (heartbeats_due config contacts writer.peer part)
+        d.due (beats_of config contacts writer.peer part checked of)
         (subst (λ (ds : List Due). Contains ds d.due) h.due d.among)
 
-    message : d.due.message ≡ beat_message config writer.peer part writer.number packet.to
+    message : d.due.message ≡ beat_message config contacts writer.peer part writer.number packet.to
     message =
         is_beat.is writer count d.writable (subst (λ (p : Packet). HasHeartbeat config p.bytes writer count) d.is has)
-        ∙ ap (λ (p : Packet). beat_message config writer.peer part writer.number p.to) (sym d.is)
+        ∙ ap (λ (p : Packet). beat_message config contacts writer.peer part writer.number p.to) (sym d.is)
 
 -- what a tick leaves at each peer
 pub record TickLeaves (old new : WorldState) (p : ℕ) : Type 0 where
-  pub known : (peer_at new p).known ≡ (peer_at old p).known
+  pub known : KnowsAlike (peer_at old p).known (peer_at new p).known
   pub rows : (peer_at new p).part.rtps.readers ≡ (peer_at old p).part.rtps.readers
   pub readers : length (peer_at new p).part.dds.readers ≡ length (peer_at old p).part.dds.readers
   pub changes : (k : ℕ) → writer_changes (own_writer (peer_at new p).part k)
@@ -116,7 +126,7 @@ pub record TickLeaves (old new : WorldState) (p : ℕ) : Type 0 where
 
 leaves_all : (old new : WorldState) (p : ℕ) → peer_at new p ≡ peer_at old p → TickLeaves old new p
 leaves_all old new p same = record {
-  known = ap (λ (x : Peer). x.known) same;
+  known = knows_same (peer_at old p).known (peer_at new p).known (ap (λ (x : Peer). x.known) same);
   rows = ap (λ (x : Peer). x.part.rtps.readers) same;
   readers = ap (λ (x : Peer). length x.part.dds.readers) same;
   changes = λ k. ap (λ (x : Peer). writer_changes (own_writer x.part k)) same;
@@ -131,9 +141,12 @@ steps_leave config tests old peer now new h p (inl e) = leaves_all old new p e
 steps_leave config tests old peer now new h p (inr s) =
     let step : TickStep (peer_at old p).part now Done h.after.part =
     subst (λ (n : ℕ). TickStep (peer_at old n).part now Done h.after.part) (sym s.0)
-    (subst (λ (r : Reply). TickStep (peer_at old peer).part now r h.after.part) h.replies h.step.step.0) in
+    (subst (λ (r : Reply). TickStep (peer_at old peer).part now r h.after.part) h.replies
+    (was_asked (peer_at old peer).known.answered (peer_at old peer).part, h.step.step.0)) in
     record {
-      known = known_of config (tests peer) old peer (event.Tick now) Done new h h.step.knows p;
+      known =
+          known_of config (tests peer) old peer (event.Tick now) Done new h
+          (tick_knows (peer_at old peer) now h.output.reply h.after h.step.knows) p;
       rows = ap (λ (x : Peer). x.part.rtps.readers) s.1 ∙ TickStep-rows (peer_at old p).part now Done h.after.part step;
       readers =
           ap (λ (x : Peer). length x.part.dds.readers) s.1

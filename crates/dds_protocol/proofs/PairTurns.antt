@@ -170,10 +170,10 @@ heartbeat_leaves own at old w r entity h moves dues new k =
     (known_leaves k.there w r (answered k.answer (k.there.known.tracked w r))))
 
 -- what a reader does leaves all else at the peer
-pub reader_leaves : (c : Host) (at : Receiver) (s : Submessage) (k : ℕ) (old : State) (moves : List Move)
-    (dues : List Due) (new : State)
-    → ReaderTakes c.config c.own c.peer at s k old moves dues new → Leaves old k new
-reader_leaves c at (Data d) k old moves dues new (inl h) =
+pub reader_leaves : (config : Config) (own : GuidPrefix) (peer : ℕ) (at : Receiver) (s : Submessage) (k : ℕ)
+    (old : State) (moves : List Move) (dues : List Due) (new : State)
+    → ReaderTakes config own peer at s k old moves dues new → Leaves old k new
+reader_leaves config own peer at (Data d) k old moves dues new (inl h) =
     ⊎_elim
     (λ takes. way_leaves old h.0 k moves new
     (change_went (is_reliable_reader h.1.to.end) old h.0 k d.writer_sn (change_in d.content at.timestamp) moves new
@@ -184,27 +184,27 @@ reader_leaves c at (Data d) k old moves dues new (inl h) =
     (λ n. subst (λ (s : State). Leaves old k s) (sym n.1) (leaves_same old k)) o)
     (met_change (stands_to old h.0 k) (is_reliable_reader h.1.to.end) old h.0 k d.writer_sn
     (change_in d.content at.timestamp) moves new h.2.0)
-reader_leaves c at (Data d) k old moves dues new (inr h) = leaves_idle old k moves dues new h.1
-reader_leaves c at (Gap g) k old moves dues new (inl h) =
+reader_leaves config own peer at (Data d) k old moves dues new (inr h) = leaves_idle old k moves dues new h.1
+reader_leaves config own peer at (Gap g) k old moves dues new (inl h) =
     ⊎_elim
     (λ takes. ⊎_elim (λ t. way_leaves old h.0 k moves new t.1)
     (λ n. subst (λ (s : State). Leaves old k s) (sym n.1) (leaves_same old k))
     (gap_went (is_reliable_reader h.1.to.end) old h.0 k g moves new takes))
     (λ n. subst (λ (s : State). Leaves old k s) (sym n.1) (leaves_same old k))
     (met_gap (stands_to old h.0 k) (is_reliable_reader h.1.to.end) old h.0 k g moves new h.2.0)
-reader_leaves c at (Gap g) k old moves dues new (inr h) = leaves_idle old k moves dues new h.1
-reader_leaves c at (Heartbeat b) k old moves dues new (inl h) =
+reader_leaves config own peer at (Gap g) k old moves dues new (inr h) = leaves_idle old k moves dues new h.1
+reader_leaves config own peer at (Heartbeat b) k old moves dues new (inl h) =
     ⊎_elim
-    (λ t. heartbeat_leaves c.own at old h.0 k h.1.entity (heard_as (is_reliable_reader h.1.to.end) b) moves dues new t)
+    (λ t. heartbeat_leaves own at old h.0 k h.1.entity (heard_as (is_reliable_reader h.1.to.end) b) moves dues new t)
     (λ o. ⊎_elim (λ x. alone_leaves old h.0 k b moves new x.0) (λ n. leaves_idle old k moves dues new n) o)
-    (met_heartbeat (stands_to old h.0 k) (is_reliable_reader h.1.to.end) c.own at old h.0 k h.1.entity b moves dues new
+    (met_heartbeat (stands_to old h.0 k) (is_reliable_reader h.1.to.end) own at old h.0 k h.1.entity b moves dues new
     h.2)
-reader_leaves c at (Heartbeat b) k old moves dues new (inr h) = leaves_idle old k moves dues new h.1
-reader_leaves c at (AckNack a) k old moves dues new h = leaves_idle old k moves dues new h
-reader_leaves c at Pad k old moves dues new h = leaves_idle old k moves dues new h
-reader_leaves c at (InfoDst x) k old moves dues new h = leaves_idle old k moves dues new h
-reader_leaves c at (InfoTs x) k old moves dues new h = leaves_idle old k moves dues new h
-reader_leaves c at (Other x) k old moves dues new h = leaves_idle old k moves dues new h
+reader_leaves config own peer at (Heartbeat b) k old moves dues new (inr h) = leaves_idle old k moves dues new h.1
+reader_leaves config own peer at (AckNack a) k old moves dues new h = leaves_idle old k moves dues new h
+reader_leaves config own peer at Pad k old moves dues new h = leaves_idle old k moves dues new h
+reader_leaves config own peer at (InfoDst x) k old moves dues new h = leaves_idle old k moves dues new h
+reader_leaves config own peer at (InfoTs x) k old moves dues new h = leaves_idle old k moves dues new h
+reader_leaves config own peer at (Other x) k old moves dues new h = leaves_idle old k moves dues new h
 
 -- ---- whose ACKNACK is due
 
@@ -302,7 +302,8 @@ pub turns_keep : (c : Host) (at : Receiver) (s : Submessage) (first count : ℕ)
 turns_keep c at s first count old moves dues new h =
     in_turn (λ a ds b. Keeps a b) keeps_same (λ a b d ds es f g. keeps_on a b d f g)
     (ReaderTakes c.config c.own c.peer at s)
-    (λ k a ms ds b t. (reader_leaves c at s k a ms ds b t).keeps) (numbers_from first count) old moves dues new h
+    (λ k a ms ds b t. (reader_leaves c.config c.own c.peer at s k a ms ds b t).keeps) (numbers_from first count) old
+    moves dues new h
 
 -- What others did leaves this reader as it was, and what is due is of them.
 pub record Spares (c : Host) (r : ℕ) (old : State) (dues : List Due) (new : State) : Type 0 where
@@ -335,7 +336,7 @@ other_turn : (c : Host) (at : Receiver) (s : Submessage) (r k : ℕ) → (r ≡ 
     → (old : State) (moves : List Move) (dues : List Due) (new : State)
     → ReaderTakes c.config c.own c.peer at s k old moves dues new → Spares c r old dues new
 other_turn c at s r k apart old moves dues new h =
-    let left : Leaves old k new = reader_leaves c at s k old moves dues new h in
+    let left : Leaves old k new = reader_leaves c.config c.own c.peer at s k old moves dues new h in
     record {
       same = left.same r apart;
       keeps = left.keeps;

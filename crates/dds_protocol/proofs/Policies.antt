@@ -115,9 +115,9 @@ ticked_qos now rs r =
 pub tick_qos : (old : Part) (now : ℕ) (reply : Reply) (new : Part) → TickStep old now reply new → (r : ℕ)
     → (own_reader new r).qos ≡ (own_reader old r).qos
 tick_qos old now Done new h r =
-    ap (λ (x : Part). (own_reader x r).qos) h.1 ∙ ticked_qos now old.dds.readers r
-tick_qos old now (Refused code) new h r = ap (λ (x : Part). (own_reader x r).qos) h.1
-tick_qos old now reply new h r = absurd h
+    ap (λ (x : Part). (own_reader x r).qos) h.1.1 ∙ ticked_qos now old.dds.readers r
+tick_qos old now (Refused code) new h r = ap (λ (x : Part). (own_reader x r).qos) h.1.1
+tick_qos old now reply new h r = absurd h.1
 
 -- ---- the machine
 

@@ -130,7 +130,8 @@ used_beside config old new s used =
           ∙ h));
       acknack_taken = λ w r count h.
           subst (λ (n : ℕ). count ≤ℤ pos n) (sym (acks w r))
-          (used.acknack_taken w r count (sym (ap (λ (k : Known). k.answered w.number r) (s.known w.peer)) ∙ h));
+          (used.acknack_taken w r count (sym (ap (λ (k : Known). (k.answered w.number r).count) (s.known w.peer))
+          ∙ h));
     }
 
 -- a network with another peer of this number, which is alike

@@ -53,8 +53,9 @@ said old t new o says is u e = subst (λ (x : Telling). SaysTold old x new) (sam
 
 answer_says : (tests : Tests) (old : Part) (c : Call) (reply : Reply) (new : Dds) → Answers tests old c reply new
     → (t : Telling) → told_by (effect_of old c reply) ≡ Some t → SaysTold old t new
-answer_says tests old (call.MatchReader v r) Done new a t e = said old (reader_told old v r) new _ (a.0, a.2) refl t e
-answer_says tests old (call.MatchReader v r) reply new a t e = cc
+answer_says tests old (call.MatchReader v r greeted) Done new a t e =
+    said old (reader_told old v r) new _ (a.0, a.2) refl t e
+answer_says tests old (call.MatchReader v r greeted) reply new a t e = cc
 answer_says tests old (call.UnmatchReader v r) Done new a t e = said old (UnmatchReader v r) new _ (a.0, a.2) refl t e
 answer_says tests old (call.UnmatchReader v r) reply new a t e = cc
 answer_says tests old (call.MatchWriter v w) (InstanceHandle handle) new a t e =

@@ -30,7 +30,7 @@ use Rattle.dds_protocol.specs.World.{WorldState, Holds, Sound, machine_of}
 
 -- nobody comes or goes by the event: no writer and no reader is told who is matched with it, or no longer
 abbrev pub TellsNobody : WorldEvent → Type 0
-TellsNobody (event.Call peer (MatchReader writer reader)) = ⊥
+TellsNobody (event.Call peer (MatchReader writer reader greeted)) = ⊥
 TellsNobody (event.Call peer (UnmatchReader writer reader)) = ⊥
 TellsNobody (event.Call peer (MatchWriter reader writer)) = ⊥
 TellsNobody (event.Call peer (UnmatchWriter reader writer)) = ⊥

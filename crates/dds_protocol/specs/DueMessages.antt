@@ -2,8 +2,8 @@
 -- assertion and a HEARTBEAT also to whom.
 --
 -- RTPS 2.5, 8.4.9 (reliable StatefulWriter), 8.4.12 (reliable StatefulReader), 8.3.8 (AckNack, Data, Gap, Heartbeat).
-use Rattle.std.specs.Prelude.{◌≡◌, ◌⊎◌, ℕ, ◌+◌, ◌-◌, ◌==◌, ◌||◌, Bool, true, false, not, if◌then◌else◌, nat_lt, nat_le, max, min, List, [], ◌∷◌, ◌++◌, length, map, filter, Option, Some, None, pos, slice_get}
-use Rattle.std.specs.List.{flat_map, list_all}
+use Rattle.std.specs.Prelude.{◌≡◌, ◌⊎◌, ℕ, ◌+◌, ◌-◌, ◌==◌, ◌&&◌, ◌||◌, Bool, true, false, not, if◌then◌else◌, nat_lt, nat_le, max, min, List, [], ◌∷◌, ◌++◌, length, map, filter, Option, Some, None, pos, slice_get}
+use Rattle.std.specs.List.{flat_map, list_all, list_any}
 use Rattle.std.specs.Option.{option_map_or}
 use Rattle.dds_base.specs.declared.change.Change.{Change}
 use Rattle.dds_base.specs.declared.config.Config.{Config}
@@ -27,8 +27,9 @@ use Rattle.rtps_writer.specs.declared.answer.Answer.TheVariants.{Data as Answers
 use Rattle.dds_base.specs.declared.endpoint.Endpoint.{Endpoint}
 use Rattle.dds_protocol.specs.declared.event.Packet.{Packet}
 use Rattle.dds_machine.specs.Numbered.{numbered}
-use Rattle.dds_machine.specs.Part.{Part, ReaderProxy, Writer, peers_of, writer_changes, heartbeats_used, history_of, row_of}
+use Rattle.dds_machine.specs.Part.{Part, ReaderProxy, Writer, own_writer, peers_of, writer_changes, heartbeats_used, history_of, row_of}
 use Rattle.dds_protocol.specs.Claims.{every_reader, participant_entity}
+use Rattle.dds_protocol.specs.Contact.{Contact, awaits_heartbeat}
 use Rattle.dds_protocol.specs.Receipt.{prefix_of}
 
 -- a message that is due to the peer of this number
@@ -105,10 +106,19 @@ changes_due config writer readers number change =
           (writer_entity config writer.peer writer.number) number change;
     }) (peers_of readers)
 
--- the matched reliable readers that have not acknowledged all changes of a writer
-abbrev pub readers_behind : Writer → List Endpoint
-readers_behind w = map (λ (p : ReaderProxy). p.reader)
-    (filter (λ (p : ReaderProxy). nat_le p.acknowledged (length (writer_changes w))) w.readers)
+-- the reader of this row is sent a HEARTBEAT at a tick: it has not acknowledged all of the writer's changes, asks for
+-- one, or is silent
+abbrev pub is_told : (Endpoint → Contact) → Writer → ReaderProxy → Bool
+is_told contacts w p = nat_le p.acknowledged (length (writer_changes w)) || awaits_heartbeat (contacts p.reader)
+
+-- the matched reliable readers that are
+abbrev pub readers_told : (Endpoint → Contact) → Writer → List Endpoint
+readers_told contacts w = map (λ (p : ReaderProxy). p.reader) (filter (is_told contacts w) w.readers)
+
+-- some matched reliable reader asks the peer's writer of this number for a HEARTBEAT, or is silent
+abbrev pub was_asked : (ℕ → Endpoint → Contact) → Part → ℕ → Bool
+was_asked contacts part n =
+    list_any (λ (p : ReaderProxy). awaits_heartbeat (contacts n p.reader)) (own_writer part n).readers
 
 -- the reader of this row is owed the changes from this number on
 abbrev pub owed_to : Writer → ReaderProxy → ℕ
@@ -121,74 +131,84 @@ begins_at w reader =
     max (first_kept (history_of w))
     (option_map_or (owed_to w) (row_of (λ (p : ReaderProxy). p.reader) w.readers reader) 0)
 
--- one HEARTBEAT is for all readers at this peer: each reliable one there is owed all that is kept
-abbrev pub is_one_for_all : Writer → ℕ → Bool
-is_one_for_all w to = list_all (λ (p : ReaderProxy).
-    not (p.reader.peer == to) || nat_le (owed_to w p) (first_kept (history_of w))) w.readers
+-- where it ends: at the writer's last number; but to a silent one it names no number
+abbrev pub ends_at : (Endpoint → Contact) → Writer → Endpoint → ℕ
+ends_at contacts w reader =
+    if (contacts reader).silent then begins_at w reader - 1 else length (writer_changes w)
 
--- a HEARTBEAT of a writer with these flags, to readers of this entity id: from this number to its last, with the next
--- count
-abbrev pub heartbeat_from : (final liveliness : Bool) (reader writer : EntityId) → ℕ → Writer → Submessage
-heartbeat_from final liveliness reader writer first w =
+-- one HEARTBEAT is for all readers at this peer: each reliable one there is owed all that is kept, and none is silent
+abbrev pub is_one_for_all : (Endpoint → Contact) → Writer → ℕ → Bool
+is_one_for_all contacts w to = list_all (λ (p : ReaderProxy). not (p.reader.peer == to)
+    || (nat_le (owed_to w p) (first_kept (history_of w)) && not (contacts p.reader).silent)) w.readers
+
+-- a HEARTBEAT of a writer with these flags, to readers of this entity id: from this number to that, with the next count
+abbrev pub heartbeat_from : (final liveliness : Bool) (reader writer : EntityId) → ℕ → ℕ → Writer → Submessage
+heartbeat_from final liveliness reader writer first last w =
     Heartbeat (record {
       reader_id = reader;
       writer_id = writer;
       first_sn = first;
-      last_sn = length (writer_changes w);
+      last_sn = last;
       count = pos (heartbeats_used w + 1);
       final_flag = final;
       liveliness_flag = liveliness;
     })
 
 -- The HEARTBEATs of a writer to those of these readers that are at this peer: one for all of them, from the first kept
--- number; or, where some reader there is owed no more than what comes later, one by name to each, from where that one
--- begins (RTPS 2.5, 8.3.8: a HEARTBEAT's readerId).
-abbrev pub heartbeats_to : Config → (final liveliness : Bool) → (peer number : ℕ) → Writer → List Endpoint → ℕ
-    → List Submessage
-heartbeats_to config final liveliness peer number w readers to =
-    if is_one_for_all w to
-    then heartbeat_from final liveliness every_reader (writer_entity config peer number) (first_kept (history_of w)) w
-    ∷ []
+-- number to the last; or, where some reader there is owed no more than what comes later, or is silent, one by name to
+-- each, from where that one begins to where it ends (RTPS 2.5, 8.3.8: a HEARTBEAT's readerId).
+abbrev pub heartbeats_to : Config → (final liveliness : Bool) → (peer number : ℕ) → (Endpoint → Contact) → Writer
+    → List Endpoint → ℕ → List Submessage
+heartbeats_to config final liveliness peer number contacts w readers to =
+    if is_one_for_all contacts w to
+    then heartbeat_from final liveliness every_reader (writer_entity config peer number) (first_kept (history_of w))
+    (length (writer_changes w)) w ∷ []
     else map (λ (r : Endpoint). heartbeat_from final liveliness (reader_entity config r.peer r.number)
-    (writer_entity config peer number) (begins_at w r) w) (filter (λ (r : Endpoint). r.peer == to) readers)
+    (writer_entity config peer number) (begins_at w r) (ends_at contacts w r) w)
+    (filter (λ (r : Endpoint). r.peer == to) readers)
 
 -- the message to this peer with these
-abbrev pub heartbeats_due_to : Config → (final liveliness : Bool) → (peer number : ℕ) → Writer → List Endpoint → ℕ
-    → Due
-heartbeats_due_to config final liveliness peer number w readers to = record {
+abbrev pub heartbeats_due_to : Config → (final liveliness : Bool) → (peer number : ℕ) → (Endpoint → Contact) → Writer
+    → List Endpoint → ℕ → Due
+heartbeats_due_to config final liveliness peer number contacts w readers to = record {
   to = to;
   message = record {
     prefix = prefix_of config peer;
-    submessages = InfoDst (prefix_of config to) ∷ heartbeats_to config final liveliness peer number w readers to;
+    submessages =
+        InfoDst (prefix_of config to) ∷ heartbeats_to config final liveliness peer number contacts w readers to;
   };
 }
 
 -- what is due to these readers of a writer: a message to each of their peers
-abbrev pub heartbeats_for : Config → (final liveliness : Bool) → (peer number : ℕ) → Writer → List Endpoint → List Due
-heartbeats_for config final liveliness peer number w readers =
-    map (heartbeats_due_to config final liveliness peer number w readers) (peers_of readers)
+abbrev pub heartbeats_for : Config → (final liveliness : Bool) → (peer number : ℕ) → (Endpoint → Contact) → Writer
+    → List Endpoint → List Due
+heartbeats_for config final liveliness peer number contacts w readers =
+    map (heartbeats_due_to config final liveliness peer number contacts w readers) (peers_of readers)
 
--- at a tick, those that are behind are asked for an answer, while there are counts left
-abbrev pub heartbeats_of : Config → ℕ → ℕ → Writer → List Due
-heartbeats_of config peer number w =
+-- at a tick, those that are behind are asked for an answer, as are those that ask, and the silent ones, while there are
+-- counts left
+abbrev pub heartbeats_of : Config → (ℕ → Endpoint → Contact) → ℕ → ℕ → Writer → List Due
+heartbeats_of config contacts peer number w =
     if nat_lt (heartbeats_used w) max_count
-    then heartbeats_for config false false peer number w (readers_behind w)
+    then heartbeats_for config false false peer number (contacts number) w (readers_told (contacts number) w)
     else []
 
 -- the HEARTBEATs that are due at a tick from these writers, the first of which has this number
-abbrev pub heartbeats_from : Config → ℕ → ℕ → List Writer → List Due
-heartbeats_from config peer number [] = []
-heartbeats_from config peer number (w ∷ ws) =
-    heartbeats_of config peer number w ++ heartbeats_from config peer (number + 1) ws
+abbrev pub heartbeats_from : Config → (ℕ → Endpoint → Contact) → ℕ → ℕ → List Writer → List Due
+heartbeats_from config contacts peer number [] = []
+heartbeats_from config contacts peer number (w ∷ ws) =
+    heartbeats_of config contacts peer number w ++ heartbeats_from config contacts peer (number + 1) ws
 
--- what is due at a tick of a peer: the HEARTBEATs of its writers, in their order
-abbrev pub heartbeats_due : Config → ℕ → Part → List Due
-heartbeats_due config peer part = heartbeats_from config peer 1 part.rtps.writers
+-- what is due at a tick of a peer, whose writers know this of their readers: the HEARTBEATs of its writers, in their
+-- order
+abbrev pub heartbeats_due : Config → (ℕ → Endpoint → Contact) → ℕ → Part → List Due
+heartbeats_due config contacts peer part = heartbeats_from config contacts peer 1 part.rtps.writers
 
 -- a writer's assertion is told at once to all its matched readers, and asks for no answer (RTPS 2.5, 8.3.8: FinalFlag,
 -- LivelinessFlag)
-abbrev pub assertions_due : Config → Endpoint → Writer → List Due
-assertions_due config writer w = heartbeats_for config true true writer.peer writer.number w w.matched
+abbrev pub assertions_due : Config → (Endpoint → Contact) → Endpoint → Writer → List Due
+assertions_due config contacts writer w =
+    heartbeats_for config true true writer.peer writer.number contacts w w.matched
 
 -- the packet of a message that is due, in the one written form that it has
 abbrev pub packet_of : Due → Packet

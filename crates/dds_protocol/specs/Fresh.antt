@@ -67,7 +67,7 @@ pub record HasUsedCounts (config : Config) (world : WorldState) : Type 0 where
       → count ≤ℤ pos (heartbeats_used_at world writer)
   -- of the last ACKNACK that a writer took of a reader
   pub acknack_taken : (writer reader : Endpoint) (count : ℤ)
-      → (peer_at world writer.peer).known.answered writer.number reader ≡ Some count
+      → ((peer_at world writer.peer).known.answered writer.number reader).count ≡ Some count
       → count ≤ℤ pos (acknacks_used_at world writer reader)
 
 -- so it is at the opening of every configuration

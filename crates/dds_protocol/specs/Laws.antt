@@ -27,6 +27,7 @@ use Rattle.dds_machine.specs.declared.reply.Reply.TheVariants.{Done, Reported}
 use Rattle.dds_machine.specs.Numbered.{numbered}
 use Rattle.dds_protocol.specs.Receipt.{Receives}
 use Rattle.dds_protocol.specs.Peer.{Delivery, no_peer, state_of, packets_of, claimed, claimed_by}
+use Rattle.dds_protocol.specs.Contact.{Contact}
 use Rattle.dds_protocol.specs.DueMessages.{Due, assertions_due, heartbeats_due}
 use Rattle.dds_protocol.specs.Protocol.{State, TakesPacket}
 use Rattle.dds_protocol.specs.Resuming.{Resumes}
@@ -186,29 +187,31 @@ AnswersCanBeWritten = (config : Config) (peer : ℕ) (before : List Delivery) (b
     → TakesPacket config peer bytes old report dues new → IsSized config → HasSmallChanges old.part
     → All CanBeWritten dues
 
--- so do the HEARTBEATs that are due at a tick
+-- so do the HEARTBEATs that are due at a tick, whichever readers ask for one, or are silent
 abbrev pub HeartbeatsAreTrue : Type 0
-HeartbeatsAreTrue = (config : Config) (peer : ℕ) (old : Part) (now : ℕ) (reply : Reply) (new : Part)
-    → check_refusal config.peers ≡ None → IsPartOf config peer old → TickStep old now reply new
-    → AreTruthful config peer new (heartbeats_due config peer old)
+HeartbeatsAreTrue = (config : Config) (contacts : ℕ → Endpoint → Contact) (peer : ℕ) (old : Part) (now : ℕ)
+    (reply : Reply) (new : Part) → check_refusal config.peers ≡ None → IsPartOf config peer old
+    → TickStep old now reply new → AreTruthful config peer new (heartbeats_due config contacts peer old)
 
 -- each message with them can be written, in a configuration whose names have their octets, where the changes are small
 -- and the matched readers few
 abbrev pub HeartbeatsCanBeWritten : Type 0
-HeartbeatsCanBeWritten = (config : Config) (peer : ℕ) (part : Part) → IsPartOf config peer part → IsSized config
-    → HasSmallChanges part → HasFewMatches part → All CanBeWritten (heartbeats_due config peer part)
+HeartbeatsCanBeWritten = (config : Config) (contacts : ℕ → Endpoint → Contact) (peer : ℕ) (part : Part)
+    → IsPartOf config peer part → IsSized config → HasSmallChanges part → HasFewMatches part
+    → All CanBeWritten (heartbeats_due config contacts peer part)
 
 -- and the HEARTBEATs that tell an assertion are true of the peer that has entered it
 abbrev pub AssertionsAreTrue : Type 0
-AssertionsAreTrue = (config : Config) (tests : Tests) (peer writer : ℕ) (old new : Part)
+AssertionsAreTrue = (config : Config) (tests : Tests) (contacts : Endpoint → Contact) (peer writer : ℕ) (old new : Part)
     → check_refusal config.peers ≡ None
     → IsPartOf config peer old → CallStep tests old (AssertLiveliness writer) Done new
     → AreTruthful config peer new
-    (assertions_due config (record { peer = peer; number = writer }) (own_writer old writer))
+    (assertions_due config contacts (record { peer = peer; number = writer }) (own_writer old writer))
 
 -- each message that tells an assertion can be written too
 abbrev pub AssertionsCanBeWritten : Type 0
-AssertionsCanBeWritten = (config : Config) (tests : Tests) (peer writer : ℕ) (old new : Part) → IsPartOf config peer old
-    → CallStep tests old (AssertLiveliness writer) Done new → IsSized config → HasSmallChanges old
-    → HasFewMatches old
-    → All CanBeWritten (assertions_due config (record { peer = peer; number = writer }) (own_writer old writer))
+AssertionsCanBeWritten = (config : Config) (tests : Tests) (contacts : Endpoint → Contact) (peer writer : ℕ)
+    (old new : Part) → IsPartOf config peer old → CallStep tests old (AssertLiveliness writer) Done new
+    → IsSized config → HasSmallChanges old → HasFewMatches old
+    → All CanBeWritten
+    (assertions_due config contacts (record { peer = peer; number = writer }) (own_writer old writer))

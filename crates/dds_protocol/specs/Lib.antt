@@ -9,6 +9,8 @@ pub mod Opening
 pub mod Laws
 pub mod InOrder
 pub mod Bounds
+pub mod Contact
+pub mod Greetings
 pub mod DueMessages
 pub mod Protocol
 pub mod Resuming

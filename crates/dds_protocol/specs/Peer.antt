@@ -3,7 +3,7 @@
 --
 -- RTPS 2.5, 8.2 (Participant), 8.4 (behaviour). That packets make claims, on which a step rests, is a notion of
 -- this project.
-use Rattle.std.specs.Prelude.{◌≡◌, ◌⊎◌, ℕ, ◌<◌, true, List, [], ◌∷◌, map, Option, Some, None, ℤ, ◌<ℤ◌, Contains}
+use Rattle.std.specs.Prelude.{◌≡◌, ◌⊎◌, ℕ, ◌<◌, ◌&&◌, true, false, List, [], ◌∷◌, map, Option, Some, None, ℤ, ◌<ℤ◌, Contains}
 use Rattle.dds_base.specs.declared.config.Config.{Config}
 use Rattle.dds_base.specs.declared.guid.GuidPrefix.{GuidPrefix}
 use Rattle.dds_base.specs.Kept.{change_at, is_dropped}
@@ -15,17 +15,21 @@ use Rattle.dds_protocol.specs.declared.event.Event.TheVariants as event
 use Rattle.dds_protocol.specs.declared.event.Output.{Output}
 use Rattle.dds_protocol.specs.declared.event.Packet.{Packet}
 use Rattle.dds_machine.specs.declared.reply.Reply.{Reply}
-use Rattle.dds_machine.specs.declared.reply.Reply.TheVariants.{Reported}
+use Rattle.dds_machine.specs.declared.call.Call.{Call}
+use Rattle.dds_machine.specs.declared.call.Call.TheVariants.{MatchReader}
+use Rattle.dds_machine.specs.declared.reply.Reply.TheVariants.{Done, Reported}
 use Rattle.dds_machine.specs.declared.reply.Report.{Report}
 use Rattle.dds_machine.specs.Numbered.{numbered}
 use Rattle.dds_machine.specs.Part.{WriterProxy, how_of, is_attached, Part, no_part, own_writer, own_proxies, acknowledged_of, place_of, writer_changes, history_of, is_assertion, owed_from, IsBelow, IsAtMost}
 use Rattle.dds_machine.specs.Moves.{Grounds, ResumeStep}
-use Rattle.dds_machine.specs.Ticks.{TickStep}
+use Rattle.dds_machine.specs.Matching.{knows_reliable}
+use Rattle.dds_machine.specs.Ticks.{TicksAsked}
 use Rattle.dds_machine.specs.Calls.{CallStep}
 use Rattle.dds_machine.specs.Watching.{Tests}
 use Rattle.dds_protocol.specs.Claims.{Receiver, StandsIn, IsToReader, Claim, ChangeIs, MayPass, PlaceReached, Asserts, Claims, Claimed}
 use Rattle.dds_protocol.specs.Receipt.{Receives}
-use Rattle.dds_protocol.specs.Protocol.{Known, State, knows_nothing}
+use Rattle.dds_protocol.specs.DueMessages.{was_asked}
+use Rattle.dds_protocol.specs.Protocol.{Known, State, asked_no_more, knows_nothing, with_answered}
 
 -- a packet that was delivered, the rows of the peer's readers as it found them, and what it did
 pub record Delivery : Type 0 where
@@ -121,7 +125,8 @@ abbrev pub EventStep : Config → Tests → Peer → Event → Reply → Peer �
 EventStep config tests old (event.Call call) reply new =
     CallStep tests old.part call reply new.part × (new.delivered ≡ old.delivered)
 EventStep config tests old (event.Tick now) reply new =
-    TickStep old.part now reply new.part × (new.delivered ≡ old.delivered)
+    TicksAsked (was_asked old.known.answered old.part) old.part now reply new.part
+    × (new.delivered ≡ old.delivered)
 EventStep config tests old (event.Deliver packet) (Reported report) new =
     Receives config (claimed config old.delivered packet old.part.rtps.readers old.number) old.number packet old.part
     report new.part
@@ -131,10 +136,24 @@ EventStep config tests old (event.Resume reader) reply new =
     ResumeStep (claimed_by config (packets_of old.delivered) old.number) old.part reader reply new.part
     × (new.delivered ≡ old.delivered)
 
--- what a peer knows changes by deliveries, and where places are tried again, alone
+-- what a peer knows once a call was answered so: a reader that a writer is told of asks for nothing; where it is a
+-- reliable one, and is greeted, it is silent
+abbrev pub known_after : Peer → Call → Reply → Known
+known_after old (MatchReader writer reader greeted) Done =
+    with_answered old.known writer reader
+    (record (old.known.answered writer reader) {
+      asks = false;
+      silent = greeted && knows_reliable (own_writer old.part writer) reader;
+    })
+known_after old call reply = old.known
+
+-- what a peer knows changes by deliveries, and where places are tried again; but a reader that was asking for a
+-- HEARTBEAT asks no more once a tick has told it, and its writer may be told of it anew
 abbrev pub Knows : Peer → Event → Reply → Peer → Type 0
 Knows old (event.Deliver packet) reply new = Unit {0}
 Knows old (event.Resume reader) (Reported report) new = Unit {0}
+Knows old (event.Call call) reply new = new.known ≡ known_after old call reply
+Knows old (event.Tick now) Done new = new.known ≡ asked_no_more old.known
 Knows old other reply new = new.known ≡ old.known
 
 -- one step of a peer, and what it sends is true

@@ -1,7 +1,7 @@
 -- The reliable protocol of one peer: what it does with each submessage of a packet, and which messages are then due.
 --
 -- RTPS 2.5, 8.4.9 (reliable StatefulWriter), 8.4.12 (reliable StatefulReader).
-use Rattle.std.specs.Prelude.{◌≡◌, ◌≢◌, ◌⊎◌, ℕ, ◌+◌, ◌≤◌, ◌==◌, ◌&&◌, Bool, true, false, if◌then◌else◌, nat_lt, nat_le, max, List, [], ◌∷◌, ◌++◌, length, map, Option, Some, None, ℤ}
+use Rattle.std.specs.Prelude.{◌≡◌, ◌≢◌, ◌⊎◌, ℕ, ◌+◌, ◌≤◌, ◌==◌, ◌&&◌, ◌||◌, Bool, true, false, not, if◌then◌else◌, nat_lt, nat_le, max, List, [], ◌∷◌, ◌++◌, length, map, Option, Some, None, ℤ}
 use Rattle.dds_base.specs.declared.change.Change.{Change}
 use Rattle.dds_base.specs.declared.config.Config.{Config}
 use Rattle.dds_base.specs.declared.guid.EntityId.{EntityId}
@@ -27,6 +27,7 @@ use Rattle.rtps_reader.specs.Tracked.{Tracked, fresh, may_take, with_data, with_
 use Rattle.rtps_reader.specs.Advance.{Advances}
 use Rattle.rtps_reader.specs.Jump.{Jumps, comes}
 use Rattle.rtps_reader.specs.Answer.{AnswersHeartbeat, answered}
+use Rattle.rtps_sets.specs.NumberSet.{span}
 use Rattle.rtps_writer.specs.declared.answer.Answer.{Answer}
 use Rattle.rtps_writer.specs.Answers.{answers_to, requested}
 use Rattle.dds_base.specs.declared.endpoint.Endpoint.{Endpoint}
@@ -36,18 +37,19 @@ use Rattle.dds_machine.specs.declared.reply.Move.TheVariants.{Place, Acknowledge
 use Rattle.dds_machine.specs.Part.{Attachment, Away, Waiting, Begun, is_attached, how_of, Part, ReaderProxy, Writer, same_endpoint, own_writer, own_proxies, own_reader, acknowledged_of, with_acknowledged, place_of, with_place, with_begun, with_heard, publication_among, at_reader, at_writer, writer_changes, history_of, owed_from}
 use Rattle.dds_machine.specs.Moves.{IsMatchedAt, match_of}
 use Rattle.dds_protocol.specs.Claims.{Receiver, receiver_of, after_submessage, IsToReader, IsToWriter}
+use Rattle.dds_protocol.specs.Contact.{Contact, no_contact}
 use Rattle.dds_protocol.specs.Receipt.{prefix_of, IsNotTaken}
 use Rattle.dds_protocol.specs.DueMessages.{Due, answer_message, acknacks_due}
 
 -- What a peer knows beside its part of the machine: what each of its readers has heard of a matched writer's changes,
--- and for each of its writers the count of the last ACKNACK that it took of a matched reader.
+-- and for each of its writers what it knows of a matched reader by its ACKNACKs.
 pub record Known : Type 0 where
   pub tracked : Endpoint → ℕ → Tracked
-  pub answered : ℕ → Endpoint → Option ℤ
+  pub answered : ℕ → Endpoint → Contact
 
 -- at the opening nothing is known
 abbrev pub knows_nothing : Known
-knows_nothing = record { tracked = λ w r. fresh; answered = λ w r. None }
+knows_nothing = record { tracked = λ w r. fresh; answered = λ w r. no_contact }
 
 -- a peer's part, and what it knows
 pub record State : Type 0 where
@@ -61,12 +63,16 @@ with_tracked known writer reader t =
       tracked = λ w r. if same_endpoint w writer && (r == reader) then t else known.tracked w r;
     }
 
--- the count of the last ACKNACK that a writer took of a reader is now this
-abbrev pub with_answered : Known → ℕ → Endpoint → ℤ → Known
-with_answered known writer reader count =
+-- what a writer knows of a reader by its ACKNACKs is now this
+abbrev pub with_answered : Known → ℕ → Endpoint → Contact → Known
+with_answered known writer reader contact =
     record known {
-      answered = λ w r. if (w == writer) && same_endpoint r reader then Some count else known.answered w r;
+      answered = λ w r. if (w == writer) && same_endpoint r reader then contact else known.answered w r;
     }
+
+-- no reader asks for a HEARTBEAT any longer
+abbrev pub asked_no_more : Known → Known
+asked_no_more known = record known { answered = λ w r. record (known.answered w r) { asks = false } }
 
 -- Steps of a peer in turn, with what each of them moves and what is then due.
 abbrev pub InTurn : {X : Type 0} → (X → State → List Move → List Due → State → Type 0) → List X → State → List Move
@@ -301,9 +307,22 @@ answered_from owed acknowledged base =
 abbrev pub has_for : Writer → Endpoint → ℕ → Bool
 has_for w reader number = is_kept (history_of w) number && nat_le (owed_from w reader) number
 
+-- the ACKNACK asks for a HEARTBEAT: it is not final, and asks for no change (RTPS 2.5, 8.3.8: AckNack, FinalFlag)
+abbrev pub asks_for_heartbeat : AckNackBody → Bool
+asks_for_heartbeat a = not a.final_flag && (span a.reader_sn_state.members == 0)
+
+-- what a writer knows of a reader once it took this ACKNACK of it: one that asks for a HEARTBEAT alone is no answer
+abbrev pub contact_after : Contact → AckNackBody → Contact
+contact_after contact a = record {
+  count = Some a.count;
+  asks = contact.asks || asks_for_heartbeat a;
+  silent = contact.silent && asks_for_heartbeat a;
+}
+
 -- An ACKNACK whose count is greater than that of the last one that the writer took of the reader, and whose base is not
 -- past the next number, is taken: the reader has acknowledged all below the base, and gets each change that it asks
--- for, or a GAP where the change is not kept, or not owed to it.
+-- for, or a GAP where the change is not kept, or not owed to it; one that asks for a HEARTBEAT gets it at the next
+-- tick.
 pub record TakesAckNack (own : GuidPrefix) (at : Receiver) (old : State) (writer : ℕ) (reader : Endpoint)
     (entity : EntityId) (a : AckNackBody) (moves : List Move) (dues : List Due) (new : State) : Type 0 where
   pub acknowledged : ℕ
@@ -322,13 +341,15 @@ pub record TakesAckNack (own : GuidPrefix) (at : Receiver) (old : State) (writer
         to = reader.peer;
         message = answer_message own at.source_guid_prefix entity a.writer_id (writer_changes there) group;
       }) groups
-  pub after : new ≡ record
-      { part = at_writer old.part writer there; known = with_answered old.known writer reader a.count }
+  pub after : new ≡ record {
+    part = at_writer old.part writer there;
+    known = with_answered old.known writer reader (contact_after (old.known.answered writer reader) a);
+  }
 
 -- the ACKNACK is one that the writer takes
 abbrev pub is_taken_up : State → ℕ → Endpoint → AckNackBody → Bool
 is_taken_up old writer reader a =
-    is_later (old.known.answered writer reader) a.count
+    is_later (old.known.answered writer reader).count a.count
     && nat_le a.reader_sn_state.base (length (writer_changes (own_writer old.part writer)) + 1)
 
 -- what the peer's writer of this number does with an ACKNACK as to one of its matched readers, which may have sent it

@@ -136,11 +136,13 @@ pub record HasCaughtUp (world : WorldState) (writer reader : Endpoint) (before l
   pub reached : (min (before + window_width) (last + 1) ≤ place) ⊎ HoldsWithoutRoom world writer reader place
   pub told : before ≤ acknowledged
 
--- so it is after each round, in a network in which claims are true, counts are used, and places are within the lists
+-- so it is after each round of a reader that is not silent, in a network in which claims are true, counts are used, and
+-- places are within the lists
 abbrev pub PairCatchesUp : Type 0
 PairCatchesUp = (config : Config) (tests : AllTests) (writer reader : Endpoint) (place acknowledged : ℕ)
     (old new : WorldState) → check_refusal config.peers ≡ None → Sound config old → HasUsedCounts config old
     → IsBounded (machine_of old) → IsPair config writer reader → StandsAt old writer reader place acknowledged
+    → ((peer_at old writer.peer).known.answered writer.number reader).silent ≡ false
     → IsRepairRound config tests writer reader old new
     → HasCaughtUp new writer reader place (length (writer_changes (writer_at (machine_of old) writer)))
 

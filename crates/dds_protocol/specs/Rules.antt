@@ -11,34 +11,36 @@ use Rattle.dds_machine.specs.declared.event.WorldEvent.{WorldEvent}
 use Rattle.dds_machine.specs.declared.event.WorldEvent.TheVariants.{Call, Tick, Deliver, Resume}
 use Rattle.dds_machine.specs.declared.reply.Reply.{Reply}
 use Rattle.dds_machine.specs.declared.reply.Reply.TheVariants.{Done, Reported}
-use Rattle.dds_machine.specs.Part.{Part, own_writer, writer_changes}
+use Rattle.dds_machine.specs.Part.{own_writer, writer_changes}
 use Rattle.dds_machine.specs.Calls.{Effect, writes, effect_of}
 use Rattle.dds_machine.specs.Machine.{AllTests, Step}
 use Rattle.dds_protocol.specs.Progress.{Progresses}
 use Rattle.dds_protocol.specs.Peer.{state_of}
 use Rattle.dds_protocol.specs.DueMessages.{Due, AreSent, assertions_due, changes_due, heartbeats_due}
-use Rattle.dds_protocol.specs.Protocol.{TakesPacket}
+use Rattle.dds_protocol.specs.Protocol.{State, TakesPacket}
 use Rattle.dds_protocol.specs.Resuming.{Resumes}
 use Rattle.dds_protocol.specs.Traffic.{Traffic, Sends}
 use Rattle.dds_protocol.specs.World.{WorldState, WorldStep, peer_at, machine_of}
 
 -- what is due for what a call enters at a writer of the peer: a change is announced, with the next number, and an
 -- assertion is told
-abbrev pub announcements_due : Config → ℕ → Part → Effect → List Due
-announcements_due config peer part (writes writer (Changed change)) =
-    changes_due config (record { peer = peer; number = writer }) (own_writer part writer).matched
-    (length (writer_changes (own_writer part writer)) + 1) change
-announcements_due config peer part (writes writer (Asserted moment)) =
-    assertions_due config (record { peer = peer; number = writer }) (own_writer part writer)
-announcements_due config peer part other = []
+abbrev pub announcements_due : Config → ℕ → State → Effect → List Due
+announcements_due config peer old (writes writer (Changed change)) =
+    changes_due config (record { peer = peer; number = writer }) (own_writer old.part writer).matched
+    (length (writer_changes (own_writer old.part writer)) + 1) change
+announcements_due config peer old (writes writer (Asserted moment)) =
+    assertions_due config (old.known.answered writer) (record { peer = peer; number = writer })
+    (own_writer old.part writer)
+announcements_due config peer old other = []
 
 -- These messages are due at an event: for a call what announces its change or tells its assertion, at a tick that is
 -- done the HEARTBEATs of the peer, for a delivered packet what the rules say once it was taken up; where places are
 -- tried again, by the rules, and where the event is refused, none.
 abbrev pub AreDue : Config → WorldState → WorldEvent → Reply → WorldState → List Due → Type 0
 AreDue config old (Call peer call) reply new dues =
-    dues ≡ announcements_due config peer (peer_at old peer).part (effect_of (peer_at old peer).part call reply)
-AreDue config old (Tick peer now) Done new dues = dues ≡ heartbeats_due config peer (peer_at old peer).part
+    dues ≡ announcements_due config peer (state_of (peer_at old peer)) (effect_of (peer_at old peer).part call reply)
+AreDue config old (Tick peer now) Done new dues =
+    dues ≡ heartbeats_due config (peer_at old peer).known.answered peer (peer_at old peer).part
 AreDue config old (Deliver peer number) (Reported report) new dues =
     (packet : Packet) × (slice_get old.sent (number - 1) ≡ Some packet)
     × TakesPacket config peer packet.bytes (state_of (peer_at old peer)) report dues (state_of (peer_at new peer))

@@ -15,6 +15,7 @@ use Rattle.dds_machine.specs.Part.{peers_of, writer_changes}
 use Rattle.dds_machine.specs.Calls.{Effect, writes, effect_of}
 use Rattle.dds_protocol.specs.Claims.{ChangeIs, Claims}
 use Rattle.dds_machine.specs.Machine.{Machine, part_at, writer_at}
+use Rattle.dds_protocol.specs.Contact.{Contact}
 use Rattle.dds_protocol.specs.DueMessages.{Due, AreSent, assertions_due, changes_due, heartbeats_due}
 
 -- the packets that were sent, and how many found no memory, which stays at its greatest value
@@ -58,18 +59,20 @@ SendsOf config old m peer (writes writer (Changed change)) new =
     (writer_at m (record { peer = peer; number = writer })).matched
     (length (writer_changes (writer_at m (record { peer = peer; number = writer }))) + 1) change new
 SendsOf config old m peer (writes writer (Asserted moment)) new =
-    SendsDues (assertions_due config (record { peer = peer; number = writer })
+    (contacts : Endpoint → Contact)
+    × SendsDues (assertions_due config contacts (record { peer = peer; number = writer })
     (writer_at m (record { peer = peer; number = writer }))) old new
 SendsOf config old m peer other new = new ≡ old
 
--- What is sent at an event: an accepted change is announced, an assertion is told, a tick that is done sends the
--- HEARTBEATs that are due at the peer, and a delivery the ACKNACKs and the answers that are then due there, of which
--- the machine without packets does not know; another call, places that are tried again, and what is refused send
--- nothing, and lose nothing.
+-- What is sent at an event: an accepted change is announced, and an assertion is told; a tick that is done sends the
+-- HEARTBEATs that are due at the peer, whichever readers ask for one, or are silent, and a delivery the ACKNACKs and
+-- the answers that are then due there, of which the machine without packets does not know; another call, places that
+-- are tried again, and what is refused send nothing, and lose nothing.
 abbrev pub Sends : Config → Traffic → Machine → WorldEvent → Reply → Traffic → Type 0
 Sends config old m (world.Call peer call) reply new =
     SendsOf config old m peer (effect_of (part_at m peer) call reply) new
-Sends config old m (world.Tick peer now) Done new = SendsDues (heartbeats_due config peer (part_at m peer)) old new
+Sends config old m (world.Tick peer now) Done new =
+    (contacts : ℕ → Endpoint → Contact) × SendsDues (heartbeats_due config contacts peer (part_at m peer)) old new
 Sends config old m (world.Tick peer now) reply new = new ≡ old
 Sends config old m (world.Deliver peer packet) (Reported report) new = (dues : List Due) × SendsDues dues old new
 Sends config old m (world.Deliver peer packet) reply new = new ≡ old

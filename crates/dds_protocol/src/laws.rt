@@ -11,6 +11,7 @@ ghost use Rattle.dds_protocol.specs.Closed.{BestEffortAsDropped, ClosedAcknowled
 ghost use Rattle.dds_protocol.specs.DueMessages.{AreSent, Due, packet_of};
 ghost use Rattle.dds_protocol.specs.Dues.{CallsStayDue};
 ghost use Rattle.dds_protocol.specs.Fresh.{OpensUsed, StepsUsed};
+ghost use Rattle.dds_protocol.specs.Greetings.{OpensAnswered, RunsAnswered, StaysAnswered};
 ghost use Rattle.dds_protocol.specs.InOrder.{ChangesComeInOrder};
 ghost use Rattle.dds_protocol.specs.Laws.{AnswersAreTrue, AnswersCanBeWritten, AssertionsAreTrue, AssertionsCanBeWritten, Composes, ComposesRuns, HeartbeatsAreTrue, HeartbeatsCanBeWritten, KeepAllIsKept, OpensBacked, OpensSound, OwnersExist, ReadersTellWritersApart, ResumesRestOnClaims, RulesRestOnClaims};
 ghost use Rattle.dds_protocol.specs.Protocol.{answers_per};
@@ -157,7 +158,7 @@ pub fn what_is_due_is_true()
     ensures packet { AnswersAreTrue }
     // So do the HEARTBEATs that are due at a tick.
     ensures tick { HeartbeatsAreTrue }
-    // They have a written form, whichever readers are behind.
+    // They have a written form, whichever readers are behind, ask for one, or are silent.
     ensures ticked { HeartbeatsCanBeWritten }
     // What is due to a packet has a written form, whatever the packet asked for.
     ensures written { AnswersCanBeWritten }
@@ -193,6 +194,18 @@ pub fn counts_are_fresh()
     ensures step { StepsUsed }
 {}
 
+/// Where nobody is greeted nobody is silent: so each HEARTBEAT goes to the last number, as if there were no greetings.
+///
+/// RTPS 2.5, 8.3.8, 8.4.7.
+pub fn nobody_is_silent()
+    // Nobody is silent at the opening,
+    ensures opens { OpensAnswered }
+    // after every event at which nobody is greeted,
+    ensures stays { StaysAnswered }
+    // and after every run of such events.
+    ensures runs { RunsAnswered }
+{}
+
 /// A reader that takes a HEARTBEAT, and then an answer to each number that its ACKNACK asked for, has gone on by 256
 /// numbers, or to the end of the writer's list, or to a change that has no room.
 ///
@@ -203,8 +216,9 @@ pub fn window_catches_up()
 
 /// After a round of repair of a writer and a reader, which are matched at both sides, in a network by the rules, the
 /// reader has gone on by 256 numbers, or to the end of the writer's list, or to a change that has no room; and the
-/// writer knows of all that the reader had before. A reader whose place waits begins in the round. So it is also where
-/// both are at one peer, and whatever other writers and readers do meanwhile.
+/// writer knows of all that the reader had before. A reader whose place waits begins in the round. One that was greeted
+/// has to have answered before, since its HEARTBEATs name no change till then. So it is also where both are at one
+/// peer, and whatever other writers and readers do meanwhile.
 ///
 /// RTPS 2.5, 8.4.9, 8.4.12.
 pub fn pair_catches_up()

@@ -67,7 +67,7 @@ calls = of_variants enum_of_calls _
     ⨾ last Decides-eqb  -- WaitEnd
     ⨾ more entities (last status_masks)  -- SetEnabledStatuses
     ⨾ last entities  -- GetStatusChanges
-    ⨾ more Decides-eqb (last endpoints)  -- MatchReader
+    ⨾ more Decides-eqb (more endpoints (last booleans_Decides))  -- MatchReader
     ⨾ more Decides-eqb (last endpoints)  -- UnmatchReader
     ⨾ more Decides-eqb (last endpoints)  -- MatchWriter
     ⨾ more Decides-eqb (last endpoints)  -- UnmatchWriter
