@@ -50,7 +50,7 @@ use Rattle.dds_core.specs.MatchCounts.{CountsFor}
 use Rattle.dds_core.specs.Kept.{ReaderKept, PeerKept}
 use Rattle.dds_core.specs.Looking.{TakesOnly, access_reply}
 use Rattle.dds_core.specs.Standing.{IsFirstRow, ReaderStands, StandsFor, stood_as}
-use Rattle.dds_core.proofs.CallSteps.{FollowsBy, follows_as, refused_call, still_stands, there_is}
+use Rattle.dds_core.proofs.CallSteps.{FollowsBy, follows_as, knows_still, refused_call, still_stands, there_is}
 use Rattle.dds_core.proofs.Ends.{with_reader, own_reader_changed}
 use Rattle.dds_core.proofs.Taking.{silent}
 use Rattle.dds_core.proofs.Identities.{same_identity}
@@ -169,8 +169,9 @@ entered : (tests : Tests) (entry : List SamplePosition → Happening) → IsQuie
     (samples : List SamplePosition)
     → CacheStandsFor k'.store.cache (entry samples ∷ (own_reader peer.part (suc i)).happened)
     → CallStep tests peer.part c reply (after_access entry peer.part (suc i) samples)
+    → effect_of peer.part c reply ≡ nothing
     → FollowsBy tests (with_reader kept i k') config peer (event.Call c) (silent reply)
-entered tests entry quiet c kept i k k' config peer s at same reply samples stands step =
+entered tests entry quiet c kept i k k' config peer s at same reply samples stands step none =
     let part : Part = peer.part in
     let proxies : List WriterProxy = own_proxies part (suc i) in
     let r : Reader = own_reader part (suc i) in
@@ -178,7 +179,12 @@ entered tests entry quiet c kept i k k' config peer s at same reply samples stan
     (λ w. peer.known.tracked w (suc i)) = one_entered entry quiet k k' proxies r
     (λ w. peer.known.tracked w (suc i)) samples same (s.readers.each i k at) stands in (
       record peer { part = after_access entry part (suc i) samples },
-      record { same_number = refl; knows = refl; step = (step, refl); sent = λ p x m h. absurd (omega (arith, m.1)) },
+      record {
+        same_number = refl;
+        knows = knows_still peer c reply nothing none refl;
+        step = (step, refl);
+        sent = λ p x m h. absurd (omega (arith, m.1));
+      },
       own_reader_changed kept i k k' (record r { happened = entry samples ∷ r.happened }) config peer s at
           (same_identity k' k same.entity same.writers same.qos) one,
     )
@@ -244,6 +250,7 @@ accessed tests kind c test i selection kept k k' config peer is s at same (Ok sa
       rtps = ap (λ (e : Effect). effect peer.part.rtps e)
           (sym (is.effect (Samples samples)));
     })
+    (is.effect (Samples samples))
 accessed tests kind c test i selection kept k k' config peer is s at same (Err NoData) causes qos answer after =
     let h : List Happening = (own_reader peer.part (suc i)).happened in
     let found : picked k.store.cache h selection test ≡ picked_at test peer.part (suc i) selection =
@@ -255,6 +262,7 @@ accessed tests kind c test i selection kept k k' config peer is s at same (Err N
       rtps = ap (λ (e : Effect). effect peer.part.rtps e)
           (sym (is.effect (Refused NoData)));
     })
+    (is.effect (Refused NoData))
 accessed tests kind c test i selection kept k k' config peer is s at same (Err code) causes qos answer after =
     not_entered tests c kept i k k' config peer code s at (kept_same k k' same after)
     (is.answers (Refused code) peer.part.dds (

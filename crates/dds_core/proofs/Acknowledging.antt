@@ -1,11 +1,12 @@
 -- A writer's state once it took an ACKNACK of one of its readers, by the rows of the machine.
-use Rattle.std.proofs.Common.{◌≡◌, ℕ, zero, suc, ◌+◌, ◌<◌, ◌≤◌, Bool, true, false, cond, ◌&&◌, List, [], ◌∷◌, Option, Some, None, map, set, max, min, length, get_or, slice_get, refl, ap, sym, ◌∙◌, subst, arith, nat_lt}
+use Rattle.std.proofs.Common.{◌≡◌, ℕ, zero, suc, ◌+◌, ◌<◌, ◌≤◌, Bool, true, false, cond, ◌&&◌, ◌||◌, List, [], ◌∷◌, Option, Some, None, map, not, set, max, min, length, get_or, slice_get, refl, ap, sym, ◌∙◌, subst, arith, nat_lt}
 use Rattle.std.specs.Prelude.{ℤ, if◌then◌else◌, nat_le, slice_index, All}
 use Rattle.std.specs.List.{AllByRecursion}
 use Rattle.std.proofs.lemmas.Bool.Decides.{nat_tests}
 use Rattle.std.proofs.lemmas.List.{length-map}
 use Rattle.std.proofs.lemmas.List.Elements.{All-from_recursion, recursion_from_All}
 use Rattle.std.proofs.lemmas.Option.{same_Some}
+use Rattle.rtps_wire.specs.declared.acknack.AckNack.{AckNack as AckNackBody}
 use Rattle.rtps_writer.specs.Acknack.{applied, is_applied, if_later, newly_acknowledged}
 use Rattle.rtps_writer.specs.Answers.{answered_from as rtps_answered_from}
 use Rattle.rtps_writer.specs.WriterState.{WriterState, acknowledged_by, owed_from as rtps_owed_from}
@@ -14,8 +15,9 @@ use Rattle.std.specs.Option.{option_map}
 use Rattle.dds_base.specs.Counts.{is_later}
 use Rattle.dds_machine.specs.declared.reply.Move.TheVariants.{Acknowledged}
 use Rattle.dds_machine.specs.Part.{ReaderProxy, Writer, same_endpoint, row_of, acknowledged_of, with_acknowledged, owed_from, writer_changes}
-use Rattle.dds_core.specs.Answering.{acknowledged_moves}
-use Rattle.dds_protocol.specs.Protocol.{acknowledging, answered_from}
+use Rattle.dds_core.specs.Answering.{acknowledged_moves, heard_if}
+use Rattle.dds_protocol.specs.Contact.{Contact}
+use Rattle.dds_protocol.specs.Protocol.{acknowledging, answered_from, asks_for_heartbeat, contact_after}
 use Rattle.dds_protocol.proofs.InOrder.{same_self}
 use Rattle.dds_protocol.proofs.Owing.{first_or}
 use Rattle.dds_machine.proofs.Tables.{same_is}
@@ -113,34 +115,34 @@ firsts_same (q ∷ qs) e to = by (same_endpoint q.reader e) (firsts_same qs e to
     by true h = refl
     by false h = ap (λ (ns : List ℕ). q.first ∷ ns) h
 
-map_readers : (f : Endpoint → Option ℤ) (rows : List ReaderProxy)
+map_readers : {X : Type 0} (f : Endpoint → X) (rows : List ReaderProxy)
     → map (λ (x : ReaderProxy). f x.reader) rows ≡ map f (map (λ (x : ReaderProxy). x.reader) rows)
 map_readers f [] = refl
-map_readers f (q ∷ qs) = ap (λ (os : List (Option ℤ)). f q.reader ∷ os) (map_readers f qs)
+map_readers f (q ∷ qs) = ap (λ os. f q.reader ∷ os) (map_readers f qs)
 
-others_same : (f g : Endpoint → Option ℤ) (rows : List ReaderProxy) (e : Endpoint)
+others_same : {X : Type 0} (f g : Endpoint → X) (rows : List ReaderProxy) (e : Endpoint)
     → ((r : Endpoint) → (r ≡ e → ⊥) → g r ≡ f r) → IsNone rows e
     → map (λ (x : ReaderProxy). g x.reader) rows ≡ map (λ (x : ReaderProxy). f x.reader) rows
 others_same f g [] e same none = refl
 others_same f g (q ∷ qs) e same none =
-    ap (λ (o : Option ℤ). o ∷ map (λ (x : ReaderProxy). g x.reader) qs) (same q.reader (λ is. none zero q refl is))
-    ∙ ap (λ (os : List (Option ℤ)). f q.reader ∷ os) (others_same f g qs e same (λ k p at is. none (suc k) p at is))
+    ap (λ o. o ∷ map (λ (x : ReaderProxy). g x.reader) qs) (same q.reader (λ is. none zero q refl is))
+    ∙ ap (λ os. f q.reader ∷ os) (others_same f g qs e same (λ k p at is. none (suc k) p at is))
 
-counts_here : (f g : Endpoint → Option ℤ) (rows : List ReaderProxy) (e : Endpoint) (n : ℕ) (p : ReaderProxy)
-    (count : Option ℤ) → g e ≡ count → ((r : Endpoint) → (r ≡ e → ⊥) → g r ≡ f r) → IsOnly rows e n p
+counts_here : {X : Type 0} (f g : Endpoint → X) (rows : List ReaderProxy) (e : Endpoint) (n : ℕ) (p : ReaderProxy)
+    (count : X) → g e ≡ count → ((r : Endpoint) → (r ≡ e → ⊥) → g r ≡ f r) → IsOnly rows e n p
     → map (λ (x : ReaderProxy). g x.reader) rows ≡ set (map (λ (x : ReaderProxy). f x.reader) rows) n count
 counts_here f g [] e n p count is same h = absurd h
 counts_here f g (q ∷ qs) e zero p count is same h =
     ap (λ (r : Endpoint). g r ∷ map (λ (x : ReaderProxy). g x.reader) qs) (ap (λ (x : ReaderProxy). x.reader) h.0 ∙ h.1)
-    ∙ (ap (λ (o : Option ℤ). o ∷ map (λ (x : ReaderProxy). g x.reader) qs) is
-    ∙ ap (λ (os : List (Option ℤ)). count ∷ os) (others_same f g qs e same h.2))
+    ∙ (ap (λ o. o ∷ map (λ (x : ReaderProxy). g x.reader) qs) is
+    ∙ ap (λ os. count ∷ os) (others_same f g qs e same h.2))
 counts_here f g (q ∷ qs) e (suc n) p count is same h =
-    ap (λ (o : Option ℤ). o ∷ map (λ (x : ReaderProxy). g x.reader) qs) (same q.reader h.0)
-    ∙ ap (λ (os : List (Option ℤ)). f q.reader ∷ os) (counts_here f g qs e n p count is same h.1)
+    ap (λ o. o ∷ map (λ (x : ReaderProxy). g x.reader) qs) (same q.reader h.0)
+    ∙ ap (λ os. f q.reader ∷ os) (counts_here f g qs e n p count is same h.1)
 
--- the counts of the rows once that of the reader is this one
-pub counts_set : (f g : Endpoint → Option ℤ) (rows : List ReaderProxy) (e : Endpoint) (n : ℕ) (p : ReaderProxy) (to : ℕ)
-    (count : Option ℤ) → g e ≡ count → ((r : Endpoint) → (r ≡ e → ⊥) → g r ≡ f r) → IsOnly rows e n p
+-- the counts of the rows, or their marks, once that of the reader is this one
+pub counts_set : {X : Type 0} (f g : Endpoint → X) (rows : List ReaderProxy) (e : Endpoint) (n : ℕ) (p : ReaderProxy)
+    (to : ℕ) (count : X) → g e ≡ count → ((r : Endpoint) → (r ≡ e → ⊥) → g r ≡ f r) → IsOnly rows e n p
     → map (λ (x : ReaderProxy). g x.reader) (with_acknowledged rows e to)
     ≡ set (map (λ (x : ReaderProxy). f x.reader) rows) n count
 counts_set f g rows e n p to count is same h =
@@ -148,11 +150,20 @@ counts_set f g rows e n p to count is same h =
     ∙ (ap (λ (es : List Endpoint). map g es) (readers_same rows e to)
     ∙ (sym (map_readers g rows) ∙ counts_here f g rows e n p count is same h))
 
-pub count_at : (f : Endpoint → Option ℤ) (rows : List ReaderProxy) (e : Endpoint) (n : ℕ) (p : ReaderProxy)
-    → IsOnly rows e n p → get_or (map (λ (x : ReaderProxy). f x.reader) rows) n None ≡ f e
-count_at f [] e n p h = absurd h
-count_at f (q ∷ qs) e zero p h = ap f (ap (λ (x : ReaderProxy). x.reader) h.0 ∙ h.1)
-count_at f (q ∷ qs) e (suc n) p h = count_at f qs e n p h.1
+pub count_at : {X : Type 0} (f : Endpoint → X) (rows : List ReaderProxy) (e : Endpoint) (n : ℕ) (p : ReaderProxy)
+    (none : X) → IsOnly rows e n p → get_or (map (λ (x : ReaderProxy). f x.reader) rows) n none ≡ f e
+count_at f [] e n p none h = absurd h
+count_at f (q ∷ qs) e zero p none h = ap f (ap (λ (x : ReaderProxy). x.reader) h.0 ∙ h.1)
+count_at f (q ∷ qs) e (suc n) p none h = count_at f qs e n p none h.1
+
+-- a mark that the reader has, set once more
+mark_again : (f : Endpoint → Bool) (rows : List ReaderProxy) (e : Endpoint) (n : ℕ) (p : ReaderProxy)
+    → IsOnly rows e n p → set (map (λ (x : ReaderProxy). f x.reader) rows) n (f e) ≡ map (λ (x : ReaderProxy). f x.reader) rows
+mark_again f [] e n p h = absurd h
+mark_again f (q ∷ qs) e zero p h =
+    ap (λ (r : Endpoint). f r ∷ map (λ (x : ReaderProxy). f x.reader) qs)
+    (sym (ap (λ (x : ReaderProxy). x.reader) h.0 ∙ h.1))
+mark_again f (q ∷ qs) e (suc n) p h = ap (λ (bs : List Bool). f q.reader ∷ bs) (mark_again f qs e n p h.1)
 
 only_within : (rows : List ReaderProxy) (e : Endpoint) (n : ℕ) (p : ReaderProxy) → IsOnly rows e n p → n < length rows
 only_within [] e n p h = absurd h
@@ -180,36 +191,83 @@ still_begun rows e to low h =
 -- ---- the state
 
 -- a state in which the rows are others
-pub state_as : (s : WriterState) (f g a b : List ℕ) (c d : List (Option ℤ)) → f ≡ g → a ≡ b → c ≡ d
-    → ◌≡◌ {A = WriterState} (record s { firsts = f; acknowledged = a; counts = c })
-    (record s { firsts = g; acknowledged = b; counts = d })
-state_as s f g a b c d i j k = cc
+pub state_as : (s : WriterState) (f g a b : List ℕ) (c d : List (Option ℤ)) (x y u v : List Bool) → f ≡ g → a ≡ b
+    → c ≡ d → x ≡ y → u ≡ v
+    → ◌≡◌ {A = WriterState} (record s { firsts = f; acknowledged = a; counts = c; asks = x; silents = u })
+    (record s { firsts = g; acknowledged = b; counts = d; asks = y; silents = v })
+state_as s f g a b c d x y u v i j k l m = cc
 
 -- what the writer knows of a reader of which this ACKNACK is taken
-pub record IsCounted (old new : Endpoint → Option ℤ) (e : Endpoint) (count : ℤ) : Type 0 where
-  pub here : new e ≡ Some count
+pub record IsCounted (old new : Endpoint → Contact) (e : Endpoint) (a : AckNackBody) : Type 0 where
+  pub here : new e ≡ contact_after (old e) a
   pub others : (r : Endpoint) → (r ≡ e → ⊥) → new r ≡ old r
 
-pub state_applied : (w : Writer) (answered new : Endpoint → Option ℤ) (e : Endpoint) (n : ℕ) (p : ReaderProxy)
-    (base : ℕ) (count : ℤ) → IsOnly w.readers e n p → IsCounted answered new e count
-    → state_of (acknowledging w e (max p.acknowledged base)) new ≡ applied (state_of w answered) n base count
-state_applied w answered new e n p base count only counted =
+-- the marks of the rows, once that of the reader is one more
+asks_set : (f g : Endpoint → Bool) (rows : List ReaderProxy) (e : Endpoint) (n : ℕ) (p : ReaderProxy) (to : ℕ)
+    (b : Bool) → g e ≡ (f e || b) → ((r : Endpoint) → (r ≡ e → ⊥) → g r ≡ f r) → IsOnly rows e n p
+    → map (λ (x : ReaderProxy). g x.reader) (with_acknowledged rows e to)
+    ≡ (if b then set (map (λ (x : ReaderProxy). f x.reader) rows) n true
+    else map (λ (x : ReaderProxy). f x.reader) rows)
+asks_set f g rows e n p to true here same only = counts_set f g rows e n p to true (here ∙ late (f e)) same only
+  where
+    late : (b : Bool) → (b || true) ≡ true
+    late true = refl
+    late false = refl
+asks_set f g rows e n p to false here same only =
+    counts_set f g rows e n p to (f e) (here ∙ late (f e)) same only ∙ mark_again f rows e n p only
+  where
+    late : (b : Bool) → (b || false) ≡ b
+    late true = refl
+    late false = refl
+
+-- the same of those that are silent: one that is answered by so is none
+silents_set : (f g : Endpoint → Bool) (rows : List ReaderProxy) (e : Endpoint) (n : ℕ) (p : ReaderProxy) (to : ℕ)
+    (b : Bool) → g e ≡ (f e && b) → ((r : Endpoint) → (r ≡ e → ⊥) → g r ≡ f r) → IsOnly rows e n p
+    → map (λ (x : ReaderProxy). g x.reader) (with_acknowledged rows e to)
+    ≡ (if not b then set (map (λ (x : ReaderProxy). f x.reader) rows) n false
+    else map (λ (x : ReaderProxy). f x.reader) rows)
+silents_set f g rows e n p to false here same only = counts_set f g rows e n p to false (here ∙ late (f e)) same only
+  where
+    late : (b : Bool) → (b && false) ≡ false
+    late true = refl
+    late false = refl
+silents_set f g rows e n p to true here same only =
+    counts_set f g rows e n p to (f e) (here ∙ late (f e)) same only ∙ mark_again f rows e n p only
+  where
+    late : (b : Bool) → (b && true) ≡ b
+    late true = refl
+    late false = refl
+
+pub state_applied : (w : Writer) (answered new : Endpoint → Contact) (e : Endpoint) (n : ℕ) (p : ReaderProxy)
+    (base : ℕ) (a : AckNackBody) → IsOnly w.readers e n p → IsCounted answered new e a
+    → state_of (acknowledging w e (max p.acknowledged base)) new
+    ≡ heard_if true (asks_for_heartbeat a) (applied (state_of w answered) n base a.count) n
+state_applied w answered new e n p base a only counted =
     let rows : List ReaderProxy = w.readers in
+    let to : ℕ = max p.acknowledged base in
     let at : slice_index (map (λ (x : ReaderProxy). x.acknowledged) rows) n ≡ p.acknowledged =
     acknowledged_at rows e n p only in
-    state_as (state_of w answered) _ _ _ _ _ _ (firsts_same rows e (max p.acknowledged base))
-    (acknowledged_set rows e n p (max p.acknowledged base) only
+    state_as (state_of w answered) _ _ _ _ _ _ _ _ _ _ (firsts_same rows e to)
+    (acknowledged_set rows e n p to only
     ∙ ap (λ (m : ℕ). set (map (λ (x : ReaderProxy). x.acknowledged) rows) n (max m base)) (sym at))
-    (counts_set answered new rows e n p (max p.acknowledged base) (Some count) counted.here counted.others only)
+    (counts_set (λ (r : Endpoint). (answered r).count) (λ (r : Endpoint). (new r).count) rows e n p to (Some a.count)
+    (ap (λ (x : Contact). x.count) counted.here)
+    (λ r apart. ap (λ (x : Contact). x.count) (counted.others r apart)) only)
+    (asks_set (λ (r : Endpoint). (answered r).asks) (λ (r : Endpoint). (new r).asks) rows e n p to
+    (asks_for_heartbeat a) (ap (λ (x : Contact). x.asks) counted.here)
+    (λ r apart. ap (λ (x : Contact). x.asks) (counted.others r apart)) only)
+    (silents_set (λ (r : Endpoint). (answered r).silent) (λ (r : Endpoint). (new r).silent) rows e n p to
+    (asks_for_heartbeat a) (ap (λ (x : Contact). x.silent) counted.here)
+    (λ r apart. ap (λ (x : Contact). x.silent) (counted.others r apart)) only)
 
 -- the ACKNACK is applied where it is taken
-pub applied_is : (w : Writer) (answered : Endpoint → Option ℤ) (e : Endpoint) (n : ℕ) (p : ReaderProxy) (base : ℕ)
+pub applied_is : (w : Writer) (answered : Endpoint → Contact) (e : Endpoint) (n : ℕ) (p : ReaderProxy) (base : ℕ)
     (count : ℤ) → IsOnly w.readers e n p
     → is_applied (state_of w answered) n base count
-    ≡ (is_later (answered e) count && nat_le base (length (writer_changes w) + 1))
+    ≡ (is_later (answered e).count count && nat_le base (length (writer_changes w) + 1))
 applied_is w answered e n p base count only =
     ap (λ (o : Option ℤ). is_later o count && nat_le base (length (writer_changes w) + 1))
-    (count_at answered w.readers e n p only)
+    (count_at (λ (r : Endpoint). (answered r).count) w.readers e n p None only)
 
 set_index : (xs : List ℕ) (n to : ℕ) → n < length xs → slice_index (set xs n to) n ≡ to
 set_index [] n to lt = absurd (omega (arith, lt))
@@ -217,7 +275,7 @@ set_index (x ∷ xs) zero to lt = refl
 set_index (x ∷ xs) (suc n) to lt = set_index xs n to (omega (arith, lt))
 
 -- the number below which the reader has then acknowledged all
-pub acknowledged_then : (w : Writer) (answered : Endpoint → Option ℤ) (e : Endpoint) (n : ℕ) (p : ReaderProxy)
+pub acknowledged_then : (w : Writer) (answered : Endpoint → Contact) (e : Endpoint) (n : ℕ) (p : ReaderProxy)
     (base : ℕ) (count : ℤ) → IsOnly w.readers e n p
     → acknowledged_by (applied (state_of w answered) n base count) n ≡ max p.acknowledged base
 acknowledged_then w answered e n p base count only =
@@ -229,7 +287,7 @@ acknowledged_then w answered e n p base count only =
     ∙ ap (λ (m : ℕ). max m base) (acknowledged_at rows e n p only)
 
 -- the move of an acknowledgement
-pub moves_then : (w : Writer) (answered : Endpoint → Option ℤ) (e : Endpoint) (n : ℕ) (p : ReaderProxy) (base : ℕ)
+pub moves_then : (w : Writer) (answered : Endpoint → Contact) (e : Endpoint) (n : ℕ) (p : ReaderProxy) (base : ℕ)
     (count : ℤ) (writer : ℕ) → IsOnly w.readers e n p
     → acknowledged_moves writer e
     (newly_acknowledged (state_of w answered) (applied (state_of w answered) n base count) n)
@@ -297,7 +355,7 @@ first_hits (q ∷ qs) e (suc n) p to none h =
     ∙ first_hits qs e n p to none h.1)
 
 -- the row owes from where the writer owes its reader
-pub owed_same : (w : Writer) (answered : Endpoint → Option ℤ) (e : Endpoint) (n : ℕ) (p : ReaderProxy) (to : ℕ)
+pub owed_same : (w : Writer) (answered : Endpoint → Contact) (e : Endpoint) (n : ℕ) (p : ReaderProxy) (to : ℕ)
     → IsOnly w.readers e n p
     → rtps_owed_from (state_of (acknowledging w e to) answered) n ≡ owed_from (acknowledging w e to) e
 owed_same w answered e n p to only =

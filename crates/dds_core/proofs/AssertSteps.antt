@@ -17,44 +17,51 @@ use Rattle.dds_machine.specs.Numbered.{has_element}
 use Rattle.dds_conditions.specs.NoFilters.{no_filters}
 use Rattle.dds_machine.specs.Part.{Writer, heartbeats_used, own_writer}
 use Rattle.dds_protocol.specs.Peer.{Peer}
+use Rattle.dds_protocol.specs.Contact.{Contact}
 use Rattle.dds_protocol.specs.DueMessages.{Due, AreSent, assertions_due, heartbeats_for}
 use Rattle.dds_protocol.proofs.DuesAssertions.{assertions_true}
 use Rattle.dds_core.specs.Beating.{HasNoCount, TellsOf, assertions_of}
 use Rattle.dds_core.specs.Kept.{WriterKept, PeerKept}
 use Rattle.dds_core.specs.Standing.{StandsFor}
 use Rattle.dds_core.specs.Stepping.{Enters}
+use Rattle.dds_core.proofs.Begins.{EndsAlike, ends_alike}
 use Rattle.dds_core.proofs.BeatsDue.{IsNamed, all_named, named, named_reader, part_of, sent_are_due, sent_true}
 use Rattle.dds_core.proofs.CallSteps.{Follows, answered_as, number_is, refused_as, refused_call, there_is}
 use Rattle.dds_core.proofs.Ends.{with_writer, entered_at, own_writer_stepped, unchanged_with}
+use Rattle.dds_core.proofs.MatchedAt.{named_there}
 use Rattle.dds_core.proofs.Taking.{silent}
 use Rattle.dds_core.proofs.Tellable.{tellable_entered}
 
 -- what tells an assertion, by the configuration
 pub assertions_are : (config : Config) (peer : ℕ) (prefix : GuidPrefix) (number : ℕ) (k : WriterKept) (w : Writer)
-    → IsNamed config peer prefix number k w
-    → assertions_of prefix k w ≡ assertions_due config (record { peer = peer; number = number }) w
-assertions_are config peer prefix number k w is =
-    sent_are_due config true peer prefix number k.entity w k.matched k.destinations is.own is.entity
+    (answered : Endpoint → Contact) → IsNamed config peer prefix number k w → EndsAlike k w answered
+    → assertions_of prefix k w answered ≡ assertions_due config answered (record { peer = peer; number = number }) w
+assertions_are config peer prefix number k w answered is alike =
+    sent_are_due config true peer prefix number k.entity w answered k.matched k.destinations is.own is.entity
     (λ j n at. named_reader config is.topic n (is.ends.readers j n at))
+    (λ j n at. alike n.reader (λ none. named_there k.matched j n n.reader at refl))
     is.ends.sent_to (all_named config is.topic k.matched k.destinations k.readers is.ends)
-    ∙ ap (λ (es : List Endpoint). heartbeats_for config true true peer number w es) (sym is.matched)
+    ∙ ap (λ (es : List Endpoint). heartbeats_for config true true peer number answered w es) (sym is.matched)
 
 -- the peer's writer of this index, and what is told of it
 told_at : (kept : PeerKept) (i : ℕ) (k : WriterKept) (config : Config) (peer : Peer)
     → (s : StandsFor kept config peer) → slice_get kept.writers i ≡ Some k
     → (packets : List Packet) (unsent : ℕ) → TellsOf kept.prefix k packets unsent
     → (nat_le (2 ^ 31 - 1) (heartbeats_used (own_writer peer.part (suc i))) ≡ false)
-    × AreSent (assertions_due config (record { peer = peer.number; number = suc i }) (own_writer peer.part (suc i)))
-    packets unsent
+    × AreSent (assertions_due config (peer.known.answered (suc i)) (record { peer = peer.number; number = suc i })
+    (own_writer peer.part (suc i))) packets unsent
 told_at kept i k config peer s at packets unsent tells =
     let w : Writer = own_writer peer.part (suc i) in
-    let told = tells w (peer.known.answered (suc i)) (s.writers.each i k at) in
+    let answered : Endpoint → Contact = peer.known.answered (suc i) in
+    let stands = s.writers.each i k at in
+    let told = tells w answered stands in
     let next : 1 + i ≡ suc i = omega arith in
     let is : IsNamed config peer.number kept.prefix (suc i) k w =
     subst (λ (n : ℕ). IsNamed config peer.number kept.prefix n k w) next (named config peer kept s i k at) in (
       told.0,
       subst (λ (dues : List Due). AreSent dues packets unsent)
-          (assertions_are config peer.number kept.prefix (suc i) k w is) told.1,
+          (assertions_are config peer.number kept.prefix (suc i) k w answered is (ends_alike k w answered stands))
+          told.1,
     )
 
 asserts : (kept : PeerKept) (i : ℕ) (k k' : WriterKept) (config : Config) (peer : Peer)
@@ -79,8 +86,8 @@ asserts kept i k k' config peer s at lt enters packets unsent tells =
     let step : CallStep no_filters peer.part (call.AssertLiveliness (suc i)) Done after.part =
     record { answers = answered_as _ Done peer.part.dds peer.part Done accepted refl; rtps = refl } in
     let truthful =
-    assertions_true config no_filters peer.number (suc i) peer.part after.part s.is_peer.checked
-    (part_of config peer kept s) step in (
+    assertions_true config no_filters (peer.known.answered (suc i)) peer.number (suc i) peer.part after.part
+    s.is_peer.checked (part_of config peer kept s) step in (
       after,
       record {
         same_number = refl;
@@ -88,7 +95,8 @@ asserts kept i k k' config peer s at lt enters packets unsent tells =
         step = (step, refl);
         sent =
             sent_true config peer.number after.part
-            (assertions_due config (record { peer = peer.number; number = suc i }) w) packets unsent truthful told.1;
+            (assertions_due config (peer.known.answered (suc i)) (record { peer = peer.number; number = suc i }) w)
+            packets unsent truthful told.1;
       },
       own_writer_stepped kept i k k' (Asserted now) config peer s at entered
           (tellable_entered peer (suc i) (Asserted now) s.tellable tt),
@@ -109,11 +117,12 @@ asserts_at kept writer i k k' config peer s is at lt enters packets unsent tells
 pub asserts_sends : (kept : PeerKept) (writer i : ℕ) (k : WriterKept) (config : Config) (peer : Peer)
     → StandsFor kept config peer → writer ≡ i + 1 → slice_get kept.writers i ≡ Some k
     → (packets : List Packet) (unsent : ℕ) → TellsOf kept.prefix k packets unsent
-    → AreSent (assertions_due config (record { peer = peer.number; number = writer }) (own_writer peer.part writer))
-    packets unsent
+    → AreSent (assertions_due config (peer.known.answered writer) (record { peer = peer.number; number = writer })
+    (own_writer peer.part writer)) packets unsent
 asserts_sends kept writer i k config peer s is at packets unsent tells =
     subst (λ (n : ℕ). AreSent
-    (assertions_due config (record { peer = peer.number; number = n }) (own_writer peer.part n)) packets unsent)
+    (assertions_due config (peer.known.answered n) (record { peer = peer.number; number = n }) (own_writer peer.part n))
+    packets unsent)
     (number_is writer i is) (told_at kept i k config peer s at packets unsent tells).1
 
 -- where its counts are used up, nothing happens

@@ -1,6 +1,6 @@
 -- What tells an assertion of a writer is what is due for it.
-use Rattle.std.proofs.Common.{◌≡◌, ℕ, suc, ◌+◌, ◌-◌, ◌^◌, ◌<◌, Bool, true, false, List, [], ◌∷◌, ◌++◌, Option, Some, None, map, take, length, get_or, refl, ap, sym, ◌∙◌, subst, arith, length-append}
-use Rattle.std.specs.Prelude.{ℤ, pos, nat_le, nat_lt, if◌then◌else◌}
+use Rattle.std.proofs.Common.{◌≡◌, ℕ, suc, ◌+◌, ◌-◌, ◌^◌, ◌<◌, Bool, true, false, List, [], ◌∷◌, ◌++◌, Some, None, map, take, length, get_or, refl, ap, sym, ◌∙◌, subst, arith, length-append}
+use Rattle.std.specs.Prelude.{pos, nat_le, nat_lt, if◌then◌else◌}
 use Rattle.std.proofs.lemmas.Bool.Decides.{nat_tests}
 use Rattle.std.proofs.lemmas.List.{take_more, map-append}
 use Rattle.std.proofs.lemmas.Option.{same_Some}
@@ -17,6 +17,7 @@ use Rattle.dds_base.specs.declared.endpoint.Endpoint.{Endpoint}
 use Rattle.dds_protocol.specs.declared.event.Packet.{Packet}
 use Rattle.dds_machine.specs.Part.{Writer, heartbeats_used}
 use Rattle.dds_protocol.specs.DueMessages.{Due, AreSent}
+use Rattle.dds_protocol.specs.Contact.{Contact}
 use Rattle.dds_core.specs.declared.matching.Destination.{Destination}
 use Rattle.dds_core.specs.Beating.{Adds, IsDueOf, assertions_of, beat_of, beats_message}
 use Rattle.dds_core.specs.Kept.{WriterKept}
@@ -52,20 +53,20 @@ none_told true due is = absurd cc
 none_told false due is = refl
 
 -- what is due says so
-pub told_is : (w : Writer) (answered : Endpoint → Option ℤ) (is_matched : Bool) (now : ℕ) (due : HeartbeatDue)
+pub told_is : (w : Writer) (answered : Endpoint → Contact) (is_matched : Bool) (now : ℕ) (due : HeartbeatDue)
     → heartbeat_asserted (state_of w answered) is_matched now ≡ Some due → due ≡ due_by w (heartbeats_used w + 1)
 told_is w answered is_matched now due is = some_told is_matched (counts_of w.written) (due_by w) due is
 
 -- the HEARTBEATs that are sent are those of the writer
-pub told_are : (prefix : GuidPrefix) (kept : WriterKept) (w : Writer) (answered : Endpoint → Option ℤ)
+pub told_are : (prefix : GuidPrefix) (kept : WriterKept) (w : Writer) (answered : Endpoint → Contact)
     (is_matched : Bool) (now : ℕ) (due : HeartbeatDue)
     → heartbeat_asserted (state_of w answered) is_matched now ≡ Some due
-    → map (beats_message (record { prefix = prefix; entity = kept.entity; due = due; asserts = true }) w kept.matched)
-    kept.destinations ≡ assertions_of prefix kept w
+    → map (beats_message (record { prefix = prefix; entity = kept.entity; due = due; asserts = true }) w answered
+    kept.matched) kept.destinations ≡ assertions_of prefix kept w answered
 told_are prefix kept w answered is_matched now due is =
     let d = told_is w answered is_matched now due is in
     ap (λ (x : HeartbeatDue). map
-    (beats_message (record { prefix = prefix; entity = kept.entity; due = x; asserts = true }) w kept.matched)
+    (beats_message (record { prefix = prefix; entity = kept.entity; due = x; asserts = true }) w answered kept.matched)
     kept.destinations) d
 
 -- where nobody is counted, nobody is sent to
@@ -76,13 +77,13 @@ nowhere (d ∷ ds) n is none = absurd (some n is none)
     some : (n : ℕ) → n ≡ suc (length ds) → nat_lt 0 n ≡ false → ⊥
     some n is none = grind (arith, nat_tests)
 
-pub told_none : (prefix : GuidPrefix) (kept : WriterKept) (w : Writer) (answered : Endpoint → Option ℤ)
+pub told_none : (prefix : GuidPrefix) (kept : WriterKept) (w : Writer) (answered : Endpoint → Contact)
     (is_matched : Bool) (now : ℕ) → (is_matched ≡ false → kept.destinations ≡ [])
-    → heartbeat_asserted (state_of w answered) is_matched now ≡ None → [] ≡ assertions_of prefix kept w
+    → heartbeat_asserted (state_of w answered) is_matched now ≡ None → [] ≡ assertions_of prefix kept w answered
 told_none prefix kept w answered is_matched now nowhere is =
     let nobody = none_told is_matched (due_by w (length (counts_of w.written ++ true ∷ []))) is in
     sym (ap (λ (ds : List Destination). map
-    (beats_message (beat_of prefix kept.entity true w) w kept.matched) ds) (nowhere nobody))
+    (beats_message (beat_of prefix kept.entity true w) w answered kept.matched) ds) (nowhere nobody))
 
 -- one that is due for an assertion is of the writer after it
 pub due_told : (kept : Kept) (s : WriterState) (is_matched : Bool) (now : ℕ) (due : HeartbeatDue)
@@ -110,12 +111,12 @@ used_if : (b : Bool) (code : Code) → (if b then Some OutOfResources else None)
 used_if true code is = (sym (same_Some OutOfResources code is), refl)
 used_if false code is = absurd cc
 
-pub count_left : (w : Writer) (answered : Endpoint → Option ℤ) → assert_refusal (state_of w answered) ≡ None
+pub count_left : (w : Writer) (answered : Endpoint → Contact) → assert_refusal (state_of w answered) ≡ None
     → nat_le (2 ^ 31 - 1) (heartbeats_used w) ≡ false
 count_left w answered is =
     left_if (nat_le (2 ^ 31 - 1) (counts_due (state_of w answered))) is
 
-pub count_used : (w : Writer) (answered : Endpoint → Option ℤ) (code : Code)
+pub count_used : (w : Writer) (answered : Endpoint → Contact) (code : Code)
     → assert_refusal (state_of w answered) ≡ Some code
     → (code ≡ OutOfResources) × (nat_le (2 ^ 31 - 1) (heartbeats_used w) ≡ true)
 count_used w answered code is =

@@ -1,6 +1,6 @@
 -- What a peer sends at a tick is what is due, and it is true.
 use Rattle.std.proofs.Common.{◌≡◌, ℕ, zero, suc, ◌+◌, ◌-◌, ◌^◌, ◌==◌, Bool, true, false, List, [], ◌∷◌, ◌++◌, Option, Some, None, map, length, get_or, slice_get, refl, ap, sym, ◌∙◌, subst, arith, inl, inr, ⊎_elim, Contains}
-use Rattle.std.specs.Prelude.{nat_le, nat_lt, if◌then◌else◌}
+use Rattle.std.specs.Prelude.{nat_lt, if◌then◌else◌}
 use Rattle.std.specs.Option.{option_map_or}
 use Rattle.std.proofs.lemmas.List.{length-map}
 use Rattle.dds_base.specs.declared.config.Config.{Config}
@@ -22,7 +22,8 @@ use Rattle.dds_protocol.specs.Claims.{Claim, Claims, every_reader}
 use Rattle.dds_protocol.specs.Dues.{IsPartOf, AreTruthful}
 use Rattle.dds_machine.specs.Part.{Part, ReaderProxy, Writer, no_writer, own_writer, acknowledged_of, history_of, peers_of, writer_changes, NoLess}
 use Rattle.dds_protocol.specs.Peer.{Peer, IsTrueAt}
-use Rattle.dds_protocol.specs.DueMessages.{Due, AreSent, writer_entity, begins_at, heartbeat_from, heartbeats_due, heartbeats_for, heartbeats_from, heartbeats_of, heartbeats_to, is_one_for_all, reader_entity}
+use Rattle.dds_protocol.specs.DueMessages.{Due, AreSent, writer_entity, begins_at, ends_at, heartbeat_from, heartbeats_due, heartbeats_for, heartbeats_from, heartbeats_of, heartbeats_to, is_one_for_all, is_told, reader_entity, was_asked}
+use Rattle.dds_protocol.specs.Contact.{Contact}
 use Rattle.dds_protocol.specs.Receipt.{prefix_of}
 use Rattle.dds_protocol.proofs.DuesGrowth.{true_on}
 use Rattle.dds_protocol.proofs.DuesHeartbeats.{heartbeats_truthful}
@@ -32,14 +33,16 @@ use Rattle.dds_machine.proofs.Tables.{no_less_same}
 use Rattle.dds_core.specs.declared.heartbeat.Beat.{Beat}
 use Rattle.dds_core.specs.declared.matching.Destination.{Destination}
 use Rattle.dds_core.specs.declared.matching.ReaderName.{ReaderName}
-use Rattle.dds_core.specs.Beating.{BeatsOfAll, beat_of, beats_at, beats_message, beats_of, beats_of_all, due_to, names_behind, peers_behind}
+use Rattle.dds_core.specs.Beating.{BeatsOfAll, beat_of, beats_at, beats_message, beats_of, beats_of_all, due_to, ends_for, names_told, peers_told}
 use Rattle.dds_core.specs.Kept.{WriterKept, PeerKept}
 use Rattle.dds_core.specs.Identity.{WriterIdentity, writer_identity}
-use Rattle.dds_core.specs.MatchedEnds.{AreMatchedNow, IsNameOf, IsReliableName, readers_of}
+use Rattle.dds_core.specs.MatchedEnds.{AreMatchedNow, IsNameOf, IsReliableName, is_named, readers_of}
 use Rattle.dds_core.specs.Standing.{StandsFor}
 use Rattle.dds_core.proofs.Names.{configured}
+use Rattle.dds_core.proofs.Begins.{EndsAlike, ends_alike}
 use Rattle.dds_core.proofs.FirstPeers.{first_peers_are, map-filter_by, peer_from}
-use Rattle.dds_core.proofs.PeersBehind.{names_are}
+use Rattle.dds_core.proofs.MatchedAt.{named_there}
+use Rattle.dds_core.proofs.PeersTold.{names_are}
 use Rattle.dds_core.proofs.Sent.{contains_cases}
 use Rattle.dds_core.proofs.Taking.{numbered_prefix, prefix_is}
 
@@ -76,32 +79,31 @@ unfolding AreNamed
 named_each config [] each = tt
 named_each config (d ∷ ds) each = (each zero d refl, named_each config ds (λ k e at. each (suc k) e at))
 
--- those of a writer's readers that are behind are so
-name_behind : (last : ℕ) (rows : List ReaderProxy) (names : List ReaderName) (k : ℕ) (n : ReaderName)
-    → slice_get (names_behind last rows names) k ≡ Some n → (j : ℕ) × (slice_get names j ≡ Some n)
-name_behind last [] names k n at = absurd cc
-name_behind last (p ∷ ps) [] k n at = absurd cc
-name_behind last (p ∷ ps) (m ∷ ms) k n at =
-    by (nat_le p.acknowledged last) k at (λ i h. name_behind last ps ms i n h)
+-- those of a writer's readers that are told are so
+name_told : (told : ReaderProxy → Bool) (rows : List ReaderProxy) (names : List ReaderName) (k : ℕ) (n : ReaderName)
+    → slice_get (names_told told rows names) k ≡ Some n → (j : ℕ) × (slice_get names j ≡ Some n)
+name_told told [] names k n at = absurd cc
+name_told told (p ∷ ps) [] k n at = absurd cc
+name_told told (p ∷ ps) (m ∷ ms) k n at = by (told p) k at (λ i h. name_told told ps ms i n h)
   where
     more : (j : ℕ) × (slice_get ms j ≡ Some n) → (j : ℕ) × (slice_get (m ∷ ms) j ≡ Some n)
     more f = (suc f.0, f.1)
 
-    by : (b : Bool) (i : ℕ) → slice_get (if b then m ∷ names_behind last ps ms else names_behind last ps ms) i ≡ Some n
-        → ((i : ℕ) → slice_get (names_behind last ps ms) i ≡ Some n → (j : ℕ) × (slice_get ms j ≡ Some n))
+    by : (b : Bool) (i : ℕ) → slice_get (if b then m ∷ names_told told ps ms else names_told told ps ms) i ≡ Some n
+        → ((i : ℕ) → slice_get (names_told told ps ms) i ≡ Some n → (j : ℕ) × (slice_get ms j ≡ Some n))
         → (j : ℕ) × (slice_get (m ∷ ms) j ≡ Some n)
     by true zero h later = (zero, h)
     by true (suc i) h later = more (later i h)
     by false i h later = more (later i h)
 
-named_behind : (config : Config) (last : ℕ) (rows : List ReaderProxy) (names : List ReaderName)
+named_told : (config : Config) (told : ReaderProxy → Bool) (rows : List ReaderProxy) (names : List ReaderName)
     → ((k : ℕ) (n : ReaderName) → slice_get names k ≡ Some n → prefix_of config n.reader.peer ≡ n.guid.prefix)
-    → AreNamed config (peers_behind last rows names)
-named_behind config last rows names each =
-    named_each config (peers_behind last rows names)
+    → AreNamed config (peers_told told rows names)
+named_told config told rows names each =
+    named_each config (peers_told told rows names)
     (λ k d at.
-    let f = peer_from (names_behind last rows names) k d at in
-    let g = name_behind last rows names f.0 f.1 f.2 in
+    let f = peer_from (names_told told rows names) k d at in
+    let g = name_told told rows names f.0 f.1 f.2 in
     subst (λ (x : Destination). prefix_of config x.peer ≡ x.prefix) f.3 (each g.0 f.1 g.1))
 
 pub by_number : (config : Config) (message : ℕ → GuidPrefix → Message) (ds : List Destination) → AreNamed config ds
@@ -118,6 +120,11 @@ by_number config message (d ∷ ds) h =
 abbrev pub AreReaders : Config → List ReaderName → Type 0
 AreReaders config names = (k : ℕ) (n : ReaderName) → slice_get names k ≡ Some n
     → n.guid.entity ≡ reader_entity config n.reader.peer n.reader.number
+
+-- where the HEARTBEATs to these readers end
+abbrev pub HaveEnds : Writer → (Endpoint → Contact) → List ReaderName → Type 0
+HaveEnds w answered names = (k : ℕ) (n : ReaderName) → slice_get names k ≡ Some n
+    → ends_for answered w n.reader ≡ ends_at answered w n.reader
 
 pub named_reader : (config : Config) (topic : ℕ) (n : ReaderName) → IsNameOf config.peers topic n
     → n.guid.entity ≡ reader_entity config n.reader.peer n.reader.number
@@ -173,98 +180,118 @@ sends_to config peer prefix number k w is =
     ap (λ (es : List Endpoint). peers_of es) is.matched ∙ is.ends.sent_to
 
 -- a writer's HEARTBEATs to those of the readers of these names that are at a peer are those by the configuration
-heartbeats_are : (config : Config) (asserts : Bool) (peer number : ℕ) (w : Writer) (names : List ReaderName) (to : ℕ)
-    → AreReaders config names
-    → beats_at (beat_of (prefix_of config peer) (writer_entity config peer number) asserts w) w names to
-    ≡ heartbeats_to config asserts asserts peer number w (readers_of names) to
-heartbeats_are config asserts peer number w names to readers =
+heartbeats_are : (config : Config) (asserts : Bool) (peer number : ℕ) (w : Writer) (answered : Endpoint → Contact)
+    (names : List ReaderName) (to : ℕ) → AreReaders config names → HaveEnds w answered names
+    → beats_at (beat_of (prefix_of config peer) (writer_entity config peer number) asserts w) w answered names to
+    ≡ heartbeats_to config asserts asserts peer number answered w (readers_of names) to
+heartbeats_are config asserts peer number w answered names to readers ends =
     let writer : EntityId = writer_entity config peer number in
-    ap (λ (ss : List Submessage). if is_one_for_all w to
-    then heartbeat_from asserts asserts every_reader writer (first_kept (history_of w)) w ∷ []
+    let beat : EntityId → Endpoint → ℕ → Submessage =
+    λ e r last. heartbeat_from asserts asserts e writer (begins_at w r) last w in
+    ap (λ (ss : List Submessage). if is_one_for_all answered w to
+    then heartbeat_from asserts asserts every_reader writer (first_kept (history_of w)) (length (writer_changes w)) w
+    ∷ []
     else ss)
     (map-filter_by (λ (n : ReaderName). n.reader) (λ (r : Endpoint). r.peer == to)
-    (λ (n : ReaderName). heartbeat_from asserts asserts n.guid.entity writer (begins_at w n.reader) w)
-    (λ (r : Endpoint). heartbeat_from asserts asserts (reader_entity config r.peer r.number) writer (begins_at w r) w)
-    names
-    (λ k n at. ap (λ (e : EntityId). heartbeat_from asserts asserts e writer (begins_at w n.reader) w) (readers k n at)))
+    (λ (n : ReaderName). beat n.guid.entity n.reader (ends_for answered w n.reader))
+    (λ (r : Endpoint). beat (reader_entity config r.peer r.number) r (ends_at answered w r)) names
+    (λ k n at. ap (λ (e : EntityId). beat e n.reader (ends_for answered w n.reader)) (readers k n at)
+    ∙ ap (λ (last : ℕ). beat (reader_entity config n.reader.peer n.reader.number) n.reader last) (ends k n at)))
 
 -- so are the messages with them
-messages_are : (config : Config) (asserts : Bool) (peer number : ℕ) (w : Writer) (names : List ReaderName)
-    (ds : List Destination) → AreReaders config names
-    → map (beats_message (beat_of (prefix_of config peer) (writer_entity config peer number) asserts w) w names) ds
+messages_are : (config : Config) (asserts : Bool) (peer number : ℕ) (w : Writer) (answered : Endpoint → Contact)
+    (names : List ReaderName) (ds : List Destination) → AreReaders config names → HaveEnds w answered names
+    → map (beats_message (beat_of (prefix_of config peer) (writer_entity config peer number) asserts w) w answered
+    names) ds
     ≡ map (λ (d : Destination). due_to d.peer (record {
       prefix = prefix_of config peer;
       submessages = InfoDst d.prefix
-          ∷ heartbeats_to config asserts asserts peer number w (readers_of names) d.peer;
+          ∷ heartbeats_to config asserts asserts peer number answered w (readers_of names) d.peer;
     })) ds
-messages_are config asserts peer number w names [] readers = refl
-messages_are config asserts peer number w names (d ∷ ds) readers =
+messages_are config asserts peer number w answered names [] readers ends = refl
+messages_are config asserts peer number w answered names (d ∷ ds) readers ends =
     let beat : Beat = beat_of (prefix_of config peer) (writer_entity config peer number) asserts w in
     ap (λ (ss : List Submessage). due_to d.peer
     (record { prefix = prefix_of config peer; submessages = InfoDst d.prefix ∷ ss })
-    ∷ map (beats_message beat w names) ds)
-    (heartbeats_are config asserts peer number w names d.peer readers)
+    ∷ map (beats_message beat w answered names) ds)
+    (heartbeats_are config asserts peer number w answered names d.peer readers ends)
     ∙ ap (λ (dues : List Due). due_to d.peer (record {
       prefix = prefix_of config peer;
-      submessages = InfoDst d.prefix ∷ heartbeats_to config asserts asserts peer number w (readers_of names) d.peer;
+      submessages =
+          InfoDst d.prefix ∷ heartbeats_to config asserts asserts peer number answered w (readers_of names) d.peer;
     }) ∷ dues)
-    (messages_are config asserts peer number w names ds readers)
+    (messages_are config asserts peer number w answered names ds readers ends)
 
 -- what is sent to readers of these names, of a writer of that entity id, is what is due to these readers
 pub sent_are_due : (config : Config) (asserts : Bool) (peer : ℕ) (prefix : GuidPrefix) (number : ℕ) (entity : EntityId)
-    (w : Writer) (names : List ReaderName) (ds : List Destination) → prefix_of config peer ≡ prefix
-    → writer_entity config peer number ≡ entity → AreReaders config names
-    → peers_of (readers_of names) ≡ map (λ (d : Destination). d.peer) ds → AreNamed config ds
-    → map (beats_message (beat_of prefix entity asserts w) w names) ds
-    ≡ heartbeats_for config asserts asserts peer number w (readers_of names)
-sent_are_due config asserts peer prefix number entity w names ds own writer readers peers named =
+    (w : Writer) (answered : Endpoint → Contact) (names : List ReaderName) (ds : List Destination)
+    → prefix_of config peer ≡ prefix → writer_entity config peer number ≡ entity → AreReaders config names
+    → HaveEnds w answered names → peers_of (readers_of names) ≡ map (λ (d : Destination). d.peer) ds
+    → AreNamed config ds
+    → map (beats_message (beat_of prefix entity asserts w) w answered names) ds
+    ≡ heartbeats_for config asserts asserts peer number answered w (readers_of names)
+sent_are_due config asserts peer prefix number entity w answered names ds own writer readers ends peers named =
     let message : ℕ → GuidPrefix → Message = λ to p. record {
       prefix = prefix_of config peer;
-      submessages = InfoDst p ∷ heartbeats_to config asserts asserts peer number w (readers_of names) to;
+      submessages = InfoDst p ∷ heartbeats_to config asserts asserts peer number answered w (readers_of names) to;
     } in
-    sym (ap (λ (p : GuidPrefix). map (beats_message (beat_of p (writer_entity config peer number) asserts w) w names) ds)
-    own
-    ∙ ap (λ (e : EntityId). map (beats_message (beat_of prefix e asserts w) w names) ds) writer)
-    ∙ (messages_are config asserts peer number w names ds readers
+    sym (ap (λ (p : GuidPrefix). map
+    (beats_message (beat_of p (writer_entity config peer number) asserts w) w answered names) ds) own
+    ∙ ap (λ (e : EntityId). map (beats_message (beat_of prefix e asserts w) w answered names) ds) writer)
+    ∙ (messages_are config asserts peer number w answered names ds readers ends
     ∙ sym (ap (λ (ns : List ℕ). map (λ (to : ℕ). due_to to (message to (prefix_of config to))) ns) peers
     ∙ by_number config message ds named))
 
-beats_due_of : (config : Config) (peer : ℕ) (prefix : GuidPrefix) (number : ℕ) (k : WriterKept) (w : Writer)
-    → IsNamed config peer prefix number k w → beats_of prefix k w ≡ heartbeats_of config peer number w
-beats_due_of config peer prefix number k w is =
-    let last : ℕ = length (writer_changes w) in
-    let names : List ReaderName = names_behind last w.readers k.readers in
+beats_due_of : (config : Config) (contacts : ℕ → Endpoint → Contact) (peer : ℕ) (prefix : GuidPrefix) (number : ℕ)
+    (k : WriterKept) (w : Writer) → IsNamed config peer prefix number k w → EndsAlike k w (contacts number)
+    → beats_of prefix k w (contacts number) ≡ heartbeats_of config contacts peer number w
+beats_due_of config contacts peer prefix number k w is alike =
+    let told : ReaderProxy → Bool = is_told (contacts number) w in
+    let names : List ReaderName = names_told told w.readers k.readers in
     let readers : AreReaders config names = λ j n at.
-    let f = name_behind last w.readers k.readers j n at in
+    let f = name_told told w.readers k.readers j n at in
     named_reader config is.topic n (is.ends.named f.0 n f.1).name_is in
-    let named : AreNamed config (peers_behind last w.readers k.readers) =
-    named_behind config last w.readers k.readers
+    let ends : HaveEnds w (contacts number) names = λ j n at.
+    let f = name_told told w.readers k.readers j n at in
+    alike n.reader (λ none. absurd (both (is_named k.readers n.reader) none
+    (named_there k.readers f.0 n n.reader f.1 refl))) in
+    let named : AreNamed config (peers_told told w.readers k.readers) =
+    named_told config told w.readers k.readers
     (λ j n at.
     let name = (is.ends.named j n at).name_is in
     numbered_prefix config.peers n.reader.peer name.is.peer name.is.at_peer ∙ name.same_prefix) in
     ap (λ (dues : List Due). if nat_lt (length (counts_of w.written)) (2 ^ 31 - 1) then dues else [])
-    (sent_are_due config false peer prefix number k.entity w names (peers_behind last w.readers k.readers) is.own is.entity
-    readers (first_peers_are names) named
-    ∙ ap (λ (rs : List Endpoint). heartbeats_for config false false peer number w rs)
-    (names_are last w.readers k.readers is.readers))
+    (sent_are_due config false peer prefix number k.entity w (contacts number) names
+    (peers_told told w.readers k.readers) is.own is.entity readers ends (first_peers_are names) named
+    ∙ ap (λ (rs : List Endpoint). heartbeats_for config false false peer number (contacts number) w rs)
+    (names_are told w.readers k.readers is.readers))
+  where
+    both : (b : Bool) → b ≡ false → b ≡ true → ⊥
+    both true f g = absurd cc
+    both false f g = absurd cc
 
-beats_due_from : (config : Config) (peer : ℕ) (prefix : GuidPrefix) (n : ℕ) (ks : List WriterKept) (ws : List Writer)
-    → length ws ≡ length ks
+-- the writer of this number, and where its HEARTBEATs end
+abbrev IsBeating : Config → ℕ → GuidPrefix → (ℕ → Endpoint → Contact) → ℕ → WriterKept → Writer → Type 0
+IsBeating config peer prefix contacts number k w =
+    IsNamed config peer prefix number k w × EndsAlike k w (contacts number)
+
+beats_due_from : (config : Config) (contacts : ℕ → Endpoint → Contact) (peer : ℕ) (prefix : GuidPrefix) (n : ℕ)
+    (ks : List WriterKept) (ws : List Writer) → length ws ≡ length ks
     → ((j : ℕ) (k : WriterKept) → slice_get ks j ≡ Some k
-    → IsNamed config peer prefix (n + j) k (get_or ws j no_writer))
-    → beats_of_all prefix ks ws ≡ heartbeats_from config peer n ws
-beats_due_from config peer prefix n [] [] count each = refl
-beats_due_from config peer prefix n [] (w ∷ ws) count each = absurd (omega (arith, count))
-beats_due_from config peer prefix n (k ∷ ks) [] count each = absurd (omega (arith, count))
-beats_due_from config peer prefix n (k ∷ ks) (w ∷ ws) count each =
+    → IsBeating config peer prefix contacts (n + j) k (get_or ws j no_writer))
+    → beats_of_all prefix contacts n ks ws ≡ heartbeats_from config contacts peer n ws
+beats_due_from config contacts peer prefix n [] [] count each = refl
+beats_due_from config contacts peer prefix n [] (w ∷ ws) count each = absurd (omega (arith, count))
+beats_due_from config contacts peer prefix n (k ∷ ks) [] count each = absurd (omega (arith, count))
+beats_due_from config contacts peer prefix n (k ∷ ks) (w ∷ ws) count each =
     let first : n + 0 ≡ n = omega arith in
-    ap (λ (dues : List Due). dues ++ beats_of_all prefix ks ws)
-    (beats_due_of config peer prefix n k w
-    (subst (λ (m : ℕ). IsNamed config peer prefix m k w) first (each zero k refl)))
-    ∙ ap (λ (dues : List Due). heartbeats_of config peer n w ++ dues)
-    (beats_due_from config peer prefix (n + 1) ks ws (omega (arith, count))
+    let is = subst (λ (m : ℕ). IsBeating config peer prefix contacts m k w) first (each zero k refl) in
+    ap (λ (dues : List Due). dues ++ beats_of_all prefix contacts (n + 1) ks ws)
+    (beats_due_of config contacts peer prefix n k w is.0 is.1)
+    ∙ ap (λ (dues : List Due). heartbeats_of config contacts peer n w ++ dues)
+    (beats_due_from config contacts peer prefix (n + 1) ks ws (omega (arith, count))
     (λ j x at. let next : n + suc j ≡ n + 1 + j = omega arith in subst
-    (λ (m : ℕ). IsNamed config peer prefix m x (get_or ws j no_writer)) next (each (suc j) x at)))
+    (λ (m : ℕ). IsBeating config peer prefix contacts m x (get_or ws j no_writer)) next (each (suc j) x at)))
 
 -- ---- what is due of a peer
 
@@ -302,16 +329,29 @@ pub readers_named : (config : Config) (peer : Peer) (kept : PeerKept) → Stands
 readers_named config peer kept s j k at =
     let c = configured config peer.number kept s.is_peer j k at in (c.end.topic, c.is.ends.named)
 
+-- where the HEARTBEATs of a writer end
+pub ends_of : (config : Config) (peer : Peer) (kept : PeerKept) → StandsFor kept config peer → (j : ℕ) (k : WriterKept)
+    → slice_get kept.writers j ≡ Some k
+    → EndsAlike k (get_or peer.part.rtps.writers j no_writer) (peer.known.answered (1 + j))
+ends_of config peer kept s j k at =
+    let number : suc j ≡ 1 + j = omega arith in
+    subst (λ (n : ℕ). EndsAlike k (get_or peer.part.rtps.writers j no_writer) (peer.known.answered n)) number
+    (ends_alike k (get_or peer.part.rtps.writers j no_writer) (peer.known.answered (suc j)) (s.writers.each j k at))
+
 beats_due : (config : Config) (peer : Peer) (kept : PeerKept) → StandsFor kept config peer
-    → beats_of_all kept.prefix kept.writers peer.part.rtps.writers ≡ heartbeats_due config peer.number peer.part
+    → beats_of_all kept.prefix peer.known.answered 1 kept.writers peer.part.rtps.writers
+    ≡ heartbeats_due config peer.known.answered peer.number peer.part
 beats_due config peer kept s =
-    beats_due_from config peer.number kept.prefix 1 kept.writers peer.part.rtps.writers s.writers.count
-    (named config peer kept s)
+    beats_due_from config peer.known.answered peer.number kept.prefix 1 kept.writers peer.part.rtps.writers
+    s.writers.count (λ j k at. (
+      named config peer kept s j k at,
+      ends_of config peer kept s j k at,
+    ))
 
 -- what a peer sends at a tick is what is due
 pub due_sent : (config : Config) (peer : Peer) (kept : PeerKept) (packets : List Packet) (unsent : ℕ)
     → StandsFor kept config peer → BeatsOfAll kept.prefix kept.writers packets unsent
-    → AreSent (heartbeats_due config peer.number peer.part) packets unsent
+    → AreSent (heartbeats_due config peer.known.answered peer.number peer.part) packets unsent
 due_sent config peer kept packets unsent s beats =
     subst (λ (dues : List Due). AreSent dues packets unsent) (beats_due config peer kept s)
     (beats peer.part.rtps.writers peer.known.answered s.writers)
@@ -332,14 +372,15 @@ pub due_true : (config : Config) (peer : Peer) (kept : PeerKept) (now : ℕ) (pa
     → StandsFor kept config peer → tick_refusal peer.part now ≡ None
     → BeatsOfAll kept.prefix kept.writers packets unsent
     → (packet : Packet) (claim : Claim) → Contains packets packet → Claims config packet.bytes claim
-    → IsTrueAt peer.number (after_tick peer.part now) claim
+    → IsTrueAt peer.number (after_tick (was_asked peer.known.answered peer.part) peer.part now) claim
 due_true config peer kept now packets unsent s accepted beats packet claim among says =
     let old = peer.part in
-    let new = after_tick old now in
-    let step : TickStep old now Done new = (accepted, refl) in
-    let truthful = heartbeats_truthful config peer.number old s.is_peer.checked (part_of config peer kept s) in
+    let contacts : ℕ → Endpoint → Contact = peer.known.answered in
+    let new = after_tick (was_asked contacts old) old now in
+    let step : TickStep old now Done new = (was_asked contacts old, (accepted, refl)) in
+    let truthful = heartbeats_truthful config contacts peer.number old s.is_peer.checked (part_of config peer kept s) in
     let before =
-    sent_true config peer.number old (heartbeats_due config peer.number old) packets unsent truthful
+    sent_true config peer.number old (heartbeats_due config contacts peer.number old) packets unsent truthful
     (due_sent config peer kept packets unsent s beats) packet claim among says in
     true_on peer.number old new (TickStep-grows old now Done new step)
     (λ w r. subst (λ (rows : List ReaderProxy). NoLess (acknowledged_of (own_writer old w).readers r)

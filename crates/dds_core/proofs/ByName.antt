@@ -1,34 +1,33 @@
 -- HEARTBEATs by name, one after the other, and the messages with them.
 use Rattle.std.proofs.Common.{◌≡◌, ◌⊎◌, ⊎_elim, ℕ, ◌+◌, ◌<◌, ◌≤◌, ◌==◌, Bool, true, false, cond, ◌&&◌, List, [], ◌∷◌, ◌++◌, map, take, length, get_or, refl, ap, sym, ◌∙◌, subst, arith, append_assoc, append-nil, length-append}
-use Rattle.std.specs.Prelude.{ℤ, Option, filter, nat_le}
+use Rattle.std.specs.Prelude.{filter}
 use Rattle.std.specs.List.{AllByRecursion}
 use Rattle.std.proofs.lemmas.List.Elements.{filter-append}
 use Rattle.dds_base.specs.declared.endpoint.Endpoint.{Endpoint}
-use Rattle.dds_base.specs.declared.guid.EntityId.{EntityId}
 use Rattle.dds_base.specs.declared.guid.GuidPrefix.{GuidPrefix}
 use Rattle.rtps_wire.specs.declared.submessage.Submessage.{Submessage}
 use Rattle.rtps_wire.specs.declared.submessage.Submessage.TheVariants.{InfoDst}
 use Rattle.rtps_wire.specs.Messages.{IsWritable}
-use Rattle.rtps_wire.specs.Submessages.{IsSpellable, all_value_octets}
+use Rattle.rtps_wire.specs.Submessages.{IsSpellable, all_value_octets, value_octets}
 use Rattle.rtps_wire.proofs.LengthLaws.{short_writable}
 use Rattle.rtps_writer.specs.Standing.{Kept}
-use Rattle.rtps_writer.specs.WriterState.{is_reader_behind}
-use Rattle.dds_machine.specs.Part.{Writer, writer_changes}
+use Rattle.dds_machine.specs.Part.{Writer}
+use Rattle.dds_protocol.specs.Contact.{Contact}
+use Rattle.dds_protocol.specs.DueMessages.{is_told}
 use Rattle.dds_core.specs.declared.heartbeat.Beat.{Beat}
 use Rattle.dds_core.specs.declared.matching.ReaderName.{ReaderName}
-use Rattle.dds_core.specs.Beating.{AddsBare, AreReadersOf, ForEach, beat_for, beat_from, beats_for, names_behind}
-use Rattle.dds_core.specs.Standing.{state_of}
-use Rattle.dds_core.proofs.Beating.{map_if, names_next, row_at}
+use Rattle.dds_core.specs.Beating.{AddsBare, AreReadersOf, ForEach, beat_for, beats_for, names_told}
+use Rattle.dds_core.proofs.Beating.{map_if, names_next, no_row}
 use Rattle.dds_core.proofs.Joining.{no_name}
 use Rattle.dds_core.proofs.Replies.{both_octets, more_spells}
 
 -- ---- one
 
--- a HEARTBEAT has no value
-pub bare_one : (beat : Beat) (reader : EntityId) (first : ℕ) (old new : List Submessage)
-    → IsSpellable (beat_from beat reader first) → new ≡ old ++ beat_from beat reader first ∷ [] → AddsBare 1 old new
-bare_one beat reader first old new spells is =
-    let one : List Submessage = beat_from beat reader first ∷ [] in
+-- one that has no value
+pub bare_one : (s : Submessage) (old new : List Submessage) → IsSpellable s → value_octets s ≡ 0
+    → new ≡ old ++ s ∷ [] → AddsBare 1 old new
+bare_one s old new spells none is =
+    let one : List Submessage = s ∷ [] in
     let count = length-append old one in
     let size = ap (λ (ss : List Submessage). length ss) is in
     let octets = both_octets old one in
@@ -38,23 +37,27 @@ bare_one beat reader first old new spells is =
           subst (λ (ss : List Submessage). AllByRecursion IsSpellable ss) (sym is) (more_spells old one (spells, tt) h);
       more = omega (arith, count, size);
       few = omega (arith, count, size);
-      bare = omega (arith, octets, sum);
+      bare = omega (arith, octets, sum, none);
     }
 
 -- ---- what was added so far
 
--- HEARTBEATs by name to those at a peer of the readers that are told so far, by the writer that is stood for
-pub record Pushed (beat : Beat) (kept : Kept) (names : List ReaderName) (told : Writer → List ReaderName) (count peer : ℕ)
-    (old new : List Submessage) : Type 0 where
+-- HEARTBEATs by name to those at a peer of the readers that are told so far, by the writer that is stood for, and by
+-- what it knows of its readers
+pub record Pushed (beat : Beat) (kept : Kept) (names : List ReaderName)
+    (told : Writer → (Endpoint → Contact) → List ReaderName) (count peer : ℕ) (old new : List Submessage) : Type 0 where
   pub bare : AddsBare count old new
-  pub adds : ForEach beat.due.first kept names (λ w. new ≡ old ++ beats_for beat w (told w) peer)
+  pub adds : ForEach beat.due.first kept names
+      (λ w answered. new ≡ old ++ beats_for beat w answered (told w answered) peer)
 
 -- one more
-pub pushed_one : (beat : Beat) (kept : Kept) (names : List ReaderName) (told more : Writer → List ReaderName)
-    (count peer : ℕ) (n : ReaderName) (old mid new : List Submessage) → Pushed beat kept names told count peer old mid
-    → AddsBare 1 mid new → ForEach beat.due.first kept names (λ w. new ≡ mid ++ beat_for beat w n ∷ [])
+pub pushed_one : (beat : Beat) (kept : Kept) (names : List ReaderName)
+    (told more : Writer → (Endpoint → Contact) → List ReaderName) (count peer : ℕ) (n : ReaderName)
+    (old mid new : List Submessage) → Pushed beat kept names told count peer old mid → AddsBare 1 mid new
+    → ForEach beat.due.first kept names (λ w answered. new ≡ mid ++ beat_for beat w answered n ∷ [])
     → ForEach beat.due.first kept names
-    (λ w. beats_for beat w (more w) peer ≡ beats_for beat w (told w) peer ++ beat_for beat w n ∷ [])
+    (λ w answered. beats_for beat w answered (more w answered) peer
+    ≡ beats_for beat w answered (told w answered) peer ++ beat_for beat w answered n ∷ [])
     → Pushed beat kept names more (count + 1) peer old new
 pushed_one beat kept names told more count peer n old mid new before one adds are =
     let first = before.bare in
@@ -73,15 +76,17 @@ pushed_one beat kept names told more count peer n old mid new before one adds ar
       };
       adds = λ w answered b.
           adds w answered b
-          ∙ (ap (λ (ss : List Submessage). ss ++ beat_for beat w n ∷ []) (before.adds w answered b)
-          ∙ (append_assoc old (beats_for beat w (told w) peer) (beat_for beat w n ∷ [])
+          ∙ (ap (λ (ss : List Submessage). ss ++ beat_for beat w answered n ∷ []) (before.adds w answered b)
+          ∙ (append_assoc old (beats_for beat w answered (told w answered) peer) (beat_for beat w answered n ∷ [])
           ∙ ap (λ (ss : List Submessage). old ++ ss) (sym (are w answered b))));
     }
 
 -- one more that is told nothing
-pub pushed_same : (beat : Beat) (kept : Kept) (names : List ReaderName) (told more : Writer → List ReaderName)
-    (count peer : ℕ) (old new : List Submessage) → Pushed beat kept names told count peer old new
-    → ForEach beat.due.first kept names (λ w. beats_for beat w (more w) peer ≡ beats_for beat w (told w) peer)
+pub pushed_same : (beat : Beat) (kept : Kept) (names : List ReaderName)
+    (told more : Writer → (Endpoint → Contact) → List ReaderName) (count peer : ℕ)
+    (old new : List Submessage) → Pushed beat kept names told count peer old new
+    → ForEach beat.due.first kept names
+    (λ w answered. beats_for beat w answered (more w answered) peer ≡ beats_for beat w answered (told w answered) peer)
     → Pushed beat kept names more (count + 1) peer old new
 pushed_same beat kept names told more count peer old new before are =
     let few = before.bare.few in
@@ -98,70 +103,72 @@ pushed_same beat kept names told more count peer old new before are =
 
 -- ---- whom they are for
 
-beats_last : (beat : Beat) (w : Writer) (ns : List ReaderName) (n : ReaderName) (peer : ℕ) (b : Bool)
-    → (n.reader.peer == peer) ≡ b
-    → beats_for beat w (ns ++ n ∷ []) peer ≡ beats_for beat w ns peer ++ cond b (beat_for beat w n ∷ []) []
-beats_last beat w ns n peer b is =
-    ap (λ (ms : List ReaderName). map (beat_for beat w) ms)
+beats_last : (beat : Beat) (w : Writer) (answered : Endpoint → Contact) (ns : List ReaderName) (n : ReaderName)
+    (peer : ℕ) (b : Bool) → (n.reader.peer == peer) ≡ b
+    → beats_for beat w answered (ns ++ n ∷ []) peer
+    ≡ beats_for beat w answered ns peer ++ cond b (beat_for beat w answered n ∷ []) []
+beats_last beat w answered ns n peer b is =
+    ap (λ (ms : List ReaderName). map (beat_for beat w answered) ms)
     (filter-append (λ (m : ReaderName). m.reader.peer == peer) ns (n ∷ [])
     ∙ ap (λ (c : Bool). filter (λ (m : ReaderName). m.reader.peer == peer) ns ++ cond c (n ∷ []) []) is)
-    ∙ map_if (beat_for beat w) (filter (λ (m : ReaderName). m.reader.peer == peer) ns) n b
+    ∙ map_if (beat_for beat w answered) (filter (λ (m : ReaderName). m.reader.peer == peer) ns) n b
 
--- the readers that are behind, of the rows before this one
-abbrev pub behind_before : List ReaderName → ℕ → Writer → List ReaderName
-behind_before names row w = names_behind (length (writer_changes w)) (take row w.readers) (take row names)
+-- the readers that are told, of the rows before this one
+abbrev pub told_before : List ReaderName → ℕ → Writer → (Endpoint → Contact) → List ReaderName
+told_before names row w answered = names_told (is_told answered w) (take row w.readers) (take row names)
 
 -- one more of the rows
-pub behind_more : (beat : Beat) (w : Writer) (answered : Endpoint → Option ℤ) (names : List ReaderName)
+pub more_told : (beat : Beat) (answered : Endpoint → Contact) (w : Writer) (names : List ReaderName)
     (row peer : ℕ) (a b : Bool) → AreReadersOf w names → row < length names
-    → ((get_or names row no_name).reader.peer == peer) ≡ a → is_reader_behind (state_of w answered) row ≡ b
-    → beats_for beat w (behind_before names (row + 1) w) peer
-    ≡ beats_for beat w (behind_before names row w) peer
-    ++ cond (a && b) (beat_for beat w (get_or names row no_name) ∷ []) []
-behind_more beat w answered names row peer a b same lt there behind =
-    ap (λ (ns : List ReaderName). beats_for beat w ns peer)
-    (names_next w names row same lt
-    ∙ ap (λ (c : Bool). before ++ cond c (n ∷ []) [])
-    (ap (λ (k : ℕ). nat_le k (length (writer_changes w))) (sym (row_at w names row same lt).2) ∙ behind))
+    → ((get_or names row no_name).reader.peer == peer) ≡ a → is_told answered w (get_or w.readers row no_row) ≡ b
+    → beats_for beat w answered (told_before names (row + 1) w answered) peer
+    ≡ beats_for beat w answered (told_before names row w answered) peer
+    ++ cond (a && b) (beat_for beat w answered (get_or names row no_name) ∷ []) []
+more_told beat answered w names row peer a b same lt there is =
+    ap (λ (ns : List ReaderName). beats_for beat w answered ns peer)
+    (names_next (is_told answered w) w names row same lt ∙ ap (λ (c : Bool). before ++ cond c (n ∷ []) []) is)
     ∙ by a b there
   where
     n : ReaderName
     n = get_or names row no_name
 
     before : List ReaderName
-    before = behind_before names row w
+    before = told_before names row w answered
 
-    none : beats_for beat w (before ++ []) peer ≡ beats_for beat w before peer ++ []
+    none : beats_for beat w answered (before ++ []) peer ≡ beats_for beat w answered before peer ++ []
     none =
-        ap (λ (ns : List ReaderName). beats_for beat w ns peer) (append-nil before)
-        ∙ sym (append-nil (beats_for beat w before peer))
+        ap (λ (ns : List ReaderName). beats_for beat w answered ns peer) (append-nil before)
+        ∙ sym (append-nil (beats_for beat w answered before peer))
 
     by : (a b : Bool) → (n.reader.peer == peer) ≡ a
-        → beats_for beat w (before ++ cond b (n ∷ []) []) peer
-        ≡ beats_for beat w before peer ++ cond (a && b) (beat_for beat w n ∷ []) []
-    by true true is = beats_last beat w before n peer true is
-    by false true is = beats_last beat w before n peer false is
+        → beats_for beat w answered (before ++ cond b (n ∷ []) []) peer
+        ≡ beats_for beat w answered before peer ++ cond (a && b) (beat_for beat w answered n ∷ []) []
+    by true true is = beats_last beat w answered before n peer true is
+    by false true is = beats_last beat w answered before n peer false is
     by true false is = none
     by false false is = none
 
--- one that is elsewhere, or not behind
-pub behind_same : (beat : Beat) (w : Writer) (answered : Endpoint → Option ℤ) (names : List ReaderName) (row peer : ℕ)
+-- one that is elsewhere, or not told
+pub same_told : (beat : Beat) (answered : Endpoint → Contact) (w : Writer) (names : List ReaderName) (row peer : ℕ)
     → AreReadersOf w names → row < length names
-    → (((get_or names row no_name).reader.peer == peer) ≡ false) ⊎ (is_reader_behind (state_of w answered) row ≡ false)
-    → beats_for beat w (behind_before names (row + 1) w) peer ≡ beats_for beat w (behind_before names row w) peer
-behind_same beat w answered names row peer same lt either =
-    behind_more beat w answered names row peer _ _ same lt refl refl
+    → (((get_or names row no_name).reader.peer == peer) ≡ false)
+    ⊎ (is_told answered w (get_or w.readers row no_row) ≡ false)
+    → beats_for beat w answered (told_before names (row + 1) w answered) peer
+    ≡ beats_for beat w answered (told_before names row w answered) peer
+same_told beat answered w names row peer same lt either =
+    more_told beat answered w names row peer _ _ same lt refl refl
     ∙ (⊎_elim
-    (λ elsewhere. ap (λ (a : Bool). before ++ cond (a && is_reader_behind (state_of w answered) row) one []) elsewhere)
+    (λ elsewhere. ap (λ (a : Bool). before ++ cond (a && is_told answered w (get_or w.readers row no_row)) one [])
+    elsewhere)
     (λ not_so. ap (λ (b : Bool). before ++ cond (((get_or names row no_name).reader.peer == peer) && b) one []) not_so
     ∙ nothing ((get_or names row no_name).reader.peer == peer)) either
     ∙ append-nil before)
   where
     before : List Submessage
-    before = beats_for beat w (behind_before names row w) peer
+    before = beats_for beat w answered (told_before names row w answered) peer
 
     one : List Submessage
-    one = beat_for beat w (get_or names row no_name) ∷ []
+    one = beat_for beat w answered (get_or names row no_name) ∷ []
 
     nothing : (a : Bool) → before ++ cond (a && false) one [] ≡ before ++ []
     nothing true = refl

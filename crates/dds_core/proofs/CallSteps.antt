@@ -1,6 +1,6 @@
 -- What a call of one of the peer's writers does.
 use Rattle.std.proofs.Common.{◌≡◌, ◌⊎◌, ℕ, suc, ◌+◌, ◌^◌, ◌<◌, ◌≤◌, Bool, true, false, not, ◌&&◌, ◌||◌, List, [], Option, Some, None, length, slice_get, map, refl, ap, sym, ◌∙◌, subst, arith, inl, inr, ⊎_elim}
-use Rattle.std.specs.Prelude.{ℤ, nat_lt, nat_le, if◌then◌else◌}
+use Rattle.std.specs.Prelude.{nat_lt, nat_le, if◌then◌else◌}
 use Rattle.std.proofs.lemmas.Bool.Decides.{nat_tests}
 use Rattle.dds_base.specs.declared.change.Change.{Change}
 use Rattle.dds_base.specs.declared.change.ChangeKind.{ChangeKind}
@@ -20,13 +20,16 @@ use Rattle.dds_protocol.specs.declared.event.Output.{Output}
 use Rattle.dds_machine.specs.declared.reply.Reply.{Reply}
 use Rattle.dds_machine.specs.declared.reply.Reply.TheVariants.{Done, LivelinessLost, Refused}
 use Rattle.dds_base.specs.declared.endpoint.Endpoint.{Endpoint}
-use Rattle.dds_machine.specs.Ticks.{tick_refusal, after_tick, is_past_counting, RefusesTick, TickStep}
+use Rattle.dds_machine.specs.Ticks.{tick_refusal, after_tick, is_past_counting, RefusesTick, TicksAsked}
 use Rattle.dds_machine.specs.Refusals.{writer_refusal, write_refusal, dispose_refusal, unregister_refusal, change_refusal, change_made, unregister_kind}
-use Rattle.dds_machine.specs.Calls.{Effect, nothing, writes, effect, effect_of, liveliness_lost_at, IsAnswered, IsAnsweredWatching, IsDoneUnless, Answers, CallStep}
+use Rattle.dds_machine.specs.Calls.{Effect, nothing, tells as tells_of, writes, effect, effect_of, liveliness_lost_at, IsAnswered, IsAnsweredWatching, IsDoneUnless, Answers, CallStep}
 use Rattle.dds_machine.specs.Numbered.{has_element}
 use Rattle.dds_conditions.specs.NoFilters.{no_filters}
 use Rattle.dds_machine.specs.Part.{Part, Dds, Writer, own_writer}
-use Rattle.dds_protocol.specs.Peer.{Peer, PeerStep}
+use Rattle.dds_protocol.specs.DueMessages.{was_asked}
+use Rattle.dds_protocol.specs.Peer.{Knows, Peer, PeerStep, known_after}
+use Rattle.dds_protocol.specs.Contact.{Contact}
+use Rattle.dds_protocol.specs.Protocol.{asked_no_more}
 use Rattle.dds_machine.specs.Watching.{Tests}
 use Rattle.dds_core.specs.Kept.{WriterKept, ReaderKept, PeerKept}
 use Rattle.dds_core.specs.Identity.{WriterIdentity, ReaderIdentity, identity_of, reader_identity, writer_identity, IsPeerOf}
@@ -85,6 +88,19 @@ pub refused_as : (refusal : Option Code) (answer : Reply) (after : Dds) (part : 
 refused_as refusal answer after part code some =
     subst (λ (o : Option Code). IsAnswered o answer after part (Refused code) part.dds) (sym some) (refl, refl)
 
+-- an effect tells a writer or a reader of a match
+abbrev is_telling : Effect → Bool
+is_telling (tells_of telling) = true
+is_telling other = false
+
+-- what is known stays at a call that tells of nobody
+pub knows_still : (peer : Peer) (c : Call) (reply : Reply) (e : Effect) → effect_of peer.part c reply ≡ e
+    → is_telling e ≡ false → peer.known ≡ known_after peer c reply
+knows_still peer (call.MatchReader w reader greeted) Done e is none =
+    absurd (let bad = ap is_telling is ∙ none in cc)
+knows_still peer (call.MatchReader w reader greeted) reply e is none = refl
+knows_still peer other reply e is none = refl
+
 -- a call that changes nothing
 pub unchanging_call : {tests : Tests} (kept : PeerKept) (config : Config) (peer : Peer) → StandsFor kept config peer
     → (c : Call) (reply : Reply)
@@ -94,7 +110,7 @@ unchanging_call kept config peer s c reply none is = (
   peer,
   record {
     same_number = refl;
-    knows = refl;
+    knows = knows_still peer c reply nothing none refl;
     step = (record { answers = is; rtps = ap (λ (e : Effect). effect peer.part.rtps e) (sym none) }, refl);
     sent = λ p x m h. absurd (omega (arith, m.1));
   },
@@ -210,7 +226,7 @@ registers kept i k k' key config peer s at lt enters =
 -- a look at LIVELINESS_LOST
 looks : (kept : PeerKept) (i : ℕ) (k k' : WriterKept) (status : LivelinessLostStatus) (config : Config) (peer : Peer)
     → StandsFor kept config peer → slice_get kept.writers i ≡ Some k → i < length kept.writers
-    → ((w : Writer) (answered : Endpoint → Option ℤ) → WriterStands k w answered
+    → ((w : Writer) (answered : Endpoint → Contact) → WriterStands k w answered
     → status ≡ liveliness_lost_status w.lease w.written) → Enters k LookedAt k'
     → Follows (with_writer kept i k') config peer (event.Call (call.GetLivelinessLost (suc i)))
     (silent (LivelinessLost status))
@@ -323,7 +339,9 @@ made_steps kept new config peer s c w change output makes (inl made) =
       after,
       record {
         same_number = refl;
-        knows = refl;
+        knows =
+            subst (λ (r : Reply). peer.known ≡ known_after peer c r) (sym made.reply)
+            (knows_still peer c Done (writes w (Changed change)) makes.enters refl);
         step = (subst (λ (r : Reply). CallStep no_filters peer.part c r after.part) (sym made.reply) step, refl);
         sent = made.is_true;
       },
@@ -383,13 +401,18 @@ pub ticks : (kept : PeerKept) (writers : List WriterKept) (readers : List Reader
     → BeatsOfAll kept.prefix kept.writers output.packets output.unsent
     → Follows (record kept { moment = now; writers = writers; readers = readers }) config peer (event.Tick now) output
 ticks kept writers readers config peer s now on early all expired output done beats =
-    let accepted : tick_refusal peer.part now ≡ None = good_moment kept config peer s now on early in (
-      record peer { part = after_tick peer.part now },
+    let accepted : tick_refusal peer.part now ≡ None = good_moment kept config peer s now on early in
+    let expire =
+    readers_expired now kept.readers readers peer.part.rtps.readers peer.part.dds.readers peer.known expired s.readers
+    in
+    let asked : ℕ → Bool = was_asked peer.known.answered peer.part in
+    let after : Peer = record peer { part = after_tick asked peer.part now; known = asked_no_more peer.known } in (
+      after,
       record {
         same_number = refl;
-        knows = refl;
+        knows = subst (λ (r : Reply). Knows peer (event.Tick now) r after) (sym done) refl;
         step = (
-          subst (λ (r : Reply). TickStep peer.part now r (after_tick peer.part now)) (sym done)
+          subst (λ (r : Reply). TicksAsked asked peer.part now r (after_tick asked peer.part now)) (sym done)
               (accepted, refl),
           refl,
         );
@@ -402,11 +425,11 @@ ticks kept writers readers config peer s now on early all expired output done be
         moment = refl;
         early = early;
         watch = s.watch;
-        writers = writers_ticked now kept.writers writers peer.part.rtps.writers peer.known.answered all s.writers;
-        readers =
-            readers_expired now kept.readers readers peer.part.rtps.readers peer.part.dds.readers peer.known expired
-            s.readers;
-        tellable = tellable_ticked peer.part now s.tellable;
+        writers =
+            writers_ticked now asked kept.writers writers peer.part.rtps.writers peer.known.answered all s.writers
+            (λ j. refl);
+        readers = record { rows = expire.rows; count = expire.count; each = expire.each };
+        tellable = tellable_ticked peer.part asked now s.tellable;
       },
     )
 
@@ -490,7 +513,7 @@ register_at kept writer i k k' key config peer s is at lt enters =
 pub unregistrable_at : (kept : PeerKept) (writer i : ℕ) (k k' : WriterKept) (key : Key) (code : Code)
     (config : Config) (peer : Peer) → StandsFor kept config peer → writer ≡ i + 1 → slice_get kept.writers i ≡ Some k
     → i < length kept.writers → code ≡ Memory
-    → ((w : Writer) (answered : Endpoint → Option ℤ) → WriterStands k w answered
+    → ((w : Writer) (answered : Endpoint → Contact) → WriterStands k w answered
     → is_key_registered key w.written ≡ false) → k' ≡ k
     → Follows (with_writer kept i k') config peer (event.Call (call.Register writer key)) (silent (Refused code))
 unregistrable_at kept writer i k k' key code config peer s is at lt memory none same =
@@ -507,7 +530,7 @@ unregistrable_at kept writer i k k' key code config peer s is at lt memory none 
 pub looks_at : (kept : PeerKept) (writer i : ℕ) (k k' : WriterKept) (status : LivelinessLostStatus) (config : Config)
     (peer : Peer) → StandsFor kept config peer → writer ≡ i + 1 → slice_get kept.writers i ≡ Some k
     → i < length kept.writers
-    → ((w : Writer) (answered : Endpoint → Option ℤ) → WriterStands k w answered
+    → ((w : Writer) (answered : Endpoint → Contact) → WriterStands k w answered
     → status ≡ liveliness_lost_status w.lease w.written) → Enters k LookedAt k'
     → Follows (with_writer kept i k') config peer (event.Call (call.GetLivelinessLost writer))
     (silent (LivelinessLost status))
@@ -519,7 +542,7 @@ looks_at kept writer i k k' status config peer s is at lt tells enters =
 -- an instance that the writer of this index has not registered
 pub unregistered_at : (kept : PeerKept) (writer i : ℕ) (k : WriterKept) (key : Key) (config : Config) (peer : Peer)
     → StandsFor kept config peer → writer ≡ i + 1 → i < length kept.writers → slice_get kept.writers i ≡ Some k
-    → ((w : Writer) (answered : Endpoint → Option ℤ) → WriterStands k w answered
+    → ((w : Writer) (answered : Endpoint → Contact) → WriterStands k w answered
     → is_key_registered key w.written ≡ false)
     → Follows kept config peer (event.Call (call.Unregister writer key)) (silent (Refused PreconditionNotMet))
 unregistered_at kept writer i k key config peer s is lt at none =
@@ -575,9 +598,9 @@ dispose_at kept writer i key config peer s is lt =
 pub unregister_at : (kept : PeerKept) (writer i : ℕ) (k : WriterKept) (key : Key) (made : ChangeKind) (config : Config)
     (peer : Peer) → StandsFor kept config peer → writer ≡ i + 1 → i < length kept.writers
     → slice_get kept.writers i ≡ Some k
-    → ((w : Writer) (answered : Endpoint → Option ℤ) → WriterStands k w answered
+    → ((w : Writer) (answered : Endpoint → Contact) → WriterStands k w answered
     → is_key_registered key w.written ≡ true)
-    → ((w : Writer) (answered : Endpoint → Option ℤ) → WriterStands k w answered
+    → ((w : Writer) (answered : Endpoint → Contact) → WriterStands k w answered
     → made ≡ unregister_kind w.autodispose)
     → MakesChange peer.part (call.Unregister writer key) (i + 1) (change_made peer.part (i + 1) made key [])
 unregister_at kept writer i k key made config peer s is lt at there kind_is =

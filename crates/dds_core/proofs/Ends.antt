@@ -1,6 +1,5 @@
 -- A step of one of the peer's own writers or readers is a step of the peer.
-use Rattle.std.proofs.Common.{◌≡◌, ℕ, zero, suc, List, [], ◌∷◌, arith, Option, Some, map, set, get_or, slice_get, length-set, refl, subst, ap, sym, ◌∙◌}
-use Rattle.std.specs.Prelude.{ℤ}
+use Rattle.std.proofs.Common.{◌≡◌, ℕ, zero, suc, List, [], ◌∷◌, arith, Some, map, set, get_or, slice_get, length-set, refl, subst, ap, sym, ◌∙◌}
 use Rattle.dds_base.specs.declared.config.Config.{Config}
 use Rattle.dds_base.specs.Written.{Written}
 use Rattle.dds_base.specs.declared.endpoint.Endpoint.{Endpoint}
@@ -9,15 +8,18 @@ use Rattle.dds_machine.specs.Numbered.{with_numbered}
 use Rattle.dds_machine.specs.Part.{Part, Dds, Writer, Reader, ReaderProxy, WriterProxy, no_writer, no_reader, at_writer, own_proxies}
 use Rattle.dds_machine.specs.Calls.{writes, effect, with_written}
 use Rattle.dds_protocol.specs.Peer.{Peer}
+use Rattle.dds_protocol.specs.Contact.{Contact}
 use Rattle.dds_protocol.specs.Protocol.{Known}
 use Rattle.rtps_reader.specs.Tracked.{Tracked}
 use Rattle.rtps_reader.specs.Reader.{Tracks}
 use Rattle.rtps_writer.specs.Standing.{StandsFor as RtpsStandsFor}
+use Rattle.rtps_writer.specs.WriterState.{WriterState}
 use Rattle.dds_core.specs.Kept.{WriterKept, ReaderKept, PeerKept}
 use Rattle.dds_core.specs.Identity.{Identity, WriterIdentity, ReaderIdentity, writer_identity, reader_identity, identity_of, IsPeerOf}
 use Rattle.dds_core.specs.Receiving.{with_state}
 use Rattle.dds_core.specs.Standing.{WriterStands, WritersStand, ReaderStands, StandsFor, state_of}
 use Rattle.dds_core.specs.Stepping.{Enters}
+use Rattle.dds_core.proofs.Acknowledging.{state_as}
 use Rattle.dds_core.proofs.Lists.{each_set_at, map-set_same, set_back}
 
 -- what is kept, with another writer or reader of this index
@@ -58,8 +60,8 @@ unchanged_with kept i k k' at same =
     changed x ws = record x { writers = ws }
 
 -- what is known of its readers is the same, said by another function
-writer_stands_on : (k : WriterKept) (w : Writer) (old new : Endpoint → Option ℤ) → ((r : Endpoint) → new r ≡ old r)
-    → WriterStands k w old → WriterStands k w new
+pub writer_stands_on : (k : WriterKept) (w : Writer) (old new : Endpoint → Contact)
+    → ((r : Endpoint) → new r ≡ old r) → WriterStands k w old → WriterStands k w new
 writer_stands_on k w old new same s = record {
   autodispose = s.autodispose;
   values = s.values;
@@ -67,26 +69,29 @@ writer_stands_on k w old new same s = record {
   matched = s.matched;
   readers = s.readers;
   writer =
-      subst (λ (cs : List (Option ℤ)). RtpsStandsFor k.writer (record (state_of w old) { counts = cs }))
-      (sym (counts w.readers)) s.writer;
+      subst (λ (x : WriterState). RtpsStandsFor k.writer x)
+      (state_as (state_of w old) _ _ _ _ _ _ _ _ _ _ refl refl (sym (each (λ (c : Contact). c.count) w.readers))
+      (sym (each (λ (c : Contact). c.asks) w.readers)) (sym (each (λ (c : Contact). c.silent) w.readers)))
+      s.writer;
   begun = s.begun;
   rows = s.rows;
-  counted = λ reader none. same reader ∙ s.counted reader none;
+  counted = λ reader none. ap (λ (c : Contact). c.count) (same reader) ∙ s.counted reader none;
+  quiet = λ reader there none. ap (λ (c : Contact). c.silent) (same reader) ∙ s.quiet reader there none;
   matches = s.matches;
 }
   where
-    counts : (rows : List ReaderProxy) → map (λ (p : ReaderProxy). new p.reader) rows
-        ≡ map (λ (p : ReaderProxy). old p.reader) rows
-    counts [] = refl
-    counts (p ∷ ps) =
-        ap (λ (o : Option ℤ). o ∷ map (λ (q : ReaderProxy). new q.reader) ps) (same p.reader)
-        ∙ ap (λ (os : List (Option ℤ)). old p.reader ∷ os) (counts ps)
+    each : {X : Type 0} (f : Contact → X) (rows : List ReaderProxy) → map (λ (p : ReaderProxy). f (new p.reader)) rows
+        ≡ map (λ (p : ReaderProxy). f (old p.reader)) rows
+    each f [] = refl
+    each f (p ∷ ps) =
+        ap (λ (c : Contact). f c ∷ map (λ (q : ReaderProxy). f (new q.reader)) ps) (same p.reader)
+        ∙ ap (λ xs. f (old p.reader) ∷ xs) (each f ps)
 
 -- own writer n has become another one of the configuration, and what is known of its readers has changed
 pub own_writer_put : (config : Config) (peer : Peer) (kept : PeerKept) → StandsFor kept config peer
     → (i : ℕ) (k k' : WriterKept) → slice_get kept.writers i ≡ Some k
     → IsPeerOf config peer.number (identity_of (with_writer kept i k'))
-    → (w : Writer) (answered : ℕ → Endpoint → Option ℤ)
+    → (w : Writer) (answered : ℕ → Endpoint → Contact)
     → WriterStands k' w (answered (suc i))
     → ((j : ℕ) → (j ≡ i → ⊥) → (r : Endpoint) → answered (suc j) r ≡ peer.known.answered (suc j) r)
     → AreTellable (at_writer peer.part (suc i) w)
@@ -115,7 +120,7 @@ own_writer_put config peer kept s i k k' at is_peer w answered stands others tel
 -- the same of one that is named as it was
 pub writer_put : (config : Config) (peer : Peer) (kept : PeerKept) → StandsFor kept config peer
     → (i : ℕ) (k k' : WriterKept) → slice_get kept.writers i ≡ Some k → writer_identity k' ≡ writer_identity k
-    → (w : Writer) (answered : ℕ → Endpoint → Option ℤ)
+    → (w : Writer) (answered : ℕ → Endpoint → Contact)
     → WriterStands k' w (answered (suc i))
     → ((j : ℕ) → (j ≡ i → ⊥) → (r : Endpoint) → answered (suc j) r ≡ peer.known.answered (suc j) r)
     → AreTellable (at_writer peer.part (suc i) w)
@@ -178,7 +183,7 @@ own_reader_stepped kept i k k' proxies r known config peer s at same counts othe
       early = s.early;
       watch = s.watch;
       writers =
-          subst (λ (answered : ℕ → Endpoint → Option ℤ). WritersStand kept.writers peer.part.rtps.writers answered)
+          subst (λ (answered : ℕ → Endpoint → Contact). WritersStand kept.writers peer.part.rtps.writers answered)
           (sym counts) s.writers;
       readers = record {
         rows = length-set ps i proxies ∙ (s.readers.rows ∙ sym (length-set kept.readers i k'));

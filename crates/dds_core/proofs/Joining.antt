@@ -7,6 +7,7 @@ use Rattle.dds_base.specs.declared.endpoint.Endpoint.{Endpoint}
 use Rattle.dds_machine.specs.Part.{ReaderProxy, same_endpoint}
 use Rattle.dds_machine.proofs.Tables.{same_is}
 use Rattle.dds_protocol.proofs.InOrder.{same_self}
+use Rattle.dds_protocol.specs.Contact.{Contact}
 use Rattle.dds_core.specs.declared.matching.LastCount.{LastCount}
 use Rattle.dds_core.specs.declared.matching.ReaderName.{ReaderName}
 use Rattle.dds_core.specs.Coming.{set_count, with_place}
@@ -152,11 +153,12 @@ counts_stay counts reader e = by (has_count counts reader)
     by true = refl
     by false = more counts
 
-pub answered_at : (answered : Endpoint → Option ℤ) (rows : List ReaderProxy) (row : ℕ) (reader : Endpoint)
+pub answered_at : (answered : Endpoint → Contact) (rows : List ReaderProxy) (row : ℕ) (reader : Endpoint)
     → slice_get (map (λ (p : ReaderProxy). p.reader) rows) row ≡ Some reader
-    → get_or (map (λ (p : ReaderProxy). answered p.reader) rows) row None ≡ answered reader
+    → get_or (map (λ (p : ReaderProxy). (answered p.reader).count) rows) row None ≡ (answered reader).count
 answered_at answered [] row reader at = absurd cc
-answered_at answered (p ∷ ps) zero reader at = ap answered (same_Some p.reader reader at)
+answered_at answered (p ∷ ps) zero reader at =
+    ap (λ (r : Endpoint). (answered r).count) (same_Some p.reader reader at)
 answered_at answered (p ∷ ps) (suc row) reader at = answered_at answered ps row reader at
 
 -- ---- counts, one after the other

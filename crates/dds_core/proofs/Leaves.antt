@@ -13,6 +13,7 @@ use Rattle.dds_machine.specs.Matching.{left, match_ended}
 use Rattle.dds_machine.specs.Part.{Matches, ReaderProxy, Writer, peers_of, same_endpoint}
 use Rattle.dds_protocol.proofs.InOrder.{same_self}
 use Rattle.dds_protocol.proofs.Ways.{both_true}
+use Rattle.dds_protocol.specs.Contact.{Contact}
 use Rattle.dds_machine.proofs.Tables.{same_is}
 use Rattle.dds_core.specs.declared.matching.Destination.{Destination}
 use Rattle.dds_core.specs.declared.matching.LastCount.{LastCount}
@@ -20,14 +21,14 @@ use Rattle.dds_core.specs.declared.matching.ReaderName.{ReaderName}
 use Rattle.dds_core.specs.declared.matching.TopicName.{TopicName}
 use Rattle.dds_core.specs.declared.match_counts.MatchCounts.{MatchCounts}
 use Rattle.dds_core.specs.Beating.{first_peers}
-use Rattle.dds_core.specs.Coming.{ForgetsRow, Leaves, rows_left, set_count, without}
+use Rattle.dds_core.specs.Coming.{ForgetsRow, Leaves, rows_left, set_count, unmatched_kept, without}
 use Rattle.dds_core.specs.Kept.{WriterKept}
 use Rattle.dds_core.specs.MatchCounts.{CountsFor}
 use Rattle.dds_core.specs.MatchedEnds.{AreAmong, AreMatchedNow, AreNamedOnce, AreRows, IsNameOf, IsPeer, has_count, is_named, last_count, readers_of}
-use Rattle.dds_core.specs.Standing.{CountsFrom1, IsFirstReader, IsWhole, WriterStands, state_of}
+use Rattle.dds_core.specs.Standing.{AreQuiet, CountsFrom1, IsFirstReader, IsWhole, WriterStands, state_of}
 use Rattle.dds_core.proofs.Acknowledging.{state_as}
 use Rattle.dds_core.proofs.FirstPeers.{first_peers_are, peer_from}
-use Rattle.dds_core.proofs.Joining.{answered_at, left_from, none_left}
+use Rattle.dds_core.proofs.Joining.{answered_at, left_from}
 use Rattle.dds_core.proofs.Leaving.{AreOnce, all_left, count_kept, ends_left, ends_once, fewer_peers, map-remove, named_alike, named_without, once_without, one_left, others_kept, places_stay, still_all}
 use Rattle.dds_core.proofs.Lists.{map-get}
 use Rattle.dds_core.proofs.MatchedAt.{named_there}
@@ -62,10 +63,10 @@ rows_without matched readers counts reader count rows = record {
         (both_true (is_named readers e) (not (same_endpoint e reader)) (sym (named_without readers reader e) ∙ is)).0
 
 counted_without : (readers : List ReaderName) (counts : List LastCount) (reader : Endpoint) (count : Option ℤ)
-    (answered : Endpoint → Option ℤ) → has_count counts reader ≡ true → count ≡ answered reader
-    → ((e : Endpoint) → is_named readers e ≡ false → answered e ≡ last_count counts e)
+    (answered : Endpoint → Contact) → has_count counts reader ≡ true → count ≡ (answered reader).count
+    → ((e : Endpoint) → is_named readers e ≡ false → (answered e).count ≡ last_count counts e)
     → (e : Endpoint) → is_named (without readers reader) e ≡ false
-    → answered e ≡ last_count (set_count counts reader count) e
+    → (answered e).count ≡ last_count (set_count counts reader count) e
 counted_without readers counts reader count answered place is others e none =
     by (same_endpoint e reader) refl (sym (named_without readers reader e) ∙ none)
   where
@@ -74,24 +75,73 @@ counted_without readers counts reader count answered place is others e none =
     all false = refl
 
     by : (b : Bool) → same_endpoint e reader ≡ b → (is_named readers e && not b) ≡ false
-        → answered e ≡ last_count (set_count counts reader count) e
+        → (answered e).count ≡ last_count (set_count counts reader count) e
     by true same h =
-        subst (λ (x : Endpoint). answered x ≡ last_count (set_count counts reader count) x)
+        subst (λ (x : Endpoint). (answered x).count ≡ last_count (set_count counts reader count) x)
         (sym (same_is e reader same)) (sym is ∙ sym (count_kept counts reader count place))
     by false apart h =
         others e (sym (all (is_named readers e)) ∙ h) ∙ sym (others_kept counts reader e count apart)
+
+gone_without : (names : List ReaderName) (reader : Endpoint) → is_named (without names reader) reader ≡ false
+gone_without names reader =
+    named_without names reader reader
+    ∙ (ap (λ (b : Bool). is_named names reader && not b) (same_self reader) ∙ late (is_named names reader))
+  where
+    late : (b : Bool) → (b && false) ≡ false
+    late true = refl
+    late false = refl
+
+-- one that has no row is not matched any more
+rows_unmatched : (matched names : List ReaderName) (counts : List LastCount) (reader : Endpoint)
+    → AreRows matched names counts → is_named names reader ≡ false → AreRows (without matched reader) names counts
+rows_unmatched matched names counts reader rows gone = record {
+  once = rows.once;
+  among = λ e is.
+      named_without matched reader e
+      ∙ and_true (is_named matched e) (not (same_endpoint e reader)) (rows.among e is)
+      (other e is (same_endpoint e reader) refl);
+  places = rows.places;
+}
+  where
+    other : (e : Endpoint) → is_named names e ≡ true → (b : Bool) → same_endpoint e reader ≡ b
+        → not (same_endpoint e reader) ≡ true
+    other e is false same = ap (λ (c : Bool). not c) same
+    other e is true same =
+        let here : is_named names reader ≡ true =
+        ap (λ (x : Endpoint). is_named names x) (sym (same_is e reader same)) ∙ is in
+        absurd (apart (is_named names reader) gone here)
+      where
+        apart : (c : Bool) → c ≡ false → c ≡ true → ⊥
+        apart true f g = absurd cc
+        apart false f g = absurd cc
+
+-- without a reader that has left
+quiet_without : (matched names : List ReaderName) (reader : Endpoint) (answered : Endpoint → Contact)
+    → AreQuiet matched names answered → AreQuiet (without matched reader) (without names reader) answered
+quiet_without matched names reader answered quiet e there none =
+    let left =
+    both_true (is_named matched e) (not (same_endpoint e reader)) (sym (named_without matched reader e) ∙ there) in
+    quiet e left.0
+    (all (is_named names e)
+    ∙ (sym (ap (λ (b : Bool). is_named names e && b) left.1) ∙ (sym (named_without names reader e) ∙ none)))
+  where
+    all : (b : Bool) → b ≡ (b && true)
+    all true = refl
+    all false = refl
 
 pub forgets : (old : WriterKept) (reader : Endpoint) (row : ℕ) (name : ReaderName) (count : Option ℤ) (writer : Kept)
     → slice_get old.readers row ≡ Some name → name.reader ≡ reader
     → ((s : WriterState) → RtpsStandsFor old.writer s → RtpsStandsFor writer (rtps_left s row))
     → ((s : WriterState) → RtpsStandsFor old.writer s → count ≡ get_or s.counts row None)
-    → (w : Writer) (answered : Endpoint → Option ℤ) → WriterStands old w answered
-    → WriterStands (forgotten old row reader count writer) (rows_left w reader) answered
+    → (w : Writer) (answered : Endpoint → Contact) → WriterStands old w answered
+    → WriterStands (unmatched_kept (forgotten old row reader count writer) reader) (rows_left w reader) answered
 forgets old reader row name count writer at is leaves counts w answered s = record {
   autodispose = s.autodispose;
   values = s.values;
   known = s.known;
-  matched = s.matched;
+  matched =
+      ap (λ (es : List Endpoint). filter (is_other reader) es) s.matched
+      ∙ sym (ends_left (λ (n : ReaderName). n.reader) reader old.matched);
   readers =
       ends_left (λ (p : ReaderProxy). p.reader) reader w.readers
       ∙ (ap (λ (es : List Endpoint). filter (is_other reader) es) s.readers
@@ -103,13 +153,18 @@ forgets old reader row name count writer at is leaves counts w answered s = reco
       All-from_recursion CountsFrom1 (filter (row_is_other reader) w.readers)
       (still_all CountsFrom1 (row_is_other reader) w.readers (recursion_from_All CountsFrom1 w.readers s.begun));
   rows =
-      subst (λ (ns : List ReaderName). AreRows old.matched ns (set_count old.counts reader count)) names_left
-      (rows_without old.matched old.readers old.counts reader count s.rows);
+      subst (λ (ns : List ReaderName). AreRows (without old.matched reader) ns (set_count old.counts reader count))
+      names_left
+      (rows_unmatched old.matched (without old.readers reader) (set_count old.counts reader count) reader
+      (rows_without old.matched old.readers old.counts reader count s.rows) (gone_without old.readers reader));
   counted =
       subst (λ (ns : List ReaderName). (e : Endpoint) → is_named ns e ≡ false
-      → answered e ≡ last_count (set_count old.counts reader count) e) names_left
+      → (answered e).count ≡ last_count (set_count old.counts reader count) e) names_left
       (counted_without old.readers old.counts reader count answered
       (s.rows.places reader (named_there old.readers row name reader at is)) last s.counted);
+  quiet =
+      subst (λ (ns : List ReaderName). AreQuiet (without old.matched reader) ns answered) names_left
+      (quiet_without old.matched old.readers reader answered s.quiet);
   matches = s.matches;
 }
   where
@@ -135,10 +190,12 @@ forgets old reader row name count writer at is leaves counts w answered s = reco
 
     state_left : rtps_left (state_of w answered) row ≡ state_of (rows_left w reader) answered
     state_left =
-        state_as (state_of w answered) _ _ _ _ _ _ (part_left (λ (p : ReaderProxy). p.first))
-        (part_left (λ (p : ReaderProxy). p.acknowledged)) (part_left (λ (p : ReaderProxy). answered p.reader))
+        state_as (state_of w answered) _ _ _ _ _ _ _ _ _ _ (part_left (λ (p : ReaderProxy). p.first))
+        (part_left (λ (p : ReaderProxy). p.acknowledged)) (part_left (λ (p : ReaderProxy). (answered p.reader).count))
+        (part_left (λ (p : ReaderProxy). (answered p.reader).asks))
+        (part_left (λ (p : ReaderProxy). (answered p.reader).silent))
 
-    last : count ≡ answered reader
+    last : count ≡ (answered reader).count
     last = counts (state_of w answered) s.writer ∙ answered_at answered w.readers row reader row_at
 
 -- where no row is of the reader, it is not named
@@ -157,16 +214,37 @@ nobody (n ∷ ns) reader h =
 -- and none is forgotten
 pub forgets_none : (old : WriterKept) (reader : Endpoint)
     → ((k : ℕ) (n : ReaderName) → slice_get old.readers k ≡ Some n → n.reader ≡ reader → ⊥)
-    → (w : Writer) (answered : Endpoint → Option ℤ) → WriterStands old w answered
-    → WriterStands old (rows_left w reader) answered
+    → (w : Writer) (answered : Endpoint → Contact) → WriterStands old w answered
+    → WriterStands (unmatched_kept old reader) (rows_left w reader) answered
 forgets_none old reader none w answered s =
-    subst (λ (ps : List ReaderProxy). WriterStands old (with_rows ps) answered)
+    subst (λ (ps : List ReaderProxy). WriterStands (unmatched_kept old reader) (with_rows ps) answered)
     (sym (all_left (λ (p : ReaderProxy). p.reader) reader w.readers
     (ap (λ (es : List Endpoint). list_any (λ e. same_endpoint e reader) es) s.readers
-    ∙ (named_alike old.readers reader ∙ nobody old.readers reader none)))) s
+    ∙ (named_alike old.readers reader ∙ gone))))
+    (record {
+      autodispose = s.autodispose;
+      values = s.values;
+      known = s.known;
+      matched =
+          ap (λ (es : List Endpoint). filter (is_other reader) es) s.matched
+          ∙ sym (ends_left (λ (n : ReaderName). n.reader) reader old.matched);
+      readers = s.readers;
+      writer = s.writer;
+      begun = s.begun;
+      rows = rows_unmatched old.matched old.readers old.counts reader s.rows gone;
+      counted = s.counted;
+      quiet = λ e there absent. s.quiet e
+          (both_true (is_named old.matched e) (not (same_endpoint e reader))
+          (sym (named_without old.matched reader e) ∙ there)).0 absent;
+      matches = s.matches;
+    })
   where
+    gone : is_named old.readers reader ≡ false
+    gone = nobody old.readers reader none
+
     with_rows : List ReaderProxy → Writer
-    with_rows ps = record w { readers = ps }
+    with_rows ps =
+        record w { matched = filter (λ (e : Endpoint). not (same_endpoint e reader)) w.matched; readers = ps }
 
 -- ---- a match ends
 
@@ -176,48 +254,21 @@ unmatched k reader to counts = record k { matched = without k.matched reader; de
 
 pub leaves_match : (k : WriterKept) (reader : Endpoint) (to : List Destination) (counts : MatchCounts)
     → ((m : Matches) → CountsFor k.matches m → CountsFor counts (match_ended m reader)) → (w : Writer)
-    (answered : Endpoint → Option ℤ) → WriterStands k (rows_left w reader) answered
+    (answered : Endpoint → Contact) → WriterStands (unmatched_kept k reader) (rows_left w reader) answered
     → WriterStands (unmatched k reader to counts) (left w reader) answered
 leaves_match k reader to counts ends w answered s = record {
   autodispose = s.autodispose;
   values = s.values;
   known = s.known;
-  matched =
-      ap (λ (es : List Endpoint). filter (is_other reader) es) s.matched
-      ∙ sym (ends_left (λ (n : ReaderName). n.reader) reader k.matched);
+  matched = s.matched;
   readers = s.readers;
   writer = s.writer;
   begun = s.begun;
-  rows = record {
-    once = s.rows.once;
-    among = λ e is.
-        named_without k.matched reader e
-        ∙ and_true (is_named k.matched e) (not (same_endpoint e reader)) (s.rows.among e is)
-        (other e is (same_endpoint e reader) refl);
-    places = s.rows.places;
-  };
+  rows = s.rows;
   counted = s.counted;
+  quiet = s.quiet;
   matches = ends w.matches s.matches;
 }
-  where
-    gone : is_named k.readers reader ≡ false
-    gone =
-        sym (named_alike k.readers reader)
-        ∙ (ap (λ (es : List Endpoint). list_any (λ e. same_endpoint e reader) es)
-        (sym s.readers ∙ ends_left (λ (p : ReaderProxy). p.reader) reader w.readers)
-        ∙ none_left reader (map (λ (p : ReaderProxy). p.reader) w.readers))
-
-    other : (e : Endpoint) → is_named k.readers e ≡ true → (b : Bool) → same_endpoint e reader ≡ b
-        → not (same_endpoint e reader) ≡ true
-    other e is false same = ap (λ (c : Bool). not c) same
-    other e is true same =
-        let here : is_named k.readers reader ≡ true =
-        ap (λ (x : Endpoint). is_named k.readers x) (sym (same_is e reader same)) ∙ is in
-        absurd (apart (is_named k.readers reader) gone here)
-      where
-        apart : (c : Bool) → c ≡ false → c ≡ true → ⊥
-        apart true f g = absurd cc
-        apart false f g = absurd cc
 
 -- whom it is matched with is known as it was
 pub ends_leave : (peers : List PeerConfig) (topic : ℕ) (matched readers names : List ReaderName)
@@ -320,15 +371,6 @@ whole_left most known matched to readers names old after reader row whole first 
     }
 
 -- the one that is taken out is no longer named
-gone_without : (names : List ReaderName) (reader : Endpoint) → is_named (without names reader) reader ≡ false
-gone_without names reader =
-    named_without names reader reader
-    ∙ (ap (λ (b : Bool). is_named names reader && not b) (same_self reader) ∙ late (is_named names reader))
-  where
-    late : (b : Bool) → (b && false) ≡ false
-    late true = refl
-    late false = refl
-
 forgets_at : (kept : WriterKept) (reader : Endpoint) (row : ℕ) (count : Option ℤ) (writer : Kept)
     → IsFirstReader kept.readers reader row → AreNamedOnce kept.readers
     → ((s : WriterState) → RtpsStandsFor kept.writer s → RtpsStandsFor writer (rtps_left s row))

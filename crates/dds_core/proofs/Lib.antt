@@ -24,7 +24,7 @@ pub mod Makes
 pub mod Names
 pub mod Numbered
 pub mod OpeningLaws
-pub mod PeersBehind
+pub mod PeersTold
 pub mod Sent
 pub mod Tables
 pub mod Ticking

@@ -1,5 +1,6 @@
 -- Lists with one element changed, by what is read of them.
-use Rattle.std.proofs.Common.{◌≡◌, ℕ, zero, suc, ◌+◌, ◌<◌, ◌≤◌, List, [], ◌∷◌, ◌++◌, Some, None, map, set, take, drop, length, get_or, slice_get, refl, subst, ap, sym, ◌∙◌, arith}
+use Rattle.std.proofs.Common.{◌≡◌, ℕ, zero, suc, ◌+◌, ◌<◌, ◌≤◌, Bool, true, false, ◌||◌, List, [], ◌∷◌, ◌++◌, Some, None, map, set, take, drop, length, get_or, slice_get, refl, subst, ap, sym, ◌∙◌, arith}
+use Rattle.std.specs.List.{list_any}
 use Rattle.std.proofs.lemmas.Option.{same_Some}
 use Rattle.std.proofs.lemmas.List.{set-get_or}
 use Rattle.std.proofs.lemmas.Option.{get_or_from_slice_get}
@@ -136,3 +137,17 @@ written_back new old len count is =
 pub set_back : {X : Type 0} (xs : List X) (i : ℕ) (x y : X) → slice_get xs i ≡ Some x → y ≡ x → set xs i y ≡ xs
 set_back {X = X} xs i x y at same =
     ap (λ (z : X). set xs i z) (same ∙ sym (get_or_from_slice_get xs i x x at)) ∙ set-get_or xs i x
+
+-- what is so of some element, or is another thing that is
+pub any_either : {X : Type 0} (f g : X → Bool) (xs : List X)
+    → (list_any f xs || list_any g xs) ≡ list_any (λ x. f x || g x) xs
+any_either f g [] = refl
+any_either f g (x ∷ xs) =
+    swap (f x) (list_any f xs) (g x) (list_any g xs) ∙ ap (λ (b : Bool). (f x || g x) || b) (any_either f g xs)
+  where
+    swap : (a as' b bs : Bool) → ((a || as') || (b || bs)) ≡ ((a || b) || (as' || bs))
+    swap true as' b bs = refl
+    swap false true true bs = refl
+    swap false true false true = refl
+    swap false true false false = refl
+    swap false false b bs = refl

@@ -29,7 +29,7 @@ use Rattle.dds_core.specs.MatchCounts.{CountsFor}
 use Rattle.dds_core.specs.Noticing.{RaisesSo}
 use Rattle.dds_core.specs.Looking.{SeesMatches, TellsLost, TellsLiveliness, TellsMatches}
 use Rattle.dds_core.specs.Standing.{StandsFor}
-use Rattle.dds_core.proofs.CallSteps.{Follows, answered_as, there_is, number_is}
+use Rattle.dds_core.proofs.CallSteps.{Follows, answered_as, knows_still, there_is, number_is}
 use Rattle.dds_core.proofs.Ends.{with_reader, own_reader_changed}
 use Rattle.dds_core.proofs.Taking.{silent}
 
@@ -56,7 +56,7 @@ looked c kept i k reply seen config peer s at is =
       record peer { part = record peer.part { dds = after_look peer.part (suc i) seen } },
       record {
         same_number = refl;
-        knows = refl;
+        knows = knows_still peer c reply nothing is.effect refl;
         step = (record { answers = is.answers; rtps = ap (λ e. effect peer.part.rtps e) (sym is.effect) }, refl);
         sent = λ p x m h. absurd (omega (arith, m.1));
       },

@@ -26,6 +26,7 @@ use Rattle.dds_protocol.specs.Claims.{IsWriter}
 use Rattle.dds_protocol.specs.Peer.{Peer}
 use Rattle.dds_protocol.specs.DueMessages.{AreSent, changes_due}
 use Rattle.dds_protocol.proofs.OwnGuids.{one_writer}
+use Rattle.dds_protocol.specs.Contact.{Contact}
 use Rattle.dds_core.specs.declared.matching.Destination.{Destination}
 use Rattle.dds_core.specs.declared.sending.Sender.{Sender}
 use Rattle.dds_core.specs.Kept.{WriterKept, PeerKept}
@@ -101,7 +102,7 @@ made_by kind key value moment strength =
 -- the writer's changes carry this strength
 abbrev pub Carries : WriterKept → Option ℤ → Type 0
 Carries k strength =
-    (w : Writer) (answered : Endpoint → Option ℤ) → WriterStands k w answered → strength ≡ strength_of w
+    (w : Writer) (answered : Endpoint → Contact) → WriterStands k w answered → strength ≡ strength_of w
 
 -- it is the change that a call of the writer of this index makes
 made_is : (old : PeerKept) (i : ℕ) (k : WriterKept) (kind : ChangeKind) (key : Key) (value : List ℕ)
@@ -123,7 +124,7 @@ Announces old k change number packets =
 made_there : (old : PeerKept) (i : ℕ) (k k' : WriterKept) (kind : ChangeKind) (key : Key) (value : List ℕ)
     (strength : Option ℤ) (number : ℕ) (output : Output) (config : Config) (peer : Peer) → StandsFor old config peer
     → slice_get old.writers i ≡ Some k → Enters k (Changed (made_by kind key value old.moment strength)) k'
-    → ((w : Writer) (answered : Endpoint → Option ℤ) → WriterStands k w answered
+    → ((w : Writer) (answered : Endpoint → Contact) → WriterStands k w answered
     → (append_refusal (history_of w) (made_by kind key value old.moment strength) ≡ None)
     × (number ≡ length (writer_changes w) + 1)) → IsValueOf kind value
     → output.reply ≡ Done → length output.packets + output.unsent ≡ length k.destinations
@@ -200,7 +201,7 @@ made_there old i k k' kind key value strength number output config peer s at ent
 pub made : (old : PeerKept) (i : ℕ) (k k' : WriterKept) (kind : ChangeKind) (key : Key) (value : List ℕ)
     (strength : Option ℤ) (number : ℕ) (output : Output) (config : Config) (peer : Peer) → StandsFor old config peer
     → slice_get old.writers i ≡ Some k → Carries k strength → Enters k (Changed (made_by kind key value old.moment strength)) k'
-    → ((w : Writer) (answered : Endpoint → Option ℤ) → WriterStands k w answered
+    → ((w : Writer) (answered : Endpoint → Contact) → WriterStands k w answered
     → (append_refusal (history_of w) (made_by kind key value old.moment strength) ≡ None)
     × (number ≡ length (writer_changes w) + 1)) → IsValueOf kind value
     → output.reply ≡ Done → length output.packets + output.unsent ≡ length k.destinations
@@ -219,7 +220,7 @@ made old i k k' kind key value strength number output config peer s at carries e
 pub not_begun : (old : PeerKept) (i : ℕ) (k : WriterKept) (kind : ChangeKind) (key : Key) (value : List ℕ)
     (strength : Option ℤ) (code : Code) (output : Output) (config : Config) (peer : Peer) → StandsFor old config peer
     → slice_get old.writers i ≡ Some k → Carries k strength
-    → ((w : Writer) (answered : Endpoint → Option ℤ) → WriterStands k w answered
+    → ((w : Writer) (answered : Endpoint → Contact) → WriterStands k w answered
     → Refuses (append_refusal (history_of w) (made_by kind key value old.moment strength)) code)
     → output ≡ record { reply = Refused code; packets = []; unsent = 0 }
     → IsNotMade config peer (i + 1) (change_made peer.part (i + 1) kind key value) output old
@@ -241,7 +242,7 @@ not_begun old i k kind key value strength code output config peer s at carries r
 pub not_made : (old : PeerKept) (i : ℕ) (k k' : WriterKept) (kind : ChangeKind) (key : Key) (value : List ℕ)
     (strength : Option ℤ) (code : Code) (output : Output) (config : Config) (peer : Peer) → StandsFor old config peer
     → slice_get old.writers i ≡ Some k → Carries k strength → k' ≡ k
-    → ((w : Writer) (answered : Endpoint → Option ℤ) → WriterStands k w answered
+    → ((w : Writer) (answered : Endpoint → Contact) → WriterStands k w answered
     → Refuses (append_refusal (history_of w) (made_by kind key value old.moment strength)) code)
     → output ≡ record { reply = Refused code; packets = []; unsent = 0 }
     → IsNotMade config peer (i + 1) (change_made peer.part (i + 1) kind key value) output (with_writer old i k')

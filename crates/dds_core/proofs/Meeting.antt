@@ -16,7 +16,7 @@ use Rattle.rtps_reader.specs.declared.attachment.Attachment.TheVariants as stand
 use Rattle.rtps_reader.specs.declared.step.AckNackDue.{AckNackDue}
 use Rattle.rtps_reader.specs.declared.step.Step.{Step}
 use Rattle.rtps_reader.specs.Advance.{Advances}
-use Rattle.rtps_reader.specs.Answer.{AnswersHeartbeat, IsIdle, answered, heard_after}
+use Rattle.rtps_reader.specs.Answer.{AnswersHeartbeat, answered}
 use Rattle.rtps_reader.specs.Attached.{BeginsIf as BeginsIfTold, HearsAlone as HeardAlone, MeetsBeat as BeatTold, MeetsChange as ChangeTold, MeetsHeartbeat as HeartbeatTold, MeetsNews as NewsTold, Rests, begun_at, no_news}
 use Rattle.rtps_reader.specs.Jump.{Jumps, comes}
 use Rattle.rtps_reader.specs.Reader.{Tracks, OthersStay, OthersStand, how_after, how_at, match_at, MovesOn, JumpsOn, TakesHeartbeat as HeartbeatTaken}
@@ -30,7 +30,7 @@ use Rattle.dds_machine.specs.Part.{Attachment, Away, Waiting, Begun, Reader, Wri
 use Rattle.dds_protocol.specs.Claims.{Receiver}
 use Rattle.dds_protocol.specs.DueMessages.{Due, acknacks_due}
 use Rattle.dds_protocol.specs.Peer.{state_of}
-use Rattle.dds_protocol.specs.Protocol.{Asserting, BeginsIf, BeginsWith, Goes, GoesBy, HearsAlone, MeetsChange, MeetsGap, MeetsHeartbeat, Starts, StartsAt, State, TakesHeartbeat, TakesOrNot, heard_as, stands_to, with_tracked}
+use Rattle.dds_protocol.specs.Protocol.{Asserting, BeginsIf, BeginsWith, Goes, GoesBy, HearsAlone, MeetsChange, MeetsGap, MeetsHeartbeat, Starts, State, TakesHeartbeat, heard_as, with_tracked}
 use Rattle.dds_protocol.specs.Resuming.{GoesAgain}
 use Rattle.dds_protocol.proofs.Ways.{jumps_gone}
 use Rattle.dds_core.specs.Kept.{ReaderKept}

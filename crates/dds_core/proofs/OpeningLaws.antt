@@ -11,6 +11,7 @@ use Rattle.dds_machine.specs.Opening.{opening_reader, opening_writer, matched_wr
 use Rattle.dds_protocol.specs.Opening.{opening_peers}
 use Rattle.dds_machine.specs.Part.{Writer, Reader, WriterProxy, no_writer, no_reader}
 use Rattle.rtps_reader.specs.Tracked.{fresh}
+use Rattle.dds_protocol.specs.Contact.{no_contact}
 use Rattle.dds_protocol.specs.Protocol.{knows_nothing}
 use Rattle.dds_protocol.specs.Peer.{Peer, no_peer}
 use Rattle.dds_core.specs.Kept.{WriterKept, ReaderKept}
@@ -97,12 +98,12 @@ mapped_at f (a ∷ xs) (suc i) x d at = mapped_at f xs i x d at
 
 writers_stand : (peers : List PeerConfig) (ws : List WriterConfig) (kept : List WriterKept)
     → OpensEach (OpensWriter peers) ws kept
-    → WritersStand kept (map (opening_writer peers) ws) (λ n r. None)
+    → WritersStand kept (map (opening_writer peers) ws) (λ n r. no_contact)
 writers_stand peers ws kept opened = record {
   count = length-map ws (opening_writer peers) ∙ sym opened.count;
   each = λ i k at.
       let w = partner ws kept i k opened.count at in
-      subst (λ (v : Writer). WriterStands k v (λ r. None)) (mapped_at (opening_writer peers) ws i w.0 no_writer w.1)
+      subst (λ (v : Writer). WriterStands k v (λ r. no_contact)) (mapped_at (opening_writer peers) ws i w.0 no_writer w.1)
       (opened.each i w.0 k w.1 at).stands;
 }
 

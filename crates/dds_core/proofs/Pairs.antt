@@ -1,5 +1,5 @@
 -- A writer and a reader that it is matched with, and the place of a reader, by what a peer keeps.
-use Rattle.std.proofs.Common.{◌≡◌, ℕ, ℤ, zero, suc, ◌+◌, ◌<◌, ◌≤◌, Bool, true, false, cond, List, [], ◌∷◌, Option, Some, None, map, length, get_or, slice_get, refl, ap, sym, ◌∙◌, subst, arith}
+use Rattle.std.proofs.Common.{◌≡◌, ℕ, zero, suc, ◌+◌, ◌<◌, ◌≤◌, Bool, true, false, cond, List, [], ◌∷◌, Option, Some, None, map, length, get_or, slice_get, refl, ap, sym, ◌∙◌, subst, arith}
 use Rattle.std.specs.Prelude.{◌&&◌, nat_lt, nat_le, IsSome, slice_index}
 use Rattle.std.specs.Option.{option_map, option_map_or}
 use Rattle.std.proofs.lemmas.Bool.Decides.{nat_tests}
@@ -13,6 +13,7 @@ use Rattle.dds_protocol.specs.Peer.{Peer}
 use Rattle.dds_protocol.specs.DueMessages.{reader_entity, writer_entity}
 use Rattle.dds_machine.proofs.Tables.{same_is}
 use Rattle.dds_protocol.proofs.InOrder.{same_self}
+use Rattle.dds_protocol.specs.Contact.{Contact}
 use Rattle.dds_core.specs.declared.matching.ReaderName.{ReaderName}
 use Rattle.dds_core.specs.declared.matching.WriterName.{WriterName}
 use Rattle.dds_core.specs.declared.pairing.Pair.{Pair}
@@ -128,10 +129,10 @@ pub is_among : (kept : PeerKept) (i number : ℕ) (k : WriterKept) (reader : End
     (last : ℕ)
     → number ≡ i + 1 → slice_get kept.writers i ≡ Some k
     → (f : IsFirstReader k.readers reader row)
-    → ((w : Writer) (answered : Endpoint → Option ℤ) → WriterStands k w answered
+    → ((w : Writer) (answered : Endpoint → Contact) → WriterStands k w answered
     → behind ≡ nat_le (slice_index (map (λ (p : ReaderProxy). p.acknowledged) w.readers) row)
     (length (writer_changes w)))
-    → ((w : Writer) (answered : Endpoint → Option ℤ) → WriterStands k w answered → last ≡ length (writer_changes w))
+    → ((w : Writer) (answered : Endpoint → Contact) → WriterStands k w answered → last ≡ length (writer_changes w))
     → (config : Config) (peer : Peer) → StandsFor kept config peer
     → IsPair config peer number reader (Some (pair_of k f.name.guid.entity behind last))
 is_among kept i number k reader row behind last is at f is_behind is_last config peer s =

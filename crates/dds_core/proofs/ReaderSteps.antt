@@ -1,7 +1,7 @@
 -- What a writer that is told of a reader, or that a reader has left, or at whose matches the application looks, does to
 -- a peer.
-use Rattle.std.proofs.Common.{◌≡◌, ◌≢◌, ◌⊎◌, ℕ, zero, suc, ◌+◌, ◌<◌, Bool, not, List, [], ◌∷◌, Option, None, Some, length, set, slice_get, refl, ap, sym, subst, ◌∙◌, arith, inl, inr, ⊎_elim, length-set}
-use Rattle.std.specs.Prelude.{ℤ, if◌then◌else◌}
+use Rattle.std.proofs.Common.{◌≡◌, ◌≢◌, ◌⊎◌, ℕ, zero, suc, ◌+◌, ◌<◌, ◌==◌, ◌&&◌, Bool, true, false, not, eq-eqb, eqb-true, List, [], ◌∷◌, Option, None, Some, length, set, slice_get, refl, ap, sym, subst, ◌∙◌, arith, inl, inr, ⊎_elim, length-set}
+use Rattle.std.specs.Prelude.{if◌then◌else◌}
 use Rattle.std.proofs.lemmas.List.{length-map}
 use Rattle.std.proofs.lemmas.Option.{same_Some}
 use Rattle.dds_base.specs.declared.code.Code.{Code}
@@ -14,16 +14,18 @@ use Rattle.dds_base.specs.Refusal.{Refuses}
 use Rattle.dds_machine.specs.declared.call.Call.TheVariants as call
 use Rattle.dds_machine.specs.declared.reply.Reply.TheVariants.{Done, Matched, Refused}
 use Rattle.dds_machine.specs.Matching.{joined, knows_reliable, left, publication_matched, writer_looked_at}
-use Rattle.dds_machine.specs.Part.{Writer, at_writer, own_writer, writer_changes}
+use Rattle.dds_machine.specs.Part.{Writer, at_writer, own_writer, same_endpoint, writer_changes}
 use Rattle.dds_machine.specs.Refusals.{writer_refusal}
 use Rattle.dds_protocol.specs.declared.event.Event.TheVariants as event
 use Rattle.dds_protocol.specs.Peer.{Peer}
-use Rattle.dds_core.specs.Coming.{Joins, Leaves, LooksAtMatches, RefusesSo, joining_refusal, leaving_refusal}
+use Rattle.dds_protocol.specs.Contact.{Contact}
+use Rattle.dds_protocol.specs.Protocol.{Known, with_answered}
+use Rattle.dds_core.specs.Coming.{Joins, Leaves, LooksAtMatches, RefusesSo, joining_refusal, leaving_refusal, matched_anew}
 use Rattle.dds_core.specs.Identity.{IsPeerOf, IsWriterOf, WriterIdentity, identity_of, writer_identity}
 use Rattle.dds_core.specs.Kept.{PeerKept, WriterKept}
 use Rattle.dds_core.specs.Standing.{StandsFor, WriterStands}
 use Rattle.dds_core.proofs.CallSteps.{Follows, answered_as, number_is, refused_call, there_is}
-use Rattle.dds_core.proofs.Ends.{own_writer_put, unchanged_with, with_writer, writer_put}
+use Rattle.dds_core.proofs.Ends.{own_writer_put, unchanged_with, with_writer, writer_put, writer_stands_on}
 use Rattle.dds_core.proofs.Lists.{get-map, map-get}
 use Rattle.dds_core.proofs.Taking.{silent}
 use Rattle.dds_core.proofs.Tellable.{tellable_put}
@@ -75,23 +77,28 @@ told : (kept : PeerKept) (i : ℕ) (k k' : WriterKept) (config : Config) (peer :
     → slice_get kept.writers i ≡ Some k
     → ((w : WriterConfig) → IsWriterOf config.peers w (writer_identity k)
     → IsWriterOf config.peers w (writer_identity k'))
-    → (w : Writer) → WriterStands k' w (peer.known.answered (suc i))
+    → (w : Writer) (answered : ℕ → Endpoint → Contact) → WriterStands k' w (answered (suc i))
+    → ((j : ℕ) → (j ≡ i → ⊥) → (r : Endpoint) → answered (suc j) r ≡ peer.known.answered (suc j) r)
     → writer_changes w ≡ writer_changes (own_writer peer.part (suc i))
-    → StandsFor (with_writer kept i k') config (record peer { part = at_writer peer.part (suc i) w })
-told kept i k k' config peer s at still w stands same =
+    → StandsFor (with_writer kept i k') config
+    (record peer { part = at_writer peer.part (suc i) w; known = record peer.known { answered = answered } })
+told kept i k k' config peer s at still w answered stands others same =
     own_writer_put config peer kept s i k k' at (peer_of_writer kept i k k' config peer.number at still s.is_peer) w
-    peer.known.answered stands (λ j apart r. refl) (tellable_put peer.part (suc i) w s.tellable same)
+    answered stands others (tellable_put peer.part (suc i) w s.tellable same)
 
 -- ---- a reader that comes
 
-joins : (kept : PeerKept) (i : ℕ) (k k' : WriterKept) (reader : Endpoint) (config : Config) (peer : Peer)
-    → StandsFor kept config peer → slice_get kept.writers i ≡ Some k
-    → RefusesSo joining_refusal k reader (λ refusal. refusal ≡ None) → Joins k reader k'
-    → Follows (with_writer kept i k') config peer (event.Call (call.MatchReader (suc i) reader)) (silent Done)
-joins kept i k k' reader config peer s at accepted j =
+joins : (kept : PeerKept) (i : ℕ) (k k' : WriterKept) (reader : Endpoint) (greeted : Bool) (config : Config)
+    (peer : Peer) → StandsFor kept config peer → slice_get kept.writers i ≡ Some k
+    → RefusesSo joining_refusal k reader (λ refusal. refusal ≡ None) → Joins k reader greeted k'
+    → Follows (with_writer kept i k') config peer (event.Call (call.MatchReader (suc i) reader greeted)) (silent Done)
+joins kept i k k' reader greeted config peer s at accepted j =
     let w : Writer = own_writer peer.part (suc i) in
     let stands = s.writers.each i k at in (
-      record peer { part = at_writer peer.part (suc i) (joined w reader (knows_reliable w reader)) },
+      record peer {
+        part = at_writer peer.part (suc i) (joined w reader (knows_reliable w reader));
+        known = known;
+      },
       record {
         same_number = refl;
         knows = refl;
@@ -108,32 +115,61 @@ joins kept i k k' reader config peer s at accepted j =
             max_value = j.same.max_value ∙ is.max_value;
             known = j.same.known ∙ is.known;
             ends = j.ends config.peers c.topic is.known is.ends;
-          }) (joined w reader (knows_reliable w reader)) (j.stands w (peer.known.answered (suc i)) stands) refl,
+          }) (joined w reader (knows_reliable w reader)) known.answered
+          (writer_stands_on k' (joined w reader (knows_reliable w reader))
+          (matched_anew (peer.known.answered (suc i)) reader met.silent) (known.answered (suc i))
+          (λ e. here e (eq-eqb (suc i) (suc i) refl)) (j.stands w (peer.known.answered (suc i)) stands))
+          (λ j apart e. elsewhere j e (other j (suc j == suc i) refl apart)) refl,
     )
+  where
+    met : Contact
+    met = record (peer.known.answered (suc i) reader) {
+      asks = false;
+      silent = greeted && knows_reliable (own_writer peer.part (suc i)) reader;
+    }
 
-pub joins_at : (kept : PeerKept) (writer i : ℕ) (k k' : WriterKept) (reader : Endpoint) (config : Config) (peer : Peer)
+    known : Known
+    known = with_answered peer.known (suc i) reader met
+
+    here : (e : Endpoint) → (suc i == suc i) ≡ true
+        → known.answered (suc i) e ≡ matched_anew (peer.known.answered (suc i)) reader met.silent e
+    here e is =
+        ap (λ (b : Bool). if b && same_endpoint e reader then met else peer.known.answered (suc i) e) is
+
+    elsewhere : (n : ℕ) (e : Endpoint) → (suc n == suc i) ≡ false
+        → known.answered (suc n) e ≡ peer.known.answered (suc n) e
+    elsewhere n e is =
+        ap (λ (b : Bool). if b && same_endpoint e reader then met else peer.known.answered (suc n) e) is
+
+    other : (n : ℕ) (b : Bool) → (suc n == suc i) ≡ b → (n ≡ i → ⊥) → (suc n == suc i) ≡ false
+    other n true is apart = let same = eqb-true (suc n) (suc i) is in absurd (apart (omega (arith, same)))
+    other n false is apart = is
+
+pub joins_at : (kept : PeerKept) (writer i : ℕ) (k k' : WriterKept) (reader : Endpoint) (greeted : Bool)
+    (config : Config) (peer : Peer)
     → StandsFor kept config peer → writer ≡ i + 1 → slice_get kept.writers i ≡ Some k
-    → RefusesSo joining_refusal k reader (λ refusal. refusal ≡ None) → Joins k reader k'
-    → Follows (with_writer kept i k') config peer (event.Call (call.MatchReader writer reader)) (silent Done)
-joins_at kept writer i k k' reader config peer s is at accepted j =
-    subst (λ (n : ℕ). Follows (with_writer kept i k') config peer (event.Call (call.MatchReader n reader))
-    (silent Done)) (number_is writer i is) (joins kept i k k' reader config peer s at accepted j)
+    → RefusesSo joining_refusal k reader (λ refusal. refusal ≡ None) → Joins k reader greeted k'
+    → Follows (with_writer kept i k') config peer (event.Call (call.MatchReader writer reader greeted)) (silent Done)
+joins_at kept writer i k k' reader greeted config peer s is at accepted j =
+    subst (λ (n : ℕ). Follows (with_writer kept i k') config peer (event.Call (call.MatchReader n reader greeted))
+    (silent Done)) (number_is writer i is) (joins kept i k k' reader greeted config peer s at accepted j)
 
 -- one that is refused
-refused_join : (kept : PeerKept) (writer : ℕ) (reader : Endpoint) (code : Code) (config : Config) (peer : Peer)
+refused_join : (kept : PeerKept) (writer : ℕ) (reader : Endpoint) (greeted : Bool) (code : Code) (config : Config)
+    (peer : Peer)
     → StandsFor kept config peer → Refuses (joining_refusal (own_writer peer.part writer) reader) code
-    → Follows kept config peer (event.Call (call.MatchReader writer reader)) (silent (Refused code))
-refused_join kept writer reader code config peer s refuses =
-    refused_call kept config peer s (call.MatchReader writer reader) code (refuses, λ memory. tt, refl)
+    → Follows kept config peer (event.Call (call.MatchReader writer reader greeted)) (silent (Refused code))
+refused_join kept writer reader greeted code config peer s refuses =
+    refused_call kept config peer s (call.MatchReader writer reader greeted) code (refuses, λ memory. tt, refl)
 
-pub joins_not : (kept : PeerKept) (writer i : ℕ) (k k' : WriterKept) (reader : Endpoint) (code : Code)
+pub joins_not : (kept : PeerKept) (writer i : ℕ) (k k' : WriterKept) (reader : Endpoint) (greeted : Bool) (code : Code)
     (config : Config) (peer : Peer) → StandsFor kept config peer → writer ≡ i + 1 → slice_get kept.writers i ≡ Some k
     → RefusesSo joining_refusal k reader (λ refusal. Refuses refusal code) → k' ≡ k
-    → Follows (with_writer kept i k') config peer (event.Call (call.MatchReader writer reader)) (silent (Refused code))
-joins_not kept writer i k k' reader code config peer s is at refused same =
-    subst (λ (x : PeerKept). Follows x config peer (event.Call (call.MatchReader writer reader))
+    → Follows (with_writer kept i k') config peer (event.Call (call.MatchReader writer reader greeted)) (silent (Refused code))
+joins_not kept writer i k k' reader greeted code config peer s is at refused same =
+    subst (λ (x : PeerKept). Follows x config peer (event.Call (call.MatchReader writer reader greeted))
     (silent (Refused code))) (sym (unchanged_with kept i k k' at same))
-    (refused_join kept writer reader code config peer s
+    (refused_join kept writer reader greeted code config peer s
     (subst (λ (n : ℕ). Refuses (joining_refusal (own_writer peer.part n) reader) code) (number_is writer i is)
     (refused (own_writer peer.part (suc i)) (peer.known.answered (suc i)) (s.writers.each i k at))))
 
@@ -163,7 +199,8 @@ leaves kept i k k' reader config peer s at accepted l =
             max_value = l.same.max_value ∙ is.max_value;
             known = l.same.known ∙ is.known;
             ends = l.ends config.peers c.topic is.ends;
-          }) (left w reader) (l.stands w (peer.known.answered (suc i)) stands) refl,
+          }) (left w reader) peer.known.answered (l.stands w (peer.known.answered (suc i)) stands)
+          (λ j apart e. refl) refl,
     )
 
 pub leaves_at : (kept : PeerKept) (writer i : ℕ) (k k' : WriterKept) (reader : Endpoint) (config : Config) (peer : Peer)
@@ -197,7 +234,7 @@ leaves_not kept writer i k k' reader code config peer s is at refused never same
 
 looks : (kept : PeerKept) (i : ℕ) (k k' : WriterKept) (status : MatchedStatus) (config : Config) (peer : Peer)
     → StandsFor kept config peer → slice_get kept.writers i ≡ Some k → i < length kept.writers
-    → ((w : Writer) (answered : Endpoint → Option ℤ) → WriterStands k w answered → status ≡ publication_matched w)
+    → ((w : Writer) (answered : Endpoint → Contact) → WriterStands k w answered → status ≡ publication_matched w)
     → LooksAtMatches k k'
     → Follows (with_writer kept i k') config peer (event.Call (call.GetPublicationMatched (suc i)))
     (silent (Matched status))
@@ -231,7 +268,7 @@ looks kept i k k' status config peer s at lt tells look =
 pub matches_looked_at : (kept : PeerKept) (writer i : ℕ) (k k' : WriterKept) (status : MatchedStatus) (config : Config)
     (peer : Peer) → StandsFor kept config peer → writer ≡ i + 1 → slice_get kept.writers i ≡ Some k
     → i < length kept.writers
-    → ((w : Writer) (answered : Endpoint → Option ℤ) → WriterStands k w answered → status ≡ publication_matched w)
+    → ((w : Writer) (answered : Endpoint → Contact) → WriterStands k w answered → status ≡ publication_matched w)
     → LooksAtMatches k k'
     → Follows (with_writer kept i k') config peer (event.Call (call.GetPublicationMatched writer))
     (silent (Matched status))

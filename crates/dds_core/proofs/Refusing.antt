@@ -1,6 +1,6 @@
 -- Why a writer refuses that it is matched with a reader from now on, or no longer.
 use Rattle.std.proofs.Common.{◌≡◌, Bool, not, List, Option, Some, None, refl, subst, ap, sym, ◌∙◌}
-use Rattle.std.specs.Prelude.{ℤ, is_some, Result, Ok, Err, IfErr}
+use Rattle.std.specs.Prelude.{is_some, Result, Ok, Err, IfErr}
 use Rattle.std.specs.List.{list_any}
 use Rattle.dds_base.specs.declared.code.Code.{Code}
 use Rattle.dds_base.specs.declared.code.Code.TheVariants.{BadParameter, Memory}
@@ -8,6 +8,7 @@ use Rattle.dds_base.specs.declared.endpoint.Endpoint.{Endpoint}
 use Rattle.dds_base.specs.Refusal.{Refuses}
 use Rattle.dds_machine.specs.Matching.{is_matched, knows_reader, matching_refusal}
 use Rattle.dds_machine.specs.Part.{TopicReader, Writer, row_of, same_endpoint}
+use Rattle.dds_protocol.specs.Contact.{Contact}
 use Rattle.dds_core.specs.declared.matching.TopicName.{TopicName}
 use Rattle.dds_core.specs.Coming.{RefusesSo, joining_refusal, leaving_refusal}
 use Rattle.dds_core.specs.Kept.{WriterKept}
@@ -29,14 +30,14 @@ for_memory refusal code is memory = subst (λ (o : Option Code). Refuses o code)
 
 -- a writer of the machine knows a reader where it is known
 knows_as : (kept : WriterKept) (reader : Endpoint) (found : Option TopicName) (w : Writer)
-    (answered : Endpoint → Option ℤ) → WriterStands kept w answered → known_as kept.known reader ≡ found
+    (answered : Endpoint → Contact) → WriterStands kept w answered → known_as kept.known reader ≡ found
     → knows_reader w reader ≡ is_some found
 knows_as kept reader found w answered s is =
     ap (λ (ks : List TopicReader). is_some (row_of (λ (k : TopicReader). k.reader) ks reader)) s.known
     ∙ (row_known kept.known reader found is).0
 
 -- and is matched with one that is named
-matched_as : (kept : WriterKept) (reader : Endpoint) (w : Writer) (answered : Endpoint → Option ℤ)
+matched_as : (kept : WriterKept) (reader : Endpoint) (w : Writer) (answered : Endpoint → Contact)
     → WriterStands kept w answered → is_matched w reader ≡ is_named kept.matched reader
 matched_as kept reader w answered s =
     ap (λ (es : List Endpoint). list_any (λ e. same_endpoint e reader) es) s.matched ∙ named_alike kept.matched reader

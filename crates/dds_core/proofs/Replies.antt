@@ -32,13 +32,13 @@ use Rattle.rtps_writer.specs.WriterState.{WriterState, history_of, last_of, owed
 use Rattle.rtps_writer.proofs.AnswerFacts.{answers_after-right}
 use Rattle.dds_protocol.specs.Claims.{Receiver}
 use Rattle.dds_protocol.specs.DueMessages.{Due, data_of, submessages_of}
-use Rattle.dds_protocol.specs.Protocol.{AreGrouped, answers_per}
+use Rattle.dds_protocol.specs.Protocol.{AreGrouped, answers_per, asks_for_heartbeat}
 use Rattle.dds_protocol.proofs.PairFew.{count_numbers, filter_few}
 use Rattle.dds_core.specs.declared.answering.Answering.{Answering}
 use Rattle.dds_core.specs.declared.answering.Room.{Room}
 use Rattle.dds_core.specs.declared.matching.ReaderName.{ReaderName}
 use Rattle.dds_core.specs.declared.sending.Announced.{Announced}
-use Rattle.dds_core.specs.Answering.{AreAnswerable, IsAnswerableIn, IsRoom, SendsAnswers, SpellsMore, TakesAckNack, answer_due}
+use Rattle.dds_core.specs.Answering.{AreAnswerable, IsAnswerableIn, IsRoom, SendsAnswers, SpellsMore, TakesAckNack, answer_due, heard_if}
 use Rattle.dds_core.specs.Beating.{AddsTo}
 use Rattle.dds_core.specs.Kept.{WriterKept}
 use Rattle.dds_core.specs.Standing.{AreShort, IsShort}
@@ -398,25 +398,34 @@ few_answers s row base set count = by (is_applied s row base count)
         omega (arith, first, second, third)
     by false = omega arith
 
--- an ACKNACK was taken, and its answers were sent
-pub acknack_taken : (old : WriterKept) (own : GuidPrefix) (row : ℕ) (a : AckNackBody) (sent : Announced) (new : Kept)
-    (acknowledged : Option ℕ) (gone : Announced) (base : ℕ) (count : ℤ) (answers : List Answer) (answering : Answering)
-    → base ≡ a.reader_sn_state.base → count ≡ a.count
+-- an ACKNACK was taken, its answers were sent, and its reader asks for a HEARTBEAT by it, or has answered
+pub acknack_taken : (old : WriterKept) (own : GuidPrefix) (row : ℕ) (a : AckNackBody) (sent : Announced) (new last : Kept)
+    (acknowledged : Option ℕ) (gone : Announced) (base : ℕ) (count : ℤ) (is_taken : Bool) (answers : List Answer)
+    (answering : Answering) → base ≡ a.reader_sn_state.base → count ≡ a.count
+    → ((s : WriterState) → RtpsStandsFor old.writer s
+    → is_taken ≡ is_applied s row base count)
     → ((s : WriterState) → RtpsStandsFor old.writer s → RtpsStandsFor new (after_acknack s row base count))
     → ((s : WriterState) → RtpsStandsFor old.writer s → acknowledged
     ≡ newly_acknowledged s (after_acknack s row base count) row)
     → ((s : WriterState) → RtpsStandsFor old.writer s → answers ≡ acknack_answers s row base a.reader_sn_state count)
     → ((s : WriterState) → RtpsStandsFor new s → SendsAnswers answering (changes_of s.written) answers sent gone)
+    → ((s : WriterState) → RtpsStandsFor new s → RtpsStandsFor last (heard_if is_taken (asks_for_heartbeat a) s row))
     → ((name : ReaderName) → slice_get old.readers row ≡ Some name
     → answering ≡ record { own = own; entity = old.entity; reader = name; max_value = old.max_value })
-    → TakesAckNack old own row a sent (record old { writer = new }) acknowledged gone
-acknack_taken old own row a sent new acknowledged gone base count answers answering same_base same_count stands newly
-    answered sends who s given =
+    → TakesAckNack old own row a sent (record old { writer = last }) acknowledged gone
+acknack_taken old own row a sent new last acknowledged gone base count is_taken answers answering same_base same_count is_so
+    stands newly answered sends marked who s given =
     let now : RtpsStandsFor new (after_acknack s row base count) = stands s given in
+    let taken : RtpsStandsFor new (after_acknack s row a.reader_sn_state.base a.count) =
+    subst (λ (n : ℕ). RtpsStandsFor new (after_acknack s row n a.count)) same_base
+    (subst (λ (z : ℤ). RtpsStandsFor new (after_acknack s row base z)) same_count now) in
     record {
       stands =
-          subst (λ (n : ℕ). RtpsStandsFor new (after_acknack s row n a.count)) same_base
-          (subst (λ (z : ℤ). RtpsStandsFor new (after_acknack s row base z)) same_count now);
+          subst (λ (b : Bool). RtpsStandsFor last
+          (heard_if b (asks_for_heartbeat a) (after_acknack s row a.reader_sn_state.base a.count) row))
+          (is_so s given ∙ (ap (λ (n : ℕ). is_applied s row n count) same_base
+          ∙ ap (λ (z : ℤ). is_applied s row a.reader_sn_state.base z) same_count))
+          (marked (after_acknack s row a.reader_sn_state.base a.count) taken);
       acknowledged_is = newly s given
           ∙ (ap (λ (n : ℕ). newly_acknowledged s (after_acknack s row n count) row) same_base
           ∙ ap (λ (z : ℤ). newly_acknowledged s (after_acknack s row a.reader_sn_state.base z) row) same_count);

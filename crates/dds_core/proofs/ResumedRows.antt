@@ -14,7 +14,7 @@ use Rattle.rtps_reader.specs.Reader.{Tracks, how_at}
 use Rattle.rtps_reader.specs.Tracked.{Tracked, is_waiting}
 use Rattle.dds_machine.specs.declared.reply.Move.{Move}
 use Rattle.dds_machine.specs.declared.reply.Report.{Report}
-use Rattle.dds_machine.specs.Part.{Attachment, Begun, WriterProxy, own_proxies}
+use Rattle.dds_machine.specs.Part.{Attachment, WriterProxy, own_proxies}
 use Rattle.dds_protocol.specs.Peer.{Peer, state_of}
 use Rattle.dds_protocol.specs.Protocol.{State, stands_to}
 use Rattle.dds_protocol.specs.Resuming.{GoAgain, GoesAgain, MayGoAgain}
@@ -22,9 +22,9 @@ use Rattle.dds_core.specs.declared.effects.Effects.{Effects}
 use Rattle.dds_core.specs.declared.matching.WriterName.{WriterName}
 use Rattle.dds_core.specs.declared.sending.Announced.{Announced}
 use Rattle.dds_core.specs.Kept.{ReaderKept, PeerKept}
-use Rattle.dds_core.specs.Readiness.{CanTake, HasMemory, IsAlike, SameReader, moves_of}
+use Rattle.dds_core.specs.Readiness.{HasMemory, IsAlike, moves_of}
 use Rattle.dds_core.specs.Receiving.{CanTakeAt, StandsAsWell, TakesAt, TookAt, with_state}
-use Rattle.dds_core.specs.Resuming.{GoesOnAt, HasRow, Resumed, ResumesAll, RowNeedsMemory, SameRows, Tried, TriesRow, again}
+use Rattle.dds_core.specs.Resuming.{GoesOnAt, HasRow, ResumesAll, RowNeedsMemory, SameRows, Tried, TriesRow, again}
 use Rattle.dds_core.specs.Standing.{IsFirstRow, StandsFor, stood_as}
 use Rattle.dds_core.proofs.Ends.{with_reader}
 use Rattle.dds_core.proofs.Once.{writers_once}
@@ -32,7 +32,7 @@ use Rattle.dds_core.proofs.Idle.{idle_step, waits_still}
 use Rattle.dds_core.proofs.LastReader.{here_now}
 use Rattle.dds_core.proofs.Lists.{drop_end, drop_next, element, get-map, get-within, map-get, set_back}
 use Rattle.dds_core.proofs.Makes.{set_get}
-use Rattle.dds_core.proofs.Meeting.{Met, Took, again_met, moves_at, told_match}
+use Rattle.dds_core.proofs.Meeting.{Met, again_met, moves_at, told_match}
 use Rattle.dds_core.proofs.Names.{own_reader_is}
 use Rattle.dds_core.proofs.Rows.{proxied, writers_of}
 use Rattle.dds_core.proofs.Taking.{stands_again}

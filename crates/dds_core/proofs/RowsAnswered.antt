@@ -1,6 +1,6 @@
 -- A writer of the peer takes an ACKNACK of one of its matched readers, by the rules of the protocol.
 use Rattle.std.proofs.Common.{◌≡◌, ℕ, suc, ◌+◌, ◌≤◌, ◌==◌, Bool, true, false, cond, ◌&&◌, List, [], ◌∷◌, ◌++◌, Option, Some, None, map, max, take, length, get_or, slice_get, refl, ap, sym, ◌∙◌, subst, arith, inl, inr, length-append, nat_lt, eq-eqb, eqb-true}
-use Rattle.std.specs.Prelude.{ℤ, if◌then◌else◌, nat_le}
+use Rattle.std.specs.Prelude.{if◌then◌else◌, nat_le}
 use Rattle.std.proofs.lemmas.Bool.Decides.{nat_tests}
 use Rattle.dds_base.specs.declared.config.Config.{Config}
 use Rattle.dds_base.specs.declared.config.PeerConfig.{PeerConfig}
@@ -24,21 +24,22 @@ use Rattle.dds_protocol.specs.Claims.{Receiver, IsWriter, IsToWriter, Names}
 use Rattle.dds_machine.specs.Part.{Part, ReaderProxy, Writer, no_writer, same_endpoint, history_of, at_writer, owed_from, writer_changes}
 use Rattle.dds_protocol.specs.Peer.{Peer, state_of as network_of}
 use Rattle.dds_protocol.specs.DueMessages.{Due, answer_message}
-use Rattle.dds_protocol.specs.Protocol.{State, Known, WriterTakes, AreGrouped, answers_per, TakesAckNack as TakesByRules, acknowledging, answered_from, has_for, is_taken_up, with_answered}
+use Rattle.dds_protocol.specs.Contact.{Contact}
+use Rattle.dds_protocol.specs.Protocol.{State, Known, WriterTakes, AreGrouped, answers_per, TakesAckNack as TakesByRules, acknowledging, answered_from, asks_for_heartbeat, contact_after, has_for, is_taken_up, with_answered}
 use Rattle.dds_protocol.proofs.Framing.{with_same}
 use Rattle.dds_protocol.proofs.InOrder.{same_self}
 use Rattle.dds_core.specs.declared.answering.Answering.{Answering}
 use Rattle.dds_core.specs.declared.matching.ReaderName.{ReaderName}
 use Rattle.dds_core.specs.declared.match_counts.MatchCounts.{MatchCounts}
 use Rattle.dds_core.specs.declared.sending.Announced.{Announced}
-use Rattle.dds_core.specs.Answering.{IsFrom, IsAskedWriter, IsUnaskedAt, RowTook, SendsAnswers, TookAckNack, acknowledged_moves, answer_due}
+use Rattle.dds_core.specs.Answering.{IsFrom, IsAskedWriter, IsUnaskedAt, RowTook, SendsAnswers, TookAckNack, acknowledged_moves, after_hearing, answer_due, heard_if}
 use Rattle.dds_core.specs.Beating.{AddsTo, due_to}
 use Rattle.dds_core.specs.Kept.{WriterKept, PeerKept}
 use Rattle.dds_core.specs.Identity.{WriterIdentity}
 use Rattle.dds_core.specs.MatchCounts.{CountsFor}
 use Rattle.dds_core.specs.MatchedEnds.{AreRows, is_named, last_count, readers_of, topic_reader}
 use Rattle.dds_core.specs.Receiving.{with_state, NeedsMemory}
-use Rattle.dds_core.specs.Standing.{StandsFor, WriterStands, state_of}
+use Rattle.dds_core.specs.Standing.{AreQuiet, StandsFor, WriterStands, state_of}
 use Rattle.dds_core.proofs.Acknowledging.{IsOnly, IsCounted, only_row, acknowledged_is, acknowledged_then, answered_then, applied_is, low_of, owed_same, moves_then, not_same, readers_same, state_applied, still_begun}
 use Rattle.dds_core.proofs.Beating.{adds_none}
 use Rattle.dds_core.proofs.Ends.{with_writer, writer_put}
@@ -185,7 +186,7 @@ own_of c = own_is c.config c.peer c.kept c.stands c.i c.k c.at_k
 abbrev writer_of : Row → Writer
 writer_of c = get_or c.peer.part.rtps.writers c.i no_writer
 
-abbrev answered_of : Row → Endpoint → Option ℤ
+abbrev answered_of : Row → Endpoint → Contact
 answered_of c = c.peer.known.answered (suc c.i)
 
 abbrev stood : (c : Row) → WriterStands c.k (writer_of c) (answered_of c)
@@ -298,8 +299,11 @@ row_applied turn from is = record {
     there : Writer
     there = acknowledging (writer_of turn.c) turn.c.name.reader (max (row_of turn).proxy.acknowledged (base_of turn))
 
+    heard : Contact
+    heard = contact_after (answered_of turn.c turn.c.name.reader) turn.a
+
     known : Known
-    known = with_answered turn.c.peer.known (suc turn.c.i) turn.c.name.reader turn.a.count
+    known = with_answered turn.c.peer.known (suc turn.c.i) turn.c.name.reader heard
 
     state : State
     state = record { part = at_writer turn.c.peer.part (suc turn.c.i) there; known = known }
@@ -325,40 +329,46 @@ row_applied turn from is = record {
         (answer_message turn.c.kept.prefix turn.at.source_guid_prefix turn.c.name.guid.entity e
         (changes_of (writer_of turn.c).written) group)) groups) (sym from.writer)
 
-    counted : IsCounted (answered_of turn.c) (known.answered (suc turn.c.i)) turn.c.name.reader turn.a.count
+    counted : IsCounted (answered_of turn.c) (known.answered (suc turn.c.i)) turn.c.name.reader turn.a
     counted = record {
       here =
-          ap (λ (b : Bool). cond (b && same_endpoint turn.c.name.reader turn.c.name.reader) (Some turn.a.count)
+          ap (λ (b : Bool). cond (b && same_endpoint turn.c.name.reader turn.c.name.reader) heard
           (answered_of turn.c turn.c.name.reader)) (eq-eqb (suc turn.c.i) (suc turn.c.i) refl)
-          ∙ ap (λ (b : Bool). cond b (Some turn.a.count) (answered_of turn.c turn.c.name.reader))
+          ∙ ap (λ (b : Bool). cond b heard (answered_of turn.c turn.c.name.reader))
           (same_self turn.c.name.reader);
       others =
-          λ e apart. ap (λ (b : Bool). cond (b && same_endpoint e turn.c.name.reader) (Some turn.a.count)
+          λ e apart. ap (λ (b : Bool). cond (b && same_endpoint e turn.c.name.reader) heard
           (answered_of turn.c e)) (eq-eqb (suc turn.c.i) (suc turn.c.i) refl)
-          ∙ ap (λ (b : Bool). cond b (Some turn.a.count) (answered_of turn.c e)) (not_same e turn.c.name.reader apart);
+          ∙ ap (λ (b : Bool). cond b heard (answered_of turn.c e)) (not_same e turn.c.name.reader apart);
     }
 
     others : (j : ℕ) → (j ≡ turn.c.i → ⊥) → (e : Endpoint) → known.answered (suc j) e
         ≡ turn.c.peer.known.answered (suc j) e
     others j apart e =
-        ap (λ (b : Bool). cond (b && same_endpoint e turn.c.name.reader) (Some turn.a.count)
+        ap (λ (b : Bool). cond (b && same_endpoint e turn.c.name.reader) heard
         (turn.c.peer.known.answered (suc j) e)) (other (suc j == suc turn.c.i) refl)
       where
         other : (b : Bool) → (suc j == suc turn.c.i) ≡ b → (suc j == suc turn.c.i) ≡ false
         other true e = let same = eqb-true (suc j) (suc turn.c.i) e in absurd (apart (omega (arith, same)))
         other false e = e
 
+    taken_up : WriterState
+    taken_up = applied (before turn) turn.c.row (base_of turn) turn.a.count
+
     state_is : state_of there (known.answered (suc turn.c.i))
-        ≡ applied (before turn) turn.c.row (base_of turn) turn.a.count
+        ≡ heard_if true (asks_for_heartbeat turn.a) taken_up turn.c.row
     state_is =
         state_applied (writer_of turn.c) (answered_of turn.c)
-        (known.answered (suc turn.c.i)) turn.c.name.reader turn.c.row (row_of turn).proxy (base_of turn) turn.a.count
+        (known.answered (suc turn.c.i)) turn.c.name.reader turn.c.row (row_of turn).proxy (base_of turn) turn.a
         (row_of turn).only counted
 
-    after_is : after_acknack (before turn) turn.c.row (base_of turn) turn.a.count
-        ≡ applied (before turn) turn.c.row (base_of turn) turn.a.count
+    applied_then : after_acknack (before turn) turn.c.row (base_of turn) turn.a.count ≡ taken_up
+    applied_then = ap (λ (b : Bool). if b then taken_up else (before turn)) is
+
+    after_is : after_hearing (before turn) turn.c.row turn.a
+        ≡ heard_if true (asks_for_heartbeat turn.a) taken_up turn.c.row
     after_is =
-        ap (λ (b : Bool). if b then applied (before turn) turn.c.row (base_of turn) turn.a.count else (before turn)) is
+        ap (λ (b : Bool). heard_if b (asks_for_heartbeat turn.a) (if b then taken_up else (before turn)) turn.c.row) is
 
     stands : WriterStands turn.t.writer there (known.answered (suc turn.c.i))
     stands = record {
@@ -380,10 +390,15 @@ row_applied turn from is = record {
       rows = rows_again turn;
       counted =
           subst (λ (x : WriterIdentity). (reader : Endpoint) → is_named x.readers reader ≡ false
-          → known.answered (suc turn.c.i) reader ≡ last_count x.counts reader) (sym turn.t.same)
-          (λ reader none. counted.others reader
-          (λ e. not_named turn.c.k.readers turn.c.row turn.c.name reader turn.c.at_name (sym e) none)
+          → (known.answered (suc turn.c.i) reader).count ≡ last_count x.counts reader) (sym turn.t.same)
+          (λ reader none. ap (λ (x : Contact). x.count) (counted.others reader
+          (λ e. not_named turn.c.k.readers turn.c.row turn.c.name reader turn.c.at_name (sym e) none))
           ∙ (stood turn.c).counted reader none);
+      quiet =
+          subst (λ (x : WriterIdentity). AreQuiet x.matched x.readers (known.answered (suc turn.c.i))) (sym turn.t.same)
+          (λ reader there none. ap (λ (x : Contact). x.silent) (counted.others reader
+          (λ e. not_named turn.c.k.readers turn.c.row turn.c.name reader turn.c.at_name (sym e) none))
+          ∙ (stood turn.c).quiet reader there none);
       matches = matches_again turn;
     }
       where
@@ -432,7 +447,7 @@ row_applied turn from is = record {
       moves_are =
           ap (λ (o : Option ℕ). acknowledged_moves (turn.c.i + 1) turn.c.name.reader o)
           ((took turn).acknowledged_is
-          ∙ ap (λ (x : WriterState). newly_acknowledged (before turn) x turn.c.row) after_is)
+          ∙ ap (λ (x : WriterState). newly_acknowledged (before turn) x turn.c.row) applied_then)
           ∙ (moves_then (writer_of turn.c) (answered_of turn.c) turn.c.name.reader turn.c.row (row_of turn).proxy
           (base_of turn) turn.a.count (turn.c.i + 1) (row_of turn).only
           ∙ ap (λ (n : ℕ). if nat_lt (row_of turn).proxy.acknowledged
@@ -490,9 +505,14 @@ row_ignored turn is = record {
         let some = g.2 in let size = ap (λ (xs : List Answer). length xs) g.1 in let all = length-append group g.0 in
         absurd (omega (arith, some, size, all))
 
-    after_is : after_acknack (before turn) turn.c.row (base_of turn) turn.a.count ≡ (before turn)
-    after_is =
+    ignored_then : after_acknack (before turn) turn.c.row (base_of turn) turn.a.count ≡ (before turn)
+    ignored_then =
         ap (λ (b : Bool). if b then applied (before turn) turn.c.row (base_of turn) turn.a.count else (before turn)) is
+
+    after_is : after_hearing (before turn) turn.c.row turn.a ≡ (before turn)
+    after_is =
+        ap (λ (b : Bool). heard_if b (asks_for_heartbeat turn.a)
+        (if b then applied (before turn) turn.c.row (base_of turn) turn.a.count else (before turn)) turn.c.row) is
 
     part_is : at_writer turn.c.peer.part (suc turn.c.i) (writer_of turn.c) ≡ turn.c.peer.part
     part_is =
@@ -503,7 +523,7 @@ row_ignored turn is = record {
     no_move =
         ap (λ (o : Option ℕ). acknowledged_moves (turn.c.i + 1) turn.c.name.reader o)
         ((took turn).acknowledged_is
-        ∙ (ap (λ (x : WriterState). newly_acknowledged (before turn) x turn.c.row) after_is
+        ∙ (ap (λ (x : WriterState). newly_acknowledged (before turn) x turn.c.row) ignored_then
         ∙ still (acknowledged_by (before turn) turn.c.row)))
       where
         still : (n : ℕ) → (if nat_lt n n then Some n else None) ≡ None
@@ -525,8 +545,11 @@ row_ignored turn is = record {
       rows = rows_again turn;
       counted =
           subst (λ (x : WriterIdentity). (reader : Endpoint) → is_named x.readers reader ≡ false
-          → turn.c.peer.known.answered (suc turn.c.i) reader ≡ last_count x.counts reader) (sym turn.t.same)
+          → (turn.c.peer.known.answered (suc turn.c.i) reader).count ≡ last_count x.counts reader) (sym turn.t.same)
           (stood turn.c).counted;
+      quiet =
+          subst (λ (x : WriterIdentity). AreQuiet x.matched x.readers (answered_of turn.c)) (sym turn.t.same)
+          (stood turn.c).quiet;
       matches = matches_again turn;
     }
 

@@ -13,6 +13,7 @@ use Rattle.dds_machine.specs.Part.{Writer, own_writer}
 use Rattle.dds_machine.specs.Refusals.{strength_refusal}
 use Rattle.dds_protocol.specs.declared.event.Event.TheVariants as event
 use Rattle.dds_protocol.specs.Peer.{Peer}
+use Rattle.dds_protocol.specs.Contact.{Contact}
 use Rattle.dds_core.specs.Kept.{WriterKept, PeerKept}
 use Rattle.dds_core.specs.Standing.{WriterStands, StandsFor}
 use Rattle.dds_core.specs.Stepping.{Enters}
@@ -38,7 +39,7 @@ shared_refused false strength is none = absurd cc
 -- the writer of this index takes it
 sets : (kept : PeerKept) (i : ℕ) (k k' : WriterKept) (strength : ℤ) (config : Config) (peer : Peer)
     → StandsFor kept config peer → slice_get kept.writers i ≡ Some k → i < length kept.writers
-    → ((w : Writer) (answered : Endpoint → Option ℤ) → WriterStands k w answered → w.strength ≢ None)
+    → ((w : Writer) (answered : Endpoint → Contact) → WriterStands k w answered → w.strength ≢ None)
     → Enters k (StrengthSet strength) k'
     → Follows (with_writer kept i k') config peer (event.Call (call.SetStrength (suc i) strength)) (silent Done)
 sets kept i k k' strength config peer s at lt exclusive enters =
@@ -67,7 +68,7 @@ sets kept i k k' strength config peer s at lt exclusive enters =
 -- so does the one of a number
 pub sets_at : (kept : PeerKept) (writer i : ℕ) (k k' : WriterKept) (strength : ℤ) (config : Config) (peer : Peer)
     → StandsFor kept config peer → writer ≡ i + 1 → slice_get kept.writers i ≡ Some k → i < length kept.writers
-    → ((w : Writer) (answered : Endpoint → Option ℤ) → WriterStands k w answered → w.strength ≢ None)
+    → ((w : Writer) (answered : Endpoint → Contact) → WriterStands k w answered → w.strength ≢ None)
     → Enters k (StrengthSet strength) k'
     → Follows (with_writer kept i k') config peer (event.Call (call.SetStrength writer strength)) (silent Done)
 sets_at kept writer i k k' strength config peer s is at lt exclusive enters =
@@ -78,7 +79,7 @@ sets_at kept writer i k k' strength config peer s is at lt exclusive enters =
 pub shared_at : (kept : PeerKept) (writer i : ℕ) (k k' : WriterKept) (strength : ℤ) (code : Code) (config : Config)
     (peer : Peer) → StandsFor kept config peer → writer ≡ i + 1 → slice_get kept.writers i ≡ Some k
     → i < length kept.writers
-    → ((w : Writer) (answered : Endpoint → Option ℤ) → WriterStands k w answered
+    → ((w : Writer) (answered : Endpoint → Contact) → WriterStands k w answered
     → (w.strength ≡ None) × (code ≡ PreconditionNotMet)) → k' ≡ k
     → Follows (with_writer kept i k') config peer (event.Call (call.SetStrength writer strength)) (silent (Refused code))
 shared_at kept writer i k k' strength code config peer s is at lt refuses same =

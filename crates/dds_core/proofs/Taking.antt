@@ -16,7 +16,7 @@ use Rattle.rtps_wire.specs.declared.submessage.Submessage.{Submessage}
 use Rattle.rtps_wire.specs.declared.submessage.Submessage.TheVariants.{Pad, InfoDst, InfoTs, Data, Heartbeat, AckNack, Gap, Other}
 use Rattle.rtps_wire.specs.Frames.{IsEnd}
 use Rattle.rtps_wire.specs.Messages.{ReadsFirst, HasHeader, ReadsMessage}
-use Rattle.rtps_wire.specs.Sets.{set_of}
+use Rattle.rtps_wire.specs.Sets.{acknack_field, set_of}
 use Rattle.rtps_wire.specs.Submessages.{Reads}
 use Rattle.rtps_wire.proofs.FrameLaws.{frame_found, frame_only}
 use Rattle.rtps_wire.proofs.MessageLaws.{Reading, reads_on, reading, message_read}
@@ -30,11 +30,14 @@ use Rattle.dds_machine.specs.declared.reply.Report.{Report}
 use Rattle.dds_machine.specs.declared.reply.Reply.{Reply}
 use Rattle.dds_machine.specs.declared.call.Call.{Call}
 use Rattle.dds_machine.specs.Numbered.{numbered, HasNumber}
-use Rattle.dds_protocol.specs.Backed.{IsBacked}
+use Rattle.rtps_reader.specs.Tracked.{Tracked}
+use Rattle.dds_base.specs.Counts.{is_later}
+use Rattle.dds_base.specs.declared.endpoint.Endpoint.{Endpoint}
+use Rattle.dds_protocol.specs.Backed.{IsBacked, IsClaimed, TookNone}
 use Rattle.dds_protocol.specs.Claims.{Receiver, receiver_of, after_submessage, IsNumbered}
 use Rattle.dds_machine.specs.Part.{place_of, heard_of}
 use Rattle.dds_protocol.specs.Peer.{Peer, packets_of, state_of, Delivery}
-use Rattle.dds_protocol.specs.DueMessages.{Due, AreSent}
+use Rattle.dds_protocol.specs.DueMessages.{Due, AreSent, was_asked}
 use Rattle.dds_protocol.specs.Protocol.{State, InTurn, ReaderTakes, Takes, MayNeedMemory, FollowsMessage}
 use Rattle.dds_protocol.specs.Receipt.{prefix_of}
 use Rattle.dds_core.specs.declared.effects.Effects.{Effects}
@@ -49,6 +52,7 @@ use Rattle.dds_core.specs.Standing.{StandsFor}
 use Rattle.dds_core.specs.Ruling.{IsSound}
 use Rattle.dds_core.specs.Stepping.{Sends, Steps, StepsBy, SoundSteps, SoundStepsBy}
 use Rattle.dds_machine.specs.Watching.{Tests}
+use Rattle.dds_protocol.proofs.Contacts.{call_knows, tick_knows}
 use Rattle.dds_protocol.proofs.Growth.{TickStep-rows}
 use Rattle.dds_protocol.proofs.Tellings.{call_backed}
 use Rattle.dds_core.proofs.Beating.{written_on}
@@ -350,27 +354,39 @@ bounded id flags body Pad h = tt
 bounded id flags body (InfoDst d) h = tt
 bounded id flags body (InfoTs d) h = tt
 bounded id flags body (AckNack a) h =
-    let same = ap (λ (x : NumberSet). x.base) h.body_is.set.set in let low = h.body_is.set.valid.first in
+    let set = h.body_is.set in
+    let low = set.valid.first in
+    let same : a.reader_sn_state.base ≡ (acknack_field set.field).base = ap (λ (x : NumberSet). x.base) set.set in
     omega (arith, same, low)
 bounded id flags body (Other d) h = tt
 
 -- ---- calls and ticks
 
 -- what a call or a tick leaves is sound, as what was known is known, and the places are those of before
-pub sound_still : (config : Config) (old new : Peer) → new.number ≡ old.number → new.known ≡ old.known
+pub sound_still : (config : Config) (old new : Peer) → new.number ≡ old.number
+    → ((w : Endpoint) (r : ℕ) → new.known.tracked w r ≡ old.known.tracked w r)
     → new.delivered ≡ old.delivered → new.part.rtps.readers ≡ old.part.rtps.readers → IsSound config old
     → IsSound config new
 sound_still config old new number known delivered readers b =
     subst (λ n. IsBacked config n (packets_of new.delivered) new.delivered (state_of new)) (sym number)
     (subst (λ ds. IsBacked config old.number (packets_of ds) ds (state_of new)) (sym delivered)
-    (subst (λ k. IsBacked config old.number (packets_of old.delivered) old.delivered
-    (record { part = new.part; known = k })) (sym known) (record {
-      place = λ w r p e. b.place w r p (ap (λ xs. place_of (numbered xs r []) w) (sym readers) ∙ e);
-      unknown = λ w r e. b.unknown w r (ap (λ xs. place_of (numbered xs r []) w) (sym readers) ∙ e);
-      claimed = b.claimed;
-      newest = λ w r has. b.newest w r (subst (λ xs. HasNumber xs r) readers has);
-      heard = λ w r count e. b.heard w r count (ap (λ xs. heard_of (numbered xs r []) w) (sym readers) ∙ e);
-    })))
+    (record {
+      place = λ w r p e.
+          ap (λ (t : Tracked). t.place) (known w r)
+          ∙ b.place w r p (ap (λ xs. place_of (numbered xs r []) w) (sym readers) ∙ e);
+      unknown = λ w r e.
+          ap (λ (t : Tracked). t.place) (known w r)
+          ∙ b.unknown w r (ap (λ xs. place_of (numbered xs r []) w) (sym readers) ∙ e);
+      claimed = λ w r.
+          subst (λ (t : Tracked). IsClaimed config old.number (packets_of old.delivered) w r t) (sym (known w r))
+          (b.claimed w r);
+      newest = λ w r has.
+          subst (λ (t : Tracked). TookNone config old.number old.delivered w r t) (sym (known w r))
+          (b.newest w r (subst (λ xs. HasNumber xs r) readers has));
+      heard = λ w r count e.
+          ap (λ (t : Tracked). is_later t.count count) (known w r)
+          ∙ b.heard w r count (ap (λ xs. heard_of (numbered xs r []) w) (sym readers) ∙ e);
+    }))
 
 pub sound_call : {tests : Tests} (old new : PeerKept) (call : Call) (output : Output)
     → StepsBy tests old (event.Call call) output new → Sends old (event.Call call) output
@@ -383,7 +399,8 @@ sound_call {tests} old new call output steps sends config peer s sound =
       r.0,
       r.1,
       r.2,
-      sound_still config (record peer { part = r.0.part }) r.0 r.1.same_number r.1.knows r.1.step.1 refl told,
+      sound_still config (record peer { part = r.0.part }) r.0 r.1.same_number
+          (call_knows peer call output.reply r.0 r.1.knows).tracked r.1.step.1 refl told,
       sends config peer s,
     )
 
@@ -394,7 +411,8 @@ sound_tick old new now output steps sends config peer s sound =
       r.0,
       r.1,
       r.2,
-      sound_still config peer r.0 r.1.same_number r.1.knows r.1.step.1
-          (TickStep-rows peer.part now output.reply r.0.part r.1.step.0) sound,
+      sound_still config peer r.0 r.1.same_number (tick_knows peer now output.reply r.0 r.1.knows).tracked r.1.step.1
+          (TickStep-rows peer.part now output.reply r.0.part
+          (was_asked peer.known.answered peer.part, r.1.step.0)) sound,
       sends config peer s,
     )

@@ -1,6 +1,6 @@
 -- The changes of a peer's writers can be told by what a DATA says: at its opening, and after each thing that happens
 -- there.
-use Rattle.std.proofs.Common.{◌≡◌, ◌⊎◌, ℕ, zero, suc, ◌-◌, Bool, true, false, List, [], ◌∷◌, ◌++◌, Some, None, map, get_or, slice_get, refl, ap, sym, ◌∙◌, subst, inl, inr, ⊎_elim, arith, nat_lt}
+use Rattle.std.proofs.Common.{◌≡◌, ◌⊎◌, ℕ, zero, suc, ◌+◌, ◌-◌, Bool, true, false, List, [], ◌∷◌, ◌++◌, Some, None, map, get_or, slice_get, refl, ap, sym, ◌∙◌, subst, inl, inr, ⊎_elim, arith, nat_lt}
 use Rattle.std.specs.Prelude.{if◌then◌else◌}
 use Rattle.std.proofs.lemmas.Bool.Decides.{nat_tests}
 use Rattle.std.proofs.lemmas.Option.{same_Some}
@@ -9,7 +9,7 @@ use Rattle.dds_base.specs.declared.config.PeerConfig.{PeerConfig}
 use Rattle.dds_base.specs.declared.config.WriterConfig.{WriterConfig}
 use Rattle.dds_base.specs.Kept.{change_at}
 use Rattle.dds_base.specs.Written.{Written, Registered, Changed}
-use Rattle.dds_machine.specs.Ticks.{ticked, after_tick}
+use Rattle.dds_machine.specs.Ticks.{writers_ticked, after_tick}
 use Rattle.dds_machine.specs.Calls.{with_written}
 use Rattle.dds_protocol.specs.Dues.{IsTellable, AreTellable}
 use Rattle.dds_machine.specs.Opening.{opening_writer, opening_part}
@@ -69,16 +69,17 @@ tellable_entered peer writer entry all one k =
     (numbered-cases ws writer (with_written w entry) k no_writer)
 
 -- the time went on
-numbered_ticked : (now : ℕ) (ws : List Writer) (k : ℕ) → writer_changes (get_or (map (ticked now) ws) k no_writer)
-    ≡ writer_changes (get_or ws k no_writer)
-numbered_ticked now [] k = refl
-numbered_ticked now (w ∷ ws) zero = refl
-numbered_ticked now (w ∷ ws) (suc k) = numbered_ticked now ws k
+numbered_ticked : (now : ℕ) (asked : ℕ → Bool) (n : ℕ) (ws : List Writer) (k : ℕ)
+    → writer_changes (get_or (writers_ticked now asked n ws) k no_writer) ≡ writer_changes (get_or ws k no_writer)
+numbered_ticked now asked n [] k = refl
+numbered_ticked now asked n (w ∷ ws) zero = refl
+numbered_ticked now asked n (w ∷ ws) (suc k) = numbered_ticked now asked (n + 1) ws k
 
-pub tellable_ticked : (part : Part) (now : ℕ) → AreTellable part → AreTellable (after_tick part now)
-tellable_ticked part now all zero = all zero
-tellable_ticked part now all (suc k) =
-    subst (λ (cs : List Change). AreTold cs) (sym (numbered_ticked now part.rtps.writers k)) (all (suc k))
+pub tellable_ticked : (part : Part) (asked : ℕ → Bool) (now : ℕ) → AreTellable part
+    → AreTellable (after_tick asked part now)
+tellable_ticked part asked now all zero = all zero
+tellable_ticked part asked now all (suc k) =
+    subst (λ (cs : List Change). AreTold cs) (sym (numbered_ticked now asked 1 part.rtps.writers k)) (all (suc k))
 
 -- nothing was written yet
 none_written : (peers : List PeerConfig) (ws : List WriterConfig) (k : ℕ)

@@ -1,15 +1,14 @@
 -- The writers of a peer whose time goes on.
-use Rattle.std.proofs.Common.{◌≡◌, ℕ, zero, suc, ◌+◌, ◌<◌, ◌≤◌, Option, List, [], ◌∷◌, Some, map, set, drop, length, get_or, slice_get, refl, ap, sym, ◌∙◌, subst, arith}
-use Rattle.std.specs.Prelude.{ℤ}
-use Rattle.std.proofs.lemmas.List.{length-map}
+use Rattle.std.proofs.Common.{◌≡◌, Bool, ℕ, zero, suc, ◌+◌, ◌<◌, ◌≤◌, List, [], ◌∷◌, Some, map, set, drop, length, get_or, slice_get, refl, ap, sym, ◌∙◌, subst, arith}
 use Rattle.std.proofs.lemmas.Option.{same_Some}
 use Rattle.dds_base.specs.declared.endpoint.Endpoint.{Endpoint}
 use Rattle.dds_machine.specs.Part.{Writer, no_writer}
-use Rattle.dds_machine.specs.Ticks.{ticked}
+use Rattle.dds_machine.specs.Ticks.{ticked, writers_ticked as all_ticked}
+use Rattle.dds_protocol.specs.Contact.{Contact}
 use Rattle.dds_core.specs.Kept.{WriterKept}
 use Rattle.dds_core.specs.Identity.{WriterIdentity, writer_identity}
 use Rattle.dds_core.specs.Standing.{WriterStands, WritersStand}
-use Rattle.dds_core.specs.Stepping.{Ticks, AllTick}
+use Rattle.dds_core.specs.Stepping.{Ticks, AllTick, some_await, unasked}
 
 -- the first of these writers have ticked, and the others are as they were
 abbrev pub TickedTo : ℕ → ℕ → List WriterKept → List WriterKept → Type 0
@@ -73,24 +72,55 @@ same_count now [] (x ∷ xs) h = absurd h
 same_count now (k ∷ ks) [] h = absurd h
 same_count now (k ∷ ks) (x ∷ xs) h = let rest = same_count now ks xs h.1 in omega (arith, rest)
 
-still : (now : ℕ) (old new : List WriterKept) (ws : List Writer) (answered : ℕ → Endpoint → Option ℤ)
-    → AllTick old now new → length ws ≡ length old
-    → ((j : ℕ) (k : WriterKept) → slice_get old j ≡ Some k → WriterStands k (get_or ws j no_writer) (answered (suc j)))
-    → (i : ℕ) (x : WriterKept) → slice_get new i ≡ Some x
-    → WriterStands x (get_or (map (ticked now) ws) i no_writer) (answered (suc i))
-still now [] [] ws answered h count each i x at = absurd cc
-still now [] (y ∷ ys) ws answered h count each i x at = absurd h
-still now (k ∷ ks) [] ws answered h count each i x at = absurd h
-still now (k ∷ ks) (y ∷ ys) [] answered h count each i x at = absurd (omega (arith, count))
-still now (k ∷ ks) (y ∷ ys) (w ∷ ws) answered h count each zero x at =
-    subst (λ (z : WriterKept). WriterStands z (ticked now w) (answered 1)) (same_Some y x at)
-    (h.0.stands w (answered 1) (each zero k refl))
-still now (k ∷ ks) (y ∷ ys) (w ∷ ws) answered h count each (suc i) x at =
-    still now ks ys ws (λ n. answered (suc n)) h.1 (omega (arith, count)) (λ j z there. each (suc j) z there) i x at
+-- a tick of so many writers, the first of which has this number, is one of each
+same_length : (now : ℕ) (asked : ℕ → Bool) (n : ℕ) (ws : List Writer)
+    → length (all_ticked now asked n ws) ≡ length ws
+same_length now asked n [] = refl
+same_length now asked n (w ∷ ws) = let rest = same_length now asked (n + 1) ws in omega (arith, rest)
 
-pub writers_ticked : (now : ℕ) (old new : List WriterKept) (ws : List Writer) (answered : ℕ → Endpoint → Option ℤ)
-    → AllTick old now new → WritersStand old ws answered → WritersStand new (map (ticked now) ws) answered
-writers_ticked now old new ws answered h s = record {
-  count = length-map ws (ticked now) ∙ (s.count ∙ sym (same_count now old new h));
-  each = λ i k at. still now old new ws answered h s.count s.each i k at;
+still : (now : ℕ) (asked : ℕ → Bool) (n : ℕ) (old new : List WriterKept) (ws : List Writer)
+    (answered : ℕ → Endpoint → Contact) → AllTick old now new → length ws ≡ length old
+    → ((j : ℕ) (k : WriterKept) → slice_get old j ≡ Some k
+    → WriterStands k (get_or ws j no_writer) (answered (n + j)))
+    → ((j : ℕ) → some_await (get_or ws j no_writer) (answered (n + j)) ≡ asked (n + j))
+    → (i : ℕ) (x : WriterKept) → slice_get new i ≡ Some x
+    → WriterStands x (get_or (all_ticked now asked n ws) i no_writer) (unasked (answered (n + i)))
+still now asked n [] [] ws answered h count each are i x at = absurd cc
+still now asked n [] (y ∷ ys) ws answered h count each are i x at = absurd h
+still now asked n (k ∷ ks) [] ws answered h count each are i x at = absurd h
+still now asked n (k ∷ ks) (y ∷ ys) [] answered h count each are i x at = absurd (omega (arith, count))
+still now asked n (k ∷ ks) (y ∷ ys) (w ∷ ws) answered h count each are zero x at =
+    let here : n + 0 ≡ n = omega arith in
+    let so : some_await w (answered (n + 0)) ≡ asked n = are zero ∙ ap (λ (m : ℕ). asked m) here in
+    subst (λ (b : Bool). WriterStands x (ticked now b w) (unasked (answered (n + 0)))) so
+    (subst (λ (z : WriterKept). WriterStands z (ticked now (some_await w (answered (n + 0))) w)
+    (unasked (answered (n + 0)))) (same_Some y x at)
+    (h.0.stands w (answered (n + 0)) (each zero k refl)))
+still now asked n (k ∷ ks) (y ∷ ys) (w ∷ ws) answered h count each are (suc i) x at =
+    subst (λ (m : ℕ). WriterStands x (get_or (all_ticked now asked (n + 1) ws) i no_writer) (unasked (answered m)))
+    (past i)
+    (still now asked (n + 1) ks ys ws answered h.1 (omega (arith, count))
+    (λ j z there. subst (λ (m : ℕ). WriterStands z (get_or ws j no_writer) (answered m)) (sym (past j))
+    (each (suc j) z there))
+    (λ j. subst (λ (m : ℕ). some_await (get_or ws j no_writer) (answered m) ≡ asked m) (sym (past j)) (are (suc j)))
+    i x at)
+  where
+    past : (j : ℕ) → n + 1 + j ≡ n + suc j
+    past j = omega arith
+
+pub writers_ticked : (now : ℕ) (asked : ℕ → Bool) (old new : List WriterKept) (ws : List Writer)
+    (answered : ℕ → Endpoint → Contact) → AllTick old now new → WritersStand old ws answered
+    → ((j : ℕ) → some_await (get_or ws j no_writer) (answered (suc j)) ≡ asked (suc j))
+    → WritersStand new (all_ticked now asked 1 ws) (λ n. unasked (answered n))
+writers_ticked now asked old new ws answered h s are = record {
+  count = same_length now asked 1 ws ∙ (s.count ∙ sym (same_count now old new h));
+  each = λ i x at. subst (λ (m : ℕ). WriterStands x (get_or (all_ticked now asked 1 ws) i no_writer) (unasked (answered m)))
+      (next i)
+      (still now asked 1 old new ws answered h s.count
+      (λ j k there. subst (λ (m : ℕ). WriterStands k (get_or ws j no_writer) (answered m)) (sym (next j))
+      (s.each j k there))
+      (λ j. subst (λ (m : ℕ). some_await (get_or ws j no_writer) (answered m) ≡ asked m) (sym (next j)) (are j)) i x at);
 }
+  where
+    next : (j : ℕ) → 1 + j ≡ suc j
+    next j = omega arith

@@ -209,7 +209,8 @@ effect_sent config peer (writes w (Changed change)) output less l one =
     (length (writer_changes (own_writer peer.part w)) + 1) change output less l one
 effect_sent config peer (writes w (Registered key)) output less l none = nothing_sent output less l none
 effect_sent config peer (writes w (Asserted moment)) output less l are =
-    dues_sent (assertions_due config (record { peer = peer.number; number = w }) (own_writer peer.part w))
+    dues_sent
+    (assertions_due config (peer.known.answered w) (record { peer = peer.number; number = w }) (own_writer peer.part w))
     output less l are
 effect_sent config peer (writes w LookedAt) output less l none = nothing_sent output less l none
 effect_sent config peer (writes w (StrengthSet strength)) output less l none = nothing_sent output less l none

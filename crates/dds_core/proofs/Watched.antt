@@ -16,7 +16,7 @@ use Rattle.dds_machine.specs.Watching.{Tests}
 use Rattle.dds_core.specs.Kept.{PeerKept}
 use Rattle.dds_core.specs.Standing.{StandsFor}
 use Rattle.dds_core.specs.Watching.{done_reply}
-use Rattle.dds_core.proofs.CallSteps.{Follows, FollowsBy}
+use Rattle.dds_core.proofs.CallSteps.{Follows, FollowsBy, knows_still}
 use Rattle.dds_core.proofs.Taking.{silent, stands_beside}
 
 -- what is kept stands for the state in which this is watched, once it is what is kept of that
@@ -35,7 +35,7 @@ watched_call kept new config peer s c reply none is = (
   record peer { part = record peer.part { dds = record peer.part.dds { watch = new } } },
   record {
     same_number = refl;
-    knows = refl;
+    knows = knows_still peer c reply nothing none refl;
     step = (record { answers = is; rtps = ap (λ (e : Effect). effect peer.part.rtps e) (sym none) }, refl);
     sent = λ p x m h. absurd (omega (arith, m.1));
   },

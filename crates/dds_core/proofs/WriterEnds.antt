@@ -15,11 +15,13 @@ use Rattle.dds_base.specs.Ownership.{carried}
 use Rattle.dds_base.specs.Refusal.{Refuses}
 use Rattle.dds_base.specs.Written.{Written, Changed, Ticked, changes_of}
 use Rattle.rtps_writer.specs.Standing.{Kept, StandsFor as RtpsStandsFor, reader_count}
-use Rattle.rtps_writer.specs.WriterState.{WriterState, entering, history_of, is_behind, last_of, opening, ticked}
+use Rattle.rtps_writer.specs.WriterState.{WriterState, entering, history_of, is_asked, is_behind, last_of, opening, ticked, unasked as rtps_unasked}
 use Rattle.dds_base.specs.declared.endpoint.Endpoint.{Endpoint}
 use Rattle.dds_machine.specs.Opening.{matched_readers, reliable_readers}
 use Rattle.dds_machine.specs.Matching.{seen_matches}
 use Rattle.dds_machine.specs.Part.{Matches, Writer, ReaderProxy, opened_with, peers_of, same_endpoint, writer_changes, history_of as writer_history, is_behind as is_writer_behind}
+use Rattle.dds_machine.specs.Ticks.{ticked as writer_ticked}
+use Rattle.dds_protocol.specs.Contact.{Contact}
 use Rattle.dds_base.specs.Checked.{limit_of}
 use Rattle.dds_core.specs.declared.matching.Destination.{Destination}
 use Rattle.dds_core.specs.declared.matching.LastCount.{LastCount}
@@ -35,8 +37,10 @@ use Rattle.dds_core.specs.MatchCounts.{CountsFor}
 use Rattle.dds_core.specs.MatchedEnds.{AreNamedOnce, AreRows, first_count, has_count, is_named, last_count, names_of, readers_of, topic_reader}
 use Rattle.dds_core.specs.OpeningEnds.{OpensWriter}
 use Rattle.dds_core.specs.Standing.{AreShort, CountsFrom1, IsShort, IsWhole, WriterStands, state_of}
-use Rattle.dds_core.specs.Stepping.{Enters, Ticks}
+use Rattle.dds_core.specs.Stepping.{Enters, Ticks, some_await}
 use Rattle.dds_core.proofs.Acknowledging.{state_as}
+use Rattle.dds_core.proofs.FirstPeers.{any-map}
+use Rattle.dds_core.proofs.Lists.{any_either}
 use Rattle.dds_core.proofs.MatchedAt.{ends_opened, matched_opened, named_at, named_is, once_named}
 use Rattle.dds_core.proofs.Once.{all_once, named_once}
 use Rattle.dds_core.proofs.Tables.{map-matched_readers, map-reliable_readers, told_alike}
@@ -153,6 +157,9 @@ opens_writer peers w known es ds names lasts matches limit strength kept count c
     let counts : map (λ (p : ReaderProxy). none) rows ≡ replicate count none =
     map-reliable_readers (λ (p : ReaderProxy). none) _ w.topic 1 peers
     ∙ (told_alike none reader_name w.topic 1 peers ∙ ap (λ (n : ℕ). replicate n none) many) in
+    let asks : map (λ (p : ReaderProxy). false) rows ≡ replicate count false =
+    map-reliable_readers (λ (p : ReaderProxy). false) _ w.topic 1 peers
+    ∙ (told_alike false reader_name w.topic 1 peers ∙ ap (λ (n : ℕ). replicate n false) many) in
     record {
       identity =
           identity_as w known _ es _ ds _ names _ lasts _ knows ends sent matched
@@ -170,8 +177,8 @@ opens_writer peers w known es ds names lasts matches limit strength kept count c
         writer =
             subst (λ (s : WriterState). RtpsStandsFor kept s)
             (state_as (opening w.history (limit_of w.max_samples) w.lease (carried w.ownership w.strength) count)
-            (replicate count 1) _ (replicate count 1) _ (replicate count none) _ (sym owed) (sym acknowledged)
-            (sym counts))
+            (replicate count 1) _ (replicate count 1) _ (replicate count none) _ (replicate count false) _
+            (replicate count false) _ (sym owed) (sym acknowledged) (sym counts) (sym asks) (sym asks))
             (subst (λ (z : Option ℤ). RtpsStandsFor kept
             (opening w.history (limit_of w.max_samples) w.lease z count)) carries
             (subst (λ (o : Option ℕ). RtpsStandsFor kept
@@ -183,6 +190,7 @@ opens_writer peers w known es ds names lasts matches limit strength kept count c
             (subst (λ (ls : List LastCount). AreRows (all_names w.topic peers) (reader_names w.topic peers) ls)
             (sym (first ∙ ap (λ (ns : List ReaderName). map first_count ns) matched))
             (rows_opened peers w.topic)));
+        quiet = λ reader is none. refl;
         counted = λ reader none. never_left names reader ∙ ap (λ (ls : List LastCount). last_count ls reader) (sym first);
         matches = subst (λ (rs : List Endpoint). CountsFor matches (opened_with rs)) matched_are opened;
       };
@@ -250,7 +258,7 @@ kept_as entity autodispose most known matched destinations readers counts matche
 }
 
 -- what stands for a writer does so under another name
-pub stands_there : (kept now : WriterKept) (w : Writer) (answered : Endpoint → Option ℤ) → kept ≡ now
+pub stands_there : (kept now : WriterKept) (w : Writer) (answered : Endpoint → Contact) → kept ≡ now
     → WriterStands now w answered → WriterStands kept w answered
 stands_there kept now w answered same s = subst (λ (k : WriterKept). WriterStands k w answered) (sym same) s
 
@@ -273,6 +281,7 @@ enters kept entry after more = record {
         begun = s.begun;
         rows = s.rows;
         counted = s.counted;
+        quiet = s.quiet;
         matches = s.matches;
       };
 }
@@ -291,7 +300,7 @@ enters_if (Err e) kept now entry after same more = tt
 pub accepts_if : (result : Result ℕ Code) (kept now : WriterKept) (change : Change) → kept ≡ now
     → ((s : WriterState) → RtpsStandsFor kept.writer s
     → IfOk result (λ number. (append_refusal (history_of s) change ≡ None) × (number ≡ last_of s + 1)))
-    → IfOk result (λ number. (w : Writer) (answered : Endpoint → Option ℤ) → WriterStands now w answered
+    → IfOk result (λ number. (w : Writer) (answered : Endpoint → Contact) → WriterStands now w answered
     → (append_refusal (writer_history w) change ≡ None) × (number ≡ length (writer_changes w) + 1))
 accepts_if (Ok n) kept now change same accepts =
     λ w answered s. accepts (state_of w answered) (stands_there kept now w answered same s).writer
@@ -299,7 +308,7 @@ accepts_if (Err e) kept now change same accepts = tt
 
 pub refuses_if : (result : Result ℕ Code) (kept now : WriterKept) (change : Change) → kept ≡ now
     → ((s : WriterState) → RtpsStandsFor kept.writer s → IfErr result (Refuses (append_refusal (history_of s) change)))
-    → IfErr result (λ code. (w : Writer) (answered : Endpoint → Option ℤ) → WriterStands now w answered
+    → IfErr result (λ code. (w : Writer) (answered : Endpoint → Contact) → WriterStands now w answered
     → Refuses (append_refusal (writer_history w) change) code)
 refuses_if (Ok n) kept now change same refuses = tt
 refuses_if (Err e) kept now change same refuses =
@@ -308,7 +317,7 @@ refuses_if (Err e) kept now change same refuses =
 -- a tick
 
 -- a writer of the machine is behind where its state is
-pub behind_same : (w : Writer) (answered : Endpoint → Option ℤ) → is_behind (state_of w answered) ≡ is_writer_behind w
+pub behind_same : (w : Writer) (answered : Endpoint → Contact) → is_behind (state_of w answered) ≡ is_writer_behind w
 behind_same w answered = any_same w.readers (length (writer_changes w))
   where
     any_same : (rows : List ReaderProxy) (last : ℕ)
@@ -317,14 +326,48 @@ behind_same w answered = any_same w.readers (length (writer_changes w))
     any_same [] last = refl
     any_same (p ∷ ps) last = ap (λ (b : Bool). nat_le p.acknowledged last || b) (any_same ps last)
 
-pub ticks : (kept current : WriterKept) (now : ℕ) (after : Kept) → kept ≡ current
+-- some reader asks for a HEARTBEAT, or is silent, where one of its state does or is
+pub asked_same : (w : Writer) (answered : Endpoint → Contact) → is_asked (state_of w answered) ≡ some_await w answered
+asked_same w answered =
+    let asks : ReaderProxy → Bool = λ p. (answered p.reader).asks in
+    let silent : ReaderProxy → Bool = λ p. (answered p.reader).silent in
+    ap (λ (b : Bool). b || list_any (λ s. s) (map silent w.readers)) (any-map asks (λ a. a) w.readers)
+    ∙ (ap (λ (b : Bool). list_any asks w.readers || b) (any-map silent (λ s. s) w.readers)
+    ∙ any_either asks silent w.readers)
+
+-- the state once all were told
+told_same : (w : Writer) (answered : Endpoint → Contact) (s : WriterState)
+    → s.asks ≡ map (λ (p : ReaderProxy). (answered p.reader).asks) w.readers
+    → rtps_unasked s ≡ record s { asks = map (λ (p : ReaderProxy). false) w.readers }
+told_same w answered s is =
+    ap (λ (bs : List Bool). record s { asks = bs })
+    (ap (λ (bs : List Bool). map (λ (b : Bool). false) bs) is ∙ none w.readers)
+  where
+    none : (rows : List ReaderProxy)
+        → map (λ (b : Bool). false) (map (λ (p : ReaderProxy). (answered p.reader).asks) rows)
+        ≡ map (λ (p : ReaderProxy). false) rows
+    none [] = refl
+    none (p ∷ ps) = ap (λ (bs : List Bool). false ∷ bs) (none ps)
+
+-- the state that a writer's parts stand for after the tick, before it has told anybody
+pub ticked_there : (w : Writer) (answered : Endpoint → Contact) (now : ℕ) (after : Kept)
+    → RtpsStandsFor after (ticked (state_of w answered) now)
+    → RtpsStandsFor after (state_of (writer_ticked now (some_await w answered) w) answered)
+ticked_there w answered now after stands =
+    let state : WriterState = state_of w answered in
+    subst (λ (b : Bool). RtpsStandsFor after (entering state (Ticked now (is_writer_behind w || b)))) (asked_same w answered)
+    (subst (λ (b : Bool). RtpsStandsFor after (entering state (Ticked now (b || is_asked state)))) (behind_same w answered)
+    stands)
+
+pub ticks : (kept current : WriterKept) (now : ℕ) (after told : Kept) → kept ≡ current
     → ((s : WriterState) → RtpsStandsFor kept.writer s → RtpsStandsFor after (ticked s now))
-    → Ticks current now (record kept { writer = after })
-ticks kept current now after same more = record {
+    → ((s : WriterState) → RtpsStandsFor after s → RtpsStandsFor told (rtps_unasked s))
+    → Ticks current now (record kept { writer = told })
+ticks kept current now after told same more tells = record {
   same = ap writer_identity same;
   stands = λ w answered s.
       let here = stands_there kept current w answered same s in
-      let state : WriterState = state_of w answered in
+      let new : Writer = writer_ticked now (some_await w answered) w in
       record {
         autodispose = here.autodispose;
         values = here.values;
@@ -332,11 +375,12 @@ ticks kept current now after same more = record {
         matched = here.matched;
         readers = here.readers;
         writer =
-            subst (λ (b : Bool). RtpsStandsFor after (entering state (Ticked now b))) (behind_same w answered)
-            (more state here.writer);
+            subst (λ (x : WriterState). RtpsStandsFor told x) (told_same w answered (state_of new answered) refl)
+            (tells (state_of new answered) (ticked_there w answered now after (more (state_of w answered) here.writer)));
         begun = here.begun;
         rows = here.rows;
         counted = here.counted;
+        quiet = here.quiet;
         matches = here.matches;
       };
 }
@@ -403,6 +447,7 @@ looks_at_matches kept now after view seen =
         begun = s.begun;
         rows = s.rows;
         counted = s.counted;
+        quiet = s.quiet;
         matches =
             subst (λ (n : ℕ). CountsFor after (seen_matches w.matches n))
             (sym (ap (λ (es : List Endpoint). length es) s.matched

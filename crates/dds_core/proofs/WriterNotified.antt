@@ -1,5 +1,5 @@
 -- What a peer and its listeners stand for, as they are told of what was raised at its writers.
-use Rattle.std.proofs.Common.{◌≡◌, ℕ, ℤ, suc, ◌<◌, ◌≤◌, ◌==◌, Bool, true, false, List, Option, Some, None, is_some, length, slice_get, arith, refl, ap, sym, ◌∙◌, subst}
+use Rattle.std.proofs.Common.{◌≡◌, ℕ, suc, ◌<◌, ◌≤◌, ◌==◌, Bool, true, false, List, Option, Some, None, is_some, length, slice_get, arith, refl, ap, sym, ◌∙◌, subst}
 use Rattle.std.specs.Prelude.{nat_lt, if◌then◌else◌}
 use Rattle.std.proofs.lemmas.Bool.Decides.{nat_tests}
 use Rattle.std.proofs.lemmas.List.{length-map}
@@ -15,6 +15,7 @@ use Rattle.dds_notices.specs.Listeners.{ByEntity, Places, Slotted, StandsFor as 
 use Rattle.dds_machine.specs.Matching.{publication_matched}
 use Rattle.dds_machine.specs.Noticing.{looked_at, loss_raised, losses_of, publication_raised, told}
 use Rattle.dds_machine.specs.Part.{Part, Writer, at_writer, own_writer, writer_changes}
+use Rattle.dds_protocol.specs.Contact.{Contact}
 use Rattle.dds_core.specs.declared.marks.WriterMark.{WriterMark}
 use Rattle.dds_core.specs.declared.matching.ReaderName.{ReaderName}
 use Rattle.dds_core.specs.Kept.{PeerKept, WriterKept}
@@ -110,7 +111,7 @@ not_lost before w values losses is mark le =
     not_less a b le' = grind (arith, nat_tests, le')
 
 -- more or fewer readers are matched with it, or as many
-pub matches_so : (b : Bool) (kept : WriterKept) (before w : Writer) (answered : Endpoint → Option ℤ) (here there : ℕ)
+pub matches_so : (b : Bool) (kept : WriterKept) (before w : Writer) (answered : Endpoint → Contact) (here there : ℕ)
     (values : MatchedStatus) → WriterStands kept w answered → here ≡ length kept.matched → there ≡ length before.matched
     → values ≡ publication_matched w → (here == there) ≡ b
     → (if b then None else Some (PublicationMatched values)) ≡ publication_raised before w

@@ -2,7 +2,7 @@
 -- be believed.
 --
 -- RTPS 2.5, 8.4.7 (ReaderProxy: requested_changes), 8.4.9 (reliable StatefulWriter), 8.3.8 (AckNack, Data, Gap).
-use Rattle.std.specs.Prelude.{◌≡◌, ℕ, suc, ◌+◌, ◌<◌, ◌≤◌, true, false, List, [], ◌∷◌, ◌++◌, length, map, take, set, slice_get, vec_capacity, Option, Some, None}
+use Rattle.std.specs.Prelude.{◌≡◌, ℕ, suc, ◌+◌, ◌<◌, ◌≤◌, ◌&&◌, Bool, true, false, not, if◌then◌else◌, List, [], ◌∷◌, ◌++◌, length, map, take, set, slice_get, slice_set, vec_capacity, Option, Some, None}
 use Rattle.std.specs.List.{All, AllByRecursion}
 use Rattle.dds_base.specs.declared.change.Change.{Change}
 use Rattle.dds_base.specs.declared.config.Config.{Config}
@@ -27,7 +27,7 @@ use Rattle.dds_protocol.specs.Claims.{Receiver, is_for, Names}
 use Rattle.dds_protocol.specs.Peer.{Peer, state_of}
 use Rattle.rtps_wire.specs.declared.message.Message.{Message}
 use Rattle.dds_protocol.specs.DueMessages.{Due, answer_message}
-use Rattle.dds_protocol.specs.Protocol.{State, InTurn, WriterTakes, AreGrouped, answers_per}
+use Rattle.dds_protocol.specs.Protocol.{State, InTurn, WriterTakes, AreGrouped, answers_per, asks_for_heartbeat}
 use Rattle.dds_core.specs.declared.answering.Answering.{Answering}
 use Rattle.dds_core.specs.declared.answering.Room.{Room}
 use Rattle.dds_core.specs.declared.effects.Effects.{Effects}
@@ -149,10 +149,23 @@ pub record SendsAnswers (answering : Answering) (changes : List Change) (answers
 
 -- ---- what a writer does
 
+-- the writer once an ACKNACK of its reader of this row, where that is applied, asks it for a HEARTBEAT, or answers it
+abbrev pub heard_if : (applied asks : Bool) → WriterState → ℕ → WriterState
+heard_if applied asks s row = record s {
+  asks = if applied && asks then slice_set s.asks row true else s.asks;
+  silents = if applied && not asks then slice_set s.silents row false else s.silents;
+}
+
+-- the writer after an ACKNACK of its reader of this row
+abbrev pub after_hearing : WriterState → ℕ → AckNackBody → WriterState
+after_hearing s row a =
+    heard_if (is_applied s row a.reader_sn_state.base a.count) (asks_for_heartbeat a)
+    (after_acknack s row a.reader_sn_state.base a.count) row
+
 -- a writer in this state took the ACKNACK of its reader of this row
 pub record TookAckNack (old : WriterKept) (own : GuidPrefix) (row : ℕ) (a : AckNackBody) (sent : Announced)
     (new : WriterKept) (acknowledged : Option ℕ) (gone : Announced) (s : WriterState) : Type 0 where
-  pub stands : RtpsStandsFor new.writer (after_acknack s row a.reader_sn_state.base a.count)
+  pub stands : RtpsStandsFor new.writer (after_hearing s row a)
   pub acknowledged_is : acknowledged ≡ newly_acknowledged s (after_acknack s row a.reader_sn_state.base a.count) row
   pub sends : (name : ReaderName) → slice_get old.readers row ≡ Some name
       → SendsAnswers (record { own = own; entity = old.entity; reader = name; max_value = old.max_value })

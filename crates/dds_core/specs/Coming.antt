@@ -2,7 +2,7 @@
 -- alone cite this: nothing here has to be believed.
 --
 -- RTPS 2.5, 8.4.7.4 (StatefulWriter, matched_reader_add, matched_reader_remove); DDS 1.4, 2.2.3 (DURABILITY: VOLATILE).
-use Rattle.std.specs.Prelude.{◌≡◌, ℕ, ◌==◌, Bool, false, not, if◌then◌else◌, List, [], ◌∷◌, ◌++◌, filter, slice_get, take, Option, Some, None, ℤ}
+use Rattle.std.specs.Prelude.{◌≡◌, ℕ, ◌==◌, ◌&&◌, Bool, false, not, if◌then◌else◌, List, [], ◌∷◌, ◌++◌, filter, slice_get, take, Option, Some, None, ℤ}
 use Rattle.std.specs.List.{list_any}
 use Rattle.std.specs.Option.{option_map_or}
 use Rattle.dds_base.specs.declared.config.PeerConfig.{PeerConfig}
@@ -10,6 +10,7 @@ use Rattle.dds_base.specs.declared.endpoint.Endpoint.{Endpoint}
 use Rattle.dds_base.specs.declared.code.Code.{Code}
 use Rattle.dds_machine.specs.Matching.{is_matched, joined, knows_reader, knows_reliable, left, matching_refusal, writer_looked_at}
 use Rattle.dds_machine.specs.Part.{ReaderProxy, Writer, same_endpoint}
+use Rattle.dds_protocol.specs.Contact.{Contact}
 use Rattle.dds_core.specs.declared.matching.Destination.{Destination}
 use Rattle.dds_core.specs.declared.matching.LastCount.{LastCount}
 use Rattle.dds_core.specs.declared.matching.ReaderName.{ReaderName}
@@ -47,19 +48,25 @@ abbrev pub with_place : List LastCount → Endpoint → List LastCount
 with_place counts reader =
     if has_count counts reader then counts else counts ++ record { reader = reader; count = None } ∷ []
 
--- the rows of a writer without those of this reader
+-- a writer that is not matched with this reader any more, and has no row of it; whose matches are counted as they were
 abbrev pub rows_left : Writer → Endpoint → Writer
-rows_left w reader =
-    record w { readers = filter (λ (p : ReaderProxy). not (same_endpoint p.reader reader)) w.readers }
+rows_left w reader = record w {
+  matched = filter (λ (e : Endpoint). not (same_endpoint e reader)) w.matched;
+  readers = filter (λ (p : ReaderProxy). not (same_endpoint p.reader reader)) w.readers;
+}
 
--- a writer that has no row of this reader any more, and nothing else
+-- a writer with what it keeps, once it is not matched with this reader any more
+abbrev pub unmatched_kept : WriterKept → Endpoint → WriterKept
+unmatched_kept k reader = record k { matched = without k.matched reader }
+
+-- a writer that has no row of this reader any more, and nothing else: so far it names that one among its matched readers
 pub record ForgetsRow (old : WriterKept) (reader : Endpoint) (new : WriterKept) : Type 0 where
   pub same : record new { readers = old.readers; counts = old.counts; writer = old.writer } ≡ old
   pub names : (k : ℕ) (n : ReaderName) → slice_get new.readers k ≡ Some n
       → (j : ℕ) × (slice_get old.readers j ≡ Some n)
   pub gone : is_named new.readers reader ≡ false
-  pub stands : (w : Writer) (answered : Endpoint → Option ℤ) → WriterStands old w answered
-      → WriterStands new (rows_left w reader) answered
+  pub stands : (w : Writer) (answered : Endpoint → Contact) → WriterStands old w answered
+      → WriterStands (unmatched_kept new reader) (rows_left w reader) answered
 
 -- why a writer refuses what it is told: that it is matched with the reader from now on ..
 abbrev pub joining_refusal : Writer → Endpoint → Option Code
@@ -71,7 +78,7 @@ leaving_refusal w reader = matching_refusal (knows_reader w reader) (not (is_mat
 
 -- so it is for each writer that is stood for
 abbrev pub RefusesSo : (Writer → Endpoint → Option Code) → WriterKept → Endpoint → (Option Code → Type 0) → Type 0
-RefusesSo refusal kept reader P = (w : Writer) (answered : Endpoint → Option ℤ) → WriterStands kept w answered
+RefusesSo refusal kept reader P = (w : Writer) (answered : Endpoint → Contact) → WriterStands kept w answered
     → P (refusal w reader)
 
 -- what never changes of a writer
@@ -84,18 +91,26 @@ pub record IsSameWriter (old new : WriterKept) : Type 0 where
 -- A writer that is no longer matched with this reader, and nothing else. Whom it is matched with is known as it was.
 pub record Leaves (old : WriterKept) (reader : Endpoint) (new : WriterKept) : Type 0 where
   pub same : IsSameWriter old new
-  pub stands : (w : Writer) (answered : Endpoint → Option ℤ) → WriterStands old w answered
+  pub stands : (w : Writer) (answered : Endpoint → Contact) → WriterStands old w answered
       → WriterStands new (left w reader) answered
   pub ends : (peers : List PeerConfig) (topic : ℕ)
       → AreMatchedNow peers topic old.matched old.destinations old.readers
       → AreMatchedNow peers topic new.matched new.destinations new.readers
 
--- A writer that is matched with one reader more, where it was not; and nothing else. Whom it is matched with is known,
--- as it was, where it knows the readers of its topic.
-pub record Joins (old : WriterKept) (reader : Endpoint) (new : WriterKept) : Type 0 where
+-- what a writer knows of its readers, once it is matched with this one anew: it asks for no HEARTBEAT, and is silent or
+-- not
+abbrev pub matched_anew : (Endpoint → Contact) → Endpoint → (silent : Bool) → Endpoint → Contact
+matched_anew answered reader silent r =
+    if same_endpoint r reader then record (answered reader) { asks = false; silent = silent } else answered r
+
+-- A writer that is matched with one reader more, where it was not; and nothing else. The reader asks for no HEARTBEAT,
+-- and is silent where it was greeted, and is reliable. Whom the writer is matched with is known, as it was, where it
+-- knows the readers of its topic.
+pub record Joins (old : WriterKept) (reader : Endpoint) (greeted : Bool) (new : WriterKept) : Type 0 where
   pub same : IsSameWriter old new
-  pub stands : (w : Writer) (answered : Endpoint → Option ℤ) → WriterStands old w answered
-      → WriterStands new (joined w reader (knows_reliable w reader)) answered
+  pub stands : (w : Writer) (answered : Endpoint → Contact) → WriterStands old w answered
+      → WriterStands new (joined w reader (knows_reliable w reader))
+      (matched_anew answered reader (greeted && knows_reliable w reader))
   pub ends : (peers : List PeerConfig) (topic : ℕ) → old.known ≡ topic_names topic peers
       → AreMatchedNow peers topic old.matched old.destinations old.readers
       → AreMatchedNow peers topic new.matched new.destinations new.readers
@@ -103,5 +118,5 @@ pub record Joins (old : WriterKept) (reader : Endpoint) (new : WriterKept) : Typ
 -- a writer at whose matches the application has looked, and nothing else
 pub record LooksAtMatches (old new : WriterKept) : Type 0 where
   pub same : writer_identity new ≡ writer_identity old
-  pub stands : (w : Writer) (answered : Endpoint → Option ℤ) → WriterStands old w answered
+  pub stands : (w : Writer) (answered : Endpoint → Contact) → WriterStands old w answered
       → WriterStands new (writer_looked_at w) answered

@@ -2,7 +2,7 @@
 -- here has to be believed.
 --
 -- DDS 1.4, 2.2.4.1 (communication statuses), 2.2.4.3 (access through listeners).
-use Rattle.std.specs.Prelude.{◌≡◌, ℕ, suc, ◌<◌, ◌≤◌, List, length, slice_get, Option, Some, ℤ}
+use Rattle.std.specs.Prelude.{◌≡◌, ℕ, suc, ◌<◌, ◌≤◌, List, length, slice_get, Option, Some}
 use Rattle.dds_base.specs.declared.config.Config.{Config}
 use Rattle.dds_notices.specs.declared.notice.Notice.{Notice}
 use Rattle.dds_notices.specs.declared.notice.Status.{Status}
@@ -18,6 +18,7 @@ use Rattle.dds_machine.specs.Matching.{attached_count, reader_looked_at}
 use Rattle.dds_machine.specs.Noticing.{losses_of, seen_by}
 use Rattle.dds_machine.specs.Part.{Part, Reader, Writer, WriterProxy, own_proxies, own_reader, own_writer}
 use Rattle.dds_protocol.specs.Peer.{Peer}
+use Rattle.dds_protocol.specs.Contact.{Contact}
 use Rattle.dds_core.specs.declared.marks.Marks.{Marks}
 use Rattle.dds_core.specs.declared.marks.ReaderMark.{ReaderMark}
 use Rattle.dds_core.specs.declared.marks.WriterMark.{WriterMark}
@@ -41,7 +42,7 @@ pub record IsWriterMarkOf (mark : WriterMark) (w : Writer) : Type 0 where
 
 -- so it is of each writer that the values stand for
 abbrev pub MarksWriter : WriterKept → WriterMark → Type 0
-MarksWriter kept mark = (w : Writer) (answered : Endpoint → Option ℤ) → WriterStands kept w answered
+MarksWriter kept mark = (w : Writer) (answered : Endpoint → Contact) → WriterStands kept w answered
     → IsWriterMarkOf mark w
 
 -- the first so many of these are marked so, and the others not at all
@@ -96,7 +97,7 @@ SeesStatus old status new =
 -- a status of a writer, which is what was raised there by what it was before
 abbrev pub WriterRaisesSo : (Writer → Writer → Option Status) → WriterKept → WriterMark → Option Status → Type 0
 WriterRaisesSo raised kept mark status = (before : Writer) → IsWriterMarkOf mark before
-    → (w : Writer) (answered : Endpoint → Option ℤ) → WriterStands kept w answered → status ≡ raised before w
+    → (w : Writer) (answered : Endpoint → Contact) → WriterStands kept w answered → status ≡ raised before w
 
 -- the writer, once this status of it was looked at
 abbrev pub writer_seen_by : Writer → Status → Writer
@@ -106,7 +107,7 @@ writer_seen_by w other = with_written w LookedAt
 -- a status of a writer was looked at, and nothing else
 pub record WriterSeesStatus (old : WriterKept) (status : Status) (new : WriterKept) : Type 0 where
   pub same : writer_identity new ≡ writer_identity old
-  pub stands : (w : Writer) (answered : Endpoint → Option ℤ) → WriterStands old w answered
+  pub stands : (w : Writer) (answered : Endpoint → Contact) → WriterStands old w answered
       → WriterStands new (writer_seen_by w status) answered
 
 -- for each state that a peer stands for, with the places that its listeners stand for, both stand for what the change

@@ -44,7 +44,7 @@ SendsFor config peer (writes writer (Changed change)) output =
     SendsChange config (record { peer = peer.number; number = writer }) (own_writer peer.part writer).matched
     (length (writer_changes (own_writer peer.part writer)) + 1) change output
 SendsFor config peer (writes writer (Asserted moment)) output =
-    AreSent (assertions_due config (record { peer = peer.number; number = writer })
+    AreSent (assertions_due config (peer.known.answered writer) (record { peer = peer.number; number = writer })
     (own_writer peer.part writer)) output.packets output.unsent
 SendsFor config peer other output = SendsNothing output
 
@@ -54,5 +54,5 @@ AreMessages packets = (packet : Packet) → Contains packets packet → HasSubme
 
 -- what is due at a tick that this answers: the HEARTBEATs of the peer's writers, and nothing where it is refused
 abbrev pub due_at_tick : Config → Peer → Reply → List Due
-due_at_tick config peer Done = heartbeats_due config peer.number peer.part
+due_at_tick config peer Done = heartbeats_due config peer.known.answered peer.number peer.part
 due_at_tick config peer reply = []

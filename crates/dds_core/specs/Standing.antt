@@ -4,7 +4,7 @@
 --
 -- RTPS 2.5, 8.4.7 (StatefulWriter, ReaderProxy), 8.4.10 (StatefulReader, WriterProxy): the machine has them
 -- without packets.
-use Rattle.std.specs.Prelude.{◌≡◌, ℕ, suc, ◌<◌, ◌≤◌, List, [], map, length, get_or, slice_get, Option, Some, ℤ, All, true, false}
+use Rattle.std.specs.Prelude.{◌≡◌, ℕ, suc, ◌<◌, ◌≤◌, List, [], map, length, get_or, slice_get, Some, All, true, false}
 use Rattle.dds_base.specs.declared.config.Config.{Config}
 use Rattle.dds_base.specs.declared.change.Change.{Change}
 use Rattle.dds_base.specs.Bounds.{end_of_moments, greatest_value, max_readers}
@@ -22,6 +22,7 @@ use Rattle.dds_protocol.specs.Dues.{AreTellable}
 use Rattle.dds_machine.specs.Matching.{attached_count}
 use Rattle.dds_machine.specs.Part.{Attachment, Away, Waiting, Begun, how_of, Writer, Reader, ReaderProxy, WriterProxy, no_writer, no_reader, peers_of, place_of}
 use Rattle.dds_protocol.specs.Peer.{Peer}
+use Rattle.dds_protocol.specs.Contact.{Contact}
 use Rattle.dds_protocol.specs.Protocol.{Known}
 use Rattle.dds_core.specs.declared.matching.Destination.{Destination}
 use Rattle.dds_core.specs.declared.matching.ReaderName.{ReaderName}
@@ -33,8 +34,8 @@ use Rattle.dds_core.specs.MatchCounts.{CountsFor}
 use Rattle.dds_core.specs.MatchedEnds.{AreAmong, AreNamedOnce, AreRows, is_named, last_count, readers_of, topic_reader}
 use Rattle.dds_core.specs.Identity.{identity_of, IsPeerOf}
 
--- the state of a writer of the machine, with the count of the last ACKNACK that it took of each matched reader
-abbrev pub state_of : Writer → (Endpoint → Option ℤ) → WriterState
+-- the state of a writer of the machine, with what it knows of each matched reader by its ACKNACKs
+abbrev pub state_of : Writer → (Endpoint → Contact) → WriterState
 state_of w answered = record {
   policy = w.policy;
   max_samples = w.max_samples;
@@ -43,15 +44,23 @@ state_of w answered = record {
   written = w.written;
   firsts = map (λ (p : ReaderProxy). p.first) w.readers;
   acknowledged = map (λ (p : ReaderProxy). p.acknowledged) w.readers;
-  counts = map (λ (p : ReaderProxy). answered p.reader) w.readers;
+  counts = map (λ (p : ReaderProxy). (answered p.reader).count) w.readers;
+  asks = map (λ (p : ReaderProxy). (answered p.reader).asks) w.readers;
+  silents = map (λ (p : ReaderProxy). (answered p.reader).silent) w.readers;
 }
 
 -- the reader of a row has acknowledged all below a number from 1 on
 abbrev pub CountsFrom1 : ReaderProxy → Type 0
 CountsFrom1 p = 1 ≤ p.acknowledged
 
--- a writer of the machine for which what is kept stands, with those counts; that of a reader without a row is kept beside
-pub record WriterStands (kept : WriterKept) (w : Writer) (answered : Endpoint → Option ℤ) : Type 0 where
+-- a matched reader without a row is not silent
+abbrev pub AreQuiet : (matched names : List ReaderName) → (Endpoint → Contact) → Type 0
+AreQuiet matched names answered = (reader : Endpoint) → is_named matched reader ≡ true
+    → is_named names reader ≡ false → (answered reader).silent ≡ false
+
+-- a writer of the machine for which what is kept stands, with what it knows so; the count of a reader without a row is
+-- kept beside
+pub record WriterStands (kept : WriterKept) (w : Writer) (answered : Endpoint → Contact) : Type 0 where
   pub autodispose : w.autodispose ≡ kept.autodispose
   pub values : w.max_value ≡ kept.max_value
   pub known : w.known ≡ map topic_reader kept.known
@@ -61,7 +70,8 @@ pub record WriterStands (kept : WriterKept) (w : Writer) (answered : Endpoint �
   pub begun : All CountsFrom1 w.readers
   pub rows : AreRows kept.matched kept.readers kept.counts
   pub counted : (reader : Endpoint) → is_named kept.readers reader ≡ false
-      → answered reader ≡ last_count kept.counts reader
+      → (answered reader).count ≡ last_count kept.counts reader
+  pub quiet : AreQuiet kept.matched kept.readers answered
   pub matches : CountsFor kept.matches w.matches
 
 -- a value has at most so many octets, and no more than a datagram takes
@@ -125,8 +135,8 @@ pub record ReaderStands (kept : ReaderKept) (proxies : List WriterProxy) (r : Re
   pub counts : CountsFor kept.matches r.matches
   pub here_is : kept.here ≡ attached_count proxies
 
--- each of a peer's writers stands for the one of its number, with the counts of the last ACKNACKs that it took
-pub record WritersStand (kept : List WriterKept) (ws : List Writer) (answered : ℕ → Endpoint → Option ℤ) : Type 0 where
+-- each of a peer's writers stands for the one of its number, with what it knows of its readers
+pub record WritersStand (kept : List WriterKept) (ws : List Writer) (answered : ℕ → Endpoint → Contact) : Type 0 where
   pub count : length ws ≡ length kept
   pub each : (i : ℕ) (k : WriterKept) → slice_get kept i ≡ Some k
       → WriterStands k (get_or ws i no_writer) (answered (suc i))

@@ -2,16 +2,17 @@
 //!
 //! RTPS 2.5, 8.4.7 (ReaderProxy), 8.4.9 (reliable StatefulWriter), 8.3.8 (AckNack, Data, Gap).
 
-ghost use Rattle.std.specs.Prelude.{◌≡◌, ◌++◌, ◌+◌, ◌^◌, ◌<◌, ◌≤◌, ◌↔◌, ◌∷◌, IsTrue, Some, length, IfOk, OnOk, []};
+ghost use Rattle.std.specs.Prelude.{◌≡◌, ◌++◌, ◌+◌, ◌^◌, ◌<◌, ◌≤◌, ◌&&◌, ◌↔◌, ◌∷◌, IsTrue, Some, length, IfOk, OnOk, []};
 ghost use Rattle.rtps_wire.specs.Messages.{IsWritable};
 ghost use Rattle.rtps_writer.specs.declared.answer.Answer.TheVariants as answer;
-ghost use Rattle.rtps_writer.specs.Standing.{StandsFor as RtpsStandsFor};
+ghost use Rattle.rtps_writer.specs.Acknack.{is_applied};
+ghost use Rattle.rtps_writer.specs.Standing.{reader_count, StandsFor as RtpsStandsFor};
 ghost use Rattle.rtps_writer.specs.WriterState.{WriterState};
 ghost use Rattle.dds_base.specs.Bounds.{window_width};
 ghost use Rattle.dds_base.specs.Written.{changes_of};
 ghost use Rattle.dds_protocol.specs.DueMessages.{data_of, submessages_of};
-ghost use Rattle.dds_protocol.specs.Protocol.{answers_per};
-ghost use Rattle.dds_core.specs.Answering.{SpellsMore, IsFrom, HasRoom, AreRooms, AreAnswerable, CanAnswer, SendsAnswers, message_of};
+ghost use Rattle.dds_protocol.specs.Protocol.{answers_per, asks_for_heartbeat};
+ghost use Rattle.dds_core.specs.Answering.{SpellsMore, IsFrom, HasRoom, AreRooms, AreAnswerable, CanAnswer, SendsAnswers, heard_if, message_of};
 ghost use Rattle.dds_core.specs.Readiness.{receiver_at};
 ghost use Rattle.dds_core.specs.Sending.{AreMessages};
 ghost use Rattle.dds_core.specs.Standing.{IsShort};
@@ -86,6 +87,34 @@ pub fn rooms(
         rooms.push(one)?;
     }
     Ok(rooms)
+}
+
+/// Whether an ACKNACK asks for a HEARTBEAT: it is not final, and asks for no change.
+///
+/// RTPS 2.5, 8.3.8 (AckNack: FinalFlag).
+fn asks_for_heartbeat(body: &AckNack) -> bool
+    ensures { result ≡ asks_for_heartbeat body.now }
+{
+    !body.final_flag && body.reader_sn_state.bits() == 0
+}
+
+/// A writer's reader of this row asks for a HEARTBEAT by this ACKNACK, where that is applied, or has answered by it.
+///
+/// RTPS 2.5, 8.4.9 (reliable StatefulWriter), 8.3.8 (AckNack: FinalFlag).
+pub fn mark_heard(writer: &mut StatefulWriter, row: usize, body: &AckNack, is_applied: bool)
+    requires row { row < reader_count writer.old }
+    ensures stands { (s : WriterState) → RtpsStandsFor writer.old s
+        → RtpsStandsFor writer.new (heard_if is_applied (asks_for_heartbeat body.now) s row) }
+    ensures readers { reader_count writer.new ≡ reader_count writer.old }
+{
+    if !is_applied {
+        return;
+    }
+    if asks_for_heartbeat(body) {
+        writer.ask(row);
+    } else {
+        writer.answer_heard(row);
+    }
 }
 
 /// Who answers whom: a writer of the peer of this prefix, one of its matched readers.

@@ -95,9 +95,10 @@ impl<F: Filter, L: Listener> Core<F, L> {
     /// to that of the participant, and its flag is cleared, as by a look; where none takes it the flag stays. The
     /// writers come first, in their order, then the readers, and the statuses of each by ascending bit.
     /// Packets go out for a change that was made and for an assertion, one for each peer with a matched reader; at a
-    /// tick for each writer, HEARTBEATs to each peer with a reader that is behind; and at a delivery the ACKNACKs
-    /// that its HEARTBEATs ask for, and the changes and GAPs that its ACKNACKs do. Those for which there is no memory
-    /// are counted in `unsent`.
+    /// tick for each writer, HEARTBEATs to each peer with a reader that is behind, has asked for one since the last
+    /// tick by an ACKNACK that is not final and asks for no change, or was greeted and has not answered; and at a
+    /// delivery the ACKNACKs that its HEARTBEATs ask for, and the changes and GAPs that its ACKNACKs do. Those for
+    /// which there is no memory are counted in `unsent`.
     ///
     /// DDS 1.4, 2.2.2.4 and 2.2.2.5 (DataWriter, DataReader), 2.2.4.3 (access through listeners); RTPS 2.5, 8.4
     /// (behaviour).

@@ -93,7 +93,11 @@ impl Peer {
             Call::WaitEnd { wait_set } => self.wait_end(wait_set),
             Call::SetEnabledStatuses { entity, mask } => self.set_enabled_statuses(entity, mask),
             Call::GetStatusChanges { entity } => self.get_status_changes(entity),
-            Call::MatchReader { writer, reader } => self.match_reader(writer, reader),
+            Call::MatchReader {
+                writer,
+                reader,
+                greeted,
+            } => self.match_reader(writer, reader, greeted),
             Call::UnmatchReader { writer, reader } => self.unmatch_reader(writer, reader),
             Call::MatchWriter { reader, writer } => self.match_writer(reader, writer),
             Call::UnmatchWriter { reader, writer } => self.unmatch_writer(reader, writer),

@@ -96,6 +96,7 @@ fn add_place(counts: &mut Vec<LastCount>, reader: Endpoint)
 }
 
 /// Makes a row, last, of the reader of this name, where that is reliable: of these names and counts, and of the writer.
+/// The reader is silent where it is greeted.
 ///
 /// # Errors
 ///
@@ -106,6 +107,7 @@ pub fn add_row(
     writer: &mut StatefulWriter,
     name: ReaderName,
     is_reliable: bool,
+    greeted: bool,
 ) -> Result<(), Code>
     ensures readers { OnOk result
         (readers.new.items
@@ -115,7 +117,7 @@ pub fn add_row(
         ≡ (if is_reliable then with_place counts.old.items name.reader else counts.old.items)) }
     ensures writer { (s : WriterState) → StandsFor writer.old s
         → OnOk result (StandsFor writer.new
-        (if is_reliable then joined s (last_count counts.old.items name.reader) else s)) }
+        (if is_reliable then joined s (last_count counts.old.items name.reader) greeted else s)) }
     ensures rows { OnOk result
         (reader_count writer.new + length readers.old.items
         ≡ reader_count writer.old + length readers.new.items) }
@@ -131,7 +133,7 @@ pub fn add_row(
     readers.reserve(1)?;
     counts.reserve(1)?;
     let count = last_count(counts.as_slice(), name.reader);
-    writer.join(count)?;
+    writer.join(count, greeted)?;
     readers.push_reserved(name);
     add_place(counts, name.reader);
     Ok(())

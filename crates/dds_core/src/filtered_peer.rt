@@ -85,9 +85,11 @@ impl<F: Filter> FilteredPeer<F> {
     /// liveliness whose own lease is over, and then HEARTBEATs are sent. What is refused changes nothing, but for
     /// `NoData`, which is entered as the access that it is, and `Timeout` of a look at a WaitSet, which ends the wait.
     /// Packets go out for a change that was made and for an assertion, one for each peer with a matched reader; at a
-    /// tick for each writer, HEARTBEATs to each peer with a reader that is behind; and at a delivery the ACKNACKs
-    /// that its HEARTBEATs ask for, and the changes and GAPs that its ACKNACKs do. Those for which there is no memory
-    /// are counted in `unsent`. Where two replies are asked for, all memory for both is asked for before anything changes.
+    /// tick for each writer, HEARTBEATs to each peer with a reader that is behind, has asked for one since the last
+    /// tick by an ACKNACK that is not final and asks for no change, or was greeted and has not answered; and at a
+    /// delivery the ACKNACKs that its HEARTBEATs ask for, and the changes and GAPs that its ACKNACKs do. Those for
+    /// which there is no memory are counted in `unsent`. Where two replies are asked for, all memory for both is asked
+    /// for before anything changes.
     ///
     /// DDS 1.4, 2.2.2.4 and 2.2.2.5 (DataWriter, DataReader); RTPS 2.5, 8.4 (behaviour).
     #[inline(always)]

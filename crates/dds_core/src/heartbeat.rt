@@ -1,19 +1,21 @@
-//! The HEARTBEATs of a writer: at a tick a message to each peer with a matched reader that is behind, for an assertion
-//! one to each peer with a matched reader. The message has one HEARTBEAT for all readers there, or, where some of them
-//! is not owed all that is kept, one by name to each, which begins where that one does.
+//! The HEARTBEATs of a writer: at a tick a message to each peer with a matched reader that is behind, asks for one, or is
+//! silent; for an assertion one to each peer with a matched reader. The message has one HEARTBEAT for all readers there,
+//! or, where some of them is not owed all that is kept, or is silent, one by name to each, which begins where that one
+//! does, and to a silent one names no number.
 //!
 //! RTPS 2.5, 8.4.9 (reliable StatefulWriter: heartbeatPeriod), 8.3.8 (Heartbeat), 8.7.2.2 (LIVELINESS).
 
-ghost use Rattle.std.specs.Prelude.{◌≡◌, ◌+◌, ◌++◌, ◌<◌, ◌≤◌, ◌∷◌, [], ℤ, Option, IfOk, OnOk, length, take};
+ghost use Rattle.std.specs.Prelude.{◌≡◌, ◌+◌, ◌++◌, ◌<◌, ◌≤◌, ◌∷◌, [], IfOk, OnOk, length, take};
 ghost use Rattle.dds_base.specs.Bounds.{max_readers};
 ghost use Rattle.rtps_wire.specs.Messages.{IsWritable};
-ghost use Rattle.rtps_wire.specs.Submessages.{IsSpellable};
+ghost use Rattle.rtps_wire.specs.Submessages.{IsSpellable, value_octets};
 ghost use Rattle.rtps_writer.specs.Standing.{reader_count, StandsFor as RtpsStandsFor};
 ghost use Rattle.dds_base.specs.declared.endpoint.Endpoint.{Endpoint as EndpointOf};
-ghost use Rattle.dds_machine.specs.Part.{Writer, writer_changes};
+ghost use Rattle.dds_machine.specs.Part.{Writer};
 ghost use Rattle.dds_protocol.specs.Claims.{every_reader};
-ghost use Rattle.dds_protocol.specs.DueMessages.{begins_at, is_one_for_all};
-ghost use Rattle.dds_core.specs.Beating.{AddsBare, AreReadersOf, Beats, CanBegin, ForEach, IsDueOf, Tells, beat_for, beat_from, beats_at, beats_for, is_first_behind, is_peer_behind, message_to, names_behind};
+ghost use Rattle.dds_protocol.specs.DueMessages.{is_one_for_all, is_told};
+ghost use Rattle.dds_protocol.specs.Contact.{Contact};
+ghost use Rattle.dds_core.specs.Beating.{AddsBare, AreReadersOf, Beats, CanSpan, ForEach, IsDueOf, Tells, beat_for, beat_from, beats_at, beats_for, is_first_told, is_peer_told, message_to, names_told};
 ghost use Rattle.dds_core.specs.Sending.{AreMessages};
 ghost use Rattle.dds_core.specs.Standing.{state_of};
 
@@ -36,10 +38,10 @@ pub struct Beat {
     pub asserts: bool,
 }
 
-/// The HEARTBEAT to readers of this entity id, from this number on.
-fn beat_from(beat: &Beat, reader: EntityId, first: Sn) -> Submessage<'static>
-    requires { CanBegin beat.now.due first }
-    ensures says { result ≡ beat_from beat.now reader first }
+/// The HEARTBEAT to readers of this entity id, from this number to that.
+fn beat_from(beat: &Beat, reader: EntityId, first: Sn, last: Sn) -> Submessage<'static>
+    requires { CanSpan first last }
+    ensures says { result ≡ beat_from beat.now reader first last }
     ensures spells { IsSpellable result }
 {
     // These show the prover how many octets the names have.
@@ -48,7 +50,7 @@ fn beat_from(beat: &Beat, reader: EntityId, first: Sn) -> Submessage<'static>
         reader_id: reader,
         writer_id: beat.entity,
         first_sn: first,
-        last_sn: beat.due.last,
+        last_sn: last,
         count: beat.due.count,
         final_flag: beat.asserts,
         liveliness_flag: beat.asserts,
@@ -57,9 +59,9 @@ fn beat_from(beat: &Beat, reader: EntityId, first: Sn) -> Submessage<'static>
 
 /// The HEARTBEAT to all readers, as a message to the peer of this prefix.
 fn message_for_all(alloc: Global, beat: &Beat, to: GuidPrefix) -> Message<'static>
-    requires { CanBegin beat.now.due beat.now.due.first }
+    requires { CanSpan beat.now.due.first beat.now.due.last }
     ensures says { result
-        ≡ message_to beat.now to (beat_from beat.now every_reader beat.now.due.first ∷ []) }
+        ≡ message_to beat.now to (beat_from beat.now every_reader beat.now.due.first beat.now.due.last ∷ []) }
     ensures writable { IsWritable result }
     ensures some { 1 ≤ length result.submessages }
 {
@@ -67,28 +69,31 @@ fn message_for_all(alloc: Global, beat: &Beat, to: GuidPrefix) -> Message<'stati
     let (_prefix, _to) = (beat.prefix.as_slice(), to.as_slice());
     let mut submessages = Submessages::new(alloc);
     submessages.push_in_place(Submessage::InfoDst(to));
-    submessages.push_in_place(beat_from(beat, EntityId::UNKNOWN, beat.due.first));
+    submessages.push_in_place(beat_from(beat, EntityId::UNKNOWN, beat.due.first, beat.due.last));
     Message {
         prefix: beat.prefix,
         submessages,
     }
 }
 
-/// Where a HEARTBEAT that is due of a writer begins, by name to this reader.
-fn begins_at(
-    due: &HeartbeatDue,
+/// The HEARTBEAT by name to this reader.
+fn beat_for(
+    beat: &Beat,
     writer: &StatefulWriter,
     readers: &[ReaderName],
-    reader: Endpoint,
-) -> Sn
-    requires due { IsDueOf writer.now due.now }
+    name: &ReaderName,
+) -> Submessage<'static>
+    requires due { IsDueOf writer.now beat.now.due }
     requires count { reader_count writer.now ≡ length readers.now }
-    ensures begins { ForEach due.now.first writer.now readers.now (λ w. result ≡ begins_at w reader) }
-    ensures can { CanBegin due.now result }
+    ensures says { ForEach beat.now.due.first writer.now readers.now
+        (λ w answered. result ≡ beat_for beat.now w answered name.now) }
+    ensures spells { IsSpellable result }
+    ensures bare { value_octets result ≡ 0 }
 {
-    match row_among(readers, reader) {
-        Some(row) => writer.first_for(row),
-        None => due.first,
+    let reader = name.guid.entity;
+    match row_among(readers, name.reader) {
+        Some(row) => beat_from(beat, reader, writer.first_for(row), writer.last_for(row)),
+        None => beat_from(beat, reader, beat.due.first, writer.last()),
     }
 }
 
@@ -104,15 +109,14 @@ fn push_beat(
     requires count { reader_count writer.now ≡ length readers.now }
     ensures bare { OnOk result (AddsBare 1 submessages.old submessages.new) }
     ensures adds { OnOk result (ForEach beat.now.due.first writer.now readers.now
-        (λ w. submessages.new ≡ submessages.old ++ beat_for beat.now w name.now ∷ [])) }
+        (λ w answered. submessages.new ≡ submessages.old ++ beat_for beat.now w answered name.now ∷ [])) }
 {
-    let first = begins_at(&beat.due, writer, readers, name.reader);
-    submessages.push(beat_from(beat, name.guid.entity, first))?;
+    submessages.push(beat_for(beat, writer, readers, name))?;
     Ok(())
 }
 
-/// Adds a HEARTBEAT by name to each reader of this peer that is behind, among these of a writer, in their order.
-fn push_behind(
+/// Adds a HEARTBEAT by name to each reader of this peer that is told, among these of a writer, in their order.
+fn push_told(
     submessages: &mut Submessages<'_>,
     beat: &Beat,
     writer: &StatefulWriter,
@@ -123,14 +127,13 @@ fn push_behind(
     requires count { reader_count writer.now ≡ length readers.now }
     ensures bare { OnOk result (AddsBare (length readers.now) submessages.old submessages.new) }
     ensures adds { OnOk result (ForEach beat.now.due.first writer.now readers.now
-        (λ w. submessages.new
+        (λ w answered. submessages.new
         ≡ submessages.old
-        ++ beats_for beat.now w
-        (names_behind (length (writer_changes w)) w.readers readers.now) peer)) }
+        ++ beats_for beat.now w answered (names_told (is_told answered w) w.readers readers.now) peer)) }
 {
     for row in 0..readers.len() {
         let name = &readers[row];
-        if writer.is_behind(row) && name.reader.peer == peer {
+        if writer.is_told(row) && name.reader.peer == peer {
             push_beat(submessages, beat, writer, readers, name)?;
         }
     }
@@ -150,7 +153,7 @@ fn push_matched(
     requires count { reader_count writer.now ≡ length readers.now }
     ensures bare { OnOk result (AddsBare (length matched.now) submessages.old submessages.new) }
     ensures adds { OnOk result (ForEach beat.now.due.first writer.now readers.now
-        (λ w. submessages.new ≡ submessages.old ++ beats_for beat.now w matched.now peer)) }
+        (λ w answered. submessages.new ≡ submessages.old ++ beats_for beat.now w answered matched.now peer)) }
 {
     for name in matched {
         if name.reader.peer == peer {
@@ -161,21 +164,23 @@ fn push_matched(
 }
 
 /// Whether one HEARTBEAT, from this first kept number on, is for all readers at a peer: each of a writer's reliable ones
-/// there is owed all that is kept.
+/// there is owed all that is kept, and none is silent.
 fn is_one_for_all(writer: &StatefulWriter, readers: &[ReaderName], first: Sn, peer: u8) -> bool
     requires count { reader_count writer.now ≡ length readers.now }
-    ensures { ForEach first writer.now readers.now (λ w. result ≡ is_one_for_all w peer) }
+    ensures { ForEach first writer.now readers.now (λ w answered. result ≡ is_one_for_all answered w peer) }
 {
     for row in 0..readers.len() {
-        if readers[row].reader.peer == peer && first < writer.first_for(row) {
+        if readers[row].reader.peer == peer
+            && (first < writer.first_for(row) || writer.is_silent(row))
+        {
             return false;
         }
     }
     true
 }
 
-/// The message of a tick to a peer: to the readers there that are behind, among these of a writer.
-fn message_to_behind(
+/// The message of a tick to a peer: to the readers there that are told, among these of a writer.
+fn message_to_told(
     alloc: Global,
     beat: &Beat,
     writer: &StatefulWriter,
@@ -185,11 +190,10 @@ fn message_to_behind(
     requires due { IsDueOf writer.now beat.now.due }
     requires count { reader_count writer.now ≡ length readers.now }
     requires few { length readers.now ≤ max_readers }
-    ensures says { ForEach beat.now.due.first writer.now readers.now (λ w. IfOk result
+    ensures says { ForEach beat.now.due.first writer.now readers.now (λ w answered. IfOk result
         (λ m. m
         ≡ message_to beat.now to.now.prefix
-        (beats_at beat.now w
-        (names_behind (length (writer_changes w)) w.readers readers.now) to.now.peer))) }
+        (beats_at beat.now w answered (names_told (is_told answered w) w.readers readers.now) to.now.peer))) }
     ensures writable { IfOk result IsWritable }
     ensures some { IfOk result (λ m. 1 ≤ length m.submessages) }
 {
@@ -200,7 +204,7 @@ fn message_to_behind(
     let (_prefix, _to) = (beat.prefix.as_slice(), to.prefix.as_slice());
     let mut submessages = Submessages::new(alloc);
     submessages.push_in_place(Submessage::InfoDst(to.prefix));
-    push_behind(&mut submessages, beat, writer, readers, to.peer)?;
+    push_told(&mut submessages, beat, writer, readers, to.peer)?;
     Ok(Message {
         prefix: beat.prefix,
         submessages,
@@ -219,9 +223,9 @@ fn message_to_matched(
     requires due { IsDueOf writer.now beat.now.due }
     requires count { reader_count writer.now ≡ length readers.now }
     requires few { length matched.now ≤ max_readers }
-    ensures says { ForEach beat.now.due.first writer.now readers.now (λ w. IfOk result
+    ensures says { ForEach beat.now.due.first writer.now readers.now (λ w answered. IfOk result
         (λ m. m
-        ≡ message_to beat.now to.now.prefix (beats_at beat.now w matched.now to.now.peer))) }
+        ≡ message_to beat.now to.now.prefix (beats_at beat.now w answered matched.now to.now.peer))) }
     ensures writable { IfOk result IsWritable }
     ensures some { IfOk result (λ m. 1 ≤ length m.submessages) }
 {
@@ -239,43 +243,41 @@ fn message_to_matched(
     })
 }
 
-/// Whether some reader of this peer, among the first so many of these readers of a writer, has not acknowledged all
-/// changes.
+/// Whether some reader of this peer, among the first so many of these readers of a writer, is told.
 ///
-/// RTPS 2.5, 8.4.7 (ReaderProxy, unacked_changes).
-fn is_peer_behind(writer: &StatefulWriter, readers: &[ReaderName], to: usize, peer: u8) -> bool
+/// RTPS 2.5, 8.4.7 (ReaderProxy, unacked_changes), 8.3.8 (AckNack: FinalFlag).
+fn is_peer_told(writer: &StatefulWriter, readers: &[ReaderName], to: usize, peer: u8) -> bool
     requires count { reader_count writer.now ≡ length readers.now }
     requires to { to ≤ length readers.now }
-    ensures { (w : Writer) (answered : EndpointOf → Option ℤ)
+    ensures { (w : Writer) (answered : EndpointOf → Contact)
         → AreReadersOf w readers.now
         → RtpsStandsFor writer.now (state_of w answered)
-        → result ≡ is_peer_behind (length (writer_changes w)) peer (take to w.readers) }
+        → result ≡ is_peer_told (is_told answered w) peer (take to w.readers) }
 {
     for row in 0..to {
         let name = readers[row];
-        if name.reader.peer == peer && writer.is_behind(row) {
+        if name.reader.peer == peer && writer.is_told(row) {
             return true;
         }
     }
     false
 }
 
-/// Whether the reader of this row is the first one of its peer, among these readers of a writer, that has not
-/// acknowledged all changes.
-fn is_first_behind(writer: &StatefulWriter, readers: &[ReaderName], row: usize) -> bool
+/// Whether the reader of this row is the first one of its peer, among these readers of a writer, that is told.
+fn is_first_told(writer: &StatefulWriter, readers: &[ReaderName], row: usize) -> bool
     requires count { reader_count writer.now ≡ length readers.now }
     requires row { row < length readers.now }
-    ensures { (w : Writer) (answered : EndpointOf → Option ℤ)
+    ensures { (w : Writer) (answered : EndpointOf → Contact)
         → AreReadersOf w readers.now
         → RtpsStandsFor writer.now (state_of w answered)
-        → result ≡ is_first_behind (length (writer_changes w)) w.readers row }
+        → result ≡ is_first_told (is_told answered w) w.readers row }
 {
     let peer = readers[row].reader.peer;
-    writer.is_behind(row) && !is_peer_behind(writer, readers, row, peer)
+    writer.is_told(row) && !is_peer_told(writer, readers, row, peer)
 }
 
-/// Sends HEARTBEATs to each peer with a reader that is behind, among these readers of a writer, in the order of the
-/// first such reader of each.
+/// Sends HEARTBEATs to each peer with a reader that is told, among these readers of a writer, in the order of the first
+/// such reader of each.
 pub fn send_beats(
     alloc: Global,
     beat: &Beat,
@@ -293,9 +295,9 @@ pub fn send_beats(
     ensures messages { AreMessages sent.old.packets.items → AreMessages sent.new.packets.items }
 {
     for row in 0..readers.len() {
-        if is_first_behind(writer, readers, row) {
+        if is_first_told(writer, readers, row) {
             let to = readers[row].peer();
-            let message = message_to_behind(alloc, beat, writer, readers, &to);
+            let message = message_to_told(alloc, beat, writer, readers, &to);
             send_made(alloc, sent, message, to.peer);
         }
     }

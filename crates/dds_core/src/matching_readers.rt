@@ -16,8 +16,8 @@ use dds_machine::Reply;
 use dds_protocol::Output;
 
 impl Peer {
-    pub(crate) fn match_reader(&mut self, writer: u8, reader: Endpoint) -> Output
-        ensures step { Steps self.old (event.Call (call.MatchReader writer reader)) result
+    pub(crate) fn match_reader(&mut self, writer: u8, reader: Endpoint, greeted: bool) -> Output
+        ensures step { Steps self.old (event.Call (call.MatchReader writer reader greeted)) result
             self.new }
         ensures sends { SendsNothing result }
         ensures plain { IsPlain result.reply }
@@ -25,7 +25,7 @@ impl Peer {
         let Some(index) = index_of(writer, self.writers.len()) else {
             return self.refused(Code::BadParameter);
         };
-        match self.writers[index].join(reader) {
+        match self.writers[index].join(reader, greeted) {
             Ok(()) => answered(self.alloc, Reply::Done),
             Err(code) => self.refused(code),
         }

@@ -2,7 +2,7 @@
 //!
 //! RTPS 2.5, 8.4.7 (StatefulWriter); DDS 1.4, 2.2.2.4 (DataWriter).
 
-ghost use Rattle.std.specs.Prelude.{◌≡◌, ◌≢◌, ◌+◌, ◌^◌, ◌<◌, ◌≤◌, ◌⊎◌, ℤ, [], Option, length, map, nat_le, slice_get, slice_index, Some, None, true, false, IfSome, IfNone, IfOk, IfErr, OnOk, OnErr};
+ghost use Rattle.std.specs.Prelude.{◌≡◌, ◌≢◌, ◌+◌, ◌^◌, ◌<◌, ◌≤◌, ◌⊎◌, [], Option, length, map, nat_le, slice_get, slice_index, Some, None, true, false, IfSome, IfNone, IfOk, IfErr, OnOk, OnErr};
 ghost use Rattle.dds_base.specs.Bounds.{greatest_value, max_changes, max_ends, max_readers, window_width};
 ghost use Rattle.dds_base.specs.Checked.{check_refusal};
 ghost use Rattle.dds_base.specs.declared.code.Code.TheVariants.{Memory, OutOfResources, PreconditionNotMet};
@@ -16,6 +16,7 @@ ghost use Rattle.dds_machine.specs.Noticing.{loss_raised, publication_raised};
 ghost use Rattle.dds_machine.specs.Watching.{writer_statuses};
 ghost use Rattle.dds_machine.specs.Refusals.{strength_of, unregister_kind};
 ghost use Rattle.dds_machine.specs.Part.{ReaderProxy, Writer, history_of, writer_changes};
+ghost use Rattle.dds_protocol.specs.Contact.{Contact};
 ghost use Rattle.dds_core.specs.declared.matching.ReaderName.{ReaderName as NameOf};
 ghost use Rattle.dds_core.specs.Answering.{HasRoom, AreRooms, IsAskedAt, IsUnaskedAt, IsUnasked, TakesAckNack};
 ghost use Rattle.dds_core.specs.Beating.{BeatsOf, BeatsOfAll, HasNoCount, TellsOf};
@@ -30,7 +31,7 @@ ghost use Rattle.dds_core.specs.Announcing.{AreAnnouncements};
 ghost use Rattle.dds_core.specs.Standing.{IsShort, WriterStands};
 ghost use Rattle.dds_core.specs.Stepping.{Enters, Ticks, AllTick};
 
-use crate::answering::{Answering, Room, is_from, rooms, send_answers};
+use crate::answering::{Answering, Room, is_from, mark_heard, rooms, send_answers};
 use crate::coming::{add_peer, add_row, remove_name, set_count, set_peers};
 use crate::heartbeat::{Beat, send_beats, send_to_all};
 use crate::limits::limit_of;
@@ -162,7 +163,7 @@ impl WriterEnd {
     /// Whether the matched reader of this row, from 0, has not acknowledged all its changes.
     pub fn is_behind(&self, row: usize) -> bool
         requires within { row < length self.now.readers }
-        ensures behind { (w : Writer) (answered : EndpointOf → Option ℤ)
+        ensures behind { (w : Writer) (answered : EndpointOf → Contact)
             → WriterStands self.now w answered
             → result
             ≡ nat_le (slice_index (map (λ (p : ReaderProxy). p.acknowledged) w.readers) row)
@@ -173,7 +174,7 @@ impl WriterEnd {
 
     /// The number of its last change; 0 before the first.
     pub fn last(&self) -> Sn
-        ensures { (w : Writer) (answered : EndpointOf → Option ℤ) → WriterStands self.now w answered
+        ensures { (w : Writer) (answered : EndpointOf → Contact) → WriterStands self.now w answered
             → result ≡ length (writer_changes w) }
     {
         self.writer.last()
@@ -204,7 +205,7 @@ impl WriterEnd {
 
     /// Whether it has registered the instance.
     pub fn is_registered(&self, key: Key) -> bool
-        ensures { (w : Writer) (answered : EndpointOf → Option ℤ) → WriterStands self.now w answered
+        ensures { (w : Writer) (answered : EndpointOf → Contact) → WriterStands self.now w answered
             → result ≡ is_key_registered key w.written }
     {
         self.writer.is_registered(key)
@@ -212,7 +213,7 @@ impl WriterEnd {
 
     /// What an unregister makes (DDS 1.4, 2.2.3, WRITER_DATA_LIFECYCLE).
     pub fn unregister_kind(&self) -> ChangeKind
-        ensures { (w : Writer) (answered : EndpointOf → Option ℤ) → WriterStands self.now w answered
+        ensures { (w : Writer) (answered : EndpointOf → Contact) → WriterStands self.now w answered
             → result ≡ unregister_kind w.autodispose }
     {
         if self.autodispose {
@@ -234,7 +235,7 @@ impl WriterEnd {
 
     /// The strength that its next change carries (DDS 1.4, 2.2.3, OWNERSHIP_STRENGTH).
     pub fn strength(&self) -> Option<i32>
-        ensures { (w : Writer) (answered : EndpointOf → Option ℤ) → WriterStands self.now w answered
+        ensures { (w : Writer) (answered : EndpointOf → Contact) → WriterStands self.now w answered
             → result ≡ strength_of w }
     {
         self.writer.strength()
@@ -249,9 +250,9 @@ impl WriterEnd {
     /// DDS 1.4, 2.2.3 (OWNERSHIP_STRENGTH).
     pub fn set_strength(&mut self, strength: i32) -> Result<(), Code>
         ensures ok { OnOk result (Enters self.old (StrengthSet strength) self.new) }
-        ensures accepted { (w : Writer) (answered : EndpointOf → Option ℤ)
+        ensures accepted { (w : Writer) (answered : EndpointOf → Contact)
             → WriterStands self.old w answered → OnOk result (w.strength ≢ None) }
-        ensures refused { (w : Writer) (answered : EndpointOf → Option ℤ)
+        ensures refused { (w : Writer) (answered : EndpointOf → Contact)
             → WriterStands self.old w answered
             → IfErr result (λ code. (w.strength ≡ None) × (code ≡ PreconditionNotMet)) }
         ensures err { OnErr result (self.new ≡ self.old) }
@@ -263,7 +264,7 @@ impl WriterEnd {
     ///
     /// DDS 1.4, 2.2.4.1 (LivelinessLostStatus).
     pub fn liveliness_lost(&self) -> LivelinessLostStatus
-        ensures { (w : Writer) (answered : EndpointOf → Option ℤ) → WriterStands self.now w answered
+        ensures { (w : Writer) (answered : EndpointOf → Contact) → WriterStands self.now w answered
             → result ≡ liveliness_lost_status w.lease w.written }
     {
         self.writer.liveliness_status()
@@ -273,7 +274,7 @@ impl WriterEnd {
     ///
     /// DDS 1.4, 2.2.4.1 (PublicationMatchedStatus).
     pub fn publication_matched(&self) -> MatchedStatus
-        ensures { (w : Writer) (answered : EndpointOf → Option ℤ) → WriterStands self.now w answered
+        ensures { (w : Writer) (answered : EndpointOf → Contact) → WriterStands self.now w answered
             → result ≡ publication_matched w }
     {
         self.matches.status(self.matched.len())
@@ -283,7 +284,7 @@ impl WriterEnd {
     ///
     /// DDS 1.4, 2.2.2.4 (get_publication_matched_status).
     pub fn get_publication_matched(&mut self) -> MatchedStatus
-        ensures status { (w : Writer) (answered : EndpointOf → Option ℤ)
+        ensures status { (w : Writer) (answered : EndpointOf → Contact)
             → WriterStands self.old w answered → result ≡ publication_matched w }
         ensures looks { LooksAtMatches self.old self.new }
     {
@@ -346,7 +347,7 @@ impl WriterEnd {
     ///
     /// DDS 1.4, 2.2.2.4 (get_liveliness_lost_status).
     pub fn get_liveliness_lost(&mut self) -> LivelinessLostStatus
-        ensures status { (w : Writer) (answered : EndpointOf → Option ℤ)
+        ensures status { (w : Writer) (answered : EndpointOf → Contact)
             → WriterStands self.old w answered
             → result ≡ liveliness_lost_status w.lease w.written }
         ensures enters { Enters self.old LookedAt self.new }
@@ -358,7 +359,7 @@ impl WriterEnd {
     ///
     /// DDS 1.4, 2.2.2.1 (get_status_changes), 2.2.4.2 (changes in status).
     pub fn status_changes(&self) -> StatusMask
-        ensures { (w : Writer) (answered : EndpointOf → Option ℤ) → WriterStands self.now w answered
+        ensures { (w : Writer) (answered : EndpointOf → Contact) → WriterStands self.now w answered
             → result ≡ writer_statuses w }
     {
         let lost = bit_if(self.writer.is_lost(), StatusMask::LIVELINESS_LOST);
@@ -378,7 +379,7 @@ impl WriterEnd {
         ensures ok { OnOk result (Enters self.old (Registered key) self.new) }
         ensures err { OnErr result (self.new ≡ self.old) }
         ensures memory { IfErr result (λ code. code ≡ Memory) }
-        ensures unregistered { (w : Writer) (answered : EndpointOf → Option ℤ)
+        ensures unregistered { (w : Writer) (answered : EndpointOf → Contact)
             → WriterStands self.old w answered
             → OnErr result (is_key_registered key w.written ≡ false) }
     {
@@ -392,11 +393,11 @@ impl WriterEnd {
     /// `OutOfResources` after 2^48 changes, `Timeout` where more than `max_samples` numbers would be kept.
     pub fn next(&self, change: &Change) -> Result<Sn, Code>
         ensures accepted { IfOk result
-            (λ number. (w : Writer) (told : EndpointOf → Option ℤ) → WriterStands self.now w told
+            (λ number. (w : Writer) (told : EndpointOf → Contact) → WriterStands self.now w told
             → (append_refusal (history_of w) change.now ≡ None)
             × (number ≡ length (writer_changes w) + 1)) }
         ensures refused { IfErr result
-            (λ code. (w : Writer) (answered : EndpointOf → Option ℤ)
+            (λ code. (w : Writer) (answered : EndpointOf → Contact)
             → WriterStands self.now w answered
             → Refuses (append_refusal (history_of w) change.now) code) }
         ensures number { IfOk result (λ number. (1 ≤ number) × (number ≤ max_changes)) }
@@ -461,12 +462,12 @@ impl WriterEnd {
         requires short { IsShort self.old.max_value change.value }
         ensures ok { OnOk result (Enters self.old (Changed change) self.new) }
         ensures accepted { IfOk result
-            (λ number. (w : Writer) (answered : EndpointOf → Option ℤ)
+            (λ number. (w : Writer) (answered : EndpointOf → Contact)
             → WriterStands self.old w answered →
             (append_refusal (history_of w) change ≡ None)
             × (number ≡ length (writer_changes w) + 1)) }
         ensures refused { IfErr result
-            (λ code. (w : Writer) (answered : EndpointOf → Option ℤ)
+            (λ code. (w : Writer) (answered : EndpointOf → Contact)
             → WriterStands self.old w answered
             → Refuses (append_refusal (history_of w) change) code) }
         ensures number { IfOk result (λ number. (1 ≤ number) × (number ≤ max_changes)) }
@@ -546,8 +547,9 @@ impl WriterEnd {
         rooms(alloc, own, receiver, body, self.entity, readers)
     }
 
-    /// Takes an ACKNACK of its reader of this row, with room for the answers, and sends them. Gives the number below
-    /// which the reader has acknowledged all, where that is greater than before.
+    /// Takes an ACKNACK of its reader of this row, with room for the answers, and sends them. One that is applied asks
+    /// for a HEARTBEAT, which the next tick sends, or the reader has answered by it. Gives the number below which the
+    /// reader has acknowledged all, where that is greater than before.
     ///
     /// RTPS 2.5, 8.4.7 (ReaderProxy).
     pub fn take_acknack(
@@ -571,13 +573,15 @@ impl WriterEnd {
         ensures messages { AreMessages sent.old.packets.items → AreMessages sent.new.packets.items }
     {
         let set = &body.reader_sn_state;
+        let base = set.base();
+        let is_applied = self.writer.applies(row, base, body.count);
         let Room { answers } = room;
         let Answered {
             acknowledged,
             answers,
         } = self
             .writer
-            .take_acknack(row, set.base(), set, body.count, answers);
+            .take_acknack(row, base, set, body.count, answers);
         let answering = Answering {
             own: prefix,
             entity: self.entity,
@@ -585,6 +589,7 @@ impl WriterEnd {
             max_value: self.max_value,
         };
         send_answers(alloc, &answering, &self.writer, answers.as_slice(), sent);
+        mark_heard(&mut self.writer, row, body, is_applied);
         acknowledged
     }
 
@@ -632,7 +637,8 @@ impl WriterEnd {
         ))
     }
 
-    /// The time of its peer, of this prefix, has gone on to this moment: sends the HEARTBEATs that are then due.
+    /// The time of its peer, of this prefix, has gone on to this moment: sends the HEARTBEATs that are then due. No reader
+    /// asks for one any longer.
     ///
     /// RTPS 2.5, 8.4.9 (reliable StatefulWriter: heartbeatPeriod).
     pub fn tick(&mut self, alloc: Global, prefix: GuidPrefix, now: Moment, sent: &mut Announced)
@@ -643,16 +649,16 @@ impl WriterEnd {
             sent.new.packets.items sent.new.unsent }
         ensures messages { AreMessages sent.old.packets.items → AreMessages sent.new.packets.items }
     {
-        let Some(due) = self.writer.tick(now) else {
-            return;
-        };
-        let beat = Beat {
-            prefix,
-            entity: self.entity,
-            due,
-            asserts: false,
-        };
-        send_beats(alloc, &beat, &self.writer, self.readers.as_slice(), sent);
+        if let Some(due) = self.writer.tick(now) {
+            let beat = Beat {
+                prefix,
+                entity: self.entity,
+                due,
+                asserts: false,
+            };
+            send_beats(alloc, &beat, &self.writer, self.readers.as_slice(), sent);
+        }
+        self.writer.tell_all();
     }
 
     /// Has no row of this reader any more, but the count of the last of its ACKNACKs that was applied, for a match to come.
@@ -700,7 +706,8 @@ impl WriterEnd {
     }
 
     /// It is told that it is matched with this reader of its topic from now on: the reader comes last. It is owed what
-    /// is made from now on, and what was made counts as acknowledged.
+    /// is made from now on, and what was made counts as acknowledged. A reliable one that is greeted is silent until it
+    /// answers.
     ///
     /// # Errors
     ///
@@ -708,8 +715,8 @@ impl WriterEnd {
     /// `Memory` where a growth was refused; the writer is then as it was.
     ///
     /// RTPS 2.5, 8.4.7.4 (StatefulWriter, matched_reader_add); DDS 1.4, 2.2.3 (DURABILITY: VOLATILE).
-    pub fn join(&mut self, reader: Endpoint) -> Result<(), Code>
-        ensures ok { OnOk result (Joins self.old reader self.new) }
+    pub fn join(&mut self, reader: Endpoint, greeted: bool) -> Result<(), Code>
+        ensures ok { OnOk result (Joins self.old reader greeted self.new) }
         ensures accepted { OnOk result
             (RefusesSo joining_refusal self.old reader (λ refusal. refusal ≡ None)) }
         ensures refused { IfErr result
@@ -731,6 +738,7 @@ impl WriterEnd {
             &mut self.writer,
             known.name,
             known.is_reliable,
+            greeted,
         )?;
         self.matched.push_reserved(known.name);
         add_peer(&mut self.destinations, known.name.peer());

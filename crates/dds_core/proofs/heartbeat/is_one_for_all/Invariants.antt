@@ -7,4 +7,4 @@ use Rattle.dds_core.proofs.heartbeat.is_one_for_all.Given as goal
 abbrev pub invariant-loop-row : goal.invariant-loop-row
 invariant-loop-row l =
     ForEach l.fn.first l.fn.writer l.fn.readers
-    (λ w. list_all (is_for_row w l.fn.peer) (take l.row w.readers) ≡ true)
+    (λ w answered. list_all (is_for_row answered w l.fn.peer) (take l.row w.readers) ≡ true)

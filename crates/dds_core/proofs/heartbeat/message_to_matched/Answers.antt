@@ -1,10 +1,10 @@
 use Rattle.std.proofs.Common.{length}
-use Rattle.dds_core.proofs.Beating.{can_begin}
+use Rattle.dds_core.proofs.Beating.{can_span}
 use Rattle.dds_core.proofs.ByName.{beats_writable}
 use Rattle.dds_core.proofs.heartbeat.message_to_matched.Goals as goal
 
 pub message_for_all-requires : goal.message_for_all-requires
-message_for_all-requires c = can_begin c.args.writer.now c.args.beat.now.due c.requires.due
+message_for_all-requires c = can_span c.args.writer.now c.args.beat.now.due c.requires.due
 
 pub returns-clause-writable : goal.returns-clause-writable
 returns-clause-writable c =

@@ -2,9 +2,9 @@ use Rattle.std.proofs.Common.{◌+◌, ◌<◌, [], ◌∷◌, length, true, sym
 use Rattle.dds_core.specs.declared.matching.Destination.{Destination}
 use Rattle.dds_core.specs.declared.sending.Announced.{Announced}
 use Rattle.dds_core.specs.Beating.{AddsTo}
-use Rattle.dds_core.proofs.Beating.{SentBefore, beats_more, beats_same, behind_message}
+use Rattle.dds_core.proofs.Beating.{SentBefore, beats_more, beats_same, told_message}
 use Rattle.dds_core.proofs.heartbeat.send_beats.Goals as goal
-use Rattle.dds_core.proofs.heartbeat.send_beats.Goals.{then-is_first_behind, else-is_first_behind}
+use Rattle.dds_core.proofs.heartbeat.send_beats.Goals.{then-is_first_told, else-is_first_told}
 
 pub loop-row-preserved : goal.loop-row-preserved
 loop-row-preserved c =
@@ -14,28 +14,28 @@ loop-row-preserved c =
     let before = c.loop-row.invariant in
     let few = before.few in
     let lt : row < length names = search rules in
-    elim c.if-is_first_behind.branch [
-      | then-is_first_behind v ↦
+    elim c.if-is_first_told.branch [
+      | then-is_first_told v ↦
           let more = v.send_made.ensures.few in
           subst (λ (x : Announced). SentBefore beat c.args.writer.now names (row + 1) c.args.sent.now x) (sym v.sent-is)
           (record {
             few = omega (arith, few, more);
             beats = λ w answered b.
-                beats_more beat w answered names row true c.args.sent.now c.loop-row.sent v.send_made.new.sent b.names_are lt
-                (sym (c.is_first_behind.ensures w answered b.names_are b.stands) ∙ v.if-is_first_behind.true)
+                beats_more beat answered w names row true c.args.sent.now c.loop-row.sent v.send_made.new.sent b.names_are lt
+                (sym (c.is_first_told.ensures w answered b.names_are b.stands) ∙ v.if-is_first_told.true)
                 (before.beats w answered b)
-                (subst (λ (d : Destination). AddsTo (behind_message beat w names d ∷ []) c.loop-row.sent
-                v.send_made.new.sent) v.peer-to.ensures
-                (v.send_made.ensures.adds _ (v.message_to_behind-message.ensures.says w answered b)));
+                (subst (λ (d : Destination). AddsTo (told_message beat w answered names d ∷ [])
+                c.loop-row.sent v.send_made.new.sent) v.peer-to.ensures
+                (v.send_made.ensures.adds _ (v.message_to_told-message.ensures.says w answered b)));
             messages = λ h. v.send_made.ensures.messages (before.messages h);
           })
-      | else-is_first_behind v ↦
+      | else-is_first_told v ↦
           subst (λ (x : Announced). SentBefore beat c.args.writer.now names (row + 1) c.args.sent.now x) (sym v.sent-is)
           (record {
             few = omega (arith, few);
             beats = λ w answered b.
-                beats_same beat w answered names row c.args.sent.now c.loop-row.sent b.names_are lt
-                (sym (c.is_first_behind.ensures w answered b.names_are b.stands) ∙ v.if-is_first_behind.false)
+                beats_same beat answered w names row c.args.sent.now c.loop-row.sent b.names_are lt
+                (sym (c.is_first_told.ensures w answered b.names_are b.stands) ∙ v.if-is_first_told.false)
                 (before.beats w answered b);
             messages = before.messages;
           })

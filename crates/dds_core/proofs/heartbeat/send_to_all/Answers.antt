@@ -12,7 +12,7 @@ loop-to-preserved c =
     record {
       few = omega (arith, few, more);
       sent = λ w answered b.
-          told_more (beats_message beat w c.args.matched.now) c.args.destinations.now c.loop-to.to-index _
+          told_more (beats_message beat w answered c.args.matched.now) c.args.destinations.now c.loop-to.to-index _
           c.loop-to.sent.packets.items c.send_made.new.sent.packets.items c.loop-to.sent.unsent
           c.send_made.new.sent.unsent c.loop-to-test.true (before.sent w answered b)
           (c.send_made.ensures.adds _ (c.message_to_matched-message.ensures.says w answered b));

@@ -7,8 +7,8 @@ use Rattle.dds_core.proofs.heartbeat.send_to_all.Given as goal
 abbrev pub invariant-loop-to : goal.invariant-loop-to
 invariant-loop-to l = record {
   few : l.sent.unsent ≤ l.to-index;
-  sent : ForEach l.fn.beat.due.first l.fn.writer l.fn.readers (λ w.
-      AreSent (map (beats_message l.fn.beat w l.fn.matched) (take l.to-index l.fn.destinations))
+  sent : ForEach l.fn.beat.due.first l.fn.writer l.fn.readers (λ w answered.
+      AreSent (map (beats_message l.fn.beat w answered l.fn.matched) (take l.to-index l.fn.destinations))
       l.sent.packets.items l.sent.unsent);
   messages : AreMessages l.sent.packets.items;
 }

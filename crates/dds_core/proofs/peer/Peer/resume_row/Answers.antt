@@ -1,4 +1,4 @@
-use Rattle.std.proofs.Common.{◌≡◌, ◌<◌, ◌∙◌, true, false, length, refl, ap, sym, subst, arith, rules}
+use Rattle.std.proofs.Common.{◌≡◌, ◌<◌, ◌∙◌, true, false, length, ap, sym, subst, arith, rules}
 use Rattle.dds_core.specs.Kept.{PeerKept, ReaderKept}
 use Rattle.dds_core.proofs.EffectsLaws.{nothing_more}
 use Rattle.dds_core.proofs.LastReader.{here_now}

@@ -57,11 +57,11 @@ returns-clause-tells c = λ w answered s.
       first_is = ap (λ (d : HeartbeatDue). d.first) (told_is w answered _ c.args.now c.in-Some.due due);
     }) in (
       count_left w answered accepted.0,
-      subst (λ (k : WriterKept). AreSent (assertions_of c.args.prefix k w) sent.packets.items sent.unsent)
+      subst (λ (k : WriterKept). AreSent (assertions_of c.args.prefix k w answered) sent.packets.items sent.unsent)
           c.self.view_is
           (subst (λ (dues : List Due). AreSent dues sent.packets.items sent.unsent)
-          (ap (λ (ns : List ReaderName). map (beats_message beat w ns) c.as_slice-3.result.now) c.as_slice-2.ensures.value
-          ∙ (ap (λ (ds : List Destination). map (beats_message beat w kept.matched) ds) c.as_slice-3.ensures.value
+          (ap (λ (ns : List ReaderName). map (beats_message beat w answered ns) c.as_slice-3.result.now) c.as_slice-2.ensures.value
+          ∙ (ap (λ (ds : List Destination). map (beats_message beat w answered kept.matched) ds) c.as_slice-3.ensures.value
           ∙ told_are c.args.prefix kept w answered _ c.args.now c.in-Some.due due))
           told),
     )
@@ -82,7 +82,7 @@ returns-in_default-clause-tells c = λ w answered s.
     let accepted = c.in_ok-due.ensures.accepted (state_of w answered) here.writer in
     let due = sym accepted.1 ∙ c.in_default.is in (
       count_left w answered accepted.0,
-      subst (λ (k : WriterKept). AreSent (assertions_of c.args.prefix k w) c.new.result.items 0) c.self.view_is
+      subst (λ (k : WriterKept). AreSent (assertions_of c.args.prefix k w answered) c.new.result.items 0) c.self.view_is
           (subst (λ (dues : List Due). AreSent dues c.new.result.items 0)
           (told_none c.args.prefix kept w answered _ c.args.now
           (nowhere c.self.inside.destinations.items c.len-is_matched.result

@@ -60,7 +60,7 @@ invariant_of-self-2 c =
     whole_more c.self.inside.max_value c.self.inside.known.items c.self.inside.matched.items
     c.push_reserved.new.self.items c.self.inside.destinations.items c.add_peer.new.peers.items
     c.self.inside.readers.items c.add_row.new.readers.items c.self.inside.writer c.add_row.new.writer
-    c.in-Some.known.name c.in-Some.known.is_reliable
+    c.in-Some.known.name c.in-Some.known.is_reliable c.args.greeted
     (last_count c.self.inside.counts.items c.in-Some.known.name.reader) c.self.invariant unmatched
     (ap (λ (e : Endpoint). is_named (names_of c.self.inside.known.items) e) found.0 ∙ found.1)
     (c.push_reserved.ensures.items
@@ -85,7 +85,7 @@ returns-clause-ok c =
           ap (λ (k : WriterKept). is_named k.matched c.args.reader) c.self.view_is
           ∙ (sym c.is_matched.ensures ∙ c.if-is_matched.false);
     } in
-    joins_by kept c.args.self.now c.args.reader c.in-Some.known c.push_reserved.new.self.items
+    joins_by kept c.args.self.now c.args.reader c.args.greeted c.in-Some.known c.push_reserved.new.self.items
     c.add_peer.new.peers.items c.add_row.new.readers.items c.add_row.new.counts.items c.make.new.self
     c.add_row.new.writer c.self.view_is may
     (c.push_reserved.ensures.items

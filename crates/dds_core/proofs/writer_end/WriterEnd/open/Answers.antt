@@ -1,5 +1,5 @@
 use mir.Val.{SFits}
-use Rattle.std.proofs.Common.{◌≡◌, ℕ, List, length, map, rules, subst, ◌∙◌, ap, arith, ◌≤◌, nat_lt, sym}
+use Rattle.std.proofs.Common.{◌≡◌, List, length, map, rules, subst, ◌∙◌, ap, arith}
 use Rattle.std.specs.Prelude.{ℤ}
 use Rattle.std.specs.Int.{w32}
 use Rattle.std.proofs.lemmas.Int.{to_z-of_z}

@@ -45,9 +45,10 @@ invariant_of-self c =
       told = whole.told;
       few = whole.few;
       many = whole.many;
-      count = c.take_acknack-acknowledged.ensures.readers ∙ whole.count;
+      count = c.mark_heard.ensures.readers ∙ (c.take_acknack-acknowledged.ensures.readers ∙ whole.count);
       state = _;
-      stands = c.take_acknack-acknowledged.ensures.stands whole.state whole.stands;
+      stands =
+          c.mark_heard.ensures.stands _ (c.take_acknack-acknowledged.ensures.stands whole.state whole.stands);
       short = subst (λ (cs : List Change). AreShort c.self.inside.max_value cs) (sym (after-changes whole.state c.args.row _ _)) whole.short;
     }
 
@@ -61,15 +62,17 @@ returns-clause-takes c =
     let row = c.requires.row in let same = ap (λ (k : WriterKept). length k.readers) c.self.view_is in
     omega (arith, row, same) in
     subst (λ (k : WriterKept). TakesAckNack k c.args.prefix c.args.row c.args.body.now c.args.sent.now
-    (record old { writer = c.take_acknack-acknowledged.new.self }) c.take_acknack-acknowledged.result.acknowledged
+    (record old { writer = c.mark_heard.new.writer }) c.take_acknack-acknowledged.result.acknowledged
     c.send_answers.new.sent) c.self.view_is
     (acknack_taken old c.args.prefix c.args.row c.args.body.now c.args.sent.now c.take_acknack-acknowledged.new.self
-    c.take_acknack-acknowledged.result.acknowledged c.send_answers.new.sent _ _ c.as_slice.result.now
+    c.mark_heard.new.writer c.take_acknack-acknowledged.result.acknowledged c.send_answers.new.sent _ _
+    c.applies-is_applied.result c.as_slice.result.now
     (answering_of c.args.prefix c.self.inside.entity c.self.inside.max_value c.index.result.now)
-    c.base.ensures.base (to_z-of_z w32 c.args.body.now.count (search rules)) c.take_acknack-acknowledged.ensures.stands
+    c.base-base.ensures.base (to_z-of_z w32 c.args.body.now.count (search rules)) c.applies-is_applied.ensures.applied
+    c.take_acknack-acknowledged.ensures.stands
     c.take_acknack-acknowledged.ensures.acknowledged
     (λ s given. c.as_slice.ensures.value ∙ c.take_acknack-acknowledged.ensures.answers s given)
-    c.send_answers.ensures.sends
+    c.send_answers.ensures.sends c.mark_heard.ensures.stands
     (λ name at.
     let is : c.index.result.now ≡ name =
     same_Some c.index.result.now name
