@@ -24,6 +24,7 @@ use Rattle.dds_machine.specs.Numbered.{HasNumber}
 use Rattle.dds_machine.specs.Part.{Part, Writer, NoLess, IsAtMost, own_proxies, own_writer, acknowledged_of, how_of, is_attached, writer_changes}
 use Rattle.dds_protocol.specs.DueMessages.{writer_entity}
 use Rattle.dds_protocol.specs.Closed.{IsClosed}
+use Rattle.dds_protocol.specs.Greetings.{NobodyIsSilent}
 use Rattle.dds_protocol.specs.Repair.{AsksInRound, BeginsRound, Delivers, DeliversAll, HasCaughtUp, IsRepairRound, StandsAt, packets_for}
 use Rattle.dds_protocol.specs.Rules.{RuledStep, RuledRun}
 use Rattle.dds_protocol.specs.World.{WorldState, peer_at, machine_of}
@@ -135,7 +136,11 @@ some_is : (o : Option ℕ) → IsSome o → (x : ℕ) × (o ≡ Some x)
 some_is (Some x) h = (x, refl)
 some_is None h = absurd cc
 
--- a tick of the writer's peer, for which memory was found and at which nothing was lost
+-- the reader was greeted, and has yet to answer
+abbrev is_silent : WorldState → Matched → Bool
+is_silent network m = ((peer_at network m.writer.peer).known.answered m.writer.number m.reader).silent
+
+-- a tick of the writer's peer, for which memory was found and at which nothing was lost, where the reader has answered
 record Tick (hearing : Hearing) : Type 0 where
   tests : AllTests
   config : Config
@@ -154,6 +159,7 @@ record Tick (hearing : Hearing) : Type 0 where
   whole : is_whole ticked.reply ≡ true
   same : mid.unsent ≤ old.unsent
   below : old.unsent < 2 ^ 64 - 1
+  spoken : is_silent network m ≡ false
 
 w0 : {hearing : Hearing} → (t : Tick hearing)
     → Went t.tests t.config t.network t.old (world.Tick t.m.writer.peer t.m.moment) t.ticked.reply t.mid
@@ -253,11 +259,11 @@ answer_of old m from to replies = record {
   to = to;
 }
 
--- it is excused, and has caught up where nobody has come or left
+-- it is excused, and has caught up where nobody has come or left, or is silent
 abbrev IsExcusedSo : WorldState → WorldState → Endpoint → Endpoint → ℕ → Type 0
 IsExcusedSo network after writer reader place =
     IsExcused network writer reader
-    × (IsClosed (machine_of network)
+    × (IsClosed (machine_of network) → NobodyIsSilent network
     → HasCaughtUp after writer reader place (length (writer_changes (writer_at (machine_of network) writer))))
 
 -- what hindered it is shown without the place after it
@@ -282,8 +288,9 @@ Unhindered t after =
 unhindered : {hearing : Hearing} → (t : Tick hearing) (after : WorldState)
     → LeavesPair t.network after t.m.writer t.m.reader → the_last t < acknowledged t → Unhindered t after
 unhindered t after left past =
-    not_behind t.config t.network after t.m.writer t.m.reader t.place (acknowledged t) t.s.sound t.s.bounded left
-    (stands t) past
+    ⊎_elim (λ none. inl (inr none.0, λ closed nobody. none.1 closed)) (λ caught. inr caught)
+    (not_behind t.config t.network after t.m.writer t.m.reader t.place (acknowledged t) t.s.sound t.s.bounded left
+    (stands t) past)
 
 -- ---- no HEARTBEAT was sent
 
@@ -554,7 +561,7 @@ answered {hearing} a later rest new whole next = (
   ),
   all.stands,
   inr (inr (pair_catches_up c.config a.h.t.tests c.m.writer c.m.reader c.place (acknowledged c) c.network all.after
-      (core c).stands.is_peer.checked c.s.sound c.s.used c.s.bounded (pair c).pair (stands c) round)),
+      (core c).stands.is_peer.checked c.s.sound c.s.used c.s.bounded (pair c).pair (stands c) c.spoken round)),
 )
   where
     c : Tick hearing
@@ -628,22 +635,30 @@ ends : {hearing : Hearing} → {tests : AllTests} → (old : WorldKept hearing) 
     → true ≡ is_attached (how_of (own_proxies (part_at (machine_of network) m.reader.peer) m.reader.number) m.writer)
     → EndsSo tests config network old m place (world.Tick m.writer.peer m.moment ∷ events) (ticked ∷ replies) new
 ends {hearing} {tests} old m ticked mid events replies new known tick beats config network place s at here =
-    by (are_whole (ticked ∷ replies)) refl
+    by (is_silent network m) refl
   where
     steps : AreSteps tests mid events replies new
     steps = beats_steps m (length old.sent) mid events replies new beats
 
+    all : Ran tests config network old (world.Tick m.writer.peer m.moment ∷ events) (ticked ∷ replies) new
+        (λ x. Unit {0})
+    all =
+        ran config network old (world.Tick m.writer.peer m.moment ∷ events) (ticked ∷ replies) new (mid, tick, steps) s
+
     hindered : IsHindered network m.writer m.reader (answer_of old m place place (ticked ∷ replies))
         → EndsSo tests config network old m place (world.Tick m.writer.peer m.moment ∷ events) (ticked ∷ replies) new
-    hindered why =
-        let r =
-        ran config network old (world.Tick m.writer.peer m.moment ∷ events) (ticked ∷ replies) new
-        (mid, tick, steps) s in
-        (r.after, r.run, r.stands, inl why)
+    hindered why = (all.after, all.run, all.stands, inl why)
 
-    good : are_whole (ticked ∷ replies) ≡ true → new.unsent ≤ old.unsent → old.unsent < 2 ^ 64 - 1
+    excused : is_silent network m ≡ true
         → EndsSo tests config network old m place (world.Tick m.writer.peer m.moment ∷ events) (ticked ∷ replies) new
-    good whole same below =
+    excused is =
+        let nobody_so : NobodyIsSilent network → ⊥ = λ nobody. let no = sym is ∙ nobody m.writer m.reader in cc in
+        (all.after, all.run, all.stands, inr (inl (inl is, λ closed nobody. absurd (nobody_so nobody))))
+
+    good : is_silent network m ≡ false → are_whole (ticked ∷ replies) ≡ true → new.unsent ≤ old.unsent
+        → old.unsent < 2 ^ 64 - 1
+        → EndsSo tests config network old m place (world.Tick m.writer.peer m.moment ∷ events) (ticked ∷ replies) new
+    good spoken whole same below =
         let w =
         first_whole config network old (world.Tick m.writer.peer m.moment) ticked mid events replies new old.unsent
         tick steps s whole same (omega arith) in
@@ -664,22 +679,30 @@ ends {hearing} {tests} old m ticked mid events replies new known tick beats conf
           whole = w.whole;
           same = w.same;
           below = below;
+          spoken = spoken;
         } in
         after_ticking t events replies new w.rest same w.more beats
 
-    all_sent : are_whole (ticked ∷ replies) ≡ true → (b : Bool) → has_unsent old.unsent (ticked ∷ replies) ≡ b
+    all_sent : is_silent network m ≡ false → are_whole (ticked ∷ replies) ≡ true → (b : Bool)
+        → has_unsent old.unsent (ticked ∷ replies) ≡ b
         → EndsSo tests config network old m place (world.Tick m.writer.peer m.moment ∷ events) (ticked ∷ replies) new
-    all_sent whole true e = hindered (inr (inl e))
-    all_sent whole false e =
-        let all : List WorldEvent = world.Tick m.writer.peer m.moment ∷ events in
-        let same = unsent_shown tests old.unsent old all (ticked ∷ replies) new (mid, tick, steps) (omega arith) e in
-        ⊎_elim (λ below. good whole same below) (λ full. hindered (inr (inr (inl full))))
+    all_sent spoken whole true e = hindered (inr (inl e))
+    all_sent spoken whole false e =
+        let same =
+        unsent_shown tests old.unsent old (world.Tick m.writer.peer m.moment ∷ events) (ticked ∷ replies) new
+        (mid, tick, steps) (omega arith) e in
+        ⊎_elim (λ below. good spoken whole same below) (λ full. hindered (inr (inr (inl full))))
         (cases_lt old.unsent (2 ^ 64 - 1))
 
-    by : (b : Bool) → are_whole (ticked ∷ replies) ≡ b
+    all_whole : is_silent network m ≡ false → (b : Bool) → are_whole (ticked ∷ replies) ≡ b
         → EndsSo tests config network old m place (world.Tick m.writer.peer m.moment ∷ events) (ticked ∷ replies) new
-    by false e = hindered (inl e)
-    by true e = all_sent e (has_unsent old.unsent (ticked ∷ replies)) refl
+    all_whole spoken false e = hindered (inl e)
+    all_whole spoken true e = all_sent spoken e (has_unsent old.unsent (ticked ∷ replies)) refl
+
+    by : (b : Bool) → is_silent network m ≡ b
+        → EndsSo tests config network old m place (world.Tick m.writer.peer m.moment ∷ events) (ticked ∷ replies) new
+    by true e = excused e
+    by false e = all_whole e (are_whole (ticked ∷ replies)) refl
 
 -- a reader that has a place keeps one
 still_there : (o : Option ℕ) (from : ℕ) → IsAtMost from o → o ≡ Some (unwrap_or o from)
@@ -725,11 +748,11 @@ rounds_of {tests} old m ticked mid events replies new from to known tick beats f
             ⊎ (IsExcused network m.writer m.reader ⊎ HasCaughtUp end.0 m.writer m.reader from n))
             (sym k.last)
             (⊎_elim (λ why. inl why) (λ o. inr (⊎_elim (λ e. inl e.0) (λ caught. inr caught) o)) end.3);
-        closed = λ closed.
+        closed = λ closed nobody.
             subst (λ (n : ℕ). IsHindered network m.writer m.reader (answer_of old m from from (ticked ∷ replies))
             ⊎ HasCaughtUp end.0 m.writer m.reader from n)
             (sym k.last)
-            (⊎_elim (λ why. inl why) (λ o. inr (⊎_elim (λ e. e.1 closed) (λ caught. caught) o)) end.3);
+            (⊎_elim (λ why. inl why) (λ o. inr (⊎_elim (λ e. e.1 closed nobody) (λ caught. caught) o)) end.3);
       };
 }
 

@@ -18,7 +18,8 @@ use Rattle.dds_machine.specs.declared.reply.Report.{Report}
 use Rattle.dds_machine.specs.Numbered.{numbered, HasNumber}
 use Rattle.dds_machine.specs.Machine.{AllTests, place_at}
 use Rattle.dds_machine.specs.Part.{NoLess, own_writer, own_proxies, place_of, writer_changes}
-use Rattle.dds_machine.specs.Ticks.{TickStep}
+use Rattle.dds_machine.specs.Ticks.{TicksAsked}
+use Rattle.dds_protocol.specs.DueMessages.{was_asked}
 use Rattle.dds_protocol.specs.Peer.{Peer, EventStep, no_peer}
 use Rattle.dds_protocol.specs.Repair.{Delivers, DeliversAll}
 use Rattle.dds_protocol.specs.Rules.{RuledStep, RuledRun}
@@ -127,7 +128,8 @@ pub whole_tick : (tests : AllTests)
     → WorldStep config tests old (world.Tick peer now) reply new → reply ≡ Done
 whole_tick tests config old peer now Done new whole step = refl
 whole_tick tests config old peer now (Reported report) new whole (inl h) =
-    absurd (subst (λ (r : Reply). TickStep (peer_at old peer).part now r h.after.part) h.replies h.step.step.0)
+    let asked : ℕ → Bool = was_asked (peer_at old peer).known.answered (peer_at old peer).part in
+    absurd (subst (λ (r : Reply). TicksAsked asked (peer_at old peer).part now r h.after.part) h.replies h.step.step.0)
 whole_tick tests config old peer now (Reported report) new whole (inr h) = let r = h.1.is_refused in absurd cc
 whole_tick tests config old peer now reply new whole step = absurd cc
 

@@ -14,6 +14,8 @@ use Rattle.dds_machine.specs.declared.reply.Report.{Report}
 use Rattle.dds_machine.specs.Part.{Part}
 use Rattle.dds_machine.specs.Calls.{Effect, nothing, writes, tells, looks_at_matches, effect_of}
 use Rattle.dds_protocol.specs.Peer.{Peer, no_peer, state_of}
+use Rattle.dds_base.specs.declared.endpoint.Endpoint.{Endpoint}
+use Rattle.dds_protocol.specs.Contact.{Contact}
 use Rattle.dds_protocol.specs.DueMessages.{Due, AreSent, heartbeats_due}
 use Rattle.dds_protocol.specs.Protocol.{State, TakesPacket}
 use Rattle.dds_protocol.specs.Rules.{AreDue, announcements_due, CountedStep, traffic_of}
@@ -81,7 +83,7 @@ machine_steps {tests} old new ev reply steps config m stands =
 -- ---- a call
 
 effect_due : (config : Config) (peer : Peer) (effect : Effect) (output : Output) → SendsFor config peer effect output
-    → AreSent (announcements_due config peer.number peer.part effect) output.packets output.unsent
+    → AreSent (announcements_due config peer.number (state_of peer) effect) output.packets output.unsent
 effect_due config peer (writes w (Changed change)) output one = one.are_sent
 effect_due config peer (writes w (Registered key)) output none = (none.packets, none.unsent)
 effect_due config peer (writes w (Asserted moment)) output are = are
@@ -101,14 +103,14 @@ call_dues kept new i call reply a config network next s rules =
     let output : Output = a.acts.output in
     let sent =
     effect_due config peer (effect_of peer.part call output.reply) output rules in
-    let replied : AreSent (announcements_due config peer.number peer.part (effect_of peer.part call reply))
+    let replied : AreSent (announcements_due config peer.number (state_of peer) (effect_of peer.part call reply))
     output.packets output.unsent =
-    subst (λ (r : Reply). AreSent (announcements_due config peer.number peer.part (effect_of peer.part call r))
+    subst (λ (r : Reply). AreSent (announcements_due config peer.number (state_of peer) (effect_of peer.part call r))
     output.packets output.unsent) (sym a.acts.replies) sent in (
-      announcements_due config (suc i) peer.part (effect_of peer.part call reply),
+      announcements_due config (suc i) (state_of peer) (effect_of peer.part call reply),
       refl,
-      subst (λ (n : ℕ). AreSent (announcements_due config n peer.part (effect_of peer.part call reply)) output.packets
-          output.unsent)
+      subst (λ (n : ℕ). AreSent (announcements_due config n (state_of peer) (effect_of peer.part call reply))
+          output.packets output.unsent)
           (numbered_so kept config network i a.acts.core s a.acts.at) replied,
     )
 
@@ -123,19 +125,19 @@ called {tests} kept new i peer call reply is a =
 
 -- ---- a tick
 
--- what is due at a tick with this reply
-abbrev due_so : Config → ℕ → Part → Reply → List Due
-due_so config peer part Done = heartbeats_due config peer part
-due_so config peer part reply = []
+-- what is due at a tick with this reply, where the writers know this of their readers
+abbrev due_so : Config → (ℕ → Endpoint → Contact) → ℕ → Part → Reply → List Due
+due_so config contacts peer part Done = heartbeats_due config contacts peer part
+due_so config contacts peer part reply = []
 
 tick_due : (config : Config) (peer : Peer) (reply : Reply)
-    → due_at_tick config peer reply ≡ due_so config peer.number peer.part reply
+    → due_at_tick config peer reply ≡ due_so config peer.known.answered peer.number peer.part reply
 tick_due config peer Done = refl
 tick_due config peer reply = refl
 
 are_due_so : (config : Config) (network next : WorldState) (i now : ℕ) (reply : Reply)
     → AreDue config network (world.Tick (suc i) now) reply next
-    (due_so config (suc i) (get_or network.peers i no_peer).part reply)
+    (due_so config (get_or network.peers i no_peer).known.answered (suc i) (get_or network.peers i no_peer).part reply)
 are_due_so config network next i now Done = refl
 are_due_so config network next i now reply = refl
 
@@ -144,15 +146,16 @@ tick_dues : {hearing : Hearing} → {tests : AllTests} → (kept new : WorldKept
     → SendsItsDues tests kept i (event.Tick now) (world.Tick (suc i) now) reply new a
 tick_dues kept new i now reply a config network next s rules =
     let peer : Peer = get_or network.peers i no_peer in
+    let contacts : ℕ → Endpoint → Contact = peer.known.answered in
     let output : Output = a.acts.output in
-    let sent : AreSent (due_so config peer.number peer.part output.reply) output.packets output.unsent =
+    let sent : AreSent (due_so config contacts peer.number peer.part output.reply) output.packets output.unsent =
     subst (λ (ds : List Due). AreSent ds output.packets output.unsent) (tick_due config peer output.reply) rules in
-    let replied : AreSent (due_so config peer.number peer.part reply) output.packets output.unsent =
-    subst (λ (r : Reply). AreSent (due_so config peer.number peer.part r) output.packets output.unsent)
+    let replied : AreSent (due_so config contacts peer.number peer.part reply) output.packets output.unsent =
+    subst (λ (r : Reply). AreSent (due_so config contacts peer.number peer.part r) output.packets output.unsent)
     (sym a.acts.replies) sent in (
-      due_so config (suc i) peer.part reply,
+      due_so config contacts (suc i) peer.part reply,
       are_due_so config network next i now reply,
-      subst (λ (n : ℕ). AreSent (due_so config n peer.part reply) output.packets output.unsent)
+      subst (λ (n : ℕ). AreSent (due_so config contacts n peer.part reply) output.packets output.unsent)
           (numbered_so kept config network i a.acts.core s a.acts.at) replied,
     )
 

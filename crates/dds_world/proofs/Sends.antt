@@ -19,6 +19,7 @@ use Rattle.dds_machine.specs.Calls.{Effect, nothing, writes, tells, looks_at_mat
 use Rattle.dds_machine.specs.Machine.{AllTests, part_at}
 use Rattle.dds_protocol.specs.Peer.{Peer, no_peer}
 use Rattle.dds_protocol.specs.DueMessages.{Due, AreSent, assertions_due, changes_due, heartbeats_due}
+use Rattle.dds_protocol.specs.Contact.{Contact}
 use Rattle.dds_protocol.specs.Traffic.{Traffic, Announced, Sends, SendsDues, SendsOf}
 use Rattle.dds_protocol.specs.World.{WorldState, machine_of}
 use Rattle.dds_machine.proofs.Tables.{numbered-map}
@@ -78,27 +79,29 @@ same_traffic : {hearing : Hearing} → (kept new : WorldKept hearing) (output : 
 same_traffic kept new output quiet none =
     let q = quiet none in traffic_as new.sent kept.sent new.unsent kept.unsent q.0 q.1
 
--- what a peer of this number and this part sends for an effect
-abbrev SendsAt : Config → Traffic → ℕ → Part → Effect → Traffic → Type 0
-SendsAt config old peer part (writes writer (Changed change)) new =
+-- what a peer of this number and this part, whose writers know this of their readers, sends for an effect
+abbrev SendsAt : Config → Traffic → (ℕ → Endpoint → Contact) → ℕ → Part → Effect → Traffic → Type 0
+SendsAt config old contacts peer part (writes writer (Changed change)) new =
     Announced config old (record { peer = peer; number = writer }) (own_writer part writer).matched
     (length (writer_changes (own_writer part writer)) + 1) change new
-SendsAt config old peer part (writes writer (Asserted moment)) new =
-    SendsDues (assertions_due config (record { peer = peer; number = writer }) (own_writer part writer)) old new
-SendsAt config old peer part other new = new ≡ old
+SendsAt config old contacts peer part (writes writer (Asserted moment)) new =
+    SendsDues (assertions_due config (contacts writer) (record { peer = peer; number = writer })
+    (own_writer part writer)) old new
+SendsAt config old contacts peer part other new = new ≡ old
 
 effect_sends : {hearing : Hearing} → (kept new : WorldKept hearing) (config : Config) (peer : Peer) (effect : Effect)
     (output : Output)
     → Posts kept.sent output.packets new.sent → Counts kept output new → IsQuiet kept output new
-    → SendsFor config peer effect output → SendsAt config (traffic kept) peer.number peer.part effect (traffic new)
+    → SendsFor config peer effect output
+    → SendsAt config (traffic kept) peer.known.answered peer.number peer.part effect (traffic new)
 effect_sends kept new config peer (writes w (Changed change)) output posts counts quiet one =
     announced kept new config (record { peer = peer.number; number = w }) (own_writer peer.part w).matched
     (length (writer_changes (own_writer peer.part w)) + 1) change output posts counts one
 effect_sends kept new config peer (writes w (Registered key)) output posts counts quiet none =
     same_traffic kept new output quiet none
 effect_sends kept new config peer (writes w (Asserted moment)) output posts counts quiet are =
-    dues_sent kept new (assertions_due config (record { peer = peer.number; number = w }) (own_writer peer.part w))
-    output posts counts are
+    dues_sent kept new (assertions_due config (peer.known.answered w) (record { peer = peer.number; number = w })
+    (own_writer peer.part w)) output posts counts are
 effect_sends kept new config peer (writes w LookedAt) output posts counts quiet none =
     same_traffic kept new output quiet none
 effect_sends kept new config peer (writes w (StrengthSet strength)) output posts counts quiet none =
@@ -112,18 +115,18 @@ effect_sends kept new config peer (looks_at_matches w) output posts counts quiet
 effect_sends kept new config peer nothing output posts counts quiet none = same_traffic kept new output quiet none
 
 -- a peer of the machine sends so
-machine_sends : (config : Config) (old new : Traffic) (network : WorldState) (peer : ℕ) (effect : Effect)
-    → SendsAt config old peer (part_at (machine_of network) peer) effect new
+machine_sends : (config : Config) (old new : Traffic) (contacts : ℕ → Endpoint → Contact) (network : WorldState)
+    (peer : ℕ) (effect : Effect) → SendsAt config old contacts peer (part_at (machine_of network) peer) effect new
     → SendsOf config old (machine_of network) peer effect new
-machine_sends config old new network peer (writes w (Changed change)) h = h
-machine_sends config old new network peer (writes w (Registered key)) h = h
-machine_sends config old new network peer (writes w (Asserted moment)) h = h
-machine_sends config old new network peer (writes w LookedAt) h = h
-machine_sends config old new network peer (writes w (StrengthSet strength)) h = h
-machine_sends config old new network peer (writes w (Ticked now behind)) h = h
-machine_sends config old new network peer (tells telling) h = h
-machine_sends config old new network peer (looks_at_matches w) h = h
-machine_sends config old new network peer nothing h = h
+machine_sends config old new contacts network peer (writes w (Changed change)) h = h
+machine_sends config old new contacts network peer (writes w (Registered key)) h = h
+machine_sends config old new contacts network peer (writes w (Asserted moment)) h = (contacts w, h)
+machine_sends config old new contacts network peer (writes w LookedAt) h = h
+machine_sends config old new contacts network peer (writes w (StrengthSet strength)) h = h
+machine_sends config old new contacts network peer (writes w (Ticked now behind)) h = h
+machine_sends config old new contacts network peer (tells telling) h = h
+machine_sends config old new contacts network peer (looks_at_matches w) h = h
+machine_sends config old new contacts network peer nothing h = h
 
 -- the number of the peer of this index
 pub numbered_so : {hearing : Hearing} → (kept : WorldKept hearing) (config : Config) (network : WorldState) (i : ℕ)
@@ -159,18 +162,21 @@ call_sends kept new i c reply a config network s =
     let part : part_at (machine_of network) (suc i) ≡ peer.part =
     numbered-map (λ (p : Peer). p.part) network.peers (suc i) no_peer in
     let effect : Effect = effect_of peer.part c output.reply in
-    let sent : SendsAt config old peer.number peer.part effect (traffic new) =
+    let contacts : ℕ → Endpoint → Contact = peer.known.answered in
+    let sent : SendsAt config old contacts peer.number peer.part effect (traffic new) =
     effect_sends kept new config peer effect output acts.posts a.counts a.quiet
     (rules_of kept new i (event.Call c) reply a config network s).1 in
-    let replied : SendsAt config old peer.number peer.part (effect_of peer.part c reply) (traffic new) =
-    subst (λ (r : Reply). SendsAt config old peer.number peer.part (effect_of peer.part c r) (traffic new))
+    let replied : SendsAt config old contacts peer.number peer.part (effect_of peer.part c reply) (traffic new) =
+    subst (λ (r : Reply). SendsAt config old contacts peer.number peer.part (effect_of peer.part c r) (traffic new))
     (sym acts.replies) sent in
-    let numbered' : SendsAt config old (suc i) peer.part (effect_of peer.part c reply) (traffic new) =
-    subst (λ (n : ℕ). SendsAt config old n peer.part (effect_of peer.part c reply) (traffic new)) number replied in
-    let parted : SendsAt config old (suc i) (part_at (machine_of network) (suc i))
+    let numbered' : SendsAt config old contacts (suc i) peer.part (effect_of peer.part c reply) (traffic new) =
+    subst (λ (n : ℕ). SendsAt config old contacts n peer.part (effect_of peer.part c reply) (traffic new)) number
+    replied in
+    let parted : SendsAt config old contacts (suc i) (part_at (machine_of network) (suc i))
     (effect_of (part_at (machine_of network) (suc i)) c reply) (traffic new) =
-    subst (λ (p : Part). SendsAt config old (suc i) p (effect_of p c reply) (traffic new)) (sym part) numbered' in
-    machine_sends config old (traffic new) network (suc i)
+    subst (λ (p : Part). SendsAt config old contacts (suc i) p (effect_of p c reply) (traffic new)) (sym part)
+    numbered' in
+    machine_sends config old (traffic new) contacts network (suc i)
     (effect_of (part_at (machine_of network) (suc i)) c reply) parted
 
 pub called_sends : {hearing : Hearing} → {tests : AllTests} → (kept new : WorldKept hearing) (i peer : ℕ) (c : Call)
@@ -181,26 +187,26 @@ called_sends kept new i peer c reply is a =
 
 -- a tick sends what is due
 
--- what a tick of a peer of this number and this part sends, by its reply
-abbrev TicksAt : Config → Traffic → ℕ → Part → Reply → Traffic → Type 0
-TicksAt config old peer part Done new = SendsDues (heartbeats_due config peer part) old new
-TicksAt config old peer part reply new = new ≡ old
+-- what a tick of such a peer sends, by its reply
+abbrev TicksAt : Config → Traffic → (ℕ → Endpoint → Contact) → ℕ → Part → Reply → Traffic → Type 0
+TicksAt config old contacts peer part Done new = SendsDues (heartbeats_due config contacts peer part) old new
+TicksAt config old contacts peer part reply new = new ≡ old
 
 tick_sends : {hearing : Hearing} → (kept new : WorldKept hearing) (config : Config) (peer : Peer) (reply : Reply)
     (output : Output)
     → Posts kept.sent output.packets new.sent → Counts kept output new → IsQuiet kept output new
     → AreSent (due_at_tick config peer reply) output.packets output.unsent
-    → TicksAt config (traffic kept) peer.number peer.part reply (traffic new)
+    → TicksAt config (traffic kept) peer.known.answered peer.number peer.part reply (traffic new)
 tick_sends kept new config peer Done output posts counts quiet are =
-    dues_sent kept new (heartbeats_due config peer.number peer.part) output posts counts are
+    dues_sent kept new (heartbeats_due config peer.known.answered peer.number peer.part) output posts counts are
 tick_sends kept new config peer reply output posts counts quiet are =
     same_traffic kept new output quiet (record { packets = are.0; unsent = are.1 })
 
-machine_ticks : (config : Config) (old new : Traffic) (network : WorldState) (peer now : ℕ) (reply : Reply)
-    → TicksAt config old peer (part_at (machine_of network) peer) reply new
+machine_ticks : (config : Config) (old new : Traffic) (contacts : ℕ → Endpoint → Contact) (network : WorldState)
+    (peer now : ℕ) (reply : Reply) → TicksAt config old contacts peer (part_at (machine_of network) peer) reply new
     → Sends config old (machine_of network) (world.Tick peer now) reply new
-machine_ticks config old new network peer now Done h = h
-machine_ticks config old new network peer now reply h = h
+machine_ticks config old new contacts network peer now Done h = (contacts, h)
+machine_ticks config old new contacts network peer now reply h = h
 
 ticks_sent : {hearing : Hearing} → {tests : AllTests} → (kept new : WorldKept hearing) (i now : ℕ) (reply : Reply)
     → Acts tests kept i (event.Tick now) reply new → Announces kept (world.Tick (suc i) now) reply new
@@ -211,14 +217,15 @@ ticks_sent kept new i now reply a config network s =
     let number = numbered_so kept config network i acts.core s acts.at in
     let part : part_at (machine_of network) (suc i) ≡ peer.part =
     numbered-map (λ (p : Peer). p.part) network.peers (suc i) no_peer in
-    let sent : TicksAt config old peer.number peer.part acts.output.reply (traffic new) =
+    let contacts : ℕ → Endpoint → Contact = peer.known.answered in
+    let sent : TicksAt config old contacts peer.number peer.part acts.output.reply (traffic new) =
     tick_sends kept new config peer acts.output.reply acts.output acts.posts a.counts a.quiet
     (rules_of kept new i (event.Tick now) reply a config network s).1 in
-    let replied : TicksAt config old peer.number peer.part reply (traffic new) =
-    subst (λ (r : Reply). TicksAt config old peer.number peer.part r (traffic new)) (sym acts.replies) sent in
-    machine_ticks config old (traffic new) network (suc i) now reply
-    (subst (λ (p : Part). TicksAt config old (suc i) p reply (traffic new)) (sym part)
-    (subst (λ (n : ℕ). TicksAt config old n peer.part reply (traffic new)) number replied))
+    let replied : TicksAt config old contacts peer.number peer.part reply (traffic new) =
+    subst (λ (r : Reply). TicksAt config old contacts peer.number peer.part r (traffic new)) (sym acts.replies) sent in
+    machine_ticks config old (traffic new) contacts network (suc i) now reply
+    (subst (λ (p : Part). TicksAt config old contacts (suc i) p reply (traffic new)) (sym part)
+    (subst (λ (n : ℕ). TicksAt config old contacts n peer.part reply (traffic new)) number replied))
 
 pub ticked_sends : {hearing : Hearing} → {tests : AllTests} → (kept new : WorldKept hearing) (i peer now : ℕ)
     (reply : Reply) → peer ≡ i + 1

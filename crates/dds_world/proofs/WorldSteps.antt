@@ -23,7 +23,7 @@ use Rattle.dds_machine.specs.declared.reply.Reply.{Reply}
 use Rattle.dds_machine.specs.declared.reply.Reply.TheVariants.{Refused}
 use Rattle.dds_machine.specs.Machine.{AllTests, Step}
 use Rattle.dds_machine.specs.Numbered.{HasNumber}
-use Rattle.dds_protocol.specs.Peer.{Peer, no_peer}
+use Rattle.dds_protocol.specs.Peer.{Peer, no_peer, state_of}
 use Rattle.dds_machine.specs.Calls.{Effect}
 use Rattle.dds_protocol.specs.DueMessages.{Due, AreSent}
 use Rattle.dds_protocol.specs.Rules.{RuledStep, AreDue, announcements_due}
@@ -294,7 +294,7 @@ pub unknown_call : {hearing : Hearing} → {tests : AllTests} → (kept : WorldK
 unknown_call kept peer call none config network s =
     stays kept config network (world.Call peer call) s
     (inr (λ has. nobody kept config network peer s none has, record { is_refused = refl; after = refl }))
-    (sym (ap (λ (e : Effect). announcements_due config peer (peer_at network peer).part e)
+    (sym (ap (λ (e : Effect). announcements_due config peer (state_of (peer_at network peer)) e)
     (refused_nothing (peer_at network peer).part call BadParameter)))
 
 pub unknown_tick : {hearing : Hearing} → {tests : AllTests} → (kept : WorldKept hearing) (peer now : ℕ)

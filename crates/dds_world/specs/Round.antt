@@ -24,11 +24,12 @@ use Rattle.dds_protocol.specs.Fresh.{heartbeats_used_at, acknacks_used_at}
 use Rattle.dds_machine.specs.Machine.{Machine, AllTests, part_at, place_at, writer_at}
 use Rattle.dds_machine.specs.Part.{Waiting, acknowledged_of, how_of, is_attached, is_reader_behind, own_proxies, owed_from, writer_changes}
 use Rattle.dds_protocol.specs.Closed.{IsClosed}
+use Rattle.dds_protocol.specs.Greetings.{NobodyIsSilent}
 use Rattle.dds_protocol.specs.Repair.{HasCaughtUp}
 use Rattle.dds_protocol.specs.Rules.{RuledRun}
 use Rattle.dds_machine.specs.Runs.{Run}
 use Rattle.dds_protocol.specs.DueMessages.{reader_entity, writer_entity}
-use Rattle.dds_protocol.specs.World.{WorldState, machine_of}
+use Rattle.dds_protocol.specs.World.{WorldState, peer_at, machine_of}
 use Rattle.dds_world.specs.declared.round.Round.{Round}
 use Rattle.dds_world.specs.declared.round.RoundReply.{RoundReply}
 use Rattle.dds_world.specs.WorldStanding.{Hearing, WorldKept, StandsFor, KeepsRules}
@@ -154,14 +155,16 @@ IsHindered network writer reader answer =
     ⊎ ((length answer.replies ≡ 1) × (answer.was_behind ≡ true) × (max_count ≤ heartbeats_used_at network writer))
     ⊎ ((length answer.replies ≡ 2) × (max_count ≤ acknacks_used_at network writer reader))
 
--- Where ends come and go, no HEARTBEAT may be due either, as the reader is not behind: the writer owes it no change that
--- it has made, or its place waits.
+-- A round of a silent reader, which was greeted and has yet to answer, only lets it answer. And where ends come and go,
+-- no HEARTBEAT may be due, as the reader is not behind: the writer owes it no change that it has made, or its place
+-- waits.
 abbrev pub IsExcused : WorldState → Endpoint → Endpoint → Type 0
 IsExcused network writer reader =
-    (is_reader_behind (writer_at (machine_of network) writer) reader ≡ false)
+    (((peer_at network writer.peer).known.answered writer.number reader).silent ≡ true)
+    ⊎ ((is_reader_behind (writer_at (machine_of network) writer) reader ≡ false)
     × ((length (writer_changes (writer_at (machine_of network) writer))
     < owed_from (writer_at (machine_of network) writer) reader)
-    ⊎ (how_of (own_proxies (part_at (machine_of network) reader.peer) reader.number) writer ≡ Waiting))
+    ⊎ (how_of (own_proxies (part_at (machine_of network) reader.peer) reader.number) writer ≡ Waiting)))
 
 -- the replies alone, without the counts of packets beside them
 abbrev pub replies_of : List RoundReply → List Reply
@@ -171,7 +174,7 @@ replies_of replies = map (λ (r : RoundReply). r.reply) replies
 -- them by the rules of the protocol, to a state that the new network stands for. The answer says
 -- how the pair stood before it, and the reader's place after it. There the reader has gone on by 256 numbers, or to the
 -- end of the writer's list, or to a change that has no room, and the writer knows of all that the reader had before,
--- unless something hindered the round, or, where somebody has come or left, something else excuses it.
+-- unless something hindered the round, or, where somebody is silent, or has come or left, something else excuses it.
 pub record RoundFrom {hearing : Hearing} (tests : AllTests) (config : Config) (network : WorldState)
     (old : WorldKept hearing)
     (writer reader : Endpoint)
@@ -187,7 +190,7 @@ pub record RoundFrom {hearing : Hearing} (tests : AllTests) (config : Config) (n
   pub to : place_at (machine_of after) reader writer ≡ Some answer.to
   pub caught_up : IsHindered network writer reader answer ⊎ IsExcused network writer reader
       ⊎ HasCaughtUp after writer reader answer.from answer.last
-  pub closed : IsClosed (machine_of network)
+  pub closed : IsClosed (machine_of network) → NobodyIsSilent network
       → IsHindered network writer reader answer ⊎ HasCaughtUp after writer reader answer.from answer.last
 
 -- One round: each reply is that of a step of the network, with the counts as they stood after it; and from each state

@@ -32,7 +32,7 @@ pub struct RoundReply {
 /// What a round of repair answers, and how the reader and the writer stood when it began, and the reader after it.
 ///
 /// The reader has caught up where `to` is at least the smaller one of `from` + 256 and `last` + 1, as `has_caught_up`
-/// says. Where it has not, one of these is so, and the answer shows which, but for the fifth:
+/// says. Where it has not, one of these is so, and the answer shows which, but for the fifth and the sixth:
 ///
 /// - memory lacked: a reply is a refusal, or a report whose `refused` names a submessage;
 /// - a packet was not sent: the `unsent` of a reply is greater than `unsent_before`; or that was 2^64 - 1, where it
@@ -41,9 +41,10 @@ pub struct RoundReply {
 /// - the reader has used up its ACKNACK counts to the writer, as many: there are two replies;
 /// - no HEARTBEAT was due, where ends have come and gone: the writer owes the reader no change that it has made, or the
 ///   reader was not behind, and its place waits to begin;
+/// - the reader was greeted, and had yet to answer, which this round only lets it do;
 /// - none of these: the reader holds the change of number `to`, and has no room for it.
 ///
-/// Where none of the first five is so, the writer knows that the reader had all changes below `from`.
+/// Where none of the first six is so, the writer knows that the reader had all changes below `from`.
 #[derive(Debug, Drop)]
 pub struct Round {
     /// The replies to its events, 1 to 259.
@@ -104,7 +105,7 @@ impl<F: Filter, L: Listener> World<F, L> {
     /// Each packet is delivered once, and no other one is. There are 1 to 259 replies; each of them may lack memory, as
     /// one of `World::step`. Afterwards the reader has come to the next 256 changes, or to all, or to one for which it
     /// has no room, unless the answer shows why not (see `Round`), or no HEARTBEAT is due, as the writer owes the reader
-    /// nothing, or a reader whose place waits is not behind.
+    /// nothing, or a reader whose place waits is not behind; or the reader was greeted, and had yet to answer.
     ///
     /// # Errors
     ///
@@ -120,7 +121,7 @@ impl<F: Filter, L: Listener> World<F, L> {
             (length self.new.sent) self.new) }
         // They are a run by the rules of the protocol over the events of a round, with the counts as they stood after
         // each, and the answer says how the two stood before it, and the reader's place after it. The reader has then
-        // caught up, unless the answer shows what hindered it.
+        // caught up, unless something hindered or excuses it.
         ensures round { IfOk result
             (λ answer. (given : ℕ → ByEntity L) → Rounds (tests_in F.meaning self.old)
             (kept_of L.notices L.capacity L.becomes given self.old) writer reader answer
