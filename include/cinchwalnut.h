@@ -335,8 +335,11 @@ uint8_t cw_assert_liveliness(cw_peer *peer, uint8_t writer);
 uint8_t cw_set_strength(cw_peer *peer, uint8_t writer, int32_t strength);
 uint8_t cw_get_liveliness_lost_status(cw_peer *peer, uint8_t writer);
 /* The writer is told that it is matched with a reader from now on, or no longer, by the reader's peer and number there (RTPS
- * 2.5, 8.4.7.4). It waits for none that left, and sends a reader nothing that it wrote before their match. */
+ * 2.5, 8.4.7.4). It waits for none that left, and sends a reader nothing that it wrote before their match. One that is
+ * matched by cw_greet_reader is told no more than where it begins until it has answered: so a reader that takes the first
+ * HEARTBEAT which it hears as its start, as those of other products do, misses nothing that is written after the match. */
 uint8_t cw_match_reader(cw_peer *peer, uint8_t writer, uint8_t reader_peer, uint8_t reader);
+uint8_t cw_greet_reader(cw_peer *peer, uint8_t writer, uint8_t reader_peer, uint8_t reader);
 uint8_t cw_unmatch_reader(cw_peer *peer, uint8_t writer, uint8_t reader_peer, uint8_t reader);
 uint8_t cw_get_publication_matched_status(cw_peer *peer, uint8_t writer);
 
@@ -511,6 +514,8 @@ CW_MARKED(set_strength, (cw_peer *peer, uint8_t writer, int32_t strength), (peer
 CW_MARKED(get_liveliness_lost_status, (cw_peer *peer, uint8_t writer), (peer, writer))
 CW_MARKED(match_reader, (cw_peer *peer, uint8_t writer, uint8_t reader_peer, uint8_t reader),
           (peer, writer, reader_peer, reader))
+CW_MARKED(greet_reader, (cw_peer *peer, uint8_t writer, uint8_t reader_peer, uint8_t reader),
+          (peer, writer, reader_peer, reader))
 CW_MARKED(unmatch_reader, (cw_peer *peer, uint8_t writer, uint8_t reader_peer, uint8_t reader),
           (peer, writer, reader_peer, reader))
 CW_MARKED(get_publication_matched_status, (cw_peer *peer, uint8_t writer), (peer, writer))
@@ -614,6 +619,7 @@ static inline CW_NONNULL() uint64_t cw_marked_unsent(cw_peer *peer) {
 #define cw_set_strength cw_marked_set_strength
 #define cw_get_liveliness_lost_status cw_marked_get_liveliness_lost_status
 #define cw_match_reader cw_marked_match_reader
+#define cw_greet_reader cw_marked_greet_reader
 #define cw_unmatch_reader cw_marked_unmatch_reader
 #define cw_get_publication_matched_status cw_marked_get_publication_matched_status
 #define cw_read cw_marked_read

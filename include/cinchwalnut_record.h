@@ -303,6 +303,14 @@ static inline uint8_t cw_recorded_told(cw_recording *run, uint8_t code, const ch
     return cw_recorded_end(run, code);
 }
 
+static inline uint8_t cw_recorded_greet_reader(cw_recording *run, uint8_t writer, uint8_t reader_peer, uint8_t reader) {
+    uint8_t code = cw_greet_reader(&run->peer, writer, reader_peer, reader);
+    if (!cw_recorded_call(run, code, "match", 'w', writer))
+        return code;
+    fprintf(run->to, " %u.r%u greeted", (unsigned)reader_peer, (unsigned)reader);
+    return cw_recorded_end(run, code);
+}
+
 static inline uint8_t cw_recorded_match_reader(cw_recording *run, uint8_t writer, uint8_t reader_peer, uint8_t reader) {
     return cw_recorded_told(run, cw_match_reader(&run->peer, writer, reader_peer, reader), "match", 'w', writer, reader_peer, reader);
 }

@@ -75,7 +75,7 @@ _ARGUMENTS: Dict[str, List[Any]] = {
     **{it: [_U8] for it in ("assert_liveliness", "get_liveliness_lost_status", "get_sample_lost_status")},
     **{it: [_U8] for it in ("get_liveliness_changed_status", "read_next_sample", "take_next_sample")},
     **{it: [_U8] for it in ("get_publication_matched_status", "get_subscription_matched_status")},
-    **{it: [_U8, _U8, _U8] for it in ("match_reader", "unmatch_reader", "match_writer", "unmatch_writer")},
+    **{it: [_U8, _U8, _U8] for it in ("match_reader", "greet_reader", "unmatch_reader", "match_writer", "unmatch_writer")},
     **{f"{it}": [_U8, _I32, *_MASKS] for it in ("read", "take")},
     **{f"{it}_instance": [_U8, _I32, _U64, *_MASKS] for it in ("read", "take", "read_next", "take_next")},
     **{f"{it}_w_condition": [_U8, _I32, _U32] for it in ("read", "take")},

@@ -248,18 +248,21 @@ class Peer:
             self._event(lambda: f"call livelost w{number}", _LIBRARY.cw_get_liveliness_lost_status, number)
             return self.total()
 
-    def match_reader(self, number: int, reader: End) -> List[Packet]:
-        """The writer is told that it is matched with a reader from now on, by the number of its peer and its number there."""
+    def match_reader(self, number: int, reader: End, greeted: bool = False) -> List[Packet]:
+        """The writer is told that it is matched with a reader from now on, by the number of its peer and its number there.
+        A greeted one is told no more than where it begins until it has answered: as those of other products want it."""
+        if greeted:
+            return self._told("match", _LIBRARY.cw_greet_reader, number, reader, " greeted")
         return self._told("match", _LIBRARY.cw_match_reader, number, reader)
 
     def unmatch_reader(self, number: int, reader: End) -> List[Packet]:
         """The writer is told that a reader is gone: it waits for it no longer, and sends it nothing."""
         return self._told("part", _LIBRARY.cw_unmatch_reader, number, reader)
 
-    def _told(self, word: str, call: Any, number: int, reader: End) -> List[Packet]:
+    def _told(self, word: str, call: Any, number: int, reader: End, option: str = "") -> List[Packet]:
         u8(number, "number")
         peer, there = _named(reader, "reader")
-        return self._sent(lambda: f"call {word} w{number} {peer}.r{there}", call, number, peer, there)
+        return self._sent(lambda: f"call {word} w{number} {peer}.r{there}{option}", call, number, peer, there)
 
     def get_publication_matched_status(self, number: int) -> MatchedStatus:
         u8(number, "number")

@@ -2,6 +2,7 @@
 //!
 //! DDS 1.4, 2.2.2.4 (DataWriter).
 
+ghost use Rattle.std.specs.Prelude.{true, false};
 ghost use Rattle.dds_machine.specs.declared.call.Call.TheVariants.{AssertLiveliness, Dispose, GetLivelinessLost, GetPublicationMatched, MatchReader, Register, SetStrength, UnmatchReader, Unregister, Write};
 ghost use Rattle.dds_protocol.specs.declared.event.Event.TheVariants.{Call as Asked};
 ghost use Rattle.dds_c.specs.Answering.{Happens, HappensCopied};
@@ -120,13 +121,43 @@ pub extern "C" fn cw_match_reader(
 ) -> u8
     // It is one step of the peer.
     ensures step { Happens peer.old.held.session
-        (Asked (MatchReader writer (end_of reader_peer reader))) result peer.new.held.session }
+        (Asked (MatchReader writer (end_of reader_peer reader) false)) result peer.new.held.session }
 {
     let reader = Endpoint {
         peer: reader_peer,
         number: reader,
     };
-    let call = Call::MatchReader { writer, reader };
+    let call = Call::MatchReader {
+        writer,
+        reader,
+        greeted: false,
+    };
+    step(alloc, peer, Event::Call(call))
+}
+
+/// The same of a reader that is told no more than where it begins until it has answered (RTPS 2.5, 8.3.8, Heartbeat). It
+/// is refused as `Call::MatchReader`.
+#[unsafe(no_mangle)]
+pub extern "C" fn cw_greet_reader(
+    alloc: Global,
+    peer: &mut Peer,
+    writer: u8,
+    reader_peer: u8,
+    reader: u8,
+) -> u8
+    // It is one step of the peer.
+    ensures step { Happens peer.old.held.session
+        (Asked (MatchReader writer (end_of reader_peer reader) true)) result peer.new.held.session }
+{
+    let reader = Endpoint {
+        peer: reader_peer,
+        number: reader,
+    };
+    let call = Call::MatchReader {
+        writer,
+        reader,
+        greeted: true,
+    };
     step(alloc, peer, Event::Call(call))
 }
 

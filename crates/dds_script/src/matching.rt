@@ -22,8 +22,15 @@ impl Side {
     }
 }
 
-/// A writer and a reader are matched from now on.
+/// A writer is told of a reader greeted, or a writer and a reader are matched from now on.
 fn match_of(words: &[&str]) -> Option<Call> {
+    if let [end, other, "greeted"] = words {
+        return Some(Call::MatchReader {
+            writer: writer_number(end)?,
+            reader: reader_end(other)?,
+            greeted: true,
+        });
+    }
     let [end, other] = words else {
         return None;
     };
@@ -31,6 +38,7 @@ fn match_of(words: &[&str]) -> Option<Call> {
         Some(writer) => Some(Call::MatchReader {
             writer,
             reader: reader_end(other)?,
+            greeted: false,
         }),
         None => Some(Call::MatchWriter {
             reader: reader_number(end)?,
