@@ -62,6 +62,7 @@ int main(void) {
     CHECK(cw_recorded_unmatch_reader(&writer, 1, 2, 1) == CW_OK && cw_recorded_unmatch_writer(&reader, 1, 1, 1) == CW_OK);
     CHECK(cw_recorded_match_reader(&writer, 1, 2, 1) == CW_OK && cw_recorded_match_writer(&reader, 1, 1, 1) == CW_OK);
     CHECK(cw_recorded_match_writer(&reader, 1, 1, 1) == CW_PRECONDITION_NOT_MET);
+    CHECK(cw_recorded_greet_reader(&writer, 1, 2, 1) == CW_PRECONDITION_NOT_MET);
     CHECK(cw_recorded_get_publication_matched_status(&writer, 1) == CW_OK);
     CHECK(cw_recorded_get_subscription_matched_status(&reader, 1) == CW_OK);
     CHECK(cw_recorded_clear_recorder(&writer, CW_WRITER, 1) == CW_OK);

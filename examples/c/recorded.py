@@ -27,6 +27,8 @@ with RecordedPeer(*CONFIG, 1, FIRST) as first, RecordedPeer(*CONFIG, 2, SECOND) 
     first.match_reader(1, (2, 1)), second.match_writer(1, (1, 1))
     with contextlib.suppress(PreconditionNotMet):
         second.match_writer(1, (1, 1))
+    with contextlib.suppress(PreconditionNotMet):
+        first.match_reader(1, (2, 1), greeted=True)
     first.get_publication_matched_status(1), second.get_subscription_matched_status(1)
     first.clear_recorder(EntityKind.WRITER, 1), second.clear_recorder(EntityKind.READER, 1)
     second.line("call lost r1")

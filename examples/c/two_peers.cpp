@@ -64,7 +64,7 @@ int main() {
             return 4;
     }
     if (cw_unmatch_reader(writer.get(), 1, 2, 1) || cw_unmatch_writer(reader.get(), 1, 1, 1) ||
-        cw_match_reader(writer.get(), 1, 2, 1) || cw_match_writer(reader.get(), 1, 1, 1) ||
+        cw_greet_reader(writer.get(), 1, 2, 1) || cw_match_writer(reader.get(), 1, 1, 1) ||
         cw_get_publication_matched_status(writer.get(), 1) || cw_get_subscription_matched_status(reader.get(), 1))
         return 5;
     show("the writer", writer);
