@@ -78,5 +78,3 @@ pub mod WriterNotified
 pub mod Ended
 pub mod Counted
 pub mod ToNobody
-pub mod MissLaws
-pub mod Remembered
