@@ -41,8 +41,8 @@ fn observe(session: &Session, of: Option<Endpoint>, datagram: &[u8]) -> FlatObse
     ensures { IsObserved session.now of datagram.now (observed_of result) }
 {
     let observed = match of {
-        Some(writer) => session.core.observe_writer(writer, datagram),
-        None => session.core.observe(datagram),
+        Some(writer) => session.core.core().observe_writer(writer, datagram),
+        None => session.core.core().observe(datagram),
     };
     flat_observed(observed)
 }

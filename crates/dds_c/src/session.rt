@@ -14,7 +14,7 @@ ghost use Rattle.dds_c.specs.Meaning.{prefix_meaning, recorder_notices, recorder
 ghost use Rattle.dds_c.specs.Opening.{IsOpening};
 
 use dds_base::{Code, Config, Sequence};
-use dds_core::Core as CoreOf;
+use dds_core::Mindful;
 use dds_machine::Reply;
 use dds_notices::Recorder;
 use dds_protocol::{Event, Output};
@@ -23,7 +23,7 @@ use std::alloc::Global;
 use std::mem;
 
 /// A peer whose filters are prefixes, and whose listeners record.
-pub type Core = CoreOf<Prefix, Recorder>;
+pub type Core = Mindful<Prefix, Recorder>;
 
 /// A peer, and what it gave back last.
 #[derive(Drop)]

@@ -78,3 +78,5 @@ pub mod WriterNotified
 pub mod Ended
 pub mod Counted
 pub mod ToNobody
+pub mod MissLaws
+pub mod Remembered

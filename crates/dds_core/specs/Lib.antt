@@ -32,6 +32,7 @@ pub mod FilteredSteps
 pub mod Noticing
 pub mod Listening
 pub mod Twins
+pub mod Remembering
 pub mod Moved
 pub mod Observing
 pub mod ObservingKept

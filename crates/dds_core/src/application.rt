@@ -13,6 +13,7 @@ ghost use Rattle.dds_core.specs.Listening.{Adds, AreKept, RefusesEntity, Refuses
 ghost use Rattle.dds_core.specs.Observing.{Observes};
 ghost use Rattle.dds_core.specs.Opening.{core_refusal, opening_peer};
 ghost use Rattle.dds_core.specs.Pairs.{IsPair};
+ghost use Rattle.dds_core.specs.Remembering.{AreMisses};
 ghost use Rattle.dds_core.specs.Sending.{AreMessages, max_unsent};
 ghost use Rattle.dds_core.specs.Standing.{StandsFor as PeerStandsFor};
 ghost use Rattle.dds_core.specs.Ruling.{IsSound};
@@ -25,6 +26,7 @@ ghost use Rattle.dds_base.specs.declared.config.Config.{Config as ConfigOf};
 use crate::filtered_peer::FilteredPeer;
 use crate::lent_event::LentEvent;
 use crate::marks::Marks;
+use crate::misses::Misses;
 use crate::observing::Observed;
 use crate::pairing::Pair;
 use crate::twin::{Twin, pair_of};
@@ -114,7 +116,8 @@ impl<F: Filter, L: Listener> Core<F, L> {
         // What goes out is the written form of a message.
         ensures messages { AreMessages result.packets }
     {
-        self.step_with(event, &mut Twin::Unasked)
+        let mut misses = Misses::nowhere(self.memory());
+        self.step_with(event, &mut Twin::Unasked, &mut misses)
     }
 
     /// One event, as `step` has it, and two equal outputs. All memory for both is asked for before anything changes, but
@@ -136,9 +139,10 @@ impl<F: Filter, L: Listener> Core<F, L> {
         // The second output is the first one.
         ensures equal { result.0 ≡ result.1 }
     {
-        let alloc = self.filtered.memory();
+        let alloc = self.memory();
+        let mut misses = Misses::nowhere(alloc);
         let mut twin = Twin::Asked;
-        let output = self.step_with(event, &mut twin);
+        let output = self.step_with(event, &mut twin, &mut misses);
         pair_of(alloc, output, twin)
     }
 
@@ -154,45 +158,69 @@ impl<F: Filter, L: Listener> Core<F, L> {
         // What goes out is the written form of a message.
         ensures messages { AreMessages result.packets }
     {
-        self.happen(LentEvent::Deliver(packet), &mut Twin::Unasked)
+        let mut misses = Misses::nowhere(self.memory());
+        self.happen(LentEvent::Deliver(packet), &mut Twin::Unasked, &mut misses)
     }
 
-    /// One event, and where two replies are asked for, the reply once more.
+    /// One event, and where two replies are asked for, the reply once more. What conditions are said to have found nothing
+    /// did so.
     #[inline(always)]
-    fn step_with(&mut self, event: Event, twin: &mut Twin) -> Output
+    pub(crate) fn step_with(&mut self, event: Event, twin: &mut Twin, misses: &mut Misses) -> Output
+        requires right { AreMisses
+            (tests_of F.meaning self.old.filtered.filters) self.old.filtered.peer misses.old }
         ensures step { Steps L.notices L.capacity L.becomes
             (tests_of F.meaning self.old.filtered.filters) self.old event result self.new }
         ensures messages { AreMessages result.packets }
         ensures few { result.unsent < max_unsent }
         ensures twin { Twins twin.old result.reply twin.new }
+        ensures right { AreMisses
+            (tests_of F.meaning self.old.filtered.filters) self.old.filtered.peer misses.new }
     {
         match event {
-            Event::Call(call) => self.happen(LentEvent::Call(call), twin),
-            Event::Tick(now) => self.happen(LentEvent::Tick(now), twin),
-            Event::Deliver(packet) => self.happen(LentEvent::Deliver(packet.as_slice()), twin),
-            Event::Resume { reader } => self.happen(LentEvent::Resume { reader }, twin),
+            Event::Call(call) => self.happen(LentEvent::Call(call), twin, misses),
+            Event::Tick(now) => self.happen(LentEvent::Tick(now), twin, misses),
+            Event::Deliver(packet) => self.happen(
+                LentEvent::Deliver(packet.as_slice()),
+                twin,
+                misses,
+            ),
+            Event::Resume { reader } => self.happen(LentEvent::Resume { reader }, twin, misses),
         }
     }
 
     /// The same of one whose packet is lent.
     #[inline(always)]
-    fn happen(&mut self, event: LentEvent, twin: &mut Twin) -> Output
+    pub(crate) fn happen(
+        &mut self,
+        event: LentEvent,
+        twin: &mut Twin,
+        misses: &mut Misses,
+    ) -> Output
+        requires right { AreMisses
+            (tests_of F.meaning self.old.filtered.filters) self.old.filtered.peer misses.old }
         ensures step { Steps L.notices L.capacity L.becomes
             (tests_of F.meaning self.old.filtered.filters) self.old (event_of event.entry) result
             self.new }
         ensures messages { AreMessages result.packets }
         ensures few { result.unsent < max_unsent }
         ensures twin { Twins twin.old result.reply twin.new }
+        ensures right { AreMisses
+            (tests_of F.meaning self.old.filtered.filters) self.old.filtered.peer misses.new }
     {
         let is_told = self.listeners.has_listeners();
         if is_told {
             self.filtered.mark(&mut self.marks);
         }
-        let output = self.filtered.step(event, twin);
+        let output = self.filtered.step(event, twin, misses);
         if is_told {
             self.filtered.end(&mut self.listeners, &self.marks);
         }
         output
+    }
+
+    /// Where its lists have their memory from.
+    pub(crate) fn memory(&self) -> Global {
+        self.filtered.memory()
     }
 
     /// Takes the lists of an answer back, which its caller has read, for the answers that follow: a caller who gives each

@@ -8,12 +8,14 @@ ghost use Rattle.dds_machine.specs.declared.reply.Reply.TheVariants.{Done, Refus
 ghost use Rattle.dds_machine.specs.declared.call.Call.TheVariants as call;
 ghost use Rattle.dds_protocol.specs.declared.event.Event.TheVariants as event;
 ghost use Rattle.dds_core.specs.Kept.{WriterKept};
+ghost use Rattle.dds_core.specs.Remembering.{AreMisses};
 ghost use Rattle.dds_core.specs.Standing.{IsShort};
 ghost use Rattle.dds_core.specs.Stepping.{Sends, Steps, StepsBy};
 ghost use Rattle.dds_core.specs.Making.{Makes, IsValueOf};
 ghost use Rattle.dds_core.specs.Sending.{SendsNothing, AreMessages};
 ghost use Rattle.dds_core.specs.Twins.{IsPlain, Twins};
 
+use crate::misses::Misses;
 use crate::output::answered;
 use crate::peer::Peer;
 use crate::sending::Announced;
@@ -26,12 +28,20 @@ use dds_protocol::Output;
 
 impl Peer {
     #[inline(always)]
-    pub(crate) fn call<T: Filters>(&mut self, filters: &T, call: Call, twin: &mut Twin) -> Output
+    pub(crate) fn call<T: Filters>(
+        &mut self,
+        filters: &T,
+        call: Call,
+        twin: &mut Twin,
+        misses: &mut Misses,
+    ) -> Output
+        requires right { AreMisses (T.meaning filters.now) self.old misses.old }
         ensures step { StepsBy (T.meaning filters.now) self.old (event.Call call) result self.new }
         ensures sends { Sends self.old (event.Call call) result }
         ensures messages { AreMessages result.packets }
         ensures few { result.unsent ≤ max_readers }
         ensures twin { Twins twin.old result.reply twin.new }
+        ensures right { AreMisses (T.meaning filters.now) self.old misses.new }
     {
         match call {
             Call::Register { writer, key } => self.register(writer, key),
@@ -76,7 +86,9 @@ impl Peer {
             Call::CreateGuardCondition => self.create_guard_condition(),
             Call::SetTriggerValue { condition, value } => self.set_trigger_value(condition, value),
             Call::DeleteCondition { condition } => self.delete_condition(condition),
-            Call::GetTriggerValue { condition } => self.get_trigger_value(filters, condition),
+            Call::GetTriggerValue { condition } => self.get_trigger_value(
+                filters, condition, misses,
+            ),
             Call::CreateWaitSet => self.create_wait_set(),
             Call::DeleteWaitSet { wait_set } => self.delete_wait_set(wait_set),
             Call::AttachCondition {
@@ -89,7 +101,7 @@ impl Peer {
             } => self.detach_condition(wait_set, condition),
             Call::GetConditions { wait_set } => self.get_conditions(wait_set, twin),
             Call::WaitBegin { wait_set, deadline } => self.wait_begin(wait_set, deadline),
-            Call::WaitLook { wait_set } => self.wait_look(filters, wait_set, twin),
+            Call::WaitLook { wait_set } => self.wait_look(filters, wait_set, twin, misses),
             Call::WaitEnd { wait_set } => self.wait_end(wait_set),
             Call::SetEnabledStatuses { entity, mask } => self.set_enabled_statuses(entity, mask),
             Call::GetStatusChanges { entity } => self.get_status_changes(entity),

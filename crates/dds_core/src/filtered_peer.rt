@@ -18,6 +18,7 @@ ghost use Rattle.dds_core.specs.Noticing.{AreMarksOf, MarksPeer, Tells};
 ghost use Rattle.dds_core.specs.Observing.{Observes};
 ghost use Rattle.dds_core.specs.Opening.{core_refusal, opening_peer};
 ghost use Rattle.dds_core.specs.Pairs.{IsPair};
+ghost use Rattle.dds_core.specs.Remembering.{AreMisses};
 ghost use Rattle.dds_core.specs.Sending.{AreMessages, max_unsent};
 ghost use Rattle.dds_core.specs.Standing.{StandsFor as PeerStandsFor};
 ghost use Rattle.dds_core.specs.Stepping.{SoundStepsBy};
@@ -25,6 +26,7 @@ ghost use Rattle.dds_core.specs.Twins.{Twins};
 
 use crate::lent_event::LentEvent;
 use crate::marks::Marks;
+use crate::misses::Misses;
 use crate::observing::Observed;
 use crate::pairing::Pair;
 use crate::peer::Peer;
@@ -93,7 +95,9 @@ impl<F: Filter> FilteredPeer<F> {
     ///
     /// DDS 1.4, 2.2.2.4 and 2.2.2.5 (DataWriter, DataReader); RTPS 2.5, 8.4 (behaviour).
     #[inline(always)]
-    pub fn step(&mut self, event: LentEvent, twin: &mut Twin) -> Output
+    pub fn step(&mut self, event: LentEvent, twin: &mut Twin, misses: &mut Misses) -> Output
+        // What conditions are said to have found nothing did so, in each state that the peer stands for.
+        requires right { AreMisses (tests_of F.meaning self.old.filters) self.old.peer misses.old }
         // For each state that the peer stands for, the event is a step, by what its filters mean, to one that it stands
         // for afterwards; what a call enters is announced, what is due at a tick is sent, and a delivered packet is
         // taken up by the rules of the protocol, and what is due by them is sent.
@@ -109,8 +113,10 @@ impl<F: Filter> FilteredPeer<F> {
         ensures few { result.unsent < max_unsent }
         // Where two replies are asked for, there is the reply once more.
         ensures twin { Twins twin.old result.reply twin.new }
+        // So did those that are remembered now, before the event.
+        ensures right { AreMisses (tests_of F.meaning self.old.filters) self.old.peer misses.new }
     {
-        self.peer.step_by(&self.filters, event, twin)
+        self.peer.step_by(&self.filters, event, twin, misses)
     }
 
     /// Takes an answer's lists back, as `Core::reuse` has it.

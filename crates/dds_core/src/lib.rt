@@ -55,6 +55,8 @@ mod match_counts;
 mod matching;
 mod matching_readers;
 mod matching_writers;
+mod mindful;
+mod misses;
 mod moves;
 mod noticing;
 mod observing;
@@ -79,5 +81,6 @@ mod watching;
 mod writer_end;
 
 pub use application::Core;
+pub use mindful::Mindful;
 pub use observing::Observed;
 pub use pairing::Pair;

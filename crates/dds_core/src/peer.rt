@@ -5,12 +5,14 @@
 ghost use Rattle.std.specs.Prelude.{◌≡◌, ◌<◌, ◌≤◌};
 ghost use Rattle.dds_protocol.specs.declared.event.Event.TheVariants as event;
 ghost use Rattle.dds_core.specs.Lending.{event_of};
+ghost use Rattle.dds_core.specs.Remembering.{AreMisses};
 ghost use Rattle.dds_core.specs.Stepping.{Sends, Steps, SoundStepsBy};
 ghost use Rattle.dds_core.specs.Sending.{AreMessages, max_unsent};
 ghost use Rattle.dds_core.specs.Twins.{IsPlain, Twins};
 
 use crate::expiring::{counts_deaths, expire_all};
 use crate::lent_event::LentEvent;
+use crate::misses::Misses;
 use crate::output::answered;
 use crate::reader_end::ReaderEnd;
 use crate::sending::Announced;
@@ -64,7 +66,15 @@ impl Peer {
     /// tried again. The filters tell which samples its query conditions match, by their numbers. Where two replies are
     /// asked for, all memory for both is asked for before anything changes.
     #[inline(always)]
-    pub fn step_by<T: Filters>(&mut self, filters: &T, event: LentEvent, twin: &mut Twin) -> Output
+    pub fn step_by<T: Filters>(
+        &mut self,
+        filters: &T,
+        event: LentEvent,
+        twin: &mut Twin,
+        misses: &mut Misses,
+    ) -> Output
+        // What conditions are said to have found nothing did so, in each state that the peer stands for.
+        requires right { AreMisses (T.meaning filters.now) self.old misses.old }
         // For each state that the peer stands for, the event is a step by what the filters mean, and by the rules of
         // the protocol.
         ensures step { SoundStepsBy (T.meaning filters.now) self.old (event_of event.entry) result
@@ -75,9 +85,11 @@ impl Peer {
         ensures few { result.unsent < max_unsent }
         // Where two replies are asked for, there is the reply once more.
         ensures twin { Twins twin.old result.reply twin.new }
+        // So did those that are remembered now, before the event.
+        ensures right { AreMisses (T.meaning filters.now) self.old misses.new }
     {
         match event {
-            LentEvent::Call(call) => self.call(filters, call, twin),
+            LentEvent::Call(call) => self.call(filters, call, twin, misses),
             LentEvent::Tick(now) => self.tick(now),
             LentEvent::Deliver(packet) => self.deliver(packet, twin),
             LentEvent::Resume { reader } => self.resume(reader, twin),

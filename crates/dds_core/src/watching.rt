@@ -2,22 +2,26 @@
 //!
 //! DDS 1.4, 2.2.2.1 (Condition, WaitSet), 2.2.2.5 (ReadCondition).
 
-ghost use Rattle.std.specs.Prelude.{◌≡◌, ◌+◌, [], true, None, Some, is_some, IfOk, IfErr, OnErr, OnOk};
+ghost use Rattle.std.specs.Prelude.{◌≡◌, ◌+◌, ◌<◌, length, [], true, None, Some, is_some, IfOk, IfErr, OnErr, OnOk};
 ghost use Rattle.dds_base.specs.declared.code.Code.TheVariants.{Memory};
 ghost use Rattle.dds_base.specs.Checked.{is_maximum};
 ghost use Rattle.dds_base.specs.Selection.{max_in};
 ghost use Rattle.dds_base.specs.Number.{at_number};
 ghost use Rattle.dds_base.specs.Refusal.{Refuses};
 ghost use Rattle.dds_conditions.specs.Watched.{conditions_of, filter_refusal, unless_there, use_refusal, with_filter};
+ghost use Rattle.dds_conditions.specs.declared.condition.Condition.TheVariants.{Samples};
 ghost use Rattle.dds_machine.specs.declared.call.Call.TheVariants as call;
+ghost use Rattle.dds_machine.specs.Part.{own_reader};
 ghost use Rattle.dds_protocol.specs.declared.event.Event.TheVariants as event;
 ghost use Rattle.dds_core.specs.Accesses.{condition_call};
+ghost use Rattle.dds_core.specs.Remembering.{AreMisses};
 ghost use Rattle.dds_core.specs.Stepping.{Steps, StepsBy};
 ghost use Rattle.dds_core.specs.Sending.{SendsNothing};
 ghost use Rattle.dds_core.specs.Twins.{IsPlain, Twins};
-ghost use Rattle.dds_core.specs.Watching.{AreActive, AsksBy, TellsActive, TellsStatuses, TellsTrigger, TellsValue, active_reply, asked_of, conditions_reply, done_reply, made_reply};
+ghost use Rattle.dds_core.specs.Watching.{AreActive, AsksBy, Tells, TellsActive, TellsStatuses, TellsTrigger, TellsValue, active_reply, asked_of, conditions_reply, done_reply, made_reply};
 
 use crate::by_filter::ByFilter;
+use crate::misses::{Miss, Misses};
 use crate::output::{answered, reply_to_access};
 use crate::peer::Peer;
 use crate::twin::Twin;
@@ -323,11 +327,47 @@ impl Peer {
         }
     }
 
-    /// The trigger value of a condition that was made; of one that was not, `false`.
-    fn value_of<T: Filters>(&self, filters: &T, condition: Option<Condition>) -> bool
-        ensures { TellsValue (T.meaning filters.now) self.now condition result }
+    /// The trigger value of the condition of this number, which asks so of the reader of this index. Where it found nothing,
+    /// and no more has happened there since, it is `false`, and the samples are not gone over again.
+    fn ask<T: Filters>(
+        &self,
+        filters: &T,
+        number: u32,
+        index: usize,
+        miss: Miss,
+        misses: &mut Misses,
+    ) -> bool
+        requires within { index < length self.now.readers }
+        requires reader { miss.reader ≡ index + 1 }
+        requires newest { Tells self.now
+            (λ part. miss.entries ≡ length (own_reader part miss.reader).happened) }
+        requires right { AreMisses (T.meaning filters.now) self.now misses.old }
+        ensures value { TellsValue (T.meaning filters.now) self.now
+            (Some (Samples miss.reader miss.masks miss.filter)) result }
+        ensures right { AreMisses (T.meaning filters.now) self.now misses.new }
     {
-        match condition {
+        if misses.has(number, &miss) {
+            return false;
+        }
+        let test = ByFilter {
+            filters,
+            filter: miss.filter,
+        };
+        if self.readers[index].has_match(miss.masks, &test) {
+            return true;
+        }
+        misses.note(number, miss);
+        false
+    }
+
+    /// The trigger value of the condition of this number; of one that was not made, `false`.
+    fn value_of<T: Filters>(&self, filters: &T, number: u32, misses: &mut Misses) -> bool
+        requires right { AreMisses (T.meaning filters.now) self.now misses.old }
+        ensures value { TellsValue (T.meaning filters.now) self.now
+            (at_number self.now.watch.conditions number) result }
+        ensures right { AreMisses (T.meaning filters.now) self.now misses.new }
+    {
+        match self.watch.condition(number) {
             Some(
                 Condition::Samples {
                     reader,
@@ -336,8 +376,14 @@ impl Peer {
                 },
             ) => match index_of(reader, self.readers.len()) {
                 Some(index) => {
-                    let test = ByFilter { filters, filter };
-                    self.readers[index].has_match(masks, &test)
+                    let entries = self.readers[index].mark().happened;
+                    let miss = Miss {
+                        reader,
+                        masks,
+                        filter,
+                        entries,
+                    };
+                    self.ask(filters, number, index, miss, misses)
                 }
                 None => false,
             },
@@ -347,28 +393,37 @@ impl Peer {
     }
 
     /// The trigger value of a condition; of one that does not exist, `false`.
-    fn trigger_of<T: Filters>(&self, filters: &T, condition: Cond) -> bool
-        ensures { TellsTrigger (T.meaning filters.now) self.now condition result }
+    fn trigger_of<T: Filters>(&self, filters: &T, condition: Cond, misses: &mut Misses) -> bool
+        requires right { AreMisses (T.meaning filters.now) self.now misses.old }
+        ensures value { TellsTrigger (T.meaning filters.now) self.now condition result }
+        ensures right { AreMisses (T.meaning filters.now) self.now misses.new }
     {
         match condition {
             Cond::Status(entity) => match self.watch.enabled(entity) {
                 Some(enabled) => enabled.intersects(self.statuses_of(entity)),
                 None => false,
             },
-            Cond::Made(number) => self.value_of(filters, self.watch.condition(number)),
+            Cond::Made(number) => self.value_of(filters, number, misses),
         }
     }
 
-    pub(crate) fn get_trigger_value<T: Filters>(&self, filters: &T, condition: Cond) -> Output
+    pub(crate) fn get_trigger_value<T: Filters>(
+        &self,
+        filters: &T,
+        condition: Cond,
+        misses: &mut Misses,
+    ) -> Output
+        requires right { AreMisses (T.meaning filters.now) self.now misses.old }
         ensures step { StepsBy (T.meaning filters.now) self.now
             (event.Call (call.GetTriggerValue condition)) result self.now }
         ensures sends { SendsNothing result }
         ensures plain { IsPlain result.reply }
+        ensures right { AreMisses (T.meaning filters.now) self.now misses.new }
     {
         if !self.watch.knows(condition) {
             return self.refused(Code::BadParameter);
         }
-        let value = self.trigger_of(filters, condition);
+        let value = self.trigger_of(filters, condition, misses);
         answered(self.alloc, Reply::TriggerValue(value))
     }
 
@@ -426,17 +481,25 @@ impl Peer {
     }
 
     /// The conditions of a WaitSet that are true. Each is asked once.
-    fn active<T: Filters>(&self, filters: &T, wait_set: u32) -> Result<Sequence<Cond>, Code>
+    fn active<T: Filters>(
+        &self,
+        filters: &T,
+        wait_set: u32,
+        misses: &mut Misses,
+    ) -> Result<Sequence<Cond>, Code>
+        requires right { AreMisses (T.meaning filters.now) self.now misses.old }
         ensures ok { IfOk result (AreActive (T.meaning filters.now) self.now wait_set) }
         ensures memory { IfErr result (λ code. code ≡ Memory) }
         ensures some { IfErr result (λ code. TellsActive (T.meaning filters.now) self.now wait_set true) }
+        ensures right { AreMisses (T.meaning filters.now) self.now misses.new }
     {
-        let is_true = |condition: &Cond|
-            ensures trigger { TellsTrigger
-                (T.meaning filters.entry.now) self.entry.now condition.entry.now result }
-            ensures same { (self.exit ≡ self.entry) × (filters.exit ≡ filters.entry) }
-        { self.trigger_of(filters, *condition) };
-        self.watch.active(wait_set, is_true)
+        let mut active = Vec::new(self.alloc);
+        for condition in self.watch.attached(wait_set) {
+            if self.trigger_of(filters, *condition, misses) {
+                active.push(*condition)?;
+            }
+        }
+        Ok(Sequence::from_vec(active))
     }
 
     pub(crate) fn wait_look<T: Filters>(
@@ -444,17 +507,20 @@ impl Peer {
         filters: &T,
         wait_set: u32,
         twin: &mut Twin,
+        misses: &mut Misses,
     ) -> Output
+        requires right { AreMisses (T.meaning filters.now) self.old misses.old }
         ensures step { StepsBy (T.meaning filters.now) self.old
             (event.Call (call.WaitLook wait_set)) result self.new }
         ensures sends { SendsNothing result }
         ensures twin { Twins twin.old result.reply twin.new }
+        ensures right { AreMisses (T.meaning filters.now) self.old misses.new }
     {
         let deadline = match self.watch.deadline(wait_set) {
             Ok(deadline) => deadline,
             Err(code) => return self.refused(code),
         };
-        let active = match self.active(filters, wait_set) {
+        let active = match self.active(filters, wait_set, misses) {
             Ok(active) => active,
             Err(code) => return self.refused(code),
         };

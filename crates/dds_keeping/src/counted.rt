@@ -7,7 +7,7 @@ ghost use Rattle.std.specs.Prelude.{◌≡◌};
 use crate::keeping::{Handing, Keeping};
 use dds_base::Code;
 use dds_conditions::Filter;
-use dds_core::Core;
+use dds_core::Mindful;
 use dds_notices::Listener;
 use dds_protocol::{Event, Output};
 use std::alloc::Global;
@@ -55,7 +55,7 @@ impl Keeping for Counted {
 
     #[inline(always)]
     fn step<F: Filter, L: Listener>(
-        core: &mut Core<F, L>,
+        core: &mut Mindful<F, L>,
         event: Event,
     ) -> (Output, Snapshot<Output>) {
         let output = core.step(event);

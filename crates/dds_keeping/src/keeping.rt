@@ -7,7 +7,7 @@ ghost use Rattle.dds_base.specs.declared.code.Code.TheVariants.{Memory};
 
 use dds_base::Code;
 use dds_conditions::Filter;
-use dds_core::Core;
+use dds_core::Mindful;
 use dds_notices::Listener;
 use dds_protocol::{Event, Output};
 use std::alloc::Global;
@@ -74,7 +74,7 @@ pub trait Keeping: Drop {
         ensures refused { IfErr result (λ code. code ≡ Memory) };
 
     /// Has one event done by a peer, and gives its output, and what is kept of it.
-    fn step<F: Filter, L: Listener>(core: &mut Core<F, L>, event: Event) -> (Output, Self::Twin)
+    fn step<F: Filter, L: Listener>(core: &mut Mindful<F, L>, event: Event) -> (Output, Self::Twin)
         ensures step { Steps L.notices L.capacity L.becomes
             (tests_of F.meaning core.old.filtered.filters) core.old event result.0 core.new }
         ensures twin { twins result.1 result.0 };

@@ -8,7 +8,7 @@ use crate::keeping::Keeping;
 use crate::recorded::Recorded;
 use dds_base::Code;
 use dds_conditions::Filter;
-use dds_core::Core;
+use dds_core::Mindful;
 use dds_notices::Listener;
 use dds_protocol::{Event, Output};
 use std::alloc::Global;
@@ -60,7 +60,7 @@ impl Keeping for Pieces {
         self.newest.reserve(additional)
     }
 
-    fn step<F: Filter, L: Listener>(core: &mut Core<F, L>, event: Event) -> (Output, Output) {
+    fn step<F: Filter, L: Listener>(core: &mut Mindful<F, L>, event: Event) -> (Output, Output) {
         core.step_pair(event)
     }
 

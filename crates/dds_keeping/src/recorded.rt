@@ -7,7 +7,7 @@ ghost use Rattle.std.specs.Prelude.{◌≡◌};
 use crate::keeping::{Handing, Keeping};
 use dds_base::Code;
 use dds_conditions::Filter;
-use dds_core::Core;
+use dds_core::Mindful;
 use dds_notices::Listener;
 use dds_protocol::{Event, Output};
 use dds_trace::Entry;
@@ -56,7 +56,7 @@ impl Keeping for Recorded {
         Ok(())
     }
 
-    fn step<F: Filter, L: Listener>(core: &mut Core<F, L>, event: Event) -> (Output, Output) {
+    fn step<F: Filter, L: Listener>(core: &mut Mindful<F, L>, event: Event) -> (Output, Output) {
         core.step_pair(event)
     }
 

@@ -4,7 +4,7 @@ use crate::cause::cause_of;
 use crate::kinds::{KindLine, Kinds, Tables};
 use crate::line::{Line, line_of};
 use dds_base::{Code, Guid, Octets, Sequence};
-use dds_core::Core as CoreOf;
+use dds_core::Mindful;
 use dds_machine::Reply;
 use dds_notices::Recorder;
 use dds_protocol::{Event, Output, Packet};
@@ -20,7 +20,7 @@ use std::io::{Read, Write};
 const MAX_LINE: u64 = 131_080;
 
 /// A peer whose filters and listeners are those that lines ask for.
-type Core = CoreOf<Prefix, Recorder>;
+type Core = Mindful<Prefix, Recorder>;
 
 /// How far a session has come.
 #[derive(Drop)]

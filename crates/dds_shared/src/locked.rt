@@ -21,7 +21,7 @@ use crate::tally::Tally;
 use crate::whole::Whole;
 use dds_base::Code;
 use dds_conditions::Filter;
-use dds_core::Core;
+use dds_core::{Core, Mindful};
 use dds_keeping::{Counted, Handing, Keeping};
 use dds_log::{Hand, Word};
 use dds_notices::Listener;
@@ -38,7 +38,7 @@ pub const SEATS: u64 = 4294967295;
 /// The core, beside a history that leads to it, which is stored or known in proofs alone.
 #[derive(Drop)]
 pub struct Locked<N: Named<F, L>, F: Filter, L: Listener, T: Keeping> {
-    pub(crate) core: Core<F, L>,
+    pub(crate) core: Mindful<F, L>,
     pub(crate) peer: u8,
     pub(crate) trace: T,
     pub(crate) tally: Tally<N>,
@@ -79,7 +79,7 @@ impl<N: Named<F, L>, F: Filter, L: Listener, T: Keeping> Locked<N, F, L, T> {
     /// A locked peer to which nothing happened, and its first pass.
     pub fn open<P: Handing>(
         alloc: Global,
-        core: Core<F, L>,
+        core: Mindful<F, L>,
         peer: u8,
         tally: Tally<N>,
         all: Share<N>,
@@ -172,7 +172,11 @@ impl<N: Named<F, L>, F: Filter, L: Listener, T: Keeping> Locked<N, F, L, T> {
         } = self;
         whole.show();
         give_all(passes, &mut rest, tally, word);
-        Left { core, peer, trace }
+        Left {
+            core: core.into_core(),
+            peer,
+            trace,
+        }
     }
 
     // Whether one event more can be counted, and behind it the ends of all waits.

@@ -9,7 +9,7 @@ ghost use Rattle.dds_core.specs.Opening.{core_refusal};
 
 use dds_base::{Code, Config, Entity};
 use dds_conditions::Filter;
-use dds_core::Core;
+use dds_core::Mindful;
 use dds_log::NewWord;
 use dds_notices::{Listener, StatusMask};
 use dds_trace::Entry;
@@ -23,7 +23,7 @@ use std::sync::ledger::Blank;
 /// Seeds are this project's own.
 #[derive(Drop)]
 pub struct Seed<F: Filter, L: Listener> {
-    pub(crate) core: Core<F, L>,
+    pub(crate) core: Mindful<F, L>,
     pub(crate) blank: Blank,
     pub(crate) word: NewWord<Entry>,
     pub(crate) config: Snapshot<Config>,
@@ -69,7 +69,7 @@ impl<F: Filter, L: Listener> Seed<F, L> {
         // A refusal is by the first cause that there is, or for want of memory.
         ensures refused { IfErr result (Refuses (core_refusal config.now.peers peer)) }
     {
-        let core = Core::open(alloc, config, peer)?;
+        let core = Mindful::open(alloc, config, peer)?;
         let word = NewWord::new(alloc)?;
         Ok(Seed {
             core,

@@ -5,6 +5,7 @@ use Rattle.dds_core.specs.declared.application.Core.TheInside.{Inside}
 use Rattle.dds_core.specs.Lending.{event_of}
 use Rattle.dds_core.specs.Listening.{CoreKept, Steps}
 use Rattle.dds_core.specs.Noticing.{MarksPeer}
+use Rattle.dds_core.specs.Remembering.{AreMisses}
 use Rattle.dds_core.proofs.Ended.{steps_told, steps_untold}
 use Rattle.dds_core.proofs.application.Core.happen.Goals as goal
 use Rattle.dds_core.proofs.application.Core.happen.Goals.{then-is_told, else-is_told}
@@ -53,3 +54,38 @@ returns-else-is_told-2-clause-step g c =
     (steps_untold g.L.Listener.notices g.L.Listener.capacity g.L.Listener.becomes
     (tests_of g.F.Filter.meaning now.filtered.filters) (kept_of now) (event_of c.args.event) c.step-output.result
     c.step-output.new.self c.step-output.ensures.step untold)
+
+pub step-output-requires : goal.step-output-requires
+step-output-requires g c =
+    let now : Inside g.row.F.Denot g.row.L.Denot = c.if-is_told.self-inside in
+    let same : kept_of now ≡ c.args.self.now = elim c.if-is_told.branch [
+      | then-is_told w ↦ ap (λ (i : Inside g.row.F.Denot g.row.L.Denot). kept_of i) w.self-inside-is ∙ c.self.view_is
+      | else-is_told w ↦ ap (λ (i : Inside g.row.F.Denot g.row.L.Denot). kept_of i) w.self-inside-is ∙ c.self.view_is
+    ] in
+    record {
+      right = subst (λ (k : CoreKept g.row.F.Denot g.row.L.Denot).
+          AreMisses (tests_of g.F.Filter.meaning k.filtered.filters) k.filtered.peer c.args.misses.now)
+          (sym same) c.requires.right;
+    }
+
+pub returns-then-is_told-2-clause-right : goal.returns-then-is_told-2-clause-right
+returns-then-is_told-2-clause-right g c =
+    let now : Inside g.row.F.Denot g.row.L.Denot = c.if-is_told.self-inside in
+    let same : kept_of now ≡ c.args.self.now = elim c.if-is_told.branch [
+      | then-is_told w ↦ ap (λ (i : Inside g.row.F.Denot g.row.L.Denot). kept_of i) w.self-inside-is ∙ c.self.view_is
+      | else-is_told w ↦ ap (λ (i : Inside g.row.F.Denot g.row.L.Denot). kept_of i) w.self-inside-is ∙ c.self.view_is
+    ] in
+    subst (λ (k : CoreKept g.row.F.Denot g.row.L.Denot).
+    AreMisses (tests_of g.F.Filter.meaning k.filtered.filters) k.filtered.peer c.step-output.new.misses)
+    same c.step-output.ensures.right
+
+pub returns-else-is_told-2-clause-right : goal.returns-else-is_told-2-clause-right
+returns-else-is_told-2-clause-right g c =
+    let now : Inside g.row.F.Denot g.row.L.Denot = c.if-is_told.self-inside in
+    let same : kept_of now ≡ c.args.self.now = elim c.if-is_told.branch [
+      | then-is_told w ↦ ap (λ (i : Inside g.row.F.Denot g.row.L.Denot). kept_of i) w.self-inside-is ∙ c.self.view_is
+      | else-is_told w ↦ ap (λ (i : Inside g.row.F.Denot g.row.L.Denot). kept_of i) w.self-inside-is ∙ c.self.view_is
+    ] in
+    subst (λ (k : CoreKept g.row.F.Denot g.row.L.Denot).
+    AreMisses (tests_of g.F.Filter.meaning k.filtered.filters) k.filtered.peer c.step-output.new.misses)
+    same c.step-output.ensures.right

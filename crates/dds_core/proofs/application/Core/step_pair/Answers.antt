@@ -1,4 +1,5 @@
 use Rattle.dds_conditions.specs.Filtered.{tests_of}
+use Rattle.dds_core.proofs.Remembered.{right_of_none}
 use Rattle.dds_core.proofs.Twice.{loses_messages, loses_steps}
 use Rattle.dds_core.proofs.application.Core.step_pair.Goals as goal
 
@@ -13,3 +14,6 @@ pub returns-clause-messages : goal.returns-clause-messages
 returns-clause-messages g c =
     loses_messages c.step_with-output.result c.pair_of.result.0 c.pair_of.ensures.loses
     c.step_with-output.ensures.messages
+
+pub step_with-output-requires : goal.step_with-output-requires
+step_with-output-requires g c = record { right = right_of_none _ _ c.nowhere-misses.result c.nowhere-misses.ensures }

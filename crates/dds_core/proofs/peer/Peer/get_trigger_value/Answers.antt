@@ -15,4 +15,4 @@ returns-clause-step g c = λ config peer given.
     (TriggerValue (trigger_value tests peer.part c.args.condition))
     (call.GetTriggerValue c.args.condition) (TriggerValue c.trigger_of-value.result) (λ dds h. h) refl
     (ap (λ (w : Watched). unless_there (knows w c.args.condition)) given.watch ∙ search rules)
-    (ap (λ (b : Bool). TriggerValue b) (c.trigger_of-value.ensures config peer given)))
+    (ap (λ (b : Bool). TriggerValue b) (c.trigger_of-value.ensures.value config peer given)))

@@ -1,9 +1,8 @@
-use Rattle.std.proofs.Common.{◌≡◌, Bool, true, false, ◌&&◌, Option, refl, sym, ◌∙◌, ap}
+use Rattle.std.proofs.Common.{◌≡◌, Bool, true, false, ◌&&◌, refl, sym, ◌∙◌, ap}
 use Rattle.dds_base.specs.Number.{at_number}
 use Rattle.dds_core.specs.Kept.{PeerKept}
 use Rattle.dds_notices.specs.declared.mask.StatusMask.{StatusMask}
 use Rattle.dds_conditions.specs.declared.condition.Cond.{Cond}
-use Rattle.dds_conditions.specs.declared.condition.Condition.{Condition}
 use Rattle.dds_conditions.specs.Watched.{Watched, enabled_of, knows_entity}
 use Rattle.dds_machine.specs.Watching.{meet, status_changes, trigger_value, condition_value}
 use Rattle.dds_core.proofs.peer.Peer.trigger_of.Goals as goal
@@ -13,8 +12,8 @@ known : (there : Bool) (value : Bool) → there ≡ true → value ≡ (there &&
 known true value is = refl
 known false value is = absurd cc
 
-pub returns-in-Some : goal.returns-in-Some
-returns-in-Some g c = λ config peer given.
+pub returns-in-Some-clause-value : goal.returns-in-Some-clause-value
+returns-in-Some-clause-value g c = λ config peer given.
     let tests = g.T.Filters.meaning c.args.filters.now in
     let here : c.self.inside.watch ≡ peer.part.dds.watch =
     ap (λ (k : PeerKept). k.watch) c.self.view_is ∙ sym given.watch in
@@ -30,8 +29,8 @@ returns-in-Some g c = λ config peer given.
     (ap (λ (w : Watched). knows_entity w entity) (sym here) ∙ there.0)
     ∙ ap (λ (x : Cond). trigger_value tests peer.part x) (sym c.in-Status.is)))))
 
-pub returns-in-None : goal.returns-in-None
-returns-in-None g c = λ config peer given.
+pub returns-in-None-clause-value : goal.returns-in-None-clause-value
+returns-in-None-clause-value g c = λ config peer given.
     let tests = g.T.Filters.meaning c.args.filters.now in
     let here : c.self.inside.watch ≡ peer.part.dds.watch =
     ap (λ (k : PeerKept). k.watch) c.self.view_is ∙ sym given.watch in
@@ -42,12 +41,9 @@ returns-in-None g c = λ config peer given.
     (status_changes peer.part entity)) strange)
     ∙ ap (λ (x : Cond). trigger_value tests peer.part x) (sym c.in-Status.is)
 
-pub returns-in-Made : goal.returns-in-Made
-returns-in-Made g c = λ config peer given.
+pub returns-in-Made-clause-value : goal.returns-in-Made-clause-value
+returns-in-Made-clause-value g c = λ config peer given.
     let tests = g.T.Filters.meaning c.args.filters.now in
-    let here : c.self.inside.watch ≡ peer.part.dds.watch =
-    ap (λ (k : PeerKept). k.watch) c.self.view_is ∙ sym given.watch in
-    c.value_of.ensures config peer given
-    ∙ (ap (λ (x : Option Condition). condition_value tests peer.part x)
-    (c.condition.ensures.made ∙ ap (λ (w : Watched). at_number w.conditions c.in-Made.number) here)
+    c.value_of.ensures.value config peer given
+    ∙ (ap (λ (w : Watched). condition_value tests peer.part (at_number w.conditions c.in-Made.number)) (sym given.watch)
     ∙ ap (λ (x : Cond). trigger_value tests peer.part x) (sym c.in-Made.is))

@@ -1,0 +1,11 @@
+use Rattle.std.proofs.Common.{sym, subst}
+use Rattle.dds_core.specs.Listening.{CoreKept}
+use Rattle.dds_core.specs.Standing.{StandsFor as PeerStandsFor}
+use Rattle.dds_core.proofs.mindful.Mindful.in_use.Goals as goal
+
+pub returns : goal.returns
+returns g c = record {
+  used = λ config peer s. c.in_use.ensures.used config peer
+      (subst (λ (k : CoreKept g.row.F.Denot g.row.L.Denot). PeerStandsFor k.filtered.peer config peer)
+      (sym c.self.view_is) s);
+}
