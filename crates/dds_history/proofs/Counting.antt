@@ -354,13 +354,12 @@ after_counted depth last c after live left_over e es is released one_less h =
         let few = h.fits.few.kept k in
         omega (arith, equal, few)
 
-pub first_gone : (p : HistoryQos) (last live left_over : ℕ) (c after : Counted) (e : Entry) (es : List Entry)
-    → is_counted_by p c e ≡ true → Released c after e.change.key → left_over ≡ live - 1
-    → Holds last (record { policy = p; entries = e ∷ es; counted = c; live = live })
-    → IsAfterFirst last (record { policy = p; entries = e ∷ es; counted = c; live = live })
-    (record { policy = p; entries = es; counted = after; live = left_over })
-first_gone KeepAll last live left_over c after e es is released one_less h = absurd cc
-first_gone (KeepLast depth) last live left_over c after e es is released one_less h =
+first_gone : (depth last live left_over : ℕ) (c after : Counted) (e : Entry) (es : List Entry)
+    → is_counted_by (KeepLast depth) c e ≡ true → Released c after e.change.key → left_over ≡ live - 1
+    → Holds last (record { policy = KeepLast depth; entries = e ∷ es; counted = c; live = live })
+    → IsAfterFirst last (record { policy = KeepLast depth; entries = e ∷ es; counted = c; live = live })
+    (record { policy = KeepLast depth; entries = es; counted = after; live = left_over })
+first_gone depth last live left_over c after e es is released one_less h =
     let gone = after_counted depth last c after live left_over e es is released one_less h in
     record { entries = refl; holds = gone.0; shown = gone.1 }
 
@@ -370,6 +369,34 @@ pub quiet_gone : (p : HistoryQos) (last live : ℕ) (c : Counted) (e : Entry) (e
     (record { policy = p; entries = es; counted = c; live = live })
 quiet_gone p last live c e es is h =
     record { entries = refl; holds = after_quiet p last c live e es is h; shown = refl }
+
+-- the first entry is gone, and counted no longer where it was counted
+pub counted_gone : (depth last live left_over : ℕ) (c after : Counted) (e : Entry) (es : List Entry)
+    → (is_counted_by (KeepLast depth) c e ≡ true → 0 < (count_in c e.change.key).turns
+    → Released c after e.change.key × (left_over ≡ live - 1))
+    → (is_counted_by (KeepLast depth) c e ≡ false → (after ≡ c) × (left_over ≡ live))
+    → Holds last (record { policy = KeepLast depth; entries = e ∷ es; counted = c; live = live })
+    → IsAfterFirst last (record { policy = KeepLast depth; entries = e ∷ es; counted = c; live = live })
+    (record { policy = KeepLast depth; entries = es; counted = after; live = left_over })
+counted_gone depth last live left_over c after e es counted dropped h =
+    step (is_counted_by (KeepLast depth) c e) refl
+  where
+    step : (b : Bool) → is_counted_by (KeepLast depth) c e ≡ b
+        → IsAfterFirst last (record { policy = KeepLast depth; entries = e ∷ es; counted = c; live = live })
+        (record { policy = KeepLast depth; entries = es; counted = after; live = left_over })
+    step true is =
+        let turn = h.fits.counted.0 in
+        let most = h.fits.counted.1 in
+        let some : 0 < (count_in c e.change.key).turns = omega (arith, turn, most) in
+        let less = counted is some in
+        first_gone depth last live left_over c after e es is less.0 less.1 h
+    step false is =
+        let same = dropped is in
+        subst (λ (n : ℕ). IsAfterFirst last (record { policy = KeepLast depth; entries = e ∷ es; counted = c; live = live })
+        (record { policy = KeepLast depth; entries = es; counted = after; live = n })) (sym same.1)
+        (subst (λ (m : Counted). IsAfterFirst last (record { policy = KeepLast depth; entries = e ∷ es; counted = c; live = live })
+        (record { policy = KeepLast depth; entries = es; counted = m; live = live })) (sym same.0)
+        (quiet_gone (KeepLast depth) last live c e es is h))
 
 -- ---- what goes from the front
 

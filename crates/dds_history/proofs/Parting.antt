@@ -8,7 +8,7 @@ use Rattle.dds_base.specs.declared.change.Change.{Change}
 use Rattle.dds_base.specs.declared.qos.HistoryQos.{HistoryQos}
 use Rattle.dds_base.specs.Kept.{WriterHistory}
 use Rattle.dds_history.specs.Entries.{Holds, KeptState, parts, shown}
-use Rattle.dds_history.specs.Held.{HeldChange, all_from, awaits, held_of, is_held, remaining_before}
+use Rattle.dds_history.specs.Held.{HeldChange, all_from, awaits, is_held, remaining_before}
 use Rattle.dds_history.specs.Readers.{joined, left}
 use Rattle.dds_history.specs.Standing.{Held, StandsFor, kept_in}
 use Rattle.dds_history.proofs.Rising.{awaited-from_least}

@@ -148,9 +148,11 @@ abbrev pub is_counted_by : HistoryQos → Counted → Entry → Bool
 is_counted_by KeepAll counted e = false
 is_counted_by (KeepLast depth) counted e = nat_lt 0 (left depth (count_in counted e.change.key) e)
 
--- the same of what is kept
-abbrev pub is_counted : KeptState → Entry → Bool
-is_counted s e = is_counted_by s.policy s.counted e
+-- one change of the key fewer is counted
+pub record IsUncounted (key : Key) (old new : KeptState) : Type 0 where
+  pub live : new.live ≡ old.live - 1
+  pub counts : (k : Key)
+      → count_in new.counted k ≡ (if same_key key k then one_fewer (count_in old.counted key) else count_in old.counted k)
 
 -- the first entry is gone
 pub record IsAfterFirst (last : ℕ) (old new : KeptState) : Type 0 where

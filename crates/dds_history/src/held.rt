@@ -19,7 +19,7 @@ ghost use Rattle.dds_base.specs.declared.qos.HistoryQos.TheVariants.{KeepLast};
 ghost use Rattle.dds_base.specs.Happening.{same_key};
 ghost use Rattle.dds_history.specs.declared.held.Entry.{Entry};
 ghost use Rattle.dds_history.specs.Held.{IsNext, awaits, granted, kept_after, older_after};
-ghost use Rattle.dds_history.specs.Entries.{Gains, HasRuns, Holds, HoldsBefore, IsAfterFirst, Rises, count_in, goes_first, held_as, one_fewer, remaining_by, shown, state, is_any_counted, is_counted, IsCounted, IsCountedAt, IsCountedBy, IsFew, IsFewBy};
+ghost use Rattle.dds_history.specs.Entries.{Gains, HasRuns, Holds, HoldsBefore, IsAfterFirst, Rises, count_in, goes_first, held_as, left, one_fewer, remaining_by, shown, state, is_any_counted, is_counted_by, IsCounted, IsCountedAt, IsCountedBy, IsFew, IsFewBy, IsUncounted};
 
 use dds_base::{Change, Code, HistoryQos, Key};
 use indexmap::IndexMap;
@@ -146,6 +146,13 @@ fn enter(
     Ok((place, before.unwrap_or(KeyCount { turns: 0, kept: 0 })))
 }
 
+/// So many more changes of its key drop the change, by what is counted of the key.
+fn left(depth: u32, count: KeyCount, entry: &Entry) -> u64
+    ensures { result ≡ left depth count entry.now }
+{
+    u64::from(depth).saturating_sub(count.turns.saturating_sub(entry.turn))
+}
+
 /// So many more changes of its key drop the change: it is dropped where that is none.
 fn remaining(policy: HistoryQos, keys: &IndexMap<Key, KeyCount>, entry: &Entry) -> u64
     ensures { result ≡ remaining_by policy keys.now.entries entry.now }
@@ -154,7 +161,7 @@ fn remaining(policy: HistoryQos, keys: &IndexMap<Key, KeyCount>, entry: &Entry) 
         HistoryQos::KeepAll => 1,
         HistoryQos::KeepLast(depth) => {
             let count = count_of(keys, entry.place, &entry.change.key);
-            u64::from(depth).saturating_sub(count.turns.saturating_sub(entry.turn))
+            left(depth, count, entry)
         }
     }
 }
@@ -171,18 +178,6 @@ fn one_fewer(count: KeyCount) -> KeyCount
             kept: count.kept - 1,
         }
     }
-}
-
-/// One change fewer of the key is kept, which most likely stands at this place. It stands there on where none is, so that the
-/// other keys stay at their places too.
-fn release(keys: &mut IndexMap<Key, KeyCount>, likely: usize, key: Key)
-    ensures { (k : Key) → count_in keys.new.entries k
-        ≡ (if same_key key k then one_fewer (count_in keys.old.entries key) else count_in keys.old.entries k) }
-{
-    let Some((place, count)) = find_count(keys, likely, &key) else {
-        return;
-    };
-    recount(keys, place, one_fewer(count));
 }
 
 /// Forgets the keys of which nothing is counted.
@@ -320,13 +315,23 @@ impl Kept {
         first_kept(&self.entries, self.policy, &self.keys)
     }
 
-    /// Whether it counts that this entry goes.
-    fn is_counted(&self, entry: &Entry) -> bool
-        ensures { result ≡ is_counted (state self.now) entry.now }
+    /// Counts one change of its key fewer, where an entry goes that was not dropped. The key stands where it is on where none
+    /// of it is kept, so that the other keys stay at their places too.
+    fn uncount(&mut self, depth: u32, entry: &Entry)
+        ensures policy { self.new.policy ≡ self.old.policy }
+        ensures entries { self.new.entries ≡ self.old.entries }
+        ensures counted { is_counted_by (KeepLast depth) self.old.keys.entries entry.now ≡ true
+            → 0 < (count_in self.old.keys.entries entry.now.change.key).turns
+            → IsUncounted entry.now.change.key (state self.old) (state self.new) }
+        ensures dropped { is_counted_by (KeepLast depth) self.old.keys.entries entry.now ≡ false
+            → state self.new ≡ state self.old }
     {
-        match self.policy {
-            HistoryQos::KeepAll => false,
-            HistoryQos::KeepLast(_) => 0 < remaining(self.policy, &self.keys, entry),
+        let Some((place, count)) = find_count(&self.keys, entry.place, &entry.change.key) else {
+            return;
+        };
+        if 0 < left(depth, count, entry) {
+            self.live = self.live.saturating_sub(1);
+            recount(&mut self.keys, place, one_fewer(count));
         }
     }
 
@@ -338,9 +343,8 @@ impl Kept {
         ensures len { deque_len self.new.entries ≡ deque_len self.old.entries - 1 }
     {
         if let Some(entry) = self.entries.pop_front() {
-            if self.is_counted(&entry) {
-                self.live = self.live.saturating_sub(1);
-                release(&mut self.keys, entry.place, entry.change.key);
+            if let HistoryQos::KeepLast(depth) = self.policy {
+                self.uncount(depth, &entry);
             }
         }
     }
