@@ -55,23 +55,22 @@ impl RegisteredInstances {
         self.set.contains(&key)
     }
 
-    /// Whether this key stands at the remembered place; then it is registered.
-    fn is_latest(&self, key: Key) -> bool
-        ensures { result ≡ true → is_among self.now.keys key ≡ true }
+    /// Whether this key stands at the remembered place, or at the one behind it, which is remembered then: instances are often
+    /// gone over in turn. Then it is registered.
+    fn finds(&mut self, key: Key) -> bool
+        ensures keys { self.new.keys ≡ self.old.keys }
+        ensures room { self.new.room ≡ self.old.room }
+        ensures found { result ≡ true → is_among self.old.keys key ≡ true }
     {
-        is_at(&self.set, self.latest, key)
-    }
-
-    /// Where an instance stands that is registered, which is often the one behind the remembered place: instances are often gone
-    /// over in turn.
-    fn place_of(&self, key: Key) -> Option<usize>
-        ensures { is_some result ≡ is_among self.now.keys key }
-    {
+        if is_at(&self.set, self.latest, key) {
+            return true;
+        }
         let following = self.latest.saturating_add(1);
         if is_at(&self.set, following, key) {
-            return Some(following);
+            self.latest = following;
+            return true;
         }
-        self.set.get_index_of(&key)
+        false
     }
 
     /// Registers an instance, whether or not it is registered.
@@ -103,7 +102,7 @@ impl RegisteredInstances {
         ensures wants { OnErr result
             ((is_unregister kind ≡ false) × (is_among self.old.keys key ≡ false)) }
     {
-        if kind.is_unregister() || self.is_latest(key) {
+        if kind.is_unregister() || self.finds(key) {
             return Ok(());
         }
         match self.set.reserve(1) {
@@ -120,10 +119,10 @@ impl RegisteredInstances {
         ensures { (k : Key)
             → is_among self.new.keys k ≡ (if same_key key k then true else is_among self.old.keys k) }
     {
-        if self.is_latest(key) {
+        if self.finds(key) {
             return;
         }
-        match self.place_of(key) {
+        match self.set.get_index_of(&key) {
             Some(place) => self.latest = place,
             None => {
                 self.latest = self.set.len();
