@@ -79,35 +79,35 @@ pub fn first_awaited(acknowledged: &[u64], none: u64) -> u64
 
 /// What is counted of the key, if it stands at this place.
 #[inline(always)]
-fn count_at(keys: &IndexMap<Key, KeyCount>, place: usize, key: &Key) -> Option<KeyCount>
-    ensures { IfSome result (IsCountedAt keys.now.entries key.now place) }
+fn count_at(keys: &IndexMap<Key, KeyCount>, place: usize, key: Key) -> Option<KeyCount>
+    ensures { IfSome result (IsCountedAt keys.now.entries key place) }
 {
     let (other, count) = keys.get_index(place)?;
-    if *other == *key { Some(*count) } else { None }
+    if *other == key { Some(*count) } else { None }
 }
 
 /// What is counted of the key, which most likely stands at this place.
-fn count_of(keys: &IndexMap<Key, KeyCount>, likely: usize, key: &Key) -> KeyCount
-    ensures { result ≡ count_in keys.now.entries key.now }
+fn count_of(keys: &IndexMap<Key, KeyCount>, likely: usize, key: Key) -> KeyCount
+    ensures { result ≡ count_in keys.now.entries key }
 {
     if let Some(count) = count_at(keys, likely, key) {
         return count;
     }
-    match keys.get(key) {
+    match keys.get(&key) {
         Some(count) => *count,
         None => KeyCount { turns: 0, kept: 0 },
     }
 }
 
 /// Where the key stands, which most likely is at this place, and what is counted of it, if anything is.
-fn find_count(keys: &IndexMap<Key, KeyCount>, likely: usize, key: &Key) -> Option<(usize, KeyCount)>
-    ensures { MatchOption result (count_in keys.now.entries key.now ≡ record { turns = 0; kept = 0 })
-        (λ found. IsCountedAt keys.now.entries key.now found.0 found.1) }
+fn find_count(keys: &IndexMap<Key, KeyCount>, likely: usize, key: Key) -> Option<(usize, KeyCount)>
+    ensures { MatchOption result (count_in keys.now.entries key ≡ record { turns = 0; kept = 0 })
+        (λ found. IsCountedAt keys.now.entries key found.0 found.1) }
 {
     if let Some(count) = count_at(keys, likely, key) {
         return Some((likely, count));
     }
-    let (place, _, count) = keys.get_full(key)?;
+    let (place, _, count) = keys.get_full(&key)?;
     Some((place, *count))
 }
 
@@ -135,11 +135,11 @@ fn enter(
         → count_in keys.new.entries k ≡ count_in keys.old.entries k) }
     ensures err { OnErr result (keys.new.entries ≡ keys.old.entries) }
 {
-    if let Some(count) = count_at(keys, likely, &key) {
+    if let Some(count) = count_at(keys, likely, key) {
         return Ok((likely, count));
     }
     let following = likely.saturating_add(1);
-    if let Some(count) = count_at(keys, following, &key) {
+    if let Some(count) = count_at(keys, following, key) {
         return Ok((following, count));
     }
     let (place, before) = keys.insert_full(key, KeyCount { turns: 0, kept: 0 })?;
@@ -160,7 +160,7 @@ fn remaining(policy: HistoryQos, keys: &IndexMap<Key, KeyCount>, entry: &Entry) 
     match policy {
         HistoryQos::KeepAll => 1,
         HistoryQos::KeepLast(depth) => {
-            let count = count_of(keys, entry.place, &entry.change.key);
+            let count = count_of(keys, entry.place, entry.change.key);
             left(depth, count, entry)
         }
     }
@@ -326,7 +326,7 @@ impl Kept {
         ensures dropped { is_counted_by (KeepLast depth) self.old.keys.entries entry.now ≡ false
             → state self.new ≡ state self.old }
     {
-        let Some((place, count)) = find_count(&self.keys, entry.place, &entry.change.key) else {
+        let Some((place, count)) = find_count(&self.keys, entry.place, entry.change.key) else {
             return;
         };
         if 0 < left(depth, count, entry) {
@@ -504,10 +504,10 @@ impl Kept {
     }
 
     /// How many changes are kept once one more of this key was made, the new one among them if some reader awaits it.
-    pub fn kept_with(&self, key: &Key, is_awaited: bool) -> u64
+    pub fn kept_with(&self, key: Key, is_awaited: bool) -> u64
         ensures { (last : ℕ) → last < 2 ^ 48 → Holds last (state self.now)
             → HasRuns (state self.now)
-            → result ≡ kept_after self.now.policy (shown (state self.now)) key.now is_awaited }
+            → result ≡ kept_after self.now.policy (shown (state self.now)) key is_awaited }
     {
         let older = self.older(key);
         if self.takes(is_awaited) {
@@ -518,9 +518,9 @@ impl Kept {
     }
 
     /// How many changes stay kept once one more of this key was made.
-    fn older(&self, key: &Key) -> u64
+    fn older(&self, key: Key) -> u64
         ensures older { (last : ℕ) → Holds last (state self.now) → HasRuns (state self.now)
-            → result ≡ older_after self.now.policy (shown (state self.now)) key.now }
+            → result ≡ older_after self.now.policy (shown (state self.now)) key }
         ensures few { (last : ℕ) → last < 2 ^ 48 → Holds last (state self.now) → result < 2 ^ 64 - 1 }
     {
         match self.policy {

@@ -116,7 +116,7 @@ impl History {
         // A refusal leaves the history as it was.
         ensures err { OnErr result (self.new ≡ self.old) }
     {
-        if let Some(code) = self.cause(&change.key) {
+        if let Some(code) = self.cause(change.key) {
             return Err(code);
         }
         let number = self.last + 1;
@@ -133,14 +133,13 @@ impl History {
         ensures refusal { (w : WriterHistory) → StandsFor self.now w
             → result ≡ append_refusal w change.now }
     {
-        let key = &change.key;
-        self.cause(key)
+        self.cause(change.key)
     }
 
     /// Why one more change of this key is refused.
-    fn cause(&self, key: &Key) -> Option<Code>
+    fn cause(&self, key: Key) -> Option<Code>
         ensures refusal { (w : WriterHistory) (change : Change) → StandsFor self.now w
-            → change.key ≡ key.now → result ≡ append_refusal w change }
+            → change.key ≡ key → result ≡ append_refusal w change }
         ensures few { result ≡ None → self.now.last < 2 ^ 48 }
     {
         if MAX_CHANGES <= self.last {
@@ -153,10 +152,10 @@ impl History {
     }
 
     /// Whether one more change of this key would exceed the limit.
-    fn is_full(&self, key: &Key) -> bool
+    fn is_full(&self, key: Key) -> bool
         requires { self.now.last < 2 ^ 48 }
         ensures { (w : WriterHistory) → StandsFor self.now w → result ≡ exceeds self.now.max_samples
-            (kept_after w.policy (held_of w) key.now (awaits w.acknowledged (self.now.last + 1))) }
+            (kept_after w.policy (held_of w) key (awaits w.acknowledged (self.now.last + 1))) }
     {
         match self.max_samples {
             Some(most) => u64::from(most) < self.kept_with(key),
@@ -165,9 +164,9 @@ impl History {
     }
 
     /// How many numbers are kept once one more change of this key was made.
-    fn kept_with(&self, key: &Key) -> u64
+    fn kept_with(&self, key: Key) -> u64
         requires { self.now.last < 2 ^ 48 }
-        ensures { (w : WriterHistory) → StandsFor self.now w → result ≡ kept_after w.policy (held_of w) key.now
+        ensures { (w : WriterHistory) → StandsFor self.now w → result ≡ kept_after w.policy (held_of w) key
             (awaits w.acknowledged (self.now.last + 1)) }
     {
         let is_awaited = is_awaited(&self.acknowledged, self.last + 1);

@@ -10,8 +10,8 @@ pub returns : goal.returns
 returns c =
     let counted = c.args.keys.now.entries in
     let found = c.in_ok-place.ensures in
-    let own : c.args.key.now ≡ c.in_ok-place.field-0-1.now =
-    lookup_key_same key-Decides c.args.key.now counted _ (sym found.key) in
+    let own : c.args.key ≡ c.in_ok-place.field-0-1.now =
+    lookup_key_same key-Decides c.args.key counted _ (sym found.key) in
     record {
       stands = subst (λ (k : Key). slice_get counted c.in_ok-place.place ≡ Some (k, c.in_ok-place.count.now)) (sym own) found.entry;
       counts = ap (λ (o : Option KeyCount). unwrap_or o (record { turns = 0; kept = 0 })) (sym found.value);

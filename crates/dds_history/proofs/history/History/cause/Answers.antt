@@ -12,7 +12,7 @@ few : (c : After-is_full) → c.args.self.now.last < 2 ^ 48
 few c = let last = ap (λ (v : Held). v.last) c.self.view_is in omega (arith, last)
 
 -- whether too many would be kept is what the test says
-tested : (c : After-is_full) (w : WriterHistory) (key : Key) → StandsFor c.args.self.now w → key ≡ c.args.key.now
+tested : (c : After-is_full) (w : WriterHistory) (key : Key) → StandsFor c.args.self.now w → key ≡ c.args.key
     → exceeds c.args.self.now.max_samples (kept_after w.policy (held_of w) key
     (awaits w.acknowledged (c.args.self.now.last + 1))) ≡ c.is_full.result
 tested c w key s same =

@@ -22,6 +22,6 @@ returns c = λ w s.
     ∙ ap (λ (a : List ℕ). awaits a (inside.last + 1)) c.deref.ensures.value in
     let next = next_of opened w here in
     c.kept_with.ensures inside.last (omega (arith, last, c.requires)) here.holds next.runs
-    ∙ (ap (λ (b : Bool). kept_after inside.kept.policy (shown (state inside.kept)) c.args.key.now b) awaited
-    ∙ (kept_after_is opened w c.args.key.now here
-    ∙ ap (λ (n : ℕ). kept_after w.policy (held_of w) c.args.key.now (awaits w.acknowledged (n + 1))) last))
+    ∙ (ap (λ (b : Bool). kept_after inside.kept.policy (shown (state inside.kept)) c.args.key b) awaited
+    ∙ (kept_after_is opened w c.args.key here
+    ∙ ap (λ (n : ℕ). kept_after w.policy (held_of w) c.args.key (awaits w.acknowledged (n + 1))) last))
