@@ -2,9 +2,9 @@
 //!
 //! DDS 1.4, 2.2.2.4 (register_instance, unregister_instance).
 
-ghost use Rattle.std.specs.Prelude.{◌≡◌, ◌<◌, ◌||◌, ◌⊎◌, [], not, false, true, slice_get, is_some, Some, IsOk, OnErr, OnOk, if◌then◌else◌};
+ghost use Rattle.std.specs.Prelude.{◌≡◌, ◌<◌, ◌||◌, ◌⊎◌, [], not, false, true, slice_get, Some, IsOk, IfOk, OnErr, OnOk, if◌then◌else◌};
 ghost use Rattle.dds_base.specs.Happening.{same_key, is_unregister};
-ghost use Rattle.rtps_writer.specs.Registered.{is_among};
+ghost use Rattle.rtps_writer.specs.Registered.{IsAgain, is_among};
 
 use dds_base::{ChangeKind, Key};
 use indexmap::IndexSet;
@@ -94,21 +94,26 @@ impl RegisteredInstances {
         self.set.swap_remove(&key);
     }
 
-    /// Makes the room that a change of this kind needs: one that registers an instance which is not registered yet.
-    pub fn reserve(&mut self, key: Key, kind: ChangeKind) -> Result<(), AllocError>
+    /// Makes the room that a change of this kind needs: one that registers an instance which is not registered yet. Where it
+    /// is told so, the change registers one that is registered already.
+    pub fn reserve(&mut self, key: Key, kind: ChangeKind) -> Result<bool, AllocError>
         ensures keys { self.new.keys ≡ self.old.keys }
         ensures room { OnOk result (is_unregister kind ≡ false
             → (0 < self.new.room) ⊎ (is_among self.new.keys key ≡ true)) }
+        ensures again { IfOk result (λ again. again ≡ true → IsAgain self.new.keys key kind) }
         ensures wants { OnErr result
             ((is_unregister kind ≡ false) × (is_among self.old.keys key ≡ false)) }
     {
-        if kind.is_unregister() || self.finds(key) {
-            return Ok(());
+        if kind.is_unregister() {
+            return Ok(false);
+        }
+        if self.finds(key) {
+            return Ok(true);
         }
         match self.set.reserve(1) {
-            Ok(()) => Ok(()),
+            Ok(()) => Ok(false),
             // Most sets have room: which instances there are is looked up only where there is none.
-            Err(_) if self.has(key) => Ok(()),
+            Err(_) if self.has(key) => Ok(true),
             Err(error) => Err(error),
         }
     }
@@ -119,9 +124,6 @@ impl RegisteredInstances {
         ensures { (k : Key)
             → is_among self.new.keys k ≡ (if same_key key k then true else is_among self.old.keys k) }
     {
-        if self.finds(key) {
-            return;
-        }
         match self.set.get_index_of(&key) {
             Some(place) => self.latest = place,
             None => {
@@ -131,13 +133,18 @@ impl RegisteredInstances {
         }
     }
 
-    /// What a change of this kind does: a write and a dispose register its instance, the others end its registration.
-    pub fn note(&mut self, key: Key, kind: ChangeKind)
-        requires { is_unregister kind ≡ false
+    /// What a change of this kind does: a write and a dispose register its instance, the others end its registration. It may be
+    /// told that the change registers one that is registered already.
+    pub fn note(&mut self, key: Key, kind: ChangeKind, is_again: bool)
+        requires room { is_unregister kind ≡ false
             → (0 < self.old.room) ⊎ (is_among self.old.keys key ≡ true) }
+        requires again { is_again ≡ true → IsAgain self.old.keys key kind }
         ensures { (k : Key) → is_among self.new.keys k
             ≡ (if same_key key k then not (is_unregister kind) else is_among self.old.keys k) }
     {
+        if is_again {
+            return;
+        }
         if kind.is_unregister() {
             self.unregister(key);
         } else {

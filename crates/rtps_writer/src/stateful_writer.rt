@@ -269,13 +269,13 @@ impl StatefulWriter {
         ensures err { OnErr result (self.new ≡ self.old) }
     {
         let (key, kind, moment) = (change.key, change.kind, change.source_timestamp);
-        if self.registered.reserve(key, kind).is_err() {
+        let Ok(is_again) = self.registered.reserve(key, kind) else {
             // Every other cause goes first.
             return Err(self.history.refusal(&change).unwrap_or(Code::Memory));
-        }
+        };
         match self.history.append(change) {
             Ok(number) => {
-                self.registered.note(key, kind);
+                self.registered.note(key, kind, is_again);
                 self.liveliness.assert_at(moment);
                 Ok(number)
             }
