@@ -138,7 +138,7 @@ fn enter(
     if let Some(count) = count_at(keys, likely, key) {
         return Ok((likely, count));
     }
-    let following = likely.saturating_add(1);
+    let following = likely.wrapping_add(1);
     if let Some(count) = count_at(keys, following, key) {
         return Ok((following, count));
     }
@@ -384,16 +384,17 @@ impl Kept {
     {
         let (place, count) = enter(&mut self.keys, self.latest, key)?;
         let is_full = count.kept == u64::from(depth);
-        let turns = count.turns.saturating_add(1);
+        // No sum wraps: a writer makes 2^48 changes at most.
+        let turns = count.turns.wrapping_add(1);
         let kept = if is_full {
             count.kept
         } else {
-            count.kept.saturating_add(1)
+            count.kept.wrapping_add(1)
         };
         recount(&mut self.keys, place, KeyCount { turns, kept });
         self.latest = place;
         if !is_full {
-            self.live = self.live.saturating_add(1);
+            self.live = self.live.wrapping_add(1);
         }
         Ok(turns)
     }
