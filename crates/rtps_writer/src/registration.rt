@@ -65,7 +65,7 @@ impl RegisteredInstances {
         if is_at(&self.set, self.latest, key) {
             return true;
         }
-        let following = self.latest.saturating_add(1);
+        let following = self.latest.wrapping_add(1);
         if is_at(&self.set, following, key) {
             self.latest = following;
             return true;
