@@ -2,12 +2,12 @@
 
 ghost use Rattle.std.specs.Prelude.{◌≡◌};
 
-use super::scene::BeginsWithOne;
-use super::{is_left, seed_of, use_peer};
-use dds_base::{Code, Entity};
+use super::scene::{BeginsWithOne, is_left, recorders_seed};
+use super::use_peer;
+use dds_base::Code;
 use dds_conditions::Filter;
 use dds_core::Core;
-use dds_notices::{Listener, Notice, Recorder, Status};
+use dds_notices::{Listener, Recorder};
 use dds_shared::{Flat, FlatPass, Named, Seed};
 use std::alloc::Global;
 use std::marker::Brand;
@@ -33,42 +33,46 @@ fn close_late<N: Named<F, L>, F: Filter, L: Listener>(
     }
 }
 
+// The peer is used and closed, once one pass has taken the other in and another has nothing.
+fn use_and_close<
+    N: Named<F, L> + Send + Sync,
+    F: Filter + Send,
+    L: Listener + Send,
+    R: Threads + Wait + Abort + Sync,
+>(rt: &R, alloc: Global, shared: Flat<N, F, L>, first: FlatPass<N>) -> Result<Core<F, L>, Code> {
+    let (mut first, second) = use_peer(rt, alloc, &shared, first)?;
+    let third = shared.split_pass(rt, &mut first)?;
+    shared.join_pass(&mut first, second);
+    close_late(shared, vec![in alloc; first]?, third)
+}
+
 // The peer is shared under its name, used and closed.
 fn share<
     N: Named<F, L> + Send + Sync,
     F: Filter + Send,
     L: Listener + Send,
     R: Threads + Wait + Abort + Sync,
->(rt: &R, alloc: Global, seed: Seed<F, L>) -> Result<Core<F, L>, Fail>
+>(rt: &R, alloc: Global, seed: Seed<F, L>) -> Result<Core<F, L>, Code>
     requires name { (seed.name ≡ N.name) × (seed.parts ≡ N.parts) × (seed.word ≡ N.word) }
     requires of { (seed.config ≡ N.config) × (seed.peer ≡ N.peer) }
     requires set { (seed.core.filtered.filters ≡ N.filters) × (seed.core.listeners ≡ N.slots) }
 {
     let (shared, first) = Flat::<N, F, L>::open_flat(seed);
-    let (mut first, second) = use_peer(rt, alloc, &shared, first)?;
-    let third = shared.split_pass(rt, &mut first)?;
-    shared.join_pass(&mut first, second);
-    Ok(close_late(shared, vec![in alloc; first]?, third)?)
+    use_and_close(rt, alloc, shared, first)
 }
 
 // With a filter and a listener of these types: the core that is left.
 fn run<R: Threads + Wait + Abort + Sync>(
     rt: &R,
     alloc: Global,
-    used: Recorder,
-    fresh: Recorder,
-) -> Result<Core<BeginsWithOne, Recorder>, Fail> {
-    let seed = seed_of(alloc, BeginsWithOne, used, fresh)?;
+) -> Result<Core<BeginsWithOne, Recorder>, Code> {
+    let seed = recorders_seed(alloc)?;
     share::<Brand, BeginsWithOne, Recorder, R>(rt, alloc, seed)
 }
 
 #[test]
 fn threads_share_a_flat_peer(rt: HostRuntime) -> Result<(), Fail> {
-    let alloc = rt.alloc();
-    let mut used = Recorder::open(alloc, 2)?;
-    let (entity, status) = (Entity::Reader(1), Status::DataAvailable);
-    used.on_notice(&Notice { entity, status });
-    let core = run(&rt, alloc, used, Recorder::open(alloc, 512)?)?;
+    let core = run(&rt, rt.alloc())?;
     assert!(rt; is_left(&core));
     Ok(())
 }

@@ -2,12 +2,12 @@
 
 ghost use Rattle.std.specs.Prelude.{◌≡◌};
 
-use super::scene::BeginsWithOne;
-use super::threads::work_both;
-use super::{ENTRIES, is_left, seed_of, use_peer};
-use dds_base::{Code, Entity};
+use super::scene::{BeginsWithOne, ENTRIES, is_left, recorders_seed};
+use super::threads::{TAKE_TURNS, run_both};
+use super::use_peer;
+use dds_base::Code;
 use dds_conditions::Filter;
-use dds_notices::{Listener, Notice, Recorder, Status};
+use dds_notices::{Listener, Recorder};
 use dds_shared::{Closed, FlatPass, Named, Recording, Scribe, Seed};
 use std::alloc::Global;
 use std::marker::Brand;
@@ -16,59 +16,90 @@ use std::sync::Wait;
 use std::test::*;
 use std::thread::Threads;
 
+// What is left of a peer that was cut twice: how many entries each piece had, and what was closed.
+#[derive(Drop)]
+struct Cut<F: Filter, L: Listener> {
+    pieces: (usize, usize),
+    closed: Closed<F, L>,
+}
+
 // What is left where all passes and the scribe are handed in.
 fn close<N: Named<F, L>, F: Filter, L: Listener>(
+    alloc: Global,
     shared: Recording<N, F, L>,
-    passes: Vec<FlatPass<N>>,
+    passes: (FlatPass<N>, FlatPass<N>),
     scribe: Scribe<N>,
 ) -> Result<Closed<F, L>, Code> {
-    match shared.close(passes, scribe) {
+    let (first, second) = passes;
+    match shared.close(vec![in alloc; first, second]?, scribe) {
         Ok(closed) => Ok(closed),
         Err(refused) => Err(refused.code),
     }
 }
 
-// The peer is shared under its name, used, cut twice and closed: how many entries both pieces had, and what is left.
+// How many entries the next piece has.
+fn piece_of<N: Named<F, L>, F: Filter, L: Listener, R: Wait>(
+    rt: &R,
+    shared: &Recording<N, F, L>,
+    scribe: &mut Scribe<N>,
+) -> Result<usize, Code> {
+    Ok(shared.cut(rt, scribe)?.len())
+}
+
+// The peer is used, cut twice and closed.
+fn use_and_close<
+    N: Named<F, L> + Send + Sync,
+    F: Filter + Send,
+    L: Listener + Send,
+    R: Threads + Wait + Abort + Sync,
+>(
+    rt: &R,
+    alloc: Global,
+    shared: Recording<N, F, L>,
+    first: FlatPass<N>,
+    mut scribe: Scribe<N>,
+) -> Result<Cut<F, L>, Code> {
+    let passes = use_peer(rt, alloc, &shared, first)?;
+    let first_piece = piece_of(rt, &shared, &mut scribe)?;
+    let passes = run_both(rt, alloc, &shared, passes, TAKE_TURNS)?;
+    let next = piece_of(rt, &shared, &mut scribe)?;
+    Ok(Cut {
+        pieces: (first_piece, next),
+        closed: close(alloc, shared, passes, scribe)?,
+    })
+}
+
+// The peer is shared under its name, used, cut twice and closed.
 fn share<
     N: Named<F, L> + Send + Sync,
     F: Filter + Send,
     L: Listener + Send,
     R: Threads + Wait + Abort + Sync,
->(rt: &R, alloc: Global, seed: Seed<F, L>) -> Result<(usize, usize, Closed<F, L>), Fail>
+>(rt: &R, alloc: Global, seed: Seed<F, L>) -> Result<Cut<F, L>, Code>
     requires name { (seed.name ≡ N.name) × (seed.parts ≡ N.parts) × (seed.word ≡ N.word) }
     requires of { (seed.config ≡ N.config) × (seed.peer ≡ N.peer) }
     requires set { (seed.core.filtered.filters ≡ N.filters) × (seed.core.listeners ≡ N.slots) }
 {
-    let (shared, first, mut scribe) = Recording::<N, F, L>::open_recording(seed);
-    let (first, second) = use_peer(rt, alloc, &shared, first)?;
-    let piece = shared.cut(rt, &mut scribe)?;
-    let (first, second) = work_both(rt, alloc, &shared, first, second)?;
-    let next = shared.cut(rt, &mut scribe)?;
-    let closed = close(shared, vec![in alloc; first, second]?, scribe)?;
-    Ok((piece.len(), next.len(), closed))
+    let (shared, first, scribe) = Recording::<N, F, L>::open_recording(seed);
+    use_and_close(rt, alloc, shared, first, scribe)
 }
 
 // With a filter and a listener of these types.
 fn run<R: Threads + Wait + Abort + Sync>(
     rt: &R,
     alloc: Global,
-    used: Recorder,
-    fresh: Recorder,
-) -> Result<(usize, usize, Closed<BeginsWithOne, Recorder>), Fail> {
-    let seed = seed_of(alloc, BeginsWithOne, used, fresh)?;
+) -> Result<Cut<BeginsWithOne, Recorder>, Code> {
+    let seed = recorders_seed(alloc)?;
     share::<Brand, BeginsWithOne, Recorder, R>(rt, alloc, seed)
 }
 
 #[test]
 fn a_trace_is_cut(rt: HostRuntime) -> Result<(), Fail> {
-    let alloc = rt.alloc();
-    let mut used = Recorder::open(alloc, 2)?;
-    let (entity, status) = (Entity::Reader(1), Status::DataAvailable);
-    used.on_notice(&Notice { entity, status });
-    let (piece, next, closed) = run(&rt, alloc, used, Recorder::open(alloc, 512)?)?;
-    assert!(rt; is_left(&closed.core));
+    let cut = run(&rt, rt.alloc())?;
+    let (piece, next) = cut.pieces;
+    assert!(rt; is_left(&cut.closed.core));
     assert!(rt; ENTRIES <= piece);
     assert_eq!(rt; next, 200);
-    assert_eq!(rt; closed.trace.len(), 0);
+    assert_eq!(rt; cut.closed.trace.len(), 0);
     Ok(())
 }

@@ -1,4 +1,4 @@
-use Rattle.thread_tests.proofs.tests.run.Given as goal
+use Rattle.thread_tests.proofs.tests.recorded.run.Given as goal
 
 abbrev pub ghosts-share-N-Ledger : goal.ghosts-share-N-Ledger
 ghosts-share-N-Ledger g a = record { name = a.seed.name; parts = a.seed.parts }

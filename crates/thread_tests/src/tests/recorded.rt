@@ -1,0 +1,126 @@
+//! A peer that records all, which two threads share.
+
+ghost use Rattle.std.specs.Prelude.{◌≡◌};
+
+use super::scene::{BeginsWithOne, ENTRIES, is_left, seed_of, used_recorder};
+use super::use_peer;
+use dds_base::Code;
+use dds_conditions::Filter;
+use dds_notices::{Listener, Recorder};
+use dds_shared::{Closed, Named, NotClosed, Pass, Seed, Shared};
+use dds_trace::{Trace, weave};
+use std::alloc::Global;
+use std::marker::Brand;
+use std::process::Abort;
+use std::sync::Wait;
+use std::test::*;
+use std::thread::Threads;
+
+// A peer that lacked a pass closes with it.
+fn close_with_all<N: Named<F, L>, F: Filter, L: Listener>(
+    refused: NotClosed<N, F, L>,
+    missing: Pass<N>,
+) -> Result<Closed<F, L>, Code> {
+    let NotClosed {
+        code,
+        shared,
+        passes,
+    } = refused;
+    let mut passes = passes;
+    if !matches!(code, Code::PreconditionNotMet) || passes.push(missing).is_err() {
+        return Err(code);
+    }
+    match shared.close(passes) {
+        Ok(closed) => Ok(closed),
+        Err(refused) => Err(refused.code),
+    }
+}
+
+// A peer that lacks a pass does not close, and comes back with the passes that were handed in; with all it closes.
+fn close_late<N: Named<F, L>, F: Filter, L: Listener>(
+    shared: Shared<N, F, L>,
+    passes: Vec<Pass<N>>,
+    missing: Pass<N>,
+) -> Result<Closed<F, L>, Code> {
+    match shared.close(passes) {
+        Ok(_) => Err(Code::Error),
+        Err(refused) => close_with_all(refused, missing),
+    }
+}
+
+// One pass takes the other in, and another has nothing.
+fn join_two<N: Named<F, L>, F: Filter, L: Listener, R: Wait>(
+    rt: &R,
+    shared: &Shared<N, F, L>,
+    passes: (Pass<N>, Pass<N>),
+) -> Result<(Pass<N>, Pass<N>), Code> {
+    let (mut first, second) = passes;
+    let third = shared.split_pass(rt, &mut first)?;
+    match shared.join_pass(&mut first, second) {
+        Ok(()) => Ok((first, third)),
+        Err((code, _)) => Err(code),
+    }
+}
+
+// The peer is used and closed.
+fn use_and_close<
+    N: Named<F, L> + Send + Sync,
+    F: Filter + Send,
+    L: Listener + Send,
+    R: Threads + Wait + Abort + Sync,
+>(rt: &R, alloc: Global, shared: Shared<N, F, L>, first: Pass<N>) -> Result<Closed<F, L>, Code> {
+    let passes = use_peer(rt, alloc, &shared, first)?;
+    let (first, second) = join_two(rt, &shared, passes)?;
+    close_late(shared, vec![in alloc; first]?, second)
+}
+
+// The peer is shared under its name, used and closed.
+fn share<
+    N: Named<F, L> + Send + Sync,
+    F: Filter + Send,
+    L: Listener + Send,
+    R: Threads + Wait + Abort + Sync,
+>(rt: &R, alloc: Global, seed: Seed<F, L>) -> Result<Closed<F, L>, Code>
+    requires name { (seed.name ≡ N.name) × (seed.parts ≡ N.parts) × (seed.word ≡ N.word) }
+    requires of { (seed.config ≡ N.config) × (seed.peer ≡ N.peer) }
+    requires set { (seed.core.filtered.filters ≡ N.filters) × (seed.core.listeners ≡ N.slots) }
+{
+    let (shared, first) = Shared::<N, F, L>::open(seed);
+    use_and_close(rt, alloc, shared, first)
+}
+
+// With a filter and listeners of any types: what is left at the end.
+fn run<F: Filter + Send, L: Listener + Send, R: Threads + Wait + Abort + Sync>(
+    rt: &R,
+    alloc: Global,
+    filter: F,
+    used: L,
+    fresh: L,
+) -> Result<Closed<F, L>, Code> {
+    let seed = seed_of(alloc, filter, used, fresh)?;
+    share::<Brand, F, L, R>(rt, alloc, seed)
+}
+
+// How many entries the order of one trace has.
+fn woven(alloc: Global, trace: Trace) -> Result<usize, Code> {
+    let mut traces = Vec::new(alloc);
+    traces.push(trace)?;
+    match weave(alloc, traces.as_slice()) {
+        Ok(run) => Ok(run.order.as_slice().len()),
+        Err(_) => Err(Code::Error),
+    }
+}
+
+#[test]
+fn threads_share_a_peer(rt: HostRuntime) -> Result<(), Fail> {
+    let alloc = rt.alloc();
+    let filter: Box<dyn Filter + Send> = Box::new(alloc, BeginsWithOne)?;
+    let used: Box<dyn Listener + Send> = Box::new(alloc, used_recorder(alloc)?)?;
+    let fresh: Box<dyn Listener + Send> = Box::new(alloc, Recorder::open(alloc, 512)?)?;
+    let closed = run(&rt, alloc, filter, used, fresh)?;
+    assert!(rt; is_left(&closed.core));
+    let entries = closed.trace.len();
+    assert!(rt; ENTRIES <= entries);
+    assert_eq!(rt; woven(alloc, closed.trace)?, entries);
+    Ok(())
+}
