@@ -1,99 +1,75 @@
 //! What no clause says: that a datagram is turned, in and out. The octets are those of CDR and of XTypes 1.3,
 //! 7.6.3.1.2, written out.
 
-use dds_base::{EntityId, Guid, GuidPrefix, Octets, USUAL_VALUE};
+use crate::tests::rows::{Subject, expect_rows, octets_of, push_hex, show};
+use dds_base::{Code, EntityId, Guid, GuidPrefix, USUAL_VALUE};
 use rtps_adapter::{Adapted, KeyRule, Kind, WriterKind, inward, outward};
-use std::test::Fail;
+use std::alloc::Global;
 
-/// A string of a type without a key, as it comes from the network, and a HEARTBEAT.
-const COMES: [u8; 88] = [
-    // header
-    0x52, 0x54, 0x50, 0x53, 0x02, 0x05, 0x00, 0x00, 0x00, 0x00, 0x00, 0x00, 0x00, 0x00, 0x00, 0x00,
-    0x00, 0x00, 0x00, 0x01,
-    // DATA with E and D
-    0x15, 0x05, 0x20, 0x00,
-    // the head: writer 00 00 01 03, number 1
-    0x00, 0x00, 0x10, 0x00, 0x00, 0x00, 0x00, 0x00, 0x00, 0x00, 0x01, 0x03, 0x00, 0x00, 0x00, 0x00,
-    0x01, 0x00, 0x00, 0x00,
-    // CDR_LE, and two octets of padding in the options
-    0x00, 0x01, 0x00, 0x02,
-    // the length of a string with its zero
-    0x02, 0x00, 0x00, 0x00,
-    // "a"
-    0x61, 0x00,
-    // padding
-    0x00, 0x00,
-    // HEARTBEAT
-    0x07, 0x01, 0x1c, 0x00, 0x00, 0x00, 0x00, 0x00, 0x00, 0x00, 0x01, 0x03, 0x00, 0x00, 0x00, 0x00,
-    0x01, 0x00, 0x00, 0x00, 0x00, 0x00, 0x00, 0x00, 0x01, 0x00, 0x00, 0x00, 0x01, 0x00, 0x00, 0x00,
-];
+/// `inward` and `outward` have a datagram, of a writer whose topic carries a type without a key, and give what it turns
+/// into. With `stranger-` before them the writer is not known.
+///
+/// What comes is: header; DATA with E and D; the head: writer 00 00 01 03, number 1; CDR_LE, and two octets of padding in
+/// the options; the length of a string with its zero; "a"; padding; HEARTBEAT. What a peer reads is: header; DATA; the
+/// head; a datum: CDR_LE, no options; its key; the length of its value; the value: CDR_LE, no padding; the length of the
+/// string; "a"; zeros up to a multiple of 4 octets; HEARTBEAT.
+const TURNED: &str = "\
+inward 5254505302050000000000000000000000000001 15052000 0000100000000000000001030000000001000000 \
+00010002 02000000 6100 0000 07011c0000000000000001030000000001000000000000000100000001000000 => \
+5254505302050000000000000000000000000001150538000000100000000000000001030000000001000000\
+00010000000000000000000000000000000000000a00000000010000020000006100000007011c0000000000000001030000000001000000000000000100000001000000
+outward 5254505302050000000000000000000000000001 15053800 0000100000000000000001030000000001000000 \
+00010000 00000000000000000000000000000000 0a000000 00010000 02000000 6100 0000 07011c0000000000000001030000000001000000000000000100000001000000 => \
+5254505302050000000000000000000000000001150520000000100000000000000001030000000001000000\
+000100020200000061000000\
+07011c0000000000000001030000000001000000000000000100000001000000
+# What a stranger sent is handed on.
+stranger-inward 5254505302050000000000000000000000000001 15052000 0000100000000000000001030000000001000000 \
+00010002 02000000 6100 0000 07011c0000000000000001030000000001000000000000000100000001000000 => as it is
+stranger-outward 5254505302050000000000000000000000000001 15053800 0000100000000000000001030000000001000000 \
+00010000 00000000000000000000000000000000 0a000000 00010000 02000000 6100 0000 07011c0000000000000001030000000001000000000000000100000001000000 => as it is
+";
 
-/// The same, as a peer reads it.
-const READ: [u8; 112] = [
-    // header
-    0x52, 0x54, 0x50, 0x53, 0x02, 0x05, 0x00, 0x00, 0x00, 0x00, 0x00, 0x00, 0x00, 0x00, 0x00, 0x00,
-    0x00, 0x00, 0x00, 0x01,
-    // DATA with E and D
-    0x15, 0x05, 0x38, 0x00,
-    // the head: writer 00 00 01 03, number 1
-    0x00, 0x00, 0x10, 0x00, 0x00, 0x00, 0x00, 0x00, 0x00, 0x00, 0x01, 0x03, 0x00, 0x00, 0x00, 0x00,
-    0x01, 0x00, 0x00, 0x00,
-    // a datum: CDR_LE, no options
-    0x00, 0x01, 0x00, 0x00,
-    // its key
-    0x00, 0x00, 0x00, 0x00, 0x00, 0x00, 0x00, 0x00, 0x00, 0x00, 0x00, 0x00, 0x00, 0x00, 0x00, 0x00,
-    // the length of its value
-    0x0a, 0x00, 0x00, 0x00,
-    // the value: CDR_LE, no padding
-    0x00, 0x01, 0x00, 0x00,
-    // the length of a string with its zero
-    0x02, 0x00, 0x00, 0x00,
-    // "a"
-    0x61, 0x00,
-    // zeros up to a multiple of 4 octets
-    0x00, 0x00,
-    // HEARTBEAT
-    0x07, 0x01, 0x1c, 0x00, 0x00, 0x00, 0x00, 0x00, 0x00, 0x00, 0x01, 0x03, 0x00, 0x00, 0x00, 0x00,
-    0x01, 0x00, 0x00, 0x00, 0x00, 0x00, 0x00, 0x00, 0x01, 0x00, 0x00, 0x00, 0x01, 0x00, 0x00, 0x00,
-];
-
-/// The writer 00 00 01 03 of the peer whose prefix ends with 1.
-const WRITER: Guid = Guid {
-    prefix: GuidPrefix([0, 0, 0, 0, 0, 0, 0, 0, 0, 0, 0, 1]),
-    entity: EntityId([0, 0, 1, 3]),
-};
-
-/// Its topic carries a type without a key.
+/// The writer 00 00 01 03 of the peer whose prefix ends with 1; its topic carries a type without a key.
 const KEYLESS: WriterKind = WriterKind {
-    writer: WRITER,
+    writer: Guid {
+        prefix: GuidPrefix([0, 0, 0, 0, 0, 0, 0, 0, 0, 0, 0, 1]),
+        entity: EntityId([0, 0, 1, 3]),
+    },
     kind: Kind::Opaque(KeyRule::Keyless),
     max_value: USUAL_VALUE,
 };
 
-fn rewritten(adapted: Adapted) -> Option<Octets> {
+fn push_adapted(text: &mut String, adapted: Result<Adapted, Code>) {
     match adapted {
-        Adapted::Rewritten(octets) => Some(octets),
-        _ => None,
+        Ok(Adapted::Rewritten(octets)) => push_hex(text, octets.as_slice()),
+        Ok(Adapted::AsItIs) => {
+            let _ = text.push_str("as it is");
+        }
+        Ok(Adapted::TooLong) => {
+            let _ = text.push_str("too long");
+        }
+        Err(code) => show(text, &code),
     }
 }
 
-fn stays(adapted: &Adapted) -> bool {
-    matches!(adapted, Adapted::AsItIs)
+/// Datagrams on their way through an adapter.
+#[derive(Drop)]
+struct Adapters;
+
+impl Subject for Adapters {
+    fn answer(&mut self, alloc: Global, text: &mut String, name: &str, operands: &str) {
+        let octets = octets_of(alloc, operands);
+        match name {
+            "inward" => push_adapted(text, inward(alloc, &[KEYLESS], &octets)),
+            "outward" => push_adapted(text, outward(alloc, &[KEYLESS], &octets)),
+            "stranger-inward" => push_adapted(text, inward(alloc, &[], &octets)),
+            _ => push_adapted(text, outward(alloc, &[], &octets)),
+        }
+    }
 }
 
 #[test]
-fn a_string_comes_in_and_goes_out(rt: HostRuntime) -> Result<(), Fail> {
-    let kinds = [KEYLESS];
-    let read = rewritten(inward(rt.alloc(), &kinds, &COMES)?).ok_or("not turned")?;
-    assert_eq!(rt; read.as_slice(), READ.as_slice());
-    let sent = rewritten(outward(rt.alloc(), &kinds, &READ)?).ok_or("not turned")?;
-    assert_eq!(rt; sent.as_slice(), COMES.as_slice());
-    Ok(())
-}
-
-#[test]
-fn a_stranger_is_handed_on(rt: HostRuntime) -> Result<(), Fail> {
-    assert!(rt; stays(&inward(rt.alloc(), &[], &COMES)?));
-    assert!(rt; stays(&outward(rt.alloc(), &[], &READ)?));
-    Ok(())
+fn a_string_comes_in_and_goes_out(rt: HostRuntime) {
+    expect_rows(&rt, rt.alloc(), &mut Adapters, TURNED);
 }

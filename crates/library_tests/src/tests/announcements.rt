@@ -5,7 +5,7 @@ mod fitting;
 mod worked;
 mod written;
 
-use crate::tests::rows::{Subject, expect_rows, number_of, octets_of, push_hex, words_of};
+use crate::tests::rows::{Subject, expect_rows, number_of, octets_of, push_hex, show, words_of};
 use captured::CAPTURED;
 use dds_base::{Code, Guid, GuidPrefix};
 use fitting::FITTING;
@@ -194,8 +194,7 @@ fn push_lease(text: &mut String, operands: &str) {
     let words = words_of(operands);
     let seconds = u32::try_from(number_of(words.first)).unwrap_or(u32::MAX);
     let fraction = u32::try_from(number_of(words.second)).unwrap_or(u32::MAX);
-    let units = taken_lease(Duration { seconds, fraction });
-    let _ = write!(text, "{units}");
+    show(text, &taken_lease(Duration { seconds, fraction }));
 }
 
 /// The prefix that hex digits spell, zeros where they spell none.

@@ -1,11 +1,10 @@
 //! Data and keys as octets, codes, masks, and which configurations are taken.
 
-mod config;
 mod tables;
 
-use crate::tests::rows::{Subject, expect_rows, octets_of, push_hex};
+use crate::tests::rows::{Subject, expect_rows, octets_of, push_hex, show};
+use crate::tests::setup::config_of;
 use bitflags::Flags;
-use config::{push_check, push_fault};
 use dds_base::{
     ChangeKind, Code, Datum, Handle, InstanceStateMask, Key, MAX_VALUE, Masks, Moment,
     SampleStateMask, Sn, ViewStateMask, decode_datum, decode_datum_key, decode_key, encode_datum,
@@ -59,9 +58,7 @@ fn push_data(alloc: Global, text: &mut String, octets: &[u8]) {
         Ok(None) => {
             let _ = text.push_str("none");
         }
-        Err(code) => {
-            let _ = write!(text, "{code:?}");
-        }
+        Err(code) => show(text, &code),
     }
 }
 
@@ -112,45 +109,33 @@ fn push_kinds(text: &mut String) {
     }
 }
 
-fn push_bits(text: &mut String, name: &str, bits: u32) {
-    let _ = write!(text, "[{name} {bits}]");
-}
-
-fn push_samples(text: &mut String) {
-    push_bits(text, "READ", SampleStateMask::READ.bits());
-    push_bits(text, "NOT_READ", SampleStateMask::NOT_READ.bits());
-    push_bits(text, "ANY", SampleStateMask::ANY.bits());
-    push_bits(text, "8", SampleStateMask::from_bits_retain(8).bits());
-}
-
-fn push_views(text: &mut String) {
-    push_bits(text, "NEW", ViewStateMask::NEW.bits());
-    push_bits(text, "NOT_NEW", ViewStateMask::NOT_NEW.bits());
-    push_bits(text, "ANY", ViewStateMask::ANY.bits());
-}
-
-fn push_instances(text: &mut String) {
-    push_bits(text, "ALIVE", InstanceStateMask::ALIVE.bits());
-    push_bits(
-        text,
-        "DISPOSED",
-        InstanceStateMask::NOT_ALIVE_DISPOSED.bits(),
-    );
-    push_bits(
-        text,
-        "NO_WRITERS",
-        InstanceStateMask::NOT_ALIVE_NO_WRITERS.bits(),
-    );
-    push_bits(text, "NOT_ALIVE", InstanceStateMask::NOT_ALIVE.bits());
-    push_bits(text, "ANY", InstanceStateMask::ANY.bits());
-    let has = Masks::ANY.instances.contains(InstanceStateMask::NOT_ALIVE);
-    let _ = write!(text, "[{has}]");
-}
-
 fn push_numbers(text: &mut String) {
     let (sn, moment) = (Sn::new(7).number(), Moment::new(8).units());
     let (handle, is_less) = (Handle::new(9).number(), Sn::new(7) < Sn::new(8));
     let _ = write!(text, "{sn} {moment} {handle} {is_less}");
+}
+
+/// Appends the fault of a configuration, and its code.
+fn push_fault(alloc: Global, text: &mut String, parts: &str) {
+    let Some(config) = config_of(alloc, parts) else {
+        return;
+    };
+    match config.fault() {
+        Some(fault) => {
+            let code = fault.code();
+            let _ = write!(text, "{fault}, {code}");
+        }
+        None => {
+            let _ = text.push_str("none");
+        }
+    }
+}
+
+/// Appends the answer to a configuration.
+fn push_check(alloc: Global, text: &mut String, parts: &str) {
+    if let Some(config) = config_of(alloc, parts) {
+        show(text, &config.check());
+    }
 }
 
 /// What every crate speaks of.
@@ -165,9 +150,37 @@ impl Subject for Base {
             "fault" => push_fault(alloc, text, operands),
             "codes" => push_codes(text),
             "kinds" => push_kinds(text),
-            "samples" => push_samples(text),
-            "views" => push_views(text),
-            "instances" => push_instances(text),
+            "samples" => show(
+                text,
+                &[
+                    SampleStateMask::READ.bits(),
+                    SampleStateMask::NOT_READ.bits(),
+                    SampleStateMask::ANY.bits(),
+                    SampleStateMask::from_bits_retain(8).bits(),
+                ],
+            ),
+            "views" => show(
+                text,
+                &[
+                    ViewStateMask::NEW.bits(),
+                    ViewStateMask::NOT_NEW.bits(),
+                    ViewStateMask::ANY.bits(),
+                ],
+            ),
+            "instances" => show(
+                text,
+                &[
+                    InstanceStateMask::ALIVE.bits(),
+                    InstanceStateMask::NOT_ALIVE_DISPOSED.bits(),
+                    InstanceStateMask::NOT_ALIVE_NO_WRITERS.bits(),
+                    InstanceStateMask::NOT_ALIVE.bits(),
+                    InstanceStateMask::ANY.bits(),
+                ],
+            ),
+            "any" => show(
+                text,
+                &Masks::ANY.instances.contains(InstanceStateMask::NOT_ALIVE),
+            ),
             "numbers" => push_numbers(text),
             _ => {}
         }

@@ -1,6 +1,8 @@
 //! What a writer keeps.
 
-use crate::tests::rows::{Subject, Words, expect_rows, number_of, octets_of, push_hex, words_of};
+use crate::tests::rows::{
+    Subject, Words, expect_rows, number_of, octets_of, push_hex, show, words_of,
+};
 use dds_base::{Change, ChangeKind, Code, HistoryQos, Key, Moment, Octets, Sn};
 use dds_history::History;
 use std::alloc::Global;
@@ -76,16 +78,6 @@ fn write_of(alloc: Global, words: Words<'_>) -> Change {
     }
 }
 
-fn push_append(text: &mut String, history: &mut History, change: Change) {
-    let answer = history.append(change);
-    let _ = write!(text, "{answer:?}");
-}
-
-fn push_refusal(text: &mut String, history: &History, change: &Change) {
-    let answer = history.refusal(change);
-    let _ = write!(text, "{answer:?}");
-}
-
 fn push_get(text: &mut String, history: &History, number: u64) {
     match history.get(Sn::new(number)) {
         Some(change) => push_hex(text, change.value.as_slice()),
@@ -93,16 +85,6 @@ fn push_get(text: &mut String, history: &History, number: u64) {
             let _ = text.push_str("none");
         }
     }
-}
-
-fn push_last(text: &mut String, history: &History) {
-    let last = history.last().number();
-    let _ = write!(text, "{last}");
-}
-
-fn push_first(text: &mut String, history: &History) {
-    let first = history.first().number();
-    let _ = write!(text, "{first}");
 }
 
 fn acknowledge(history: &mut History, to: u64) {
@@ -113,13 +95,8 @@ fn acknowledge(history: &mut History, to: u64) {
 
 fn push_acknowledged(text: &mut String, history: &History) {
     if 0 < history.readers() {
-        let acknowledged = history.acknowledged(0).number();
-        let _ = write!(text, "{acknowledged}");
+        show(text, &history.acknowledged(0).number());
     }
-}
-
-fn push_flag(text: &mut String, flag: bool) {
-    let _ = write!(text, "{flag}");
 }
 
 impl Subject for History {
@@ -129,20 +106,20 @@ impl Subject for History {
             "open" => {
                 if let Ok(history) = open(alloc, words) {
                     *self = history;
-                    push_last(text, self);
+                    show(text, &self.last().number());
                 }
             }
-            "last" => push_last(text, self),
-            "first" => push_first(text, self),
+            "last" => show(text, &self.last().number()),
+            "first" => show(text, &self.first().number()),
             "acked" => {
                 acknowledge(self, number_of(words.first));
-                push_first(text, self);
+                show(text, &self.first().number());
             }
             "acknowledged" => push_acknowledged(text, self),
-            "kept" => push_flag(text, self.kept(Sn::new(number_of(words.first)))),
-            "awaited" => push_flag(text, self.is_awaited(Sn::new(number_of(words.first)))),
-            "append" => push_append(text, self, write_of(alloc, words)),
-            "refusal" => push_refusal(text, self, &write_of(alloc, words)),
+            "kept" => show(text, &self.kept(Sn::new(number_of(words.first)))),
+            "awaited" => show(text, &self.is_awaited(Sn::new(number_of(words.first)))),
+            "append" => show(text, &self.append(write_of(alloc, words))),
+            "refusal" => show(text, &self.refusal(&write_of(alloc, words))),
             "get" => push_get(text, self, number_of(words.first)),
             _ => {}
         }

@@ -1,12 +1,12 @@
 //! Which listener is told, and what is handed back.
 
 use crate::tests::notices::status_of;
-use crate::tests::rows::{Subject, expect_rows, words_of};
+use crate::tests::rows::{Subject, expect_rows, show, words_of};
 use bitflags::Flags;
 use dds_base::{Code, Entity};
 use dds_notices::{Listener, Notice, Recorder, Slots, Status, StatusMask};
 use std::alloc::Global;
-use std::test::Fail;
+use std::process::Abort;
 
 /// Of a peer with one writer and two readers. An entity is `participant`, `writer` or `reader`, with its number.
 ///
@@ -165,8 +165,7 @@ impl<L: Listener> Listening<L> {
     }
 
     fn tell(&mut self, text: &mut String, entity: Entity, status: Status) {
-        let is_taken = self.slots.takes(entity, &status);
-        let _ = write!(text, "{is_taken}");
+        show(text, &self.slots.takes(entity, &status));
         self.slots.tell(&Notice { entity, status });
     }
 }
@@ -207,10 +206,7 @@ impl<L: Listener> Subject for Listening<L> {
                 self.set(text, entity, mask, listener);
             }
             "unset" => self.set(text, entity, mask, None),
-            "any" => {
-                let is_any = self.slots.has_listeners();
-                let _ = write!(text, "{is_any}");
-            }
+            "any" => show(text, &self.slots.has_listeners()),
             "slot" => self.push_slot(text, entity),
             "kept" => self.push_notices(alloc, text, entity),
             _ => self.tell(text, entity, status_of(name, 1)),
@@ -218,41 +214,48 @@ impl<L: Listener> Subject for Listening<L> {
     }
 }
 
-fn of_a_peer<L: Listener>(alloc: Global, at_hand: Vec<L>) -> Result<Listening<L>, Fail> {
-    Ok(Listening {
-        slots: Slots::open(alloc, 1, 2)?,
-        at_hand,
-    })
+/// Tries the rows of a table at a peer with these listeners at hand.
+fn expect_told<L: Listener>(rt: &impl Abort, alloc: Global, at_hand: Vec<L>, rows: &str) {
+    let opened = Slots::open(alloc, 1, 2);
+    assert!(rt; opened.is_ok(), "no memory");
+    if let Ok(slots) = opened {
+        let mut subject = Listening { slots, at_hand };
+        expect_rows(rt, alloc, &mut subject, rows);
+    }
+}
+
+/// Another recorder is at hand, in a box.
+pub fn push_recorder(alloc: Global, at_hand: &mut Vec<Box<dyn Listener + Send>>, room: usize) {
+    if let Ok(recorder) = Recorder::open(alloc, room) {
+        if let Ok(boxed) = Box::new(alloc, recorder) {
+            let listener: Box<dyn Listener + Send> = boxed;
+            let _ = at_hand.push(listener);
+        }
+    }
 }
 
 #[test]
-fn recorders_are_set_and_told(rt: HostRuntime) -> Result<(), Fail> {
-    let alloc = rt.alloc();
-    let (Ok(small), Ok(large)) = (Recorder::open(alloc, 2), Recorder::open(alloc, 4)) else {
-        return Err("no memory".into());
-    };
-    let mut subject = of_a_peer(alloc, vec![in alloc; small, large]?)?;
-    expect_rows(&rt, alloc, &mut subject, SET);
-    Ok(())
+fn recorders_are_set_and_told(rt: HostRuntime) {
+    let mut at_hand = Vec::new(rt.alloc());
+    for room in [2, 4] {
+        if let Ok(recorder) = Recorder::open(rt.alloc(), room) {
+            let _ = at_hand.push(recorder);
+        }
+    }
+    expect_told(&rt, rt.alloc(), at_hand, SET);
 }
 
 #[test]
-fn boxed_listeners_are_set_and_told(rt: HostRuntime) -> Result<(), Fail> {
-    let alloc = rt.alloc();
-    let (Ok(small), Ok(large)) = (Recorder::open(alloc, 2), Recorder::open(alloc, 4)) else {
-        return Err("no memory".into());
-    };
-    let small: Box<dyn Listener + Send> = Box::new(alloc, small)?;
-    let large: Box<dyn Listener + Send> = Box::new(alloc, large)?;
-    let mut subject = of_a_peer(alloc, vec![in alloc; small, large]?)?;
-    expect_rows(&rt, alloc, &mut subject, SET);
-    Ok(())
+fn boxed_listeners_are_set_and_told(rt: HostRuntime) {
+    let mut at_hand = Vec::new(rt.alloc());
+    push_recorder(rt.alloc(), &mut at_hand, 2);
+    push_recorder(rt.alloc(), &mut at_hand, 4);
+    expect_told(&rt, rt.alloc(), at_hand, SET);
 }
 
 #[test]
-fn a_listener_of_an_application_is_set_and_told(rt: HostRuntime) -> Result<(), Fail> {
-    let alloc = rt.alloc();
-    let mut subject = of_a_peer(alloc, vec![in alloc; Latest { kept: None }]?)?;
-    expect_rows(&rt, alloc, &mut subject, LATEST);
-    Ok(())
+fn a_listener_of_an_application_is_set_and_told(rt: HostRuntime) {
+    let mut at_hand = Vec::new(rt.alloc());
+    let _ = at_hand.push(Latest { kept: None });
+    expect_told(&rt, rt.alloc(), at_hand, LATEST);
 }

@@ -1,6 +1,7 @@
 //! What a listener is told, and what it keeps.
 
-use crate::tests::rows::{Subject, Words, expect_rows, number_of, words_of};
+use crate::tests::listeners::push_recorder;
+use crate::tests::rows::{Subject, Words, expect_rows, number_of, show, words_of};
 use bitflags::Flags;
 use dds_base::{
     Endpoint, Entity, Handle, LivelinessChangedStatus, LivelinessLostStatus, MatchedStatus,
@@ -8,7 +9,6 @@ use dds_base::{
 };
 use dds_notices::{Listener, Notice, Recorder, Status, StatusMask};
 use std::alloc::Global;
-use std::test::Fail;
 
 /// `names` has a mask's number and a status.
 const MASKS: &str = "\
@@ -108,33 +108,23 @@ fn notice_of(name: &str, count: u64) -> Notice {
     }
 }
 
-/// Masks, which hold nothing between two rows.
-#[derive(Drop)]
-struct Named;
-
 fn names(words: Words<'_>) -> bool {
     let mask = StatusMask::from_bits_retain(words.first.parse().unwrap_or(0));
     mask.names(&status_of(words.second, 1))
 }
 
-impl Subject for Named {
-    fn answer(&mut self, _: Global, text: &mut String, _: &str, operands: &str) {
-        let is_named = names(words_of(operands));
-        let _ = write!(text, "{is_named}");
-    }
-}
-
-/// Recorders that are opened, and let go of.
+/// Masks, and recorders that are opened and let go of: nothing is held between two rows.
 #[derive(Drop)]
-struct Opened;
+struct Values;
 
-impl Subject for Opened {
-    fn answer(&mut self, alloc: Global, text: &mut String, _: &str, operands: &str) {
+impl Subject for Values {
+    fn answer(&mut self, alloc: Global, text: &mut String, name: &str, operands: &str) {
+        if name == "names" {
+            show(text, &names(words_of(operands)));
+            return;
+        }
         match Recorder::open(alloc, number_of(operands) as usize) {
-            Ok(recorder) => {
-                let room = recorder.room();
-                let _ = write!(text, "{room}");
-            }
+            Ok(recorder) => show(text, &recorder.room()),
             Err(code) => {
                 let _ = write!(text, "{code}");
             }
@@ -148,40 +138,25 @@ struct Told<L> {
     listener: L,
 }
 
-fn push_held<L: Listener>(text: &mut String, listener: &L, at: usize) {
-    let held = listener.held(at);
-    let _ = write!(text, "{held:?}");
-}
-
 impl<L: Listener> Subject for Told<L> {
     fn answer(&mut self, _: Global, text: &mut String, name: &str, operands: &str) {
         let number = number_of(operands);
         match name {
-            "room" => {
-                let room = self.listener.room();
-                let _ = write!(text, "{room}");
-            }
-            "fresh" => {
-                let is_fresh = self.listener.is_fresh();
-                let _ = write!(text, "{is_fresh}");
-            }
-            "held" => push_held(text, &self.listener, number as usize),
+            "room" => show(text, &self.listener.room()),
+            "fresh" => show(text, &self.listener.is_fresh()),
+            "held" => show(text, &self.listener.held(number as usize)),
             _ => {
                 self.listener.on_notice(&notice_of(name, number));
-                push_held(text, &self.listener, 0);
+                show(text, &self.listener.held(0));
             }
         }
     }
 }
 
 #[test]
-fn masks_name_statuses(rt: HostRuntime) {
-    expect_rows(&rt, rt.alloc(), &mut Named, MASKS);
-}
-
-#[test]
-fn recorders_have_a_room(rt: HostRuntime) {
-    expect_rows(&rt, rt.alloc(), &mut Opened, ROOMS);
+fn masks_name_statuses_and_recorders_have_a_room(rt: HostRuntime) {
+    expect_rows(&rt, rt.alloc(), &mut Values, MASKS);
+    expect_rows(&rt, rt.alloc(), &mut Values, ROOMS);
 }
 
 #[test]
@@ -194,12 +169,11 @@ fn a_recorder_keeps_the_last_notices(rt: HostRuntime) {
 }
 
 #[test]
-fn a_boxed_recorder_keeps_them_too(rt: HostRuntime) -> Result<(), Fail> {
-    let Ok(recorder) = Recorder::open(rt.alloc(), 2) else {
-        return Err("no memory".into());
-    };
-    let listener: Box<dyn Listener + Send> = Box::new(rt.alloc(), recorder)?;
-    let mut told = Told { listener };
-    expect_rows(&rt, rt.alloc(), &mut told, TOLD);
-    Ok(())
+fn a_boxed_recorder_keeps_them_too(rt: HostRuntime) {
+    let mut boxes = Vec::new(rt.alloc());
+    push_recorder(rt.alloc(), &mut boxes, 2);
+    assert!(rt; boxes.len() == 1, "no memory");
+    if let Some(listener) = boxes.pop() {
+        expect_rows(&rt, rt.alloc(), &mut Told { listener }, TOLD);
+    }
 }

@@ -1,6 +1,6 @@
 //! Who is registered for an instance, and who owns it.
 
-use crate::tests::rows::{Subject, expect_rows, number_of, words_of};
+use crate::tests::rows::{Subject, expect_rows, number_of, show, words_of};
 use dds_base::{
     Arrival, Change, ChangeKind, EntityId, Guid, GuidPrefix, Handle, HistoryQos, Key,
     MatchedWriter, Moment, Octets, OwnershipQos, ReaderConfig, ReaderQos, ReliabilityQos, Sequence,
@@ -179,7 +179,7 @@ impl OwnedInstance {
             Some(writer) => writer.number(),
             None => 0,
         };
-        let _ = write!(text, "{number}");
+        show(text, &number);
     }
 
     fn push_owner(&self, text: &mut String) {
@@ -237,8 +237,7 @@ impl Subject for OwnedInstance {
             _ => {
                 let strength = words.third.parse().ok();
                 let change = change_by(alloc, writer, kind_of(words.second), strength);
-                let is_so = self.is_so(name, &change);
-                let _ = write!(text, "{is_so}");
+                show(text, &self.is_so(name, &change));
             }
         }
     }

@@ -7,6 +7,7 @@
 //! is refused or a word is misspelt, the text is another, and the row fails.
 
 use std::alloc::Global;
+use std::fmt::Debug;
 use std::process::Abort;
 
 /// What rows are about.
@@ -81,6 +82,11 @@ pub fn octets_of(alloc: Global, words: &str) -> Vec<u8> {
     let mut octets = Vec::new(alloc);
     push_octets(alloc, &mut octets, words);
     octets
+}
+
+/// Appends a value as `{:?}` has it.
+pub fn show<T: Debug>(text: &mut String, value: &T) {
+    let _ = write!(text, "{value:?}");
 }
 
 /// Appends octets as hex digits.

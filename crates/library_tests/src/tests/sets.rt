@@ -1,6 +1,6 @@
 //! Sets of sequence numbers, and the window of a reader.
 
-use crate::tests::rows::{Subject, expect_rows, number_of, words_of};
+use crate::tests::rows::{Subject, expect_rows, number_of, show, words_of};
 use dds_base::Sn;
 use rtps_sets::{Mark, SnSet, Window};
 use std::alloc::Global;
@@ -95,18 +95,7 @@ impl Sets {
         } else {
             Mark::Irrelevant
         };
-        let answer = self.window.mark(Sn::new(number), mark);
-        let _ = write!(text, "{answer:?}");
-    }
-
-    fn reserve(&mut self, text: &mut String, count: u64) {
-        let answer = self.window.reserve((count & 0xffff) as usize);
-        let _ = write!(text, "{answer:?}");
-    }
-
-    fn place(&self, text: &mut String) {
-        let place = self.window.place().number();
-        let _ = write!(text, "{place}");
+        show(text, &self.window.mark(Sn::new(number), mark));
     }
 }
 
@@ -122,13 +111,13 @@ impl Subject for Sets {
             "insert" => self.insert(text, number),
             "open" => {
                 self.window = Window::open(alloc);
-                self.place(text);
+                show(text, &self.window.place().number());
             }
             "mark" => self.mark(text, number, words.second),
-            "reserve" => self.reserve(text, number),
+            "reserve" => show(text, &self.window.reserve((number & 0xffff) as usize)),
             "slide" => {
                 self.window.slide(Sn::new(number));
-                self.place(text);
+                show(text, &self.window.place().number());
             }
             "missing" => push_set(text, &self.window.missing(Sn::new(number))),
             _ => {}

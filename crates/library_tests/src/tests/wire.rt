@@ -6,7 +6,7 @@ mod other_forms;
 mod written;
 
 use crate::tests::rows::{
-    Subject, Words, expect_rows, number_of, octets_of, push_hex, push_octets, words_of,
+    Subject, Words, expect_rows, number_of, octets_of, push_hex, push_octets, show, words_of,
 };
 use crate::tests::sets::push_set;
 use captured::CAPTURED;
@@ -147,8 +147,7 @@ fn push_written(alloc: Global, text: &mut String, message: &Message, octets: &[u
 
 /// Appends where reading ended, the submessages, and how they are written.
 fn push_read(alloc: Global, text: &mut String, read: &Read, octets: &[u8]) {
-    let stop = read.stop;
-    let _ = write!(text, "{stop}");
+    show(text, &read.stop);
     push_submessages(text, read.message.submessages.as_slice());
     push_written(alloc, text, &read.message, octets);
 }
@@ -160,9 +159,7 @@ fn push_message(alloc: Global, text: &mut String, octets: &[u8]) {
         Ok(None) => {
             let _ = text.push_str("no message");
         }
-        Err(code) => {
-            let _ = write!(text, "{code:?}");
-        }
+        Err(code) => show(text, &code),
     }
 }
 

@@ -1,164 +1,67 @@
 //! Peers and the network between them.
 
 mod listeners;
-mod runs;
 mod scripts;
 
 use crate::tests::conditions::OfLength;
 use crate::tests::listeners::Latest;
-use crate::tests::rows::{Subject, Words, expect_rows, number_of, octets_of, words_of};
-use dds_base::{
-    Code, Config, EntityId, GuidPrefix, HistoryQos, Key, Masks, Moment, Octets, OwnershipQos,
-    PeerConfig, ReaderConfig, ReliabilityQos, Selection, Sequence, USUAL_VALUE, WriterConfig,
-};
-use dds_conditions::{Cond, Filter};
+use crate::tests::rows::{Subject, Words, expect_rows, number_of, show, words_of};
+use crate::tests::setup::config_of;
+use dds_base::Moment;
+use dds_conditions::Filter;
 use dds_notices::Listener;
-use dds_world::{Call, Endpoint, Round, World as WorldOf, WorldEvent};
+use dds_script::{Side, TranscriptLine, call_of, words_of as all_words_of};
+use dds_world::{Endpoint, Reply, Round, World as WorldOf, WorldEvent};
 use scripts::SCRIPTS;
 use std::alloc::Global;
+use std::mem::replace;
 
 /// A network with filters and listeners of an application's own.
 type World = WorldOf<OfLength, Latest>;
 
-const KEY: Key = Key([0, 0, 0, 0, 0, 0, 0, 0, 0, 0, 0, 0, 0, 0, 0, 1]);
+/// A first peer with a writer and a second one with a reader, which keep all.
+const TWO_PEERS: &str = "peer 1 | writer 1 2 all | peer 2 | reader 1 7 all";
 
-const WRITER: WriterConfig = WriterConfig {
-    entity: EntityId([0, 0, 1, 2]),
-    topic: 0,
-    ownership: OwnershipQos::Shared,
-    history: HistoryQos::KeepAll,
-    max_samples: -1,
-    strength: 0,
-    lease: None,
-    autodispose: true,
-    max_value: USUAL_VALUE,
-};
+/// Those peers at their opening.
+fn open<F: Filter, L: Listener>(alloc: Global, parts: &str) -> Option<WorldOf<F, L>> {
+    let config = config_of(alloc, parts)?;
+    WorldOf::open(alloc, &config).ok()
+}
 
-const READER: ReaderConfig = ReaderConfig {
-    entity: EntityId([0, 0, 1, 7]),
-    topic: 0,
-    ownership: OwnershipQos::Shared,
-    reliability: ReliabilityQos::Reliable,
-    history: HistoryQos::KeepAll,
-    max_samples: -1,
-    max_instances: -1,
-    max_arrivals: ReaderConfig::USUAL_ARRIVALS,
-    lease: None,
-    max_value: USUAL_VALUE,
-};
-
-fn first(alloc: Global, writers: &[WriterConfig]) -> PeerConfig {
-    PeerConfig {
-        prefix: GuidPrefix([0, 0, 0, 0, 0, 0, 0, 0, 0, 0, 0, 1]),
-        writers: Sequence::from_vec(copied(alloc, writers)),
-        readers: Sequence::from_vec(Vec::new(alloc)),
+fn delivery(peer: &str, packet: &str) -> WorldEvent {
+    WorldEvent::Deliver {
+        peer: peer.parse().unwrap_or(0),
+        packet: number_of(packet),
     }
 }
 
-fn second(alloc: Global, reader: ReaderConfig) -> PeerConfig {
-    PeerConfig {
-        prefix: GuidPrefix([0, 0, 0, 0, 0, 0, 0, 0, 0, 0, 0, 2]),
-        writers: Sequence::from_vec(Vec::new(alloc)),
-        readers: Sequence::from_vec(copied(alloc, &[reader])),
+fn tick(peer: &str, now: &str) -> WorldEvent {
+    WorldEvent::Tick {
+        peer: peer.parse().unwrap_or(0),
+        now: Moment::new(number_of(now)),
     }
 }
 
-fn copied<T: Copy>(alloc: Global, items: &[T]) -> Vec<T> {
-    let mut all = Vec::new(alloc);
-    let _ = all.extend_from_slice(items);
-    all
-}
-
-/// A first peer with these writers, and a second one with this reader.
-fn config_of(alloc: Global, writers: &[WriterConfig], reader: ReaderConfig) -> Config {
-    let mut peers = Vec::new(alloc);
-    let _ = peers.push(first(alloc, writers));
-    let _ = peers.push(second(alloc, reader));
-    Config {
-        peers: Sequence::from_vec(peers),
+fn call(alloc: Global, peer: &str, words: &[&str]) -> Option<WorldEvent> {
+    match call_of(alloc, words) {
+        Ok(Some(call)) => Some(WorldEvent::Call {
+            peer: peer.parse().unwrap_or(0),
+            call,
+        }),
+        _ => None,
     }
 }
 
-fn config(alloc: Global, max_samples: i32) -> Config {
-    let mut reader = READER;
-    reader.max_samples = max_samples;
-    config_of(alloc, &[WRITER], reader)
-}
-
-/// A first peer with a writer and a second one with a reader that may hold so many samples, or any number if -1, at
-/// their opening.
-fn open(alloc: Global, max_samples: i32) -> Result<World, Code> {
-    let config = config(alloc, max_samples);
-    World::open(alloc, &config)
-}
-
-fn call_of(alloc: Global, name: &str, words: Words<'_>) -> Call {
-    let number = words.second.parse().unwrap_or(0);
-    match name {
-        "register" => Call::Register {
-            writer: number,
-            key: KEY,
-        },
-        "write" => Call::Write {
-            writer: number,
-            key: KEY,
-            value: Octets::from_vec(octets_of(alloc, words.third)),
-        },
-        "dispose" => Call::Dispose {
-            writer: number,
-            key: KEY,
-        },
-        "unregister" => Call::Unregister {
-            writer: number,
-            key: KEY,
-        },
-        "query" => Call::CreateQueryCondition {
-            reader: number,
-            masks: Masks::ANY,
-            filter: words.third.parse().unwrap_or(0),
-        },
-        "trigger" => Call::GetTriggerValue {
-            condition: Cond::Made(number.into()),
-        },
-        _ => Call::Take {
-            reader: number,
-            selection: Selection::Any {
-                max: -1,
-                masks: Masks::ANY,
-            },
-        },
+/// The event of a line, by its first word and those after it.
+fn event_of(alloc: Global, first: &str, operands: &str) -> Option<WorldEvent> {
+    let Ok(words) = all_words_of(alloc, operands) else {
+        return None;
+    };
+    match words.as_slice() {
+        [peer, packet] if first == "deliver" => Some(delivery(peer, packet)),
+        ["tick", now] => Some(tick(first, now)),
+        words => call(alloc, first, words),
     }
-}
-
-fn event_of(alloc: Global, name: &str, words: Words<'_>) -> WorldEvent {
-    let peer = words.first.parse().unwrap_or(0);
-    match name {
-        "tick" => WorldEvent::Tick {
-            peer,
-            now: Moment::new(number_of(words.second)),
-        },
-        "deliver" => WorldEvent::Deliver {
-            peer,
-            packet: number_of(words.second),
-        },
-        _ => WorldEvent::Call {
-            peer,
-            call: call_of(alloc, name, words),
-        },
-    }
-}
-
-fn push_event(alloc: Global, events: &mut Vec<WorldEvent>, line: &str) {
-    let (name, operands) = line.split_once(' ').unwrap_or((line, ""));
-    let _ = events.push(event_of(alloc, name, words_of(operands)));
-}
-
-fn events_of(alloc: Global, lines: &str) -> Vec<WorldEvent> {
-    let mut events = Vec::new(alloc);
-    for line in lines.lines() {
-        push_event(alloc, &mut events, line);
-    }
-    events
 }
 
 fn push_filter<F: Filter, L: Listener>(
@@ -171,12 +74,7 @@ fn push_filter<F: Filter, L: Listener>(
         Ok(number) => Ok(number),
         Err((code, _)) => Err(code),
     };
-    let _ = write!(text, "{added:?}");
-}
-
-fn push_packet(text: &mut String, world: &World, number: u64) {
-    let packet = world.packet(number);
-    let _ = write!(text, "{packet:?}");
+    show(text, &added);
 }
 
 fn endpoint_of(peer: &str, number: &str) -> Endpoint {
@@ -189,8 +87,7 @@ fn endpoint_of(peer: &str, number: &str) -> Endpoint {
 fn push_place(text: &mut String, world: &World, words: Words<'_>) {
     let reader = endpoint_of(words.first, words.second);
     let writer = endpoint_of(words.third, words.fourth);
-    let place = world.place(reader, writer);
-    let _ = write!(text, "{place:?}");
+    show(text, &world.place(reader, writer));
 }
 
 fn push_answer(text: &mut String, round: &Round) {
@@ -209,58 +106,52 @@ fn push_round(text: &mut String, world: &mut World, words: Words<'_>) {
     let reader = endpoint_of(words.third, words.fourth);
     match world.round(writer, reader) {
         Ok(round) => push_answer(text, &round),
-        Err(code) => {
-            let _ = write!(text, "{code:?}");
-        }
+        Err(code) => show(text, &code),
     }
 }
 
-/// Appends how many packets were sent and not sent, and the first of them.
-fn push_end(text: &mut String, world: &World) {
-    let (sent, unsent, packet) = (world.sent(), world.unsent(), world.packet(1));
-    let _ = write!(text, "{sent} {unsent} {packet:?}");
-}
-
-fn push_replies(text: &mut String, world: &mut World, events: Vec<WorldEvent>) {
-    if let Ok(replies) = world.run(events) {
-        for reply in replies.as_slice() {
-            let _ = write!(text, "{reply:?}");
-        }
+fn push_reply(alloc: Global, text: &mut String, reply: &Reply) {
+    let mut line = TranscriptLine::new(alloc);
+    line.push_reply(Side::Reader, reply);
+    if let Ok(line) = line.finish() {
+        let _ = write!(text, "[{}]", line.trim_end());
     }
 }
 
-/// Appends the replies of a run of these events, and what was sent.
-fn push_run(alloc: Global, text: &mut String, events: &str) {
-    if let Ok(mut world) = open(alloc, -1) {
-        push_replies(text, &mut world, events_of(alloc, events));
-        push_end(text, &world);
-    }
-}
-
-/// A network, the events since its opening, a line for each, and the replies.
+/// A network, and the events that are to be run.
 #[derive(Drop)]
 struct Network {
     world: World,
-    events: String,
-    replies: String,
+    events: Vec<WorldEvent>,
 }
 
 impl Network {
-    fn begin(&mut self, alloc: Global, text: &mut String, max_samples: i32) {
-        if let Ok(world) = open(alloc, max_samples) {
+    fn begin(&mut self, alloc: Global, text: &mut String, parts: &str) {
+        if let Some(world) = open(alloc, parts) {
             self.world = world;
             self.events.clear();
-            self.replies.clear();
             let _ = text.push_str("opened");
         }
     }
 
-    fn step(&mut self, alloc: Global, text: &mut String, name: &str, operands: &str) {
-        let reply = self.world.step(event_of(alloc, name, words_of(operands)));
-        let (sent, unsent) = (self.world.sent(), self.world.unsent());
-        let _ = write!(text, "{reply:?} {sent} {unsent}");
-        let _ = write!(self.replies, "{reply:?}");
-        let _ = writeln!(self.events, "{name} {operands}");
+    fn add(&mut self, alloc: Global, text: &mut String, first: &str, operands: &str) {
+        match event_of(alloc, first, operands) {
+            Some(event) => {
+                let _ = self.events.push(event);
+            }
+            None => {
+                let _ = text.push_str("no event");
+            }
+        }
+    }
+
+    fn run(&mut self, alloc: Global, text: &mut String) {
+        let events = replace(&mut self.events, Vec::new(alloc));
+        if let Ok(replies) = self.world.run(events) {
+            for reply in replies.as_slice() {
+                push_reply(alloc, text, reply);
+            }
+        }
     }
 
     fn add_filter(&mut self, text: &mut String, words: Words<'_>) {
@@ -268,51 +159,39 @@ impl Network {
         let peer = words.first.parse().unwrap_or(0);
         push_filter(text, &mut self.world, peer, OfLength { octets });
     }
-
-    fn run(&mut self, alloc: Global, text: &mut String) {
-        let mut replies = String::new(alloc);
-        push_run(alloc, &mut replies, self.events.as_str());
-        push_end(&mut self.replies, &self.world);
-        if replies.as_str() == self.replies.as_str() {
-            let _ = text.push_str("as its steps");
-        } else {
-            let _ = text.push_str(replies.as_str());
-        }
-    }
 }
 
 impl Subject for Network {
     fn answer(&mut self, alloc: Global, text: &mut String, name: &str, operands: &str) {
         match name {
-            "open" => self.begin(alloc, text, operands.parse().unwrap_or(-1)),
+            "open" => self.begin(alloc, text, operands),
+            "run" => self.run(alloc, text),
             "filter" => self.add_filter(text, words_of(operands)),
-            "packet" => push_packet(text, &self.world, number_of(operands)),
+            "sent" => show(text, &(self.world.sent(), self.world.unsent())),
+            "packet" => show(text, &self.world.packet(number_of(operands))),
             "place" => push_place(text, &self.world, words_of(operands)),
             "round" => push_round(text, &mut self.world, words_of(operands)),
-            "run" => self.run(alloc, text),
-            _ => self.step(alloc, text, name, operands),
+            first => self.add(alloc, text, first, operands),
         }
     }
 }
 
 #[test]
-fn networks_answer(rt: HostRuntime) {
+fn one_run_answers_as_the_events_of_a_script(rt: HostRuntime) {
     let alloc = rt.alloc();
-    let Ok(world) = open(alloc, -1) else {
+    let Some(world) = open(alloc, TWO_PEERS) else {
         panic!(rt; "no network");
     };
-    let mut network = Network {
-        world,
-        events: String::new(alloc),
-        replies: String::new(alloc),
-    };
+    let events = Vec::new(alloc);
+    let mut network = Network { world, events };
     expect_rows(&rt, alloc, &mut network, SCRIPTS);
 }
 
 #[test]
 fn a_network_takes_boxed_filters(rt: HostRuntime) {
     let alloc = rt.alloc();
-    let Ok(mut world) = WorldOf::<Box<dyn Filter + Send>>::open(alloc, &config(alloc, -1)) else {
+    let Some(mut world) = open::<Box<dyn Filter + Send>, Box<dyn Listener + Send>>(alloc, TWO_PEERS)
+    else {
         panic!(rt; "no network");
     };
     for (peer, wanted) in [

@@ -1,6 +1,6 @@
 //! A writer with its matched reliable readers.
 
-use crate::tests::rows::{Subject, Words, expect_rows, number_of, octets_of, words_of};
+use crate::tests::rows::{Subject, Words, expect_rows, number_of, octets_of, show, words_of};
 use dds_base::{Change, ChangeKind, Code, HistoryQos, Key, Moment, Octets, Sn};
 use rtps_sets::SnSet;
 use rtps_writer::StatefulWriter;
@@ -121,58 +121,9 @@ fn change_of(alloc: Global, kind: ChangeKind, words: Words<'_>) -> Change {
     }
 }
 
-fn push_write(text: &mut String, writer: &mut StatefulWriter, change: Change) {
-    let answer = writer.write(change);
-    let _ = write!(text, "{answer:?}");
-}
-
-fn push_refusal(text: &mut String, writer: &StatefulWriter, change: &Change) {
-    let answer = writer.refusal(change);
-    let _ = write!(text, "{answer:?}");
-}
-
-fn push_register(text: &mut String, writer: &mut StatefulWriter, key: Key) {
-    let answer = writer.register(key);
-    let _ = write!(text, "{answer:?}");
-}
-
-fn push_tick(text: &mut String, writer: &mut StatefulWriter, now: Moment) {
-    let due = writer.tick(now);
-    let _ = write!(text, "{due:?}");
-}
-
-fn push_assert(text: &mut String, writer: &mut StatefulWriter, now: Moment) {
-    let answer = writer.assert(true, now);
-    let _ = write!(text, "{answer:?}");
-}
-
-fn push_strength(text: &mut String, writer: &StatefulWriter) {
-    let strength = writer.strength();
-    let _ = write!(text, "{strength:?}");
-}
-
-fn push_set_strength(text: &mut String, writer: &mut StatefulWriter, strength: i32) {
-    let answer = writer.set_strength(strength);
-    let _ = write!(text, "{answer:?}");
-}
-
-fn push_lost(text: &mut String, writer: &mut StatefulWriter) {
-    let status = writer.liveliness_lost();
-    let _ = write!(text, "{status:?}");
-}
-
-fn push_number(text: &mut String, number: Sn) {
-    let number = number.number();
-    let _ = write!(text, "{number}");
-}
-
-fn push_flag(text: &mut String, flag: bool) {
-    let _ = write!(text, "{flag}");
-}
-
 fn push_behind(text: &mut String, writer: &StatefulWriter, reader: usize) {
     if reader < writer.readers() {
-        push_flag(text, writer.is_behind(reader));
+        show(text, &writer.is_behind(reader));
     }
 }
 
@@ -193,8 +144,7 @@ fn push_acknack(text: &mut String, writer: &mut StatefulWriter, operands: &str) 
     insert(&mut set, words.next().unwrap_or(""));
     insert(&mut set, words.next().unwrap_or(""));
     if reader < writer.readers() {
-        let answered = writer.on_acknack(reader, base, &set, count);
-        let _ = write!(text, "{answered:?}");
+        show(text, &writer.on_acknack(reader, base, &set, count));
     }
 }
 
@@ -205,22 +155,34 @@ impl Subject for StatefulWriter {
             "open" => {
                 if let Ok(writer) = open(alloc, words) {
                     *self = writer;
-                    push_number(text, self.last());
+                    show(text, &self.last().number());
                 }
             }
-            "last" => push_number(text, self.last()),
-            "write" => push_write(text, self, change_of(alloc, ChangeKind::Write, words)),
-            "unregister" => push_write(text, self, change_of(alloc, ChangeKind::Unregister, words)),
-            "refusal" => push_refusal(text, self, &change_of(alloc, ChangeKind::Write, words)),
-            "register" => push_register(text, self, key_of(words.first)),
-            "registered" => push_flag(text, self.is_registered(key_of(words.first))),
-            "get" => push_flag(text, self.get(Sn::new(number_of(words.first))).is_some()),
+            "last" => show(text, &self.last().number()),
+            "write" => show(
+                text,
+                &self.write(change_of(alloc, ChangeKind::Write, words)),
+            ),
+            "unregister" => show(
+                text,
+                &self.write(change_of(alloc, ChangeKind::Unregister, words)),
+            ),
+            "refusal" => show(
+                text,
+                &self.refusal(&change_of(alloc, ChangeKind::Write, words)),
+            ),
+            "register" => show(text, &self.register(key_of(words.first))),
+            "registered" => show(text, &self.is_registered(key_of(words.first))),
+            "get" => show(text, &self.get(Sn::new(number_of(words.first))).is_some()),
             "behind" => push_behind(text, self, words.first.parse().unwrap_or(0)),
-            "tick" => push_tick(text, self, Moment::new(number_of(words.first))),
-            "assert" => push_assert(text, self, Moment::new(number_of(words.first))),
-            "lost" => push_lost(text, self),
-            "strength" => push_strength(text, self),
-            "set_strength" => push_set_strength(text, self, words.first.parse().unwrap_or(0)),
+            "tick" => show(text, &self.tick(Moment::new(number_of(words.first)))),
+            "assert" => show(
+                text,
+                &self.assert(true, Moment::new(number_of(words.first))),
+            ),
+            "lost" => show(text, &self.liveliness_lost()),
+            "strength" => show(text, &self.strength()),
+            "set_strength" => show(text, &self.set_strength(words.first.parse().unwrap_or(0))),
             "acknack" => push_acknack(text, self, operands),
             _ => {}
         }

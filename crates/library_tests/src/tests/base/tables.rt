@@ -35,129 +35,128 @@ codes => [Ok 0][BadParameter 3][PreconditionNotMet 4][OutOfResources 5][Timeout 
 # An unregister ends a registration, whether it disposes or not.
 kinds => [Write false][Dispose false][Unregister true][DisposeUnregister true]
 # DDS 1.4, 2.3.3: the bits of the states, and the groups of them. Bits without a meaning are kept.
-samples => [READ 1][NOT_READ 2][ANY 65535][8 8]
-views => [NEW 1][NOT_NEW 2][ANY 65535]
-instances => [ALIVE 1][DISPOSED 2][NO_WRITERS 4][NOT_ALIVE 6][ANY 65535][true]
+# READ, NOT_READ, ANY, and a bit without a meaning.
+samples => [1, 2, 65535, 8]
+# NEW, NOT_NEW, ANY.
+views => [1, 2, 65535]
+# ALIVE, NOT_ALIVE_DISPOSED, NOT_ALIVE_NO_WRITERS, NOT_ALIVE, ANY; and whether ANY has NOT_ALIVE.
+instances => [1, 2, 4, 6, 65535]
+any => true
 numbers => 7 8 9 true
 ";
 
-/// Configurations as in `CONFIGS`, and the fault of each: one for each rule, the first place that breaks it, and the
-/// code.
+/// Configurations, and the fault of each: one for each rule, the first place that breaks it, and the code.
 pub const FAULTS: &str = "\
-fault writer reader => none
-fault peers=0 => the configuration: there are no peers, or more than 16, BAD_PARAMETER
-fault writer times=17 reader => peer 1: it has more than 16 writers, BAD_PARAMETER
-fault writer reader times=17 => peer 2: it has more than 16 readers, BAD_PARAMETER
-fault prefix=0 writer reader => peer 2: its prefix is all zeros, BAD_PARAMETER
-fault prefix=1 writer reader => peer 1: another peer has its prefix, BAD_PARAMETER
-fault writer writer reader => writer 1 of peer 1: another writer or reader of its peer has its entity, BAD_PARAMETER
-fault writer reader kind=2 => reader 1 of peer 2: its entity has the wrong kind, BAD_PARAMETER
-fault writer times=2 writer last=0 reader => writer 3 of peer 1: its depth is 0, BAD_PARAMETER
-fault writer max=0 reader => writer 1 of peer 1: its max_samples is neither -1 nor positive, BAD_PARAMETER
-fault writer reader instances=0 => reader 1 of peer 2: its max_instances is neither -1 nor positive, BAD_PARAMETER
-fault writer reader arrivals=0 => reader 1 of peer 2: its max_arrivals is 0 or above 2^63, BAD_PARAMETER
-fault writer reader instances=0 arrivals=0 => reader 1 of peer 2: its max_instances is neither -1 nor positive, BAD_PARAMETER
-fault writer reader lease=0 arrivals=0 => reader 1 of peer 2: its max_arrivals is 0 or above 2^63, BAD_PARAMETER
-fault writer lease=0 reader => writer 1 of peer 1: its lease is 0 or too long, BAD_PARAMETER
-fault writer values=0 reader => writer 1 of peer 1: its max_value is 0 or above 65000, BAD_PARAMETER
-fault writer reader values=65001 => reader 1 of peer 2: its max_value is 0 or above 65000, BAD_PARAMETER
-fault writer last=3 max=2 reader => writer 1 of peer 1: its depth is above its maximum of samples, INCONSISTENT_POLICY
-fault writer exclusive reader => reader 1 of peer 2: a matched writer has another ownership, INCONSISTENT_POLICY
-fault writer lease=20 reader lease=10 => reader 1 of peer 2: a matched writer has a longer lease than it asks for, INCONSISTENT_POLICY
-fault writer values=1025 reader => reader 1 of peer 2: a matched writer has a greater max_value than it takes, INCONSISTENT_POLICY
+fault peer 1 | writer 1 2 all | peer 2 | reader 1 7 all => none
+fault => the configuration: there are no peers, or more than 16, BAD_PARAMETER
+fault peer 1 | writer 17 2 all | peer 2 | reader 1 7 all => peer 1: it has more than 16 writers, BAD_PARAMETER
+fault peer 1 | writer 1 2 all | peer 2 | reader 17 7 all => peer 2: it has more than 16 readers, BAD_PARAMETER
+fault peer 1 | writer 1 2 all | peer 0 | reader 1 7 all => peer 2: its prefix is all zeros, BAD_PARAMETER
+fault peer 1 | writer 1 2 all | peer 1 | reader 1 7 all => peer 1: another peer has its prefix, BAD_PARAMETER
+fault peer 1 | writer 1 2 all | writer 1 2 all | peer 2 | reader 1 7 all => writer 1 of peer 1: another writer or reader of its peer has its entity, BAD_PARAMETER
+fault peer 1 | writer 1 2 all | peer 2 | reader 1 2 all => reader 1 of peer 2: its entity has the wrong kind, BAD_PARAMETER
+fault peer 1 | writer 2 2 all | writer 1 2 last=0 | peer 2 | reader 1 7 all => writer 3 of peer 1: its depth is 0, BAD_PARAMETER
+fault peer 1 | writer 1 2 all max=0 | peer 2 | reader 1 7 all => writer 1 of peer 1: its max_samples is neither -1 nor positive, BAD_PARAMETER
+fault peer 1 | writer 1 2 all | peer 2 | reader 1 7 all instances=0 => reader 1 of peer 2: its max_instances is neither -1 nor positive, BAD_PARAMETER
+fault peer 1 | writer 1 2 all | peer 2 | reader 1 7 all arrivals=0 => reader 1 of peer 2: its max_arrivals is 0 or above 2^63, BAD_PARAMETER
+fault peer 1 | writer 1 2 all | peer 2 | reader 1 7 all instances=0 arrivals=0 => reader 1 of peer 2: its max_instances is neither -1 nor positive, BAD_PARAMETER
+fault peer 1 | writer 1 2 all | peer 2 | reader 1 7 all lease=0 arrivals=0 => reader 1 of peer 2: its max_arrivals is 0 or above 2^63, BAD_PARAMETER
+fault peer 1 | writer 1 2 all lease=0 | peer 2 | reader 1 7 all => writer 1 of peer 1: its lease is 0 or too long, BAD_PARAMETER
+fault peer 1 | writer 1 2 all values=0 | peer 2 | reader 1 7 all => writer 1 of peer 1: its max_value is 0 or above 65000, BAD_PARAMETER
+fault peer 1 | writer 1 2 all | peer 2 | reader 1 7 all values=65001 => reader 1 of peer 2: its max_value is 0 or above 65000, BAD_PARAMETER
+fault peer 1 | writer 1 2 last=3 max=2 | peer 2 | reader 1 7 all => writer 1 of peer 1: its depth is above its maximum of samples, INCONSISTENT_POLICY
+fault peer 1 | writer 1 2 all exclusive | peer 2 | reader 1 7 all => reader 1 of peer 2: a matched writer has another ownership, INCONSISTENT_POLICY
+fault peer 1 | writer 1 2 all lease=20 | peer 2 | reader 1 7 all lease=10 => reader 1 of peer 2: a matched writer has a longer lease than it asks for, INCONSISTENT_POLICY
+fault peer 1 | writer 1 2 all values=1025 | peer 2 | reader 1 7 all => reader 1 of peer 2: a matched writer has a greater max_value than it takes, INCONSISTENT_POLICY
 ";
 
-/// Configurations, and the answer to each. There are two peers, or as many as `peers` says; the first has the writers,
-/// and the last, which may have another `prefix`, the readers. A writer or a reader keeps all, has no limits and no
-/// lease, and is shared, but for the words after it: its entity `kind`, `last` so many are kept, its `max`_samples, its
-/// max_`instances`, its max_`arrivals`, its `lease`, how long its `values` may be, its `topic`, and how many `times` it is there, each time as another
-/// entity.
+/// Configurations, and the answer to each.
 pub const CONFIGS: &str = "\
 # Peers that keep all are taken.
-check writer reader => Ok(())
-check peers=2 => Ok(())
-check peers=16 writer max=2 => Ok(())
+check peer 1 | writer 1 2 all | peer 2 | reader 1 7 all => Ok(())
+check peer 1 | peer 2 => Ok(())
+check peer 1 | writer 1 2 all max=2 | peer 2 | peer 3 | peer 4 | peer 5 | peer 6 | peer 7 | peer 8 | peer 9 | peer 10 | peer 11 | peer 12 | peer 13 | peer 14 | peer 15 | peer 16 => Ok(())
 # A bad writer: its kind, its depth, its maximum, its lease. It is refused as such beside a reader of other ownership too.
-check writer kind=7 reader => Err(BadParameter)
-check writer kind=7 reader exclusive => Err(BadParameter)
-check writer last=0 reader => Err(BadParameter)
-check writer last=0 reader exclusive => Err(BadParameter)
-check writer last=0 max=0 reader => Err(BadParameter)
-check writer last=0 max=0 reader exclusive => Err(BadParameter)
-check writer max=0 reader => Err(BadParameter)
-check writer max=0 reader exclusive => Err(BadParameter)
-check writer max=-5 reader => Err(BadParameter)
-check writer max=-5 reader exclusive => Err(BadParameter)
-check writer lease=0 reader => Err(BadParameter)
-check writer lease=0 reader exclusive => Err(BadParameter)
-check writer lease=9223372036854775808 reader => Err(BadParameter)
-check writer lease=9223372036854775808 reader exclusive => Err(BadParameter)
+check peer 1 | writer 1 7 all | peer 2 | reader 1 7 all => Err(BadParameter)
+check peer 1 | writer 1 7 all | peer 2 | reader 1 7 all exclusive => Err(BadParameter)
+check peer 1 | writer 1 2 last=0 | peer 2 | reader 1 7 all => Err(BadParameter)
+check peer 1 | writer 1 2 last=0 | peer 2 | reader 1 7 all exclusive => Err(BadParameter)
+check peer 1 | writer 1 2 last=0 max=0 | peer 2 | reader 1 7 all => Err(BadParameter)
+check peer 1 | writer 1 2 last=0 max=0 | peer 2 | reader 1 7 all exclusive => Err(BadParameter)
+check peer 1 | writer 1 2 all max=0 | peer 2 | reader 1 7 all => Err(BadParameter)
+check peer 1 | writer 1 2 all max=0 | peer 2 | reader 1 7 all exclusive => Err(BadParameter)
+check peer 1 | writer 1 2 all max=-5 | peer 2 | reader 1 7 all => Err(BadParameter)
+check peer 1 | writer 1 2 all max=-5 | peer 2 | reader 1 7 all exclusive => Err(BadParameter)
+check peer 1 | writer 1 2 all lease=0 | peer 2 | reader 1 7 all => Err(BadParameter)
+check peer 1 | writer 1 2 all lease=0 | peer 2 | reader 1 7 all exclusive => Err(BadParameter)
+check peer 1 | writer 1 2 all lease=9223372036854775808 | peer 2 | reader 1 7 all => Err(BadParameter)
+check peer 1 | writer 1 2 all lease=9223372036854775808 | peer 2 | reader 1 7 all exclusive => Err(BadParameter)
 # A bad reader, alone and with a writer of other ownership.
-check reader kind=2 => Err(BadParameter)
-check writer exclusive reader kind=2 => Err(BadParameter)
-check reader last=0 => Err(BadParameter)
-check writer exclusive reader last=0 => Err(BadParameter)
-check reader max=0 => Err(BadParameter)
-check writer exclusive reader max=0 => Err(BadParameter)
-check reader max=-5 => Err(BadParameter)
-check writer exclusive reader max=-5 => Err(BadParameter)
-check reader instances=0 => Err(BadParameter)
-check writer exclusive reader instances=0 => Err(BadParameter)
-check reader instances=-5 => Err(BadParameter)
-check writer exclusive reader instances=-5 => Err(BadParameter)
-check reader arrivals=0 => Err(BadParameter)
-check writer exclusive reader arrivals=0 => Err(BadParameter)
-check reader arrivals=9223372036854775809 => Err(BadParameter)
-check writer exclusive reader arrivals=9223372036854775809 => Err(BadParameter)
-check reader arrivals=9223372036854775808 => Ok(())
-check writer exclusive reader arrivals=9223372036854775808 => Err(InconsistentPolicy)
-check writer values=65000 reader values=65000 => Ok(())
-check writer values=65000 reader => Err(InconsistentPolicy)
-check writer values=65000 => Ok(())
-check writer values=65001 reader => Err(BadParameter)
-check writer reader values=0 => Err(BadParameter)
-check reader lease=0 => Err(BadParameter)
-check writer exclusive reader lease=0 => Err(BadParameter)
-check reader lease=9223372036854775808 => Err(BadParameter)
-check writer exclusive reader lease=9223372036854775808 => Err(BadParameter)
+check peer 1 | peer 2 | reader 1 2 all => Err(BadParameter)
+check peer 1 | writer 1 2 all exclusive | peer 2 | reader 1 2 all => Err(BadParameter)
+check peer 1 | peer 2 | reader 1 7 last=0 => Err(BadParameter)
+check peer 1 | writer 1 2 all exclusive | peer 2 | reader 1 7 last=0 => Err(BadParameter)
+check peer 1 | peer 2 | reader 1 7 all max=0 => Err(BadParameter)
+check peer 1 | writer 1 2 all exclusive | peer 2 | reader 1 7 all max=0 => Err(BadParameter)
+check peer 1 | peer 2 | reader 1 7 all max=-5 => Err(BadParameter)
+check peer 1 | writer 1 2 all exclusive | peer 2 | reader 1 7 all max=-5 => Err(BadParameter)
+check peer 1 | peer 2 | reader 1 7 all instances=0 => Err(BadParameter)
+check peer 1 | writer 1 2 all exclusive | peer 2 | reader 1 7 all instances=0 => Err(BadParameter)
+check peer 1 | peer 2 | reader 1 7 all instances=-5 => Err(BadParameter)
+check peer 1 | writer 1 2 all exclusive | peer 2 | reader 1 7 all instances=-5 => Err(BadParameter)
+check peer 1 | peer 2 | reader 1 7 all arrivals=0 => Err(BadParameter)
+check peer 1 | writer 1 2 all exclusive | peer 2 | reader 1 7 all arrivals=0 => Err(BadParameter)
+check peer 1 | peer 2 | reader 1 7 all arrivals=9223372036854775809 => Err(BadParameter)
+check peer 1 | writer 1 2 all exclusive | peer 2 | reader 1 7 all arrivals=9223372036854775809 => Err(BadParameter)
+check peer 1 | peer 2 | reader 1 7 all arrivals=9223372036854775808 => Ok(())
+check peer 1 | writer 1 2 all exclusive | peer 2 | reader 1 7 all arrivals=9223372036854775808 => Err(InconsistentPolicy)
+check peer 1 | writer 1 2 all values=65000 | peer 2 | reader 1 7 all values=65000 => Ok(())
+check peer 1 | writer 1 2 all values=65000 | peer 2 | reader 1 7 all => Err(InconsistentPolicy)
+check peer 1 | writer 1 2 all values=65000 | peer 2 => Ok(())
+check peer 1 | writer 1 2 all values=65001 | peer 2 | reader 1 7 all => Err(BadParameter)
+check peer 1 | writer 1 2 all | peer 2 | reader 1 7 all values=0 => Err(BadParameter)
+check peer 1 | peer 2 | reader 1 7 all lease=0 => Err(BadParameter)
+check peer 1 | writer 1 2 all exclusive | peer 2 | reader 1 7 all lease=0 => Err(BadParameter)
+check peer 1 | peer 2 | reader 1 7 all lease=9223372036854775808 => Err(BadParameter)
+check peer 1 | writer 1 2 all exclusive | peer 2 | reader 1 7 all lease=9223372036854775808 => Err(BadParameter)
 # Equal prefixes, the prefix of zeros, and equal entities of one peer; also with a writer that contradicts itself.
-check prefix=1 writer reader => Err(BadParameter)
-check prefix=0 writer reader => Err(BadParameter)
-check writer writer reader => Err(BadParameter)
-check writer reader reader => Err(BadParameter)
-check prefix=1 writer last=3 max=2 reader => Err(BadParameter)
-check prefix=0 writer last=3 max=2 reader => Err(BadParameter)
-check writer last=3 max=2 writer last=3 max=2 reader => Err(BadParameter)
-check writer last=3 max=2 reader reader => Err(BadParameter)
+check peer 1 | writer 1 2 all | peer 1 | reader 1 7 all => Err(BadParameter)
+check peer 1 | writer 1 2 all | peer 0 | reader 1 7 all => Err(BadParameter)
+check peer 1 | writer 1 2 all | writer 1 2 all | peer 2 | reader 1 7 all => Err(BadParameter)
+check peer 1 | writer 1 2 all | peer 2 | reader 1 7 all | reader 1 7 all => Err(BadParameter)
+check peer 1 | writer 1 2 last=3 max=2 | peer 1 | reader 1 7 all => Err(BadParameter)
+check peer 1 | writer 1 2 last=3 max=2 | peer 0 | reader 1 7 all => Err(BadParameter)
+check peer 1 | writer 1 2 last=3 max=2 | writer 1 2 last=3 max=2 | peer 2 | reader 1 7 all => Err(BadParameter)
+check peer 1 | writer 1 2 last=3 max=2 | peer 2 | reader 1 7 all | reader 1 7 all => Err(BadParameter)
 # No peer, and seventeen; also with writers that contradict themselves.
-check peers=0 writer max=2 => Err(BadParameter)
-check peers=17 writer max=2 => Err(BadParameter)
-check peers=17 writer last=3 max=2 => Err(BadParameter)
+check => Err(BadParameter)
+check peer 1 | writer 1 2 all max=2 | peer 2 | peer 3 | peer 4 | peer 5 | peer 6 | peer 7 | peer 8 | peer 9 | peer 10 | peer 11 | peer 12 | peer 13 | peer 14 | peer 15 | peer 16 | peer 17 => Err(BadParameter)
+check peer 1 | writer 1 2 last=3 max=2 | peer 2 | peer 3 | peer 4 | peer 5 | peer 6 | peer 7 | peer 8 | peer 9 | peer 10 | peer 11 | peer 12 | peer 13 | peer 14 | peer 15 | peer 16 | peer 17 => Err(BadParameter)
 # Sixteen writers and sixteen readers at a peer, and seventeen of either; also with writers that contradict themselves.
-check writer times=16 reader times=16 => Ok(())
-check writer reader times=16 reader => Err(BadParameter)
-check writer times=16 writer reader => Err(BadParameter)
-check writer last=3 max=2 times=16 reader times=16 => Err(InconsistentPolicy)
-check writer last=3 max=2 reader times=16 reader => Err(BadParameter)
-check writer last=3 max=2 times=16 writer last=3 max=2 reader => Err(BadParameter)
+check peer 1 | writer 16 2 all | peer 2 | reader 16 7 all => Ok(())
+check peer 1 | writer 1 2 all | peer 2 | reader 16 7 all | reader 1 7 all => Err(BadParameter)
+check peer 1 | writer 16 2 all | writer 1 2 all | peer 2 | reader 1 7 all => Err(BadParameter)
+check peer 1 | writer 16 2 last=3 max=2 | peer 2 | reader 16 7 all => Err(InconsistentPolicy)
+check peer 1 | writer 1 2 last=3 max=2 | peer 2 | reader 16 7 all | reader 1 7 all => Err(BadParameter)
+check peer 1 | writer 16 2 last=3 max=2 | writer 1 2 last=3 max=2 | peer 2 | reader 1 7 all => Err(BadParameter)
 # Ownerships that differ, depths above a maximum, and leases that are longer than the reader asks for. A peer's second entity of
 # one id is refused first.
-check writer exclusive reader => Err(InconsistentPolicy)
-check writer exclusive writer exclusive reader => Err(BadParameter)
-check writer reader exclusive => Err(InconsistentPolicy)
-check writer writer reader exclusive => Err(BadParameter)
-check writer last=3 max=2 reader => Err(InconsistentPolicy)
-check writer last=3 max=2 writer last=3 max=2 reader => Err(BadParameter)
-check writer reader last=3 max=2 => Err(InconsistentPolicy)
-check writer writer reader last=3 max=2 => Err(BadParameter)
-check writer lease=20 reader lease=10 => Err(InconsistentPolicy)
-check writer lease=20 writer lease=20 reader lease=10 => Err(BadParameter)
-check writer reader lease=10 => Err(InconsistentPolicy)
-check writer writer reader lease=10 => Err(BadParameter)
+check peer 1 | writer 1 2 all exclusive | peer 2 | reader 1 7 all => Err(InconsistentPolicy)
+check peer 1 | writer 1 2 all exclusive | writer 1 2 all exclusive | peer 2 | reader 1 7 all => Err(BadParameter)
+check peer 1 | writer 1 2 all | peer 2 | reader 1 7 all exclusive => Err(InconsistentPolicy)
+check peer 1 | writer 1 2 all | writer 1 2 all | peer 2 | reader 1 7 all exclusive => Err(BadParameter)
+check peer 1 | writer 1 2 last=3 max=2 | peer 2 | reader 1 7 all => Err(InconsistentPolicy)
+check peer 1 | writer 1 2 last=3 max=2 | writer 1 2 last=3 max=2 | peer 2 | reader 1 7 all => Err(BadParameter)
+check peer 1 | writer 1 2 all | peer 2 | reader 1 7 last=3 max=2 => Err(InconsistentPolicy)
+check peer 1 | writer 1 2 all | writer 1 2 all | peer 2 | reader 1 7 last=3 max=2 => Err(BadParameter)
+check peer 1 | writer 1 2 all lease=20 | peer 2 | reader 1 7 all lease=10 => Err(InconsistentPolicy)
+check peer 1 | writer 1 2 all lease=20 | writer 1 2 all lease=20 | peer 2 | reader 1 7 all lease=10 => Err(BadParameter)
+check peer 1 | writer 1 2 all | peer 2 | reader 1 7 all lease=10 => Err(InconsistentPolicy)
+check peer 1 | writer 1 2 all | writer 1 2 all | peer 2 | reader 1 7 all lease=10 => Err(BadParameter)
 # Ends of different topics need not fit; a depth as great as the maximum, or without one, and a lease as long as the reader's do.
-check writer exclusive topic=1 reader => Ok(())
-check writer last=3 max=3 reader => Ok(())
-check writer last=3 reader => Ok(())
-check writer lease=10 reader lease=10 => Ok(())
-check writer lease=9223372036854775807 reader => Ok(())
+check peer 1 | writer 1 2 all exclusive topic=1 | peer 2 | reader 1 7 all => Ok(())
+check peer 1 | writer 1 2 last=3 max=3 | peer 2 | reader 1 7 all => Ok(())
+check peer 1 | writer 1 2 last=3 | peer 2 | reader 1 7 all => Ok(())
+check peer 1 | writer 1 2 all lease=10 | peer 2 | reader 1 7 all lease=10 => Ok(())
+check peer 1 | writer 1 2 all lease=9223372036854775807 | peer 2 | reader 1 7 all => Ok(())
 ";

@@ -1,21 +1,19 @@
 //! Who is told of what happens in a network, and what is handed back.
 
-use crate::tests::listeners::{Latest, entity_of, push_set};
-use crate::tests::rows::{Subject, Words, expect_rows, words_of};
-use crate::tests::world::{World, config, event_of};
+use crate::tests::conditions::OfLength;
+use crate::tests::listeners::{Latest, entity_of, push_recorder, push_set};
+use crate::tests::rows::{Subject, Words, expect_rows, show, words_of};
+use crate::tests::world::{TWO_PEERS, event_of, open};
 use bitflags::Flags;
 use dds_conditions::Filter;
-use dds_notices::{Listener, Recorder, StatusMask};
+use dds_notices::{Listener, StatusMask};
 use dds_world::World as WorldOf;
 use std::alloc::Global;
-
-/// A network whose filters and listeners are boxes of any.
-type Boxes = WorldOf;
 
 /// A first peer with a writer, and a second one with a reader. `set` names a peer, an entity there and a mask: the
 /// listener that is at hand is set; `unset` names a peer and an entity. Both give what the listener keeps that is
 /// handed back, or `nobody`; that one is then at hand. Where it is handed back with a code, the code stands before. An
-/// event gives how many packets were sent so far.
+/// event, in a script's words, gives how many packets were sent so far.
 const TOLD: &str = "\
 # The peer and the entity have to be there. A refused listener is handed back.
 set 3 reader 1 1024 => BAD_PARAMETER
@@ -29,7 +27,7 @@ unset 1 reader 1 => BAD_PARAMETER
 set 1 participant 0 65535 => nobody
 set 2 participant 0 65535 => nobody
 set 2 reader 1 1024 => nobody
-write 1 1 6162 => 1
+1 write w1 1 6162 => 1
 deliver 2 1 => 1
 unset 2 reader 1 => [Reader(1) DataAvailable]
 unset 2 participant 0 => [Reader(1) LivelinessChanged(LivelinessChangedStatus { alive_count: 1, not_alive_count: 0, alive_count_change: 1, not_alive_count_change: 0, last_publication_handle: Handle { number: 1 } })]
@@ -41,7 +39,7 @@ set 2 participant 0 1024 => nobody
 
 # A packet that comes again raises nothing, and data that was told is told once.
 deliver 2 1 => 1
-write 1 1 63 => 2
+1 write w1 1 63 => 2
 deliver 2 2 => 2
 deliver 2 2 => 2
 unset 2 participant 0 => [Reader(1) DataAvailable]
@@ -62,6 +60,13 @@ impl<F: Filter, L: Listener> Told<F, L> {
         let set = self.world.set_listener(peer, entity, mask, listener);
         push_set(text, &mut self.at_hand, set);
     }
+
+    fn step(&mut self, alloc: Global, text: &mut String, first: &str, operands: &str) {
+        if let Some(event) = event_of(alloc, first, operands) {
+            let _ = self.world.step(event);
+            show(text, &self.world.sent());
+        }
+    }
 }
 
 impl<F: Filter, L: Listener> Subject for Told<F, L> {
@@ -73,11 +78,7 @@ impl<F: Filter, L: Listener> Subject for Told<F, L> {
                 self.set(text, words, listener);
             }
             "unset" => self.set(text, words, None),
-            _ => {
-                let _ = self.world.step(event_of(alloc, name, words));
-                let sent = self.world.sent();
-                let _ = write!(text, "{sent}");
-            }
+            _ => self.step(alloc, text, name, operands),
         }
     }
 }
@@ -89,15 +90,6 @@ fn own(alloc: Global) -> Vec<Latest> {
         let _ = at_hand.push(Latest { kept: None });
     }
     at_hand
-}
-
-fn push_recorder(alloc: Global, at_hand: &mut Vec<Box<dyn Listener + Send>>, room: usize) {
-    if let Ok(recorder) = Recorder::open(alloc, room) {
-        if let Ok(boxed) = Box::new(alloc, recorder) {
-            let listener: Box<dyn Listener + Send> = boxed;
-            let _ = at_hand.push(listener);
-        }
-    }
 }
 
 /// Two recorders and a listener of an application's own, in boxes.
@@ -115,7 +107,7 @@ fn boxed(alloc: Global) -> Vec<Box<dyn Listener + Send>> {
 #[test]
 fn a_network_tells_listeners_of_an_application(rt: HostRuntime) {
     let alloc = rt.alloc();
-    let Ok(world) = World::open(alloc, &config(alloc, -1)) else {
+    let Some(world) = open::<OfLength, Latest>(alloc, TWO_PEERS) else {
         panic!(rt; "no network");
     };
     let at_hand = own(alloc);
@@ -126,7 +118,8 @@ fn a_network_tells_listeners_of_an_application(rt: HostRuntime) {
 #[test]
 fn a_network_tells_boxed_listeners(rt: HostRuntime) {
     let alloc = rt.alloc();
-    let Ok(world) = Boxes::open(alloc, &config(alloc, -1)) else {
+    let Some(world) = open::<Box<dyn Filter + Send>, Box<dyn Listener + Send>>(alloc, TWO_PEERS)
+    else {
         panic!(rt; "no network");
     };
     let at_hand = boxed(alloc);
