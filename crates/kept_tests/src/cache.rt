@@ -54,16 +54,23 @@ fn arrival(alloc: Global) -> Arrival
     }
 }
 
+/// Tries to have a change come; whether it did.
+fn comes(alloc: Global, cache: &mut ReaderCache) -> bool
+    requires matched { 1 ≤ length (qos_of cache.old).writers }
+    ensures qos { qos_of cache.new ≡ qos_of cache.old }
+{
+    cache.reserve(1).is_ok() && cache.come(arrival(alloc)).is_ok()
+}
+
 /// A change comes; whether it was refused at first.
 fn come(alloc: Global, cache: &mut ReaderCache) -> bool
     requires matched { 1 ≤ length (qos_of cache.old).writers }
     ensures qos { qos_of cache.new ≡ qos_of cache.old }
 {
-    if cache.reserve(1).is_ok() && cache.come(arrival(alloc)).is_ok() {
+    if comes(alloc, cache) {
         return false;
     }
-    let _ = cache.reserve(1);
-    let _ = cache.come(arrival(alloc));
+    let _ = comes(alloc, cache);
     true
 }
 

@@ -9,6 +9,7 @@ use dds_base::{
 use dds_conditions::Filter;
 use dds_machine::{Call, Reply};
 use dds_notices::{Listener, Recorder};
+use dds_protocol::Output;
 use dds_shared::{Flat, FlatPass, Named, Seed};
 use std::alloc::Global;
 use std::marker::Brand;
@@ -43,25 +44,78 @@ fn config(alloc: Global) -> Result<Config, Code> {
     })
 }
 
-/// Writes a sample, delivers its packet and takes it: how many samples were taken.
-fn turn<N: Named<F, L>, F: Filter, L: Listener, R: Wait>(
+/// A peer, of which each thread has a pass: what is proved of a shared one is met here, once.
+trait Peer<P> {
+    /// What a call gives.
+    fn asked<R: Wait>(&self, rt: &R, pass: &mut P, call: Call) -> Result<Output, Code>;
+
+    /// A packet comes.
+    fn comes<R: Wait>(&self, rt: &R, pass: &mut P, octets: &[u8]) -> Result<(), Code>;
+}
+
+impl<N: Named<F, L>, F: Filter, L: Listener> Peer<FlatPass<N>> for Flat<N, F, L> {
+    fn asked<R: Wait>(&self, rt: &R, pass: &mut FlatPass<N>, call: Call) -> Result<Output, Code> {
+        self.call(rt, pass, call)
+    }
+
+    fn comes<R: Wait>(&self, rt: &R, pass: &mut FlatPass<N>, octets: &[u8]) -> Result<(), Code> {
+        self.deliver(rt, pass, octets)?;
+        Ok(())
+    }
+}
+
+/// Writes a sample, and delivers its packet.
+fn send<S: Peer<P>, P, R: Wait>(
     rt: &R,
     alloc: Global,
-    shared: &Flat<N, F, L>,
-    pass: &mut FlatPass<N>,
-) -> Result<u64, Code> {
+    shared: &S,
+    pass: &mut P,
+) -> Result<(), Code> {
     let (writer, key) = (1, Key([0; 16]));
     let value = Octets::from_vec(Vec::from_elem(alloc, 7, 8)?);
-    let written = shared.call(rt, pass, Call::Write { writer, key, value })?;
+    let written = shared.asked(rt, pass, Call::Write { writer, key, value })?;
     for packet in written.packets.as_slice() {
-        shared.deliver(rt, pass, packet.bytes.as_slice())?;
+        shared.comes(rt, pass, packet.bytes.as_slice())?;
     }
+    Ok(())
+}
+
+/// Takes all samples: how many there were.
+fn take<S: Peer<P>, P, R: Wait>(rt: &R, shared: &S, pass: &mut P) -> Result<u64, Code> {
     let (reader, max, masks) = (1, -1, Masks::ANY);
     let selection = Selection::Any { max, masks };
-    let taken = shared.call(rt, pass, Call::Take { reader, selection })?;
+    let taken = shared.asked(rt, pass, Call::Take { reader, selection })?;
     match &taken.reply {
         Reply::Samples(samples) => Ok(samples.as_slice().len() as u64),
         _ => Ok(0),
+    }
+}
+
+/// Writes, delivers and takes so many samples: how many were taken.
+fn take_all<S: Peer<P>, P, R: Wait>(
+    rt: &R,
+    alloc: Global,
+    shared: &S,
+    pass: &mut P,
+    count: u64,
+) -> Result<u64, Code> {
+    let mut taken: u64 = 0;
+    for _ in 0..count {
+        send(rt, alloc, shared, pass)?;
+        taken = taken.saturating_add(take(rt, shared, pass)?);
+    }
+    Ok(taken)
+}
+
+/// Ends with the peer.
+fn close<N: Named<F, L>, F: Filter, L: Listener>(
+    alloc: Global,
+    shared: Flat<N, F, L>,
+    pass: FlatPass<N>,
+) -> Result<(), Code> {
+    match shared.close(vec![in alloc; pass]?) {
+        Ok(_) => Ok(()),
+        Err(refused) => Err(refused.code),
     }
 }
 
@@ -76,16 +130,10 @@ fn share<N: Named<F, L>, F: Filter, L: Listener, R: Wait>(
     requires of { (seed.config ≡ N.config) × (seed.peer ≡ N.peer) }
     requires set { (seed.core.filtered.filters ≡ N.filters) × (seed.core.listeners ≡ N.slots) }
 {
-    let (shared, first) = Flat::<N, F, L>::open_flat(seed);
-    let mut pass = first;
-    let mut taken: u64 = 0;
-    for _ in 0..count {
-        taken = taken.saturating_add(turn(rt, alloc, &shared, &mut pass)?);
-    }
-    match shared.close(vec![in alloc; pass]?) {
-        Ok(_) => Ok(taken),
-        Err(refused) => Err(refused.code),
-    }
+    let (shared, mut pass) = Flat::<N, F, L>::open_flat(seed);
+    let taken = take_all(rt, alloc, &shared, &mut pass, count)?;
+    close(alloc, shared, pass)?;
+    Ok(taken)
 }
 
 /// Writes, delivers and takes so many samples, three events each, and closes the peer: how many were taken.
