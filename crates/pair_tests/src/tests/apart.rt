@@ -6,17 +6,16 @@ use dds_base::{
     Code, Config, Entity, EntityId, GuidPrefix, Moment, PeerConfig, Sequence, WriterConfig,
 };
 use dds_conditions::Filter;
-use dds_keeping::Handing;
+use dds_keeping::{Handing, Keeping};
 use dds_log::HasWord;
 use dds_machine::Call;
 use dds_notices::{Listener, Notice, StatusMask};
 use dds_pair::{Link, PairGate, Served, serve};
-use dds_protocol::Packet;
+use dds_protocol::{Event, Packet};
 use dds_script::Prefix;
 use dds_shared::{Flat, FlatPass, Named, Pass, Seed, Shared};
 use std::alloc::Global;
 use std::marker::Brand;
-use std::process::Abort;
 use std::sync::atomic::{AtomicBool, Ordering};
 use std::sync::ledger::Ledger;
 use std::sync::{Arc, Wait};
@@ -121,115 +120,196 @@ fn config(alloc: Global) -> Result<Config, Code> {
     })
 }
 
+// A peer as a test has it: what is proved of a shared one is met here, once.
+trait Peer<P> {
+    // Does an event.
+    fn does<R: Wait>(&self, rt: &R, pass: &mut P, event: Event) -> Result<(), Code>;
+}
+
+impl<N: Named<F, L>, F: Filter, L: Listener, T: Keeping, P: Handing> Peer<Pass<N, P>>
+    for Shared<N, F, L, T, P> {
+    fn does<R: Wait>(&self, rt: &R, pass: &mut Pass<N, P>, event: Event) -> Result<(), Code> {
+        self.event(rt, pass, event)?;
+        Ok(())
+    }
+}
+
 // The writer is alive, and the time of the peer goes on to moment 10: its listener is told.
-fn go_on<N: Named<F, L>, F: Filter, L: Listener, R: Wait>(
-    rt: &R,
-    shared: &Shared<N, F, L>,
-    mut pass: Pass<N>,
-) -> Result<Pass<N>, Code> {
-    shared.call(rt, &mut pass, Call::AssertLiveliness { writer: 1 })?;
-    shared.tick(rt, &mut pass, Moment::new(10))?;
+fn go_on<S: Peer<P>, P: Drop, R: Wait>(rt: &R, shared: &S, mut pass: P) -> Result<P, Code> {
+    let call = Call::AssertLiveliness { writer: 1 };
+    shared.does(rt, &mut pass, Event::Call(call))?;
+    shared.does(rt, &mut pass, Event::Tick(Moment::new(10)))?;
     Ok(pass)
 }
 
-// Calls another peer, which is flat, once that listener was told.
-fn answer<N: Named<F, L>, F: Filter, L: Listener, R: Wait>(
+// Calls another peer, once that listener was told.
+fn answer<S: Peer<P>, P: Drop, R: Wait>(
     rt: &R,
-    shared: &Flat<N, F, L>,
-    mut pass: FlatPass<N>,
+    shared: &S,
+    mut pass: P,
     signals: &Signals,
-) -> Result<FlatPass<N>, Code> {
+) -> Result<P, Code> {
     if comes(&signals.told) {
-        shared.call(rt, &mut pass, Call::CreateGuardCondition)?;
+        shared.does(rt, &mut pass, Event::Call(Call::CreateGuardCondition))?;
         signals.answered.store(true, Ordering::SeqCst);
     }
     Ok(pass)
 }
 
-// What a worker with a broken link answers.
-fn break_off<S: Served<N, P>, N: Ledger + HasWord, P: Handing, R: Wait>(
+// One peer's event lasts until a call on the other is answered.
+fn meet<
+    Near: Peer<P> + Sync,
+    P: Drop + Send,
+    Far: Peer<Q> + Sync,
+    Q: Drop + Send,
+    R: Threads + Wait + Sync,
+>(
+    rt: &R,
+    near: &Near,
+    near_pass: P,
+    far: &Far,
+    far_pass: Q,
+    signals: &Signals,
+) -> Result<(P, Q), Code> {
+    let (near_pass, far_pass) = join(
+        rt,
+        move || go_on(rt, near, near_pass),
+        move || answer(rt, far, far_pass, signals),
+    );
+    Ok((near_pass?, far_pass?))
+}
+
+// Whether a worker with a broken link ends for it.
+fn breaks_off<S: Served<N, P>, N: Ledger + HasWord, P: Handing, R: Wait>(
     rt: &R,
     alloc: Global,
     shared: &S,
     pass: &mut Pass<N, P>,
-) -> Result<Result<u64, Code>, Code> {
+) -> Result<bool, Code> {
     let mut gate = PairGate::receiving(Arc::new(alloc, AtomicBool::new(false))?);
-    Ok(serve(rt, shared, pass, &mut Broken, &mut gate))
+    let broken = serve(rt, shared, pass, &mut Broken, &mut gate);
+    Ok(matches!(broken, Err(Code::Link)))
 }
 
-// One peer's event lasts until a call on the other, which is flat, is answered. Then their workers' links break, and they
-// are closed all the same.
-fn share<
-    Near: Named<F, L> + Send + Sync,
+// The link of a recording peer's worker breaks, and the peer is closed all the same.
+fn end_near<N: Named<F, L>, F: Filter, L: Listener, R: Wait>(
+    rt: &R,
+    alloc: Global,
+    near: Shared<N, F, L>,
+    mut pass: Pass<N>,
+) -> Result<bool, Code> {
+    let has_broken = breaks_off(rt, alloc, &near, &mut pass)?;
+    let passes = vec![in alloc; pass]?;
+    Ok(has_broken && near.close(passes).is_ok())
+}
+
+// So it is of a flat peer.
+fn end_far<N: Named<F, L>, F: Filter, L: Listener, R: Wait>(
+    rt: &R,
+    alloc: Global,
+    far: Flat<N, F, L>,
+    mut pass: FlatPass<N>,
+) -> Result<bool, Code> {
+    let has_broken = breaks_off(rt, alloc, &far, &mut pass)?;
+    let passes = vec![in alloc; pass]?;
+    Ok(has_broken && far.close(passes).is_ok())
+}
+
+// The other peer, which is flat, is shared beside one that is already, and ends before it.
+fn share_far<
     Far: Named<F, L> + Send + Sync,
     F: Filter + Send,
     L: Listener + Send,
-    R: Threads + Wait + Abort + Sync,
+    Near: Peer<P> + Sync,
+    P: Drop + Send,
+    R: Threads + Wait + Sync,
 >(
     rt: &R,
     alloc: Global,
-    near_seed: Seed<F, L>,
-    far_seed: Seed<F, L>,
+    near: &Near,
+    near_pass: P,
+    seed: Seed<F, L>,
     signals: &Signals,
-) -> Result<(), Fail>
-    requires near_name { (near_seed.name ≡ Near.name) × (near_seed.parts ≡ Near.parts)
-        × (near_seed.word ≡ Near.word) }
-    requires near_of { (near_seed.config ≡ Near.config) × (near_seed.peer ≡ Near.peer) }
-    requires near_set { (near_seed.core.filtered.filters ≡ Near.filters)
-        × (near_seed.core.listeners ≡ Near.slots) }
-    requires far_name { (far_seed.name ≡ Far.name) × (far_seed.parts ≡ Far.parts)
-        × (far_seed.word ≡ Far.word) }
-    requires far_of { (far_seed.config ≡ Far.config) × (far_seed.peer ≡ Far.peer) }
-    requires far_set { (far_seed.core.filtered.filters ≡ Far.filters)
-        × (far_seed.core.listeners ≡ Far.slots) }
+) -> Result<(P, bool), Code>
+    requires name { (seed.name ≡ Far.name) × (seed.parts ≡ Far.parts) × (seed.word ≡ Far.word) }
+    requires of { (seed.config ≡ Far.config) × (seed.peer ≡ Far.peer) }
+    requires set { (seed.core.filtered.filters ≡ Far.filters) × (seed.core.listeners ≡ Far.slots) }
 {
-    let (near, near_pass) = Shared::<Near, F, L>::open(near_seed);
-    let (far, far_pass) = Flat::<Far, F, L>::open_flat(far_seed);
-    let (at_event, calling) = (&near, &far);
-    let (near_pass, far_pass) = join(
-        rt,
-        move || go_on(rt, at_event, near_pass),
-        move || answer(rt, calling, far_pass, signals),
-    );
-    let (mut near_pass, mut far_pass) = (near_pass?, far_pass?);
-    assert!(rt; signals.seen.load(Ordering::SeqCst));
-    let broken = break_off(rt, alloc, &near, &mut near_pass)?;
-    assert!(rt; matches!(broken, Err(Code::Link)));
-    let broken = break_off(rt, alloc, &far, &mut far_pass)?;
-    assert!(rt; matches!(broken, Err(Code::Link)));
-    assert!(rt; near.close(vec![in alloc; near_pass]?).is_ok());
-    assert!(rt; far.close(vec![in alloc; far_pass]?).is_ok());
-    Ok(())
+    let (far, far_pass) = Flat::<Far, F, L>::open_flat(seed);
+    let (near_pass, far_pass) = meet(rt, near, near_pass, &far, far_pass, signals)?;
+    let has_ended = end_far(rt, alloc, far, far_pass)?;
+    Ok((near_pass, has_ended))
 }
 
-// Two peers of one configuration, one of which has the listener that waits.
-fn run<R: Threads + Wait + Abort + Sync>(rt: &R, alloc: Global) -> Result<(), Fail> {
-    let config = config(alloc)?;
-    let signals = Arc::new(
+// One peer is shared, and the other one beside it. Both end: by a broken link, and closed.
+fn share_near<
+    Near: Named<F, L> + Send + Sync,
+    F: Filter + Send,
+    L: Listener + Send,
+    R: Threads + Wait + Sync,
+>(
+    rt: &R,
+    alloc: Global,
+    seed: Seed<F, L>,
+    far_seed: Seed<F, L>,
+    signals: &Signals,
+) -> Result<bool, Code>
+    requires name { (seed.name ≡ Near.name) × (seed.parts ≡ Near.parts) × (seed.word ≡ Near.word) }
+    requires of { (seed.config ≡ Near.config) × (seed.peer ≡ Near.peer) }
+    requires set { (seed.core.filtered.filters ≡ Near.filters)
+        × (seed.core.listeners ≡ Near.slots) }
+{
+    let (near, pass) = Shared::<Near, F, L>::open(seed);
+    let (pass, has_ended) = share_far::<Brand, F, L, Shared<Near, F, L>, Pass<Near>, R>(
+        rt, alloc, &near, pass, far_seed, signals,
+    )?;
+    Ok(has_ended && end_near(rt, alloc, near, pass)?)
+}
+
+fn new_signals(alloc: Global) -> Result<Arc<Signals>, Code> {
+    Ok(Arc::new(
         alloc,
         Signals {
             told: AtomicBool::new(false),
             answered: AtomicBool::new(false),
             seen: AtomicBool::new(false),
         },
-    )?;
+    )?)
+}
+
+// A peer with the listener that waits.
+fn listened_seed(
+    alloc: Global,
+    config: &Config,
+    signals: &Arc<Signals>,
+) -> Result<Seed<Prefix, Waiting>, Code> {
     let waiting = Waiting {
-        signals: Arc::try_clone(&signals)?,
+        signals: Arc::try_clone(signals)?,
     };
-    let mut near_seed: Seed<Prefix, Waiting> = Seed::new(alloc, &config, 1)?;
-    let far_seed: Seed<Prefix, Waiting> = Seed::new(alloc, &config, 1)?;
-    let entity = Entity::Writer(1);
-    if near_seed
-        .set_listener(entity, StatusMask::ANY, Some(waiting))
-        .is_err()
-    {
-        return Err("no listener".into());
+    let mut seed: Seed<Prefix, Waiting> = Seed::new(alloc, config, 1)?;
+    match seed.set_listener(Entity::Writer(1), StatusMask::ANY, Some(waiting)) {
+        Ok(_) => Ok(seed),
+        Err((code, _)) => Err(code),
     }
-    share::<Brand, Brand, Prefix, Waiting, R>(rt, alloc, near_seed, far_seed, &signals)
+}
+
+// Two peers of one configuration, one of which has the listener that waits.
+fn run<R: Threads + Wait + Sync>(
+    rt: &R,
+    alloc: Global,
+    signals: &Arc<Signals>,
+) -> Result<bool, Code> {
+    let config = config(alloc)?;
+    let near_seed = listened_seed(alloc, &config, signals)?;
+    let far_seed: Seed<Prefix, Waiting> = Seed::new(alloc, &config, 1)?;
+    share_near::<Brand, Prefix, Waiting, R>(rt, alloc, near_seed, far_seed, signals)
 }
 
 #[test]
 fn a_peer_answers_while_another_is_at_an_event(rt: HostRuntime) -> Result<(), Fail> {
     let alloc = rt.alloc();
-    run(&rt, alloc)
+    let signals = new_signals(alloc)?;
+    assert!(rt; run(&rt, alloc, &signals)?);
+    assert!(rt; signals.seen.load(Ordering::SeqCst));
+    Ok(())
 }

@@ -3,7 +3,7 @@
 use crate::tests::meeting::{Holding, Showing};
 use crate::tests::memory_link::{Faults, MemoryLink, Way};
 use dds_base::Code;
-use dds_pair::{PairGate, run_pair};
+use dds_pair::{Gate, Link, PairGate, run_pair};
 use std::alloc::Global;
 use std::sync::atomic::{AtomicBool, Ordering};
 use std::sync::{Arc, Wait};
@@ -32,6 +32,51 @@ struct Printed {
     far_receives: u64,
 }
 
+// What tells both workers that all is done, and their gates.
+fn gates(alloc: Global) -> Result<(Arc<AtomicBool>, PairGate, PairGate), Code> {
+    let done = Arc::new(alloc, AtomicBool::new(false))?;
+    let near = PairGate::ticking(Arc::try_clone(&done)?);
+    let far = PairGate::receiving(Arc::try_clone(&done)?);
+    Ok((done, near, far))
+}
+
+// One end of a link, which comes by its own way and sends by the other.
+fn link<'a, R: Wait>(
+    rt: &'a R,
+    alloc: Global,
+    own: &'a Way,
+    other: &'a Way,
+    faults: Faults,
+) -> MemoryLink<'a, R> {
+    MemoryLink {
+        rt,
+        alloc,
+        own,
+        other,
+        faults,
+        came: Vec::new(alloc),
+    }
+}
+
+// Runs a pair over these ends, as these gates say, and gives its exit status, its output and its errors.
+fn run<
+    K: Link + Send,
+    NearGate: Gate + Send,
+    FarGate: Gate + Send,
+    R: Threads + Wait + Clock + Sync,
+>(
+    rt: &R,
+    alloc: Global,
+    done: &Arc<AtomicBool>,
+    near: (K, NearGate),
+    far: (K, FarGate),
+) -> (u8, Vec<u8>, Vec<u8>) {
+    let (mut output, mut errors) = (Vec::new(alloc), Vec::new(alloc));
+    let status = run_pair(rt, alloc, SAMPLES, done, near, far, &mut output);
+    let exit = status.tell(&mut errors);
+    (exit, output, errors)
+}
+
 // Runs a pair whose ends have these faults. Both workers have to run at the same time.
 fn exchange<R: Threads + Wait + Clock + Sync>(
     rt: &R,
@@ -39,44 +84,20 @@ fn exchange<R: Threads + Wait + Clock + Sync>(
     near_faults: Faults,
     far_faults: Faults,
 ) -> Result<Printed, Code> {
-    let (near, far) = (Way::new(alloc), Way::new(alloc));
-    let done = Arc::new(alloc, AtomicBool::new(false))?;
+    let (done, ticking, receiving) = gates(alloc)?;
     let asked = AtomicBool::new(false);
-    let near_gate = Holding {
+    let holding = Holding {
         asked: &asked,
-        gate: PairGate::ticking(Arc::try_clone(&done)?),
+        gate: ticking,
     };
-    let far_gate = Showing {
+    let showing = Showing {
         asked: &asked,
-        gate: PairGate::receiving(Arc::try_clone(&done)?),
+        gate: receiving,
     };
-    let near_link = MemoryLink {
-        rt,
-        alloc,
-        own: &near,
-        other: &far,
-        faults: near_faults,
-        came: Vec::new(alloc),
-    };
-    let far_link = MemoryLink {
-        rt,
-        alloc,
-        own: &far,
-        other: &near,
-        faults: far_faults,
-        came: Vec::new(alloc),
-    };
-    let (mut output, mut errors) = (Vec::new(alloc), Vec::new(alloc));
-    let status = run_pair(
-        rt,
-        alloc,
-        SAMPLES,
-        &done,
-        (near_link, near_gate),
-        (far_link, far_gate),
-        &mut output,
-    );
-    let exit = status.tell(&mut errors);
+    let (near, far) = (Way::new(alloc), Way::new(alloc));
+    let near_link = link(rt, alloc, &near, &far, near_faults);
+    let far_link = link(rt, alloc, &far, &near, far_faults);
+    let (exit, output, errors) = run(rt, alloc, &done, (near_link, holding), (far_link, showing));
     Ok(Printed {
         exit,
         output,
