@@ -2,13 +2,11 @@
 
 ghost use Rattle.std.specs.Prelude.{◌==◌, ◌&&◌, nat_lt, length, slice_index_or};
 
-use dds_base::{
-    Code, Config, Entity, EntityId, GuidPrefix, HistoryQos, Key, PeerConfig, ReaderConfig,
-    Sequence, WriterConfig,
-};
+use dds_base::{Code, Config, Entity, EntityId, GuidPrefix, Key};
 use dds_conditions::Filter;
 use dds_core::Core;
 use dds_notices::{Listener, Notice, Recorder, Status, StatusMask};
+use dds_script::{Setup, SetupLine, reader_options, writer_options};
 use dds_shared::Seed;
 use std::alloc::Global;
 
@@ -32,19 +30,19 @@ impl Filter for BeginsWithOne {
 
 // One peer, with two writers that keep the last change of a key and a reader that keeps all, of one topic.
 fn config(alloc: Global) -> Result<Config, Code> {
-    let mut first = WriterConfig::new(EntityId::writer([0, 0, 1]), 0);
-    first.history = HistoryQos::KeepLast(1);
-    let mut second = WriterConfig::new(EntityId::writer([0, 0, 2]), 0);
-    second.history = HistoryQos::KeepLast(1);
-    let reader = ReaderConfig::new(EntityId::reader([0, 0, 1]), 0);
-    let peer = PeerConfig {
-        prefix: GuidPrefix([1; 12]),
-        writers: Sequence::from_vec(vec![in alloc; first, second]?),
-        readers: Sequence::from_vec(vec![in alloc; reader]?),
+    let (Some(last), Some(all)) = (writer_options(&["last=1"]), reader_options(&["all"])) else {
+        return Err(Code::BadParameter);
     };
-    Ok(Config {
-        peers: Sequence::from_vec(vec![in alloc; peer]?),
-    })
+    let mut setup = Setup::new(alloc);
+    for line in [
+        SetupLine::Peer(GuidPrefix([1; 12])),
+        SetupLine::Writer(EntityId::writer([0, 0, 1]), last),
+        SetupLine::Writer(EntityId::writer([0, 0, 2]), last),
+        SetupLine::Reader(EntityId::reader([0, 0, 1]), all),
+    ] {
+        setup.take(line)?;
+    }
+    Ok(setup.config()?)
 }
 
 // A listener of all statuses of the reader; one that keeps a notice is not taken.
