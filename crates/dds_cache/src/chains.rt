@@ -108,7 +108,9 @@ impl Chains {
         ensures { AreChainsOf [] self.new }
     {
         self.links.clear();
-        self.spans.truncate(0);
+        if !self.spans.is_empty() {
+            self.spans.truncate(0);
+        }
         self.latest = None;
         self.is_whole = true;
     }

@@ -31,7 +31,7 @@ use crate::entering::enter_access;
 use crate::kept::{Kept, is_kept_after};
 use crate::only::{find_only, masks_of_all, take_last};
 use crate::pick::{pick, picks_any};
-use crate::pushing::{push_out, push_out_of};
+use crate::pushing::{push_out, push_out_by_write};
 use crate::room::{count_arrival, is_room};
 use crate::summary::Summary;
 use crate::sweeping::{let_go, next_sweep, sweep};
@@ -253,6 +253,7 @@ impl ReaderCache {
             return;
         };
         let newest = self.instances.happened();
+        let is_alone = self.samples.is_empty();
         add_write(
             self.alloc,
             &known,
@@ -261,12 +262,13 @@ impl ReaderCache {
             &mut self.summary,
             arrival,
         );
-        push_out_of(
+        push_out_by_write(
             self.alloc,
             &self.qos,
             &known,
             &mut self.samples,
             &mut self.summary,
+            is_alone,
         );
         self.data_at = Some(newest);
         self.arrivals = count_arrival(self.arrivals);
