@@ -99,14 +99,13 @@ fn count_of(keys: &IndexMap<Key, KeyCount>, likely: usize, key: Key) -> KeyCount
     }
 }
 
-/// Where the key stands, which most likely is at this place, and what is counted of it, if anything is.
-fn find_count(keys: &IndexMap<Key, KeyCount>, likely: usize, key: Key) -> Option<(usize, KeyCount)>
+/// Where the key stands, and what is counted of it, if anything is, by its hash.
+// It is seldom asked, and needs more registers than a look at one place.
+#[inline(never)]
+fn find_count(keys: &IndexMap<Key, KeyCount>, key: Key) -> Option<(usize, KeyCount)>
     ensures { MatchOption result (count_in keys.now.entries key ≡ record { turns = 0; kept = 0 })
         (λ found. IsCountedAt keys.now.entries key found.0 found.1) }
 {
-    if let Some(count) = count_at(keys, likely, key) {
-        return Some((likely, count));
-    }
     let (place, _, count) = keys.get_full(&key)?;
     Some((place, *count))
 }
@@ -315,8 +314,25 @@ impl Kept {
         first_kept(&self.entries, self.policy, &self.keys)
     }
 
-    /// Counts one change of its key fewer, where an entry goes that was not dropped. The key stands where it is on where none
-    /// of it is kept, so that the other keys stay at their places too.
+    /// Counts one change fewer of a key that stands at this place, of which this is counted, where an entry of it goes that was
+    /// not dropped. The key stands there on where none of it is kept, so that the other keys stay at their places too.
+    #[inline(always)]
+    fn uncount_at(&mut self, depth: u32, entry: &Entry, place: usize, count: KeyCount)
+        requires { IsCountedAt self.old.keys.entries entry.now.change.key place count }
+        ensures policy { self.new.policy ≡ self.old.policy }
+        ensures entries { self.new.entries ≡ self.old.entries }
+        ensures counted { is_counted_by (KeepLast depth) self.old.keys.entries entry.now ≡ true
+            → IsUncounted entry.now.change.key (state self.old) (state self.new) }
+        ensures dropped { is_counted_by (KeepLast depth) self.old.keys.entries entry.now ≡ false
+            → state self.new ≡ state self.old }
+    {
+        if 0 < left(depth, count, entry) {
+            self.live = self.live.saturating_sub(1);
+            recount(&mut self.keys, place, one_fewer(count));
+        }
+    }
+
+    /// Counts one change of its key fewer, where an entry goes that was not dropped.
     fn uncount(&mut self, depth: u32, entry: &Entry)
         ensures policy { self.new.policy ≡ self.old.policy }
         ensures entries { self.new.entries ≡ self.old.entries }
@@ -326,12 +342,11 @@ impl Kept {
         ensures dropped { is_counted_by (KeepLast depth) self.old.keys.entries entry.now ≡ false
             → state self.new ≡ state self.old }
     {
-        let Some((place, count)) = find_count(&self.keys, entry.place, entry.change.key) else {
-            return;
-        };
-        if 0 < left(depth, count, entry) {
-            self.live = self.live.saturating_sub(1);
-            recount(&mut self.keys, place, one_fewer(count));
+        let key = entry.change.key;
+        if let Some(count) = count_at(&self.keys, entry.place, key) {
+            self.uncount_at(depth, entry, entry.place, count);
+        } else if let Some((place, count)) = find_count(&self.keys, key) {
+            self.uncount_at(depth, entry, place, count);
         }
     }
 
