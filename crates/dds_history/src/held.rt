@@ -121,8 +121,9 @@ fn recount(keys: &mut IndexMap<Key, KeyCount>, place: usize, count: KeyCount)
     }
 }
 
-/// Enters the key, which most likely stands at this place or at the next, as keys are often gone over in turn, and gives its
-/// place and what was counted of it. What is entered of it is right once it is counted anew.
+/// Enters the key, which most likely stands at the place behind this one, as keys are often gone over in turn, or at this one,
+/// behind which no place is where there is one key alone, and gives its place and what was counted of it. What is entered of it
+/// is right once it is counted anew.
 fn enter(
     keys: &mut IndexMap<Key, KeyCount>,
     likely: usize,
@@ -134,12 +135,12 @@ fn enter(
         → count_in keys.new.entries k ≡ count_in keys.old.entries k) }
     ensures err { OnErr result (keys.new.entries ≡ keys.old.entries) }
 {
-    if let Some(count) = count_at(keys, likely, key) {
-        return Ok((likely, count));
-    }
     let following = likely.wrapping_add(1);
     if let Some(count) = count_at(keys, following, key) {
         return Ok((following, count));
+    }
+    if let Some(count) = count_at(keys, likely, key) {
+        return Ok((likely, count));
     }
     let (place, before) = keys.insert_full(key, KeyCount { turns: 0, kept: 0 })?;
     Ok((place, before.unwrap_or(KeyCount { turns: 0, kept: 0 })))
