@@ -108,9 +108,7 @@ impl Chains {
         ensures { AreChainsOf [] self.new }
     {
         self.links.clear();
-        if !self.spans.is_empty() {
-            self.spans.truncate(0);
-        }
+        self.spans.truncate(0);
         self.latest = None;
         self.is_whole = true;
     }
@@ -230,8 +228,7 @@ impl Chains {
 
     /// Whether no instance has samples.
     fn has_none(&self) -> bool
-        ensures spans { result ≡ true → (i : Key) → span_of self.now i ≡ None }
-        ensures latest { result ≡ true → self.now.latest ≡ None }
+        ensures { result ≡ true → (i : Key) → span_of self.now i ≡ None }
     {
         self.latest.is_none() && self.spans.is_empty()
     }
@@ -243,12 +240,8 @@ impl Chains {
     {
         if self.has_none() {
             let span = Span::of_one(place);
-            self.latest = Some(Latest {
-                key,
-                span,
-                at: usize::MAX,
-            });
-            return true;
+            let at = usize::MAX;
+            return self.turn_to(Latest { key, span, at });
         }
         self.end_at(key, place)
     }

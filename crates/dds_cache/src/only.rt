@@ -108,11 +108,9 @@ pub fn take_last(
     ensures capacity { vec_capacity samples.new ≡ vec_capacity samples.old }
     ensures counted { IsSummary samples.new.items summary.new }
 {
+    let value = samples[0].take_out(alloc);
     instances.took(slice::from_ref(&sample)).unwrap();
-    let last = samples.pop();
+    samples.clear();
     summary.renew(samples);
-    match last {
-        Some(Kept { value, .. }) => value,
-        None => Octets::from_vec(Vec::new(alloc)),
-    }
+    value
 }
