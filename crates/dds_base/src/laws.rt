@@ -1,32 +1,23 @@
 //! What holds of the definitions and the constants: functions that do nothing, and whose clauses are the laws.
 //!
-//! DDS 1.4, 2.2.2.5 (masks, handles), 2.2.3 (OWNERSHIP, policies that are requested and offered); RTPS 2.5, 9.3 (entity
-//! kinds), clause 10 (SerializedPayload).
+//! DDS 1.4, 2.2.2.5 (masks, handles), 2.2.3 (OWNERSHIP); RTPS 2.5, 9.3 (entity kinds), clause 10
+//! (SerializedPayload).
 
-ghost use Rattle.std.specs.Prelude.{◌≡◌, ◌≢◌, ◌↔◌, ◌≤◌, ◌<◌, ◌+◌, ◌-◌, ◌*◌, ◌^◌, ◌∷◌, ◌&&◌, ◌||◌, ℕ, List, [], IsTrue, IsSome, Some, None, filter, length, map, nat_lt, not, replicate, true, false};
-ghost use Rattle.dds_base.specs.Access.{has_bit, sample_state_bit, view_state_bit, instance_state_bit, meets, handle_of, instance_of, lives_begun, not_read};
-ghost use Rattle.dds_base.specs.Checked.{are_incompatible, differ, is_longer, unknown_prefix};
+ghost use Rattle.std.specs.Prelude.{◌≡◌, ◌≢◌, ◌↔◌, ◌≤◌, ◌<◌, ◌+◌, ◌-◌, ◌^◌, ◌∷◌, ◌&&◌, ◌||◌, ℕ, List, [], IsTrue, IsSome, Some, None, length, nat_lt, not, replicate, true, false};
+ghost use Rattle.dds_base.specs.Access.{sample_state_bit, view_state_bit, instance_state_bit, meets, handle_of, instance_of, lives_begun, not_read};
+ghost use Rattle.dds_base.specs.Checked.{unknown_prefix};
 ghost use Rattle.dds_base.specs.DatumText.{ReadsDatum, ReadsKey, IsDatum, spelling_of_datum, spelling_of_key};
 ghost use Rattle.dds_base.specs.Happening.{arrivals};
 ghost use Rattle.dds_base.specs.Instance.{disposed_generations, instance_state_of, introduces, is_known, known_instances, no_writers_generations};
 ghost use Rattle.dds_base.specs.Life.{ends_life, is_life_over, last_marker};
-ghost use Rattle.dds_base.specs.Offered.{offered, requested};
-ghost use Rattle.dds_base.specs.Offers.{compared, ids_of, is_empty, offers_deadline, offers_destination_order, offers_durability, offers_latency_budget, offers_liveliness, offers_ownership, offers_presentation, offers_reliability, unfit_policies};
+ghost use Rattle.dds_base.specs.Ownership.{IsMatched, IsOwner, HaveOwnGuids, owner_of, outranks_all, registered_writers};
 ghost use Rattle.dds_base.specs.Presence.{has_room, is_accepted, is_present, is_within, present_writes};
-ghost use Rattle.dds_base.specs.Policies.{lasting, units_of};
-ghost use Rattle.dds_base.specs.declared.config.ReaderConfig.{ReaderConfig as ReaderConfigOf};
-ghost use Rattle.dds_base.specs.declared.config.WriterConfig.{WriterConfig};
-ghost use Rattle.dds_base.specs.Liveliness.{alive_count, not_alive_count};
-ghost use Rattle.dds_base.specs.Ownership.{AreOfMatched, IsMatched, IsOwner, HaveOwnGuids, joined_in, owner_of, outranks_all, precedence_of, registered_writers, writer_of, writers_of};
-ghost use Rattle.dds_base.specs.StatusFlags.{turned_at};
 ghost use Rattle.dds_base.specs.declared.datum.Datum.{Datum};
 ghost use Rattle.dds_base.specs.declared.happening.Arrival.{Arrival};
 ghost use Rattle.dds_base.specs.declared.happening.Happening.{Happening};
-ghost use Rattle.dds_base.specs.declared.happening.Happening.TheVariants.{Came, Joined};
+ghost use Rattle.dds_base.specs.declared.happening.Happening.TheVariants.{Came};
 ghost use Rattle.dds_base.specs.declared.happening.SamplePosition.{SamplePosition};
 ghost use Rattle.dds_base.specs.declared.key.Key.{Key};
-ghost use Rattle.dds_base.specs.declared.policies.Policies.{Policies};
-ghost use Rattle.dds_base.specs.declared.qos.MatchedWriter.{MatchedWriter};
 ghost use Rattle.dds_base.specs.declared.qos.ReaderQos.{ReaderQos};
 ghost use Rattle.dds_base.specs.declared.sample.InstanceState.TheVariants.{Alive, NotAliveDisposed, NotAliveNoWriters};
 ghost use Rattle.dds_base.specs.declared.sample.SampleState.TheVariants.{Read as HasBeenRead, NotRead};
@@ -37,7 +28,6 @@ use crate::datum::MAX_VALUE;
 use crate::guid::{EntityId, GuidPrefix};
 use crate::handle::Handle;
 use crate::mask::{InstanceStateMask, Masks, SampleStateMask, ViewStateMask};
-use crate::unfit::UnfitPolicies;
 
 /// Where somebody is registered for an instance there is an owner, there is only one, and the definition that computes
 /// finds it. Acceptance under EXCLUSIVE asks for just that owner, among those registered before and the writer itself.
@@ -49,45 +39,11 @@ pub fn owner_is_found()
     ensures only { (q : ReaderQos) (h : List Happening) (ws : List ℕ) (v w : ℕ)
         → IsOwner q h ws v → IsOwner q h ws w → v ≡ w }
     // Where somebody is registered for the instance an owner is found.
-    ensures exists { (q : ReaderQos) (i : Key) (h : List Happening) → HaveOwnGuids q h
+    ensures exists { (q : ReaderQos) (i : Key) (h : List Happening) → HaveOwnGuids q
         → registered_writers q i h ≢ [] → IsSome (owner_of q h (registered_writers q i h)) }
     // A writer outranks all others exactly if it owns among them and itself.
     ensures among { (q : ReaderQos) (h : List Happening) (ws : List ℕ) (w : ℕ)
         → IsTrue (outranks_all q h ws w) ↔ IsOwner q h (w ∷ ws) w }
-{}
-
-/// A writer that joins has the next publication handle, and changes nothing that was. Until an entry names it, it is
-/// registered for nothing, neither alive nor not alive, and as strong as it was announced.
-///
-/// RTPS 2.5, 8.4.10 (matched_writer_add); DDS 1.4, 2.2.3 (OWNERSHIP_STRENGTH, LIVELINESS).
-pub fn a_newcomer_changes_nothing()
-    // Where nobody joined, the matched writers are those of the opening.
-    ensures opening { (q : ReaderQos) (h : List Happening) → joined_in h ≡ []
-        → writers_of q h ≡ q.writers }
-    // It has the next handle.
-    ensures next { (q : ReaderQos) (h : List Happening) (m : MatchedWriter)
-        → writer_of (writers_of q (Joined m ∷ h)) (length (writers_of q h) + 1) ≡ Some m }
-    // All others keep theirs.
-    ensures kept { (q : ReaderQos) (h : List Happening) (m : MatchedWriter) (w : ℕ) → IsMatched q h w
-        → writer_of (writers_of q (Joined m ∷ h)) w ≡ writer_of (writers_of q h) w }
-    // It is as strong as it was announced.
-    ensures strength { (q : ReaderQos) (h : List Happening) (m : MatchedWriter) → AreOfMatched q h
-        → precedence_of q (Joined m ∷ h) (length (writers_of q h) + 1)
-        ≡ Some (record { strength = m.strength; guid = m.guid }) }
-    // The same writers are registered for each instance.
-    ensures registered { (q : ReaderQos) (i : Key) (h : List Happening) (m : MatchedWriter)
-        → AreOfMatched q h → registered_writers q i (Joined m ∷ h) ≡ registered_writers q i h }
-    // Each instance is in the state that it was in.
-    ensures state { (q : ReaderQos) (i : Key) (h : List Happening) (m : MatchedWriter)
-        → AreOfMatched q h → instance_state_of q i (Joined m ∷ h) ≡ instance_state_of q i h }
-    // As many writers are alive.
-    ensures alive { (q : ReaderQos) (h : List Happening) (m : MatchedWriter) → AreOfMatched q h
-        → alive_count q (Joined m ∷ h) ≡ alive_count q h }
-    // As many died and are not alive.
-    ensures not_alive { (q : ReaderQos) (h : List Happening) (m : MatchedWriter) → AreOfMatched q h
-        → not_alive_count q (Joined m ∷ h) ≡ not_alive_count q h }
-    // LIVELINESS_CHANGED is not raised by it.
-    ensures turned { (h : List Happening) (m : MatchedWriter) → turned_at (Joined m ∷ h) ≡ turned_at h }
 {}
 
 /// A value of `MAX_VALUE` octets has a written form, a longer one has none.
@@ -178,62 +134,6 @@ pub fn a_life_is_as_long_as_its_policy()
         && is_within q.max_instances (length (known_instances q (Came a ∷ h))))) }
 {}
 
-/// The policies of which a writer offers less than a reader asks for are those of the table, by their bits and by their
-/// ids.
-pub fn unfit_policies_are_those_not_offered()
-    // There is none exactly where each is offered as it is asked for.
-    ensures none { (w r : Policies) → is_empty (unfit_policies w r)
-        ≡ (offers_durability w r && offers_presentation w r && offers_deadline w r
-        && offers_latency_budget w r && offers_ownership w r && offers_liveliness w r
-        && offers_reliability w r && offers_destination_order w r) }
-    // The bit of DURABILITY says of it that it is not offered, and so for each.
-    ensures durability { (w r : Policies) → has_bit (unfit_policies w r).0 UnfitPolicies.DURABILITY.0
-        ≡ not (offers_durability w r) }
-    // So does that of PRESENTATION.
-    ensures presentation { (w r : Policies)
-        → has_bit (unfit_policies w r).0 UnfitPolicies.PRESENTATION.0 ≡ not (offers_presentation w r) }
-    // So does that of DEADLINE.
-    ensures deadline { (w r : Policies) → has_bit (unfit_policies w r).0 UnfitPolicies.DEADLINE.0
-        ≡ not (offers_deadline w r) }
-    // So does that of LATENCY_BUDGET.
-    ensures latency_budget { (w r : Policies)
-        → has_bit (unfit_policies w r).0 UnfitPolicies.LATENCY_BUDGET.0
-        ≡ not (offers_latency_budget w r) }
-    // So does that of OWNERSHIP.
-    ensures ownership { (w r : Policies) → has_bit (unfit_policies w r).0 UnfitPolicies.OWNERSHIP.0
-        ≡ not (offers_ownership w r) }
-    // So does that of LIVELINESS.
-    ensures liveliness { (w r : Policies) → has_bit (unfit_policies w r).0 UnfitPolicies.LIVELINESS.0
-        ≡ not (offers_liveliness w r) }
-    // So does that of RELIABILITY.
-    ensures reliability { (w r : Policies)
-        → has_bit (unfit_policies w r).0 UnfitPolicies.RELIABILITY.0 ≡ not (offers_reliability w r) }
-    // So does that of DESTINATION_ORDER.
-    ensures destination_order { (w r : Policies)
-        → has_bit (unfit_policies w r).0 UnfitPolicies.DESTINATION_ORDER.0
-        ≡ not (offers_destination_order w r) }
-    // The ids are those of the policies that are not offered, ascending.
-    ensures ids { (w r : Policies) → ids_of (unfit_policies w r)
-        ≡ map (λ c. c.id) (filter (λ c. not c.is_offered) (compared w r)) }
-{}
-
-/// What a configured writer offers fits what a configured reader asks for, but for OWNERSHIP and for the lease of
-/// LIVELINESS.
-pub fn ends_fit_but_for_ownership_and_leases()
-    // A matched pair does not fit exactly where its ownership differs, or its lease or its values may be longer.
-    ensures pair { (w : WriterConfig) (r : ReaderConfigOf) → are_incompatible r w
-        ≡ (differ w.ownership r.ownership
-        || (is_longer w.lease r.lease || nat_lt r.max_value w.max_value)) }
-    // A lease below 2^31 - 1 seconds is offered and asked for as it stands.
-    ensures lease { (units : ℕ) → units < 0x7fffffff * 2 ^ 32
-        → units_of (lasting (Some units)) ≡ Some units }
-    // Where both leases are, the policies that are compared decide, and how long values may be.
-    ensures policies { (w : WriterConfig) (r : ReaderConfigOf) → units_of (lasting w.lease) ≡ w.lease
-        → units_of (lasting r.lease) ≡ r.lease → are_incompatible r w
-        ≡ (not (is_empty (unfit_policies (offered w) (requested r)))
-        || nat_lt r.max_value w.max_value) }
-{}
-
 /// HANDLE_NIL, which has the number 0: the handle of no instance and of no matched writer, since they count from 1.
 pub fn nil_is_no_handle() -> Handle
     // It has the number 0.
@@ -241,7 +141,7 @@ pub fn nil_is_no_handle() -> Handle
     // No instance has it.
     ensures instance { (q : ReaderQos) (h : List Happening) → instance_of q h result ≡ None }
     // No matched writer has it.
-    ensures writer { (q : ReaderQos) (h : List Happening) → IsMatched q h result → ⊥ }
+    ensures writer { (q : ReaderQos) → IsMatched q result → ⊥ }
 {
     Handle::NIL
 }

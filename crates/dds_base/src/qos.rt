@@ -33,7 +33,7 @@ pub enum HistoryQos {
 /// Whether a reader gets each change that its writer keeps, or may miss some.
 ///
 /// DDS 1.4, 2.2.3 (RELIABILITY).
-#[derive(Clone, Copy, Debug, PartialEq, Eq)]
+#[derive(Clone, Copy, Debug)]
 pub enum ReliabilityQos {
     /// What comes, in the order of its writer: it asks for nothing, no writer waits for it, and what it misses is
     /// counted as lost.
@@ -60,14 +60,14 @@ impl ReliabilityQos {
 pub struct MatchedWriter {
     /// Its name, which no other writer has.
     pub guid: Guid,
-    /// What it was configured with, or announced: its strength until a change with another one has come (DDS 1.4, 2.2.3,
+    /// What it was configured with: its strength until a change with another one has come (DDS 1.4, 2.2.3,
     /// OWNERSHIP_STRENGTH).
     pub strength: i32,
     /// The lease of LIVELINESS, in units of 2^-32 second, from 1 to 2^63 - 1; `None` never ends (DDS 1.4, 2.2.3).
     pub lease: Option<u64>,
 }
 
-/// A reader's policies, and the writers that it was opened with. `None` is no limit.
+/// A reader's policies and its matched writers. `None` is no limit.
 ///
 /// DDS 1.4, 2.2.3 (supported QoS).
 #[derive(Drop)]
@@ -84,7 +84,6 @@ pub struct ReaderQos {
     pub max_instances: Option<u32>,
     /// How many changes it takes in its life.
     pub max_arrivals: u64,
-    /// The writers that were matched when it was opened, in the order of their publication handles, which count from 1.
-    /// Those that join have the handles after them.
+    /// The matched writers, in the order of their publication handles, which count from 1.
     pub writers: Sequence<MatchedWriter>,
 }

@@ -1,6 +1,6 @@
 -- What is kept holds on where samples that are no longer present are marked as gone: those of an instance before the first
 -- of its writes that stays are all that a change pushed out.
-use Rattle.std.proofs.Common.{◌≡◌, ◌≢◌, ℕ, ◌≤◌, ◌<◌, List, [], ◌∷◌, length, map, filter, get_or, set, Bool, true, false, ◌&&◌, not, sym, ap, ◌∙◌, refl, subst, cond, arith, zero, suc, ⊎_elim, inl, inr, None}
+use Rattle.std.proofs.Common.{◌≡◌, ◌≢◌, ℕ, ◌+◌, ◌≤◌, ◌<◌, List, [], ◌∷◌, ◌++◌, length, map, filter, get_or, set, Bool, true, false, ◌&&◌, not, sym, ap, ◌∙◌, refl, subst, cond, arith, zero, suc, ⊎_elim, inl, inr, None}
 use Rattle.std.specs.Prelude.{nat_eq, nat_lt}
 use Rattle.std.specs.List.{All}
 use Rattle.std.proofs.lemmas.Bool.{and_from, and_parts, cases_Bool, eqb-true, eqb-false, ltb-true, ltb-false}
@@ -23,7 +23,7 @@ use Rattle.dds_instances.specs.declared.known.KnownInstance.{KnownInstance}
 use Rattle.dds_cache.specs.declared.kept.Kept.{Kept}
 use Rattle.dds_cache.specs.Chains.{AreOthers, IsFirst}
 use Rattle.dds_cache.specs.Finding.{Holds, HoldsBut, IsOfOrUpToDate, IsSmall}
-use Rattle.dds_cache.specs.Kept.{IsKept, IsOutAt, IsUpToDate, has_data, is_here, out_if, position_of, positions_in}
+use Rattle.dds_cache.specs.Kept.{Adds, IsKept, IsNewAt, IsOutAt, IsUpToDate, has_data, is_here, out_if, position_of, positions_in}
 use Rattle.dds_cache.specs.Pushing.{IsLetAt}
 use Rattle.dds_cache.proofs.ExactLaws.{behind, data-parts, order-set, present-write}
 use Rattle.dds_cache.proofs.KeptLaws.{kept-let, kept-stated}
@@ -82,6 +82,7 @@ holds-out q table h i ks new place value within out absent holds =
       each = All-set (IsKept q h) ks place (out_if true k) kept holds.each;
       present = λ j. holds.present j
           ∙ sym (positions-set q h j ks place k (out_if true k) within out.before_is refl);
+      matched = holds.matched;
       in_order = order-set ks place k (out_if true k) within out.before_is refl holds.in_order;
       others = All-set (IsOfOrUpToDate q h i) ks place (out_if true k)
           (λ other filled. absurd (let clash : false ≡ true = filled in cc)) holds.others;
@@ -168,6 +169,7 @@ holds-all q table h i ks holds own = record {
   instances = holds.instances;
   each = holds.each;
   present = holds.present;
+  matched = holds.matched;
   in_order = holds.in_order;
   up_to_date = λ j d within. ⊎_elim (λ mine. own j d within mine) (λ other. holds.others j d within other)
       (cases_Bool (same_key (get_or ks j d).sample.key i));
@@ -208,7 +210,7 @@ holds-stopped q table h known ks new place within is_known goes none holds =
         (λ earlier. absurd (let clash : true ≡ false =
         sym filled ∙ none j d (ltb-true j place earlier) inside mine in cc))
         (λ later. let le : place ≤ j = ltb-false j place later in
-        behind q h k (get_or ks j d) old.instances.follows.matched (old.each j d inside)
+        behind q h k (get_or ks j d) old.matched (old.each j d inside)
         (key-same (get_or ks j d).sample.key known.key mine ∙ sym (key-same k.sample.key known.key parts.0))
         (old.in_order place j d le inside)
         (and_from (is_present q h k.sample.key k.sample.position)
@@ -226,6 +228,22 @@ holds-keep_all q table h i ks all holds =
     (and_from (ends_with_write q k.sample.key (as_of k.sample.position h))
     (keeps q.history (later_writes q h k.sample.key k.sample.position)) parts.1
     (ap (λ (history : HistoryQos). keeps history (later_writes q h k.sample.key k.sample.position)) all)))
+
+-- where each is up to date, none is pushed out
+pub holds-fresh : (q : ReaderQos) (table : Table) (h : List Happening) (i : Key) (ks : List Kept)
+    → All (IsUpToDate q h) ks → HoldsBut q table ks h i → Holds q table ks h
+holds-fresh q table h i ks up holds = holds-all q table h i ks holds (λ j d within mine. up j d within)
+
+-- a sample that was added to none is up to date
+pub alone-fresh : (q : ReaderQos) (e : Happening) (h : List Happening) (old new : List Kept)
+    → old ≡ [] → Adds q e h old new → All (IsUpToDate q (e ∷ h)) new
+alone-fresh q e h old new none adds = λ j d within filled.
+    let are : new ≡ adds.added = adds.are ∙ ap (λ (ks : List Kept). ks ++ adds.added) none in
+    let fresh : All (IsNewAt q (e ∷ h) (length h + 1)) new =
+    subst (λ (ks : List Kept). All (IsNewAt q (e ∷ h) (length h + 1)) ks) (sym are) adds.new_are in
+    let k : Kept = get_or new j d in
+    let at = fresh j d within in
+    subst (λ (n : ℕ). is_present q (e ∷ h) k.sample.key n ≡ true) (sym at.0) at.1
 
 -- of an instance that is not known none is kept
 pub holds-unknown : (q : ReaderQos) (table : Table) (h : List Happening) (i : Key) (ks : List Kept)

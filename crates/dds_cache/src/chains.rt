@@ -108,7 +108,9 @@ impl Chains {
         ensures { AreChainsOf [] self.new }
     {
         self.links.clear();
-        self.spans.truncate(0);
+        if !self.spans.is_empty() {
+            self.spans.truncate(0);
+        }
         self.latest = None;
         self.is_whole = true;
     }
@@ -228,7 +230,8 @@ impl Chains {
 
     /// Whether no instance has samples.
     fn has_none(&self) -> bool
-        ensures { result ≡ true → (i : Key) → span_of self.now i ≡ None }
+        ensures spans { result ≡ true → (i : Key) → span_of self.now i ≡ None }
+        ensures latest { result ≡ true → self.now.latest ≡ None }
     {
         self.latest.is_none() && self.spans.is_empty()
     }
@@ -240,8 +243,12 @@ impl Chains {
     {
         if self.has_none() {
             let span = Span::of_one(place);
-            let at = usize::MAX;
-            return self.turn_to(Latest { key, span, at });
+            self.latest = Some(Latest {
+                key,
+                span,
+                at: usize::MAX,
+            });
+            return true;
         }
         self.end_at(key, place)
     }

@@ -108,9 +108,11 @@ pub fn take_last(
     ensures capacity { vec_capacity samples.new ≡ vec_capacity samples.old }
     ensures counted { IsSummary samples.new.items summary.new }
 {
-    let value = samples[0].take_out(alloc);
     instances.took(slice::from_ref(&sample)).unwrap();
-    samples.clear();
+    let last = samples.pop();
     summary.renew(samples);
-    value
+    match last {
+        Some(Kept { value, .. }) => value,
+        None => Octets::from_vec(Vec::new(alloc)),
+    }
 }

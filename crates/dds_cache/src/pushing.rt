@@ -9,7 +9,7 @@ ghost use Rattle.dds_base.specs.Presence.{is_present};
 ghost use Rattle.dds_instances.specs.Known.{IsKnown};
 ghost use Rattle.dds_instances.specs.Table.{Table};
 ghost use Rattle.dds_cache.specs.Finding.{Holds, HoldsBut, IsSmall};
-ghost use Rattle.dds_cache.specs.Kept.{IsKept, IsSummary, has_data};
+ghost use Rattle.dds_cache.specs.Kept.{IsKept, IsSummary, IsUpToDate, has_data};
 ghost use Rattle.dds_cache.specs.Pushing.{IsLetAt};
 
 use crate::kept::Kept;
@@ -92,12 +92,39 @@ fn let_first_go(
 pub fn push_out_of(
     alloc: Global,
     qos: &ReaderQos,
-    known: &KnownInstance,
+    known: KnownInstance,
     samples: &mut Vec<Kept>,
     summary: &mut Summary,
 )
     requires counted { IsSummary samples.old.items summary.old }
+    ensures holds { (table : Table) (h : List Happening) → IsKnown qos.now h known
+        → HoldsBut qos.now table samples.old.items h known.key
+        → Holds qos.now table samples.new.items h }
+    ensures small { All IsSmall samples.old.items → All IsSmall samples.new.items }
+    ensures counted { IsSummary samples.new.items summary.new }
+    ensures len { vec_len samples.new ≡ vec_len samples.old }
+    ensures capacity { vec_capacity samples.new ≡ vec_capacity samples.old }
+{
+    let before = summary.outs;
+    let_first_go(alloc, qos, &known, samples, summary);
+    if before < summary.outs {
+        summary.chains.advance(samples, known.key);
+    }
+}
+
+/// The same of one more write, where it is told whether its sample stands alone: then it pushes out none.
+#[inline(always)]
+pub fn push_out_by_write(
+    alloc: Global,
+    qos: &ReaderQos,
+    known: &KnownInstance,
+    samples: &mut Vec<Kept>,
+    summary: &mut Summary,
+    is_alone: bool,
+)
+    requires counted { IsSummary samples.old.items summary.old }
     ensures holds { (table : Table) (h : List Happening) → IsKnown qos.now h known.now
+        → (is_alone ≡ true → All (IsUpToDate qos.now h) samples.old.items)
         → HoldsBut qos.now table samples.old.items h known.now.key
         → Holds qos.now table samples.new.items h }
     ensures small { All IsSmall samples.old.items → All IsSmall samples.new.items }
@@ -105,14 +132,13 @@ pub fn push_out_of(
     ensures len { vec_len samples.new ≡ vec_len samples.old }
     ensures capacity { vec_capacity samples.new ≡ vec_capacity samples.old }
 {
+    if is_alone {
+        return;
+    }
     let HistoryQos::KeepLast(_) = qos.history else {
         return;
     };
-    let before = summary.outs;
-    let_first_go(alloc, qos, known, samples, summary);
-    if before < summary.outs {
-        summary.chains.advance(samples, known.key);
-    }
+    push_out_of(alloc, qos, *known, samples, summary);
 }
 
 /// Lets the samples go that a change of an instance pushed out of its history, where that is of the last ones alone. The
@@ -138,6 +164,6 @@ pub fn push_out(
     }
     match instances.known(key) {
         None => {}
-        Some(known) => push_out_of(alloc, qos, &known, samples, summary),
+        Some(known) => push_out_of(alloc, qos, known, samples, summary),
     }
 }

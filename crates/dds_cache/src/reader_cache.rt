@@ -2,9 +2,9 @@
 //!
 //! DDS 1.4, 2.2.2.5 (read, take, SampleInfo); RTPS 2.5, 8.2 (HistoryCache of a reader).
 
-ghost use Rattle.std.specs.Prelude.{◌≡◌, ◌≢◌, ◌==◌, ℕ, ◌+◌, ◌-◌, ◌≤◌, ◌<◌, ◌^◌, ◌∷◌, [], if◌then◌else◌, nat_le, nat_lt, List, None, Some, IfSome, true, false, Ok, length, IsOk, OnOk, OnErr, IfOk, IfErr};
+ghost use Rattle.std.specs.Prelude.{◌≡◌, ◌≢◌, ◌==◌, ℕ, ◌+◌, ◌-◌, ◌≤◌, ◌<◌, ◌^◌, ◌∷◌, [], if◌then◌else◌, nat_le, nat_lt, List, None, Some, IfSome, true, false, Ok, length, IsOk, OnOk, IfOk, IfErr};
 ghost use Rattle.dds_base.specs.declared.happening.Happening.{Happening};
-ghost use Rattle.dds_base.specs.declared.happening.Happening.TheVariants.{Came, Passed, Heard, Died, Left, Joined};
+ghost use Rattle.dds_base.specs.declared.happening.Happening.TheVariants.{Came, Passed, Heard, Died, Left};
 ghost use Rattle.dds_base.specs.declared.code.Code.TheVariants.{Memory, NoData};
 ghost use Rattle.dds_base.specs.Access.{instance_of, handle_of, has_match};
 ghost use Rattle.dds_base.specs.Ownership.{IsMatched};
@@ -31,14 +31,14 @@ use crate::entering::enter_access;
 use crate::kept::{Kept, is_kept_after};
 use crate::only::{find_only, masks_of_all, take_last};
 use crate::pick::{pick, picks_any};
-use crate::pushing::{push_out, push_out_of};
+use crate::pushing::{push_out, push_out_by_write};
 use crate::room::{count_arrival, is_room};
 use crate::summary::Summary;
 use crate::sweeping::{let_go, next_sweep, sweep};
 use crate::test::Test;
 use dds_base::{
-    Arrival, Code, Handle, Key, Masks, MatchedWriter, Moment, OwnershipQos, ReaderQos, Sample,
-    SamplePosition, Selection, Sequence, Sn, Spare, reserve_few,
+    Arrival, Code, Handle, Key, Masks, Moment, OwnershipQos, ReaderQos, Sample, SamplePosition,
+    Selection, Sequence, Sn, Spare, reserve_few,
 };
 use dds_info::Ranks;
 use dds_instances::Instances;
@@ -195,7 +195,6 @@ impl ReaderCache {
     fn bury(&mut self, writer: Handle, moment: Moment)
         requires counted { 1 ≤ deaths_of self.old }
         ensures stands { (h : List Happening) → StandsFor self.old h
-            → IsMatched (qos_of self.old) h writer
             → StandsFor self.new (Died writer moment ∷ h) }
         ensures qos { qos_of self.new ≡ qos_of self.old }
         ensures room { room_of self.old ≤ room_of self.new + 1 }
@@ -239,8 +238,8 @@ impl ReaderCache {
     /// ownership is SHARED, is looked up once, and nothing is asked of it but which samples it pushes out.
     fn take_up(&mut self, arrival: Arrival)
         requires room { 1 ≤ room_of self.old }
+        requires matched { IsMatched (qos_of self.old) arrival.writer }
         ensures stands { (h : List Happening) → StandsFor self.old h
-            → IsMatched (qos_of self.old) h arrival.writer
             → StandsFor self.new (Came arrival ∷ h) }
         ensures qos { qos_of self.new ≡ qos_of self.old }
         ensures room { room_of self.new + 1 ≡ room_of self.old }
@@ -254,6 +253,7 @@ impl ReaderCache {
             return;
         };
         let newest = self.instances.happened();
+        let is_alone = self.samples.is_empty();
         add_write(
             self.alloc,
             &known,
@@ -262,12 +262,13 @@ impl ReaderCache {
             &mut self.summary,
             arrival,
         );
-        push_out_of(
+        push_out_by_write(
             self.alloc,
             &self.qos,
             &known,
             &mut self.samples,
             &mut self.summary,
+            is_alone,
         );
         self.data_at = Some(newest);
         self.arrivals = count_arrival(self.arrivals);
@@ -277,8 +278,8 @@ impl ReaderCache {
     /// Takes up any change of a matched writer, in the room that there is.
     fn take_up_any(&mut self, arrival: Arrival)
         requires room { 1 ≤ room_of self.old }
+        requires matched { IsMatched (qos_of self.old) arrival.writer }
         ensures stands { (h : List Happening) → StandsFor self.old h
-            → IsMatched (qos_of self.old) h arrival.writer
             → StandsFor self.new (Came arrival ∷ h) }
         ensures qos { qos_of self.new ≡ qos_of self.old }
         ensures room { room_of self.new + 1 ≡ room_of self.old }
@@ -346,13 +347,13 @@ impl ReaderCache {
     fn skip(&mut self) -> Result<(), Code>
         ensures passed { OnOk result
             ((h : List Happening) (w first last : ℕ) → StandsFor self.old h
-            → IsMatched (qos_of self.old) h w → StandsFor self.new (Passed w first last ∷ h)) }
+            → StandsFor self.new (Passed w first last ∷ h)) }
         ensures heard { OnOk result
             ((h : List Happening) (w moment : ℕ) → StandsFor self.old h
-            → IsMatched (qos_of self.old) h w → StandsFor self.new (Heard w moment ∷ h)) }
+            → StandsFor self.new (Heard w moment ∷ h)) }
         ensures left { OnOk result
             ((h : List Happening) (w moment : ℕ) → StandsFor self.old h
-            → IsMatched (qos_of self.old) h w → StandsFor self.new (Left w moment ∷ h)) }
+            → StandsFor self.new (Left w moment ∷ h)) }
         ensures entry { TakesEntry room_of self.old self.new result }
         ensures counted { 1 ≤ deaths_of self.old → IsOk result }
         ensures deaths { deaths_of self.old ≤ deaths_of self.new + 1 }
@@ -371,9 +372,10 @@ impl ReaderCache {
     ///
     /// RTPS 2.5, 8.2 (HistoryCache, add_change).
     pub fn come(&mut self, arrival: Arrival) -> Result<(), Code>
-        // The change came, of a matched writer, and nothing else happened.
+        // The writer is a matched one.
+        requires matched { IsMatched (qos_of self.old) arrival.writer }
+        // The change came, and nothing else happened.
         ensures ok { OnOk result ((h : List Happening) → StandsFor self.old h
-            → IsMatched (qos_of self.old) h arrival.writer
             → StandsFor self.new (Came arrival ∷ h)) }
         // It is an entry as each is: the policies stay, where there is room it is taken up, it takes the room of one at
         // most, and it is refused for want of memory alone, and then changes nothing.
@@ -394,10 +396,11 @@ impl ReaderCache {
     ///
     /// DDS 1.4, 2.2.4.1 (SAMPLE_LOST); RTPS 2.5, 8.4.12 (irrelevant_change_set, lost_changes_update).
     pub fn pass(&mut self, writer: Handle, first: Sn, last: Sn) -> Result<(), Code>
-        // Those of a matched writer were passed over, and nothing else happened.
+        // The writer is a matched one.
+        requires matched { IsMatched (qos_of self.old) writer }
+        // They were passed over, and nothing else happened.
         ensures ok { OnOk result
             ((h : List Happening) → StandsFor self.old h
-            → IsMatched (qos_of self.old) h writer
             → StandsFor self.new (Passed writer first last ∷ h)) }
         // It is an entry as each is: the policies stay, where there is room it is taken up, it takes the room of one at
         // most, and it is refused for want of memory alone, and then changes nothing.
@@ -416,10 +419,11 @@ impl ReaderCache {
     ///
     /// RTPS 2.5, 8.7.2.2 (LIVELINESS).
     pub fn hear(&mut self, writer: Handle, moment: Moment) -> Result<(), Code>
-        // A matched writer was heard, and nothing else happened.
+        // The writer is a matched one.
+        requires matched { IsMatched (qos_of self.old) writer }
+        // It was heard, and nothing else happened.
         ensures ok { OnOk result
             ((h : List Happening) → StandsFor self.old h
-            → IsMatched (qos_of self.old) h writer
             → StandsFor self.new (Heard writer moment ∷ h)) }
         // It is an entry as each is: the policies stay, where there is room it is taken up, it takes the room of one at
         // most, and it is refused for want of memory alone, and then changes nothing.
@@ -439,10 +443,11 @@ impl ReaderCache {
     ///
     /// DDS 1.4, 2.2.3 (LIVELINESS).
     pub fn died(&mut self, writer: Handle, moment: Moment) -> Result<(), Code>
-        // A matched writer died, and nothing else happened.
+        // The writer is a matched one.
+        requires matched { IsMatched (qos_of self.old) writer }
+        // The writer died, and nothing else happened.
         ensures ok { OnOk result
             ((h : List Happening) → StandsFor self.old h
-            → IsMatched (qos_of self.old) h writer
             → StandsFor self.new (Died writer moment ∷ h)) }
         // It is an entry as each is, by the deaths that can be counted: the policies stay, where one can be counted it
         // is taken up, it is counted once at most, and where it is refused nothing changes.
@@ -466,10 +471,11 @@ impl ReaderCache {
     ///
     /// RTPS 2.5, 8.4.10 (matched_writer_remove).
     pub fn leave(&mut self, writer: Handle, moment: Moment) -> Result<(), Code>
-        // A matched writer left, and nothing else happened.
+        // The writer is a matched one.
+        requires matched { IsMatched (qos_of self.old) writer }
+        // The writer left, and nothing else happened.
         ensures ok { OnOk result
             ((h : List Happening) → StandsFor self.old h
-            → IsMatched (qos_of self.old) h writer
             → StandsFor self.new (Left writer moment ∷ h)) }
         // It is an entry as each is, by the deaths that can be counted: the policies stay, where one can be counted it
         // is taken up, it is counted once at most, and where it is refused nothing changes.
@@ -479,33 +485,6 @@ impl ReaderCache {
     {
         let _ = (moment, writer);
         self.skip()?;
-        Ok(())
-    }
-
-    /// Takes up that a writer was matched that was not known: it has the next publication handle. It touches no instance and no
-    /// sample, and leaves no room: who needs some reserves it anew. All memory is asked for before anything changes.
-    ///
-    /// # Errors
-    ///
-    /// `Memory` where a growth was refused, or after 2^64 - 1 entries; the cache is then as it was.
-    ///
-    /// RTPS 2.5, 8.4.10 (matched_writer_add).
-    pub fn join(&mut self, writer: MatchedWriter) -> Result<(), Code>
-        // It joined, and nothing else happened.
-        ensures ok { OnOk result
-            ((h : List Happening) → StandsFor self.old h
-            → StandsFor self.new (Joined writer ∷ h)) }
-        // The policies stay.
-        ensures qos { qos_of self.new ≡ qos_of self.old }
-        // One death fewer can be counted at most.
-        ensures deaths { deaths_of self.old ≤ deaths_of self.new + 1 }
-        // A refusal leaves the cache as it was.
-        ensures err { OnErr result (self.new ≡ self.old) }
-        // It is refused for want of memory alone.
-        ensures memory { IfErr result (λ e. e ≡ Memory) }
-    {
-        self.instances.join(writer)?;
-        self.room = 0;
         Ok(())
     }
 

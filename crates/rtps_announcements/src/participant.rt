@@ -25,7 +25,8 @@ use crate::names::{
     PID_PROTOCOL_VERSION, PID_VENDOR_ID,
 };
 use crate::policies::duration_in;
-use dds_base::{Duration, Endianness, EntityId, Guid, GuidPrefix, take_octets, take_u32};
+use crate::qos::Duration;
+use dds_base::{Endianness, EntityId, Guid, GuidPrefix, take_octets, take_u32};
 
 /// The entity id of a participant itself.
 ///

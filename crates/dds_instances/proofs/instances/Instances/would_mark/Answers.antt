@@ -1,4 +1,4 @@
-use Rattle.std.proofs.Common.{ℕ, ap, sym, ◌∙◌}
+use Rattle.std.proofs.Common.{ℕ, ap, ◌∙◌}
 use Rattle.dds_instances.specs.Table.{Table}
 use Rattle.dds_instances.specs.Track.{is_born_dead}
 use Rattle.dds_instances.proofs.StandingLaws.{follows-of, tells-of}
@@ -13,8 +13,7 @@ returns-in-Some c =
           (follows-of c.args.qos.now h c.args.self.now c.deref.result.now
           (c.deref.ensures.value ∙ ap (λ (t : Table). t.tracks) c.self.view_is) stands)).0)
           (tells-of c.args.qos.now h c.args.self.now c.self.inside.strengths
-          (ap (λ (t : Table). t.strengths) c.self.view_is) stands)
-          (sym (ap (λ (t : Table). t.writers) c.self.view_is ∙ stands.writers_are));
+          (ap (λ (t : Table). t.strengths) c.self.view_is) stands);
     }
 
 pub returns-in-None : goal.returns-in-None
@@ -23,7 +22,7 @@ returns-in-None c = record {
       c.begins_dead.ensures
       ∙ (ap (λ (n : ℕ). is_born_dead n c.args.arrival.now.writer c.args.arrival.now.change.kind)
       (ap (λ (t : Table). t.writers) c.self.view_is ∙ stands.writers_are)
-      ∙ marks-first c.args.qos.now h c.args.arrival.now stands.follows.matched
+      ∙ marks-first c.args.qos.now h c.args.arrival.now
       (c.in-None.ensures.kept c.args.qos.now h
       (follows-of c.args.qos.now h c.args.self.now c.deref.result.now
       (c.deref.ensures.value ∙ ap (λ (t : Table). t.tracks) c.self.view_is) stands)));
