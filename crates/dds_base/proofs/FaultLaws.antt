@@ -22,6 +22,7 @@ use Rattle.dds_base.specs.Checked.{same_prefix, unknown_prefix, has_kind, prefix
 use Rattle.dds_base.specs.Faults.{code_of_rule, breaks_as_peer, breaks_as_writer, breaks_as_reader, passes_at, breaks_at, Breaks}
 use Rattle.dds_base.specs.FaultAt.{first_broken, writer_rules, reader_rules, peer_rules, whole_rules, fault_at, first_at, writer_fault, reader_fault, writers_fault, readers_fault, peer_fault, pass_fault, config_fault}
 use Rattle.dds_base.specs.Life.{or_else}
+use Rattle.dds_base.proofs.PairLaws.{incompatible-is}
 
 -- ---- tests
 
@@ -34,6 +35,11 @@ or_swap true b c d = refl
 or_swap false true true d = refl
 or_swap false true false d = refl
 or_swap false false c d = refl
+
+any_same : {X : Type 0} (p q : X → Bool) (xs : List X) → ((x : X) → p x ≡ q x) → list_any p xs ≡ list_any q xs
+any_same p q [] same = refl
+any_same p q (x ∷ xs) same =
+    ap (λ (b : Bool). b || list_any p xs) (same x) ∙ ap (λ (b : Bool). q x || b) (any_same p q xs same)
 
 any_or : {X : Type 0} (p q : X → Bool) (xs : List X) → list_any (λ x. p x || q x) xs ≡ (list_any p xs || list_any q xs)
 any_or p q [] = refl
@@ -116,7 +122,8 @@ unfit_reader peers p peer n r =
     ∙ ap (λ (b : Bool). exceeds_limit r.history r.max_samples || b)
     (ap (λ (b : Bool). list_any other matched || (list_any longer matched || b)) (or_false (list_any greater matched))
     ∙ (ap (λ (b : Bool). list_any other matched || b) (sym (any_or longer greater matched))
-    ∙ sym (any_or other (λ w. longer w || greater w) matched)))
+    ∙ (sym (any_or other (λ w. longer w || greater w) matched)
+    ∙ sym (any_same (are_incompatible r) (λ w. other w || (longer w || greater w)) matched (λ w. incompatible-is w r)))))
 
 some_peer : (pass : Pass) (peers : List PeerConfig) (n : ℕ) (p : PeerConfig)
     → is_some (peer_fault pass peers n p) ≡

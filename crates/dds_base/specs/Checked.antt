@@ -16,6 +16,8 @@ use Rattle.dds_base.specs.declared.config.WriterConfig.{WriterConfig}
 use Rattle.dds_base.specs.declared.config.ReaderConfig.{ReaderConfig}
 use Rattle.dds_base.specs.Bounds.{end_of_moments, greatest_value, max_ends, max_peers, most_arrivals}
 use Rattle.dds_base.specs.Matched.{matched_writers_of}
+use Rattle.dds_base.specs.Offered.{offered, requested}
+use Rattle.dds_base.specs.Offers.{is_empty, unfit_policies}
 
 -- two prefixes are one (RTPS 2.5, 8.2: GuidPrefix_t)
 abbrev pub same_prefix : GuidPrefix → GuidPrefix → Bool
@@ -120,12 +122,13 @@ is_longer _ None = false
 is_longer None (Some b) = true
 is_longer (Some a) (Some b) = nat_lt b a
 
--- a matched pair does not fit: their ownership differs, the lease that the writer offers is longer than the one that the
--- reader asks for (DDS 1.4, 2.2.3, OWNERSHIP, LIVELINESS: offered lease_duration <= requested), or its values may be
--- longer than those that the reader takes
+-- a matched pair does not fit: the writer offers less of some policy than the reader asks for, or its values may be
+-- longer than those that the reader takes. Leases are compared as they stand, too: offered and asked for, one of
+-- 2^31 - 1 seconds or more has no end (DDS 1.4, 2.2.3: the policies that are requested and offered)
 abbrev pub are_incompatible : ReaderConfig → WriterConfig → Bool
 are_incompatible r w =
-    differ w.ownership r.ownership || (is_longer w.lease r.lease || nat_lt r.max_value w.max_value)
+    not (is_empty (unfit_policies (offered w) (requested r)))
+    || (is_longer w.lease r.lease || nat_lt r.max_value w.max_value)
 
 -- a writer or reader that contradicts itself, or a reader with a matched writer that does not fit it
 abbrev pub is_inconsistent_peer : List PeerConfig → PeerConfig → Bool

@@ -16,6 +16,9 @@ pub mod Instance
 pub mod Presence
 pub mod Liveliness
 pub mod Access
+pub mod Policies
+pub mod Offers
+pub mod Offered
 pub mod Matched
 pub mod MatchedAt
 pub mod Number

@@ -7,9 +7,14 @@ ghost use Rattle.dds_base.specs.declared.qos.OwnershipQos.TheVariants.{Shared};
 ghost use Rattle.dds_base.specs.declared.qos.HistoryQos.TheVariants.{KeepAll};
 ghost use Rattle.dds_base.specs.declared.qos.ReliabilityQos.TheVariants.{Reliable};
 ghost use Rattle.dds_base.specs.Bounds.{usual_arrivals, usual_value};
+ghost use Rattle.dds_base.specs.Offered.{offered, requested};
 ghost use Rattle.dds_base.specs.Ownership.{carried};
 
+use crate::duration::Duration;
 use crate::guid::{EntityId, GuidPrefix};
+use crate::policies::{
+    DestinationOrderQos, DurabilityQos, LivelinessKind, LivelinessQos, Policies, PresentationQos,
+};
 use crate::qos::{HistoryQos, OwnershipQos, ReliabilityQos};
 use crate::sequence::Sequence;
 
@@ -119,6 +124,31 @@ impl WriterConfig {
             OwnershipQos::Exclusive => Some(self.strength),
         }
     }
+
+    /// What it offers the readers of its topic: it is RELIABLE, VOLATILE and MANUAL_BY_TOPIC, within an instance, by
+    /// reception, without a DEADLINE and with a LATENCY_BUDGET of 0. A lease of 2^31 - 1 seconds or more is offered as
+    /// one that never ends.
+    ///
+    /// DDS 1.4, 2.2.3 (supported QoS).
+    pub fn offered(&self) -> Policies
+        // It is what the definition says.
+        ensures offered { result ≡ offered self.now }
+    {
+        Policies {
+            reliability: ReliabilityQos::Reliable,
+            durability: DurabilityQos::Volatile,
+            liveliness: LivelinessQos {
+                kind: LivelinessKind::ManualByTopic,
+                lease: Duration::lasting(self.lease),
+            },
+            ownership: self.ownership,
+            strength: self.strength,
+            deadline: Duration::INFINITE,
+            latency_budget: Duration::ZERO,
+            destination_order: DestinationOrderQos::ByReceptionTimestamp,
+            presentation: PresentationQos::DEFAULT,
+        }
+    }
 }
 
 impl ReaderConfig {
@@ -154,6 +184,30 @@ impl ReaderConfig {
             max_arrivals: ReaderConfig::USUAL_ARRIVALS,
             lease: None,
             max_value: USUAL_VALUE,
+        }
+    }
+
+    /// What it asks of the writers of its topic: its RELIABILITY, its OWNERSHIP and its lease, and of all else for
+    /// nothing. A lease of 2^31 - 1 seconds or more asks for none.
+    ///
+    /// DDS 1.4, 2.2.3 (supported QoS).
+    pub fn requested(&self) -> Policies
+        // It is what the definition says.
+        ensures requested { result ≡ requested self.now }
+    {
+        Policies {
+            reliability: self.reliability,
+            durability: DurabilityQos::Volatile,
+            liveliness: LivelinessQos {
+                kind: LivelinessKind::Automatic,
+                lease: Duration::lasting(self.lease),
+            },
+            ownership: self.ownership,
+            strength: 0,
+            deadline: Duration::INFINITE,
+            latency_budget: Duration::INFINITE,
+            destination_order: DestinationOrderQos::ByReceptionTimestamp,
+            presentation: PresentationQos::DEFAULT,
         }
     }
 }

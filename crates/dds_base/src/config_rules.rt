@@ -14,7 +14,10 @@ use crate::config_fault::ConfigRule;
 use crate::datum::MAX_VALUE;
 use crate::guid::{EntityId, GuidPrefix};
 use crate::moment::MOMENT_END;
+use crate::offers::unfit_policies;
 use crate::qos::HistoryQos;
+use crate::unfit::UnfitPolicies;
+use bitflags::Flags;
 
 /// So many peers at most.
 const MAX_PEERS: usize = 16;
@@ -217,7 +220,10 @@ fn is_unfit(policy: PairPolicy, writer: &WriterConfig, reader: &ReaderConfig) ->
     ensures { result ≡ is_unfit policy writer.now reader.now }
 {
     match policy {
-        PairPolicy::Ownership => writer.ownership != reader.ownership,
+        PairPolicy::Ownership => {
+            let unfit = unfit_policies(&writer.offered(), &reader.requested());
+            unfit.contains(UnfitPolicies::OWNERSHIP)
+        }
         PairPolicy::Lease => is_longer(writer.lease, reader.lease),
         PairPolicy::Value => reader.max_value < writer.max_value,
     }

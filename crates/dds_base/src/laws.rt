@@ -1,23 +1,29 @@
 //! What holds of the definitions and the constants: functions that do nothing, and whose clauses are the laws.
 //!
-//! DDS 1.4, 2.2.2.5 (masks, handles), 2.2.3 (OWNERSHIP); RTPS 2.5, 9.3 (entity kinds), clause 10
-//! (SerializedPayload).
+//! DDS 1.4, 2.2.2.5 (masks, handles), 2.2.3 (OWNERSHIP, policies that are requested and offered); RTPS 2.5, 9.3 (entity
+//! kinds), clause 10 (SerializedPayload).
 
-ghost use Rattle.std.specs.Prelude.{◌≡◌, ◌≢◌, ◌↔◌, ◌≤◌, ◌<◌, ◌+◌, ◌-◌, ◌^◌, ◌∷◌, ◌&&◌, ◌||◌, ℕ, List, [], IsTrue, IsSome, Some, None, length, nat_lt, not, replicate, true, false};
-ghost use Rattle.dds_base.specs.Access.{sample_state_bit, view_state_bit, instance_state_bit, meets, handle_of, instance_of, lives_begun, not_read};
-ghost use Rattle.dds_base.specs.Checked.{unknown_prefix};
+ghost use Rattle.std.specs.Prelude.{◌≡◌, ◌≢◌, ◌↔◌, ◌≤◌, ◌<◌, ◌+◌, ◌-◌, ◌*◌, ◌^◌, ◌∷◌, ◌&&◌, ◌||◌, ℕ, List, [], IsTrue, IsSome, Some, None, filter, length, map, nat_lt, not, replicate, true, false};
+ghost use Rattle.dds_base.specs.Access.{has_bit, sample_state_bit, view_state_bit, instance_state_bit, meets, handle_of, instance_of, lives_begun, not_read};
+ghost use Rattle.dds_base.specs.Checked.{are_incompatible, differ, is_longer, unknown_prefix};
 ghost use Rattle.dds_base.specs.DatumText.{ReadsDatum, ReadsKey, IsDatum, spelling_of_datum, spelling_of_key};
 ghost use Rattle.dds_base.specs.Happening.{arrivals};
 ghost use Rattle.dds_base.specs.Instance.{disposed_generations, instance_state_of, introduces, is_known, known_instances, no_writers_generations};
 ghost use Rattle.dds_base.specs.Life.{ends_life, is_life_over, last_marker};
+ghost use Rattle.dds_base.specs.Offered.{offered, requested};
+ghost use Rattle.dds_base.specs.Offers.{compared, ids_of, is_empty, offers_deadline, offers_destination_order, offers_durability, offers_latency_budget, offers_liveliness, offers_ownership, offers_presentation, offers_reliability, unfit_policies};
 ghost use Rattle.dds_base.specs.Ownership.{IsMatched, IsOwner, HaveOwnGuids, owner_of, outranks_all, registered_writers};
 ghost use Rattle.dds_base.specs.Presence.{has_room, is_accepted, is_present, is_within, present_writes};
+ghost use Rattle.dds_base.specs.Policies.{lasting, units_of};
+ghost use Rattle.dds_base.specs.declared.config.ReaderConfig.{ReaderConfig as ReaderConfigOf};
+ghost use Rattle.dds_base.specs.declared.config.WriterConfig.{WriterConfig};
 ghost use Rattle.dds_base.specs.declared.datum.Datum.{Datum};
 ghost use Rattle.dds_base.specs.declared.happening.Arrival.{Arrival};
 ghost use Rattle.dds_base.specs.declared.happening.Happening.{Happening};
 ghost use Rattle.dds_base.specs.declared.happening.Happening.TheVariants.{Came};
 ghost use Rattle.dds_base.specs.declared.happening.SamplePosition.{SamplePosition};
 ghost use Rattle.dds_base.specs.declared.key.Key.{Key};
+ghost use Rattle.dds_base.specs.declared.policies.Policies.{Policies};
 ghost use Rattle.dds_base.specs.declared.qos.ReaderQos.{ReaderQos};
 ghost use Rattle.dds_base.specs.declared.sample.InstanceState.TheVariants.{Alive, NotAliveDisposed, NotAliveNoWriters};
 ghost use Rattle.dds_base.specs.declared.sample.SampleState.TheVariants.{Read as HasBeenRead, NotRead};
@@ -28,6 +34,7 @@ use crate::datum::MAX_VALUE;
 use crate::guid::{EntityId, GuidPrefix};
 use crate::handle::Handle;
 use crate::mask::{InstanceStateMask, Masks, SampleStateMask, ViewStateMask};
+use crate::unfit::UnfitPolicies;
 
 /// Where somebody is registered for an instance there is an owner, there is only one, and the definition that computes
 /// finds it. Acceptance under EXCLUSIVE asks for just that owner, among those registered before and the writer itself.
@@ -132,6 +139,62 @@ pub fn a_life_is_as_long_as_its_policy()
         → has_room q h (Came a) ≡ (not (is_accepted q h (Came a))
         || (is_within q.max_samples (present_writes q (Came a ∷ h))
         && is_within q.max_instances (length (known_instances q (Came a ∷ h))))) }
+{}
+
+/// The policies of which a writer offers less than a reader asks for are those of the table, by their bits and by their
+/// ids.
+pub fn unfit_policies_are_those_not_offered()
+    // There is none exactly where each is offered as it is asked for.
+    ensures none { (w r : Policies) → is_empty (unfit_policies w r)
+        ≡ (offers_durability w r && offers_presentation w r && offers_deadline w r
+        && offers_latency_budget w r && offers_ownership w r && offers_liveliness w r
+        && offers_reliability w r && offers_destination_order w r) }
+    // The bit of DURABILITY says of it that it is not offered, and so for each.
+    ensures durability { (w r : Policies) → has_bit (unfit_policies w r).0 UnfitPolicies.DURABILITY.0
+        ≡ not (offers_durability w r) }
+    // So does that of PRESENTATION.
+    ensures presentation { (w r : Policies)
+        → has_bit (unfit_policies w r).0 UnfitPolicies.PRESENTATION.0 ≡ not (offers_presentation w r) }
+    // So does that of DEADLINE.
+    ensures deadline { (w r : Policies) → has_bit (unfit_policies w r).0 UnfitPolicies.DEADLINE.0
+        ≡ not (offers_deadline w r) }
+    // So does that of LATENCY_BUDGET.
+    ensures latency_budget { (w r : Policies)
+        → has_bit (unfit_policies w r).0 UnfitPolicies.LATENCY_BUDGET.0
+        ≡ not (offers_latency_budget w r) }
+    // So does that of OWNERSHIP.
+    ensures ownership { (w r : Policies) → has_bit (unfit_policies w r).0 UnfitPolicies.OWNERSHIP.0
+        ≡ not (offers_ownership w r) }
+    // So does that of LIVELINESS.
+    ensures liveliness { (w r : Policies) → has_bit (unfit_policies w r).0 UnfitPolicies.LIVELINESS.0
+        ≡ not (offers_liveliness w r) }
+    // So does that of RELIABILITY.
+    ensures reliability { (w r : Policies)
+        → has_bit (unfit_policies w r).0 UnfitPolicies.RELIABILITY.0 ≡ not (offers_reliability w r) }
+    // So does that of DESTINATION_ORDER.
+    ensures destination_order { (w r : Policies)
+        → has_bit (unfit_policies w r).0 UnfitPolicies.DESTINATION_ORDER.0
+        ≡ not (offers_destination_order w r) }
+    // The ids are those of the policies that are not offered, ascending.
+    ensures ids { (w r : Policies) → ids_of (unfit_policies w r)
+        ≡ map (λ c. c.id) (filter (λ c. not c.is_offered) (compared w r)) }
+{}
+
+/// What a configured writer offers fits what a configured reader asks for, but for OWNERSHIP and for the lease of
+/// LIVELINESS.
+pub fn ends_fit_but_for_ownership_and_leases()
+    // A matched pair does not fit exactly where its ownership differs, or its lease or its values may be longer.
+    ensures pair { (w : WriterConfig) (r : ReaderConfigOf) → are_incompatible r w
+        ≡ (differ w.ownership r.ownership
+        || (is_longer w.lease r.lease || nat_lt r.max_value w.max_value)) }
+    // A lease below 2^31 - 1 seconds is offered and asked for as it stands.
+    ensures lease { (units : ℕ) → units < 0x7fffffff * 2 ^ 32
+        → units_of (lasting (Some units)) ≡ Some units }
+    // Where both leases are, the policies that are compared decide, and how long values may be.
+    ensures policies { (w : WriterConfig) (r : ReaderConfigOf) → units_of (lasting w.lease) ≡ w.lease
+        → units_of (lasting r.lease) ≡ r.lease → are_incompatible r w
+        ≡ (not (is_empty (unfit_policies (offered w) (requested r)))
+        || nat_lt r.max_value w.max_value) }
 {}
 
 /// HANDLE_NIL, which has the number 0: the handle of no instance and of no matched writer, since they count from 1.

@@ -1,5 +1,5 @@
 //! What every crate of a peer speaks of: keys, values and their bytes, names, numbers, changes, what happens at a
-//! reader, and the configuration.
+//! reader, the configuration, and which policies do not fit.
 //!
 //! DDS 1.4, 2.2.1.1 (return codes), 2.2.2.5 (SampleInfo), 2.2.3 (supported QoS); RTPS 2.5, 8.2 (names, numbers,
 //! changes), clause 10 (the bytes of a datum).
@@ -40,6 +40,7 @@ mod config_fault;
 mod config_rules;
 mod count;
 mod datum;
+mod duration;
 mod each_entity;
 mod endianness;
 mod endpoint;
@@ -55,6 +56,8 @@ mod mask;
 mod moment;
 mod number;
 mod octets;
+mod offers;
+mod policies;
 mod qos;
 mod sample;
 mod selection;
@@ -62,6 +65,7 @@ mod sequence;
 mod sn;
 mod spare;
 mod status;
+mod unfit;
 
 pub use change::{Change, ChangeKind};
 pub use code::Code;
@@ -73,6 +77,7 @@ pub use datum::{
     Datum, DatumRef, MAX_VALUE, decode_datum, decode_datum_key, decode_datum_ref, decode_key,
     encode_datum, encode_key, take_key,
 };
+pub use duration::Duration;
 pub use each_entity::EachEntity;
 pub use endianness::Endianness;
 pub use endpoint::Endpoint;
@@ -87,6 +92,12 @@ pub use mask::{InstanceStateMask, Masks, SampleStateMask, ViewStateMask};
 pub use moment::{MOMENT_END, Moment};
 pub use number::index_of;
 pub use octets::Octets;
+pub use offers::unfit_policies;
+pub use policies::{
+    DestinationOrderQos, DurabilityQos, LivelinessKind, LivelinessQos, Policies, PresentationQos,
+    PresentationScope, destination_order_code, durability_code, liveliness_code, ownership_code,
+    reliability_code, scope_code,
+};
 pub use qos::{HistoryQos, MatchedWriter, OwnershipQos, ReaderQos, ReliabilityQos};
 pub use sample::{InstanceState, Picked, Sample, SampleInfo, SampleState, ViewState};
 pub use selection::{Scope, Selection};
@@ -94,3 +105,4 @@ pub use sequence::Sequence;
 pub use sn::{MAX_SN, Sn};
 pub use spare::{Spare, reserve_few};
 pub use status::{LivelinessChangedStatus, LivelinessLostStatus, MatchedStatus, SampleLostStatus};
+pub use unfit::UnfitPolicies;

@@ -33,7 +33,7 @@ pub enum HistoryQos {
 /// Whether a reader gets each change that its writer keeps, or may miss some.
 ///
 /// DDS 1.4, 2.2.3 (RELIABILITY).
-#[derive(Clone, Copy, Debug)]
+#[derive(Clone, Copy, Debug, PartialEq, Eq)]
 pub enum ReliabilityQos {
     /// What comes, in the order of its writer: it asks for nothing, no writer waits for it, and what it misses is
     /// counted as lost.
