@@ -7,18 +7,19 @@ use Rattle.std.proofs.lemmas.List.{length-append}
 use Rattle.dds_base.specs.declared.endianness.Endianness.TheVariants.{Little}
 use Rattle.dds_base.specs.declared.qos.OwnershipQos.TheVariants.{Shared}
 use Rattle.dds_base.specs.Fields.{number}
+use Rattle.dds_base.specs.Policies.{default_presentation, reliability_code, durability_code, ownership_code, destination_order_code, scope_code, infinite, no_time}
+use Rattle.dds_base.specs.declared.policies.DestinationOrderQos.TheVariants.{ByReceptionTimestamp}
+use Rattle.dds_base.specs.declared.policies.DurabilityQos.TheVariants.{Volatile}
+use Rattle.dds_base.specs.declared.policies.PresentationQos.{PresentationQos}
 use Rattle.rtps_wire.specs.Fields.{count_text}
 use Rattle.rtps_wire.specs.Parameters.{parameter_value}
-use Rattle.rtps_announcements.specs.Endpoints.{default_liveliness, default_presentation, default_representations, SaysPartitions, SaysPolicies, ReadsEndpoint}
+use Rattle.rtps_announcements.specs.Endpoints.{default_liveliness, default_representations, SaysPartitions, SaysPolicies, ReadsEndpoint}
 use Rattle.rtps_announcements.specs.Names.{max_partitions, max_representations, pid_partition, pid_data_representation, pid_unicast_locator, pid_topic_name, pid_type_name, pid_participant_guid, pid_endpoint_guid, pid_reliability, pid_durability, pid_liveliness, pid_ownership, pid_ownership_strength, pid_deadline, pid_latency_budget, pid_destination_order, pid_presentation}
-use Rattle.rtps_announcements.specs.Values.{Says, Always, AreListed, listed_text, reliability_code, durability_code, ownership_code, destination_order_code, scope_code, default_reliability, infinite, no_time, IsDuration, duration_text, liveliness_text, flag_text, presentation_text, IsName, name_text, guid_text, IsGuidOf, IsOfSender, participant_guid}
+use Rattle.rtps_announcements.specs.Values.{Says, Always, AreListed, listed_text, default_reliability, IsDuration, duration_text, liveliness_text, flag_text, presentation_text, IsName, name_text, guid_text, IsGuidOf, IsOfSender, participant_guid}
 use Rattle.rtps_announcements.specs.Written.{Row, unless, padded_name_text, representations_text, locator_text}
 use Rattle.rtps_announcements.specs.WrittenEndpoints.{is_infinite, is_no_time, is_default_presentation, leaves_out_strength, endpoint_rows, text_of_endpoint, IsWritableEndpoint}
 use Rattle.rtps_announcements.specs.declared.endpoint.Endpoint.{Endpoint}
-use Rattle.rtps_announcements.specs.declared.qos.DestinationOrderQos.TheVariants.{ByReceptionTimestamp}
-use Rattle.rtps_announcements.specs.declared.qos.DurabilityQos.TheVariants.{Volatile}
 use Rattle.rtps_announcements.specs.declared.qos.EndpointKind.{EndpointKind}
-use Rattle.rtps_announcements.specs.declared.qos.PresentationQos.{PresentationQos}
 use Rattle.rtps_announcements.proofs.PutLaws.{name_whole, name_short, names_short, names_whole, representations_len}
 use Rattle.rtps_announcements.proofs.WrittenLaws.{IsValue, IsRow, parameters_of, list_reads, rows_understood, row_value, value_of_rows}
 use Rattle.rtps_announcements.proofs.WrittenAgain.{value_of_len, unless_each, says_unless, infinite_is, no_time_is, reception_is, presentation_is, strength_is, locator_values, locators_again, partitions_again, is_plain, plain_row}

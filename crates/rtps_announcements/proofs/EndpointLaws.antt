@@ -7,21 +7,22 @@ use Rattle.dds_base.specs.declared.endianness.Endianness.{Endianness}
 use Rattle.dds_base.specs.declared.guid.GuidPrefix.{GuidPrefix}
 use Rattle.dds_base.specs.declared.qos.OwnershipQos.TheVariants.{Shared}
 use Rattle.dds_base.proofs.FieldLaws.{AreOctets, IsField, some_is, field_u16}
+use Rattle.dds_base.specs.Policies.{default_presentation, infinite, no_time}
+use Rattle.dds_base.specs.declared.policies.Policies.{Policies}
+use Rattle.dds_base.specs.declared.policies.DestinationOrderQos.TheVariants.{ByReceptionTimestamp}
+use Rattle.dds_base.specs.declared.policies.DurabilityQos.TheVariants.{Volatile}
 use Rattle.rtps_wire.specs.Parameters.{Parameter, ReadsParameters, parameter_value}
 use Rattle.rtps_wire.proofs.WireFields.{field_count}
 use Rattle.rtps_announcements.specs.EndpointAt.{PoliciesAt, EndpointAt}
-use Rattle.rtps_announcements.specs.Endpoints.{default_liveliness, default_presentation, default_representations, SaysPartitions, SaysPolicies, ReadsEndpoint}
+use Rattle.rtps_announcements.specs.Endpoints.{default_liveliness, default_representations, SaysPartitions, SaysPolicies, ReadsEndpoint}
 use Rattle.rtps_announcements.specs.ListAt.{list_at, HasParameters, value_in, parameters_in}
 use Rattle.rtps_announcements.specs.Lists.{ReadsList, IsUnderstood}
 use Rattle.rtps_announcements.specs.Locators.{locators_of}
 use Rattle.rtps_announcements.specs.Names.{max_partitions, max_representations, pid_partition, pid_data_representation, pid_unicast_locator, pid_topic_name, pid_type_name, pid_participant_guid, pid_endpoint_guid, pid_reliability, pid_durability, pid_liveliness, pid_ownership, pid_ownership_strength, pid_deadline, pid_latency_budget, pid_destination_order, pid_presentation}
 use Rattle.rtps_announcements.specs.ValueAt.{said, listed_at, padded_at, padded_name_at}
-use Rattle.rtps_announcements.specs.Values.{Says, listed_text, AreListed, padded_text, IsPadded, default_reliability, infinite, no_time, IsOfSender}
+use Rattle.rtps_announcements.specs.Values.{Says, listed_text, AreListed, padded_text, IsPadded, default_reliability, IsOfSender}
 use Rattle.rtps_announcements.specs.declared.endpoint.Endpoint.{Endpoint}
 use Rattle.rtps_announcements.specs.declared.locator.Locator.{Locator}
-use Rattle.rtps_announcements.specs.declared.policies.Policies.{Policies}
-use Rattle.rtps_announcements.specs.declared.qos.DestinationOrderQos.TheVariants.{ByReceptionTimestamp}
-use Rattle.rtps_announcements.specs.declared.qos.DurabilityQos.TheVariants.{Volatile}
 use Rattle.rtps_announcements.specs.declared.qos.EndpointKind.{EndpointKind}
 use Rattle.rtps_announcements.proofs.CountLaws.{field_listed, field_padded, listed_mapped}
 use Rattle.rtps_announcements.proofs.ListLaws.{representation_takes, representation_again, value_is, value_octets, parameters_are}

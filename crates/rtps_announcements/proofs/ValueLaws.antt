@@ -17,19 +17,20 @@ use Rattle.dds_base.specs.declared.qos.ReliabilityQos.{ReliabilityQos}
 use Rattle.dds_base.specs.declared.qos.ReliabilityQos.TheVariants.{BestEffort, Reliable}
 use Rattle.dds_base.specs.Fields.{number, number_at, octets_at, ◌>>=◌}
 use Rattle.dds_base.proofs.FieldLaws.{AreOctets, Takes, IsField, bind_some, guard_some, some_is, cond_is, field_u32, field_octets, field_both, field_mapped}
+use Rattle.dds_base.specs.Policies.{reliability_code, durability_code, ownership_code, liveliness_code, destination_order_code, scope_code}
+use Rattle.dds_base.specs.declared.policies.DestinationOrderQos.{DestinationOrderQos}
+use Rattle.dds_base.specs.declared.policies.DestinationOrderQos.TheVariants.{ByReceptionTimestamp, BySourceTimestamp}
+use Rattle.dds_base.specs.declared.policies.DurabilityQos.{DurabilityQos}
+use Rattle.dds_base.specs.declared.policies.DurabilityQos.TheVariants.{Volatile, TransientLocal, Transient, Persistent}
+use Rattle.dds_base.specs.declared.duration.Duration.{Duration}
+use Rattle.dds_base.specs.declared.policies.LivelinessKind.{LivelinessKind}
+use Rattle.dds_base.specs.declared.policies.LivelinessKind.TheVariants.{Automatic, ManualByParticipant, ManualByTopic}
+use Rattle.dds_base.specs.declared.policies.PresentationScope.{PresentationScope}
+use Rattle.dds_base.specs.declared.policies.PresentationScope.TheVariants.{Instance, Topic, Group}
 use Rattle.rtps_wire.specs.Fields.{BeginsWith}
 use Rattle.rtps_announcements.specs.ValueAt.{said, partly, reliability_of, durability_of, ownership_of, liveliness_of, destination_order_of, scope_of, duration_of, duration_at, liveliness_at, flag_at, presentation_at, zero_at, name_at, guid_of, guid_at, octet_at, vendor_at}
-use Rattle.rtps_announcements.specs.Values.{Says, Always, reliability_code, durability_code, ownership_code, liveliness_code, destination_order_code, scope_code, IsDuration, duration_text, liveliness_text, flag_text, presentation_text, IsName, name_text, guid_text, IsGuidOf}
+use Rattle.rtps_announcements.specs.Values.{Says, Always, IsDuration, duration_text, liveliness_text, flag_text, presentation_text, IsName, name_text, guid_text, IsGuidOf}
 use Rattle.rtps_announcements.specs.declared.participant.VendorId.{VendorId}
-use Rattle.rtps_announcements.specs.declared.qos.DestinationOrderQos.{DestinationOrderQos}
-use Rattle.rtps_announcements.specs.declared.qos.DestinationOrderQos.TheVariants.{ByReceptionTimestamp, BySourceTimestamp}
-use Rattle.rtps_announcements.specs.declared.qos.DurabilityQos.{DurabilityQos}
-use Rattle.rtps_announcements.specs.declared.qos.DurabilityQos.TheVariants.{Volatile, TransientLocal, Transient, Persistent}
-use Rattle.rtps_announcements.specs.declared.qos.Duration.{Duration}
-use Rattle.rtps_announcements.specs.declared.qos.LivelinessKind.{LivelinessKind}
-use Rattle.rtps_announcements.specs.declared.qos.LivelinessKind.TheVariants.{Automatic, ManualByParticipant, ManualByTopic}
-use Rattle.rtps_announcements.specs.declared.qos.PresentationScope.{PresentationScope}
-use Rattle.rtps_announcements.specs.declared.qos.PresentationScope.TheVariants.{Instance, Topic, Group}
 
 -- ---- the first field of a value
 

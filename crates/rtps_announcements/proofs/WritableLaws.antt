@@ -10,12 +10,13 @@ use Rattle.dds_base.specs.declared.endianness.Endianness.{Endianness}
 use Rattle.dds_base.specs.declared.guid.GuidPrefix.{GuidPrefix}
 use Rattle.dds_base.specs.Fields.{number_at, octets_at}
 use Rattle.dds_base.proofs.FieldLaws.{bind_some, guard_some, some_is, cond_is}
+use Rattle.dds_base.specs.Policies.{infinite, no_time}
 use Rattle.rtps_wire.specs.Parameters.{Parameter, parameter_value}
 use Rattle.rtps_announcements.specs.Endpoints.{default_representations, SaysPartitions, SaysPolicies, ReadsEndpoint}
 use Rattle.rtps_announcements.specs.Locators.{is_of_host, locator_at, locator_said, locators_of, or_else}
 use Rattle.rtps_announcements.specs.Names.{max_locators, max_partitions, max_representations, pid_endpoint_guid}
 use Rattle.rtps_announcements.specs.Participants.{ReadsParticipant}
-use Rattle.rtps_announcements.specs.Values.{Says, AreListed, IsPadded, IsName, IsDuration, IsGuidOf, guid_text, infinite, no_time}
+use Rattle.rtps_announcements.specs.Values.{Says, AreListed, IsPadded, IsName, IsDuration, IsGuidOf, guid_text}
 use Rattle.rtps_announcements.specs.Written.{IsLocator}
 use Rattle.rtps_announcements.specs.WrittenEndpoints.{ArePolicies, IsWritableEndpoint}
 use Rattle.rtps_announcements.specs.WrittenParticipants.{AreReachable, IsWritableParticipant}

@@ -13,21 +13,22 @@ use Rattle.dds_base.specs.declared.endianness.Endianness.{Endianness}
 use Rattle.dds_base.specs.declared.endianness.Endianness.TheVariants.{Little}
 use Rattle.dds_base.specs.Fields.{number}
 use Rattle.dds_base.proofs.FieldLaws.{field_u32, field_octets}
-use Rattle.rtps_announcements.specs.Endpoints.{default_presentation, SaysPartitions}
+use Rattle.dds_base.specs.Policies.{default_presentation, destination_order_code, infinite, no_time}
+use Rattle.dds_base.specs.declared.policies.Policies.{Policies}
+use Rattle.dds_base.specs.declared.policies.DestinationOrderQos.{DestinationOrderQos}
+use Rattle.dds_base.specs.declared.policies.DestinationOrderQos.TheVariants.{ByReceptionTimestamp, BySourceTimestamp}
+use Rattle.dds_base.specs.declared.duration.Duration.{Duration}
+use Rattle.dds_base.specs.declared.policies.PresentationQos.{PresentationQos}
+use Rattle.dds_base.specs.declared.policies.PresentationScope.{PresentationScope}
+use Rattle.dds_base.specs.declared.policies.PresentationScope.TheVariants.{Instance, Topic, Group}
+use Rattle.rtps_announcements.specs.Endpoints.{SaysPartitions}
 use Rattle.rtps_announcements.specs.Locators.{locator_at, locators_of}
 use Rattle.rtps_announcements.specs.Names.{max_locators, max_partitions}
-use Rattle.rtps_announcements.specs.Values.{Says, AreListed, listed_text, padded_text, IsPadded, IsName, destination_order_code, infinite, no_time}
+use Rattle.rtps_announcements.specs.Values.{Says, AreListed, listed_text, padded_text, IsPadded, IsName}
 use Rattle.rtps_announcements.specs.Written.{Row, unless, padded_name_text, locator_text, IsLocator}
 use Rattle.rtps_announcements.specs.WrittenEndpoints.{is_infinite, is_no_time, is_default_presentation, leaves_out_strength, needs_strength}
 use Rattle.rtps_announcements.specs.declared.locator.Locator.{Locator}
-use Rattle.rtps_announcements.specs.declared.policies.Policies.{Policies}
-use Rattle.rtps_announcements.specs.declared.qos.DestinationOrderQos.{DestinationOrderQos}
-use Rattle.rtps_announcements.specs.declared.qos.DestinationOrderQos.TheVariants.{ByReceptionTimestamp, BySourceTimestamp}
-use Rattle.rtps_announcements.specs.declared.qos.Duration.{Duration}
 use Rattle.rtps_announcements.specs.declared.qos.EndpointKind.{EndpointKind}
-use Rattle.rtps_announcements.specs.declared.qos.PresentationQos.{PresentationQos}
-use Rattle.rtps_announcements.specs.declared.qos.PresentationScope.{PresentationScope}
-use Rattle.rtps_announcements.specs.declared.qos.PresentationScope.TheVariants.{Instance, Topic, Group}
 use Rattle.rtps_announcements.proofs.WrittenLaws.{IsValue, IsRow, parameters_of, first_of, row_locators, locators_of_rows}
 
 -- ---- rows

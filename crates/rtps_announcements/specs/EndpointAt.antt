@@ -8,17 +8,18 @@ use Rattle.dds_base.specs.declared.endianness.Endianness.{Endianness}
 use Rattle.dds_base.specs.declared.guid.GuidPrefix.{GuidPrefix}
 use Rattle.dds_base.specs.declared.qos.OwnershipQos.TheVariants.{Shared}
 use Rattle.dds_base.specs.Fields.{number_at}
+use Rattle.dds_base.specs.Policies.{default_presentation, infinite, no_time}
+use Rattle.dds_base.specs.declared.policies.Policies.{Policies}
+use Rattle.dds_base.specs.declared.policies.DestinationOrderQos.TheVariants.{ByReceptionTimestamp}
+use Rattle.dds_base.specs.declared.policies.DurabilityQos.TheVariants.{Volatile}
 use Rattle.rtps_wire.specs.FieldAt.{count_at}
-use Rattle.rtps_announcements.specs.Endpoints.{default_liveliness, default_presentation, default_representations}
+use Rattle.rtps_announcements.specs.Endpoints.{default_liveliness, default_representations}
 use Rattle.rtps_announcements.specs.ListAt.{value_in, parameters_in}
 use Rattle.rtps_announcements.specs.Locators.{locators_of}
 use Rattle.rtps_announcements.specs.Names.{max_partitions, max_representations, pid_partition, pid_data_representation, pid_unicast_locator, pid_topic_name, pid_type_name, pid_participant_guid, pid_endpoint_guid, pid_reliability, pid_durability, pid_liveliness, pid_ownership, pid_ownership_strength, pid_deadline, pid_latency_budget, pid_destination_order, pid_presentation}
 use Rattle.rtps_announcements.specs.ValueAt.{said, partly, listed_at, padded_name_at, reliability_of, durability_of, ownership_of, destination_order_of, duration_at, liveliness_at, presentation_at, name_at, guid_at}
-use Rattle.rtps_announcements.specs.Values.{default_reliability, infinite, no_time, IsOfKind, IsOfSender}
+use Rattle.rtps_announcements.specs.Values.{default_reliability, IsOfKind, IsOfSender}
 use Rattle.rtps_announcements.specs.declared.endpoint.Endpoint.{Endpoint}
-use Rattle.rtps_announcements.specs.declared.policies.Policies.{Policies}
-use Rattle.rtps_announcements.specs.declared.qos.DestinationOrderQos.TheVariants.{ByReceptionTimestamp}
-use Rattle.rtps_announcements.specs.declared.qos.DurabilityQos.TheVariants.{Volatile}
 use Rattle.rtps_announcements.specs.declared.qos.EndpointKind.{EndpointKind}
 
 -- each policy is read in the first parameter of its id

@@ -1,34 +1,29 @@
 -- What is read in an announcement of an endpoint (RTPS 2.5, 8.5: SEDP; 9.6: parameters and their defaults; DDS 1.4,
 -- 2.2.3: policies).
-use Rattle.std.specs.Prelude.{◌≡◌, ℕ, ◌<◌, ◌^◌, List, [], ◌∷◌, map, Option, Some, None, FitsSigned, pos, false, slice_index}
+use Rattle.std.specs.Prelude.{◌≡◌, ℕ, ◌<◌, ◌^◌, List, [], ◌∷◌, map, Option, Some, None, FitsSigned, pos, slice_index}
 use Rattle.std.specs.Int.{w16, w32}
 use Rattle.dds_base.specs.declared.endianness.Endianness.{Endianness}
 use Rattle.dds_base.specs.declared.guid.GuidPrefix.{GuidPrefix}
 use Rattle.dds_base.specs.declared.qos.OwnershipQos.TheVariants.{Shared}
 use Rattle.dds_base.specs.Fields.{number}
+use Rattle.dds_base.specs.Policies.{default_presentation, reliability_code, durability_code, ownership_code, destination_order_code, infinite, no_time}
+use Rattle.dds_base.specs.declared.policies.Policies.{Policies}
+use Rattle.dds_base.specs.declared.policies.DestinationOrderQos.TheVariants.{ByReceptionTimestamp}
+use Rattle.dds_base.specs.declared.policies.DurabilityQos.TheVariants.{Volatile}
+use Rattle.dds_base.specs.declared.policies.LivelinessKind.TheVariants.{Automatic}
+use Rattle.dds_base.specs.declared.policies.LivelinessQos.{LivelinessQos}
 use Rattle.rtps_wire.specs.Fields.{count_text}
 use Rattle.rtps_wire.specs.Parameters.{Parameter, parameter_value}
 use Rattle.rtps_announcements.specs.Lists.{ReadsList, IsUnderstood}
 use Rattle.rtps_announcements.specs.Locators.{locators_of}
 use Rattle.rtps_announcements.specs.Names.{max_partitions, max_representations, pid_partition, pid_data_representation, pid_unicast_locator, pid_topic_name, pid_type_name, pid_participant_guid, pid_endpoint_guid, pid_reliability, pid_durability, pid_liveliness, pid_ownership, pid_ownership_strength, pid_deadline, pid_latency_budget, pid_destination_order, pid_presentation}
-use Rattle.rtps_announcements.specs.Values.{Says, Always, listed_text, AreListed, padded_text, IsPadded, reliability_code, durability_code, ownership_code, destination_order_code, default_reliability, infinite, no_time, IsDuration, duration_text, liveliness_text, presentation_text, IsName, name_text, guid_text, IsGuidOf, IsOfKind, IsOfSender}
+use Rattle.rtps_announcements.specs.Values.{Says, Always, listed_text, AreListed, padded_text, IsPadded, default_reliability, IsDuration, duration_text, liveliness_text, presentation_text, IsName, name_text, guid_text, IsGuidOf, IsOfKind, IsOfSender}
 use Rattle.rtps_announcements.specs.declared.endpoint.Endpoint.{Endpoint}
-use Rattle.rtps_announcements.specs.declared.policies.Policies.{Policies}
-use Rattle.rtps_announcements.specs.declared.qos.DestinationOrderQos.TheVariants.{ByReceptionTimestamp}
-use Rattle.rtps_announcements.specs.declared.qos.DurabilityQos.TheVariants.{Volatile}
 use Rattle.rtps_announcements.specs.declared.qos.EndpointKind.{EndpointKind}
-use Rattle.rtps_announcements.specs.declared.qos.LivelinessKind.TheVariants.{Automatic}
-use Rattle.rtps_announcements.specs.declared.qos.LivelinessQos.{LivelinessQos}
-use Rattle.rtps_announcements.specs.declared.qos.PresentationQos.{PresentationQos}
-use Rattle.rtps_announcements.specs.declared.qos.PresentationScope.TheVariants.{Instance}
 
 -- LIVELINESS by default: AUTOMATIC, with no end
 abbrev pub default_liveliness : LivelinessQos
 default_liveliness = record { kind = Automatic; lease = infinite }
-
--- PRESENTATION by default: within an instance, neither coherent nor ordered
-abbrev pub default_presentation : PresentationQos
-default_presentation = record { scope = Instance; coherent_access = false; ordered_access = false }
 
 -- Each policy is what the first parameter of its id says, or its default.
 pub record SaysPolicies (kind : EndpointKind) (order : Endianness) (ps : List Parameter) (p : Policies) : Type 0 where

@@ -4,6 +4,7 @@ use Rattle.std.specs.Int.{w32}
 use Rattle.dds_base.specs.declared.endianness.Endianness.{Endianness}
 use Rattle.dds_base.specs.declared.guid.GuidPrefix.{GuidPrefix}
 use Rattle.dds_base.specs.Fields.{number}
+use Rattle.dds_base.specs.declared.duration.Duration.{Duration}
 use Rattle.rtps_wire.specs.Parameters.{Parameter, parameter_value}
 use Rattle.rtps_announcements.specs.Lists.{ReadsList, IsUnderstood}
 use Rattle.rtps_announcements.specs.Locators.{locators_of, or_else}
@@ -11,7 +12,6 @@ use Rattle.rtps_announcements.specs.Names.{pid_participant_guid, pid_protocol_ve
 use Rattle.rtps_announcements.specs.Values.{Says, Always, IsDuration, duration_text, IsName, name_text, guid_text, IsGuidOf, participant_guid}
 use Rattle.rtps_announcements.specs.declared.participant.Participant.{Participant}
 use Rattle.rtps_announcements.specs.declared.participant.VendorId.{VendorId}
-use Rattle.rtps_announcements.specs.declared.qos.Duration.{Duration}
 
 -- the major version of the protocol
 abbrev pub protocol_major : ℕ

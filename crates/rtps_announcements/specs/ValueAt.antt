@@ -16,19 +16,19 @@ use Rattle.dds_base.specs.declared.qos.ReliabilityQos.{ReliabilityQos}
 use Rattle.dds_base.specs.declared.qos.ReliabilityQos.TheVariants.{BestEffort, Reliable}
 use Rattle.dds_base.specs.Fields.{number_at, octets_at, ◌>>=◌}
 use Rattle.dds_base.specs.FieldPairs.{both, mapped}
+use Rattle.dds_base.specs.declared.policies.DestinationOrderQos.{DestinationOrderQos}
+use Rattle.dds_base.specs.declared.policies.DestinationOrderQos.TheVariants.{ByReceptionTimestamp, BySourceTimestamp}
+use Rattle.dds_base.specs.declared.policies.DurabilityQos.{DurabilityQos}
+use Rattle.dds_base.specs.declared.policies.DurabilityQos.TheVariants.{Volatile, TransientLocal, Transient, Persistent}
+use Rattle.dds_base.specs.declared.duration.Duration.{Duration}
+use Rattle.dds_base.specs.declared.policies.LivelinessKind.{LivelinessKind}
+use Rattle.dds_base.specs.declared.policies.LivelinessKind.TheVariants.{Automatic, ManualByParticipant, ManualByTopic}
+use Rattle.dds_base.specs.declared.policies.LivelinessQos.{LivelinessQos}
+use Rattle.dds_base.specs.declared.policies.PresentationQos.{PresentationQos}
+use Rattle.dds_base.specs.declared.policies.PresentationScope.{PresentationScope}
+use Rattle.dds_base.specs.declared.policies.PresentationScope.TheVariants.{Instance, Topic, Group}
 use Rattle.rtps_announcements.specs.Names.{max_name}
 use Rattle.rtps_announcements.specs.declared.participant.VendorId.{VendorId}
-use Rattle.rtps_announcements.specs.declared.qos.DestinationOrderQos.{DestinationOrderQos}
-use Rattle.rtps_announcements.specs.declared.qos.DestinationOrderQos.TheVariants.{ByReceptionTimestamp, BySourceTimestamp}
-use Rattle.rtps_announcements.specs.declared.qos.DurabilityQos.{DurabilityQos}
-use Rattle.rtps_announcements.specs.declared.qos.DurabilityQos.TheVariants.{Volatile, TransientLocal, Transient, Persistent}
-use Rattle.rtps_announcements.specs.declared.qos.Duration.{Duration}
-use Rattle.rtps_announcements.specs.declared.qos.LivelinessKind.{LivelinessKind}
-use Rattle.rtps_announcements.specs.declared.qos.LivelinessKind.TheVariants.{Automatic, ManualByParticipant, ManualByTopic}
-use Rattle.rtps_announcements.specs.declared.qos.LivelinessQos.{LivelinessQos}
-use Rattle.rtps_announcements.specs.declared.qos.PresentationQos.{PresentationQos}
-use Rattle.rtps_announcements.specs.declared.qos.PresentationScope.{PresentationScope}
-use Rattle.rtps_announcements.specs.declared.qos.PresentationScope.TheVariants.{Instance, Topic, Group}
 
 -- the field at the front of the value; the default where there is no value
 abbrev pub said : {X : Type 0} → Option X → (List ℕ → Option (X × List ℕ)) → Option (List ℕ) → Option X

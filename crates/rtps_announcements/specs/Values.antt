@@ -1,31 +1,22 @@
 -- What the parameters of an announcement say (RTPS 2.5, 9.3.2: Duration_t; 9.4.2: strings, octets; 9.6: which type a
 -- parameter has, and its default; DDS 1.4, 2.2.3: the policies and their defaults).
-use Rattle.std.specs.Prelude.{◌≡◌, ℕ, ◌+◌, ◌-◌, ◌*◌, ◌%◌, ◌<◌, ◌==◌, if◌then◌else◌, ◌≤◌, ◌^◌, Bool, true, false, List, [], ◌∷◌, ◌++◌, length, Option, Some, None, Contains, ◌⊎◌}
+use Rattle.std.specs.Prelude.{◌≡◌, ℕ, ◌+◌, ◌-◌, ◌%◌, ◌<◌, ◌≤◌, ◌^◌, Bool, true, false, List, [], ◌∷◌, ◌++◌, length, Option, Some, None, Contains, ◌⊎◌}
 use Rattle.std.specs.Int.{w32}
 use Rattle.std.specs.List.{AllByRecursion, flat_map}
 use Rattle.dds_base.specs.declared.endianness.Endianness.{Endianness}
 use Rattle.dds_base.specs.declared.guid.Guid.{Guid}
 use Rattle.dds_base.specs.declared.guid.GuidPrefix.{GuidPrefix}
-use Rattle.dds_base.specs.declared.qos.OwnershipQos.{OwnershipQos}
-use Rattle.dds_base.specs.declared.qos.OwnershipQos.TheVariants.{Shared, Exclusive}
 use Rattle.dds_base.specs.declared.qos.ReliabilityQos.{ReliabilityQos}
 use Rattle.dds_base.specs.declared.qos.ReliabilityQos.TheVariants.{BestEffort, Reliable}
 use Rattle.dds_base.specs.Fields.{number}
+use Rattle.dds_base.specs.Policies.{liveliness_code, scope_code}
+use Rattle.dds_base.specs.declared.duration.Duration.{Duration}
+use Rattle.dds_base.specs.declared.policies.LivelinessQos.{LivelinessQos}
+use Rattle.dds_base.specs.declared.policies.PresentationQos.{PresentationQos}
 use Rattle.rtps_wire.specs.Fields.{BeginsWith}
 use Rattle.rtps_announcements.specs.Names.{max_name}
-use Rattle.rtps_announcements.specs.declared.qos.DestinationOrderQos.{DestinationOrderQos}
-use Rattle.rtps_announcements.specs.declared.qos.DestinationOrderQos.TheVariants.{ByReceptionTimestamp, BySourceTimestamp}
-use Rattle.rtps_announcements.specs.declared.qos.DurabilityQos.{DurabilityQos}
-use Rattle.rtps_announcements.specs.declared.qos.DurabilityQos.TheVariants.{Volatile, TransientLocal, Transient, Persistent}
-use Rattle.rtps_announcements.specs.declared.qos.Duration.{Duration}
 use Rattle.rtps_announcements.specs.declared.qos.EndpointKind.{EndpointKind}
 use Rattle.rtps_announcements.specs.declared.qos.EndpointKind.TheVariants.{Writer, Reader}
-use Rattle.rtps_announcements.specs.declared.qos.LivelinessKind.{LivelinessKind}
-use Rattle.rtps_announcements.specs.declared.qos.LivelinessKind.TheVariants.{Automatic, ManualByParticipant, ManualByTopic}
-use Rattle.rtps_announcements.specs.declared.qos.LivelinessQos.{LivelinessQos}
-use Rattle.rtps_announcements.specs.declared.qos.PresentationQos.{PresentationQos}
-use Rattle.rtps_announcements.specs.declared.qos.PresentationScope.{PresentationScope}
-use Rattle.rtps_announcements.specs.declared.qos.PresentationScope.TheVariants.{Instance, Topic, Group}
 
 -- What a parameter says: its value begins with the text of that, and anything may follow. Where there is no such
 -- parameter it is the default, if there is one.
@@ -39,61 +30,15 @@ Always x = Unit {0}
 
 -- ---- policies
 
--- the number of a kind of RELIABILITY
-abbrev pub reliability_code : ReliabilityQos → ℕ
-reliability_code BestEffort = 1
-reliability_code Reliable = 2
-
--- the number of a kind of DURABILITY
-abbrev pub durability_code : DurabilityQos → ℕ
-durability_code Volatile = 0
-durability_code TransientLocal = 1
-durability_code Transient = 2
-durability_code Persistent = 3
-
--- the number of a kind of OWNERSHIP
-abbrev pub ownership_code : OwnershipQos → ℕ
-ownership_code Shared = 0
-ownership_code Exclusive = 1
-
--- the number of a kind of LIVELINESS
-abbrev pub liveliness_code : LivelinessKind → ℕ
-liveliness_code Automatic = 0
-liveliness_code ManualByParticipant = 1
-liveliness_code ManualByTopic = 2
-
--- the number of a kind of DESTINATION_ORDER
-abbrev pub destination_order_code : DestinationOrderQos → ℕ
-destination_order_code ByReceptionTimestamp = 0
-destination_order_code BySourceTimestamp = 1
-
--- the number of an access scope of PRESENTATION
-abbrev pub scope_code : PresentationScope → ℕ
-scope_code Instance = 0
-scope_code Topic = 1
-scope_code Group = 2
-
 -- A writer is reliable by default, a reader is not.
 abbrev pub default_reliability : EndpointKind → ReliabilityQos
 default_reliability Writer = Reliable
 default_reliability Reader = BestEffort
 
--- no end: the seconds are the greatest
-abbrev pub infinite : Duration
-infinite = record { seconds = 0x7fffffff; fraction = 0xffffffff }
-
--- no time at all
-abbrev pub no_time : Duration
-no_time = record { seconds = 0; fraction = 0 }
-
 -- The seconds are not negative.
 pub record IsDuration (d : Duration) : Type 0 where
   pub seconds : d.seconds < 2 ^ 31
   pub fraction : d.fraction < 2 ^ 32
-
--- the time in units of 2^-32 second, where it has an end: the seconds are not the greatest
-abbrev pub units_of : Duration → Option ℕ
-units_of d = if d.seconds == 0x7fffffff then None else Some (d.seconds * 2 ^ 32 + d.fraction)
 
 -- seconds, and a fraction in units of 2^-32 second
 abbrev pub duration_text : Endianness → Duration → List ℕ

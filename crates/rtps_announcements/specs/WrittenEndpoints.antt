@@ -7,19 +7,20 @@ use Rattle.dds_base.specs.declared.qos.OwnershipQos.{OwnershipQos}
 use Rattle.dds_base.specs.declared.qos.OwnershipQos.TheVariants.{Shared, Exclusive}
 use Rattle.dds_base.specs.declared.qos.ReliabilityQos.{ReliabilityQos}
 use Rattle.dds_base.specs.Fields.{number}
+use Rattle.dds_base.specs.Policies.{reliability_code, durability_code, ownership_code, destination_order_code, scope_code, no_time}
+use Rattle.dds_base.specs.declared.policies.Policies.{Policies}
+use Rattle.dds_base.specs.declared.policies.DestinationOrderQos.{DestinationOrderQos}
+use Rattle.dds_base.specs.declared.duration.Duration.{Duration}
+use Rattle.dds_base.specs.declared.policies.DurabilityQos.{DurabilityQos}
+use Rattle.dds_base.specs.declared.policies.LivelinessQos.{LivelinessQos}
+use Rattle.dds_base.specs.declared.policies.PresentationQos.{PresentationQos}
 use Rattle.rtps_wire.specs.Fields.{count_text}
 use Rattle.rtps_announcements.specs.Names.{max_locators, max_partitions, max_representations, pid_partition, pid_data_representation, pid_unicast_locator, pid_topic_name, pid_type_name, pid_participant_guid, pid_endpoint_guid, pid_reliability, pid_durability, pid_liveliness, pid_ownership, pid_ownership_strength, pid_deadline, pid_latency_budget, pid_destination_order, pid_presentation}
-use Rattle.rtps_announcements.specs.Values.{AreListed, listed_text, reliability_code, durability_code, ownership_code, destination_order_code, scope_code, no_time, IsDuration, duration_text, liveliness_text, presentation_text, IsName, guid_text, IsOfKind, participant_guid}
+use Rattle.rtps_announcements.specs.Values.{AreListed, listed_text, IsDuration, duration_text, liveliness_text, presentation_text, IsName, guid_text, IsOfKind, participant_guid}
 use Rattle.rtps_announcements.specs.Written.{Row, list_text, unless, padded_name_text, representations_text, locator_text, IsLocator}
 use Rattle.rtps_announcements.specs.declared.endpoint.Endpoint.{Endpoint}
-use Rattle.rtps_announcements.specs.declared.policies.Policies.{Policies}
-use Rattle.rtps_announcements.specs.declared.qos.DestinationOrderQos.{DestinationOrderQos}
-use Rattle.rtps_announcements.specs.declared.qos.Duration.{Duration}
-use Rattle.rtps_announcements.specs.declared.qos.DurabilityQos.{DurabilityQos}
 use Rattle.rtps_announcements.specs.declared.qos.EndpointKind.{EndpointKind}
 use Rattle.rtps_announcements.specs.declared.qos.EndpointKind.TheVariants.{Writer, Reader}
-use Rattle.rtps_announcements.specs.declared.qos.LivelinessQos.{LivelinessQos}
-use Rattle.rtps_announcements.specs.declared.qos.PresentationQos.{PresentationQos}
 
 -- DURATION_INFINITE
 abbrev pub is_infinite : Duration → Bool

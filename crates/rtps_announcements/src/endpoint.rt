@@ -21,10 +21,10 @@ use crate::names::{
     PID_TYPE_NAME, PID_UNICAST_LOCATOR,
 };
 use crate::partition::{Partitions, partitions_in};
-use crate::policies::{Policies, policies_in};
+use crate::policies::policies_in;
 use crate::qos::EndpointKind;
 use crate::representation::{Representations, representations_in};
-use dds_base::{Endianness, Guid, GuidPrefix};
+use dds_base::{Endianness, Guid, GuidPrefix, Policies};
 
 /// A DataWriter or a DataReader, as its participant announces it. The announcement lends the names.
 ///

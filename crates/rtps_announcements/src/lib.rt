@@ -37,6 +37,10 @@ mod representation;
 mod writable;
 mod write;
 
+pub use dds_base::{
+    DestinationOrderQos, DurabilityQos, Duration, LivelinessKind, LivelinessQos, Policies,
+    PresentationQos, PresentationScope,
+};
 pub use endpoint::{Endpoint, read_endpoint};
 pub use guid::read_guid;
 pub use list::first_value;
@@ -44,12 +48,7 @@ pub use locator::{Locator, Locators};
 pub use name::Name;
 pub use participant::{Participant, VendorId, read_participant};
 pub use partition::Partitions;
-pub use policies::Policies;
-pub use qos::{
-    DestinationOrderQos, DurabilityQos, Duration, EndpointKind, LivelinessKind, LivelinessQos,
-    PresentationQos, PresentationScope, destination_order_code, durability_code, liveliness_code,
-    ownership_code, reliability_code, scope_code,
-};
+pub use qos::EndpointKind;
 pub use representation::Representations;
 pub use writable::{is_writable_endpoint, is_writable_participant};
 pub use write::{write_endpoint, write_guid, write_participant};

@@ -25,8 +25,7 @@ use crate::names::{
     PID_PROTOCOL_VERSION, PID_VENDOR_ID,
 };
 use crate::policies::duration_in;
-use crate::qos::Duration;
-use dds_base::{Endianness, EntityId, Guid, GuidPrefix, take_octets, take_u32};
+use dds_base::{Duration, Endianness, EntityId, Guid, GuidPrefix, take_octets, take_u32};
 
 /// The entity id of a participant itself.
 ///

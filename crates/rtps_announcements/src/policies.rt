@@ -1,6 +1,6 @@
 //! The policies of an endpoint, as its announcement says them.
 //!
-//! `specs/Values.antt` has what stands for each, and its default.
+//! `specs/Endpoints.antt` has what says each, and its default.
 //!
 //! DDS 1.4, 2.2.3 (supported QoS); RTPS 2.5, 9.6 (ParameterId values).
 
@@ -9,16 +9,17 @@ ghost use Rattle.std.specs.Option.{option_map};
 ghost use Rattle.std.specs.Int.{w32};
 ghost use Rattle.dds_base.specs.Fields.{number_at};
 ghost use Rattle.dds_base.specs.declared.qos.OwnershipQos.TheVariants.{Shared};
+ghost use Rattle.dds_base.specs.Policies.{default_presentation};
+ghost use Rattle.dds_base.specs.declared.policies.Policies.{Policies as PoliciesOf};
+ghost use Rattle.dds_base.specs.declared.policies.DestinationOrderQos.TheVariants.{ByReceptionTimestamp};
+ghost use Rattle.dds_base.specs.declared.policies.DurabilityQos.TheVariants.{Volatile};
 ghost use Rattle.rtps_wire.specs.FieldAt.{count_at};
-ghost use Rattle.rtps_announcements.specs.Endpoints.{default_liveliness, default_presentation};
+ghost use Rattle.rtps_announcements.specs.Endpoints.{default_liveliness};
 ghost use Rattle.rtps_announcements.specs.EndpointAt.{PoliciesAt};
 ghost use Rattle.rtps_announcements.specs.ListAt.{value_in};
 ghost use Rattle.rtps_announcements.specs.Names.{pid_reliability, pid_durability, pid_liveliness, pid_ownership, pid_ownership_strength, pid_deadline, pid_latency_budget, pid_destination_order, pid_presentation};
 ghost use Rattle.rtps_announcements.specs.ValueAt.{said, partly, reliability_of, durability_of, ownership_of, liveliness_of, destination_order_of, scope_of, duration_at, liveliness_at, flag_at, presentation_at};
 ghost use Rattle.rtps_announcements.specs.Values.{default_reliability};
-ghost use Rattle.rtps_announcements.specs.declared.policies.Policies.{Policies as PoliciesOf};
-ghost use Rattle.rtps_announcements.specs.declared.qos.DestinationOrderQos.TheVariants.{ByReceptionTimestamp};
-ghost use Rattle.rtps_announcements.specs.declared.qos.DurabilityQos.TheVariants.{Volatile};
 
 use crate::list::first_value;
 use crate::names::{
@@ -26,36 +27,13 @@ use crate::names::{
     PID_OWNERSHIP, PID_OWNERSHIP_STRENGTH, PID_PRESENTATION, PID_RELIABILITY, SECONDS_END,
 };
 use crate::qos::{
-    DestinationOrderQos, DurabilityQos, Duration, EndpointKind, LivelinessKind, LivelinessQos,
-    PresentationQos, destination_order_of, durability_of, liveliness_of, ownership_of,
-    reliability_of, scope_of,
+    EndpointKind, destination_order_of, durability_of, liveliness_of, ownership_of, reliability_of,
+    scope_of,
 };
-use dds_base::{Endianness, OwnershipQos, ReliabilityQos, take_u32};
-
-/// The policies of an endpoint by which others decide whether it fits.
-///
-/// DDS 1.4, 2.2.3 (supported QoS).
-#[derive(Clone, Copy, Debug)]
-pub struct Policies {
-    /// RELIABILITY, without its max_blocking_time.
-    pub reliability: ReliabilityQos,
-    /// DURABILITY.
-    pub durability: DurabilityQos,
-    /// LIVELINESS.
-    pub liveliness: LivelinessQos,
-    /// OWNERSHIP.
-    pub ownership: OwnershipQos,
-    /// OWNERSHIP_STRENGTH, of a writer.
-    pub strength: i32,
-    /// DEADLINE.
-    pub deadline: Duration,
-    /// LATENCY_BUDGET.
-    pub latency_budget: Duration,
-    /// DESTINATION_ORDER.
-    pub destination_order: DestinationOrderQos,
-    /// PRESENTATION.
-    pub presentation: PresentationQos,
-}
+use dds_base::{
+    DestinationOrderQos, DurabilityQos, Duration, Endianness, LivelinessKind, LivelinessQos,
+    OwnershipQos, Policies, PresentationQos, ReliabilityQos, take_u32,
+};
 
 /// A duration, and the bytes after it.
 #[tactic(auto, unfolding(crate::specs::ValueAt::duration_at, crate::specs::ValueAt::duration_of))]

@@ -21,9 +21,8 @@ use crate::names::{
     PID_PARTITION,
 };
 use crate::partition::Partitions;
-use crate::qos::Duration;
 use crate::representation::Representations;
-use dds_base::{Code, Guid};
+use dds_base::{Code, Duration, Guid};
 use std::alloc::Global;
 
 /// Appends what stands before a value: its id, and how many octets it has.

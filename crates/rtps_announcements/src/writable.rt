@@ -17,9 +17,9 @@ use crate::name::Name;
 use crate::names::{MAX_NAME, MAX_REPRESENTATIONS, SECONDS_END};
 use crate::participant::Participant;
 use crate::partition::Partitions;
-use crate::policies::Policies;
-use crate::qos::{Duration, EndpointKind};
+use crate::qos::EndpointKind;
 use crate::representation::Representations;
+use dds_base::{Duration, Policies};
 
 /// Whether the seconds are not negative.
 fn is_duration(time: Duration) -> bool

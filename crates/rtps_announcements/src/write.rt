@@ -20,17 +20,16 @@ use crate::names::{
     PID_SENTINEL, PID_TOPIC_NAME, PID_TYPE_NAME, PID_UNICAST_LOCATOR, PID_VENDOR_ID,
 };
 use crate::participant::{MAJOR_VERSION, PARTICIPANT, Participant, VendorId};
-use crate::policies::Policies;
 use crate::put::{
     put_guid, put_locators, put_name, put_number, put_partitions, put_representations, put_time,
     put_unless, put_value,
 };
-use crate::qos::{
-    DestinationOrderQos, DurabilityQos, Duration, EndpointKind, LivelinessQos, PresentationQos,
-    destination_order_code, durability_code, liveliness_code, ownership_code, reliability_code,
-    scope_code,
+use crate::qos::EndpointKind;
+use dds_base::{
+    Code, DestinationOrderQos, DurabilityQos, Duration, Guid, LivelinessQos, OwnershipQos,
+    Policies, PresentationQos, ReliabilityQos, destination_order_code, durability_code,
+    liveliness_code, ownership_code, reliability_code, scope_code,
 };
-use dds_base::{Code, Guid, OwnershipQos, ReliabilityQos};
 use std::alloc::Global;
 
 /// PL_CDR_LE, and no options.
