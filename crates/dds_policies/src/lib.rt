@@ -1,13 +1,11 @@
-//! Whether a writer offers what a reader asks for.
+//! The first policy of which a writer offers less than a reader asks for.
 //!
-//! `unfit` names the first policy of which it offers less. `specs/Offers.antt` has the table, policy by policy. Not here:
-//! names, partitions and representations, and who is told of a misfit.
+//! `unfit` names it, of the set that `dds_base` has, policy by policy. Not here: names, partitions and representations,
+//! and who is told of a misfit.
 //!
 //! DDS 1.4, 2.2.3 (supported QoS: policies that are requested and offered).
 #![tactic(auto)]
 
 mod misfit;
-mod offers;
 
-pub use misfit::Misfit;
-pub use offers::unfit;
+pub use misfit::{Misfit, unfit};

@@ -1,8 +1,8 @@
 -- How long a participant is taken to be there after it was last heard (RTPS 2.5, 8.5: SPDP; 9.6:
 -- PID_PARTICIPANT_LEASE_DURATION).
 use Rattle.std.specs.Prelude.{ℕ, ◌*◌, ◌^◌, min, max, unwrap_or}
-use Rattle.rtps_announcements.specs.Values.{units_of}
-use Rattle.rtps_announcements.specs.declared.qos.Duration.{Duration}
+use Rattle.dds_base.specs.Policies.{units_of}
+use Rattle.dds_base.specs.declared.duration.Duration.{Duration}
 
 -- a second, in units of 2^-32 second
 abbrev pub second : ℕ
