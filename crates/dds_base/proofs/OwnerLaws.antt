@@ -17,7 +17,7 @@ use Rattle.dds_base.specs.declared.guid.Guid.{Guid}
 use Rattle.dds_base.specs.declared.happening.Happening.{Happening}
 use Rattle.dds_base.specs.declared.qos.MatchedWriter.{MatchedWriter}
 use Rattle.dds_base.specs.declared.qos.ReaderQos.{ReaderQos}
-use Rattle.dds_base.specs.Ownership.{numbered_from, IsMatched, is_registered, registered_writers, guid_cmp, Precedence, writer_cmp, precedence, precedence_of, writer_of, is_above, outranks, outranks_all, IsOwner, owner_of, HaveOwnGuids}
+use Rattle.dds_base.specs.Ownership.{numbered_from, IsMatched, is_registered, registered_writers, guid_cmp, Precedence, writer_cmp, precedence, precedence_of, writer_of, writers_of, is_above, outranks, outranks_all, IsOwner, owner_of, HaveOwnGuids}
 
 -- ---- the order of writers
 
@@ -100,16 +100,17 @@ slice_get-within [] at within = absurd (omega arith)
 slice_get-within (w ∷ ws) zero within = (w, refl)
 slice_get-within (w ∷ ws) (suc at) within = slice_get-within ws at (omega arith)
 
-pub matched-writer : (q : ReaderQos) (v : ℕ) → IsMatched q v → (w : MatchedWriter) × (writer_of q.writers v ≡ Some w)
-matched-writer q zero matched = absurd (omega (arith, matched.0))
-matched-writer q (suc at) matched = slice_get-within q.writers at (omega (arith, matched.1))
+pub matched-writer : (q : ReaderQos) (h : List Happening) (v : ℕ) → IsMatched q h v
+    → (w : MatchedWriter) × (writer_of (writers_of q h) v ≡ Some w)
+matched-writer q h zero matched = absurd (omega (arith, matched.0))
+matched-writer q h (suc at) matched = slice_get-within (writers_of q h) at (omega (arith, matched.1))
 
 -- of two matched writers one outranks the other
-outranks-either : (q : ReaderQos) (h : List Happening) (v w : ℕ) → HaveOwnGuids q → IsMatched q v → IsMatched q w
+outranks-either : (q : ReaderQos) (h : List Happening) (v w : ℕ) → HaveOwnGuids q h → IsMatched q h v → IsMatched q h w
     → v ≢ w → (outranks q h v w ≡ true) ⊎ (outranks q h w v ≡ true)
 outranks-either q h v w own matched_v matched_w differ =
-    let a = matched-writer q v matched_v in
-    let b = matched-writer q w matched_w in
+    let a = matched-writer q h v matched_v in
+    let b = matched-writer q h w matched_w in
     let first : precedence_of q h v ≡ Some (precedence h v a.0) = ap (option_map (precedence h v)) a.1 in
     let second : precedence_of q h w ≡ Some (precedence h w b.0) = ap (option_map (precedence h w)) b.1 in
     ⊎_elim
@@ -125,9 +126,9 @@ outranks-either q h v w own matched_v matched_w differ =
 abbrev pub is_one_of : List ℕ → ℕ → Bool
 is_one_of ws w = list_any (λ v. v == w) ws
 
-abbrev AllMatched : ReaderQos → List ℕ → Type 0
-AllMatched q [] = Unit {0}
-AllMatched q (w ∷ ws) = IsMatched q w × AllMatched q ws
+abbrev AllMatched : ReaderQos → List Happening → List ℕ → Type 0
+AllMatched q h [] = Unit {0}
+AllMatched q h (w ∷ ws) = IsMatched q h w × AllMatched q h ws
 
 -- what one writer outranks, another that outranks it outranks too
 outranks_all-above : (q : ReaderQos) (h : List Happening) (ws : List ℕ) (v w : ℕ) → outranks q h w v ≡ true
@@ -148,11 +149,11 @@ eqb-refl n = grind (arith, nat_tests)
 
 pub record Greatest (q : ReaderQos) (h : List Happening) (ws : List ℕ) : Type 0 where
   pub writer : ℕ
-  pub matched : IsMatched q writer
+  pub matched : IsMatched q h writer
   pub among : is_one_of ws writer ≡ true
   pub above : outranks_all q h ws writer ≡ true
 
-greatest : (q : ReaderQos) (h : List Happening) (w : ℕ) (ws : List ℕ) → HaveOwnGuids q → AllMatched q (w ∷ ws)
+greatest : (q : ReaderQos) (h : List Happening) (w : ℕ) (ws : List ℕ) → HaveOwnGuids q h → AllMatched q h (w ∷ ws)
     → Greatest q h (w ∷ ws)
 greatest q h w [] own matched = record {
   writer = w;
@@ -284,21 +285,21 @@ owner-one q h ws v w own_v own_w =
     (cases_Bool (v == w))
 
 numbers-matched : (q : ReaderQos) (i : Key) (h : List Happening) (xs : List MatchedWriter) (k : ℕ) → 0 < k
-    → k + length xs ≤ length q.writers + 1 → AllMatched q (filter (λ w. is_registered i w h) (numbered_from k xs))
+    → k + length xs ≤ length (writers_of q h) + 1 → AllMatched q h (filter (λ w. is_registered i w h) (numbered_from k xs))
 numbers-matched q i h [] k low high = tt
 numbers-matched q i h (x ∷ xs) k low high =
-    let rest : AllMatched q (filter (λ w. is_registered i w h) (numbered_from (k + 1) xs)) =
+    let rest : AllMatched q h (filter (λ w. is_registered i w h) (numbered_from (k + 1) xs)) =
     numbers-matched q i h xs (k + 1) (omega arith) (omega arith) in
     ⊎_elim
-    (λ is_there. subst (λ (b : Bool). AllMatched q
+    (λ is_there. subst (λ (b : Bool). AllMatched q h
     (cond b (k ∷ filter (λ w. is_registered i w h) (numbered_from (k + 1) xs))
     (filter (λ w. is_registered i w h) (numbered_from (k + 1) xs)))) (sym is_there) ((low, omega arith), rest))
-    (λ is_gone. subst (λ (b : Bool). AllMatched q
+    (λ is_gone. subst (λ (b : Bool). AllMatched q h
     (cond b (k ∷ filter (λ w. is_registered i w h) (numbered_from (k + 1) xs))
     (filter (λ w. is_registered i w h) (numbered_from (k + 1) xs)))) (sym is_gone) rest)
     (cases_Bool (is_registered i k h))
 
-exists-in : (q : ReaderQos) (h : List Happening) (ws : List ℕ) → HaveOwnGuids q → AllMatched q ws → ws ≢ []
+exists-in : (q : ReaderQos) (h : List Happening) (ws : List ℕ) → HaveOwnGuids q h → AllMatched q h ws → ws ≢ []
     → IsSome (owner_of q h ws)
 exists-in q h [] own matched some = absurd (some refl)
 exists-in q h (w ∷ ws) own matched some =
@@ -306,10 +307,10 @@ exists-in q h (w ∷ ws) own matched some =
     (any-at (outranks_all q h (w ∷ ws)) (w ∷ ws) top.writer top.among top.above)
 
 -- where somebody is registered, there is an owner
-pub owner-exists : (q : ReaderQos) (i : Key) (h : List Happening) → HaveOwnGuids q → registered_writers q i h ≢ []
+pub owner-exists : (q : ReaderQos) (i : Key) (h : List Happening) → HaveOwnGuids q h → registered_writers q i h ≢ []
     → IsSome (owner_of q h (registered_writers q i h))
 owner-exists q i h own some =
-    exists-in q h (registered_writers q i h) own (numbers-matched q i h q.writers 1 (omega arith) (omega arith)) some
+    exists-in q h (registered_writers q i h) own (numbers-matched q i h (writers_of q h) 1 (omega arith) (omega arith)) some
 
 -- a writer outranks each other one of a list exactly where it is the owner among them and itself
 pub owner-among : (q : ReaderQos) (h : List Happening) (ws : List ℕ) (w : ℕ)

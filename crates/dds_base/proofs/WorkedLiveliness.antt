@@ -4,7 +4,7 @@ use Rattle.std.specs.Prelude.{ℤ, pos, negsuc}
 use Rattle.dds_base.specs.declared.change.Change.{Change}
 use Rattle.dds_base.specs.declared.change.ChangeKind.TheVariants.{Write}
 use Rattle.dds_base.specs.declared.happening.Happening.{Happening}
-use Rattle.dds_base.specs.declared.happening.Happening.TheVariants.{Came, Heard, Died, Left, Looked}
+use Rattle.dds_base.specs.declared.happening.Happening.TheVariants.{Came, Heard, Died, Left, Joined, Looked}
 use Rattle.dds_base.specs.declared.happening.StatusKind.TheVariants.{LivelinessChanged}
 use Rattle.dds_base.specs.declared.qos.ReaderQos.{ReaderQos}
 use Rattle.dds_base.specs.declared.qos.MatchedWriter.{MatchedWriter}
@@ -141,6 +141,22 @@ changed-died_again = refl
 -- it does not die again for the lease of before
 dead-left : dead_at three 1000 (after_parting 1 20 (came 1 2 ∷ [])) ≡ []
 dead-left = refl
+
+-- a writer that joins is neither alive nor dead, and has the next handle, by which it comes and dies by its own lease
+changed-joined : liveliness_changed_status three (Joined (leased (Some 5)) ∷ came 1 0 ∷ []) 1 0
+    ≡ status (pos 1) (pos 0) (pos 0) (pos 0) 1
+changed-joined = refl
+
+changed-joined_and_came : liveliness_changed_status three (came 4 2 ∷ Joined (leased (Some 5)) ∷ came 1 0 ∷ []) 1 0
+    ≡ status (pos 2) (pos 0) (pos 1) (pos 0) 4
+changed-joined_and_came = refl
+
+dead-joined : dead_at three 7 (came 4 2 ∷ Joined (leased (Some 5)) ∷ came 1 0 ∷ []) ≡ 4 ∷ []
+dead-joined = refl
+
+-- it joins behind those that joined before
+dead-joined_later : dead_at three 7 (came 5 2 ∷ Joined (leased (Some 5)) ∷ Joined (leased None) ∷ []) ≡ 5 ∷ []
+dead-joined_later = refl
 
 -- a writer of lease 10 is lost once, until it is asserted again, and before its first assertion never
 lost-once : liveliness_lost_status (Some 10) (Ticked 13 false ∷ Ticked 12 false ∷ Changed (change 2) ∷ [])

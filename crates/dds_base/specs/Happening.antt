@@ -1,6 +1,6 @@
 -- What happened at a reader: a list with the newest entry first. An entry's position is its number in the order in
--- which things happened, counted from 1: the length of the list that begins with it. Entries name matched writers alone
--- (`Ownership.IsMatched`): who enters one sees to it.
+-- which things happened, counted from 1: the length of the list that begins with it. Entries name writers alone that were
+-- matched before (`Ownership.AreOfMatched`): who enters one sees to it.
 --
 -- DDS 1.4, 2.2.2.5 (read, take; SampleInfo); RTPS 2.5, 8.2 (HistoryCache of a reader).
 use Rattle.std.specs.Prelude.{nat_eq, ℕ, ◌+◌, List, [], ◌∷◌, length, Bool, true, false, ◌&&◌, ◌==◌, nat_le, if◌then◌else◌}

@@ -8,7 +8,7 @@ use Rattle.dds_base.specs.declared.qos.MatchedWriter.{MatchedWriter}
 use Rattle.dds_base.specs.declared.qos.ReaderQos.{ReaderQos}
 use Rattle.dds_base.specs.declared.status.LivelinessChangedStatus.{LivelinessChangedStatus}
 use Rattle.dds_base.specs.Life.{or_else}
-use Rattle.dds_base.specs.Ownership.{publication_handles, writer_of}
+use Rattle.dds_base.specs.Ownership.{publication_handles, writer_of, writers_of}
 use Rattle.dds_base.specs.Written.{is_over}
 
 -- the moment at which the entry asserts w: a change of it came, or it was heard
@@ -53,11 +53,11 @@ lease_of (Some writer) = writer.lease
 
 -- the lease of w is over at this moment
 abbrev pub is_overdue : ReaderQos → ℕ → List Happening → ℕ → Bool
-is_overdue q now h w = is_over (lease_of (writer_of q.writers w)) (alive_since w h) now
+is_overdue q now h w = is_over (lease_of (writer_of (writers_of q h) w)) (alive_since w h) now
 
 -- the writers that die at a tick of this moment, by handle
 abbrev pub dead_at : ReaderQos → ℕ → List Happening → List ℕ
-dead_at q now h = filter (is_overdue q now h) (publication_handles q)
+dead_at q now h = filter (is_overdue q now h) (publication_handles q h)
 
 -- what has happened once these died in turn, at this moment: the last of them is the newest entry
 abbrev pub with_deaths : ℕ → List ℕ → List Happening → List Happening
@@ -90,11 +90,11 @@ writer_in _ = 0
 
 -- how many matched writers are alive
 abbrev pub alive_count : ReaderQos → List Happening → ℕ
-alive_count q h = count_by (λ w. is_alive w h) (publication_handles q)
+alive_count q h = count_by (λ w. is_alive w h) (publication_handles q h)
 
 -- how many matched writers are not alive
 abbrev pub not_alive_count : ReaderQos → List Happening → ℕ
-not_alive_count q h = count_by (λ w. is_dead w h) (publication_handles q)
+not_alive_count q h = count_by (λ w. is_dead w h) (publication_handles q h)
 
 -- the writer that last changed one of the counts, 0 for none: a look at the status does not clear it
 abbrev pub last_turned : List Happening → ℕ

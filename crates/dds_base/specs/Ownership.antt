@@ -2,7 +2,7 @@
 --
 -- DDS 1.4, 2.2.3 (OWNERSHIP, OWNERSHIP_STRENGTH, LIVELINESS), 2.2.2.4 (register_instance,
 -- unregister_instance).
-use Rattle.std.specs.Prelude.{ℕ, zero, suc, ◌+◌, ◌<◌, ◌≤◌, ◌≡◌, ◌≢◌, ℤ, Contains, IsTrue, List, [], ◌∷◌, length, Bool, true, false, ◌&&◌, ◌||◌, ◌==◌, not, Option, None, Some, if◌then◌else◌, filter, find, slice_get, unwrap_or}
+use Rattle.std.specs.Prelude.{ℕ, zero, suc, ◌+◌, ◌<◌, ◌≤◌, ◌≡◌, ◌≢◌, ℤ, Contains, IsTrue, List, [], ◌∷◌, ◌++◌, length, Bool, true, false, ◌&&◌, ◌||◌, ◌==◌, not, Option, None, Some, IfSome, if◌then◌else◌, filter, find, slice_get, unwrap_or}
 use Rattle.std.specs.List.{list_all}
 use Rattle.std.specs.Option.{option_map, option_or}
 use Rattle.std.specs.Ordering.{ordering_then, int_cmp, nat_cmp, is_gt}
@@ -12,7 +12,7 @@ use Rattle.dds_base.specs.declared.key.Key.{Key}
 use Rattle.dds_base.specs.declared.guid.Guid.{Guid}
 use Rattle.dds_base.specs.declared.change.ChangeKind.{ChangeKind}
 use Rattle.dds_base.specs.declared.happening.Happening.{Happening}
-use Rattle.dds_base.specs.declared.happening.Happening.TheVariants.{Came, Died}
+use Rattle.dds_base.specs.declared.happening.Happening.TheVariants.{Came, Passed, Heard, Died, Left, Joined}
 use Rattle.dds_base.specs.declared.qos.MatchedWriter.{MatchedWriter}
 use Rattle.dds_base.specs.declared.qos.ReaderQos.{ReaderQos}
 use Rattle.dds_base.specs.declared.qos.OwnershipQos.{OwnershipQos}
@@ -30,13 +30,38 @@ abbrev pub numbered_from : {X : Type 0} → ℕ → List X → List ℕ
 numbered_from k [] = []
 numbered_from k (x ∷ xs) = k ∷ numbered_from (k + 1) xs
 
+-- the writers that joined, the oldest first (RTPS 2.5, 8.4.10, matched_writer_add)
+abbrev pub joined_in : List Happening → List MatchedWriter
+joined_in [] = []
+joined_in (Joined writer ∷ h) = joined_in h ++ writer ∷ []
+joined_in (_ ∷ h) = joined_in h
+
+-- the matched writers once h has happened, in the order of their handles: those of the opening, and then those that
+-- joined. One that left keeps its place.
+abbrev pub writers_of : ReaderQos → List Happening → List MatchedWriter
+writers_of q h = q.writers ++ joined_in h
+
 -- the publication handles of the matched writers: their numbers from 1 (2.2.2.5, publication_handle)
-abbrev pub publication_handles : ReaderQos → List ℕ
-publication_handles q = numbered_from 1 q.writers
+abbrev pub publication_handles : ReaderQos → List Happening → List ℕ
+publication_handles q h = numbered_from 1 (writers_of q h)
 
 -- w is a matched writer's publication handle
-abbrev pub IsMatched : ReaderQos → ℕ → Type 0
-IsMatched q w = (0 < w) × (w ≤ length q.writers)
+abbrev pub IsMatched : ReaderQos → List Happening → ℕ → Type 0
+IsMatched q h w = (0 < w) × (w ≤ length (writers_of q h))
+
+-- the writer that the entry names by its publication handle, if it names one
+abbrev pub named_by : Happening → Option ℕ
+named_by (Came a) = Some a.writer
+named_by (Passed w first last) = Some w
+named_by (Heard w moment) = Some w
+named_by (Died w moment) = Some w
+named_by (Left w moment) = Some w
+named_by _ = None
+
+-- each writer that an entry names was matched before it
+abbrev pub AreOfMatched : ReaderQos → List Happening → Type 0
+AreOfMatched q [] = Unit {0}
+AreOfMatched q (e ∷ h) = IfSome (named_by e) (IsMatched q h) × AreOfMatched q h
 
 -- the entry registers writer w for instance i
 abbrev pub registers : Key → ℕ → Happening → Bool
@@ -56,7 +81,7 @@ is_registered i w (e ∷ h) = not (ends_registration i w e) && (registers i w e 
 
 -- the writers that are registered for i
 abbrev pub registered_writers : ReaderQos → Key → List Happening → List ℕ
-registered_writers q i h = filter (λ w. is_registered i w h) (publication_handles q)
+registered_writers q i h = filter (λ w. is_registered i w h) (publication_handles q h)
 
 -- the order of two GUIDs by their sixteen octets: the twelve of the prefix, then the four of the entity (RTPS 2.5, 8.2:
 -- GUID_t; the order is ours)
@@ -82,7 +107,7 @@ told_strength w (Came a ∷ h) =
 told_strength w (_ ∷ h) = told_strength w h
 
 -- the strength of a matched writer, of this publication handle, once h has happened: the one that its newest change
--- had, and the one that it was configured with until one has come
+-- had, and the one that it was configured with, or announced, until one has come
 abbrev pub strength_of : List Happening → ℕ → MatchedWriter → ℤ
 strength_of h w m = unwrap_or (told_strength w h) m.strength
 
@@ -97,7 +122,7 @@ writer_of writers (suc at) = slice_get writers at
 
 -- the same of the matched writer of a publication handle
 abbrev pub precedence_of : ReaderQos → List Happening → ℕ → Option Precedence
-precedence_of q h w = option_map (precedence h w) (writer_of q.writers w)
+precedence_of q h w = option_map (precedence h w) (writer_of (writers_of q h) w)
 
 -- both are there, and the first is the greater
 abbrev pub is_above : Option Precedence → Option Precedence → Bool
@@ -122,9 +147,9 @@ abbrev pub owner_of : ReaderQos → List Happening → List ℕ → Option ℕ
 owner_of q h ws = find (outranks_all q h ws) ws
 
 -- no two matched writers have one GUID, as no two writers of a checked configuration have
-abbrev pub HaveOwnGuids : ReaderQos → Type 0
-HaveOwnGuids q = (v w : ℕ) (a b : MatchedWriter) → writer_of q.writers v ≡ Some a → writer_of q.writers w ≡ Some b
-    → a.guid ≡ b.guid → v ≡ w
+abbrev pub HaveOwnGuids : ReaderQos → List Happening → Type 0
+HaveOwnGuids q h = (v w : ℕ) (a b : MatchedWriter) → writer_of (writers_of q h) v ≡ Some a
+    → writer_of (writers_of q h) w ≡ Some b → a.guid ≡ b.guid → v ≡ w
 
 -- SHARED lets every writer change an instance, EXCLUSIVE the owner among those registered before and itself (2.2.3,
 -- OWNERSHIP)

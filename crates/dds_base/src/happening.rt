@@ -6,6 +6,7 @@ use crate::change::Change;
 use crate::handle::Handle;
 use crate::key::Key;
 use crate::moment::Moment;
+use crate::qos::MatchedWriter;
 use crate::sequence::Sequence;
 use crate::sn::Sn;
 
@@ -68,6 +69,8 @@ pub enum Happening {
     Died { writer: Handle, moment: Moment },
     /// A writer left: it is matched no more, from this moment of the reader's peer on.
     Left { writer: Handle, moment: Moment },
+    /// A writer was matched that was not known: it has the next publication handle.
+    Joined(MatchedWriter),
     /// A read returned these samples.
     Read(Sequence<SamplePosition>),
     /// A take returned these samples.

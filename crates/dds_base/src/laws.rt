@@ -12,18 +12,21 @@ ghost use Rattle.dds_base.specs.Instance.{disposed_generations, instance_state_o
 ghost use Rattle.dds_base.specs.Life.{ends_life, is_life_over, last_marker};
 ghost use Rattle.dds_base.specs.Offered.{offered, requested};
 ghost use Rattle.dds_base.specs.Offers.{compared, ids_of, is_empty, offers_deadline, offers_destination_order, offers_durability, offers_latency_budget, offers_liveliness, offers_ownership, offers_presentation, offers_reliability, unfit_policies};
-ghost use Rattle.dds_base.specs.Ownership.{IsMatched, IsOwner, HaveOwnGuids, owner_of, outranks_all, registered_writers};
 ghost use Rattle.dds_base.specs.Presence.{has_room, is_accepted, is_present, is_within, present_writes};
 ghost use Rattle.dds_base.specs.Policies.{lasting, units_of};
 ghost use Rattle.dds_base.specs.declared.config.ReaderConfig.{ReaderConfig as ReaderConfigOf};
 ghost use Rattle.dds_base.specs.declared.config.WriterConfig.{WriterConfig};
+ghost use Rattle.dds_base.specs.Liveliness.{alive_count, not_alive_count};
+ghost use Rattle.dds_base.specs.Ownership.{AreOfMatched, IsMatched, IsOwner, HaveOwnGuids, joined_in, owner_of, outranks_all, precedence_of, registered_writers, writer_of, writers_of};
+ghost use Rattle.dds_base.specs.StatusFlags.{turned_at};
 ghost use Rattle.dds_base.specs.declared.datum.Datum.{Datum};
 ghost use Rattle.dds_base.specs.declared.happening.Arrival.{Arrival};
 ghost use Rattle.dds_base.specs.declared.happening.Happening.{Happening};
-ghost use Rattle.dds_base.specs.declared.happening.Happening.TheVariants.{Came};
+ghost use Rattle.dds_base.specs.declared.happening.Happening.TheVariants.{Came, Joined};
 ghost use Rattle.dds_base.specs.declared.happening.SamplePosition.{SamplePosition};
 ghost use Rattle.dds_base.specs.declared.key.Key.{Key};
 ghost use Rattle.dds_base.specs.declared.policies.Policies.{Policies};
+ghost use Rattle.dds_base.specs.declared.qos.MatchedWriter.{MatchedWriter};
 ghost use Rattle.dds_base.specs.declared.qos.ReaderQos.{ReaderQos};
 ghost use Rattle.dds_base.specs.declared.sample.InstanceState.TheVariants.{Alive, NotAliveDisposed, NotAliveNoWriters};
 ghost use Rattle.dds_base.specs.declared.sample.SampleState.TheVariants.{Read as HasBeenRead, NotRead};
@@ -46,11 +49,45 @@ pub fn owner_is_found()
     ensures only { (q : ReaderQos) (h : List Happening) (ws : List ℕ) (v w : ℕ)
         → IsOwner q h ws v → IsOwner q h ws w → v ≡ w }
     // Where somebody is registered for the instance an owner is found.
-    ensures exists { (q : ReaderQos) (i : Key) (h : List Happening) → HaveOwnGuids q
+    ensures exists { (q : ReaderQos) (i : Key) (h : List Happening) → HaveOwnGuids q h
         → registered_writers q i h ≢ [] → IsSome (owner_of q h (registered_writers q i h)) }
     // A writer outranks all others exactly if it owns among them and itself.
     ensures among { (q : ReaderQos) (h : List Happening) (ws : List ℕ) (w : ℕ)
         → IsTrue (outranks_all q h ws w) ↔ IsOwner q h (w ∷ ws) w }
+{}
+
+/// A writer that joins has the next publication handle, and changes nothing that was. Until an entry names it, it is
+/// registered for nothing, neither alive nor not alive, and as strong as it was announced.
+///
+/// RTPS 2.5, 8.4.10 (matched_writer_add); DDS 1.4, 2.2.3 (OWNERSHIP_STRENGTH, LIVELINESS).
+pub fn a_newcomer_changes_nothing()
+    // Where nobody joined, the matched writers are those of the opening.
+    ensures opening { (q : ReaderQos) (h : List Happening) → joined_in h ≡ []
+        → writers_of q h ≡ q.writers }
+    // It has the next handle.
+    ensures next { (q : ReaderQos) (h : List Happening) (m : MatchedWriter)
+        → writer_of (writers_of q (Joined m ∷ h)) (length (writers_of q h) + 1) ≡ Some m }
+    // All others keep theirs.
+    ensures kept { (q : ReaderQos) (h : List Happening) (m : MatchedWriter) (w : ℕ) → IsMatched q h w
+        → writer_of (writers_of q (Joined m ∷ h)) w ≡ writer_of (writers_of q h) w }
+    // It is as strong as it was announced.
+    ensures strength { (q : ReaderQos) (h : List Happening) (m : MatchedWriter) → AreOfMatched q h
+        → precedence_of q (Joined m ∷ h) (length (writers_of q h) + 1)
+        ≡ Some (record { strength = m.strength; guid = m.guid }) }
+    // The same writers are registered for each instance.
+    ensures registered { (q : ReaderQos) (i : Key) (h : List Happening) (m : MatchedWriter)
+        → AreOfMatched q h → registered_writers q i (Joined m ∷ h) ≡ registered_writers q i h }
+    // Each instance is in the state that it was in.
+    ensures state { (q : ReaderQos) (i : Key) (h : List Happening) (m : MatchedWriter)
+        → AreOfMatched q h → instance_state_of q i (Joined m ∷ h) ≡ instance_state_of q i h }
+    // As many writers are alive.
+    ensures alive { (q : ReaderQos) (h : List Happening) (m : MatchedWriter) → AreOfMatched q h
+        → alive_count q (Joined m ∷ h) ≡ alive_count q h }
+    // As many died and are not alive.
+    ensures not_alive { (q : ReaderQos) (h : List Happening) (m : MatchedWriter) → AreOfMatched q h
+        → not_alive_count q (Joined m ∷ h) ≡ not_alive_count q h }
+    // LIVELINESS_CHANGED is not raised by it.
+    ensures turned { (h : List Happening) (m : MatchedWriter) → turned_at (Joined m ∷ h) ≡ turned_at h }
 {}
 
 /// A value of `MAX_VALUE` octets has a written form, a longer one has none.
@@ -204,7 +241,7 @@ pub fn nil_is_no_handle() -> Handle
     // No instance has it.
     ensures instance { (q : ReaderQos) (h : List Happening) → instance_of q h result ≡ None }
     // No matched writer has it.
-    ensures writer { (q : ReaderQos) → IsMatched q result → ⊥ }
+    ensures writer { (q : ReaderQos) (h : List Happening) → IsMatched q h result → ⊥ }
 {
     Handle::NIL
 }

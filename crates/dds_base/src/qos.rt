@@ -60,14 +60,14 @@ impl ReliabilityQos {
 pub struct MatchedWriter {
     /// Its name, which no other writer has.
     pub guid: Guid,
-    /// What it was configured with: its strength until a change with another one has come (DDS 1.4, 2.2.3,
+    /// What it was configured with, or announced: its strength until a change with another one has come (DDS 1.4, 2.2.3,
     /// OWNERSHIP_STRENGTH).
     pub strength: i32,
     /// The lease of LIVELINESS, in units of 2^-32 second, from 1 to 2^63 - 1; `None` never ends (DDS 1.4, 2.2.3).
     pub lease: Option<u64>,
 }
 
-/// A reader's policies and its matched writers. `None` is no limit.
+/// A reader's policies, and the writers that it was opened with. `None` is no limit.
 ///
 /// DDS 1.4, 2.2.3 (supported QoS).
 #[derive(Drop)]
@@ -84,6 +84,7 @@ pub struct ReaderQos {
     pub max_instances: Option<u32>,
     /// How many changes it takes in its life.
     pub max_arrivals: u64,
-    /// The matched writers, in the order of their publication handles, which count from 1.
+    /// The writers that were matched when it was opened, in the order of their publication handles, which count from 1.
+    /// Those that join have the handles after them.
     pub writers: Sequence<MatchedWriter>,
 }
