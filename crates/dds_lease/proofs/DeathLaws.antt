@@ -1,5 +1,5 @@
 -- The deaths of one moment, in turn.
-use Rattle.std.proofs.Common.{◌≡◌, ℕ, ◌+◌, ◌<◌, ◌≤◌, List, [], ◌∷◌, Bool, true, false, ◌||◌, ◌==◌, sym, ap, ◌∙◌, refl, cond, Option, Some, None, arith, ⊎_elim}
+use Rattle.std.proofs.Common.{◌≡◌, ℕ, ◌+◌, ◌<◌, ◌≤◌, List, [], ◌∷◌, ◌++◌, Bool, true, false, ◌||◌, ◌==◌, sym, ap, ◌∙◌, refl, cond, Option, Some, None, arith, ⊎_elim}
 use Rattle.std.proofs.lemmas.Bool.{cases_Bool, eqb-true, eqb-false}
 use Rattle.std.proofs.lemmas.Bool.Decides.{nat_tests}
 use Rattle.std.specs.Prelude.{if◌then◌else◌, nat_lt, find, filter}
@@ -10,7 +10,8 @@ use Rattle.dds_base.specs.declared.qos.MatchedWriter.{MatchedWriter}
 use Rattle.dds_base.specs.declared.qos.ReaderQos.{ReaderQos}
 use Rattle.dds_base.specs.Life.{or_else}
 use Rattle.dds_base.specs.Liveliness.{after_deaths, alive_since, dead_at, is_overdue, lease_of, with_deaths}
-use Rattle.dds_base.specs.Ownership.{numbered_from, publication_handles, writer_of}
+use Rattle.dds_base.specs.Ownership.{joined_in, numbered_from, publication_handles, writer_of, writers_of}
+use Rattle.dds_base.proofs.JoinLaws.{joined-deaths}
 use Rattle.dds_base.specs.Written.{is_over}
 use Rattle.dds_lease.specs.Standing.{after_deaths_above}
 
@@ -34,7 +35,7 @@ all_above after k due (w ∷ ws) low =
 pub above_none : (q : ReaderQos) (now : ℕ) (h : List Happening)
     → after_deaths_above q now 0 h ≡ after_deaths q now h
 above_none q now h =
-    ap (λ (ws : List ℕ). with_deaths now ws h) (all_above 0 1 (is_overdue q now h) q.writers (omega arith))
+    ap (λ (ws : List ℕ). with_deaths now ws h) (all_above 0 1 (is_overdue q now h) (writers_of q h) (omega arith))
 
 -- what is found is not below the number that these count on from
 found_from : (after k w : ℕ) (due : ℕ → Bool) (ws : List MatchedWriter)
@@ -146,7 +147,7 @@ other_since q now w v h low =
     (λ same. let e = eqb-true w v same in absurd (omega (arith, e, low)))
     (λ differ. differ)
     (cases_Bool (w == v)) in
-    ap (λ (b : Bool). is_over (lease_of (writer_of q.writers v))
+    ap (λ (b : Bool). is_over (lease_of (writer_of (writers_of q h) v))
     (if b then None else or_else None (alive_since v h)) now)
     (sym other)
 
@@ -156,9 +157,9 @@ pub deaths_go_on : (q : ReaderQos) (now after w : ℕ) (h : List Happening)
     → after_deaths_above q now after h ≡ after_deaths_above q now w (Died w now ∷ h)
 deaths_go_on q now after w h is =
     ap (λ (ws : List ℕ). with_deaths now ws h)
-    (first_above after 1 w (is_overdue q now h) q.writers is
+    (first_above after 1 w (is_overdue q now h) (writers_of q h) is
     ∙ ap (λ (ws : List ℕ). w ∷ ws)
-    (same_above w (is_overdue q now h) (is_overdue q now (Died w now ∷ h)) (publication_handles q)
+    (same_above w (is_overdue q now h) (is_overdue q now (Died w now ∷ h)) (publication_handles q h)
     (λ v low. other_since q now w v h low)))
 
 pub deaths_end : (q : ReaderQos) (now after : ℕ) (h : List Happening)
@@ -225,20 +226,29 @@ none_left p (n ∷ ns) none =
     itself k = ⊎_elim (λ same. same) (λ differ. absurd (eqb-false k k differ refl)) (cases_Bool (k == k))
 
 pub nobody_twice : (q : ReaderQos) (now : ℕ) (h : List Happening) → dead_at q now (after_deaths q now h) ≡ []
-nobody_twice q now h = none_left (is_overdue q now (after_deaths q now h)) (publication_handles q) (λ v is. ⊎_elim
-    (λ due. after v (among (is_overdue q now h) v (publication_handles q) is due))
+nobody_twice q now h =
+    ap (λ (ws : List MatchedWriter). filter (is_overdue q now (after_deaths q now h)) (numbered_from 1 (q.writers ++ ws)))
+    same
+    ∙ none_left (is_overdue q now (after_deaths q now h)) (publication_handles q h) (λ v is. ⊎_elim
+    (λ due. after v (among (is_overdue q now h) v (publication_handles q h) is due))
     (λ still. stays v (list_any (λ w. w == v) (dead_at q now h)) refl still)
     (cases_Bool (is_overdue q now h v)))
   where
+    same : joined_in (after_deaths q now h) ≡ joined_in h
+    same = joined-deaths now (dead_at q now h) h
+
     by : (v : ℕ) (b : Bool) → list_any (λ w. w == v) (dead_at q now h) ≡ b
         → is_overdue q now (after_deaths q now h) v
-        ≡ is_over (lease_of (writer_of q.writers v)) (if b then None else alive_since v h) now
-    by v b is = ap (λ (o : Option ℕ). is_over (lease_of (writer_of q.writers v)) o now)
+        ≡ is_over (lease_of (writer_of (writers_of q h) v)) (if b then None else alive_since v h) now
+    by v b is =
+        ap (λ (ws : List MatchedWriter). is_over (lease_of (writer_of (q.writers ++ ws) v))
+        (alive_since v (after_deaths q now h)) now) same
+        ∙ ap (λ (o : Option ℕ). is_over (lease_of (writer_of (writers_of q h) v)) o now)
         (since-after now v (dead_at q now h) h ∙ ap (λ (c : Bool). if c then None else alive_since v h) is)
 
     after : (v : ℕ) → list_any (λ w. w == v) (dead_at q now h) ≡ true
         → is_overdue q now (after_deaths q now h) v ≡ false
-    after v is = by v true is ∙ not_over (lease_of (writer_of q.writers v)) now
+    after v is = by v true is ∙ not_over (lease_of (writer_of (writers_of q h) v)) now
 
     stays : (v : ℕ) (b : Bool) → list_any (λ w. w == v) (dead_at q now h) ≡ b → is_overdue q now h v ≡ false
         → is_overdue q now (after_deaths q now h) v ≡ false

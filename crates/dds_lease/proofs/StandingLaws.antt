@@ -1,26 +1,28 @@
 -- What is kept stands for what happened, after one more entry.
-use Rattle.std.proofs.Common.{◌≡◌, ℕ, ◌+◌, ◌-◌, ◌<◌, ◌≤◌, List, ◌∷◌, length, get_or, set, map, Bool, true, false, not, ◌==◌, ◌&&◌, ◌||◌, cond, sym, subst, ap, ◌∙◌, refl, Option, Some, None, arith}
+use Rattle.std.proofs.Common.{◌≡◌, ℕ, ◌+◌, ◌-◌, ◌<◌, ◌≤◌, List, [], ◌∷◌, ◌++◌, length, get_or, set, map, Bool, true, false, not, ◌==◌, ◌&&◌, ◌||◌, cond, sym, subst, ap, ◌∙◌, refl, Option, Some, None, arith}
 use Rattle.std.proofs.lemmas.List.Sums.{sum_by-set}
 use Rattle.std.specs.Prelude.{if◌then◌else◌, count_by, is_some, nat_lt, find}
 use Rattle.dds_base.specs.declared.happening.Arrival.{Arrival}
 use Rattle.dds_base.specs.declared.happening.Happening.{Happening}
-use Rattle.dds_base.specs.declared.happening.Happening.TheVariants.{Came, Heard, Died, Left}
+use Rattle.dds_base.specs.declared.happening.Happening.TheVariants.{Came, Heard, Died, Left, Joined}
+use Rattle.dds_base.specs.declared.qos.MatchedWriter.{MatchedWriter}
 use Rattle.dds_base.specs.declared.qos.ReaderQos.{ReaderQos}
 use Rattle.dds_base.specs.Liveliness.{after_parting, alive_since, dead_at, has_died, is_alive, is_dead, last_turned}
 use Rattle.dds_base.specs.Life.{or_else}
-use Rattle.dds_base.specs.Ownership.{publication_handles}
+use Rattle.dds_base.specs.Ownership.{IsMatched, joined_in, numbered_from, publication_handles, writers_of}
+use Rattle.dds_base.proofs.JoinLaws.{joined-parted, of_matched-parted}
 use Rattle.dds_lease.specs.declared.track.LeaseTrack.{LeaseTrack}
 use Rattle.dds_lease.specs.Standing.{Kept, StandsFor}
 use Rattle.dds_base.specs.Written.{is_over}
-use Rattle.dds_lease.specs.Track.{first_over, is_dead_track, is_live_track, track_of}
-use Rattle.dds_lease.proofs.TrackLaws.{asserted, buried, changed-at, parted, same-number, track-at, track-came, track-count, track-died, track-heard, track-parted}
+use Rattle.dds_lease.specs.Track.{first_over, fresh, is_dead_track, is_live_track, track_of}
+use Rattle.dds_lease.proofs.TrackLaws.{asserted, buried, changed-at, parted, same-number, track-at, track-came, track-count, track-died, track-heard, track-parted, tracks-joined}
 use Rattle.dds_lease.specs.Overdue.{is_over_at}
 use Rattle.dds_lease.proofs.FindingLaws.{first-dead}
 
 pub matched-count : (kept : Kept) (q : ReaderQos) (h : List Happening) → StandsFor kept q h
-    → length kept.tracks ≡ length q.writers
+    → length kept.tracks ≡ length (writers_of q h)
 matched-count kept q h given =
-    ap (λ (ts : List LeaseTrack). length ts) given.tracks ∙ track-count (track_of q h) 1 q.writers
+    ap (λ (ts : List LeaseTrack). length ts) given.tracks ∙ track-count (track_of q h) 1 (writers_of q h)
 
 -- a matched writer is among those of which something is kept
 pub within : (kept seen : Kept) (w n : ℕ) → seen ≡ kept → (0 < w) × (w ≤ length kept.tracks) → n ≡ w
@@ -28,27 +30,35 @@ pub within : (kept seen : Kept) (w n : ℕ) → seen ≡ kept → (0 < w) × (w 
 within kept seen w n same matched number =
     let count = ap (λ (k : Kept). length k.tracks) same in omega (arith, count, matched.0, matched.1, number)
 
+-- so it is matched
+is-matched : (kept : Kept) (q : ReaderQos) (h : List Happening) (w at : ℕ) → StandsFor kept q h → 1 + at ≡ w
+    → at < length kept.tracks → IsMatched q h w
+is-matched kept q h w at given here within =
+    let count = matched-count kept q h given in (omega (arith, here), omega (arith, here, within, count))
+
 -- what is kept of one writer
 pub kept-track : (kept : Kept) (q : ReaderQos) (h : List Happening) (w at : ℕ) (d : LeaseTrack) → StandsFor kept q h
     → 1 + at ≡ w → at < length kept.tracks → get_or kept.tracks at d ≡ track_of q h w
 kept-track kept q h w at d given here within =
     let count = matched-count kept q h given in
     ap (λ (ts : List LeaseTrack). get_or ts at d) given.tracks
-    ∙ track-at (track_of q h) w 1 at d q.writers here (omega (arith, count, within))
+    ∙ track-at (track_of q h) w 1 at d (writers_of q h) here (omega (arith, count, within))
 
 -- the tracks once more has happened, where that changes the track of one writer
 one-changed : (kept : Kept) (q : ReaderQos) (h after : List Happening) (change : LeaseTrack → LeaseTrack)
     (w at : ℕ) (d : LeaseTrack) (tracks : List LeaseTrack)
+    → joined_in after ≡ joined_in h
     → ((v : ℕ) → track_of q after v ≡ (if w == v then change (track_of q h v) else track_of q h v))
     → StandsFor kept q h → 1 + at ≡ w → at < length kept.tracks
     → tracks ≡ set kept.tracks at (change (get_or kept.tracks at d))
-    → tracks ≡ map (track_of q after) (publication_handles q)
-one-changed kept q h after change w at d tracks is given here within put =
+    → tracks ≡ map (track_of q after) (publication_handles q after)
+one-changed kept q h after change w at d tracks same is given here within put =
     let count = matched-count kept q h given in
     put
     ∙ (ap (λ (ts : List LeaseTrack). set ts at (change (get_or ts at d))) given.tracks
-    ∙ sym (changed-at (track_of q h) (track_of q after) change w 1 at d q.writers is here
-    (omega (arith, count, within))))
+    ∙ (sym (changed-at (track_of q h) (track_of q after) change w 1 at d (writers_of q h) is here
+    (omega (arith, count, within)))
+    ∙ ap (λ (ws : List MatchedWriter). map (track_of q after) (numbered_from 1 (q.writers ++ ws))) (sym same)))
 
 -- the writer that last changed a count, after an assertion
 turned : (is_alive : Bool) (w before last : ℕ) → last ≡ (if is_alive then before else w)
@@ -92,19 +102,21 @@ pub came-stands : (kept new : Kept) (q : ReaderQos) (h : List Happening) (a : Ar
 came-stands kept new q h a moment at track given put here same =
     let asserts : Asserts kept new at a.moment track = subst (λ (m : ℕ). Asserts kept new at m track) (sym same) put in
     record {
-      tracks = one-changed kept q h (Came a ∷ h) (asserted a.moment) a.writer at track new.tracks
+      tracks = one-changed kept q h (Came a ∷ h) (asserted a.moment) a.writer at track new.tracks refl
           (λ v. track-came q h a v) given here put.within
           (put-track kept at track (asserted a.moment) new.tracks put.is asserts.tracks);
       last_turned = asserts-last kept new q h at a.writer moment track given put here;
+      matched = (is-matched kept q h a.writer at given here put.within, given.matched);
     }
 
 pub heard-stands : (kept new : Kept) (q : ReaderQos) (h : List Happening) (w moment at : ℕ) (track : LeaseTrack)
     → StandsFor kept q h → Asserts kept new at moment track → 1 + at ≡ w → StandsFor new q (Heard w moment ∷ h)
 heard-stands kept new q h w moment at track given put here = record {
-  tracks = one-changed kept q h (Heard w moment ∷ h) (asserted moment) w at track new.tracks
+  tracks = one-changed kept q h (Heard w moment ∷ h) (asserted moment) w at track new.tracks refl
       (λ v. track-heard q h w moment v) given here put.within
       (put-track kept at track (asserted moment) new.tracks put.is put.tracks);
   last_turned = asserts-last kept new q h at w moment track given put here;
+  matched = (is-matched kept q h w at given here put.within, given.matched);
 }
 
 -- the death of a writer that was alive
@@ -113,10 +125,11 @@ pub died-stands : (kept new : Kept) (q : ReaderQos) (h : List Happening) (w mome
     → is_some track.since ≡ true → new.tracks ≡ set kept.tracks at (buried track) → new.last_turned ≡ w
     → StandsFor new q (Died w moment ∷ h)
 died-stands kept new q h w moment at track given here within is alive put last = record {
-  tracks = one-changed kept q h (Died w moment ∷ h) buried w at track new.tracks
+  tracks = one-changed kept q h (Died w moment ∷ h) buried w at track new.tracks refl
       (λ v. track-died q h w moment v) given here within (put-track kept at track buried new.tracks is put);
   last_turned = last ∙ sym (turns (has_died w h) (is_alive w h)
       (ap (λ (o : Option ℕ). is_some o) (sym (since-of kept q h at w track given within is here)) ∙ alive));
+  matched = (is-matched kept q h w at given here within, given.matched);
 }
   where
     turns : (died alive : Bool) → alive ≡ true → (if not (died && not alive) then w else last_turned h) ≡ w
@@ -152,12 +165,24 @@ pub parted-stands : (kept new : Kept) (q : ReaderQos) (h : List Happening) (w mo
     → StandsFor new q (after_parting w moment h)
 parted-stands kept new q h w moment at track given here within is put last = record {
   tracks = one-changed kept q h (after_parting w moment h) parted w at track new.tracks
+      (joined-parted w moment h)
       (λ v. track-parted q h w moment v) given here within (put-track kept at track parted new.tracks is put);
   last_turned = last
       ∙ (ap (λ (t : LeaseTrack). if is_some t.since || t.has_died then w else kept.last_turned)
       (is ∙ kept-track kept q h w at track given here within)
       ∙ (ap (λ (n : ℕ). if is_alive w h || has_died w h then w else n) given.last_turned
       ∙ sym (last-parted w moment h)));
+  matched = of_matched-parted q w moment h (is-matched kept q h w at given here within) given.matched;
+}
+
+-- one more writer was matched
+pub joined-stands : (kept new : Kept) (q : ReaderQos) (h : List Happening) (m : MatchedWriter) → StandsFor kept q h
+    → new.tracks ≡ kept.tracks ++ fresh m ∷ [] → new.last_turned ≡ kept.last_turned → StandsFor new q (Joined m ∷ h)
+joined-stands kept new q h m given put last = record {
+  tracks = put ∙ (ap (λ (ts : List LeaseTrack). ts ++ fresh m ∷ []) given.tracks
+      ∙ sym (tracks-joined q h m given.matched));
+  last_turned = last ∙ given.last_turned;
+  matched = (tt, given.matched);
 }
 
 -- whether a count changes with it
@@ -178,7 +203,7 @@ pub found-first : (kept : Kept) (q : ReaderQos) (h : List Happening) (now after 
     → first_over after now 1 kept.tracks ≡ find (nat_lt after) (dead_at q now h)
 found-first kept q h now after given =
     ap (λ (ts : List LeaseTrack). first_over after now 1 ts) given.tracks
-    ∙ sym (first-dead q now after 1 h q.writers)
+    ∙ sym (first-dead q now after 1 h (writers_of q h))
 
 -- the same, seen as it is kept
 pub stands-as : (kept seen : Kept) (q : ReaderQos) (h : List Happening) → seen ≡ kept → StandsFor kept q h

@@ -1,16 +1,18 @@
 -- What is known of each matched writer, after one more entry.
-use Rattle.std.proofs.Common.{◌≡◌, ℕ, zero, suc, ◌+◌, ◌<◌, List, [], ◌∷◌, length, get_or, set, map, Bool, true, false, ◌==◌, ◌||◌, sym, ap, ◌∙◌, refl, cond, Option, Some, None, arith, ⊎_elim}
+use Rattle.std.proofs.Common.{◌≡◌, ℕ, zero, suc, ◌+◌, ◌<◌, ◌≤◌, List, [], ◌∷◌, ◌++◌, length, get_or, set, map, Bool, true, false, not, ◌==◌, ◌&&◌, ◌||◌, sym, ap, ◌∙◌, refl, cond, Option, Some, None, arith, ⊎_elim}
 use Rattle.std.proofs.lemmas.Bool.{cases_Bool, eqb-true, eqb-false}
-use Rattle.std.proofs.lemmas.List.Sums.{length-filter}
+use Rattle.std.proofs.lemmas.List.{map-append}
+use Rattle.std.proofs.lemmas.List.Sums.{length-filter, sum_by_push}
 use Rattle.std.specs.Prelude.{if◌then◌else◌, slice_get, count_by, filter, is_some}
 use Rattle.dds_base.specs.declared.happening.Arrival.{Arrival}
 use Rattle.dds_base.specs.declared.happening.Happening.{Happening}
-use Rattle.dds_base.specs.declared.happening.Happening.TheVariants.{Came, Heard, Died, Left}
+use Rattle.dds_base.specs.declared.happening.Happening.TheVariants.{Came, Heard, Died, Left, Joined}
 use Rattle.dds_base.specs.declared.qos.MatchedWriter.{MatchedWriter}
 use Rattle.dds_base.specs.declared.qos.ReaderQos.{ReaderQos}
 use Rattle.dds_base.specs.Life.{or_else}
-use Rattle.dds_base.specs.Liveliness.{after_parting, alive_since, is_alive, lease_of}
-use Rattle.dds_base.specs.Ownership.{numbered_from, publication_handles, writer_of}
+use Rattle.dds_base.specs.Liveliness.{after_parting, alive_since, has_died, is_alive, lease_of}
+use Rattle.dds_base.specs.Ownership.{AreOfMatched, IsMatched, numbered_from, publication_handles, writer_of, writers_of}
+use Rattle.dds_base.proofs.JoinLaws.{IsUnheard, handles-joined, kept-writer, newcomer-unheard, next-writer, nobody-joined}
 use Rattle.dds_lease.specs.declared.track.LeaseTrack.{LeaseTrack}
 use Rattle.dds_lease.specs.Track.{fresh, is_dead_track, is_live_track, track_of}
 
@@ -29,21 +31,23 @@ parted t = record t { since = None; has_died = false }
 -- ---- before anything happened
 
 fresh-from : (q : ReaderQos) (k : ℕ) (rest : List MatchedWriter)
-    → ((at : ℕ) → writer_of q.writers (k + at) ≡ slice_get rest at)
+    → ((at : ℕ) → writer_of (writers_of q []) (k + at) ≡ slice_get rest at)
     → map (track_of q []) (numbered_from k rest) ≡ map fresh rest
 fresh-from q k [] is = refl
 fresh-from q k (r ∷ rest) is =
     ap (λ (o : Option MatchedWriter). (record { lease = lease_of o; since = None; has_died = false })
     ∷ map (track_of q []) (numbered_from (k + 1) rest))
-    (ap (λ (w : ℕ). writer_of q.writers w) (omega arith) ∙ is 0)
+    (ap (λ (w : ℕ). writer_of (writers_of q []) w) (omega arith) ∙ is 0)
     ∙ ap (λ (ts : List LeaseTrack). fresh r ∷ ts)
-    (fresh-from q (k + 1) rest (λ at. ap (λ (w : ℕ). writer_of q.writers w) (omega arith) ∙ is (suc at)))
+    (fresh-from q (k + 1) rest (λ at. ap (λ (w : ℕ). writer_of (writers_of q []) w) (omega arith) ∙ is (suc at)))
 
-pub fresh-tracks : (q : ReaderQos) → map (track_of q []) (publication_handles q) ≡ map fresh q.writers
-fresh-tracks q = fresh-from q 1 q.writers (λ at. first at (1 + at) (omega arith))
+pub fresh-tracks : (q : ReaderQos) → map (track_of q []) (publication_handles q []) ≡ map fresh q.writers
+fresh-tracks q =
+    fresh-from q 1 (writers_of q []) (λ at. first at (1 + at) (omega arith))
+    ∙ ap (λ (ws : List MatchedWriter). map fresh ws) (nobody-joined q [] refl)
   where
-    first : (at w : ℕ) → w ≡ suc at → writer_of q.writers w ≡ slice_get q.writers at
-    first at w is = ap (λ (n : ℕ). writer_of q.writers n) is
+    first : (at w : ℕ) → w ≡ suc at → writer_of (writers_of q []) w ≡ slice_get (writers_of q []) at
+    first at w is = ap (λ (n : ℕ). writer_of (writers_of q []) n) is
 
 -- ---- one more entry, which asserts a writer or is its death
 
@@ -114,6 +118,50 @@ track-parted q h w moment v = by-alive (is_alive w h) refl
     by-alive false is = let t = track_of q h v in
         parted-else t.lease t.since t.has_died (w == v)
         (λ same. none-since (alive_since v h) (ap (λ (u : ℕ). is_alive u h) (sym (eqb-true w v same)) ∙ is))
+
+-- ---- a writer that joins
+
+-- what is known of all others stays
+kept-from : (q : ReaderQos) (h : List Happening) (m : MatchedWriter) (k : ℕ) (ws : List MatchedWriter) → 0 < k
+    → k + length ws ≤ length (writers_of q h) + 1
+    → map (track_of q (Joined m ∷ h)) (numbered_from k ws) ≡ map (track_of q h) (numbered_from k ws)
+kept-from q h m k [] low high = refl
+kept-from q h m k (w ∷ ws) low high =
+    ap (λ (o : Option MatchedWriter).
+    (record { lease = lease_of o; since = alive_since k (Joined m ∷ h); has_died = has_died k (Joined m ∷ h) })
+    ∷ map (track_of q (Joined m ∷ h)) (numbered_from (k + 1) ws))
+    (kept-writer q h m k (low, omega (arith, high)))
+    ∙ (ap (λ (t : LeaseTrack). t ∷ map (track_of q (Joined m ∷ h)) (numbered_from (k + 1) ws))
+    (same (lease_of (writer_of (writers_of q h) k)) (alive_since k h) (has_died k h))
+    ∙ ap (λ (ts : List LeaseTrack). track_of q h k ∷ ts)
+    (kept-from q h m (k + 1) ws (omega (arith, low)) (omega (arith, high))))
+  where
+    same : (lease since : Option ℕ) (died : Bool)
+        → ◌≡◌ {A = LeaseTrack} (record { lease = lease; since = or_else None since; has_died = false || died })
+        (record { lease = lease; since = since; has_died = died })
+    same lease since died = refl
+
+-- nothing is known of it but its lease
+newcomer-track : (q : ReaderQos) (h : List Happening) (m : MatchedWriter) → AreOfMatched q h
+    → track_of q (Joined m ∷ h) (length (writers_of q h) + 1) ≡ fresh m
+newcomer-track q h m matched =
+    let w : ℕ = length (writers_of q h) + 1 in
+    let unheard : IsUnheard w (Joined m ∷ h) = newcomer-unheard q h m matched in
+    ap (λ (o : Option MatchedWriter).
+    record { lease = lease_of o; since = alive_since w (Joined m ∷ h); has_died = has_died w (Joined m ∷ h) })
+    (next-writer q h m)
+    ∙ (ap (λ (o : Option ℕ). record { lease = m.lease; since = o; has_died = has_died w (Joined m ∷ h) }) unheard.silent
+    ∙ ap (λ (b : Bool). record { lease = m.lease; since = None; has_died = b }) unheard.deathless)
+
+pub tracks-joined : (q : ReaderQos) (h : List Happening) (m : MatchedWriter) → AreOfMatched q h
+    → map (track_of q (Joined m ∷ h)) (publication_handles q (Joined m ∷ h))
+    ≡ map (track_of q h) (publication_handles q h) ++ fresh m ∷ []
+tracks-joined q h m matched =
+    ap (λ (ns : List ℕ). map (track_of q (Joined m ∷ h)) ns) (handles-joined q h m)
+    ∙ (map-append (track_of q (Joined m ∷ h)) (publication_handles q h) ((length (writers_of q h) + 1) ∷ [])
+    ∙ (ap (λ (ts : List LeaseTrack). ts ++ track_of q (Joined m ∷ h) (length (writers_of q h) + 1) ∷ [])
+    (kept-from q h m 1 (writers_of q h) (omega arith) (omega arith))
+    ∙ ap (λ (t : LeaseTrack). map (track_of q h) (publication_handles q h) ++ t ∷ []) (newcomer-track q h m matched)))
 
 -- ---- the tracks of all, where that of one writer alone changes
 
@@ -186,3 +234,18 @@ fresh-counts ws = (
     none p not_one (v ∷ vs) = none p not_one vs
         ∙ ap (λ (b : Bool). length (cond b (fresh v ∷ filter p (map fresh vs)) (filter p (map fresh vs))))
         (sym (not_one v))
+
+-- one more of which nothing was heard changes no count
+pub fresh-more : (ts : List LeaseTrack) (t : LeaseTrack) → t.since ≡ None → t.has_died ≡ false
+    → (count_by is_live_track (ts ++ t ∷ []) ≡ count_by is_live_track ts)
+    × (count_by is_dead_track (ts ++ t ∷ []) ≡ count_by is_dead_track ts)
+fresh-more ts t silent deathless = (
+  sum_by_push (λ (x : LeaseTrack). cond (is_live_track x) 1 0) ts t
+      ∙ (ap (λ (o : Option ℕ). count_by is_live_track ts + cond (is_some o) 1 0) silent ∙ none (count_by is_live_track ts)),
+  sum_by_push (λ (x : LeaseTrack). cond (is_dead_track x) 1 0) ts t
+      ∙ (ap (λ (b : Bool). count_by is_dead_track ts + cond (b && not (is_some t.since)) 1 0) deathless
+      ∙ none (count_by is_dead_track ts)),
+)
+  where
+    none : (n : ℕ) → n + 0 ≡ n
+    none n = omega arith

@@ -6,7 +6,7 @@ use Rattle.std.specs.Prelude.{ℕ, ◌+◌, Bool, false, ◌&&◌, not, nat_lt, 
 use Rattle.dds_base.specs.declared.happening.Happening.{Happening}
 use Rattle.dds_base.specs.declared.qos.MatchedWriter.{MatchedWriter}
 use Rattle.dds_base.specs.declared.qos.ReaderQos.{ReaderQos}
-use Rattle.dds_base.specs.Ownership.{writer_of}
+use Rattle.dds_base.specs.Ownership.{writer_of, writers_of}
 use Rattle.dds_base.specs.Liveliness.{alive_since, has_died, lease_of}
 use Rattle.dds_lease.specs.declared.track.LeaseTrack.{LeaseTrack}
 use Rattle.dds_lease.specs.Overdue.{is_over_at}
@@ -14,7 +14,7 @@ use Rattle.dds_lease.specs.Overdue.{is_over_at}
 -- what is known of a writer after this happened
 abbrev pub track_of : ReaderQos → List Happening → ℕ → LeaseTrack
 track_of q h w = record {
-  lease = lease_of (writer_of q.writers w);
+  lease = lease_of (writer_of (writers_of q h) w);
   since = alive_since w h;
   has_died = has_died w h;
 }

@@ -9,6 +9,7 @@ ghost use Rattle.dds_base.specs.declared.happening.SamplePosition.{SamplePositio
 ghost use Rattle.dds_base.specs.declared.happening.StatusKind.{StatusKind};
 ghost use Rattle.dds_base.specs.declared.qos.ReaderQos.{ReaderQos};
 ghost use Rattle.dds_base.specs.Liveliness.{after_deaths, after_parting, dead_at, is_alive, is_dead};
+ghost use Rattle.dds_base.specs.Ownership.{IsMatched};
 ghost use Rattle.dds_lease.specs.Standing.{Kept, StandsFor, after_deaths_above};
 
 /// A tick's deaths are those above no handle, and after them no lease is over at its moment.
@@ -42,9 +43,9 @@ pub fn a_parting_begins_anew()
 /// What neither asserts a writer nor is its death or parting says nothing of leases: what stood for all before stands for it
 /// too.
 pub fn other_entries_change_nothing()
-    // Changes were passed over.
+    // Changes of a matched writer were passed over.
     ensures passed { (kept : Kept) (q : ReaderQos) (h : List Happening) (w first last : ℕ)
-        → StandsFor kept q h
+        → StandsFor kept q h → IsMatched q h w
         → StandsFor kept q (Passed w first last ∷ h) }
     // A read returned samples.
     ensures read { (kept : Kept) (q : ReaderQos) (h : List Happening)

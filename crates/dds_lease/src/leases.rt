@@ -2,18 +2,18 @@
 //!
 //! DDS 1.4, 2.2.3 (LIVELINESS), 2.2.4.1 (LIVELINESS_CHANGED).
 
-ghost use Rattle.std.specs.Prelude.{◌≡◌, ◌+◌, ◌≤◌, ◌<◌, ◌||◌, List, [], ◌∷◌, length, find, nat_lt, IfOk, IfErr, IfNone, IfSome, MatchOption, false};
+ghost use Rattle.std.specs.Prelude.{◌≡◌, ◌+◌, ◌≤◌, ◌<◌, ◌||◌, List, [], ◌∷◌, length, IsOk, OnOk, OnErr, find, nat_lt, IfOk, IfErr, IfNone, IfSome, MatchOption, false};
 ghost use Rattle.dds_base.specs.declared.code.Code.TheVariants.{Memory};
 ghost use Rattle.dds_base.specs.declared.happening.Arrival.{Arrival};
 ghost use Rattle.dds_base.specs.declared.happening.Happening.{Happening};
-ghost use Rattle.dds_base.specs.declared.happening.Happening.TheVariants.{Came, Heard, Died};
+ghost use Rattle.dds_base.specs.declared.happening.Happening.TheVariants.{Came, Heard, Died, Joined};
 ghost use Rattle.dds_base.specs.declared.qos.ReaderQos.{ReaderQos};
 ghost use Rattle.dds_base.specs.Liveliness.{after_parting, alive_count, dead_at, is_alive, is_dead, last_turned, not_alive_count};
-ghost use Rattle.dds_base.specs.Ownership.{IsMatched};
-ghost use Rattle.dds_lease.specs.Standing.{Kept, StandsFor, after_deaths_above, overdue_of, writer_count};
+ghost use Rattle.dds_base.specs.Ownership.{IsMatched, writers_of};
+ghost use Rattle.dds_lease.specs.Standing.{Kept, StandsFor, after_deaths_above, overdue_of, spare_of, writer_count};
 
-use crate::track::{LeaseTrack, count_over, find_over, fresh_tracks};
-use dds_base::{Code, Handle, Moment, ReaderQos};
+use crate::track::{LeaseTrack, count_over, find_over, fresh_tracks, push_fresh};
+use dds_base::{Code, Handle, MatchedWriter, Moment, ReaderQos};
 use std::alloc::Global;
 use std::marker::Model;
 
@@ -34,7 +34,7 @@ pub struct Leases {
 }
 
 impl Model for Leases {
-    ghost use Rattle.std.specs.Prelude.{◌≡◌, count_by};
+    ghost use Rattle.std.specs.Prelude.{◌≡◌, ◌-◌, count_by, vec_capacity, vec_len};
     ghost use Rattle.dds_lease.specs.Track.{is_dead_track, is_live_track};
     ghost use Rattle.dds_lease.specs.Standing.{Kept};
 
@@ -43,6 +43,7 @@ impl Model for Leases {
     ghost view = { λ l. record {
       tracks = l.tracks.items;
       last_turned = l.last_turned;
+      spare = vec_capacity l.tracks - vec_len l.tracks;
     } };
 
     ghost invariant = { λ l. (l.alive ≡ count_by is_live_track l.tracks.items)
@@ -76,9 +77,59 @@ impl Leases {
         ensures writers { result ≡ writer_count self.now }
         // It is the number of the reader's matched writers.
         ensures matched { (q : ReaderQos) (h : List Happening) → StandsFor self.now q h
-            → result ≡ length q.writers }
+            → result ≡ length (writers_of q h) }
     {
         self.tracks.len()
+    }
+
+    /// Makes the memory for one writer more: the next one that joins then finds it.
+    ///
+    /// # Errors
+    ///
+    /// `Memory` where a growth was refused; nothing has changed then.
+    pub fn reserve(&mut self) -> Result<(), Code>
+        // It stands for what it stood for.
+        ensures same { (q : ReaderQos) (h : List Happening) → StandsFor self.old q h
+            → StandsFor self.new q h }
+        // There is memory for one writer.
+        ensures spare { OnOk result (1 ≤ spare_of self.new) }
+        // Where there was it succeeds.
+        ensures succeeds { 1 ≤ spare_of self.old → IsOk result }
+        // The writers stay the same ones.
+        ensures writers { writer_count self.new ≡ writer_count self.old }
+        // A refusal leaves it as it was.
+        ensures err { OnErr result (self.new ≡ self.old) }
+        // It is refused for want of memory alone.
+        ensures memory { IfErr result (λ code. code ≡ Memory) }
+    {
+        self.tracks.reserve(1)?;
+        Ok(())
+    }
+
+    /// A writer is matched that was not known: it has the next publication handle, and is neither alive nor not alive until it
+    /// is asserted. All memory is asked for before anything changes.
+    ///
+    /// # Errors
+    ///
+    /// `Memory` where a growth was refused, and never where memory was reserved; nothing has changed then.
+    ///
+    /// RTPS 2.5, 8.4.10 (matched_writer_add); DDS 1.4, 2.2.4.1 (LivelinessChangedStatus: alive_count, not_alive_count).
+    pub fn join(&mut self, writer: MatchedWriter) -> Result<(), Code>
+        // It joined, and nothing else happened.
+        ensures joined { OnOk result ((q : ReaderQos) (h : List Happening) → StandsFor self.old q h
+            → StandsFor self.new q (Joined writer ∷ h)) }
+        // There is one writer more.
+        ensures writers { OnOk result (writer_count self.new ≡ writer_count self.old + 1) }
+        // Where there was memory for it, it succeeds.
+        ensures reserved { 1 ≤ spare_of self.old → IsOk result }
+        // A refusal leaves it as it was.
+        ensures err { OnErr result (self.new ≡ self.old) }
+        // It is refused for want of memory alone.
+        ensures memory { IfErr result (λ code. code ≡ Memory) }
+    {
+        self.reserve()?;
+        push_fresh(&mut self.tracks, writer);
+        Ok(())
     }
 
     /// A writer is asserted at this moment: a change of it came, or it was heard.
@@ -201,11 +252,11 @@ impl Leases {
     pub fn is_alive(&self, writer: Handle) -> bool
         // It is so by the definitions.
         ensures matched { (q : ReaderQos) (h : List Happening) → StandsFor self.now q h
-            → IsMatched q writer
+            → IsMatched q h writer
             → result ≡ is_alive writer h }
         // A handle that names no writer names none that is alive.
         ensures unmatched { (q : ReaderQos) (h : List Happening) → StandsFor self.now q h
-            → (IsMatched q writer → ⊥) → result ≡ false }
+            → (IsMatched q h writer → ⊥) → result ≡ false }
     {
         let at = writer.number();
         if at == 0 || self.tracks.len() < at as usize {

@@ -2,7 +2,7 @@
 //!
 //! DDS 1.4, 2.2.3 (LIVELINESS: lease_duration).
 
-ghost use Rattle.std.specs.Prelude.{◌≡◌, ◌-◌, ◌<◌, ◌≤◌, length, get_or, map, IfOk, IfSome, count_by, true, false, None};
+ghost use Rattle.std.specs.Prelude.{◌≡◌, ◌+◌, ◌-◌, ◌<◌, ◌≤◌, ◌∷◌, ◌++◌, [], vec_capacity, vec_len, length, get_or, map, IfOk, IfSome, count_by, true, false, None};
 ghost use Rattle.dds_lease.specs.declared.track.LeaseTrack.{LeaseTrack};
 ghost use Rattle.dds_lease.specs.Track.{first_over, fresh};
 ghost use Rattle.dds_lease.specs.Overdue.{is_over_at};
@@ -54,6 +54,19 @@ pub fn fresh_tracks(alloc: Global, writers: &[MatchedWriter]) -> Result<Vec<Leas
         })?;
     }
     Ok(tracks)
+}
+
+/// One writer more of which nothing was heard, in the room that there is.
+pub fn push_fresh(tracks: &mut Vec<LeaseTrack>, writer: MatchedWriter)
+    requires room { vec_len tracks.old < vec_capacity tracks.old }
+    ensures items { tracks.new.items ≡ tracks.old.items ++ fresh writer ∷ [] }
+    ensures len { vec_len tracks.new ≡ vec_len tracks.old + 1 }
+{
+    tracks.push_reserved(LeaseTrack {
+        lease: writer.lease,
+        since: None,
+        has_died: false,
+    });
 }
 
 /// The first writer above this one whose lease is over at this moment.

@@ -20,4 +20,5 @@ returns-clause-ok c = record {
       ∙ (ap (λ (ws : List MatchedWriter). map fresh ws) c.as_slice.ensures.elements
       ∙ sym (fresh-tracks c.args.qos.now));
   last_turned = refl;
+  matched = tt;
 }
