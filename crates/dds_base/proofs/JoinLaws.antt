@@ -120,14 +120,14 @@ joined-deaths now (d ∷ ds) h = joined-deaths now ds (Died d now ∷ h)
 
 -- ---- no entry names a writer beyond the matched ones
 
-other-one : (v w n : ℕ) → v ≤ n → n < w → (v == w) ≡ false
+pub other-one : (v w n : ℕ) → v ≤ n → n < w → (v == w) ≡ false
 other-one v w n low high = grind (arith, nat_tests)
 
 and-false : (b : Bool) → (b && false) ≡ false
 and-false true = refl
 and-false false = refl
 
-not-its : (s x u d r : Bool) → x ≡ false → r ≡ false → (not ((s && x) && u) && (((s && x) && d) || r)) ≡ false
+pub not-its : (s x u d r : Bool) → x ≡ false → r ≡ false → (not ((s && x) && u) && (((s && x) && d) || r)) ≡ false
 not-its true x u d r x_is r_is = ap (λ (b : Bool). not (b && u) && ((b && d) || r)) x_is ∙ r_is
 not-its false x u d r x_is r_is = r_is
 

@@ -1,5 +1,5 @@
 -- The leader among the registrations is the owner, and what is accepted among them is what is accepted.
-use Rattle.std.proofs.Common.{◌≡◌, ℕ, ◌+◌, ◌<◌, ◌≤◌, List, [], ◌∷◌, ◌++◌, length, map, Bool, true, false, not, ◌==◌, ◌&&◌, ◌||◌, sym, ap, subst, ◌∙◌, refl, cond, Option, Some, None, ◌⊎◌, inl, inr, arith, append_assoc, ⊎_elim}
+use Rattle.std.proofs.Common.{◌≡◌, ℕ, ◌+◌, ◌<◌, ◌≤◌, List, [], ◌∷◌, ◌++◌, length, map, take, Bool, true, false, not, ◌==◌, ◌&&◌, ◌||◌, sym, ap, subst, ◌∙◌, refl, cond, Option, Some, None, ◌⊎◌, inl, inr, arith, append_assoc, ⊎_elim}
 use Rattle.std.specs.Prelude.{if◌then◌else◌, find}
 use Rattle.std.specs.List.{filter, list_all}
 use Rattle.std.specs.Option.{option_map}
@@ -13,15 +13,15 @@ use Rattle.dds_base.specs.declared.key.Key.{Key}
 use Rattle.dds_base.specs.declared.happening.Happening.{Happening}
 use Rattle.dds_base.specs.declared.qos.MatchedWriter.{MatchedWriter}
 use Rattle.dds_base.specs.declared.qos.ReaderQos.{ReaderQos}
-use Rattle.dds_base.specs.Ownership.{IsMatched, is_above, is_registered, numbered_from, outranks, outranks_all, owner_of, Precedence, precedence, precedence_of, publication_handles, registered_writers, writer_cmp, writer_of}
+use Rattle.dds_base.specs.Ownership.{IsMatched, is_above, is_registered, numbered_from, outranks, outranks_all, owner_of, Precedence, precedence, precedence_of, registered_writers, writer_cmp, writer_of, writers_of}
 use Rattle.dds_base.proofs.OwnerLaws.{all-at, eqb-refl, is_one_of, matched-writer, outranks-one_way, outranks-trans, owner-is, owner-one, writer_total}
 use Rattle.dds_owner.specs.declared.ranking.Leader.{Leader}
 use Rattle.dds_owner.specs.declared.registration.Registration.{Registration}
 use Rattle.dds_owner.specs.First.{gives_way}
 use Rattle.dds_owner.specs.Ranking.{leader_after, leader_among, order_by, sole}
 use Rattle.dds_owner.specs.Registration.{registration_of}
-use Rattle.dds_owner.specs.Standing.{KeptStrengths, TellsStrengths}
-use Rattle.dds_owner.proofs.RegistrationLaws.{other-than}
+use Rattle.dds_owner.specs.Standing.{Kept, KeptStrengths, StandsFor, TellsStrengths, places_of}
+use Rattle.dds_owner.proofs.RegistrationLaws.{other-than, registered-first, take-fewer}
 use Rattle.dds_owner.proofs.StrengthLaws.{order-kept}
 
 -- ---- who need not give way
@@ -94,19 +94,19 @@ below-chain u v w Less is above not_w not_v =
     absurd (let clash : true ≡ false =
     sym (ap is_gt (writer_total.antisymm u v ∙ ap ordering_reverse is)) ∙ not_v in cc)
 
-outranks-as : (q : ReaderQos) (g : List Happening) (v w : ℕ) (a b : MatchedWriter) → writer_of q.writers v ≡ Some a
-    → writer_of q.writers w ≡ Some b → outranks q g v w ≡ is_gt (writer_cmp (precedence g v a) (precedence g w b))
+outranks-as : (q : ReaderQos) (g : List Happening) (v w : ℕ) (a b : MatchedWriter)
+    → writer_of (writers_of q g) v ≡ Some a → writer_of (writers_of q g) w ≡ Some b → outranks q g v w ≡ is_gt (writer_cmp (precedence g v a) (precedence g w b))
 outranks-as q g v w a b is_a is_b =
     ap (λ (x : Option MatchedWriter). is_above (option_map (precedence g v) x) (precedence_of q g w)) is_a
     ∙ ap (λ (x : Option MatchedWriter). is_above (Some (precedence g v a)) (option_map (precedence g w) x)) is_b
 
 -- who outranks a writer that nobody of some outranks, outranks each of these
-above-others : (q : ReaderQos) (g : List Happening) (v w u : ℕ) → IsMatched q v → IsMatched q w → IsMatched q u
+above-others : (q : ReaderQos) (g : List Happening) (v w u : ℕ) → IsMatched q g v → IsMatched q g w → IsMatched q g u
     → outranks q g v w ≡ true → outranks q g u w ≡ false → outranks q g v u ≡ true
 above-others q g v w u matched_v matched_w matched_u above not_above =
-    let a = matched-writer q v matched_v in
-    let b = matched-writer q w matched_w in
-    let c = matched-writer q u matched_u in
+    let a = matched-writer q g v matched_v in
+    let b = matched-writer q g w matched_w in
+    let c = matched-writer q g u matched_u in
     let not_back : outranks q g u v ≡ false =
     ⊎_elim
     (λ back. absurd (let clash : true ≡ false =
@@ -163,7 +163,7 @@ one-more ws v u there =
 -- one of these, which have numbers below k: it is not above writer w
 record Seen (q : ReaderQos) (g : List Happening) (k w u : ℕ) : Type 0 where
   below : u < k
-  matched : IsMatched q u
+  matched : IsMatched q g u
   not_above : outranks q g u w ≡ false
 
 record LeadsBy (q : ReaderQos) (g : List Happening) (k : ℕ) (seen : List ℕ) (l : Leader) : Type 0 where
@@ -175,11 +175,11 @@ abbrev Leads : ReaderQos → List Happening → ℕ → List ℕ → Option Lead
 Leads q g k seen None = seen ≡ []
 Leads q g k seen (Some l) = LeadsBy q g k seen l
 
-seen-itself : (q : ReaderQos) (g : List Happening) (k : ℕ) → IsMatched q k → Seen q g (k + 1) k k
+seen-itself : (q : ReaderQos) (g : List Happening) (k : ℕ) → IsMatched q g k → Seen q g (k + 1) k k
 seen-itself q g k matched = record { below = omega arith; matched = matched; not_above = above-itself q g k }
 
 -- the first that is looked at
-leads-first : (q : ReaderQos) (g : List Happening) (k : ℕ) → IsMatched q k
+leads-first : (q : ReaderQos) (g : List Happening) (k : ℕ) → IsMatched q g k
     → LeadsBy q g (k + 1) (k ∷ []) (record { writer = k; is_sole = true })
 leads-first q g k matched = record {
   among = or_left (k == k) false (eqb-refl k);
@@ -193,7 +193,7 @@ leads-first q g k matched = record {
 
 -- one that outranks the leader takes its place
 takes-over : (q : ReaderQos) (g : List Happening) (k : ℕ) (seen : List ℕ) (l : Leader) → LeadsBy q g k seen l
-    → IsMatched q k → outranks q g k l.writer ≡ true
+    → IsMatched q g k → outranks q g k l.writer ≡ true
     → LeadsBy q g (k + 1) (seen ++ k ∷ []) (record { writer = k; is_sole = true })
 takes-over q g k seen l leads matched above = record {
   among = list_any-append (λ x. x == k) seen (k ∷ [])
@@ -227,7 +227,7 @@ last-only true false = refl
 last-only false x = refl
 
 -- one that does not leaves it there
-stays : (q : ReaderQos) (g : List Happening) (k : ℕ) (seen : List ℕ) (l : Leader) → LeadsBy q g k seen l → IsMatched q k
+stays : (q : ReaderQos) (g : List Happening) (k : ℕ) (seen : List ℕ) (l : Leader) → LeadsBy q g k seen l → IsMatched q g k
     → outranks q g k l.writer ≡ false
     → LeadsBy q g (k + 1) (seen ++ k ∷ [])
     (record { writer = l.writer; is_sole = l.is_sole && outranks q g l.writer k })
@@ -251,7 +251,7 @@ stays q g k seen l leads matched not_above =
     }
 
 leads-next : (q : ReaderQos) (g : List Happening) (k : ℕ) (seen : List ℕ) (leader : Option Leader)
-    → Leads q g k seen leader → IsMatched q k → LeadsBy q g (k + 1) (seen ++ k ∷ []) (leader_after (precedence_of q g) leader k)
+    → Leads q g k seen leader → IsMatched q g k → LeadsBy q g (k + 1) (seen ++ k ∷ []) (leader_after (precedence_of q g) leader k)
 leads-next q g k seen None none matched =
     subst (λ (ws : List ℕ). LeadsBy q g (k + 1) (ws ++ k ∷ []) (record { writer = k; is_sole = true }))
     (sym none) (leads-first q g k matched)
@@ -303,7 +303,7 @@ sole-owns q g k seen (Some l) leads =
     (cases_Bool l.is_sole)
 
 leader-owns : (q : ReaderQos) (g : List Happening) (i : Key) (h : List Happening) (k : ℕ) (xs : List MatchedWriter)
-    (seen : List ℕ) (leader : Option Leader) → 0 < k → k + length xs ≤ length q.writers + 1 → Leads q g k seen leader
+    (seen : List ℕ) (leader : Option Leader) → 0 < k → k + length xs ≤ length (writers_of q g) + 1 → Leads q g k seen leader
     → sole (leader_among (precedence_of q g) leader (map (registration_of i h) (numbered_from k xs)))
     ≡ owner_of q g (seen ++ filter (λ w. is_registered i w h) (numbered_from k xs))
 leader-owns q g i h k [] seen leader low high leads =
@@ -328,11 +328,13 @@ leader-owns q g i h k (x ∷ xs) seen leader low high leads =
     (cases_Bool (is_registered i k h))
 
 -- the leader among the registrations is the owner
-pub owner-found : (q : ReaderQos) (i : Key) (h : List Happening) (kept : KeptStrengths) (rs : List Registration)
-    → TellsStrengths kept q h → rs ≡ map (registration_of i h) (publication_handles q)
-    → sole (leader_among (order_by q kept None) None rs) ≡ owner_of q h (registered_writers q i h)
-owner-found q i h kept rs tells is =
+pub owner-found : (q : ReaderQos) (i : Key) (h : List Happening) (kept : KeptStrengths) (was : Kept)
+    → TellsStrengths kept h → StandsFor was q i h
+    → sole (leader_among (order_by q kept None) None was.registrations) ≡ owner_of q h (registered_writers q i h)
+owner-found q i h kept was tells given =
+    let ws : List MatchedWriter = take (places_of was) (writers_of q h) in
     ap (λ (l : Option Leader). sole l)
-    (among-same (order_by q kept None) (precedence_of q h) (order-kept q h kept tells) None rs)
-    ∙ (ap (λ (xs : List Registration). sole (leader_among (precedence_of q h) None xs)) is
-    ∙ leader-owns q h i h 1 q.writers [] None (omega arith) (omega arith) refl)
+    (among-same (order_by q kept None) (precedence_of q h) (order-kept q h kept tells) None was.registrations)
+    ∙ (ap (λ (xs : List Registration). sole (leader_among (precedence_of q h) None xs)) given.registrations_are
+    ∙ (leader-owns q h i h 1 ws [] None (omega arith) (omega (arith, take-fewer (places_of was) (writers_of q h))) refl
+    ∙ ap (λ (vs : List ℕ). owner_of q h vs) (sym (registered-first was q i h given))))

@@ -1,18 +1,19 @@
 -- What is kept of the strengths follows what happens, and orders the writers as the definitions do.
-use Rattle.std.proofs.Common.{◌≡◌, ℕ, zero, suc, ◌<◌, ◌≤◌, List, [], ◌∷◌, length, Bool, true, false, not, ◌==◌, ap, sym, ◌∙◌, refl, ⊎_elim, Option, Some, None, is_some, arith}
-use Rattle.std.specs.Prelude.{ℤ, if◌then◌else◌, unwrap_or}
+use Rattle.std.proofs.Common.{◌≡◌, ℕ, zero, suc, ◌+◌, ◌<◌, ◌≤◌, List, [], ◌∷◌, ◌++◌, length, Bool, true, false, not, ◌==◌, ap, sym, ◌∙◌, refl, ⊎_elim, Option, Some, None, slice_get, arith}
+use Rattle.std.specs.Prelude.{ℤ, if◌then◌else◌, slice_index_or, unwrap_or}
 use Rattle.std.specs.Option.{option_map, option_or}
 use Rattle.std.specs.Ordering.{int_eq}
 use Rattle.std.proofs.lemmas.Bool.{cases_Bool, eqb-true}
-use Rattle.std.proofs.lemmas.Bool.Decides.{Decides-int_eq}
+use Rattle.std.proofs.lemmas.Bool.Decides.{Decides-int_eq, nat_tests}
 use Rattle.dds_base.specs.declared.happening.Arrival.{Arrival}
 use Rattle.dds_base.specs.declared.happening.Happening.{Happening}
-use Rattle.dds_base.specs.declared.happening.Happening.TheVariants.{Came, Died, Heard, Left, Looked, Passed, Read, Took}
+use Rattle.dds_base.specs.declared.happening.Happening.TheVariants.{Came, Died, Heard, Joined, Left, Looked, Passed, Read, Took}
 use Rattle.dds_base.specs.declared.qos.MatchedWriter.{MatchedWriter}
 use Rattle.dds_base.specs.declared.qos.ReaderQos.{ReaderQos}
-use Rattle.dds_base.specs.Ownership.{precedence_of, told_strength, writer_of}
+use Rattle.dds_base.specs.Ownership.{Precedence, is_above, joined_in, precedence_of, told_strength, writer_of, writers_of}
+use Rattle.dds_base.proofs.JoinLaws.{with-joined}
 use Rattle.dds_owner.specs.Ranking.{order_by, own_precedence, strength_by, with_strength}
-use Rattle.dds_owner.specs.Restrengthening.{is_new_strength, strength_changes}
+use Rattle.dds_owner.specs.Restrengthening.{MAX_CHANGES, is_new_strength, strength_changes}
 use Rattle.dds_owner.specs.Standing.{KeptStrengths, TellsStrengths, kept_strength}
 
 -- what a change says of a writer, by whether it is its own
@@ -21,36 +22,35 @@ told_next strength before is_its = if is_its then option_or strength before else
 
 -- ---- the order of writers by what is kept
 
-matched-from : (writers : List MatchedWriter) (w : ℕ) → is_some (writer_of writers w) ≡ true
-    → (0 < w) × (w ≤ length writers)
-matched-from [] zero there = absurd cc
-matched-from [] (suc at) there = absurd cc
-matched-from (x ∷ writers) zero there = absurd cc
-matched-from (x ∷ writers) (suc zero) there = (omega arith, omega arith)
-matched-from (x ∷ writers) (suc (suc at)) there =
-    let rest = matched-from writers (suc at) there in (omega arith, omega (arith, rest.1))
-
-order-at : (writer : Option MatchedWriter) (told is : Option ℤ) → (is_some writer ≡ true → told ≡ is)
-    → option_map own_precedence (option_map (with_strength told) writer)
-    ≡ option_map (λ (m : MatchedWriter). record { strength = unwrap_or is m.strength; guid = m.guid }) writer
-order-at None told is same = refl
-order-at (Some m) told is same =
-    ap (λ (o : Option ℤ). Some (record { strength = unwrap_or o m.strength; guid = m.guid })) (same refl)
+order-at : (q : ReaderQos) (h : List Happening) (kept : KeptStrengths) (w : ℕ) (told is : Option ℤ)
+    → kept.joined ≡ joined_in h → told ≡ is
+    → option_map own_precedence (option_map (with_strength told) (writer_of (q.writers ++ kept.joined) w))
+    ≡ option_map (λ (m : MatchedWriter). record { strength = unwrap_or is m.strength; guid = m.guid })
+    (writer_of (writers_of q h) w)
+order-at q h kept w told is joined same =
+    each (writer_of (q.writers ++ kept.joined) w)
+    ∙ ap (λ (ws : List MatchedWriter). option_map
+    (λ (m : MatchedWriter). record { strength = unwrap_or is m.strength; guid = m.guid })
+    (writer_of (q.writers ++ ws) w)) joined
+  where
+    each : (writer : Option MatchedWriter) → option_map own_precedence (option_map (with_strength told) writer)
+        ≡ option_map (λ (m : MatchedWriter). record { strength = unwrap_or is m.strength; guid = m.guid }) writer
+    each None = refl
+    each (Some m) =
+        ap (λ (o : Option ℤ). Some (record { strength = unwrap_or o m.strength; guid = m.guid })) same
 
 -- before a change it is that of the definitions
-pub order-kept : (q : ReaderQos) (h : List Happening) (kept : KeptStrengths) → TellsStrengths kept q h → (w : ℕ)
+pub order-kept : (q : ReaderQos) (h : List Happening) (kept : KeptStrengths) → TellsStrengths kept h → (w : ℕ)
     → order_by q kept None w ≡ precedence_of q h w
 order-kept q h kept tells w =
-    order-at (writer_of q.writers w) (kept_strength kept w) (told_strength w h)
-    (λ there. tells.tells w (matched-from q.writers w there))
+    order-at q h kept w (kept_strength kept w) (told_strength w h) tells.joined_are (tells.tells w)
 
 -- so it is once it has come
-pub order-came : (q : ReaderQos) (h : List Happening) (a : Arrival) (kept : KeptStrengths) → TellsStrengths kept q h
+pub order-came : (q : ReaderQos) (h : List Happening) (a : Arrival) (kept : KeptStrengths) → TellsStrengths kept h
     → (w : ℕ) → order_by q kept (Some a) w ≡ precedence_of q (Came a ∷ h) w
 order-came q h a kept tells w =
-    order-at (writer_of q.writers w) (strength_by kept (Some a) w) (told_strength w (Came a ∷ h))
-    (λ there. ap (λ (o : Option ℤ). told_next a.change.strength o (a.writer == w))
-    (tells.tells w (matched-from q.writers w there)))
+    order-at q h kept w (strength_by kept (Some a) w) (told_strength w (Came a ∷ h)) tells.joined_are
+    (ap (λ (o : Option ℤ). told_next a.change.strength o (a.writer == w)) (tells.tells w))
 
 -- ---- changes of strengths
 
@@ -90,6 +90,7 @@ changes-rise (Passed w first last) h = omega arith
 changes-rise (Heard w now) h = omega arith
 changes-rise (Died w now) h = omega arith
 changes-rise (Left w now) h = omega arith
+changes-rise (Joined m) h = omega arith
 changes-rise (Read samples) h = omega arith
 changes-rise (Took samples) h = omega arith
 changes-rise (Looked kind) h = omega arith
@@ -108,14 +109,98 @@ told-on (Passed v first last) h same w = refl
 told-on (Heard v now) h same w = refl
 told-on (Died v now) h same w = refl
 told-on (Left v now) h same w = refl
+told-on (Joined m) h same w = refl
 told-on (Read samples) h same w = refl
 told-on (Took samples) h same w = refl
 told-on (Looked kind) h same w = refl
 
--- so the order of writers stays
+-- one that is matched is the same once one more is
+same-writer : (ws : List MatchedWriter) (m x : MatchedWriter) (w : ℕ) → writer_of ws w ≡ Some x
+    → writer_of (ws ++ m ∷ []) w ≡ Some x
+same-writer ws m x zero is = is
+same-writer [] m x (suc at) is = absurd cc
+same-writer (y ∷ ws) m x (suc zero) is = is
+same-writer (y ∷ ws) m x (suc (suc at)) is = same-writer ws m x (suc at) is
+
+still-writer : (q : ReaderQos) (e : Happening) (h : List Happening) (w : ℕ) (x : MatchedWriter)
+    → writer_of (writers_of q h) w ≡ Some x → writer_of (writers_of q (e ∷ h)) w ≡ Some x
+still-writer q (Joined m) h w x is =
+    ap (λ (ws : List MatchedWriter). writer_of ws w) (with-joined q h m) ∙ same-writer (writers_of q h) m x w is
+still-writer q (Came a) h w x is = is
+still-writer q (Passed v first last) h w x is = is
+still-writer q (Heard v now) h w x is = is
+still-writer q (Died v now) h w x is = is
+still-writer q (Left v now) h w x is = is
+still-writer q (Read samples) h w x is = is
+still-writer q (Took samples) h w x is = is
+still-writer q (Looked kind) h w x is = is
+
+-- so what the order of writers looks at stays
 pub order-on : (q : ReaderQos) (e : Happening) (h : List Happening) → strength_changes (e ∷ h) ≡ strength_changes h
-    → (w : ℕ) → precedence_of q h w ≡ precedence_of q (e ∷ h) w
-order-on q e h same w =
+    → (w : ℕ) (p : Precedence) → precedence_of q h w ≡ Some p → precedence_of q (e ∷ h) w ≡ Some p
+order-on q e h same w p is =
     ap (λ (o : Option ℤ). option_map
-    (λ (m : MatchedWriter). record { strength = unwrap_or o m.strength; guid = m.guid }) (writer_of q.writers w))
-    (sym (told-on e h same w))
+    (λ (m : MatchedWriter). record { strength = unwrap_or o m.strength; guid = m.guid })
+    (writer_of (writers_of q (e ∷ h)) w)) (told-on e h same w)
+    ∙ one (writer_of (writers_of q h) w) refl is
+  where
+    seen : Option MatchedWriter → Option Precedence
+    seen o = option_map
+        (λ (m : MatchedWriter). record { strength = unwrap_or (told_strength w h) m.strength; guid = m.guid }) o
+
+    one : (o : Option MatchedWriter) → writer_of (writers_of q h) w ≡ o → seen o ≡ Some p
+        → seen (writer_of (writers_of q (e ∷ h)) w) ≡ Some p
+    one None there e_is = absurd cc
+    one (Some x) there e_is = ap seen (still-writer q e h w x there) ∙ e_is
+
+-- and who is above another one stays so
+pub above-on : (q : ReaderQos) (e : Happening) (h : List Happening) → strength_changes (e ∷ h) ≡ strength_changes h
+    → (v w : ℕ) → is_above (precedence_of q h v) (precedence_of q h w) ≡ true
+    → is_above (precedence_of q (e ∷ h) v) (precedence_of q (e ∷ h) w) ≡ true
+above-on q e h same v w above =
+    both (precedence_of q h v) (precedence_of q h w) refl refl above
+  where
+    both : (a b : Option Precedence) → precedence_of q h v ≡ a → precedence_of q h w ≡ b → is_above a b ≡ true
+        → is_above (precedence_of q (e ∷ h) v) (precedence_of q (e ∷ h) w) ≡ true
+    both None b a_is b_is is = absurd cc
+    both (Some a) None a_is b_is is = absurd cc
+    both (Some a) (Some b) a_is b_is is =
+        ap (λ (o : Option Precedence). is_above o (precedence_of q (e ∷ h) w)) (order-on q e h same v a a_is)
+        ∙ (ap (λ (o : Option Precedence). is_above (Some a) o) (order-on q e h same w b b_is) ∙ is)
+
+-- ---- a strength that is set
+
+told-by : (a b : KeptStrengths) → a.told ≡ b.told → (v : ℕ) → kept_strength a v ≡ kept_strength b v
+told-by a b same zero = refl
+told-by a b same (suc at) = ap (λ (told : List (Option ℤ)). slice_index_or told at None) same
+
+told-one : (w v : ℕ) (s : ℤ) (told : Option ℤ) → (if v == w then Some s else told) ≡ (if w == v then Some s else told)
+told-one w v s told = ap (λ (b : Bool). if b then Some s else told) (let same : (v == w) ≡ (w == v) = grind (arith, nat_tests) in same)
+
+-- a change of a writer came that had another strength than was kept of it
+pub set-tells : (old mid new : KeptStrengths) (h : List Happening) (a : Arrival) (w : ℕ) (s : ℤ) → TellsStrengths old h
+    → a.writer ≡ w → a.change.strength ≡ Some s → is_new_strength (Some s) (kept_strength old w) ≡ true
+    → ((v : ℕ) → kept_strength mid v ≡ (if v == w then Some s else kept_strength old v)) → new.told ≡ mid.told
+    → new.joined ≡ old.joined → (new.changes < MAX_CHANGES → new.changes ≡ old.changes + 1)
+    → TellsStrengths new (Came a ∷ h)
+set-tells old mid new h a w s tells writer strength is_new put told joined counted = record {
+  tells = λ v.
+      told-by new mid told v
+      ∙ (put v
+      ∙ (told-one w v s (kept_strength old v)
+      ∙ (ap (λ (o : Option ℤ). if w == v then Some s else o) (tells.tells v)
+      ∙ (ap (λ (o : Option ℤ). if w == v then option_or o (told_strength v h) else told_strength v h) (sym strength)
+      ∙ ap (λ (u : ℕ). if u == v then option_or a.change.strength (told_strength v h) else told_strength v h)
+      (sym writer)))));
+  joined_are = joined ∙ tells.joined_are;
+  counts = λ below.
+      let more = counted below in
+      let before : old.changes ≡ strength_changes h = tells.counts (omega (arith, below, more)) in
+      let counts : is_new_strength a.change.strength (told_strength a.writer h) ≡ true =
+      ap (λ (o : Option ℤ). is_new_strength o (told_strength a.writer h)) strength
+      ∙ (ap (λ (u : ℕ). is_new_strength (Some s) (told_strength u h)) writer
+      ∙ (ap (λ (o : Option ℤ). is_new_strength (Some s) o) (sym (tells.tells w)) ∙ is_new)) in
+      more
+      ∙ (let one : old.changes + 1 ≡ suc (strength_changes h) = omega (arith, before) in one
+      ∙ ap (λ (b : Bool). count_next (strength_changes h) b) (sym counts));
+}

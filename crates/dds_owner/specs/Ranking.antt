@@ -1,7 +1,7 @@
 -- Which of the registered writers comes first. Inner functions alone cite this: nothing here has to be believed.
 --
 -- DDS 1.4, 2.2.3 (OWNERSHIP, OWNERSHIP_STRENGTH).
-use Rattle.std.specs.Prelude.{ℕ, List, [], ◌∷◌, Bool, true, ◌&&◌, ◌||◌, ◌==◌, ℤ, Option, Some, None, unwrap_or, if◌then◌else◌, nat_lt}
+use Rattle.std.specs.Prelude.{ℕ, List, [], ◌∷◌, ◌++◌, Bool, true, ◌&&◌, ◌||◌, ◌==◌, ℤ, Option, Some, None, unwrap_or, if◌then◌else◌, nat_lt}
 use Rattle.std.specs.List.{list_all}
 use Rattle.std.specs.Option.{option_map, option_or}
 use Rattle.dds_base.specs.declared.change.ChangeKind.{ChangeKind}
@@ -29,7 +29,7 @@ with_strength told m = record { guid = m.guid; strength = unwrap_or told m.stren
 
 -- the matched writer of a publication handle, with the strength that was told last
 abbrev pub writer_by : ReaderQos → KeptStrengths → Option Arrival → ℕ → Option MatchedWriter
-writer_by q kept coming w = option_map (with_strength (strength_by kept coming w)) (writer_of q.writers w)
+writer_by q kept coming w = option_map (with_strength (strength_by kept coming w)) (writer_of (q.writers ++ kept.joined) w)
 
 -- what the order of writers looks at in this one
 abbrev pub own_precedence : MatchedWriter → Precedence

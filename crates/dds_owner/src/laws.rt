@@ -5,10 +5,11 @@
 ghost use Rattle.std.specs.Prelude.{◌≡◌, ◌∷◌, [], ℕ, List, None, false};
 ghost use Rattle.dds_base.specs.declared.happening.Arrival.{Arrival};
 ghost use Rattle.dds_base.specs.declared.happening.Happening.{Happening};
-ghost use Rattle.dds_base.specs.declared.happening.Happening.TheVariants.{Came, Died, Heard, Left, Looked, Passed, Read, Took};
+ghost use Rattle.dds_base.specs.declared.happening.Happening.TheVariants.{Came, Died, Heard, Joined, Left, Looked, Passed, Read, Took};
 ghost use Rattle.dds_base.specs.declared.happening.SamplePosition.{SamplePosition};
 ghost use Rattle.dds_base.specs.declared.happening.StatusKind.{StatusKind};
 ghost use Rattle.dds_base.specs.declared.key.Key.{Key};
+ghost use Rattle.dds_base.specs.declared.qos.MatchedWriter.{MatchedWriter};
 ghost use Rattle.dds_base.specs.declared.qos.ReaderQos.{ReaderQos};
 ghost use Rattle.dds_base.specs.Happening.{same_key};
 ghost use Rattle.dds_base.specs.Ownership.{is_registered};
@@ -37,6 +38,9 @@ pub fn other_entries_change_nothing()
     // A writer left.
     ensures left { (kept : Kept) (q : ReaderQos) (i : Key) (h : List Happening) (w moment : ℕ)
         → StandsFor kept q i h → StandsFor kept q i (Left w moment ∷ h) }
+    // A writer joined: it is registered for nothing.
+    ensures joined { (kept : Kept) (q : ReaderQos) (i : Key) (h : List Happening) (m : MatchedWriter)
+        → StandsFor kept q i h → StandsFor kept q i (Joined m ∷ h) }
     // A read returned samples.
     ensures read { (kept : Kept) (q : ReaderQos) (i : Key) (h : List Happening)
         (samples : List SamplePosition)
@@ -54,30 +58,30 @@ pub fn other_entries_change_nothing()
 /// What is no change with a strength says nothing of how strong a writer is.
 pub fn other_entries_set_no_strength()
     // A change without a strength came.
-    ensures came { (kept : KeptStrengths) (q : ReaderQos) (h : List Happening) (a : Arrival)
-        → TellsStrengths kept q h → a.change.strength ≡ None → TellsStrengths kept q (Came a ∷ h) }
+    ensures came { (kept : KeptStrengths) (h : List Happening) (a : Arrival)
+        → TellsStrengths kept h → a.change.strength ≡ None → TellsStrengths kept (Came a ∷ h) }
     // Changes were passed over.
-    ensures passed { (kept : KeptStrengths) (q : ReaderQos) (h : List Happening) (w first last : ℕ)
-        → TellsStrengths kept q h → TellsStrengths kept q (Passed w first last ∷ h) }
+    ensures passed { (kept : KeptStrengths) (h : List Happening) (w first last : ℕ)
+        → TellsStrengths kept h → TellsStrengths kept (Passed w first last ∷ h) }
     // A writer was heard.
-    ensures heard { (kept : KeptStrengths) (q : ReaderQos) (h : List Happening) (w moment : ℕ)
-        → TellsStrengths kept q h → TellsStrengths kept q (Heard w moment ∷ h) }
+    ensures heard { (kept : KeptStrengths) (h : List Happening) (w moment : ℕ)
+        → TellsStrengths kept h → TellsStrengths kept (Heard w moment ∷ h) }
     // A writer died.
-    ensures died { (kept : KeptStrengths) (q : ReaderQos) (h : List Happening) (w moment : ℕ)
-        → TellsStrengths kept q h → TellsStrengths kept q (Died w moment ∷ h) }
+    ensures died { (kept : KeptStrengths) (h : List Happening) (w moment : ℕ)
+        → TellsStrengths kept h → TellsStrengths kept (Died w moment ∷ h) }
     // A writer left: if it comes again, it is as strong as it was told to be.
-    ensures left { (kept : KeptStrengths) (q : ReaderQos) (h : List Happening) (w moment : ℕ)
-        → TellsStrengths kept q h → TellsStrengths kept q (Left w moment ∷ h) }
+    ensures left { (kept : KeptStrengths) (h : List Happening) (w moment : ℕ)
+        → TellsStrengths kept h → TellsStrengths kept (Left w moment ∷ h) }
     // A read returned samples.
-    ensures read { (kept : KeptStrengths) (q : ReaderQos) (h : List Happening)
+    ensures read { (kept : KeptStrengths) (h : List Happening)
         (samples : List SamplePosition)
-        → TellsStrengths kept q h → TellsStrengths kept q (Read samples ∷ h) }
+        → TellsStrengths kept h → TellsStrengths kept (Read samples ∷ h) }
     // A take returned samples.
-    ensures took { (kept : KeptStrengths) (q : ReaderQos) (h : List Happening)
+    ensures took { (kept : KeptStrengths) (h : List Happening)
         (samples : List SamplePosition)
-        → TellsStrengths kept q h → TellsStrengths kept q (Took samples ∷ h) }
+        → TellsStrengths kept h → TellsStrengths kept (Took samples ∷ h) }
     // A status was looked at.
-    ensures looked { (kept : KeptStrengths) (q : ReaderQos) (h : List Happening)
+    ensures looked { (kept : KeptStrengths) (h : List Happening)
         (kind : StatusKind)
-        → TellsStrengths kept q h → TellsStrengths kept q (Looked kind ∷ h) }
+        → TellsStrengths kept h → TellsStrengths kept (Looked kind ∷ h) }
 {}

@@ -2,7 +2,7 @@
 //!
 //! DDS 1.4, 2.2.3 (OWNERSHIP, OWNERSHIP_STRENGTH).
 
-ghost use Rattle.std.specs.Prelude.{◌≡◌, None, Some, option_copied, if◌then◌else◌};
+ghost use Rattle.std.specs.Prelude.{◌≡◌, ◌++◌, None, Some, option_copied, if◌then◌else◌};
 ghost use Rattle.std.specs.List.{list_all};
 ghost use Rattle.dds_base.specs.Ownership.{is_above, writer_of};
 ghost use Rattle.dds_owner.specs.First.{gives_way};
@@ -58,11 +58,20 @@ fn strengthened(writer: &MatchedWriter, told: Option<i32>) -> MatchedWriter
     }
 }
 
-fn matched_writer(writers: &[MatchedWriter], handle: Handle) -> Option<&MatchedWriter>
-    ensures { option_copied result ≡ writer_of writers.now handle }
+/// The matched writer of a handle: one of the opening, or one that joined.
+fn matched_writer<'a>(
+    opened: &'a [MatchedWriter],
+    joined: &'a [MatchedWriter],
+    handle: Handle,
+) -> Option<&'a MatchedWriter>
+    ensures { option_copied result ≡ writer_of (opened.now ++ joined.now) handle }
 {
-    let at = handle.number().checked_sub(1)?;
-    writers.get(at as usize)
+    let at = handle.number().checked_sub(1)? as usize;
+    if at < opened.len() {
+        opened.get(at)
+    } else {
+        joined.get(at - opened.len())
+    }
 }
 
 /// A matched writer, with the strength that was told of it last.
@@ -74,7 +83,7 @@ fn ranked_writer(
 ) -> Option<MatchedWriter>
     ensures { result ≡ writer_by qos.now strengths.now (option_copied coming.entry) handle }
 {
-    let writer = matched_writer(qos.writers.as_slice(), handle)?;
+    let writer = matched_writer(qos.writers.as_slice(), strengths.joined(), handle)?;
     Some(strengthened(writer, newest_strength(strengths, coming, handle)))
 }
 

@@ -2,7 +2,7 @@
 //!
 //! DDS 1.4, 2.2.2.4 (register_instance, unregister_instance), 2.2.3 (LIVELINESS).
 
-ghost use Rattle.std.specs.Prelude.{◌≡◌, map, IfOk};
+ghost use Rattle.std.specs.Prelude.{◌≡◌, ◌≤◌, ◌++◌, drop, length, map, vec_len, IfOk};
 ghost use Rattle.std.specs.List.{list_any};
 ghost use Rattle.dds_owner.specs.Registration.{blank_registrations, entered, is_there, is_there_at};
 
@@ -28,6 +28,17 @@ pub fn blank_items(alloc: Global, writers: usize) -> Result<Vec<Registration>, A
         })?;
     }
     Ok(items)
+}
+
+/// Puts the registrations of the first writers over those of as many of more writers.
+pub fn put_front(registrations: &mut Vec<Registration>, first: &[Registration])
+    requires { length first.now ≤ vec_len registrations.old }
+    ensures { registrations.new.items
+        ≡ first.now ++ drop (length first.now) registrations.old.items }
+{
+    for at in 0..first.len() {
+        registrations[at] = first[at];
+    }
 }
 
 fn entered_registration(r: &Registration, writer: Handle, is_registered: bool) -> Registration

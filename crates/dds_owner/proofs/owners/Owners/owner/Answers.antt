@@ -4,8 +4,9 @@ use Rattle.dds_base.specs.declared.happening.Happening.{Happening}
 use Rattle.dds_base.specs.declared.key.Key.{Key}
 use Rattle.dds_base.specs.Ownership.{owner_of, registered_writers}
 use Rattle.dds_owner.specs.declared.ranking.Leader.{Leader}
+use Rattle.dds_owner.specs.declared.registration.Registration.{Registration}
 use Rattle.dds_owner.specs.Standing.{Kept, StandsFor, TellsStrengths}
-use Rattle.dds_owner.specs.Ranking.{sole}
+use Rattle.dds_owner.specs.Ranking.{leader_among, order_by, sole}
 use Rattle.dds_owner.proofs.KeptLaws.{owner-current}
 use Rattle.dds_owner.proofs.RankingLaws.{owner-found}
 use Rattle.dds_owner.proofs.owners.Owners.owner.Goals as goal
@@ -13,12 +14,13 @@ use Rattle.dds_owner.proofs.owners.Owners.owner.Goals.{After-leader_of}
 
 -- the owner is the leader, where it is alone
 alone : (c : After-leader_of) → (i : Key) (h : List Happening) → StandsFor c.args.self.now c.args.qos.now i h
-    → TellsStrengths c.args.strengths.now c.args.qos.now h
+    → TellsStrengths c.args.strengths.now h
     → sole c.leader_of.result ≡ owner_of c.args.qos.now h (registered_writers c.args.qos.now i h)
 alone c i h given tells =
     ap (λ (l : Option Leader). sole l) c.leader_of.ensures
-    ∙ owner-found c.args.qos.now i h c.args.strengths.now c.deref.result.now tells
-    (c.deref.ensures.value ∙ (ap (λ (k : Kept). k.registrations) c.self.view_is ∙ given.registrations_are))
+    ∙ (ap (λ (rs : List Registration). sole (leader_among (order_by c.args.qos.now c.args.strengths.now None) None rs))
+    (c.deref.ensures.value ∙ ap (λ (k : Kept). k.registrations) c.self.view_is)
+    ∙ owner-found c.args.qos.now i h c.args.strengths.now c.args.self.now tells given)
 
 pub returns-in_err-leader : goal.returns-in_err-leader
 returns-in_err-leader c = record {
@@ -48,6 +50,6 @@ pub returns-in-Some : goal.returns-in-Some
 returns-in-Some c = record {
   owner = λ i h given tells.
       let inside = subst (λ (k : Kept). StandsFor k c.args.qos.now i h) (sym c.self.view_is) given in
-      sym (owner-current c.args.qos.now i h c.args.strengths.now c.self.inside.owner c.self.inside.registrations.items
-      c.in-Some.owner tells inside.registrations_are inside.owner_is (sym c.current_owner.ensures ∙ c.in-Some.is));
+      sym (owner-current c.args.qos.now i h c.args.strengths.now _ c.in-Some.owner tells inside
+      (sym c.current_owner.ensures ∙ c.in-Some.is));
 }
