@@ -1,16 +1,15 @@
 -- A writer that joins has the next publication handle, and is none that an entry has named before.
-use Rattle.std.proofs.Common.{◌≡◌, ℕ, zero, suc, ◌+◌, ◌<◌, ◌≤◌, List, [], ◌∷◌, ◌++◌, length, Bool, true, false, not, ◌==◌, ◌&&◌, ◌||◌, Option, Some, None, ap, sym, subst, ◌∙◌, refl, cond, arith, add-one, append_assoc, ⊎_elim, slice_get}
+use Rattle.std.proofs.Common.{◌≡◌, ℕ, zero, suc, ◌+◌, ◌<◌, ◌≤◌, List, [], ◌∷◌, ◌++◌, length, Bool, true, false, not, ◌==◌, ◌&&◌, ◌||◌, Option, Some, None, ap, sym, ◌∙◌, refl, cond, arith, add-one, append_assoc, ⊎_elim, slice_get}
 use Rattle.std.specs.Prelude.{if◌then◌else◌, is_some, ℤ, unwrap_or}
 use Rattle.std.specs.List.{filter, count_by}
 use Rattle.std.specs.Option.{option_map, option_or}
 use Rattle.std.proofs.lemmas.Bool.{cases_lt}
 use Rattle.std.proofs.lemmas.Bool.Decides.{nat_tests}
 use Rattle.std.proofs.lemmas.List.{append-nil, length-append}
-use Rattle.std.proofs.lemmas.List.Elements.{filter-append}
+use Rattle.std.proofs.lemmas.List.Elements.{filter-append, filter_agree}
 use Rattle.std.proofs.lemmas.List.Sums.{sum_by_push}
 use Rattle.dds_base.specs.declared.key.Key.{Key}
 use Rattle.dds_base.specs.declared.change.ChangeKind.{ChangeKind}
-use Rattle.dds_base.specs.declared.happening.Arrival.{Arrival}
 use Rattle.dds_base.specs.declared.happening.Happening.{Happening}
 use Rattle.dds_base.specs.declared.happening.Happening.TheVariants.{Came, Passed, Heard, Died, Left, Joined, Read, Took, Looked}
 use Rattle.dds_base.specs.declared.qos.MatchedWriter.{MatchedWriter}
@@ -19,7 +18,7 @@ use Rattle.dds_base.specs.Happening.{same_key, is_unregister, is_write_or_dispos
 use Rattle.dds_base.specs.Instance.{instance_state_of}
 use Rattle.dds_base.specs.Life.{is_nobody, last_accepted, or_else, state_after}
 use Rattle.dds_base.specs.Liveliness.{after_parting, alive_count, alive_since, assertion_of, has_died, is_alive, is_dead, is_death_of, is_parting_of, not_alive_count, with_deaths}
-use Rattle.dds_base.specs.Ownership.{AreOfMatched, IsMatched, Precedence, is_registered, joined_in, named_by, numbered_from, precedence, precedence_of, publication_handles, registered_writers, told_strength, writer_of, writers_of}
+use Rattle.dds_base.specs.Ownership.{AreOfMatched, IsMatched, is_registered, joined_in, numbered_from, precedence, precedence_of, publication_handles, registered_writers, told_strength, writer_of, writers_of}
 use Rattle.dds_base.proofs.LifeLaws.{quiet-accepted}
 
 -- ---- the matched writers once one more entry has happened
@@ -159,6 +158,25 @@ registered-matched q i h w of_matched is =
     (λ within. within)
     (cases_lt (length (writers_of q h)) w)
 
+other-nil : (v : ℕ) → 0 < v → (v == 0) ≡ false
+other-nil v low = grind (arith, nat_tests)
+
+-- no entry names handle 0
+pub unregistered-nil : (q : ReaderQos) (i : Key) (h : List Happening) → AreOfMatched q h → is_registered i 0 h ≡ false
+unregistered-nil q i [] of_matched = refl
+unregistered-nil q i (Came a ∷ h) of_matched =
+    not-its (same_key a.change.key i) (a.writer == 0) (is_unregister a.change.kind) (is_write_or_dispose a.change.kind)
+    (is_registered i 0 h) (other-nil a.writer of_matched.0.0) (unregistered-nil q i h of_matched.1)
+unregistered-nil q i (Died v now ∷ h) of_matched =
+    ap (λ (b : Bool). not (v == 0) && b) (unregistered-nil q i h of_matched.1) ∙ and-false (not (v == 0))
+unregistered-nil q i (Joined m ∷ h) of_matched = unregistered-nil q i h of_matched.1
+unregistered-nil q i (Passed v first last ∷ h) of_matched = unregistered-nil q i h of_matched.1
+unregistered-nil q i (Heard v now ∷ h) of_matched = unregistered-nil q i h of_matched.1
+unregistered-nil q i (Left v now ∷ h) of_matched = unregistered-nil q i h of_matched.1
+unregistered-nil q i (Read samples ∷ h) of_matched = unregistered-nil q i h of_matched.1
+unregistered-nil q i (Took samples ∷ h) of_matched = unregistered-nil q i h of_matched.1
+unregistered-nil q i (Looked kind ∷ h) of_matched = unregistered-nil q i h of_matched.1
+
 -- no strength was told of it
 pub untold-beyond : (q : ReaderQos) (h : List Happening) (w : ℕ) → AreOfMatched q h → length (writers_of q h) < w
     → told_strength w h ≡ None
@@ -258,6 +276,22 @@ registered-joined q i h m of_matched =
     ∙ (ap (λ (b : Bool). registered_writers q i h ++ cond b (next ∷ []) [])
     (unregistered-beyond q i h next of_matched (omega arith))
     ∙ append-nil (registered_writers q i h)))
+
+-- an entry that registers nobody and lets nobody go leaves the same writers registered
+pub registered-on : (q : ReaderQos) (i : Key) (e : Happening) (h : List Happening) → AreOfMatched q h
+    → ((w : ℕ) → is_registered i w (e ∷ h) ≡ is_registered i w h)
+    → registered_writers q i (e ∷ h) ≡ registered_writers q i h
+registered-on q i (Joined m) h of_matched same = registered-joined q i h m of_matched
+registered-on q i (Came a) h of_matched same =
+    filter_agree (λ w. is_registered i w (Came a ∷ h)) (λ w. is_registered i w h) same (publication_handles q h)
+registered-on q i (Died v now) h of_matched same =
+    filter_agree (λ w. is_registered i w (Died v now ∷ h)) (λ w. is_registered i w h) same (publication_handles q h)
+registered-on q i (Passed v first last) h of_matched same = refl
+registered-on q i (Heard v now) h of_matched same = refl
+registered-on q i (Left v now) h of_matched same = refl
+registered-on q i (Read samples) h of_matched same = refl
+registered-on q i (Took samples) h of_matched same = refl
+registered-on q i (Looked kind) h of_matched same = refl
 
 -- so the state of each instance is as it was
 pub state-joined : (q : ReaderQos) (i : Key) (h : List Happening) (m : MatchedWriter) → AreOfMatched q h

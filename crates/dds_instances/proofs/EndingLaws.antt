@@ -1,11 +1,11 @@
 -- What is kept of the instances follows an entry that is no change: a death or a take may end lives, no other does.
 use Rattle.std.proofs.Common.{◌≡◌, ℕ, ◌+◌, ◌<◌, List, [], ◌∷◌, ◌++◌, length, get_or, map, Bool, true, false, not, ◌&&◌, ◌||◌, ◌==◌, sym, ap, ◌∙◌, refl, subst, Option, None, arith, ⊎_elim}
-use Rattle.std.specs.Prelude.{if◌then◌else◌, is_some, nat_le}
+use Rattle.std.specs.Prelude.{IfSome, if◌then◌else◌, is_some, nat_le}
 use Rattle.std.specs.List.{All, list_any}
 use Rattle.std.proofs.lemmas.Bool.{cases_Bool, lt-leb}
 use Rattle.std.proofs.lemmas.Bool.Decides.{nat_tests}
 use Rattle.std.proofs.lemmas.List.{append-nil}
-use Rattle.std.proofs.lemmas.List.Elements.{All-head, All-map, All-tail, All-weaker, filter_agree}
+use Rattle.std.proofs.lemmas.List.Elements.{All-head, All-map, All-tail, All-weaker}
 use Rattle.dds_base.specs.declared.key.Key.{Key}
 use Rattle.dds_base.specs.declared.change.ChangeKind.{ChangeKind}
 use Rattle.dds_base.specs.declared.happening.SamplePosition.{SamplePosition}
@@ -15,14 +15,15 @@ use Rattle.dds_base.specs.declared.sample.InstanceState.{InstanceState}
 use Rattle.dds_base.specs.declared.qos.ReaderQos.{ReaderQos}
 use Rattle.dds_base.specs.Access.{lives_begun}
 use Rattle.dds_base.specs.Happening.{same_key, same_sample, read_by, taken_by, is_taken}
-use Rattle.dds_base.specs.Ownership.{accepted_kind, is_registered, publication_handles, registered_writers}
+use Rattle.dds_base.specs.Ownership.{AreOfMatched, IsMatched, accepted_kind, is_registered, named_by, registered_writers, writers_of}
+use Rattle.dds_base.proofs.JoinLaws.{registered-on}
 use Rattle.dds_base.specs.Presence.{marks}
 use Rattle.dds_base.specs.Life.{becomes_not_alive, has_there, is_nobody, last_accepted, last_marker, ends_life}
 use Rattle.dds_base.specs.Instance.{known_instances, introduced_by, is_known, instance_state_of, is_since, latest_rebirth, accesses}
 use Rattle.dds_base.proofs.KeyLaws.{key-same, same_key-comm}
 use Rattle.dds_base.proofs.LifeLaws.{ends-marked, ends-registered, ends-took, ends-unmarked, quiet-goes-on}
 use Rattle.dds_instances.specs.declared.track.InstanceTrack.{InstanceTrack}
-use Rattle.dds_owner.specs.Standing.{KeptStrengths, StandsFor, TellsStrengths, has_writers}
+use Rattle.dds_owner.specs.Standing.{StandsFor, TellsStrengths, has_writers}
 use Rattle.dds_owner.proofs.RegistrationLaws.{nobody-kept}
 use Rattle.dds_instances.specs.Track.{Tracks, TracksEntry, is_beginning, lives_on, seen_in, state_of_track}
 use Rattle.dds_instances.specs.Table.{Table, Stands, is_any_left}
@@ -35,21 +36,20 @@ use Rattle.dds_instances.proofs.StandingLaws.{follows-whole, known-of}
 
 -- ---- an entry that says nothing of any instance
 
--- nothing is accepted by it, nobody is registered or let go, and nothing is taken
+-- nothing is accepted by it, nobody is registered or let go, nothing is taken, and it names a matched writer, if any
 pub record IsQuiet (q : ReaderQos) (h : List Happening) (e : Happening) : Type 0 where
   pub accepts : (i : Key) → accepted_kind q i h e ≡ None
   pub registers : (i : Key) (w : ℕ) → is_registered i w (e ∷ h) ≡ is_registered i w h
   pub takes : (i : Key) → list_any (λ (s : SamplePosition). same_key s.key i) (taken_by e) ≡ false
   pub introduces : introduced_by q h e ≡ []
+  pub names : IfSome (named_by e) (IsMatched q h)
 
 -- by it no life ends
-quiet-known : (q : ReaderQos) (h : List Happening) (e : Happening) (i : Key) → IsQuiet q h e → is_known q h i ≡ true
-    → is_known q (e ∷ h) i ≡ true
-quiet-known q h e i quiet known =
+quiet-known : (q : ReaderQos) (h : List Happening) (e : Happening) (i : Key) → IsQuiet q h e → AreOfMatched q h
+    → is_known q h i ≡ true → is_known q (e ∷ h) i ≡ true
+quiet-known q h e i quiet of_matched known =
     known-on q i h e known
-    (quiet-goes-on q i h e (quiet.accepts i)
-    (filter_agree (λ w. is_registered i w (e ∷ h)) (λ w. is_registered i w h) (quiet.registers i) (publication_handles q))
-    (quiet.takes i) known)
+    (quiet-goes-on q i h e (quiet.accepts i) (registered-on q i e h of_matched (quiet.registers i)) (quiet.takes i) known)
 
 keys-quiet : (q : ReaderQos) (h : List Happening) (e : Happening) (ts : List InstanceTrack) → introduced_by q h e ≡ []
     → Follows q h ts → map key_of ts ≡ known_instances q h ++ introduced_by q h e
@@ -66,10 +66,12 @@ follows-quiet q h e ts quiet unseen follows =
       each = λ k d within.
           let t : InstanceTrack = get_or ts k d in
           λ known. tracks-other q t.key h e t t.is_seen (quiet.accepts t.key) (quiet.registers t.key)
+          (registered-on q t.key e h follows.matched (quiet.registers t.key))
           (sym (ap (λ (b : Bool). b || t.is_seen) (unseen t.key (latest_rebirth q t.key h))))
           (known-of q h ts follows k d within) known (follows.each k d within);
+      matched = (quiet.names, follows.matched);
     })
-    (λ k d within. quiet-known q h e (get_or ts k d).key quiet (known-of q h ts follows k d within))
+    (λ k d within. quiet-known q h e (get_or ts k d).key quiet follows.matched (known-of q h ts follows k d within))
 
 -- ---- reads and takes are lawful
 
@@ -248,9 +250,9 @@ abbrev BuriesEach : ℕ → ℕ → List InstanceTrack → List InstanceTrack �
 BuriesEach n w ts xs = (k : ℕ) (d : InstanceTrack) → k < length ts → Buries n w (get_or ts k d) (get_or xs k d)
 
 pub reaches-died : (q : ReaderQos) (h : List Happening) (w now n : ℕ) (ts xs : List InstanceTrack)
-    → FollowsBefore q h n ts → length xs ≡ length ts → map key_of xs ≡ map key_of ts → BuriesEach n w ts xs
+    → FollowsBefore q h n ts → IsMatched q h w → length xs ≡ length ts → map key_of xs ≡ map key_of ts → BuriesEach n w ts xs
     → Reaches q h (Died w now) xs
-reaches-died q h w now n ts xs before same keys steps =
+reaches-died q h w now n ts xs before matched same keys steps =
     let e : Happening = Died w now in
     let step : BuriesEach (length h + 1) w ts xs =
     subst (λ (m : ℕ). BuriesEach m w ts xs) (sym before.place) steps in
@@ -268,6 +270,7 @@ reaches-died q h w now n ts xs before same keys steps =
           (λ unknown new. absurd (let clash : true ≡ false = sym (known-of q h ts before.follows k d within')
           ∙ unknown in cc))
           tracks (step k d within').advances known);
+      matched = (matched, before.follows.matched);
     }
 
 -- where it is noted right of each whether something of it is present, those live on that stay known
@@ -298,6 +301,7 @@ reaches-read q h ss ts follows = record {
       (seen_in ss) ts
       (λ k d within known. tracks-read q (get_or ts k d).key h ss (get_or ts k d) (known-of q h ts follows k d within) known
       (follows.each k d within));
+  matched = (tt, follows.matched);
 }
 
 pub follows-read : (q : ReaderQos) (h : List Happening) (ss : List SamplePosition) (ts : List InstanceTrack)
@@ -306,8 +310,8 @@ follows-read q h ss ts follows =
     follows-whole q h (Read ss) (map (seen_in ss) ts) (reaches-read q h ss ts follows)
     (All-map (λ (x : InstanceTrack). is_known q (Read ss ∷ h) x.key ≡ true) (seen_in ss) ts
     (λ k d within. quiet-known q h (Read ss) (get_or ts k d).key
-    (record { accepts = λ i. refl; registers = λ i w. refl; takes = λ i. refl; introduces = refl })
-    (known-of q h ts follows k d within)))
+    (record { accepts = λ i. refl; registers = λ i w. refl; takes = λ i. refl; introduces = refl; names = tt })
+    follows.matched (known-of q h ts follows k d within)))
 
 pub reaches-took : (q : ReaderQos) (h : List Happening) (ss : List SamplePosition) (ts : List InstanceTrack)
     → Follows q h ts → Reaches q h (Took ss) (map (seen_in ss) ts)
@@ -317,6 +321,7 @@ reaches-took q h ss ts follows = record {
       (seen_in ss) ts
       (λ k d within known. tracks-took q (get_or ts k d).key h ss (get_or ts k d) (known-of q h ts follows k d within) known
       (follows.each k d within));
+  matched = (tt, follows.matched);
 }
 
 -- where it is noted right of each whether something of it is left, those live on that stay known
@@ -370,15 +375,16 @@ follows-took q h ss ts none follows =
 
 -- ---- the table after an entry that introduces nothing
 
--- an entry by which no strength is told, and that introduces nothing
-pub stands-next : (q : ReaderQos) (h : List Happening) (e : Happening) (old new : Table) → new.writers ≡ old.writers
-    → new.strengths ≡ old.strengths → new.begun ≡ old.begun → new.happened ≡ old.happened + 1
-    → (TellsStrengths old.strengths q h → TellsStrengths old.strengths q (e ∷ h)) → introduced_by q h e ≡ []
+-- an entry that introduces nothing
+pub stands-next : (q : ReaderQos) (h : List Happening) (e : Happening) (old new : Table)
+    → (old.writers ≡ length (writers_of q h) → new.writers ≡ length (writers_of q (e ∷ h)))
+    → (TellsStrengths old.strengths h → TellsStrengths new.strengths (e ∷ h)) → new.begun ≡ old.begun
+    → new.happened ≡ old.happened + 1 → introduced_by q h e ≡ []
     → Follows q (e ∷ h) new.tracks → IsLawful q (e ∷ h) → Stands q old h → Stands q new (e ∷ h)
-stands-next q h e old new writers strengths begun counted tells none follows lawful stands = record {
-  writers_are = writers ∙ stands.writers_are;
+stands-next q h e old new writers tells begun counted none follows lawful stands = record {
+  writers_are = writers stands.writers_are;
   happened_is = omega (arith, counted, stands.happened_is);
-  strengths_are = subst (λ (k : KeptStrengths). TellsStrengths k q (e ∷ h)) (sym strengths) (tells stands.strengths_are);
+  strengths_are = tells stands.strengths_are;
   begun_is =
       begun ∙ (stands.begun_is ∙ ((let more : lives_begun q h ≡ lives_begun q h + 0 = omega arith in more)
       ∙ ap (λ (ks : List Key). lives_begun q h + length ks) (sym none)));
@@ -387,12 +393,13 @@ stands-next q h e old new writers strengths begun counted tells none follows law
 }
 
 -- one that says nothing of any instance
-pub stands-quiet : (q : ReaderQos) (h : List Happening) (e : Happening) (old new : Table) → new.writers ≡ old.writers
-    → new.strengths ≡ old.strengths → new.begun ≡ old.begun → new.happened ≡ old.happened + 1 → new.tracks ≡ old.tracks
-    → (TellsStrengths old.strengths q h → TellsStrengths old.strengths q (e ∷ h)) → IsQuiet q h e
+pub stands-quiet : (q : ReaderQos) (h : List Happening) (e : Happening) (old new : Table)
+    → (old.writers ≡ length (writers_of q h) → new.writers ≡ length (writers_of q (e ∷ h)))
+    → (TellsStrengths old.strengths h → TellsStrengths new.strengths (e ∷ h)) → new.begun ≡ old.begun
+    → new.happened ≡ old.happened + 1 → new.tracks ≡ old.tracks → IsQuiet q h e
     → ((i : Key) (j : ℕ) → accesses i j e ≡ false) → Stands q old h → Stands q new (e ∷ h)
-stands-quiet q h e old new writers strengths begun counted tracks tells quiet unseen stands =
-    stands-next q h e old new writers strengths begun counted tells quiet.introduces
+stands-quiet q h e old new writers tells begun counted tracks quiet unseen stands =
+    stands-next q h e old new writers tells begun counted quiet.introduces
     (subst (λ (ts : List InstanceTrack). Follows q (e ∷ h) ts) (sym tracks)
     (follows-quiet q h e old.tracks quiet unseen stands.follows))
     (lawful-quiet q h e unseen stands.lawful) stands

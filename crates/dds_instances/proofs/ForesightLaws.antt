@@ -15,14 +15,14 @@ use Rattle.dds_base.specs.declared.sample.InstanceState.TheVariants.{Alive, NotA
 use Rattle.dds_base.specs.declared.qos.MatchedWriter.{MatchedWriter}
 use Rattle.dds_base.specs.declared.qos.ReaderQos.{ReaderQos}
 use Rattle.dds_base.specs.Happening.{same_key, is_write_or_dispose, is_unregister}
-use Rattle.dds_base.specs.Ownership.{accepted_kind, numbered_from, is_registered, publication_handles, registered_writers}
+use Rattle.dds_base.specs.Ownership.{AreOfMatched, accepted_kind, numbered_from, is_registered, publication_handles, registered_writers, writers_of}
 use Rattle.dds_base.specs.Instance.{instance_state_of}
 use Rattle.dds_base.specs.Life.{or_else, state_after, is_nobody, last_accepted, becomes_not_alive}
 use Rattle.dds_base.specs.Presence.{marks}
 use Rattle.dds_base.proofs.KeyLaws.{same_key-refl}
 use Rattle.dds_instances.specs.declared.track.InstanceTrack.{InstanceTrack}
 use Rattle.dds_instances.specs.Track.{Tracks, is_born_dead, is_left_at_first, state_of_track}
-use Rattle.dds_owner.proofs.RegistrationLaws.{not-not}
+use Rattle.dds_owner.proofs.RegistrationLaws.{not-not, somebody-by}
 use Rattle.dds_instances.proofs.TrackLaws.{state-tracked}
 use Rattle.dds_instances.proofs.KnownLaws.{fewer-pass, registered-before, unknown}
 use Rattle.dds_instances.proofs.StandingLaws.{first-accepted}
@@ -96,67 +96,51 @@ writes-or-ends DisposeUnregister e = absurd cc
 -- after a change that does not unregister, where nobody was registered, its writer is, if it is matched
 nobody-written : (q : ReaderQos) (h : List Happening) (a : Arrival) → registered_writers q a.change.key h ≡ []
     → is_unregister a.change.kind ≡ false → is_nobody (registered_writers q a.change.key (Came a ∷ h))
-    ≡ not (nat_lt 0 a.writer && nat_le a.writer (length q.writers))
+    ≡ not (nat_lt 0 a.writer && nat_le a.writer (length (writers_of q h)))
 nobody-written q h a none kind =
-    nobody-but (λ v. is_registered a.change.key v (Came a ∷ h)) (λ v. is_registered a.change.key v h) a.writer 1 q.writers
+    nobody-but (λ v. is_registered a.change.key v (Came a ∷ h)) (λ v. is_registered a.change.key v h) a.writer 1 (writers_of q h)
     (λ v. registered-too (same_key a.change.key a.change.key) (a.writer == v) (is_unregister a.change.kind)
     (is_write_or_dispose a.change.kind) (is_registered a.change.key v h) (same_key-refl a.change.key)
     kind (writes-or-ends a.change.kind kind))
     none
-    ∙ within-is a.writer (length q.writers)
+    ∙ within-is a.writer (length (writers_of q h))
 
 -- after one that does, nobody is
 nobody-unregistered : (q : ReaderQos) (h : List Happening) (a : Arrival) → registered_writers q a.change.key h ≡ []
     → is_unregister a.change.kind ≡ true → registered_writers q a.change.key (Came a ∷ h) ≡ []
 nobody-unregistered q h a none kind =
     let i : Key = a.change.key in
-    fewer-pass (λ w. is_registered i w h) (λ w. is_registered i w (Came a ∷ h)) (publication_handles q)
+    fewer-pass (λ w. is_registered i w h) (λ w. is_registered i w (Came a ∷ h)) (publication_handles q h)
     (λ w after. registered-before (same_key i i) (a.writer == w) (is_write_or_dispose a.change.kind)
     (is_unregister a.change.kind) (is_registered i w h)
     (λ there. ap (λ (b : Bool). b && is_unregister a.change.kind) (same_key-refl i) ∙ kind) after) none
 
 -- whether nobody is registered for an unknown instance after a change of it
-pub left-first : (q : ReaderQos) (h : List Happening) (a : Arrival) → last_accepted q a.change.key h ≡ None
-    → is_left_at_first (length q.writers) a.writer a.change.kind ≡ is_nobody (registered_writers q a.change.key (Came a ∷ h))
-left-first q h a last =
-    let none : registered_writers q a.change.key h ≡ [] = (unknown q a.change.key h last).registered in
-    let matched : Bool = not (nat_lt 0 a.writer && nat_le a.writer (length q.writers)) in
+pub left-first : (q : ReaderQos) (h : List Happening) (a : Arrival) → AreOfMatched q h
+    → last_accepted q a.change.key h ≡ None
+    → is_left_at_first (length (writers_of q h)) a.writer a.change.kind ≡ is_nobody (registered_writers q a.change.key (Came a ∷ h))
+left-first q h a of_matched last =
+    let none : registered_writers q a.change.key h ≡ [] = (unknown q a.change.key h of_matched last).registered in
+    let matched : Bool = not (nat_lt 0 a.writer && nat_le a.writer (length (writers_of q h))) in
     ⊎_elim
     (λ ends. ap (λ (b : Bool). b || matched) ends
     ∙ sym (ap (λ (ws : List ℕ). is_nobody ws) (nobody-unregistered q h a none ends)))
     (λ stays. ap (λ (b : Bool). b || matched) stays ∙ sym (nobody-written q h a none stays))
     (cases_Bool (is_unregister a.change.kind))
 
--- of numbers among which one passes a test, somebody does
-somebody-by : (p : ℕ → Bool) (w k : ℕ) (xs : List MatchedWriter) → p w ≡ true → k ≤ w → w < k + length xs
-    → is_nobody (filter p (numbered_from k xs)) ≡ false
-somebody-by p w k [] passes low high = absurd (omega (arith, low, high))
-somebody-by p w k (x ∷ xs) passes low high =
-    let rest : List ℕ = filter p (numbered_from (k + 1) xs) in
-    ⊎_elim (λ here. ap (λ (b : Bool). is_nobody (cond b (k ∷ rest) rest)) here)
-    (λ gone. ap (λ (b : Bool). is_nobody (cond b (k ∷ rest) rest)) gone
-    ∙ somebody-by p w (k + 1) xs passes (above k w low (apart gone)) (omega (arith, high)))
-    (cases_Bool (p k))
-  where
-    apart : p k ≡ false → (w ≡ k → ⊥)
-    apart gone same = let clash : true ≡ false = sym passes ∙ (ap p same ∙ gone) in absurd cc
-
-    above : (k w : ℕ) → k ≤ w → (w ≡ k → ⊥) → k + 1 ≤ w
-    above k w low differ = grind (arith, low)
-
 -- after a change of a matched writer that does not unregister, somebody is registered: its writer
 pub somebody-registered : (q : ReaderQos) (h : List Happening) (a : Arrival)
-    → is_left_at_first (length q.writers) a.writer a.change.kind ≡ false
+    → is_left_at_first (length (writers_of q h)) a.writer a.change.kind ≡ false
     → is_nobody (registered_writers q a.change.key (Came a ∷ h)) ≡ false
 somebody-registered q h a first =
     let w : ℕ = a.writer in
-    let parts = both (is_unregister a.change.kind) (nat_lt 0 w) (nat_le w (length q.writers)) first in
-    somebody-by (λ v. is_registered a.change.key v (Came a ∷ h)) w 1 q.writers
+    let parts = both (is_unregister a.change.kind) (nat_lt 0 w) (nat_le w (length (writers_of q h))) first in
+    somebody-by (λ v. is_registered a.change.key v (Came a ∷ h)) w 1 (writers_of q h)
     (registered-too (same_key a.change.key a.change.key) (w == w) (is_unregister a.change.kind)
     (is_write_or_dispose a.change.kind) (is_registered a.change.key w h) (same_key-refl a.change.key)
     parts.0 (writes-or-ends a.change.kind parts.0)
     ∙ ap (λ (b : Bool). b || is_registered a.change.key w h) (itself w))
-    (positive w parts.1.0) (bounded w (length q.writers) parts.1.1)
+    (positive w parts.1.0) (bounded w (length (writers_of q h)) parts.1.1)
   where
     both : (u low high : Bool) → (u || not (low && high)) ≡ false → (u ≡ false) × ((low ≡ true) × (high ≡ true))
     both true low high e = absurd cc
@@ -185,14 +169,15 @@ first-table Dispose writers w n is = refl
 first-table Unregister writers w n is = refl
 first-table DisposeUnregister writers w n is = refl
 
-pub marks-first : (q : ReaderQos) (h : List Happening) (a : Arrival) → last_accepted q a.change.key h ≡ None
-    → is_born_dead (length q.writers) a.writer a.change.kind ≡ marks q a.change.key h (Came a)
-marks-first q h a last =
+pub marks-first : (q : ReaderQos) (h : List Happening) (a : Arrival) → AreOfMatched q h
+    → last_accepted q a.change.key h ≡ None
+    → is_born_dead (length (writers_of q h)) a.writer a.change.kind ≡ marks q a.change.key h (Came a)
+marks-first q h a of_matched last =
     let i : Key = a.change.key in
     let n : Bool = is_nobody (registered_writers q i (Came a ∷ h)) in
-    first-table a.change.kind (length q.writers) a.writer n
-    (λ kind. nobody-written q h a (unknown q i h last).registered (ap is_unregister kind))
+    first-table a.change.kind (length (writers_of q h)) a.writer n
+    (λ kind. nobody-written q h a (unknown q i h of_matched last).registered (ap is_unregister kind))
     ∙ (ap (λ (k : Option ChangeKind). becomes_not_alive None (state_after (or_else k None) n))
-    (sym (first-accepted q h a last))
+    (sym (first-accepted q h a of_matched last))
     ∙ ap (λ (l : Option ChangeKind). becomes_not_alive (state_after l (is_nobody (registered_writers q i h)))
     (state_after (or_else (accepted_kind q i h (Came a)) l) n)) (sym last))

@@ -72,6 +72,7 @@ notes-follow q h f ts notes follows = record {
       (λ k d within. let t : InstanceTrack = get_or ts k d in
       subst (λ (u : InstanceTrack). Tracks q u.key h u) (sym (notes.is t))
       (tracks-held q t.key h t (notes.note t) (follows.each k d within)));
+  matched = follows.matched;
 }
 
 pub notes-fit : (f : InstanceTrack → InstanceTrack) (ts xs : List InstanceTrack) → Notes f → xs ≡ map f ts → (n : ℕ)
@@ -112,7 +113,7 @@ pub notes-stand : (q : ReaderQos) (h : List Happening) (f : InstanceTrack → In
 notes-stand q h f old new notes writers strengths begun happened tracks stands = record {
   writers_are = writers ∙ stands.writers_are;
   happened_is = happened ∙ stands.happened_is;
-  strengths_are = subst (λ (k : KeptStrengths). TellsStrengths k q h) (sym strengths) stands.strengths_are;
+  strengths_are = subst (λ (k : KeptStrengths). TellsStrengths k h) (sym strengths) stands.strengths_are;
   begun_is = begun ∙ stands.begun_is;
   follows = subst (λ (ts : List InstanceTrack). Follows q h ts) (sym tracks)
       (notes-follow q h f old.tracks notes stands.follows);

@@ -1,9 +1,9 @@
 -- An instance is among the known ones exactly where a change of it was accepted in its life, and of an unknown one
 -- nothing counts.
-use Rattle.std.proofs.Common.{◌≡◌, ℕ, ◌+◌, ◌<◌, ◌≤◌, List, [], ◌∷◌, ◌++◌, map, length, Bool, true, false, not, ◌&&◌, ◌||◌, ◌==◌, sym, ap, ◌∙◌, refl, Option, Some, None, subst, ⊎_elim, cond, arith}
+use Rattle.std.proofs.Common.{◌≡◌, ℕ, ◌+◌, ◌<◌, ◌≤◌, List, [], ◌∷◌, ◌++◌, length, Bool, true, false, not, ◌&&◌, ◌||◌, ◌==◌, sym, ap, ◌∙◌, refl, Option, Some, None, subst, ⊎_elim, cond, arith, zero, suc}
 use Rattle.std.specs.Prelude.{is_some, if◌then◌else◌}
 use Rattle.std.specs.List.{filter, list_any, All}
-use Rattle.std.proofs.lemmas.Bool.{cases_Bool, cases_eq}
+use Rattle.std.proofs.lemmas.Bool.{cases_Bool, cases_eq, cases_lt}
 use Rattle.std.proofs.lemmas.List.Elements.{All-nil, filter_passes}
 use Rattle.std.proofs.lemmas.List.Folds.{list_any-append}
 use Rattle.dds_base.proofs.LifeLaws.{accepted-other}
@@ -11,20 +11,18 @@ use Rattle.dds_base.specs.declared.key.Key.{Key}
 use Rattle.dds_base.specs.declared.change.ChangeKind.{ChangeKind}
 use Rattle.dds_base.specs.declared.happening.Arrival.{Arrival}
 use Rattle.dds_base.specs.declared.happening.Happening.{Happening}
-use Rattle.dds_base.specs.declared.happening.Happening.TheVariants.{Came, Passed, Heard, Died, Left, Read, Took, Looked}
+use Rattle.dds_base.specs.declared.happening.Happening.TheVariants.{Came, Passed, Heard, Died, Left, Joined, Read, Took, Looked}
 use Rattle.dds_base.specs.declared.qos.ReaderQos.{ReaderQos}
 use Rattle.dds_base.specs.declared.qos.MatchedWriter.{MatchedWriter}
 use Rattle.dds_base.specs.declared.qos.OwnershipQos.{OwnershipQos}
 use Rattle.dds_base.specs.declared.qos.OwnershipQos.TheVariants.{Shared, Exclusive}
 use Rattle.dds_base.specs.Happening.{same_key, is_write_or_dispose, is_unregister}
-use Rattle.dds_base.specs.Ownership.{IsMatched, accepted_kind, numbered_from, publication_handles, is_registered, registered_writers, admits, outranks_all}
+use Rattle.dds_base.specs.Ownership.{AreOfMatched, IsMatched, accepted_kind, numbered_from, publication_handles, is_registered, registered_writers, admits, outranks_all, writers_of}
+use Rattle.dds_base.proofs.JoinLaws.{registered-joined, unregistered-beyond, unregistered-nil}
 use Rattle.dds_base.specs.Instance.{is_disposed, is_without_writers, instance_state_of, is_known, disposed_generations, no_writers_generations, latest_rebirth, known_instances, introduces, introduced_by, accesses}
 use Rattle.dds_base.specs.Life.{becomes_not_alive, state_after, or_else, is_write, is_nobody, last_accepted, last_marker, marker_reached, ends_life, has_there}
 use Rattle.dds_base.proofs.KeyLaws.{key-same}
-use Rattle.dds_owner.specs.Standing.{Kept, StandsFor}
-use Rattle.dds_owner.specs.declared.registration.Registration.{Registration}
-use Rattle.dds_owner.specs.Registration.{registration_of}
-use Rattle.dds_owner.proofs.KeptLaws.{stands-fresh}
+use Rattle.dds_owner.specs.Standing.{IsBlank, Kept}
 use Rattle.dds_instances.specs.Known.{writes_in_life}
 use Rattle.dds_instances.specs.Track.{Tracks, fresh, one_if}
 use Rattle.dds_instances.proofs.LivesLaws.{begins, disposed-on, disposed-over, last-on, marker-on, marker-over, no_writers-on, no_writers-over, writes-on, writes-over}
@@ -81,6 +79,7 @@ introduced-any q h i (Passed w first last) new = absurd (nothing (is_known q h i
 introduced-any q h i (Heard w m) new = absurd (nothing (is_known q h i) new)
 introduced-any q h i (Died w m) new = absurd (nothing (is_known q h i) new)
 introduced-any q h i (Left w m) new = absurd (nothing (is_known q h i) new)
+introduced-any q h i (Joined m) new = absurd (nothing (is_known q h i) new)
 introduced-any q h i (Read s) new = absurd (nothing (is_known q h i) new)
 introduced-any q h i (Took s) new = absurd (nothing (is_known q h i) new)
 introduced-any q h i (Looked s) new = absurd (nothing (is_known q h i) new)
@@ -175,25 +174,26 @@ registered-before true true false false false ends after = absurd cc
 registered-before true false d u false ends after = absurd cc
 registered-before false w d u false ends after = absurd cc
 
-nobody-still : (q : ReaderQos) (i : Key) (h : List Happening) (e : Happening) → registered_writers q i h ≡ []
-    → accepted_kind q i h e ≡ None → registered_writers q i (e ∷ h) ≡ []
-nobody-still q i h (Came a) none refused =
+nobody-still : (q : ReaderQos) (i : Key) (h : List Happening) (e : Happening) → AreOfMatched q h
+    → registered_writers q i h ≡ [] → accepted_kind q i h e ≡ None → registered_writers q i (e ∷ h) ≡ []
+nobody-still q i h (Came a) of_matched none refused =
     let no_data : (same_key a.change.key i && is_write_or_dispose a.change.kind) ≡ false =
     some-if (same_key a.change.key i && is_write_or_dispose a.change.kind) a.change.kind
     (sym (rejected q i h a none) ∙ refused) in
-    fewer-pass (λ w. is_registered i w h) (λ w. is_registered i w (Came a ∷ h)) (publication_handles q)
+    fewer-pass (λ w. is_registered i w h) (λ w. is_registered i w (Came a ∷ h)) (publication_handles q h)
     (λ w after. registered-before (same_key a.change.key i) (a.writer == w) (is_write_or_dispose a.change.kind)
     (is_unregister a.change.kind) (is_registered i w h)
     (λ writes. absurd (let clash : false ≡ true = sym no_data ∙ writes in cc)) after) none
-nobody-still q i h (Passed v first last) none refused = none
-nobody-still q i h (Heard v m) none refused = none
-nobody-still q i h (Died v m) none refused =
-    fewer-pass (λ w. is_registered i w h) (λ w. is_registered i w (Died v m ∷ h)) (publication_handles q)
+nobody-still q i h (Passed v first last) of_matched none refused = none
+nobody-still q i h (Heard v m) of_matched none refused = none
+nobody-still q i h (Died v m) of_matched none refused =
+    fewer-pass (λ w. is_registered i w h) (λ w. is_registered i w (Died v m ∷ h)) (publication_handles q h)
     (λ w after. and-right (not (v == w)) (is_registered i w h) after) none
-nobody-still q i h (Left v m) none refused = none
-nobody-still q i h (Read s) none refused = none
-nobody-still q i h (Took s) none refused = none
-nobody-still q i h (Looked k) none refused = none
+nobody-still q i h (Left v m) of_matched none refused = none
+nobody-still q i h (Joined m) of_matched none refused = registered-joined q i h m of_matched ∙ none
+nobody-still q i h (Read s) of_matched none refused = none
+nobody-still q i h (Took s) of_matched none refused = none
+nobody-still q i h (Looked k) of_matched none refused = none
 
 pub nobody-there : (ws : List ℕ) → is_nobody ws ≡ true → ws ≡ []
 nobody-there [] e = refl
@@ -211,10 +211,11 @@ nobody-over q i h e over =
     (and-left (is_nobody (registered_writers q i (e ∷ h)))
     (not (has_there q (e ∷ h) i (marker_reached q i h e (last_accepted q i h) (last_marker q i h)))) over)
 
-unknown-on : (q : ReaderQos) (i : Key) (h : List Happening) (e : Happening) → ends_life q i h e ≡ false
-    → accepted_kind q i h e ≡ None → last_accepted q i h ≡ None → IsUnknown q i h → IsUnknown q i (e ∷ h)
-unknown-on q i h e on refused last before = record {
-  registered = nobody-still q i h e before.registered refused;
+unknown-on : (q : ReaderQos) (i : Key) (h : List Happening) (e : Happening) → AreOfMatched q h
+    → ends_life q i h e ≡ false → accepted_kind q i h e ≡ None → last_accepted q i h ≡ None → IsUnknown q i h
+    → IsUnknown q i (e ∷ h)
+unknown-on q i h e of_matched on refused last before = record {
+  registered = nobody-still q i h e of_matched before.registered refused;
   disposed =
       disposed-on q i h e on
       ∙ (ap (λ (k : Option ChangeKind). disposed_generations q i h
@@ -241,14 +242,15 @@ unknown-on q i h e on refused last before = record {
     still None nobody none = refl
     still (Some k) nobody none = absurd cc
 
-pub unknown : (q : ReaderQos) (i : Key) (h : List Happening) → last_accepted q i h ≡ None → IsUnknown q i h
-unknown q i [] e =
-    record { registered = nobody-yet (publication_handles q); disposed = refl; no_writers = refl; marker = refl; writes = refl }
+pub unknown : (q : ReaderQos) (i : Key) (h : List Happening) → AreOfMatched q h → last_accepted q i h ≡ None
+    → IsUnknown q i h
+unknown q i [] of_matched e =
+    record { registered = nobody-yet (publication_handles q []); disposed = refl; no_writers = refl; marker = refl; writes = refl }
   where
     nobody-yet : (ws : List ℕ) → filter (λ w. is_registered i w []) ws ≡ []
     nobody-yet [] = refl
     nobody-yet (w ∷ ws) = nobody-yet ws
-unknown q i (e ∷ h) last =
+unknown q i (e ∷ h) of_matched last =
     ⊎_elim
     (λ over. record {
       registered = nobody-over q i h e over;
@@ -258,13 +260,13 @@ unknown q i (e ∷ h) last =
       writes = writes-over q i h e over;
     })
     (λ on. let parts = or_else-none (accepted_kind q i h e) (last_accepted q i h) (sym (last-on q i h e on) ∙ last) in
-    unknown-on q i h e on parts.0 parts.1 (unknown q i h parts.1))
+    unknown-on q i h e of_matched.1 on parts.0 parts.1 (unknown q i h of_matched.1 parts.1))
     (cases_Bool (ends_life q i h e))
 
 -- where nobody is registered, no matched writer is
-pub unregistered : (q : ReaderQos) (i : Key) (h : List Happening) (w : ℕ) → registered_writers q i h ≡ [] → IsMatched q w
+pub unregistered : (q : ReaderQos) (i : Key) (h : List Happening) (w : ℕ) → registered_writers q i h ≡ [] → IsMatched q h w
     → is_registered i w h ≡ false
-unregistered q i h w none matched = within 1 q.writers none matched.0 (omega (arith, matched.1))
+unregistered q i h w none matched = within 1 (writers_of q h) none matched.0 (omega (arith, matched.1))
   where
     within : (k : ℕ) (xs : List MatchedWriter) → filter (λ v. is_registered i v h) (numbered_from k xs) ≡ [] → k ≤ w
         → w < k + length xs → is_registered i w h ≡ false
@@ -287,30 +289,27 @@ unknown-last q i h unknown = none (last_accepted q i h) unknown
     none None e = refl
     none (Some k) e = absurd cc
 
--- the registrations of an instance for which nobody is registered are those of one of which nothing has come
-nobody-stands : (i : Key) (h : List Happening) (ws : List ℕ) → filter (λ w. is_registered i w h) ws ≡ []
-    → map (registration_of i []) ws ≡ map (registration_of i h) ws
-nobody-stands i h [] none = refl
-nobody-stands i h (w ∷ ws) none =
-    let parts = head-gone (is_registered i w h) (filter (λ v. is_registered i v h) ws) none in
-    ap (λ (b : Bool). (record { writer = w; is_registered = b }) ∷ map (registration_of i []) ws) (sym parts.0)
-    ∙ ap (λ (rs : List Registration). registration_of i h w ∷ rs) (nobody-stands i h ws parts.1)
-  where
-    head-gone : (b : Bool) (xs : List ℕ) → cond b (w ∷ xs) xs ≡ [] → (b ≡ false) × (xs ≡ [])
-    head-gone true xs e = absurd cc
-    head-gone false xs e = (refl, e)
+-- and nobody else is either
+pub nobody-at-all : (q : ReaderQos) (i : Key) (h : List Happening) → AreOfMatched q h → registered_writers q i h ≡ []
+    → (w : ℕ) → is_registered i w h ≡ false
+nobody-at-all q i h of_matched none zero = unregistered-nil q i h of_matched
+nobody-at-all q i h of_matched none (suc at) =
+    ⊎_elim
+    (λ beyond. unregistered-beyond q i h (suc at) of_matched beyond)
+    (λ within. unregistered q i h (suc at) none (omega arith, within))
+    (cases_lt (length (writers_of q h)) (suc at))
 
 -- a fresh track has followed an unknown instance
-pub tracks-fresh : (q : ReaderQos) (i : Key) (h : List Happening) (handle : ℕ) (kept : Kept) → StandsFor kept q i []
-    → last_accepted q i h ≡ None → list_any (accesses i (latest_rebirth q i h)) h ≡ false
+pub tracks-fresh : (q : ReaderQos) (i : Key) (h : List Happening) (handle : ℕ) (kept : Kept) → AreOfMatched q h
+    → IsBlank (length (writers_of q h)) kept → last_accepted q i h ≡ None → list_any (accesses i (latest_rebirth q i h)) h ≡ false
     → Tracks q i h (fresh i handle kept)
-tracks-fresh q i h handle kept blank last unseen =
-    let none : IsUnknown q i h = unknown q i h last in
+tracks-fresh q i h handle kept of_matched blank last unseen =
+    let none : IsUnknown q i h = unknown q i h of_matched last in
     let unknown_is : is_known q h i ≡ false = ap (λ (k : Option ChangeKind). is_some k) last in
     record {
       key_is = refl;
       handle_is = λ known. absurd (let clash : false ≡ true = sym unknown_is ∙ known in cc);
-      owners_are = stands-fresh kept q i h blank (nobody-stands i h (publication_handles q) none.registered);
+      owners_are = blank.stands q i h (omega arith) (nobody-at-all q i h of_matched none.registered);
       last_is = sym last;
       disposed_is = sym none.disposed;
       no_writers_is = sym none.no_writers;

@@ -9,7 +9,7 @@ use Rattle.std.proofs.lemmas.Map.Keys.{IsDistinct-cons}
 use Rattle.dds_base.specs.declared.key.Key.{Key}
 use Rattle.dds_base.specs.declared.happening.Arrival.{Arrival}
 use Rattle.dds_base.specs.declared.happening.Happening.{Happening}
-use Rattle.dds_base.specs.declared.happening.Happening.TheVariants.{Came, Passed, Heard, Died, Left, Read, Took, Looked}
+use Rattle.dds_base.specs.declared.happening.Happening.TheVariants.{Came, Passed, Heard, Died, Left, Joined, Read, Took, Looked}
 use Rattle.dds_base.specs.declared.qos.ReaderQos.{ReaderQos}
 use Rattle.dds_base.specs.Access.{handle_of, lives_begun}
 use Rattle.dds_base.specs.Happening.{same_key}
@@ -170,6 +170,7 @@ handles-rise q (Passed w first last ∷ h) = rise-none q (Passed w first last) h
 handles-rise q (Heard w m ∷ h) = rise-none q (Heard w m) h refl (handles-rise q h)
 handles-rise q (Died w m ∷ h) = rise-none q (Died w m) h refl (handles-rise q h)
 handles-rise q (Left w m ∷ h) = rise-none q (Left w m) h refl (handles-rise q h)
+handles-rise q (Joined m ∷ h) = rise-none q (Joined m) h refl (handles-rise q h)
 handles-rise q (Read s ∷ h) = rise-none q (Read s) h refl (handles-rise q h)
 handles-rise q (Took s ∷ h) = rise-none q (Took s) h refl (handles-rise q h)
 handles-rise q (Looked k ∷ h) = rise-none q (Looked k) h refl (handles-rise q h)

@@ -20,7 +20,7 @@ use Rattle.dds_base.specs.declared.qos.ReaderQos.{ReaderQos}
 use Rattle.dds_base.specs.Happening.{same_key, is_write_or_dispose}
 use Rattle.dds_base.specs.declared.qos.OwnershipQos.{OwnershipQos}
 use Rattle.dds_base.specs.declared.qos.OwnershipQos.TheVariants.{Shared}
-use Rattle.dds_base.specs.Ownership.{accepted_kind, admits, is_registered, outranks_all, publication_handles, registered_writers}
+use Rattle.dds_base.specs.Ownership.{AreOfMatched, IsMatched, accepted_kind, admits, is_registered, outranks_all, publication_handles, registered_writers}
 use Rattle.dds_base.specs.Presence.{is_accepted}
 use Rattle.dds_base.specs.Life.{becomes_not_alive, last_accepted, or_else, is_write, state_after, is_nobody, ends_life}
 use Rattle.dds_base.specs.Access.{handle_of, lives_begun, state_of_known}
@@ -35,7 +35,7 @@ use Rattle.dds_instances.specs.Table.{Table, Stands}
 use Rattle.dds_instances.specs.Following.{key_of, Follows, IsForNextLife, IsLawful, IsPlaceOf, MayTakeUp, Reaches, TakeUp}
 use Rattle.dds_instances.specs.Known.{IsKnown}
 use Rattle.dds_instances.proofs.LivesLaws.{known-on, or-some}
-use Rattle.dds_instances.proofs.TrackLaws.{HandsOut, state-tracked, tracks-next, tracks-stranger, one-rebirth, one_if-bound}
+use Rattle.dds_instances.proofs.TrackLaws.{HandsOut, state-tracked, tracks-next, tracks-stranger, tracks-widened, one-rebirth, one_if-bound}
 use Rattle.dds_instances.proofs.KnownLaws.{known, known-all, unknown, rejected, tracks-fresh}
 
 -- ---- the counts fit
@@ -117,6 +117,24 @@ all-set P ts at x inside here others = λ k d within.
     subst P (sym is) (others k d within' differ))
     (cases_eq k at)
 
+-- where the owners of one instance have more places, the tracks follow as before
+pub widened-follows : (q : ReaderQos) (h : List Happening) (ts : List InstanceTrack) (at : ℕ) (t x : InstanceTrack)
+    → at < length ts → t ≡ get_or ts at t → x ≡ record t { owners = x.owners }
+    → (StandsFor t.owners q t.key h → StandsFor x.owners q t.key h) → Follows q h ts → Follows q h (set ts at x)
+widened-follows q h ts at t x inside there is wider follows =
+    let key : x.key ≡ t.key = ap (λ (y : InstanceTrack). y.key) is in
+    record {
+      keys_are = keys-set ts at x inside
+          (key ∙ ap (λ (y : InstanceTrack). y.key) (there ∙ get_or_default ts at t x inside))
+          ∙ follows.keys_are;
+      each = all-set (λ (y : InstanceTrack). Tracks q y.key h y) ts at x inside
+          (subst (λ (i : Key). Tracks q i h x) (sym key)
+          (tracks-widened q t.key h t x is wider
+          (subst (λ (y : InstanceTrack). Tracks q y.key h y) (sym there) (follows.each at t inside))))
+          (λ k d within differ. follows.each k d within);
+      matched = follows.matched;
+    }
+
 list-flip : (ks : List Key) (i : Key) → list_any (same_key i) ks ≡ list_any (λ k. same_key k i) ks
 list-flip [] i = refl
 list-flip (k ∷ ks) i =
@@ -180,6 +198,7 @@ follows-kept q h e keep ts reaches right = record {
       k d within
       (sym (All-filter keep (λ (t : InstanceTrack). keep t ≡ is_known q (e ∷ h) t.key) ts right k d within)
       ∙ filter_passes keep ts k d within);
+  matched = reaches.matched;
 }
 
 filter-all : (ts : List InstanceTrack) → filter (λ (t : InstanceTrack). true) ts ≡ ts
@@ -199,14 +218,14 @@ follows-whole q h e ts reaches known =
 pub record Changes (q : ReaderQos) (kept : KeptStrengths) (a : Arrival) (kind : Option ChangeKind) (n : ℕ)
     (old new : InstanceTrack) : Type 0 where
   pub advances : TracksEntry kind n old new
-  pub accepted : (h : List Happening) → StandsFor old.owners q a.change.key h → TellsStrengths kept q h
+  pub accepted : (h : List Happening) → StandsFor old.owners q a.change.key h → TellsStrengths kept h
       → kind ≡ accepted_kind q a.change.key h (Came a)
-  pub came : (h : List Happening) → StandsFor old.owners q a.change.key h → TellsStrengths kept q h
+  pub came : (h : List Happening) → StandsFor old.owners q a.change.key h → TellsStrengths kept h
       → StandsFor new.owners q a.change.key (Came a ∷ h)
 
 -- one that has followed the instance until then
 tracks-changed : (q : ReaderQos) (kept : KeptStrengths) (h : List Happening) (a : Arrival) (kind : Option ChangeKind)
-    (n : ℕ) (t x : InstanceTrack) → length h + 1 ≡ n → Changes q kept a kind n t x → TellsStrengths kept q h
+    (n : ℕ) (t x : InstanceTrack) → length h + 1 ≡ n → Changes q kept a kind n t x → TellsStrengths kept h
     → IsLawful q h → HandsOut q a.change.key h (Came a) t.handle → Tracks q a.change.key h t
     → is_known q (Came a ∷ h) a.change.key ≡ true → Tracks q a.change.key (Came a ∷ h) x
 tracks-changed q kept h a kind n t x len step tells lawful hands before known =
@@ -223,10 +242,10 @@ known-introduced q h a known =
     ap (λ (b : Bool). cond (not b && is_some (accepted_kind q a.change.key h (Came a))) (a.change.key ∷ []) []) known
 
 pub reaches-known : (q : ReaderQos) (kept : KeptStrengths) (h : List Happening) (a : Arrival) (ts : List InstanceTrack)
-    (at n : ℕ) (t x : InstanceTrack) (kind : Option ChangeKind) → MayTakeUp q kept h n ts
+    (at n : ℕ) (t x : InstanceTrack) (kind : Option ChangeKind) → MayTakeUp q kept h n ts → IsMatched q h a.writer
     → IsPlaceOf (map key_of ts) a.change.key at → t ≡ get_or ts at t → Changes q kept a kind n t x
     → TakeUp q h a (set ts at x) false
-reaches-known q kept h a ts at n t x kind may place is step =
+reaches-known q kept h a ts at n t x kind may matched place is step =
     let i : Key = a.change.key in
     let follows : Follows q h ts = may.before.follows in
     let inside : at < length ts = omega (arith, place.within, length-map ts key_of) in
@@ -253,6 +272,7 @@ reaches-known q kept h a ts at n t x kind may place is step =
             (sym (step.advances.key ∙ key)) here)
             (λ k d within differ. tracks-stranger q (get_or ts k d).key h a (get_or ts k d)
             (stranger-at ts i at k d place within differ) (known-of q h ts follows k d within) (follows.each k d within));
+        matched = (matched, follows.matched);
       };
       begun = ap (λ (ks : List Key). length ks) none;
     }
@@ -286,20 +306,20 @@ pub unknown-kept : (q : ReaderQos) (h : List Happening) (ts : List InstanceTrack
 unknown-kept q h ts i none follows = none-from (last_accepted q i h) (known-kept q h ts i false follows none)
 
 -- a write or a dispose of an unknown instance is accepted
-pub first-accepted : (q : ReaderQos) (h : List Happening) (a : Arrival) → last_accepted q a.change.key h ≡ None
-    → accepted_kind q a.change.key h (Came a) ≡ (if is_write_or_dispose a.change.kind then Some a.change.kind else None)
-first-accepted q h a last =
-    rejected q a.change.key h a (unknown q a.change.key h last).registered
+pub first-accepted : (q : ReaderQos) (h : List Happening) (a : Arrival) → AreOfMatched q h
+    → last_accepted q a.change.key h ≡ None → accepted_kind q a.change.key h (Came a) ≡ (if is_write_or_dispose a.change.kind then Some a.change.kind else None)
+first-accepted q h a of_matched last =
+    rejected q a.change.key h a (unknown q a.change.key h of_matched last).registered
     ∙ ap (λ (b : Bool). if b && is_write_or_dispose a.change.kind then Some a.change.kind else None)
     (same_key-refl a.change.key)
 
 -- the key that a change of an unknown instance makes known
-first-introduced : (q : ReaderQos) (h : List Happening) (a : Arrival) (b : Bool) → last_accepted q a.change.key h ≡ None
-    → is_write_or_dispose a.change.kind ≡ b → introduced_by q h (Came a) ≡ cond b (a.change.key ∷ []) []
-first-introduced q h a b last data_is =
+first-introduced : (q : ReaderQos) (h : List Happening) (a : Arrival) (b : Bool) → AreOfMatched q h
+    → last_accepted q a.change.key h ≡ None → is_write_or_dispose a.change.kind ≡ b → introduced_by q h (Came a) ≡ cond b (a.change.key ∷ []) []
+first-introduced q h a b of_matched last data_is =
     ap (λ (l : Option ChangeKind). cond (not (is_some l) && is_some (accepted_kind q a.change.key h (Came a)))
     (a.change.key ∷ []) []) last
-    ∙ (ap (λ (k : Option ChangeKind). cond (is_some k) (a.change.key ∷ []) []) (first-accepted q h a last)
+    ∙ (ap (λ (k : Option ChangeKind). cond (is_some k) (a.change.key ∷ []) []) (first-accepted q h a of_matched last)
     ∙ (ap (λ (x : Bool). cond (is_some (cond x (Some a.change.kind) None)) (a.change.key ∷ []) []) data_is
     ∙ some-cond b a.change.kind (a.change.key ∷ [])))
 
@@ -312,17 +332,17 @@ strangers-reach q h a ts absent follows = λ k d within. tracks-stranger q (get_
 
 pub reaches-new : (q : ReaderQos) (kept : KeptStrengths) (h : List Happening) (a : Arrival) (ts : List InstanceTrack)
     (n handle : ℕ) (blank : Kept) (x : InstanceTrack) (kind : Option ChangeKind) → MayTakeUp q kept h n ts
-    → IsForNextLife q h handle blank → list_any (same_key a.change.key) (map key_of ts) ≡ false
+    → IsMatched q h a.writer → IsForNextLife q h handle blank → list_any (same_key a.change.key) (map key_of ts) ≡ false
     → is_write_or_dispose a.change.kind ≡ true → Changes q kept a kind n (fresh a.change.key handle blank) x
     → TakeUp q h a (ts ++ x ∷ []) true
-reaches-new q kept h a ts n handle blank x kind may life absent data_is step =
+reaches-new q kept h a ts n handle blank x kind may matched life absent data_is step =
     let i : Key = a.change.key in
     let follows : Follows q h ts = may.before.follows in
     let last : last_accepted q i h ≡ None = unknown-kept q h ts i absent follows in
     let unknown_is : is_known q h i ≡ false = ap (λ (k : Option ChangeKind). is_some k) last in
-    let new : introduced_by q h (Came a) ≡ i ∷ [] = first-introduced q h a true last data_is in
+    let new : introduced_by q h (Came a) ≡ i ∷ [] = first-introduced q h a true follows.matched last data_is in
     let before : Tracks q i h (fresh i handle blank) =
-    tracks-fresh q i h handle blank (life.blank_is i) last (may.before.lawful.strangers i unknown_is) in
+    tracks-fresh q i h handle blank follows.matched life.blank_is last (may.before.lawful.strangers i unknown_is) in
     let here : is_known q (Came a ∷ h) i ≡ true → Tracks q i (Came a ∷ h) x =
     tracks-changed q kept h a kind n (fresh i handle blank) x may.before.place step may.tells may.before.lawful
     (λ unknown begins. life.handle_is ∙ ap (λ (ks : List Key). lives_begun q h + length ks) (sym new)) before in
@@ -339,23 +359,25 @@ reaches-new q kept h a ts n handle blank x kind may life absent data_is step =
             (All-cons goes_on x []
             (subst (λ (k : Key). is_known q (Came a ∷ h) k ≡ true → Tracks q k (Came a ∷ h) x) (sym step.advances.key) here)
             (All-nil goes_on));
+        matched = (matched, follows.matched);
       };
       begun = ap (λ (ks : List Key). length ks) new;
     }
 
 -- an unregister of an unknown instance says nothing
 pub reaches-nothing : (q : ReaderQos) (h : List Happening) (a : Arrival) (ts : List InstanceTrack)
-    → list_any (same_key a.change.key) (map key_of ts) ≡ false → is_write_or_dispose a.change.kind ≡ false
-    → Follows q h ts → TakeUp q h a ts false
-reaches-nothing q h a ts absent data_is follows =
+    → IsMatched q h a.writer → list_any (same_key a.change.key) (map key_of ts) ≡ false
+    → is_write_or_dispose a.change.kind ≡ false → Follows q h ts → TakeUp q h a ts false
+reaches-nothing q h a ts matched absent data_is follows =
     let last : last_accepted q a.change.key h ≡ None = unknown-kept q h ts a.change.key absent follows in
-    let none : introduced_by q h (Came a) ≡ [] = first-introduced q h a false last data_is in
+    let none : introduced_by q h (Came a) ≡ [] = first-introduced q h a false follows.matched last data_is in
     record {
       reaches = record {
         keys_are =
             follows.keys_are ∙ (sym (append-nil (known_instances q h))
             ∙ ap (λ (ks : List Key). known_instances q h ++ ks) (sym none));
         each = strangers-reach q h a ts absent follows;
+        matched = (matched, follows.matched);
       };
       begun = ap (λ (ks : List Key). length ks) none;
     }
@@ -392,7 +414,7 @@ came-known q h a k known =
     ∙ sym (known-on q k h (Came a) known
     (quiet-goes-on q k h (Came a) (accepted-other q k h a another)
     (filter_agree (λ w. is_registered k w (Came a ∷ h)) (λ w. is_registered k w h)
-    (λ w. registered-other k w h a another) (publication_handles q)) refl known))))
+    (λ w. registered-other k w h a another) (publication_handles q h)) refl known))))
     (cases_Bool (same_key k i))
   where
     off : (b : Bool) → not (b && false) ≡ true
@@ -470,8 +492,8 @@ follows-of q h table ts are stands = subst (λ (xs : List InstanceTrack). Follow
 
 -- its strengths
 pub tells-of : (q : ReaderQos) (h : List Happening) (table : Table) (kept : KeptStrengths) → kept ≡ table.strengths
-    → Stands q table h → TellsStrengths kept q h
-tells-of q h table kept are stands = subst (λ (k : KeptStrengths). TellsStrengths k q h) (sym are) stands.strengths_are
+    → Stands q table h → TellsStrengths kept h
+tells-of q h table kept are stands = subst (λ (k : KeptStrengths). TellsStrengths k h) (sym are) stands.strengths_are
 
 some-known : (last : Option ChangeKind) (nobody : Bool) → is_some last ≡ true
     → state_after last nobody ≡ Some (state_of_known (state_after last nobody))
@@ -553,8 +575,8 @@ accepts-shared q h a shared =
     and-true true = refl
     and-true false = refl
 
-pub accepts-first : (q : ReaderQos) (h : List Happening) (a : Arrival) → last_accepted q a.change.key h ≡ None
-    → is_write_or_dispose a.change.kind ≡ is_accepted q h (Came a)
-accepts-first q h a last =
+pub accepts-first : (q : ReaderQos) (h : List Happening) (a : Arrival) → AreOfMatched q h
+    → last_accepted q a.change.key h ≡ None → is_write_or_dispose a.change.kind ≡ is_accepted q h (Came a)
+accepts-first q h a of_matched last =
     some-test (is_write_or_dispose a.change.kind) a.change.kind
-    ∙ sym (ap (λ (k : Option ChangeKind). is_some k) (first-accepted q h a last))
+    ∙ sym (ap (λ (k : Option ChangeKind). is_some k) (first-accepted q h a of_matched last))

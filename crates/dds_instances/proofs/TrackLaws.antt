@@ -1,5 +1,5 @@
 -- A track that takes up one more entry has followed its instance through it.
-use Rattle.std.proofs.Common.{◌≡◌, ℕ, ◌+◌, ◌≤◌, List, ◌∷◌, length, Bool, true, false, not, ◌&&◌, ◌||◌, sym, ap, ◌∙◌, refl, Option, Some, None, arith, ⊎_elim}
+use Rattle.std.proofs.Common.{◌≡◌, ℕ, ◌+◌, ◌≤◌, List, ◌∷◌, length, Bool, true, false, not, ◌&&◌, ◌||◌, sym, ap, ◌∙◌, refl, subst, Option, Some, None, arith, ⊎_elim}
 use Rattle.std.specs.Prelude.{is_some, if◌then◌else◌}
 use Rattle.std.specs.List.{list_any}
 use Rattle.std.proofs.lemmas.Bool.{cases_Bool}
@@ -15,7 +15,7 @@ use Rattle.dds_base.specs.declared.sample.InstanceState.TheVariants.{Alive, NotA
 use Rattle.dds_base.specs.declared.qos.ReaderQos.{ReaderQos}
 use Rattle.dds_base.specs.Access.{lives_begun}
 use Rattle.dds_base.specs.Happening.{same_key}
-use Rattle.dds_base.specs.Ownership.{is_registered, accepted_kind, publication_handles}
+use Rattle.dds_base.specs.Ownership.{is_registered, accepted_kind, publication_handles, registered_writers}
 use Rattle.dds_base.specs.Instance.{is_disposed, is_without_writers, instance_state_of, is_known, introduces, is_rebirth, disposed_generations, no_writers_generations, latest_rebirth, accesses, is_since}
 use Rattle.dds_base.specs.Life.{or_else, is_write, last_accepted, last_marker, state_after, state_reached, becomes_not_alive, ends_life}
 use Rattle.dds_base.specs.Presence.{marks}
@@ -171,13 +171,13 @@ one-rebirth true (Some NotAliveNoWriters) = omega arith
 -- have been seen
 pub tracks-other : (q : ReaderQos) (i : Key) (h : List Happening) (e : Happening) (t : InstanceTrack) (x : Bool)
     → accepted_kind q i h e ≡ None → ((w : ℕ) → is_registered i w (e ∷ h) ≡ is_registered i w h)
+    → registered_writers q i (e ∷ h) ≡ registered_writers q i h
     → x ≡ (accesses i (latest_rebirth q i h) e || t.is_seen) → is_known q h i ≡ true → is_known q (e ∷ h) i ≡ true
     → Tracks q i h t → Tracks q i (e ∷ h) (record t { is_seen = x })
-tracks-other q i h e t x none same x_is before known tracks =
+tracks-other q i h e t x none same writers x_is before known tracks =
     let on : ends_life q i h e ≡ false = on-known q i h e known in
     let unmarked : marks q i h e ≡ false =
-    quiet-unmarked q i h e none (filter_agree (λ w. is_registered i w (e ∷ h)) (λ w. is_registered i w h) same
-    (publication_handles q)) in
+    quiet-unmarked q i h e none writers in
     let latest : latest_rebirth q i (e ∷ h) ≡ latest_rebirth q i h =
     rebirth-on q i h e on
     ∙ (ap (λ (k : Option ChangeKind). if is_beginning k (last_accepted q i h) (instance_state_of q i h) then length h + 1
@@ -219,7 +219,28 @@ pub tracks-stranger : (q : ReaderQos) (i : Key) (h : List Happening) (a : Arriva
     → Tracks q i (Came a ∷ h) t
 tracks-stranger q i h a t other before tracks known =
     tracks-other q i h (Came a) t t.is_seen (accepted-other q i h a other) (λ w. registered-other i w h a other)
+    (filter_agree (λ w. is_registered i w (Came a ∷ h)) (λ w. is_registered i w h) (λ w. registered-other i w h a other)
+    (publication_handles q h))
     refl before known tracks
+
+-- one whose owners have more places has followed it as before
+pub tracks-widened : (q : ReaderQos) (i : Key) (h : List Happening) (t x : InstanceTrack)
+    → x ≡ record t { owners = x.owners } → (StandsFor t.owners q i h → StandsFor x.owners q i h) → Tracks q i h t
+    → Tracks q i h x
+tracks-widened q i h t x is wider tracks =
+    subst (λ (y : InstanceTrack). Tracks q i h y) (sym is)
+    (record {
+      key_is = tracks.key_is;
+      handle_is = tracks.handle_is;
+      owners_are = wider tracks.owners_are;
+      last_is = tracks.last_is;
+      disposed_is = tracks.disposed_is;
+      no_writers_is = tracks.no_writers_is;
+      rebirth_is = tracks.rebirth_is;
+      marker_is = tracks.marker_is;
+      writes_are = tracks.writes_are;
+      seen_is = tracks.seen_is;
+    })
 
 -- ---- what is noted of a track besides
 
@@ -262,7 +283,7 @@ seen-by q i h ss t tracks known =
 pub tracks-read : (q : ReaderQos) (i : Key) (h : List Happening) (ss : List SamplePosition) (t : InstanceTrack)
     → is_known q h i ≡ true → is_known q (Read ss ∷ h) i ≡ true → Tracks q i h t → Tracks q i (Read ss ∷ h) (seen_in ss t)
 tracks-read q i h ss t before known tracks =
-    tracks-other q i h (Read ss) t _ refl (λ w. refl)
+    tracks-other q i h (Read ss) t _ refl (λ w. refl) refl
     (seen-by q i h ss t tracks before
     ∙ ap (λ (b : Bool). b || t.is_seen) (sym (or-none (list_any (is_since i (latest_rebirth q i h)) ss))))
     before known tracks
@@ -270,4 +291,4 @@ tracks-read q i h ss t before known tracks =
 pub tracks-took : (q : ReaderQos) (i : Key) (h : List Happening) (ss : List SamplePosition) (t : InstanceTrack)
     → is_known q h i ≡ true → is_known q (Took ss ∷ h) i ≡ true → Tracks q i h t → Tracks q i (Took ss ∷ h) (seen_in ss t)
 tracks-took q i h ss t before known tracks =
-    tracks-other q i h (Took ss) t _ refl (λ w. refl) (seen-by q i h ss t tracks before) before known tracks
+    tracks-other q i h (Took ss) t _ refl (λ w. refl) refl (seen-by q i h ss t tracks before) before known tracks

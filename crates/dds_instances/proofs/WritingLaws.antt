@@ -90,7 +90,7 @@ one-lives q h a t more stands =
     ends-registered q i h (Came a)
     (ap (λ (ws : List ℕ). is_nobody ws)
     (filter_agree (λ w. is_registered i w (Came a ∷ h)) (λ w. is_registered i w h)
-    (one-registered q h a t more stands) (publication_handles q))
+    (one-registered q h a t more stands) (publication_handles q h))
     ∙ one-somebody q h a t more stands)
 
 -- ---- what is accepted
@@ -179,7 +179,8 @@ takes-write q kept h a ts at n t x k may place is more x_is key handle state vie
       came = λ g stands tells. subst (λ (y : InstanceTrack). StandsFor y.owners q i (Came a ∷ g)) (sym x_is)
           (one-stands q g a t more stands);
     } in
-    let taken : TakeUp q h a (set ts at x) false = reaches-known q kept h a ts at n t x (Some Write) may place is step in
+    let taken : TakeUp q h a (set ts at x) false = reaches-known q kept h a ts at n t x (Some Write) may
+    (more.registered h tracks.owners_are).0 place is step in
     let none : introduced_by q h (Came a) ≡ [] = known-introduced q h a (known-at q h ts i at place before) in
     let follows : Follows q (Came a ∷ h) (set ts at x) =
     follows-on q h a (set ts at x) (sym (one-lives q h a t more tracks.owners_are)) taken.reaches in

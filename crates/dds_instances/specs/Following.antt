@@ -2,7 +2,7 @@
 -- has to be believed.
 --
 -- DDS 1.4, 2.2.2.5 (SampleInfo: instance_handle, instance_state, view_state, the two generation counts).
-use Rattle.std.specs.Prelude.{◌≡◌, ◌≢◌, ℕ, ◌+◌, ◌<◌, Bool, List, [], ◌∷◌, ◌++◌, length, map, All, true, false, slice_index_or}
+use Rattle.std.specs.Prelude.{◌≡◌, ◌≢◌, ℕ, ◌+◌, ◌<◌, ◌≤◌, Bool, List, [], ◌∷◌, ◌++◌, length, map, All, true, false, slice_index_or}
 use Rattle.std.specs.List.{list_any}
 use Rattle.dds_base.specs.declared.key.Key.{Key}
 use Rattle.dds_base.specs.declared.happening.Arrival.{Arrival}
@@ -13,10 +13,11 @@ use Rattle.dds_base.specs.Access.{lives_begun}
 use Rattle.dds_base.specs.Happening.{same_key}
 use Rattle.dds_base.specs.Instance.{known_instances, introduced_by, is_known, latest_rebirth, accesses}
 use Rattle.dds_base.specs.Life.{ends_with_write, has_there, last_marker}
+use Rattle.dds_base.specs.Ownership.{AreOfMatched, writers_of}
 use Rattle.dds_instances.specs.declared.known.KnownInstance.{KnownInstance}
 use Rattle.dds_instances.specs.declared.track.InstanceTrack.{InstanceTrack}
 use Rattle.dds_instances.specs.Known.{IsKnown}
-use Rattle.dds_owner.specs.Standing.{Kept, KeptStrengths, StandsFor, TellsStrengths}
+use Rattle.dds_owner.specs.Standing.{IsBlank, Kept, KeptStrengths, TellsStrengths, places_of}
 use Rattle.dds_instances.specs.Track.{Tracks, lives_on, one_if}
 
 -- the instance of a track
@@ -27,16 +28,18 @@ key_of t = t.key
 abbrev pub Each : ReaderQos → List Happening → List InstanceTrack → Type 0
 Each q h ts = All (λ (t : InstanceTrack). Tracks q t.key h t) ts
 
--- the tracks are those of the known instances, by handle
+-- the tracks are those of the known instances, by handle, at a reader at which entries name matched writers alone
 pub record Follows (q : ReaderQos) (h : List Happening) (ts : List InstanceTrack) : Type 0 where
   pub keys_are : map key_of ts ≡ known_instances q h
   pub each : Each q h ts
+  pub matched : AreOfMatched q h
 
 -- the tracks have taken the entry up: those of the instances that were known or become so, by handle, and each has
 -- followed its instance, if the life of that goes on
 pub record Reaches (q : ReaderQos) (h : List Happening) (e : Happening) (ts : List InstanceTrack) : Type 0 where
   pub keys_are : map key_of ts ≡ known_instances q h ++ introduced_by q h e
   pub each : All (λ (t : InstanceTrack). is_known q (e ∷ h) t.key ≡ true → Tracks q t.key (e ∷ h) t) ts
+  pub matched : AreOfMatched q (e ∷ h)
 
 -- it is noted right of each track whether something of its instance is present
 abbrev pub HeldRight : ReaderQos → List Happening → List InstanceTrack → Type 0
@@ -58,7 +61,7 @@ pub record FollowsBefore (q : ReaderQos) (h : List Happening) (position : ℕ) (
 pub record MayTakeUp (q : ReaderQos) (strengths : KeptStrengths) (h : List Happening) (position : ℕ)
     (ts : List InstanceTrack) : Type 0 where
   pub before : FollowsBefore q h position ts
-  pub tells : TellsStrengths strengths q h
+  pub tells : TellsStrengths strengths h
 
 -- the tracks have taken up a change that came, and a life begins with it where this says so
 pub record TakeUp (q : ReaderQos) (h : List Happening) (a : Arrival) (ts : List InstanceTrack) (begins : Bool)
@@ -77,20 +80,20 @@ pub record TakesWrite (q : ReaderQos) (h : List Happening) (a : Arrival) (ts : L
   pub key : known.key ≡ a.change.key
   pub told : IsKnown q (Came a ∷ h) known
 
--- the next life that begins is to have this handle and these owners, of an instance of which nothing has come
+-- the next life that begins is to have this handle and these owners, which are blank
 pub record IsForNextLife (q : ReaderQos) (h : List Happening) (handle : ℕ) (blank : Kept) : Type 0 where
   pub handle_is : handle ≡ lives_begun q h + 1
-  pub blank_is : (i : Key) → StandsFor blank q i []
+  pub blank_is : IsBlank (length (writers_of q h)) blank
+
+-- the track at a place has a place for a writer
+abbrev pub HasPlace : List InstanceTrack → ℕ → ℕ → Type 0
+HasPlace ts at w = (d : InstanceTrack) → w ≤ places_of (slice_index_or ts at d).owners
 
 -- exactly the tracks of known instances live on
 abbrev pub LivesRight : ReaderQos → List Happening → List InstanceTrack → Type 0
 LivesRight q h ts = All (λ (t : InstanceTrack). lives_on t ≡ is_known q h t.key) ts
 
--- owners among n matched writers, of instances of which nothing has come
-abbrev pub IsBlank : ℕ → Kept → Type 0
-IsBlank n kept = (q : ReaderQos) (i : Key) → length q.writers ≡ n → StandsFor kept q i []
-
--- owners for the instances that become known
+-- owners of n writers for the instances that become known
 abbrev pub AreBlank : ℕ → List Kept → Type 0
 AreBlank n blanks = All (IsBlank n) blanks
 

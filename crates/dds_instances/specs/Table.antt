@@ -17,7 +17,7 @@ use Rattle.dds_base.specs.Access.{lives_begun}
 use Rattle.dds_base.specs.Happening.{same_key}
 use Rattle.dds_base.specs.Instance.{is_known}
 use Rattle.dds_base.specs.Life.{has_there, is_at, is_nobody, last_marker}
-use Rattle.dds_base.specs.Ownership.{registered_writers}
+use Rattle.dds_base.specs.Ownership.{registered_writers, writers_of}
 use Rattle.dds_owner.specs.Standing.{KeptStrengths, TellsStrengths}
 use Rattle.dds_instances.specs.declared.track.InstanceTrack.{InstanceTrack}
 use Rattle.dds_instances.specs.Following.{Follows, IsLawful}
@@ -62,9 +62,9 @@ pub record TakesUpEntry (old new : Table) (answer : Result (Unit {0}) Code) : Ty
 
 -- the table stands for what happened at a reader of these policies
 pub record Stands (q : ReaderQos) (table : Table) (h : List Happening) : Type 0 where
-  pub writers_are : table.writers ≡ length q.writers
+  pub writers_are : table.writers ≡ length (writers_of q h)
   pub happened_is : table.happened ≡ length h
-  pub strengths_are : TellsStrengths table.strengths q h
+  pub strengths_are : TellsStrengths table.strengths h
   pub begun_is : table.begun ≡ lives_begun q h
   pub follows : Follows q h table.tracks
   pub lawful : IsLawful q h

@@ -157,7 +157,7 @@ pub record IsOneMore (q : ReaderQos) (a : Arrival) (t : InstanceTrack) : Type 0 
   pub written : is_write (Some a.change.kind) ≡ true
   pub upon : is_write t.last_accepted ≡ true
   pub registered : (h : List Happening) → StandsFor t.owners q a.change.key h
-      → IsMatched q a.writer × (is_registered a.change.key a.writer h ≡ true)
+      → IsMatched q h a.writer × (is_registered a.change.key a.writer h ≡ true)
 
 -- one more write was counted
 abbrev pub with_one_more : InstanceTrack → InstanceTrack

@@ -7,7 +7,7 @@ ghost use Rattle.std.specs.Option.{option_map};
 ghost use Rattle.dds_base.specs.declared.key.Key.{Key};
 ghost use Rattle.dds_base.specs.Happening.{same_key};
 ghost use Rattle.dds_base.specs.declared.happening.Happening.{Happening};
-ghost use Rattle.dds_base.specs.declared.happening.Happening.TheVariants.{Came, Passed, Heard, Died, Left, Read, Took, Looked};
+ghost use Rattle.dds_base.specs.declared.happening.Happening.TheVariants.{Came, Passed, Heard, Died, Left, Joined, Read, Took, Looked};
 ghost use Rattle.dds_base.specs.declared.happening.SamplePosition.{SamplePosition};
 ghost use Rattle.dds_base.specs.declared.happening.StatusKind.{StatusKind};
 ghost use Rattle.dds_base.specs.declared.qos.ReaderQos.{ReaderQos};
@@ -21,7 +21,8 @@ use crate::known::{KnownInstance, told, view_of};
 use crate::place::KeyIndex;
 use crate::track::{InstanceTrack, begins_dead, begins_left, count_if};
 use dds_base::{
-    Arrival, Code, Handle, InstanceState, Key, OwnershipQos, ReaderQos, SamplePosition, ViewState,
+    Arrival, Code, Handle, InstanceState, Key, MatchedWriter, OwnershipQos, ReaderQos,
+    SamplePosition, ViewState,
 };
 use dds_owner::{Owners, Strengths};
 use std::alloc::Global;
@@ -151,7 +152,7 @@ impl Instances {
     fn change(&mut self, qos: &ReaderQos, arrival: &Arrival, is_end: bool)
         requires room { 1 ≤ room_of self.old }
         ensures stands { (h : List Happening) → Stands qos.now self.old h
-            → is_end ≡ ends_life qos.now arrival.now.change.key h (Came arrival.now)
+            → IsMatched qos.now h arrival.now.writer → is_end ≡ ends_life qos.now arrival.now.change.key h (Came arrival.now)
             → Stands qos.now self.new (Came arrival.now ∷ h) }
         ensures room { room_of self.new + 1 ≡ room_of self.old }
         ensures alive { alive_of self.new ≤ alive_of self.old + 1 }
@@ -161,6 +162,7 @@ impl Instances {
             &mut self.index,
             &mut self.tracks,
             &mut self.blanks,
+            self.writers,
             qos,
             &self.strengths,
             arrival,
@@ -176,8 +178,8 @@ impl Instances {
         self.happened = position;
     }
 
-    /// Takes up a change that came at a reader of these policies. Whether it ends the life of its instance, the caller
-    /// has to say, who knows which samples are present.
+    /// Takes up a change that came at a reader of these policies, of a matched writer. Whether it ends the life of its
+    /// instance, the caller has to say, who knows which samples are present.
     ///
     /// # Errors
     ///
@@ -188,6 +190,7 @@ impl Instances {
         // The change came, where it was said right whether it ends a life.
         ensures ok { OnOk result
             ((h : List Happening) → Stands qos.now self.old h
+            → IsMatched qos.now h arrival.now.writer
             → is_end ≡ ends_life qos.now arrival.now.change.key h (Came arrival.now)
             → Stands qos.now self.new (Came arrival.now ∷ h)) }
         // One more is alive at most.
@@ -286,7 +289,7 @@ impl Instances {
         hold(&self.index, &mut self.tracks, key);
     }
 
-    /// Takes up the death of a writer, at whichever moment. It ends the life of each instance for which nobody is
+    /// Takes up the death of a matched writer, at whichever moment. It ends the life of each instance for which nobody is
     /// registered then, unless it leaves a marker of it, or something of it is held.
     ///
     /// # Errors
@@ -298,7 +301,7 @@ impl Instances {
         // The writer died, where it was noted right of which instances something is present.
         ensures ok { OnOk result
             ((q : ReaderQos) (h : List Happening) (moment : ℕ) → Stands q self.old h
-            → HoldsPresent q h self.old
+            → IsMatched q h writer → HoldsPresent q h self.old
             → Stands q self.new (Died writer moment ∷ h)) }
         // It is one entry more.
         ensures happened { OnOk result (happened_of self.new ≡ happened_of self.old + 1) }
@@ -319,8 +322,41 @@ impl Instances {
         Ok(())
     }
 
-    /// Takes up an entry that says nothing of any instance: changes that were passed over, a writer that was heard or
-    /// left, or a status that was looked at.
+    /// Takes up that a writer was matched that was not known: it has the next publication handle. It touches no instance, and
+    /// leaves no room: who needs some reserves it anew, with a place for the newcomer in each instance to come. All memory is
+    /// asked for before anything changes.
+    ///
+    /// # Errors
+    ///
+    /// `Memory` where a growth was refused, or after 2^64 - 1 entries; nothing has changed then.
+    ///
+    /// RTPS 2.5, 8.4.10 (matched_writer_add).
+    pub fn join(&mut self, writer: MatchedWriter) -> Result<(), Code>
+        // It joined.
+        ensures joined { OnOk result
+            ((q : ReaderQos) (h : List Happening) → Stands q self.old h
+            → Stands q self.new (Joined writer ∷ h)) }
+        // It is one entry more.
+        ensures happened { OnOk result (happened_of self.new ≡ happened_of self.old + 1) }
+        // As many are alive as before.
+        ensures alive { alive_of self.new ≡ alive_of self.old }
+        // A refusal leaves it as it was.
+        ensures err { OnErr result (self.new ≡ self.old) }
+        // It is refused for want of memory alone.
+        ensures memory { IfErr result (λ e. e ≡ Memory) }
+    {
+        let happened = self.happened.checked_add(1).ok_or(Code::Memory)?;
+        let writers = self.writers.checked_add(1).ok_or(Code::Memory)?;
+        self.strengths.join(writer)?;
+        self.blanks.clear();
+        self.room = 0;
+        self.writers = writers;
+        self.happened = happened;
+        Ok(())
+    }
+
+    /// Takes up an entry that says nothing of any instance: changes of a matched writer that were passed over, one that was
+    /// heard or left, or a status that was looked at.
     ///
     /// # Errors
     ///
@@ -329,15 +365,15 @@ impl Instances {
         // Changes were passed over.
         ensures passed { OnOk result
             ((q : ReaderQos) (h : List Happening) (w first last : ℕ) → Stands q self.old h
-            → Stands q self.new (Passed w first last ∷ h)) }
+            → IsMatched q h w → Stands q self.new (Passed w first last ∷ h)) }
         // A writer was heard.
         ensures heard { OnOk result
             ((q : ReaderQos) (h : List Happening) (w moment : ℕ) → Stands q self.old h
-            → Stands q self.new (Heard w moment ∷ h)) }
+            → IsMatched q h w → Stands q self.new (Heard w moment ∷ h)) }
         // A writer left.
         ensures left { OnOk result
             ((q : ReaderQos) (h : List Happening) (w moment : ℕ) → Stands q self.old h
-            → Stands q self.new (Left w moment ∷ h)) }
+            → IsMatched q h w → Stands q self.new (Left w moment ∷ h)) }
         // A status was looked at.
         ensures looked { OnOk result
             ((q : ReaderQos) (h : List Happening) (kind : StatusKind) → Stands q self.old h
@@ -592,7 +628,7 @@ impl Instances {
     pub fn is_registered(&self, key: Key, writer: Handle) -> bool
         // It is so by the definitions.
         ensures registered { (q : ReaderQos) (h : List Happening) → Stands q self.now h
-            → IsMatched q writer
+            → IsMatched q h writer
             → result ≡ is_registered key writer h }
     {
         match look_up(&self.index, &self.tracks, key) {
@@ -615,7 +651,7 @@ impl Instances {
             return false;
         }
         match look_up(&self.index, &self.tracks, change.key) {
-            Some(track) => !track.owners.would_have_writers(arrival),
+            Some(track) => !track.owners.would_have_writers(arrival, self.writers),
             None => true,
         }
     }
@@ -651,7 +687,7 @@ impl Instances {
     {
         let change = &arrival.change;
         match look_up(&self.index, &self.tracks, change.key) {
-            Some(track) => track.would_mark(qos, &self.strengths, arrival),
+            Some(track) => track.would_mark(qos, &self.strengths, arrival, self.writers),
             None => begins_dead(change.kind, arrival.writer, self.writers),
         }
     }

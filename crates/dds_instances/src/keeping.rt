@@ -12,13 +12,14 @@ ghost use Rattle.dds_base.specs.Happening.{same_key, is_write_or_dispose};
 ghost use Rattle.dds_base.specs.declared.code.Code.TheVariants.{Memory};
 ghost use Rattle.dds_base.specs.declared.key.Key.{Key};
 ghost use Rattle.dds_base.specs.Life.{is_at, is_nobody, last_accepted};
-ghost use Rattle.dds_base.specs.Ownership.{registered_writers};
+ghost use Rattle.dds_base.specs.Access.{lives_begun};
+ghost use Rattle.dds_base.specs.Ownership.{IsMatched, registered_writers, writers_of};
 ghost use Rattle.dds_owner.specs.Standing.{KeptStrengths, TellsStrengths, strengths_room};
 ghost use Rattle.dds_base.specs.declared.happening.SamplePosition.{SamplePosition};
 ghost use Rattle.dds_instances.specs.Track.{Fits, Tracks, is_alive_track, held_as, held_too, is_other, lives_on, seen_in};
 ghost use Rattle.dds_instances.specs.Table.{is_any_left};
 ghost use Rattle.dds_instances.specs.declared.track.InstanceTrack.{InstanceTrack};
-ghost use Rattle.dds_instances.specs.Following.{key_of, AreBlank, Follows, FollowsBefore, HeldRight, IsForNextLife, IsPlaceOf, LivesRight, MayTakeUp, Reaches, TakeUp, TakesWrite};
+ghost use Rattle.dds_instances.specs.Following.{key_of, AreBlank, Follows, FollowsBefore, HasPlace, HeldRight, IsForNextLife, IsPlaceOf, LivesRight, MayTakeUp, Reaches, TakeUp, TakesWrite};
 
 use crate::known::{KnownInstance, told_as};
 use crate::place::{KeyIndex, find, put_last};
@@ -46,9 +47,40 @@ pub fn change_known(
         ≤ count_by is_alive_track tracks.old.items + 1 }
     ensures follows { (h : List Happening)
         → MayTakeUp qos.now strengths.now h position tracks.old.items
+        → IsMatched qos.now h arrival.now.writer → HasPlace tracks.old.items at arrival.now.writer
         → TakeUp qos.now h arrival.now tracks.new.items false }
 {
     tracks[at].change(qos, strengths, arrival, position);
+}
+
+/// A known instance gets a place for a matched writer, if it has none for it: it takes over those of blank owners. So many
+/// writers are matched.
+pub fn make_place(
+    tracks: &mut Vec<InstanceTrack>,
+    at: usize,
+    blanks: &mut Vec<Owners>,
+    writers: usize,
+    writer: Handle,
+)
+    requires within { at < vec_len tracks.old }
+    requires spare_blank { 0 < vec_len blanks.old }
+    requires blank { AreBlank writers blanks.old.items }
+    ensures fits { (n : ℕ) → All (Fits n) tracks.old.items → All (Fits n) tracks.new.items }
+    ensures keys { map key_of tracks.new.items ≡ map key_of tracks.old.items }
+    ensures len { vec_len tracks.new ≡ vec_len tracks.old }
+    ensures capacity { vec_capacity tracks.new ≡ vec_capacity tracks.old }
+    ensures alive { count_by is_alive_track tracks.new.items
+        ≡ count_by is_alive_track tracks.old.items }
+    ensures blanks_len { vec_len blanks.old ≤ vec_len blanks.new + 1 }
+    ensures blanks { (n : ℕ) → AreBlank n blanks.old.items → AreBlank n blanks.new.items }
+    ensures follows { (q : ReaderQos) (h : List Happening) → writers ≤ length (writers_of q h)
+        → Follows q h tracks.old.items → Follows q h tracks.new.items }
+    ensures placed { writer ≤ writers → HasPlace tracks.new.items at writer }
+{
+    if tracks[at].owners.places() < writer.number() as usize {
+        let blank = blanks.pop().unwrap();
+        tracks[at].widen(blank);
+    }
 }
 
 /// A known instance takes up a change of it, where that is one more write, and it is told what is known of the instance then;
@@ -111,7 +143,7 @@ pub fn introduce(
         ≤ count_by is_alive_track tracks.old.items + 1 }
     ensures follows { (h : List Happening)
         → MayTakeUp qos.now strengths.now h position tracks.old.items
-        → IsForNextLife qos.now h handle blank
+        → IsMatched qos.now h arrival.now.writer → IsForNextLife qos.now h handle blank
         → TakeUp qos.now h arrival.now tracks.new.items true }
 {
     let mut track = InstanceTrack::new(arrival.change.key, handle, blank);
@@ -130,7 +162,7 @@ pub fn bury_all(tracks: &mut Vec<InstanceTrack>, writer: Handle, position: u64)
         (λ t. is_at t.last_marker position) tracks.new.items
         ≤ count_by is_alive_track tracks.old.items }
     ensures reaches { (q : ReaderQos) (h : List Happening) (now : ℕ)
-        → FollowsBefore q h position tracks.old.items
+        → FollowsBefore q h position tracks.old.items → IsMatched q h writer
         → Reaches q h (Died writer now) tracks.new.items }
     ensures lives { (q : ReaderQos) (h : List Happening) (now : ℕ)
         → FollowsBefore q h position tracks.old.items → HeldRight q h tracks.old.items
@@ -182,11 +214,12 @@ pub fn see_all(index: &KeyIndex, tracks: &mut Vec<InstanceTrack>, samples: &[Sam
 }
 
 /// The instances take up a change that came, the entry of this position, and it is told whether a life begins with it,
-/// which has this handle then.
+/// which has this handle then. So many writers are matched.
 pub fn take_up(
     index: &mut KeyIndex,
     tracks: &mut Vec<InstanceTrack>,
     blanks: &mut Vec<Owners>,
+    writers: usize,
     qos: &ReaderQos,
     strengths: &Strengths,
     arrival: &Arrival,
@@ -196,6 +229,7 @@ pub fn take_up(
     requires place { 0 < index.old.room }
     requires room { vec_len tracks.old < vec_capacity tracks.old }
     requires spare_blank { 0 < vec_len blanks.old }
+    requires blank { AreBlank writers blanks.old.items }
     requires indexed { index.old.keys ≡ map key_of tracks.old.items }
     requires later { 0 < position }
     requires fits { All (Fits position) tracks.old.items }
@@ -210,11 +244,13 @@ pub fn take_up(
     ensures blanks { (n : ℕ) → AreBlank n blanks.old.items → AreBlank n blanks.new.items }
     ensures follows { (h : List Happening)
         → MayTakeUp qos.now strengths.now h position tracks.old.items
-        → All (IsForNextLife qos.now h handle) blanks.old.items
+        → IsMatched qos.now h arrival.now.writer → writers ≡ length (writers_of qos.now h)
+        → handle ≡ lives_begun qos.now h + 1
         → TakeUp qos.now h arrival.now tracks.new.items result }
 {
     if let Some(at) = find(index, arrival.change.key) {
         index.expect_at(at);
+        make_place(tracks, at, blanks, writers, arrival.writer);
         change_known(tracks, at, qos, strengths, arrival, position);
         return false;
     }
@@ -362,9 +398,9 @@ pub fn forget(index: &mut KeyIndex, tracks: &mut Vec<InstanceTrack>, key: Key)
 
 /// A change came: what it says of its writer's strength is kept, where there is memory for that of each writer.
 pub fn note_strength(strengths: &mut Strengths, arrival: &Arrival)
-    ensures came { (q : ReaderQos) (h : List Happening)
-        → length q.writers ≤ strengths_room strengths.old → TellsStrengths strengths.old q h
-        → TellsStrengths strengths.new q (Came arrival.now ∷ h) }
+    ensures came { (h : List Happening) → 0 < arrival.now.writer
+        → arrival.now.writer ≤ strengths_room strengths.old → TellsStrengths strengths.old h
+        → TellsStrengths strengths.new (Came arrival.now ∷ h) }
     ensures room { strengths_room strengths.new ≡ strengths_room strengths.old }
 {
     if let Some(strength) = arrival.change.strength {

@@ -2,16 +2,16 @@
 //!
 //! DDS 1.4, 2.2.2.5 (SampleInfo: instance_state, view_state, the two generation counts).
 
-ghost use Rattle.std.specs.Prelude.{◌≡◌, ◌+◌, ◌∷◌, ◌<◌, ◌≤◌, ◌^◌, if◌then◌else◌, List, None, true, ℕ};
+ghost use Rattle.std.specs.Prelude.{◌≡◌, ◌+◌, ◌∷◌, ◌<◌, ◌≤◌, ◌^◌, if◌then◌else◌, List, None, length, true, ℕ};
 ghost use Rattle.dds_base.specs.declared.happening.Happening.{Happening};
 ghost use Rattle.dds_base.specs.declared.happening.Happening.TheVariants.{Came, Died};
 ghost use Rattle.dds_base.specs.declared.key.Key.{Key};
 ghost use Rattle.dds_base.specs.declared.qos.ReaderQos.{ReaderQos};
 ghost use Rattle.dds_base.specs.Instance.{is_disposed, is_without_writers};
 ghost use Rattle.dds_base.specs.Life.{or_else, state_after, is_write, becomes_not_alive};
-ghost use Rattle.dds_base.specs.Ownership.{accepted_kind};
+ghost use Rattle.dds_base.specs.Ownership.{accepted_kind, writers_of};
 ghost use Rattle.dds_base.specs.Presence.{marks};
-ghost use Rattle.dds_owner.specs.Standing.{StandsFor, TellsStrengths, has_writers};
+ghost use Rattle.dds_owner.specs.Standing.{IsBlank, StandsFor, TellsStrengths, has_writers, places_of};
 ghost use Rattle.dds_instances.specs.Track.{state_of_track, one_if, fresh, seen_at, with_one_more, IsOneMore, is_born_dead, is_left_at_first, Counts, TracksEntry, Fits, Tracks};
 
 use dds_base::{Arrival, ChangeKind, Handle, InstanceState, Key, OwnershipQos, ReaderQos};
@@ -140,9 +140,10 @@ fn first_there(first: Option<ChangeKind>, second: Option<ChangeKind>) -> Option<
     }
 }
 
-/// A change of the instance came, accepted or not.
+/// A change of the instance came, accepted or not, of a writer that has a place.
 fn note(owners: &mut Owners, arrival: &Arrival)
-    ensures { (q : ReaderQos) (h : List Happening) → StandsFor owners.old q arrival.now.change.key h
+    ensures { (q : ReaderQos) (h : List Happening) → arrival.now.writer ≤ places_of owners.old
+        → StandsFor owners.old q arrival.now.change.key h
         → StandsFor owners.new q arrival.now.change.key (Came arrival.now ∷ h) }
 {
     if arrival.change.kind.is_unregister() {
@@ -180,14 +181,21 @@ impl InstanceTrack {
     }
 
     /// Whether a change of the instance would turn it to a state that is not alive, from another one.
-    pub fn would_mark(&self, qos: &ReaderQos, strengths: &Strengths, arrival: &Arrival) -> bool
+    /// So many writers are matched.
+    pub fn would_mark(
+        &self,
+        qos: &ReaderQos,
+        strengths: &Strengths,
+        arrival: &Arrival,
+        writers: usize,
+    ) -> bool
         ensures { (h : List Happening) → Tracks qos.now arrival.now.change.key h self.now
-            → TellsStrengths strengths.now qos.now h
+            → TellsStrengths strengths.now h → length (writers_of qos.now h) ≡ writers
             → result ≡ marks qos.now arrival.now.change.key h (Came arrival.now) }
     {
         let accepted = self.owners.accepted(qos, strengths, arrival);
         let last = first_there(accepted, self.last_accepted);
-        let nobody = !self.owners.would_have_writers(arrival);
+        let nobody = !self.owners.would_have_writers(arrival, writers);
         is_new_end(self.state(), state_by(last, nobody))
     }
 
@@ -214,6 +222,19 @@ impl InstanceTrack {
         self.accepted_writes += count_if(is_write);
     }
 
+    /// It takes over the places of blank owners, if these have more.
+    pub fn widen(&mut self, blank: Owners)
+        ensures others { self.new ≡ record self.old { owners = self.new.owners } }
+        ensures same { (n : ℕ) (q : ReaderQos) (i : Key) (h : List Happening) → IsBlank n blank
+            → n ≤ length (writers_of q h) → StandsFor self.old.owners q i h
+            → StandsFor self.new.owners q i h }
+        ensures places { places_of blank ≤ places_of self.new.owners }
+        ensures writers { (n : ℕ) → IsBlank n blank
+            → has_writers self.new.owners ≡ has_writers self.old.owners }
+    {
+        self.owners.widen(blank);
+    }
+
     /// Takes up a change of the instance, the entry of this position, and gives its kind if it is accepted.
     pub fn change(
         &mut self,
@@ -226,11 +247,11 @@ impl InstanceTrack {
         ensures advances { TracksEntry result position self.old self.new }
         ensures accepted { (h : List Happening)
             → StandsFor self.old.owners qos.now arrival.now.change.key h
-            → TellsStrengths strengths.now qos.now h
+            → TellsStrengths strengths.now h
             → result ≡ accepted_kind qos.now arrival.now.change.key h (Came arrival.now) }
-        ensures came { (h : List Happening)
+        ensures came { (h : List Happening) → arrival.now.writer ≤ places_of self.old.owners
             → StandsFor self.old.owners qos.now arrival.now.change.key h
-            → TellsStrengths strengths.now qos.now h
+            → TellsStrengths strengths.now h
             → StandsFor self.new.owners qos.now arrival.now.change.key (Came arrival.now ∷ h) }
     {
         let before = self.state();

@@ -2,7 +2,7 @@
 //!
 //! DDS 1.4, 2.2.3 (OWNERSHIP, OWNERSHIP_STRENGTH, LIVELINESS), 2.2.2.4 (register_instance, unregister_instance).
 
-ghost use Rattle.std.specs.Prelude.{◌≡◌, ◌≤◌, ◌∷◌, [], ℕ, List, length, not, true, false, IfOk, IfErr};
+ghost use Rattle.std.specs.Prelude.{◌≡◌, ◌≤◌, ◌∷◌, ℕ, List, length, not, true, false, IfOk, IfErr};
 ghost use Rattle.dds_base.specs.declared.code.Code.TheVariants.{Memory};
 ghost use Rattle.dds_base.specs.declared.happening.Arrival.{Arrival};
 ghost use Rattle.dds_base.specs.declared.happening.Happening.{Happening};
@@ -151,6 +151,8 @@ impl Owners {
             → TellsStrengths strengths.now h → StandsFor self.new qos.now i h }
         // Somebody is registered exactly where somebody was.
         ensures writers { has_writers self.new ≡ has_writers self.old }
+        // It has as many places as before.
+        ensures places { places_of self.new ≡ places_of self.old }
     {
         if qos.ownership == OwnershipQos::Exclusive
             && current_owner(strengths, self.owner).is_none()

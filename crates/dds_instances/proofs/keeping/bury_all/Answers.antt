@@ -59,8 +59,8 @@ returns-clause-marked c =
     (omega (arith, inside, c.loop-at-test.false, c.len-at-end.ensures, c.args.tracks.now.ok.0)))
 
 pub returns-clause-reaches : goal.returns-clause-reaches
-returns-clause-reaches c = λ q h now before.
-    reaches-died q h c.args.writer now c.args.position c.args.tracks.now.items c.loop-at.tracks.items before
+returns-clause-reaches c = λ q h now before matched.
+    reaches-died q h c.args.writer now c.args.position c.args.tracks.now.items c.loop-at.tracks.items before matched
     c.loop-at.invariant.len c.loop-at.invariant.keys
     (λ k d inside. c.loop-at.invariant.done k d
     (omega (arith, inside, c.loop-at-test.false, c.len-at-end.ensures, c.args.tracks.now.ok.0)))

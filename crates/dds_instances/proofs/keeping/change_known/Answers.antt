@@ -1,5 +1,6 @@
-use Rattle.std.proofs.Common.{◌<◌, List, length, subst, sym, ap, ◌∙◌, arith}
+use Rattle.std.proofs.Common.{◌<◌, ◌≤◌, List, length, subst, sym, ap, ◌∙◌, arith}
 use Rattle.std.proofs.lemmas.List.{length-map, get_or_default}
+use Rattle.dds_owner.specs.Standing.{places_of}
 use Rattle.dds_instances.specs.declared.track.InstanceTrack.{InstanceTrack}
 use Rattle.dds_instances.specs.Track.{Fits}
 use Rattle.dds_instances.specs.Following.{key_of}
@@ -29,15 +30,16 @@ returns-clause-keys c =
 
 pub returns-clause-follows : goal.returns-clause-follows
 returns-clause-follows c =
-    λ h may. reaches-known c.args.qos.now c.args.strengths.now h
+    λ h may matched placed. reaches-known c.args.qos.now c.args.strengths.now h
     c.args.arrival.now c.args.tracks.now.items c.args.at
-    c.args.position c.index_mut.result.now c.change.new.self c.change.result may c.requires.place
+    c.args.position c.index_mut.result.now c.change.new.self c.change.result may matched c.requires.place
     c.index_mut.ensures.value
     (record {
       advances = c.change.ensures.advances;
       accepted = c.change.ensures.accepted;
-      came =
-          c.change.ensures.came;
+      came = λ g. c.change.ensures.came g
+          (subst (λ (y : InstanceTrack). c.args.arrival.now.writer ≤ places_of y.owners) (sym c.index_mut.ensures.value)
+          (placed c.index_mut.result.now));
     })
 
 pub returns-clause-alive : goal.returns-clause-alive

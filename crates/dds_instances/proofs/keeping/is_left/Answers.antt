@@ -11,4 +11,4 @@ returns-in-Some c = λ q h follows.
 
 pub returns-in-None : goal.returns-in-None
 returns-in-None c = λ q h follows.
-    sym (ap (λ (ws : List ℕ). is_nobody ws) (unknown q c.args.key h (c.in-None.ensures.kept q h follows)).registered)
+    sym (ap (λ (ws : List ℕ). is_nobody ws) (unknown q c.args.key h follows.matched (c.in-None.ensures.kept q h follows)).registered)

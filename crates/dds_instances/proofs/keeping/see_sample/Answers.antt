@@ -73,6 +73,6 @@ returns-in-Some-clause-left c = λ q h follows.
 
 pub returns-in-None-clause-left : goal.returns-in-None-clause-left
 returns-in-None-clause-left c = λ q h follows.
-    sym (ap (λ (ws : List ℕ). is_nobody ws) (unknown q c.args.sample.key h
+    sym (ap (λ (ws : List ℕ). is_nobody ws) (unknown q c.args.sample.key h follows.matched
     (nothing-at q h c.args.tracks.now.items c.args.index.now.keys c.args.sample.key c.requires.indexed
     c.in-None.ensures follows)).registered)

@@ -22,7 +22,7 @@ pub returns-in-None : goal.returns-in-None
 returns-in-None c =
     record {
       accepts = λ h stands. c.is_write_or_dispose-in-None.ensures.kind
-          ∙ accepts-first c.args.qos.now h c.args.arrival.now
+          ∙ accepts-first c.args.qos.now h c.args.arrival.now stands.follows.matched
           (c.in-None.ensures.kept c.args.qos.now h
           (follows-of c.args.qos.now h c.args.self.now c.deref.result.now
           (c.deref.ensures.value ∙ ap (λ (t : Table). t.tracks) c.self.view_is) stands));

@@ -43,18 +43,15 @@ invariant_of-self c =
     }
 
 pub returns-clause-stands : goal.returns-clause-stands
-returns-clause-stands c = λ h stands end_is.
+returns-clause-stands c = λ h stands matched end_is.
     let q = c.args.qos.now in
     let e : Happening = Came c.args.arrival.now in
     let s : Stands q (table_of c.self.inside) h = subst (λ (t : Table). Stands q t h) (sym c.self.view_is) stands in
     let before : FollowsBefore q h (c.self.inside.happened + 1) c.self.inside.tracks.items =
     record { place = omega (arith, s.happened_is); lawful = s.lawful; follows = s.follows } in
     let taken =
-    c.take_up-is_beginning.ensures.follows h (record { before = before; tells = s.strengths_are })
-    (λ k d within. record {
-      handle_is = omega (arith, s.begun_is);
-      blank_is = λ i. c.self.invariant.blank k d within q i (sym s.writers_are);
-    }) in
+    c.take_up-is_beginning.ensures.follows h (record { before = before; tells = s.strengths_are }) matched s.writers_are
+    (omega (arith, s.begun_is)) in
     let kept : (c.if-is_end.self-inside.writers ≡ c.self.inside.writers)
     × (c.if-is_end.self-inside.strengths ≡ c.self.inside.strengths)
     × (c.if-is_end.self-inside.begun ≡ c.self.inside.begun + c.count_if.result) =
@@ -84,16 +81,17 @@ returns-clause-stands c = λ h stands end_is.
     record {
       writers_are = kept.0 ∙ s.writers_are;
       happened_is = omega (arith, s.happened_is);
-      strengths_are = c.note_strength.ensures.came q h
+      strengths_are = c.note_strength.ensures.came h matched.0
           (omega (
             arith,
             ap (λ (k : KeptStrengths). strengths_room k) kept.1,
             c.self.invariant.strengths_fit,
             s.writers_are,
+            matched.1,
             c.requires.room,
             ap (λ (t : Table). t.room) c.self.view_is,
           ))
-          (subst (λ (k : KeptStrengths). TellsStrengths k q h) (sym kept.1) s.strengths_are);
+          (subst (λ (k : KeptStrengths). TellsStrengths k h) (sym kept.1) s.strengths_are);
       begun_is =
           kept.2 ∙ (ap (λ (n : ℕ). n + c.count_if.result) s.begun_is
           ∙ ap (λ (n : ℕ). lives_begun q h + n) (c.count_if.ensures.count ∙ sym taken.begun));

@@ -38,7 +38,7 @@ invariant_of-self c = record {
 }
 
 pub returns-clause-ok : goal.returns-clause-ok
-returns-clause-ok c = λ q h moment stands present.
+returns-clause-ok c = λ q h moment stands matched present.
     let e : Happening = Died c.args.writer moment in
     let ts : List InstanceTrack = c.self.inside.tracks.items in
     let s : Stands q (table_of c.self.inside) h = subst (λ (t : Table). Stands q t h) (sym c.self.view_is) stands in
@@ -50,8 +50,8 @@ returns-clause-ok c = λ q h moment stands present.
     held-right q h ts (λ i. has_there q h i (last_marker q i h))
     (subst (λ (ks : List Key). IsDistinct same_key ks) c.bury_all.ensures.keys c.forget_left.ensures.distinct)
     s.follows noted in
-    stands-next q h e (table_of c.self.inside) _ refl refl refl refl (λ it. record { tells = it.tells; counts = it.counts }) refl
+    stands-next q h e (table_of c.self.inside) _ (λ are. are) (λ it. record { tells = it.tells; joined_are = it.joined_are; counts = it.counts }) refl refl refl
     (subst (λ (xs : List InstanceTrack). Follows q (e ∷ h) xs) (sym c.forget_left.ensures.kept)
-    (follows-kept q h e lives_on c.bury_all.new.tracks.items (c.bury_all.ensures.reaches q h moment before)
+    (follows-kept q h e lives_on c.bury_all.new.tracks.items (c.bury_all.ensures.reaches q h moment before matched)
     (c.bury_all.ensures.lives q h moment before held)))
     (lawful-quiet q h e (λ i j. refl) s.lawful) s

@@ -18,7 +18,7 @@ returns-in-None c =
     record {
       registered = λ q h stands matched.
           sym (unregistered q c.args.key h c.args.writer
-          (unknown q c.args.key h
+          (unknown q c.args.key h stands.follows.matched
           (c.in-None.ensures.kept q h
           (follows-of q h c.args.self.now c.deref.result.now
           (c.deref.ensures.value ∙ ap (λ (t : Table). t.tracks) c.self.view_is) stands))).registered matched);

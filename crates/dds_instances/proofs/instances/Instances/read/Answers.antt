@@ -10,7 +10,7 @@ use Rattle.dds_instances.proofs.instances.Instances.read.Goals as goal
 pub returns-clause-read : goal.returns-clause-read
 returns-clause-read c = λ q h stands fits.
     let s : Stands q (table_of c.self.inside) h = subst (λ (t : Table). Stands q t h) (sym c.self.view_is) stands in
-    stands-next q h (Read c.args.samples.now) (table_of c.self.inside) _ refl refl refl refl (λ it. record { tells = it.tells; counts = it.counts }) refl
+    stands-next q h (Read c.args.samples.now) (table_of c.self.inside) _ (λ are. are) (λ it. record { tells = it.tells; joined_are = it.joined_are; counts = it.counts }) refl refl refl
     (subst (λ (ts : List InstanceTrack). Follows q (Read c.args.samples.now ∷ h) ts) (sym c.see_all.ensures.sees)
     (follows-read q h c.args.samples.now c.self.inside.tracks.items s.follows))
     (lawful-read q h c.args.samples.now fits s.lawful) s

@@ -11,7 +11,7 @@ returns-clause-same c = λ q h stands.
     record {
       writers_are = s.writers_are;
       happened_is = s.happened_is;
-      strengths_are = c.reserve-3.ensures.same q h s.strengths_are;
+      strengths_are = c.reserve-3.ensures.same h s.strengths_are;
       begun_is = s.begun_is;
       follows = subst (λ (ts : List InstanceTrack). Follows q h ts) (sym c.reserve-2.ensures.items) s.follows;
       lawful = s.lawful;

@@ -6,25 +6,25 @@ use Rattle.dds_instances.proofs.EndingLaws.{stands-quiet}
 use Rattle.dds_instances.proofs.instances.Instances.skip.Goals as goal
 
 pub returns-clause-passed : goal.returns-clause-passed
-returns-clause-passed c = λ q h w first last stands.
-    stands-quiet q h (Passed w first last) (table_of c.self.inside) _ refl refl refl refl refl (λ it. record { tells = it.tells; counts = it.counts })
-    (record { accepts = λ i. refl; registers = λ i v. refl; takes = λ i. refl; introduces = refl }) (λ i j. refl)
+returns-clause-passed c = λ q h w first last stands matched.
+    stands-quiet q h (Passed w first last) (table_of c.self.inside) _ (λ are. are) (λ it. record { tells = it.tells; joined_are = it.joined_are; counts = it.counts }) refl refl refl
+    (record { accepts = λ i. refl; registers = λ i v. refl; takes = λ i. refl; introduces = refl; names = matched }) (λ i j. refl)
     (subst (λ (t : Table). Stands q t h) (sym c.self.view_is) stands)
 
 pub returns-clause-heard : goal.returns-clause-heard
-returns-clause-heard c = λ q h w moment stands.
-    stands-quiet q h (Heard w moment) (table_of c.self.inside) _ refl refl refl refl refl (λ it. record { tells = it.tells; counts = it.counts })
-    (record { accepts = λ i. refl; registers = λ i v. refl; takes = λ i. refl; introduces = refl }) (λ i j. refl)
+returns-clause-heard c = λ q h w moment stands matched.
+    stands-quiet q h (Heard w moment) (table_of c.self.inside) _ (λ are. are) (λ it. record { tells = it.tells; joined_are = it.joined_are; counts = it.counts }) refl refl refl
+    (record { accepts = λ i. refl; registers = λ i v. refl; takes = λ i. refl; introduces = refl; names = matched }) (λ i j. refl)
     (subst (λ (t : Table). Stands q t h) (sym c.self.view_is) stands)
 
 pub returns-clause-left : goal.returns-clause-left
-returns-clause-left c = λ q h w moment stands.
-    stands-quiet q h (Left w moment) (table_of c.self.inside) _ refl refl refl refl refl (λ it. record { tells = it.tells; counts = it.counts })
-    (record { accepts = λ i. refl; registers = λ i v. refl; takes = λ i. refl; introduces = refl }) (λ i j. refl)
+returns-clause-left c = λ q h w moment stands matched.
+    stands-quiet q h (Left w moment) (table_of c.self.inside) _ (λ are. are) (λ it. record { tells = it.tells; joined_are = it.joined_are; counts = it.counts }) refl refl refl
+    (record { accepts = λ i. refl; registers = λ i v. refl; takes = λ i. refl; introduces = refl; names = matched }) (λ i j. refl)
     (subst (λ (t : Table). Stands q t h) (sym c.self.view_is) stands)
 
 pub returns-clause-looked : goal.returns-clause-looked
 returns-clause-looked c = λ q h kind stands.
-    stands-quiet q h (Looked kind) (table_of c.self.inside) _ refl refl refl refl refl (λ it. record { tells = it.tells; counts = it.counts })
-    (record { accepts = λ i. refl; registers = λ i v. refl; takes = λ i. refl; introduces = refl }) (λ i j. refl)
+    stands-quiet q h (Looked kind) (table_of c.self.inside) _ (λ are. are) (λ it. record { tells = it.tells; joined_are = it.joined_are; counts = it.counts }) refl refl refl
+    (record { accepts = λ i. refl; registers = λ i v. refl; takes = λ i. refl; introduces = refl; names = tt }) (λ i j. refl)
     (subst (λ (t : Table). Stands q t h) (sym c.self.view_is) stands)

@@ -53,7 +53,7 @@ returns-then-see_taken-clause-took c = λ q h stands fits right.
     held-right q h ts (λ i. has_there q (e ∷ h) i (last_marker q i h))
     (subst (λ (ks : List Key). IsDistinct same_key ks) c.see_taken.ensures.keys c.forget_left.ensures.distinct)
     s.follows noted in
-    stands-next q h e (table_of c.self.inside) _ refl refl refl refl (λ it. record { tells = it.tells; counts = it.counts }) refl
+    stands-next q h e (table_of c.self.inside) _ (λ are. are) (λ it. record { tells = it.tells; joined_are = it.joined_are; counts = it.counts }) refl refl refl
     (subst (λ (xs : List InstanceTrack). Follows q (e ∷ h) xs)
     (sym (c.forget_left.ensures.kept ∙ ap (λ (xs : List InstanceTrack). filter lives_on xs) c.see_taken.ensures.sees))
     (follows-kept q h e lives_on (map (seen_in ss) ts) (reaches-took q h ss ts s.follows)
@@ -68,7 +68,7 @@ returns-else-see_taken-clause-took c = λ q h stands fits right.
     let s : Stands q (table_of c.self.inside) h = subst (λ (t : Table). Stands q t h) (sym c.self.view_is) stands in
     let none : is_any_left q h ss ≡ false =
     sym (c.see_taken.ensures.left q h s.follows) ∙ c.if-see_taken.false in
-    stands-next q h e (table_of c.self.inside) _ refl refl refl refl (λ it. record { tells = it.tells; counts = it.counts }) refl
+    stands-next q h e (table_of c.self.inside) _ (λ are. are) (λ it. record { tells = it.tells; joined_are = it.joined_are; counts = it.counts }) refl refl refl
     (subst (λ (xs : List InstanceTrack). Follows q (e ∷ h) xs) (sym c.see_taken.ensures.sees)
     (follows-took q h ss ts none s.follows))
     (lawful-took q h ss fits s.lawful) s

@@ -12,7 +12,8 @@ returns-in-Some c = record {
       sym (not-not _ _ (c.would_have_writers.ensures.anybody q h
       ((c.in-Some.ensures.kept q h
       (follows-of q h c.args.self.now c.deref.result.now
-      (c.deref.ensures.value ∙ ap (λ (t : Table). t.tracks) c.self.view_is) stands)).0).owners_are));
+      (c.deref.ensures.value ∙ ap (λ (t : Table). t.tracks) c.self.view_is) stands)).0).owners_are
+      (sym (ap (λ (t : Table). t.writers) c.self.view_is ∙ stands.writers_are))));
 }
 
 pub returns-then-not-begins_left : goal.returns-then-not-begins_left
@@ -33,7 +34,7 @@ returns-in-None c = record {
       ∙ (c.begins_left.ensures
       ∙ (ap (λ (n : ℕ). is_left_at_first n c.args.arrival.now.writer c.args.arrival.now.change.kind)
       (ap (λ (t : Table). t.writers) c.self.view_is ∙ stands.writers_are)
-      ∙ left-first q h c.args.arrival.now
+      ∙ left-first q h c.args.arrival.now stands.follows.matched
       (c.in-None.ensures.kept q h
       (follows-of q h c.args.self.now c.deref.result.now
       (c.deref.ensures.value ∙ ap (λ (t : Table). t.tracks) c.self.view_is) stands))));

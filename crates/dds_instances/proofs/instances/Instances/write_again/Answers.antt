@@ -32,8 +32,8 @@ returns-clause-came c = λ h stands.
     record {
       writers_are = s.writers_are;
       happened_is = omega (arith, s.happened_is);
-      strengths_are = c.note_strength.ensures.came q h
-          (omega (arith, c.self.invariant.strengths_fit, s.writers_are, c.requires.room, ap (λ (t : Table). t.room) c.self.view_is))
+      strengths_are = c.note_strength.ensures.came h taken.follows.matched.0.0
+          (omega (arith, c.self.invariant.strengths_fit, s.writers_are, taken.follows.matched.0.1, c.requires.room, ap (λ (t : Table). t.room) c.self.view_is))
           s.strengths_are;
       begun_is = s.begun_is ∙ begun-still q h (Came a) taken.begun;
       follows = taken.follows;

@@ -7,7 +7,7 @@ use Rattle.dds_instances.proofs.ForesightLaws.{marks-tracked}
 use Rattle.dds_instances.proofs.track.InstanceTrack.would_mark.Goals as goal
 
 pub returns : goal.returns
-returns c = λ h tracks tells.
+returns c = λ h tracks tells many.
     let after : Option ChangeKind → Option InstanceState =
     λ last. state_after last (not c.would_have_writers-nobody.result) in
     c.is_new_end.ensures
@@ -17,4 +17,4 @@ returns c = λ h tracks tells.
     ∙ marks-tracked c.args.qos.now h c.args.arrival.now c.args.self.now c.accepted-accepted.result
     c.would_have_writers-nobody.result tracks
     (c.accepted-accepted.ensures.accepted h tracks.owners_are (λ exclusive. tells))
-    (c.would_have_writers-nobody.ensures.anybody c.args.qos.now h tracks.owners_are)))
+    (c.would_have_writers-nobody.ensures.anybody c.args.qos.now h tracks.owners_are many)))
