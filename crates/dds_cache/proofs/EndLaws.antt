@@ -11,7 +11,7 @@ use Rattle.dds_base.specs.declared.key.Key.{Key}
 use Rattle.dds_base.specs.declared.change.ChangeKind.{ChangeKind}
 use Rattle.dds_base.specs.declared.happening.Arrival.{Arrival}
 use Rattle.dds_base.specs.declared.happening.Happening.{Happening}
-use Rattle.dds_base.specs.declared.happening.Happening.TheVariants.{Came, Passed, Heard, Died, Left, Read, Took, Looked}
+use Rattle.dds_base.specs.declared.happening.Happening.TheVariants.{Came, Passed, Heard, Died, Left, Joined, Read, Took, Looked}
 use Rattle.dds_base.specs.declared.qos.ReaderQos.{ReaderQos}
 use Rattle.dds_base.specs.declared.happening.SamplePosition.{SamplePosition}
 use Rattle.dds_base.specs.Happening.{same_key, taken_by}
@@ -135,6 +135,7 @@ still-known-by q (Passed w first last) h i many is = no-fewer q (Passed w first 
 still-known-by q (Heard w m) h i many is = no-fewer q (Heard w m) h i refl many is
 still-known-by q (Died w m) h i many is = no-fewer q (Died w m) h i refl many is
 still-known-by q (Left w m) h i many is = no-fewer q (Left w m) h i refl many is
+still-known-by q (Joined m) h i many is = no-fewer q (Joined m) h i refl many is
 still-known-by q (Read s) h i many is = no-fewer q (Read s) h i refl many is
 still-known-by q (Took s) h i many is = no-fewer q (Took s) h i refl many is
 still-known-by q (Looked k) h i many is = no-fewer q (Looked k) h i refl many is

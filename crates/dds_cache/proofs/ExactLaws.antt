@@ -17,11 +17,11 @@ use Rattle.dds_base.specs.declared.qos.ReaderQos.{ReaderQos}
 use Rattle.dds_base.specs.Happening.{as_of, is_taken, same_key, same_sample, taken_by}
 use Rattle.dds_base.specs.Instance.{known_instances}
 use Rattle.dds_base.specs.Life.{accepted_writes, ends_with_write, is_at, is_kept_write, is_write, keeps, last_marker, later_writes}
-use Rattle.dds_base.specs.Ownership.{accepted_kind}
+use Rattle.dds_base.specs.Ownership.{AreOfMatched, accepted_kind}
 use Rattle.dds_base.specs.Presence.{is_present, marks}
 use Rattle.dds_base.proofs.LifeLaws.{accepted-other, as_of-older}
 use Rattle.dds_cache.specs.declared.kept.Kept.{Kept}
-use Rattle.dds_cache.specs.Kept.{AreOfMatched, Adds, IsKept, IsNewAt, IsUpToDate, has_data, position_of, sample_at}
+use Rattle.dds_cache.specs.Kept.{Adds, IsKept, IsNewAt, IsUpToDate, has_data, position_of, sample_at}
 use Rattle.dds_cache.specs.Room.{is_present_write}
 use Rattle.dds_cache.specs.Sweeping.{left_since, stays}
 use Rattle.dds_cache.proofs.KeptLaws.{not-true}

@@ -3,24 +3,23 @@
 use Rattle.std.proofs.Common.{◌≡◌, ℕ, ◌+◌, ◌≤◌, ◌<◌, List, [], ◌∷◌, length, Bool, true, false, not, ◌&&◌, ◌||◌, sym, ap, ◌∙◌, refl, subst, Option, Some, None, arith, ⊎_elim}
 use Rattle.std.specs.Prelude.{if◌then◌else◌, nat_le, IfSome}
 use Rattle.std.proofs.lemmas.Bool.{and_parts, cases_Bool, eqb-true, le-leb, lt-ltb}
-use Rattle.std.proofs.lemmas.List.Elements.{All-head, All-tail}
 use Rattle.dds_base.specs.declared.key.Key.{Key}
 use Rattle.dds_base.specs.declared.change.ChangeKind.{ChangeKind}
 use Rattle.dds_base.specs.declared.change.ChangeKind.TheVariants.{Write, Dispose, Unregister, DisposeUnregister}
 use Rattle.dds_base.specs.declared.happening.Happening.{Happening}
-use Rattle.dds_base.specs.declared.happening.Happening.TheVariants.{Came, Passed, Heard, Died, Left, Read, Took, Looked}
+use Rattle.dds_base.specs.declared.happening.Happening.TheVariants.{Came, Passed, Heard, Died, Left, Joined, Read, Took, Looked}
 use Rattle.dds_base.specs.declared.sample.InstanceState.{InstanceState}
 use Rattle.dds_base.specs.declared.sample.InstanceState.TheVariants.{Alive, NotAliveDisposed, NotAliveNoWriters}
 use Rattle.dds_base.specs.declared.qos.ReaderQos.{ReaderQos}
 use Rattle.dds_base.specs.Happening.{as_of, is_taken, is_write_or_dispose, same_key}
 use Rattle.dds_base.specs.Life.{becomes_not_alive, ends_life, ends_with_write, is_at, is_kept_write, is_nobody, is_write, last_accepted, last_marker, or_else, state_after}
-use Rattle.dds_base.specs.Ownership.{accepted_kind, admits, outranks_all, registered_writers}
+use Rattle.dds_base.specs.Ownership.{AreOfMatched, IsMatched, accepted_kind, admits, named_by, outranks_all, registered_writers, writers_of}
 use Rattle.dds_base.specs.Presence.{is_present, marks}
 use Rattle.dds_base.proofs.KeyLaws.{key-same}
 use Rattle.dds_base.proofs.LifeLaws.{as_of-newest, as_of-older, marker-below}
 use Rattle.dds_instances.specs.Track.{is_left_at_first}
 use Rattle.dds_instances.proofs.ForesightLaws.{somebody-registered}
-use Rattle.dds_cache.specs.Kept.{AreOfMatched, IsOfMatched, sample_at}
+use Rattle.dds_cache.specs.Kept.{sample_at}
 use Rattle.dds_cache.proofs.PresenceLaws.{reached}
 
 accepted-write : (b : Bool) (kind : ChangeKind) → is_write (if b then Some kind else None) ≡ true
@@ -52,7 +51,7 @@ stays-alive (Some NotAliveDisposed) = refl
 stays-alive (Some NotAliveNoWriters) = refl
 
 -- an accepted write of a matched writer leaves no marker
-unmarked-write : (q : ReaderQos) (i : Key) (h : List Happening) (e : Happening) → IsOfMatched q e
+unmarked-write : (q : ReaderQos) (i : Key) (h : List Happening) (e : Happening) → IfSome (named_by e) (IsMatched q h)
     → is_write (accepted_kind q i h e) ≡ true → marks q i h e ≡ false
 unmarked-write q i h (Came a) matched write =
     let parts = accepted-write (same_key a.change.key i && (is_write_or_dispose a.change.kind
@@ -61,7 +60,7 @@ unmarked-write q i h (Came a) matched write =
     let somebody : is_nobody (registered_writers q i (Came a ∷ h)) ≡ false =
     subst (λ (x : Key). is_nobody (registered_writers q x (Came a ∷ h)) ≡ false) same
     (somebody-registered q h a
-    (left-matched (length q.writers) a.writer a.change.kind matched.0 matched.1 parts.1)) in
+    (left-matched (length (writers_of q h)) a.writer a.change.kind matched.0 matched.1 parts.1)) in
     let before : Option InstanceState = state_after (last_accepted q i h) (is_nobody (registered_writers q i h)) in
     ap (λ (k : Option ChangeKind). becomes_not_alive before
     (state_after (or_else k (last_accepted q i h)) (is_nobody (registered_writers q i (Came a ∷ h)))))
@@ -71,6 +70,7 @@ unmarked-write q i h (Passed w first last) matched write = absurd (let clash : f
 unmarked-write q i h (Heard w m) matched write = absurd (let clash : false ≡ true = write in cc)
 unmarked-write q i h (Died w m) matched write = absurd (let clash : false ≡ true = write in cc)
 unmarked-write q i h (Left w m) matched write = absurd (let clash : false ≡ true = write in cc)
+unmarked-write q i h (Joined m) matched write = absurd (let clash : false ≡ true = write in cc)
 unmarked-write q i h (Read s) matched write = absurd (let clash : false ≡ true = write in cc)
 unmarked-write q i h (Took s) matched write = absurd (let clash : false ≡ true = write in cc)
 unmarked-write q i h (Looked k) matched write = absurd (let clash : false ≡ true = write in cc)
@@ -100,7 +100,7 @@ marker-unwritten q i (e ∷ h) matched j at =
     sym (ap (λ (b : Bool). is_at (if b then Some (length h + 1) else last_marker q i h) j) unmarked) ∙ left in
     ap (λ (g : List Happening). ends_with_write q i g)
     (as_of-older e h j (at-below (last_marker q i h) (length h) j (marker-below q i h) old))
-    ∙ marker-unwritten q i h (All-tail (IsOfMatched q) e h matched) j old)
+    ∙ marker-unwritten q i h matched.1 j old)
     (cases_Bool (marks q i h e)))
     (cases_Bool (ends_life q i h e))
   where
@@ -108,7 +108,7 @@ marker-unwritten q i (e ∷ h) matched j at =
     unwritten marked =
         ⊎_elim
         (λ write. absurd (let clash : true ≡ false =
-        sym marked ∙ unmarked-write q i h e (All-head (IsOfMatched q) e h matched) write in cc))
+        sym marked ∙ unmarked-write q i h e matched.0 write in cc))
         (λ none. none)
         (cases_Bool (is_write (accepted_kind q i h e)))
 

@@ -303,7 +303,7 @@ filter-same f g (w ∷ ws) same =
 pub writers-other : (q : ReaderQos) (a : Arrival) (h : List Happening) (i : Key) → same_key a.change.key i ≡ false
     → registered_writers q i (Came a ∷ h) ≡ registered_writers q i h
 writers-other q a h i other =
-    filter-same (λ w. is_registered i w (Came a ∷ h)) (λ w. is_registered i w h) (publication_handles q)
+    filter-same (λ w. is_registered i w (Came a ∷ h)) (λ w. is_registered i w h) (publication_handles q h)
     (λ w. registered-other i w h a other)
 
 -- it leaves no marker of i

@@ -82,7 +82,6 @@ holds-out q table h i ks new place value within out absent holds =
       each = All-set (IsKept q h) ks place (out_if true k) kept holds.each;
       present = λ j. holds.present j
           ∙ sym (positions-set q h j ks place k (out_if true k) within out.before_is refl);
-      matched = holds.matched;
       in_order = order-set ks place k (out_if true k) within out.before_is refl holds.in_order;
       others = All-set (IsOfOrUpToDate q h i) ks place (out_if true k)
           (λ other filled. absurd (let clash : false ≡ true = filled in cc)) holds.others;
@@ -169,7 +168,6 @@ holds-all q table h i ks holds own = record {
   instances = holds.instances;
   each = holds.each;
   present = holds.present;
-  matched = holds.matched;
   in_order = holds.in_order;
   up_to_date = λ j d within. ⊎_elim (λ mine. own j d within mine) (λ other. holds.others j d within other)
       (cases_Bool (same_key (get_or ks j d).sample.key i));
@@ -210,7 +208,7 @@ holds-stopped q table h known ks new place within is_known goes none holds =
         (λ earlier. absurd (let clash : true ≡ false =
         sym filled ∙ none j d (ltb-true j place earlier) inside mine in cc))
         (λ later. let le : place ≤ j = ltb-false j place later in
-        behind q h k (get_or ks j d) old.matched (old.each j d inside)
+        behind q h k (get_or ks j d) old.instances.follows.matched (old.each j d inside)
         (key-same (get_or ks j d).sample.key known.key mine ∙ sym (key-same k.sample.key known.key parts.0))
         (old.in_order place j d le inside)
         (and_from (is_present q h k.sample.key k.sample.position)

@@ -15,7 +15,7 @@ use Rattle.dds_base.specs.declared.happening.Happening.{Happening}
 use Rattle.dds_base.specs.declared.happening.Happening.TheVariants.{Came}
 use Rattle.dds_base.specs.declared.qos.ReaderQos.{ReaderQos}
 use Rattle.dds_base.specs.Happening.{arrivals, same_key, as_of, read_by, taken_by}
-use Rattle.dds_base.specs.Ownership.{accepted_kind}
+use Rattle.dds_base.specs.Ownership.{AreOfMatched, accepted_kind}
 use Rattle.dds_base.specs.Instance.{instance_state_of, introduces, is_known, known_instances, disposed_generations, no_writers_generations}
 use Rattle.dds_base.specs.Life.{is_write, accepted_writes, ends_life, ends_with_write, is_at, is_kept_write, keeps, last_marker, later_writes, up_to}
 use Rattle.dds_base.specs.Presence.{has_room, is_accepted, is_present, is_within, marks, present_writes}
@@ -27,7 +27,7 @@ use Rattle.dds_instances.specs.Known.{IsKnown, writes_in_life}
 use Rattle.dds_instances.specs.Track.{one_if}
 use Rattle.dds_instances.proofs.KnownLaws.{known}
 use Rattle.dds_cache.specs.declared.kept.Kept.{Kept}
-use Rattle.dds_cache.specs.Kept.{AreOfMatched, Adds, IsFresh, IsUpToDate, IsKept, IsKeptAt, IsOf, has_data, position_of, positions_in, sample_at}
+use Rattle.dds_cache.specs.Kept.{Adds, IsFresh, IsUpToDate, IsKept, IsKeptAt, IsOf, has_data, position_of, positions_in, sample_at}
 use Rattle.dds_cache.specs.Pushing.{is_pushed}
 use Rattle.dds_cache.specs.Room.{is_present_write, is_write_after}
 use Rattle.dds_cache.proofs.ExactLaws.{after-behind, data-parts, other-stays}
@@ -399,7 +399,7 @@ unpushed-before q table a h known ks place key holds none j d before within =
     let k : Kept = get_or ks j d in
     ⊎_elim
     (λ own. unpushed-empty q a h k (none j d before within own))
-    (λ other. unpushed-other q a h k holds.matched (holds.each j d within) (holds.up_to_date j d within)
+    (λ other. unpushed-other q a h k holds.instances.follows.matched (holds.each j d within) (holds.up_to_date j d within)
     (ap (λ (i : Key). same_key k.sample.key i) (sym key) ∙ other))
     (cases_Bool (same_key k.sample.key known.key))
 
@@ -413,11 +413,11 @@ unpushed-from q table a h known ks place x key holds there x_is stays j d from w
     let parts = and_parts (same_key x.sample.key known.key) (is_present_write q (Came a ∷ h) x) stays in
     let kept : IsKept q h x = subst (λ (y : Kept). IsKept q h y) (sym x_is) (holds.each place x there) in
     ⊎_elim
-    (λ own. unpushed-behind q a h x k holds.matched kept (holds.each j d within)
+    (λ own. unpushed-behind q a h x k holds.instances.follows.matched kept (holds.each j d within)
     (key-same k.sample.key known.key own ∙ sym (key-same x.sample.key known.key parts.0))
     (subst (λ (y : Kept). position_of y ≤ position_of k) (sym (x_is ∙ get_or_default ks place x d there))
     (holds.in_order place j d from within)) parts.1)
-    (λ other. unpushed-other q a h k holds.matched (holds.each j d within) (holds.up_to_date j d within)
+    (λ other. unpushed-other q a h k holds.instances.follows.matched (holds.each j d within) (holds.up_to_date j d within)
     (ap (λ (i : Key). same_key k.sample.key i) (sym key) ∙ other))
     (cases_Bool (same_key k.sample.key known.key))
 
@@ -429,7 +429,7 @@ unpushed-apart q table a h known ks key holds j d within apart =
     let k : Kept = get_or ks j d in
     ⊎_elim
     (λ own. absurd (apart (key-same k.sample.key a.change.key own ∙ sym key)))
-    (λ other. unpushed-other q a h k holds.matched (holds.each j d within) (holds.up_to_date j d within) other)
+    (λ other. unpushed-other q a h k holds.instances.follows.matched (holds.each j d within) (holds.up_to_date j d within) other)
     (cases_Bool (same_key k.sample.key a.change.key))
 
 -- one of the instance that has data, is not gone and does not stay is one
@@ -443,7 +443,7 @@ pushed-own q table a h known ks place x key holds there x_is goes =
     (λ own. ap (λ (b : Bool). has_data x && not b)
     (sym (ap (λ (b : Bool). b && p) own) ∙ goes)
     ∙ (whole (has_data x) ∙ sym (ap (λ (b : Bool). b && has_data x) own)))
-    (λ other. unpushed-other q a h x holds.matched
+    (λ other. unpushed-other q a h x holds.instances.follows.matched
     (subst (λ (y : Kept). IsKept q h y) (sym x_is) (holds.each place x there))
     (subst (λ (y : Kept). IsUpToDate q h y) (sym x_is) (holds.up_to_date place x there))
     (ap (λ (i : Key). same_key x.sample.key i) (sym key) ∙ other)
@@ -464,7 +464,7 @@ unpushed-unknown q table a h ks unknown holds =
     ⊎_elim
     (λ own. absurd (kept-stated q h k (holds.each j d within)
     (ap (λ (i : Key). instance_state_of q i h) (key-same k.sample.key a.change.key own) ∙ unknown)))
-    (λ other. unpushed-other q a h k holds.matched (holds.each j d within) (holds.up_to_date j d within) other)
+    (λ other. unpushed-other q a h k holds.instances.follows.matched (holds.each j d within) (holds.up_to_date j d within) other)
     (cases_Bool (same_key k.sample.key a.change.key)))
 
 -- what is no more than what keeps to the limit does too

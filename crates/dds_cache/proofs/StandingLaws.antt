@@ -25,7 +25,7 @@ use Rattle.dds_cache.specs.declared.collection.Access.{Access}
 use Rattle.dds_cache.specs.Finding.{AreApart, Holds, HoldsBut, IsCandidate, IsOfOrUpToDate, sample_in}
 use Rattle.dds_cache.specs.Picking.{Picks, IsAccess, collected}
 use Rattle.dds_cache.specs.declared.kept.Kept.{Kept}
-use Rattle.dds_cache.specs.Kept.{AreOfMatched, IsKept, IsKeptAt, IsFresh, IsNewAt, IsOfMatched, IsUpToDate, Adds, has_data, sample_at, is_here, is_in, position_of, positions_in, is_among, marked, taken}
+use Rattle.dds_cache.specs.Kept.{IsKept, IsKeptAt, IsFresh, IsNewAt, IsUpToDate, Adds, has_data, sample_at, is_here, is_in, position_of, positions_in, is_among, marked, taken}
 use Rattle.dds_cache.specs.declared.access_kind.AccessKind.{AccessKind}
 use Rattle.dds_cache.specs.declared.access_kind.AccessKind.TheVariants.{Read as Reading, Take as Taking}
 use Rattle.dds_cache.specs.Sweeping.{AreIn, left_since, stays}
@@ -39,7 +39,7 @@ use Rattle.dds_cache.proofs.GroupLaws.{unequal}
 use Rattle.dds_cache.proofs.PlaceLaws.{apart-picked}
 use Rattle.dds_cache.proofs.DataLaws.{brings-added, none-noted}
 use Rattle.dds_base.specs.declared.change.ChangeKind.{ChangeKind}
-use Rattle.dds_base.specs.Ownership.{IsMatched, accepted_kind, registered_writers}
+use Rattle.dds_base.specs.Ownership.{AreOfMatched, accepted_kind, registered_writers}
 use Rattle.std.specs.List.Sorted.{IsNonDecreasingBy}
 use Rattle.std.proofs.lemmas.List.Kept.{IsNonDecreasingBy-filter}
 use Rattle.dds_cache.proofs.ExactLaws.{added-each, order-added, order-map, order-since, other-stays, since-each, write-stays}
@@ -60,7 +60,6 @@ holds stored h stands = record {
   instances = stands.instances;
   each = stands.each;
   present = stands.present;
-  matched = stands.matched;
   in_order = stands.in_order;
   up_to_date = stands.up_to_date;
 }
@@ -91,29 +90,27 @@ present-after q e h old left new leaves adds each present i =
 -- what is kept holds after one more entry, once the samples that it leaves are added to those that are left, which are in
 -- order and up to date
 pub holds-next : (q : ReaderQos) (e : Happening) (h : List Happening) (before table : Table) (old left new : List Kept)
-    → Stands q table (e ∷ h) → IsOfMatched q e → Leaves q e h old left → IsNonDecreasingBy position_of left
+    → Stands q table (e ∷ h) → Leaves q e h old left → IsNonDecreasingBy position_of left
     → All (IsUpToDate q (e ∷ h)) left → Adds q e h left new → Holds q before old h → Holds q table new (e ∷ h)
-holds-next q e h before table old left new stands matched leaves order up adds holds = record {
+holds-next q e h before table old left new stands leaves order up adds holds = record {
   instances = stands;
   each = each-after q e h old left new leaves adds;
   present = present-after q e h old left new leaves adds holds.each holds.present;
-  matched = All-cons (IsOfMatched q) e h matched holds.matched;
   in_order = order-added q e h left new adds leaves.past order;
   up_to_date = added-each (IsUpToDate q (e ∷ h)) q e h left new adds (λ k is. is) up;
 }
 
 -- so it does after a change, but for what that pushes out
 pub holds-came : (q : ReaderQos) (a : Arrival) (h : List Happening) (before table : Table) (known : ℕ)
-    (old left new : List Kept) → Stands q table (Came a ∷ h) → IsMatched q a.writer
+    (old left new : List Kept) → Stands q table (Came a ∷ h)
     → left ≡ left_since q (Came a ∷ h) known old → Leaves q (Came a) h old left → Adds q (Came a) h left new
     → Holds q before old h → HoldsBut q table new (Came a ∷ h) a.change.key
-holds-came q a h before table known old left new stands matched is leaves adds holds =
+holds-came q a h before table known old left new stands is leaves adds holds =
     let g : List Happening = Came a ∷ h in
     record {
       instances = stands;
       each = each-after q (Came a) h old left new leaves adds;
       present = present-after q (Came a) h old left new leaves adds holds.each holds.present;
-      matched = All-cons (IsOfMatched q) (Came a) h matched holds.matched;
       in_order =
           order-added q (Came a) h left new adds leaves.past
           (subst (λ (ks : List Kept). IsNonDecreasingBy position_of ks) (sym is)
@@ -122,7 +119,7 @@ holds-came q a h before table known old left new stands matched is leaves adds h
           added-each (IsOfOrUpToDate q g a.change.key) q (Came a) h left new adds (λ k up other. up)
           (subst (λ (ks : List Kept). All (IsOfOrUpToDate q g a.change.key) ks) (sym is)
           (since-each (IsOfOrUpToDate q g a.change.key) q g known old
-          (λ j d within other. other-stays q a h (get_or old j d) holds.matched (holds.each j d within)
+          (λ j d within other. other-stays q a h (get_or old j d) holds.instances.follows.matched (holds.each j d within)
           (holds.up_to_date j d within)
           (same_key-comm a.change.key (get_or old j d).sample.key ∙ other))));
     }
@@ -174,7 +171,6 @@ stands-added q e h left mid old new old_qos new_qos taken read counted raised no
           (sample_at i j) h) taken ∙ stands.untaken i j (omega (arith, later));
       arrivals_are = counted;
       data_is = subst (λ (r : ReaderQos). new.data_at ≡ data_available_at r (e ∷ h)) (sym new_qos) is;
-      matched = now.matched;
       in_order = now.in_order;
       up_to_date = now.up_to_date;
     }
@@ -192,13 +188,13 @@ adds-none q e h ks absent = record {
 
 -- an entry that says nothing of any instance leaves what is kept
 pub stands-quiet : (q : ReaderQos) (e : Happening) (h : List Happening) (old new : Stored) → old.qos ≡ q → new.qos ≡ q
-    → IsOfMatched q e → taken_by e ≡ [] → read_by e ≡ [] → ((i : Key) → accepted_kind q i h e ≡ None)
+    → taken_by e ≡ [] → read_by e ≡ [] → ((i : Key) → accepted_kind q i h e ≡ None)
     → ((i : Key) → registered_writers q i (e ∷ h) ≡ registered_writers q i h)
     → new.arrivals ≡ min (arrivals (e ∷ h)) (2 ^ 64 - 1)
     → data_available_at q (e ∷ h) ≡ (if brings_sample q (e ∷ h) then Some (length h + 1) else data_available_at q h)
     → new.data_at ≡ old.data_at → new.samples ≡ old.samples → Stands q new.instances (e ∷ h) → StandsFor old h
     → StandsFor new (e ∷ h)
-stands-quiet q e h old new old_qos new_qos matched taken read refused writers counted raised noted samples instances
+stands-quiet q e h old new old_qos new_qos taken read refused writers counted raised noted samples instances
     stands =
     let ks : List Kept = old.samples in
     let before : Holds q old.instances ks h =
@@ -211,8 +207,8 @@ stands-quiet q e h old new old_qos new_qos matched taken read refused writers co
     stands-added q e h ks ks old new old_qos new_qos taken read counted raised
     (noted ∙ none-noted (length ks) (Some (length h + 1)) old.data_at) leaves adds
     (subst (λ (xs : List Kept). Holds q new.instances xs (e ∷ h)) (sym samples)
-    (holds-next q e h old.instances new.instances ks ks ks instances matched leaves before.in_order
-    (λ j d within filled. write-stays q e h (get_or ks j d) before.matched (before.each j d within) filled
+    (holds-next q e h old.instances new.instances ks ks ks instances leaves before.in_order
+    (λ j d within filled. write-stays q e h (get_or ks j d) before.instances.follows.matched (before.each j d within) filled
     (before.up_to_date j d within)
     (ap (λ (ss : List SamplePosition). list_any (same_sample (get_or ks j d).sample) ss) taken)
     (ap (λ (kind : Option ChangeKind). is_write kind) (refused (get_or ks j d).sample.key))) adds before)) stands
@@ -287,7 +283,6 @@ stands-still h old new qos samples counted noted instances stands =
       untaken = stands.untaken;
       arrivals_are = counted ∙ stands.arrivals_are;
       data_is = noted ∙ (stands.data_is ∙ ap (λ (r : ReaderQos). data_available_at r h) (sym qos));
-      matched = subst (λ (r : ReaderQos). AreOfMatched r h) (sym qos) stands.matched;
       in_order = subst (λ (ks : List Kept). IsNonDecreasingBy position_of ks) (sym samples) stands.in_order;
       up_to_date =
           subst (λ (r : ReaderQos). All (IsUpToDate r h) new.samples) (sym qos)
@@ -330,7 +325,7 @@ pub holds-read : (q : ReaderQos) (ss : List SamplePosition) (h : List Happening)
     → Stands q table (Read ss ∷ h) → Holds q before ks h → Holds q table (map (marked ss) ks) (Read ss ∷ h)
 holds-read q ss h before table ks stands kept =
     let e : Happening = Read ss in
-    holds-next q e h before table ks (map (marked ss) ks) (map (marked ss) ks) stands tt
+    holds-next q e h before table ks (map (marked ss) ks) (map (marked ss) ks) stands
     (record {
       each =
           All-map (IsKept q (e ∷ h)) (marked ss) ks
@@ -345,7 +340,7 @@ holds-read q ss h before table ks stands kept =
       same = λ i. positions-marked q (e ∷ h) i (marked ss) ks (λ k. refl);
     })
     (order-map (marked ss) ks (λ k. refl) kept.in_order)
-    (up-quiet q e h (marked ss) ks (λ i. refl) (λ k. refl) (λ k filled. (filled, refl)) kept.matched kept.each
+    (up-quiet q e h (marked ss) ks (λ i. refl) (λ k. refl) (λ k filled. (filled, refl)) kept.instances.follows.matched kept.each
     kept.up_to_date)
     (adds-none q e h (map (marked ss) ks) (λ i. quiet-absent q e h i refl refl))
     kept
@@ -411,14 +406,14 @@ pub holds-took : (q : ReaderQos) (ss : List SamplePosition) (h : List Happening)
 holds-took q ss h before table known ks counted stands kept =
     let e : Happening = Took ss in
     let left : List Kept = left_since q (e ∷ h) known (map (taken ss) ks) in
-    holds-next q e h before table ks left left stands tt
+    holds-next q e h before table ks left left stands
     (ripe-since q e h known ks (map (taken ss) ks) counted
     (All-map (IsRipe q e h) (taken ss) ks
     (All-weaker (IsKept q h) (λ (k : Kept). IsRipe q e h (taken ss k)) (λ k is. ripe-taken q ss h k is) ks kept.each))
     (λ i. positions-marked q (e ∷ h) i (taken ss) ks (λ k. refl)))
     (order-since q (e ∷ h) known (map (taken ss) ks) (order-map (taken ss) ks (λ k. refl) kept.in_order))
     (since-each (IsUpToDate q (e ∷ h)) q (e ∷ h) known (map (taken ss) ks)
-    (up-quiet q e h (taken ss) ks (λ i. refl) (λ k. refl) (λ k filled. left-in k (is_among ss k) filled) kept.matched kept.each
+    (up-quiet q e h (taken ss) ks (λ i. refl) (λ k. refl) (λ k filled. left-in k (is_among ss k) filled) kept.instances.follows.matched kept.each
     kept.up_to_date))
     (adds-none q e h left (λ i. quiet-absent q e h i refl refl)) kept
   where
@@ -440,7 +435,6 @@ holds-in q table h ks left are kept =
           ∙ sym (present-dropped q h i is_in ks
           (All-weaker (IsKept q h) (λ (k : Kept). is_here q h i k ≡ true → is_in k ≡ true) (λ k is. here-in i k is) ks
           kept.each));
-      matched = kept.matched;
       in_order = IsNonDecreasingBy-filter position_of is_in ks kept.in_order;
       up_to_date = All-filter is_in (IsUpToDate q h) ks kept.up_to_date;
     }))
@@ -478,7 +472,6 @@ stands-swept h old new keep qos instances samples counted noted kept stands =
       untaken = stands.untaken;
       arrivals_are = counted ∙ stands.arrivals_are;
       data_is = noted ∙ (stands.data_is ∙ ap (λ (r : ReaderQos). data_available_at r h) (sym qos));
-      matched = subst (λ (r : ReaderQos). AreOfMatched r h) (sym qos) stands.matched;
       in_order =
           subst (λ (ks : List Kept). IsNonDecreasingBy position_of ks) (sym samples)
           (IsNonDecreasingBy-filter position_of keep old.samples stands.in_order);
@@ -581,7 +574,6 @@ stands-entered kind ss h old new qos counted lowered past now stands = record {
       counted
       ∙ (stands.arrivals_are ∙ ap (λ (n : ℕ). min n (2 ^ 64 - 1)) (sym (arrivals-access kind ss h)));
   data_is = lowered ∙ sym (data-access kind new.qos ss h);
-  matched = now.matched;
   in_order = now.in_order;
   up_to_date = now.up_to_date;
 }

@@ -24,7 +24,7 @@ use Rattle.dds_base.specs.Life.{up_to}
 use Rattle.dds_base.specs.Access.{asks_for_sample_state, asks_for_view_state, asks_for_instance_state, meets, picked_of, own_generations, handle_of, value_of, matching_samples}
 use Rattle.dds_cache.specs.declared.kept.Kept.{Kept}
 use Rattle.dds_cache.specs.declared.access.Candidate.{Candidate}
-use Rattle.dds_cache.specs.Kept.{AreOfMatched, IsKept, IsUpToDate, is_among, position_of, positions_in, sample_state_in}
+use Rattle.dds_cache.specs.Kept.{IsKept, IsUpToDate, is_among, position_of, positions_in, sample_state_in}
 use Rattle.dds_instances.specs.Table.{Table, Stands}
 
 -- the masks ask for these states
@@ -72,7 +72,6 @@ pub record Holds (q : ReaderQos) (table : Table) (ks : List Kept) (h : List Happ
   pub instances : Stands q table h
   pub each : All (IsKept q h) ks
   pub present : (i : Key) → filter (is_present q h i) (up_to (length h)) ≡ positions_in q h i ks
-  pub matched : AreOfMatched q h
   pub in_order : IsNonDecreasingBy position_of ks
   pub up_to_date : All (IsUpToDate q h) ks
 
@@ -85,7 +84,6 @@ pub record HoldsBut (q : ReaderQos) (table : Table) (ks : List Kept) (h : List H
   pub instances : Stands q table h
   pub each : All (IsKept q h) ks
   pub present : (i : Key) → filter (is_present q h i) (up_to (length h)) ≡ positions_in q h i ks
-  pub matched : AreOfMatched q h
   pub in_order : IsNonDecreasingBy position_of ks
   pub others : All (IsOfOrUpToDate q h i) ks
 

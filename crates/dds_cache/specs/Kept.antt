@@ -7,11 +7,9 @@ use Rattle.std.specs.List.{list_any, count_by}
 use Rattle.dds_base.specs.declared.key.Key.{Key}
 use Rattle.dds_base.specs.declared.happening.SamplePosition.{SamplePosition}
 use Rattle.dds_base.specs.declared.happening.Happening.{Happening}
-use Rattle.dds_base.specs.declared.happening.Happening.TheVariants.{Came}
 use Rattle.dds_base.specs.declared.qos.ReaderQos.{ReaderQos}
 use Rattle.dds_base.specs.Happening.{same_key, same_sample, as_of, is_read, is_taken}
 use Rattle.dds_base.specs.Instance.{disposed_generations, no_writers_generations, known_instances}
-use Rattle.dds_base.specs.Ownership.{IsMatched}
 use Rattle.dds_base.specs.Presence.{is_present}
 use Rattle.dds_base.specs.Life.{accepted_writes, ends_with_write, keeps, is_at}
 use Rattle.dds_base.specs.declared.mask.SampleStateMask.{SampleStateMask}
@@ -169,12 +167,3 @@ IsUnasked mask k = k.is_out ≡ false → asks_for_sample_state mask (sample_sta
 -- a kept sample that has data and is not gone is present
 abbrev pub IsUpToDate : ReaderQos → List Happening → Kept → Type 0
 IsUpToDate q h k = has_data k ≡ true → is_present q h k.sample.key k.sample.position ≡ true
-
--- if a change came, it is of a matched writer
-abbrev pub IsOfMatched : ReaderQos → Happening → Type 0
-IsOfMatched q (Came a) = IsMatched q a.writer
-IsOfMatched q _ = Unit
-
--- each change that came is of a matched writer
-abbrev pub AreOfMatched : ReaderQos → List Happening → Type 0
-AreOfMatched q h = All (IsOfMatched q) h

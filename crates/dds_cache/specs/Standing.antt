@@ -24,7 +24,7 @@ use Rattle.dds_base.specs.StatusFlags.{data_available_at}
 use Rattle.dds_cache.specs.declared.access_kind.AccessKind.{AccessKind}
 use Rattle.dds_cache.specs.declared.access_kind.AccessKind.TheVariants.{Read, Take}
 use Rattle.dds_cache.specs.declared.kept.Kept.{Kept}
-use Rattle.dds_cache.specs.Kept.{AreOfMatched, IsKept, IsUpToDate, position_of, positions_in, sample_at}
+use Rattle.dds_cache.specs.Kept.{IsKept, IsUpToDate, position_of, positions_in, sample_at}
 use Rattle.dds_instances.specs.Table.{Table, Stands, happened_of}
 
 -- what is kept: the instances, the samples in the order in which they came, how many changes came, for how many more
@@ -51,8 +51,8 @@ deaths_of stored = 2 ^ 64 - 1 - happened_of stored.instances
 
 -- what is kept stands for what happened: so do its instances; each kept sample is what it was; the present samples of
 -- each instance are kept in their order; no access returned what had not happened; the changes are counted, up to a
--- bound; it is known since when there is data that no access was asked for; each change that came is of a matched writer;
--- the samples stand in the order in which they came; and each that has data and is not gone is present
+-- bound; it is known since when there is data that no access was asked for; the samples stand in the order in which they
+-- came; and each that has data and is not gone is present
 pub record StandsFor (stored : Stored) (h : List Happening) : Type 0 where
   pub instances : Stands stored.qos stored.instances h
   pub each : All (IsKept stored.qos h) stored.samples
@@ -62,7 +62,6 @@ pub record StandsFor (stored : Stored) (h : List Happening) : Type 0 where
   pub untaken : (i : Key) (j : ℕ) → length h < j → is_taken (sample_at i j) h ≡ false
   pub arrivals_are : stored.arrivals ≡ min (arrivals h) (2 ^ 64 - 1)
   pub data_is : stored.data_at ≡ data_available_at stored.qos h
-  pub matched : AreOfMatched stored.qos h
   pub in_order : IsNonDecreasingBy position_of stored.samples
   pub up_to_date : All (IsUpToDate stored.qos h) stored.samples
 

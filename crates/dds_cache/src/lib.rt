@@ -7,6 +7,7 @@
 
 mod access;
 mod access_kind;
+mod accessing;
 mod arriving;
 mod asking;
 mod by_instance;

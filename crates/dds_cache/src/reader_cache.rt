@@ -2,45 +2,28 @@
 //!
 //! DDS 1.4, 2.2.2.5 (read, take, SampleInfo); RTPS 2.5, 8.2 (HistoryCache of a reader).
 
-ghost use Rattle.std.specs.Prelude.{◌≡◌, ◌≢◌, ◌==◌, ℕ, ◌+◌, ◌-◌, ◌≤◌, ◌<◌, ◌^◌, ◌∷◌, [], if◌then◌else◌, nat_le, nat_lt, List, None, Some, IfSome, true, false, Ok, length, IsOk, OnOk, IfOk, IfErr};
+ghost use Rattle.std.specs.Prelude.{◌≡◌, ◌==◌, ℕ, ◌+◌, ◌-◌, ◌≤◌, ◌<◌, ◌^◌, ◌∷◌, [], if◌then◌else◌, nat_le, nat_lt, List, None, Some, true, false, Ok, length, IsOk, OnOk, OnErr, IfErr};
 ghost use Rattle.dds_base.specs.declared.happening.Happening.{Happening};
-ghost use Rattle.dds_base.specs.declared.happening.Happening.TheVariants.{Came, Passed, Heard, Died, Left};
-ghost use Rattle.dds_base.specs.declared.code.Code.TheVariants.{Memory, NoData};
-ghost use Rattle.dds_base.specs.Access.{instance_of, handle_of, has_match};
+ghost use Rattle.dds_base.specs.declared.happening.Happening.TheVariants.{Came, Passed, Heard, Died, Left, Joined};
+ghost use Rattle.dds_base.specs.declared.code.Code.TheVariants.{Memory};
+ghost use Rattle.dds_base.specs.Access.{instance_of, handle_of};
 ghost use Rattle.dds_base.specs.Ownership.{IsMatched};
 ghost use Rattle.dds_base.specs.Presence.{has_room};
-ghost use Rattle.dds_base.specs.Refusal.{Refuses};
-ghost use Rattle.dds_base.specs.Selection.{selection_refusal};
 ghost use Rattle.dds_base.specs.StatusFlags.{data_available_at};
-ghost use Rattle.std.specs.List.Sorted.{IsNonDecreasingBy};
-ghost use Rattle.dds_cache.specs.Finding.{handle_in};
-ghost use Rattle.dds_cache.specs.Only.{Returns};
-ghost use Rattle.dds_cache.specs.Picking.{IsAccess, IsDelivered, IsFoundIn, IsGathered};
-ghost use Rattle.dds_cache.specs.Standing.{deaths_of, picked, qos_of, room_of, StandsFor, entry_of};
-ghost use Rattle.dds_cache.specs.Standing.{AccessAnswers, AfterAccess, MakesRoom, TakesEntry};
-ghost use Rattle.dds_cache.specs.Twice.{first_of};
+ghost use Rattle.dds_cache.specs.Standing.{deaths_of, qos_of, room_of, StandsFor};
+ghost use Rattle.dds_cache.specs.Standing.{MakesRoom, TakesEntry};
 
-use crate::access::is_any_match;
-use crate::access_kind::AccessKind;
 use crate::arriving::{add_left, add_write, is_accepted_write};
-use crate::asking::is_none_asked;
-use crate::collection::{Access, as_sample, gather, twice};
 use crate::dying::add_markers;
 use crate::ending::{hold_present, is_end};
-use crate::entering::enter_access;
 use crate::kept::{Kept, is_kept_after};
-use crate::only::{find_only, masks_of_all, take_last};
-use crate::pick::{pick, picks_any};
 use crate::pushing::{push_out, push_out_by_write};
 use crate::room::{count_arrival, is_room};
 use crate::summary::Summary;
 use crate::sweeping::{let_go, next_sweep, sweep};
-use crate::test::Test;
 use dds_base::{
-    Arrival, Code, Handle, Key, Masks, Moment, OwnershipQos, ReaderQos, Sample, SamplePosition,
-    Selection, Sequence, Sn, Spare, reserve_few,
+    Arrival, Code, Handle, Key, MatchedWriter, Moment, OwnershipQos, ReaderQos, Sample, Sn, Spare,
 };
-use dds_info::Ranks;
 use dds_instances::Instances;
 use std::alloc::Global;
 use std::marker::Model;
@@ -59,24 +42,24 @@ const SPARE: usize = 16;
 /// what ends a life, to let those go that it leaves behind.
 #[derive(Drop)]
 pub struct ReaderCache {
-    alloc: Global,
-    qos: ReaderQos,
-    instances: Instances,
+    pub(crate) alloc: Global,
+    pub(crate) qos: ReaderQos,
+    pub(crate) instances: Instances,
     /// The present samples, and some that are no longer present: dropped by the history, or taken; none of an instance that
     /// is not known any more.
-    samples: Vec<Kept>,
+    pub(crate) samples: Vec<Kept>,
     /// How many changes came; it stays at its greatest value.
-    arrivals: u64,
+    pub(crate) arrivals: u64,
     /// How many samples there are when they are swept next.
-    sweep_at: usize,
+    pub(crate) sweep_at: usize,
     /// How many of them were taken, how many of the others were read, and have data, and where those of each instance are.
-    summary: Summary,
+    pub(crate) summary: Summary,
     /// For how many more entries there is memory.
-    room: usize,
+    pub(crate) room: usize,
     /// The position of the newest entry that brought a sample, if there is one and no read or take has followed it.
-    data_at: Option<u64>,
+    pub(crate) data_at: Option<u64>,
     /// In this memory the next collection is made.
-    collection: Spare<Sample>,
+    pub(crate) collection: Spare<Sample>,
 }
 
 impl Model for ReaderCache {
@@ -195,6 +178,7 @@ impl ReaderCache {
     fn bury(&mut self, writer: Handle, moment: Moment)
         requires counted { 1 ≤ deaths_of self.old }
         ensures stands { (h : List Happening) → StandsFor self.old h
+            → IsMatched (qos_of self.old) h writer
             → StandsFor self.new (Died writer moment ∷ h) }
         ensures qos { qos_of self.new ≡ qos_of self.old }
         ensures room { room_of self.old ≤ room_of self.new + 1 }
@@ -238,8 +222,8 @@ impl ReaderCache {
     /// ownership is SHARED, is looked up once, and nothing is asked of it but which samples it pushes out.
     fn take_up(&mut self, arrival: Arrival)
         requires room { 1 ≤ room_of self.old }
-        requires matched { IsMatched (qos_of self.old) arrival.writer }
         ensures stands { (h : List Happening) → StandsFor self.old h
+            → IsMatched (qos_of self.old) h arrival.writer
             → StandsFor self.new (Came arrival ∷ h) }
         ensures qos { qos_of self.new ≡ qos_of self.old }
         ensures room { room_of self.new + 1 ≡ room_of self.old }
@@ -278,8 +262,8 @@ impl ReaderCache {
     /// Takes up any change of a matched writer, in the room that there is.
     fn take_up_any(&mut self, arrival: Arrival)
         requires room { 1 ≤ room_of self.old }
-        requires matched { IsMatched (qos_of self.old) arrival.writer }
         ensures stands { (h : List Happening) → StandsFor self.old h
+            → IsMatched (qos_of self.old) h arrival.writer
             → StandsFor self.new (Came arrival ∷ h) }
         ensures qos { qos_of self.new ≡ qos_of self.old }
         ensures room { room_of self.new + 1 ≡ room_of self.old }
@@ -347,13 +331,13 @@ impl ReaderCache {
     fn skip(&mut self) -> Result<(), Code>
         ensures passed { OnOk result
             ((h : List Happening) (w first last : ℕ) → StandsFor self.old h
-            → StandsFor self.new (Passed w first last ∷ h)) }
+            → IsMatched (qos_of self.old) h w → StandsFor self.new (Passed w first last ∷ h)) }
         ensures heard { OnOk result
             ((h : List Happening) (w moment : ℕ) → StandsFor self.old h
-            → StandsFor self.new (Heard w moment ∷ h)) }
+            → IsMatched (qos_of self.old) h w → StandsFor self.new (Heard w moment ∷ h)) }
         ensures left { OnOk result
             ((h : List Happening) (w moment : ℕ) → StandsFor self.old h
-            → StandsFor self.new (Left w moment ∷ h)) }
+            → IsMatched (qos_of self.old) h w → StandsFor self.new (Left w moment ∷ h)) }
         ensures entry { TakesEntry room_of self.old self.new result }
         ensures counted { 1 ≤ deaths_of self.old → IsOk result }
         ensures deaths { deaths_of self.old ≤ deaths_of self.new + 1 }
@@ -372,10 +356,9 @@ impl ReaderCache {
     ///
     /// RTPS 2.5, 8.2 (HistoryCache, add_change).
     pub fn come(&mut self, arrival: Arrival) -> Result<(), Code>
-        // The writer is a matched one.
-        requires matched { IsMatched (qos_of self.old) arrival.writer }
-        // The change came, and nothing else happened.
+        // The change came, of a matched writer, and nothing else happened.
         ensures ok { OnOk result ((h : List Happening) → StandsFor self.old h
+            → IsMatched (qos_of self.old) h arrival.writer
             → StandsFor self.new (Came arrival ∷ h)) }
         // It is an entry as each is: the policies stay, where there is room it is taken up, it takes the room of one at
         // most, and it is refused for want of memory alone, and then changes nothing.
@@ -396,11 +379,10 @@ impl ReaderCache {
     ///
     /// DDS 1.4, 2.2.4.1 (SAMPLE_LOST); RTPS 2.5, 8.4.12 (irrelevant_change_set, lost_changes_update).
     pub fn pass(&mut self, writer: Handle, first: Sn, last: Sn) -> Result<(), Code>
-        // The writer is a matched one.
-        requires matched { IsMatched (qos_of self.old) writer }
-        // They were passed over, and nothing else happened.
+        // Those of a matched writer were passed over, and nothing else happened.
         ensures ok { OnOk result
             ((h : List Happening) → StandsFor self.old h
+            → IsMatched (qos_of self.old) h writer
             → StandsFor self.new (Passed writer first last ∷ h)) }
         // It is an entry as each is: the policies stay, where there is room it is taken up, it takes the room of one at
         // most, and it is refused for want of memory alone, and then changes nothing.
@@ -419,11 +401,10 @@ impl ReaderCache {
     ///
     /// RTPS 2.5, 8.7.2.2 (LIVELINESS).
     pub fn hear(&mut self, writer: Handle, moment: Moment) -> Result<(), Code>
-        // The writer is a matched one.
-        requires matched { IsMatched (qos_of self.old) writer }
-        // It was heard, and nothing else happened.
+        // A matched writer was heard, and nothing else happened.
         ensures ok { OnOk result
             ((h : List Happening) → StandsFor self.old h
+            → IsMatched (qos_of self.old) h writer
             → StandsFor self.new (Heard writer moment ∷ h)) }
         // It is an entry as each is: the policies stay, where there is room it is taken up, it takes the room of one at
         // most, and it is refused for want of memory alone, and then changes nothing.
@@ -443,11 +424,10 @@ impl ReaderCache {
     ///
     /// DDS 1.4, 2.2.3 (LIVELINESS).
     pub fn died(&mut self, writer: Handle, moment: Moment) -> Result<(), Code>
-        // The writer is a matched one.
-        requires matched { IsMatched (qos_of self.old) writer }
-        // The writer died, and nothing else happened.
+        // A matched writer died, and nothing else happened.
         ensures ok { OnOk result
             ((h : List Happening) → StandsFor self.old h
+            → IsMatched (qos_of self.old) h writer
             → StandsFor self.new (Died writer moment ∷ h)) }
         // It is an entry as each is, by the deaths that can be counted: the policies stay, where one can be counted it
         // is taken up, it is counted once at most, and where it is refused nothing changes.
@@ -471,11 +451,10 @@ impl ReaderCache {
     ///
     /// RTPS 2.5, 8.4.10 (matched_writer_remove).
     pub fn leave(&mut self, writer: Handle, moment: Moment) -> Result<(), Code>
-        // The writer is a matched one.
-        requires matched { IsMatched (qos_of self.old) writer }
-        // The writer left, and nothing else happened.
+        // A matched writer left, and nothing else happened.
         ensures ok { OnOk result
             ((h : List Happening) → StandsFor self.old h
+            → IsMatched (qos_of self.old) h writer
             → StandsFor self.new (Left writer moment ∷ h)) }
         // It is an entry as each is, by the deaths that can be counted: the policies stay, where one can be counted it
         // is taken up, it is counted once at most, and where it is refused nothing changes.
@@ -485,6 +464,33 @@ impl ReaderCache {
     {
         let _ = (moment, writer);
         self.skip()?;
+        Ok(())
+    }
+
+    /// Takes up that a writer was matched that was not known: it has the next publication handle. It touches no instance and no
+    /// sample, and leaves no room: who needs some reserves it anew. All memory is asked for before anything changes.
+    ///
+    /// # Errors
+    ///
+    /// `Memory` where a growth was refused, or after 2^64 - 1 entries; the cache is then as it was.
+    ///
+    /// RTPS 2.5, 8.4.10 (matched_writer_add).
+    pub fn join(&mut self, writer: MatchedWriter) -> Result<(), Code>
+        // It joined, and nothing else happened.
+        ensures ok { OnOk result
+            ((h : List Happening) → StandsFor self.old h
+            → StandsFor self.new (Joined writer ∷ h)) }
+        // The policies stay.
+        ensures qos { qos_of self.new ≡ qos_of self.old }
+        // One death fewer can be counted at most.
+        ensures deaths { deaths_of self.old ≤ deaths_of self.new + 1 }
+        // A refusal leaves the cache as it was.
+        ensures err { OnErr result (self.new ≡ self.old) }
+        // It is refused for want of memory alone.
+        ensures memory { IfErr result (λ e. e ≡ Memory) }
+    {
+        self.instances.join(writer)?;
+        self.room = 0;
         Ok(())
     }
 
@@ -512,239 +518,6 @@ impl ReaderCache {
             self.arrivals,
             arrival,
         )
-    }
-
-    /// Whether some present sample meets the masks and passes the test. It needs no memory, and goes once over the
-    /// samples, but where the masks ask for none by what is known of all: whether all were read, or none was, and, with
-    /// fewer instances than samples, the view state and the state of each instance.
-    ///
-    /// DDS 1.4, 2.2.2.5 (ReadCondition, QueryCondition: get_trigger_value).
-    pub fn has_match<T: Test>(&self, masks: Masks, test: &T) -> bool
-        // It is so by the definitions.
-        ensures matched { (h : List Happening) → StandsFor self.now h
-            → result ≡ has_match (qos_of self.now) h masks (T.meaning test.now) }
-    {
-        if is_none_asked(&self.instances, &self.samples, &self.summary, masks) {
-            return false;
-        }
-        let any = Selection::Any { max: -1, masks };
-        is_any_match(&self.instances, &self.qos, &any, masks, test, &self.samples)
-    }
-
-    /// What an access finds that is not refused and for which there is no memory: nothing, which takes none, or something
-    /// is picked.
-    fn find_nothing<T: Test>(
-        &self,
-        kind: AccessKind,
-        selection: &Selection,
-        test: &T,
-    ) -> Result<Access, Code>
-        requires good { (h : List Happening) → StandsFor self.now h
-            → selection_refusal (qos_of self.now) h selection.now ≡ None }
-        ensures found { IfOk result (λ access. (h : List Happening) → StandsFor self.now h
-            → IsAccess kind (qos_of self.now) h selection.now (T.meaning test.now) self.now.samples
-            access) }
-        ensures gathered { IfOk result (λ access. IsGathered (length self.now.samples) access) }
-        ensures sorted { IfOk result (λ access. IsNonDecreasingBy handle_in access.found.items) }
-        ensures memory { IfErr result (λ e. e ≡ Memory) }
-        ensures some { IfErr result (λ e. (h : List Happening) → StandsFor self.now h
-            → picked self.now h selection.now (T.meaning test.now) ≢ []) }
-    {
-        if picks_any(&self.instances, &self.qos, &self.samples, selection, test) {
-            return Err(Code::Memory);
-        }
-        Ok(Access::nothing(self.alloc))
-    }
-
-    /// What an access by a test finds. Where it is refused for want of memory, something is picked: to find nothing
-    /// takes none.
-    fn find<T: Test>(
-        &self,
-        kind: AccessKind,
-        selection: Selection,
-        test: &T,
-    ) -> Result<Access, Code>
-        ensures found { IfOk result (λ access. (h : List Happening) → StandsFor self.now h
-            → IsAccess kind (qos_of self.now) h selection (T.meaning test.now) self.now.samples
-            access) }
-        ensures gathered { IfOk result (λ access. IsGathered (length self.now.samples) access) }
-        ensures sorted { IfOk result (λ access. IsNonDecreasingBy handle_in access.found.items) }
-        ensures refused { IfErr result (λ e. (h : List Happening) → StandsFor self.now h
-            → Refuses (selection_refusal (qos_of self.now) h selection) e) }
-        ensures some { IfErr result (λ e. (h : List Happening) → StandsFor self.now h
-            → e ≡ Memory → picked self.now h selection (T.meaning test.now) ≢ []) }
-    {
-        let picked = pick(
-            self.alloc,
-            &self.instances,
-            &self.qos,
-            &self.samples,
-            &self.summary,
-            selection,
-            test,
-        );
-        let found = match picked {
-            Ok(found) => found,
-            Err(Code::Memory) => return self.find_nothing(kind, &selection, test),
-            Err(code) => return Err(code),
-        };
-        if found.is_empty() {
-            return Ok(Access::nothing(self.alloc));
-        }
-        gather(self.alloc, kind, &self.samples, found)
-    }
-
-    /// Takes up that an access of this kind returned what it found, which is whole then.
-    fn enter(&mut self, kind: AccessKind, access: &mut Access) -> Result<(), Code>
-        requires gathered { IsGathered (length self.old.samples) access.old }
-        ensures ok { OnOk result ((h : List Happening) → StandsFor self.old h
-            → IsFoundIn (qos_of self.old) h self.old.samples access.old
-            → StandsFor self.new (entry_of kind access.old.positions.items ∷ h)) }
-        ensures positions { access.new.positions ≡ access.old.positions }
-        ensures delivered { OnOk result (IsDelivered kind self.old.samples access.old access.new) }
-        ensures counted { (h : List Happening) → StandsFor self.old h → length h + 1 < 2 ^ 64
-            → IsOk result }
-        ensures entry { TakesEntry room_of self.old self.new result }
-    {
-        // An entry that has room can be counted, and one that has none is counted as a death is.
-        if self.room == 0 && !self.counts_deaths(1) {
-            return Err(Code::Memory);
-        }
-        enter_access(
-            self.alloc,
-            kind,
-            &mut self.instances,
-            &self.qos,
-            &mut self.samples,
-            &mut self.summary,
-            access,
-        );
-        self.room = self.room.saturating_sub(1);
-        self.data_at = None;
-        Ok(())
-    }
-
-    /// Takes the only sample that is kept, where a take of all asks for it and ends no life by that, and where there is room
-    /// for the entry and memory for the collection. Else nothing has changed: `find` says what the access finds, or why it is
-    /// refused.
-    #[inline(always)]
-    fn take_only<T: Test>(
-        &mut self,
-        kind: AccessKind,
-        selection: &Selection,
-        test: &T,
-    ) -> Option<Sequence<Sample>>
-        ensures taken { IfSome result (λ samples. (h : List Happening) → StandsFor self.old h
-            → Returns kind self.old h selection.now (T.meaning test.now) samples self.new) }
-        ensures same { result ≡ None → self.new ≡ self.old }
-        ensures qos { qos_of self.new ≡ qos_of self.old }
-        ensures room { room_of self.old ≤ room_of self.new + 1 }
-    {
-        if self.room == 0 {
-            return None;
-        }
-        let masks = masks_of_all(kind, selection)?;
-        // Not by `?`, which would move it once more.
-        let Some(only) = find_only(&self.instances, &self.qos, masks, test, &self.samples) else {
-            return None;
-        };
-        let mut samples = self.collection.take(self.alloc);
-        if reserve_few(&mut samples, 1).is_err() {
-            return None;
-        }
-        let value = take_last(
-            self.alloc,
-            &mut self.instances,
-            &mut self.samples,
-            &mut self.summary,
-            only.sample,
-        );
-        samples.push_reserved(as_sample(&only, &mut Ranks::new(), value));
-        self.room -= 1;
-        self.data_at = None;
-        Some(Sequence::from_vec(samples))
-    }
-
-    /// Reads or takes the present samples that the selection asks for and that pass the test; `Everything` is the test
-    /// that each sample passes. The next sample is picked without the test. `docs/DECISIONS.md`, "A reader's cache",
-    /// says why they are one.
-    ///
-    /// # Errors
-    ///
-    /// The first of these: `BadParameter` for a `max` that is neither -1 nor positive, and for an instance that is not
-    /// known where it has to be; `NoData` where there is no such sample, and that too is an access, which lowers
-    /// DATA_AVAILABLE; `Memory` where a growth was refused, which only samples that are picked need, and after 2^64 - 1
-    /// entries. But for `NoData` the cache is then as it was.
-    ///
-    /// DDS 1.4, 2.2.2.5 (read, take, read_w_condition, take_w_condition, read_instance, take_instance,
-    /// read_next_instance, take_next_instance, read_next_instance_w_condition, take_next_instance_w_condition,
-    /// read_next_sample, take_next_sample).
-    pub fn access<T: Test>(
-        &mut self,
-        kind: AccessKind,
-        selection: Selection,
-        test: &T,
-    ) -> Result<Sequence<Sample>, Code>
-        // The samples are those that the definitions pick by the test of what happened, or there is none; or it is
-        // refused by the first cause that there is, or for want of memory, which only samples that are picked need, and
-        // what comes after 2^64 - 1 entries.
-        ensures answer { (h : List Happening) → StandsFor self.old h
-            → AccessAnswers self.old h selection (T.meaning test.now) result }
-        // The read or take is entered, and nothing else; one that is refused is not.
-        ensures after { (h : List Happening) → StandsFor self.old h
-            → AfterAccess kind self.old h selection (T.meaning test.now) result self.new }
-        // The policies stay.
-        ensures qos { qos_of self.new ≡ qos_of self.old }
-        // It takes the room of one entry at most.
-        ensures room { room_of self.old ≤ room_of self.new + 1 }
-    {
-        if let Some(samples) = self.take_only(kind, &selection, test) {
-            return Ok(samples);
-        }
-        // Not by `?`, which would move what is found once more.
-        match self.find(kind, selection, test) {
-            Ok(mut access) => {
-                self.enter(kind, &mut access)?;
-                answer_of(access)
-            }
-            Err(code) => Err(code),
-        }
-    }
-
-    /// The same as `access`, and the samples once more: two equal collections. All memory is asked for before the cache
-    /// changes.
-    ///
-    /// # Errors
-    ///
-    /// Those of `access`: `Memory` also where the second collection found none.
-    ///
-    /// DDS 1.4, 2.2.2.5 (read, take, and their other forms).
-    pub fn access_twice<T: Test>(
-        &mut self,
-        kind: AccessKind,
-        selection: Selection,
-        test: &T,
-    ) -> Result<(Sequence<Sample>, Sequence<Sample>), Code>
-        // The first collection answers as that of `access` does.
-        ensures answer { (h : List Happening) → StandsFor self.old h
-            → AccessAnswers self.old h selection (T.meaning test.now) (first_of result) }
-        // The read or take is entered once, and nothing else; one that is refused is not.
-        ensures after { (h : List Happening) → StandsFor self.old h
-            → AfterAccess kind self.old h selection (T.meaning test.now) (first_of result) self.new }
-        // The second collection is the first one.
-        ensures equal { IfOk result (λ twice. twice.1 ≡ twice.0) }
-        // The policies stay.
-        ensures qos { qos_of self.new ≡ qos_of self.old }
-        // It takes the room of one entry at most.
-        ensures room { room_of self.old ≤ room_of self.new + 1 }
-    {
-        // Both are copies, made before anything changes.
-        let mut found = self.find(AccessKind::Take, selection, test)?;
-        let (first, second) = twice(self.alloc, &self.samples, &found)?;
-        self.enter(kind, &mut found)?;
-        found.samples = first;
-        let samples = answer_of(found)?;
-        Ok((samples, Sequence::from_vec(second)))
     }
 
     /// The key of a known instance, by its handle; `None` where no known instance has it. It needs no memory.
@@ -799,23 +572,5 @@ fn data_after(data_at: Option<u64>, before: usize, after: usize, position: u64) 
         Some(position)
     } else {
         data_at
-    }
-}
-
-/// The samples of an access, or that there is none.
-#[inline(always)]
-fn answer_of(access: Access) -> Result<Sequence<Sample>, Code>
-    ensures { result
-        ≡ (if length access.positions.items == 0 then Err NoData else Ok access.samples.items) }
-{
-    let Access {
-        positions,
-        samples,
-        ..
-    } = access;
-    if positions.as_slice().is_empty() {
-        Err(Code::NoData)
-    } else {
-        Ok(Sequence::from_vec(samples))
     }
 }

@@ -9,7 +9,6 @@ use Rattle.dds_base.specs.declared.key.Key.{Key}
 use Rattle.dds_base.specs.declared.qos.ReaderQos.{ReaderQos}
 use Rattle.dds_base.specs.Happening.{arrivals}
 use Rattle.dds_base.specs.Instance.{known_instances}
-use Rattle.dds_base.specs.Ownership.{IsMatched}
 use Rattle.dds_instances.specs.Table.{Stands, Table}
 use Rattle.dds_instances.specs.Known.{IsKnown}
 use Rattle.dds_cache.specs.declared.kept.Kept.{Kept}
@@ -24,7 +23,7 @@ use Rattle.dds_cache.proofs.SweepLaws.{Leaves, leaves-since, none-since}
 use Rattle.dds_cache.proofs.reader_cache.ReaderCache.take_up.Goals as goal
 
 pub returns-clause-stands : goal.returns-clause-stands
-returns-clause-stands c = λ h stands.
+returns-clause-stands c = λ h stands matched.
     let q : ReaderQos = c.self.inside.qos in
     let e : Happening = Came c.args.arrival in
     let key : Key = c.args.arrival.change.key in
@@ -47,8 +46,6 @@ returns-clause-stands c = λ h stands.
     let at : c.happened-newest.result ≡ length h + 1 =
     c.happened-newest.ensures.happened q (e ∷ h) came
     ∙ (let more : length (e ∷ h) ≡ length h + 1 = omega arith in more) in
-    let matched : IsMatched q c.args.arrival.writer =
-    subst (λ (t : Stored). IsMatched t.qos c.args.arrival.writer) (sym c.self.view_is) c.requires.matched in
     let adds : Adds q e h ks mid =
     c.add_write.ensures.samples q h
     (record {
@@ -61,7 +58,7 @@ returns-clause-stands c = λ h stands.
     }) in
     let but : HoldsBut q after mid (e ∷ h) c.in-Some.known.key =
     subst (λ (i : Key). HoldsBut q after mid (e ∷ h) i) (sym key_is)
-    (holds-came q c.args.arrival h before after count ks ks mid came matched (sym whole) leaves adds
+    (holds-came q c.args.arrival h before after count ks ks mid came (sym whole) leaves adds
     (holds (stored_of c.self.inside) h old)) in
     let alone : c.is_empty-is_alone.result ≡ true → All (IsUpToDate q (e ∷ h)) mid =
     λ is. let empty : vec_len c.self.inside.samples ≡ 0 = eqb-true (vec_len c.self.inside.samples) 0 (sym c.is_empty-is_alone.ensures ∙ is) in

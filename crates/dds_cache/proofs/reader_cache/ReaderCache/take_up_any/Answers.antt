@@ -19,7 +19,7 @@ use Rattle.dds_cache.proofs.SweepLaws.{Leaves, leaves-since}
 use Rattle.dds_cache.proofs.reader_cache.ReaderCache.take_up_any.Goals as goal
 
 pub returns-clause-stands : goal.returns-clause-stands
-returns-clause-stands c = λ h stands.
+returns-clause-stands c = λ h stands matched.
     let q : ReaderQos = c.self.inside.qos in
     let e : Happening = Came c.args.arrival in
     let ks : List Kept = c.self.inside.samples.items in
@@ -32,8 +32,9 @@ returns-clause-stands c = λ h stands.
     (holds (stored_of c.self.inside) h old)) next in
     let came : Stands q c.come.new.self (e ∷ h) =
     subst (λ (r : Result (Unit {0}) Code). OnOk r ((g : List Happening)
-    → Stands q c.self.inside.instances g → c.is_end-is_end.result ≡ ends_life q c.args.arrival.change.key g e
-    → Stands q c.come.new.self (e ∷ g))) c.unwrap.ensures c.come.ensures.ok h old.instances ends in
+    → Stands q c.self.inside.instances g → IsMatched q g c.args.arrival.writer → c.is_end-is_end.result ≡ ends_life q c.args.arrival.change.key g e
+    → Stands q c.come.new.self (e ∷ g))) c.unwrap.ensures c.come.ensures.ok h old.instances
+    (subst (λ (t : Stored). IsMatched t.qos h c.args.arrival.writer) (sym c.self.view_is) matched) ends in
     let leaves : Leaves q e h ks c.let_go.new.samples.items =
     subst (λ (xs : List Kept). Leaves q e h ks xs) (sym (c.let_go.ensures.items (e ∷ h) came))
     (leaves-since q e h c.len-known.result ks (c.len-known.ensures.len q h old.instances)
@@ -41,8 +42,6 @@ returns-clause-stands c = λ h stands.
     let at : c.happened-newest.result ≡ length h + 1 =
     c.happened-newest.ensures.happened q (e ∷ h) came
     ∙ (let more : length (e ∷ h) ≡ length h + 1 = omega arith in more) in
-    let matched : IsMatched q c.args.arrival.writer =
-    subst (λ (t : Stored). IsMatched t.qos c.args.arrival.writer) (sym c.self.view_is) c.requires.matched in
     let noted = c.data_after-self-inside.ensures.newest ∙ noted-by _ _ _ _ _ _ c.self.inside.data_at
     (c.len-before.ensures ∙ c.let_go.new.samples.ok.0)
     (c.len.ensures ∙ (c.push_out.ensures.len ∙ c.add_left.new.samples.ok.0)) at in
@@ -53,7 +52,7 @@ returns-clause-stands c = λ h stands.
     refl noted leaves adds
     (c.push_out.ensures.holds (e ∷ h)
     (holds-came q c.args.arrival h c.self.inside.instances c.come.new.self c.len-known.result ks
-    c.let_go.new.samples.items c.add_left.new.samples.items came matched (c.let_go.ensures.items (e ∷ h) came) leaves adds
+    c.let_go.new.samples.items c.add_left.new.samples.items came (c.let_go.ensures.items (e ∷ h) came) leaves adds
     (holds (stored_of c.self.inside) h old))) old
 
 pub invariant_of-self : goal.invariant_of-self
