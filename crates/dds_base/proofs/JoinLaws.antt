@@ -54,6 +54,11 @@ no-fewer-writers q (Looked kind) h = omega arith
 pub still-matched : (q : ReaderQos) (e : Happening) (h : List Happening) (w : ℕ) → IsMatched q h w → IsMatched q (e ∷ h) w
 still-matched q e h w matched = (matched.0, omega (arith, matched.1, no-fewer-writers q e h))
 
+-- a writer of the opening is matched, whatever has happened since
+pub still-of-opening : (q : ReaderQos) (h : List Happening) (w : ℕ) → 0 < w → w ≤ length q.writers
+    → IsMatched q h w
+still-of-opening q h w low within = (low, omega (arith, within, length-append q.writers (joined_in h)))
+
 get-front : (ws : List MatchedWriter) (m : MatchedWriter) (at : ℕ) → at < length ws
     → slice_get (ws ++ m ∷ []) at ≡ slice_get ws at
 get-front [] m at within = absurd (omega (arith, within))

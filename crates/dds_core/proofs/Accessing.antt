@@ -77,13 +77,13 @@ access_is_quiet Reading = record {
   lost = λ samples h. refl;
   passed = λ samples h. refl;
   turned = λ samples h. refl;
-  leases = λ kept q samples h s. record { tracks = s.tracks; last_turned = s.last_turned };
+  leases = λ kept q samples h s. record { tracks = s.tracks; last_turned = s.last_turned; matched = (tt, s.matched) };
 }
 access_is_quiet Taking = record {
   lost = λ samples h. refl;
   passed = λ samples h. refl;
   turned = λ samples h. refl;
-  leases = λ kept q samples h s. record { tracks = s.tracks; last_turned = s.last_turned };
+  leases = λ kept q samples h s. record { tracks = s.tracks; last_turned = s.last_turned; matched = (tt, s.matched) };
 }
 
 pub is_access : (kind : AccessKind) (part : Part) (reader : ℕ) (selection : Selection)

@@ -10,7 +10,7 @@ use Rattle.dds_base.specs.declared.happening.Happening.{Happening}
 use Rattle.dds_base.specs.declared.happening.Happening.TheVariants.{Died}
 use Rattle.dds_base.specs.declared.qos.ReaderQos.{ReaderQos}
 use Rattle.dds_base.specs.Liveliness.{after_deaths, alive_since, dead_at, has_died, is_alive, is_overdue, lease_of}
-use Rattle.dds_base.specs.Ownership.{publication_handles, writer_of}
+use Rattle.dds_base.specs.Ownership.{publication_handles, writer_of, writers_of}
 use Rattle.dds_base.specs.StatusFlags.{turned_at}
 use Rattle.dds_cache.specs.Standing.{qos_of, StandsFor as CacheStandsFor}
 use Rattle.dds_lease.specs.Standing.{after_deaths_above, writer_count, StandsFor as LeasesStandFor}
@@ -40,7 +40,7 @@ pub record LeadsTo (q : ReaderQos) (now after : ℕ) (store : StoreKept) (end : 
 -- those of the handles up to this one have died
 pub record Dying (q : ReaderQos) (now after : ℕ) (old new : StoreKept) : Type 0 where
   pub room : HasRoomForDeaths now new
-  pub count : writer_count new.leases ≡ length q.writers
+  pub count : writer_count new.leases ≡ writer_count old.leases
   pub qos : qos_of new.cache ≡ q
   pub lost : new.lost ≡ old.lost
   pub passed : new.passed ≡ old.passed
@@ -78,8 +78,8 @@ turned_by_death : (q : ReaderQos) (now after w : ℕ) (h : List Happening)
     → Some (length (Died w now ∷ h)) ≡ turned_at (Died w now ∷ h)
 turned_by_death q now after w h first =
     turns (has_died w h) (is_alive w h)
-    (over-live (lease_of (writer_of q.writers w)) (alive_since w h) now
-    (found_in (is_overdue q now h) (λ v. nat_lt after v) w (publication_handles q) first))
+    (over-live (lease_of (writer_of (writers_of q h) w)) (alive_since w h) now
+    (found_in (is_overdue q now h) (λ v. nat_lt after v) w (publication_handles q h) first))
   where
     turns : (died alive : Bool) → alive ≡ true
         → Some (suc (length h)) ≡ (if not (died && not alive) then Some (length h + 1) else turned_at h)

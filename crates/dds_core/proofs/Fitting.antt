@@ -1,8 +1,9 @@
--- A reader whose policies are the same fits its writers as well.
-use Rattle.std.proofs.Common.{◌≡◌, Bool, List, length, ap, ◌∙◌, arith}
+-- A reader whose policies are the same, and that has as many writers, fits them as well.
+use Rattle.std.proofs.Common.{◌≡◌, Bool, List, ap, ◌∙◌, arith}
 use Rattle.dds_base.specs.declared.qos.ReaderQos.{ReaderQos}
 use Rattle.dds_base.specs.Matched.{is_reliable}
 use Rattle.dds_cache.specs.Standing.{qos_of}
+use Rattle.dds_lease.specs.Standing.{writer_count}
 use Rattle.rtps_reader.specs.Reader.{Proxies, count_of}
 use Rattle.dds_core.specs.declared.matching.WriterName.{WriterName}
 use Rattle.dds_core.specs.Identity.{FitsWriters}
@@ -10,10 +11,9 @@ use Rattle.dds_core.specs.Stored.{StoreKept}
 
 pub fits_on : {names : List WriterName} {old new : Proxies} {before after : StoreKept} {reliable : Bool}
     → FitsWriters names old before reliable → qos_of after.cache ≡ qos_of before.cache
+    → writer_count after.leases ≡ writer_count before.leases
     → count_of new ≡ count_of old → FitsWriters names new after reliable
-fits_on {before = before} {after} fits qos count =
-    let same : length (qos_of after.cache).writers ≡ length (qos_of before.cache).writers =
-    ap (λ (q : ReaderQos). length q.writers) qos in
+fits_on fits qos same count =
     let few = fits.fits in
     let many = fits.many in
     record {

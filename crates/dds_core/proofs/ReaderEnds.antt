@@ -9,6 +9,7 @@ use Rattle.dds_base.specs.declared.qos.MatchedWriter.{MatchedWriter}
 use Rattle.dds_base.specs.declared.qos.ReaderQos.{ReaderQos}
 use Rattle.dds_base.specs.Matched.{same_topic, is_reliable, is_reliable_reader, of_matched_writers}
 use Rattle.dds_cache.specs.Standing.{qos_of}
+use Rattle.dds_lease.specs.Standing.{writer_count}
 use Rattle.rtps_reader.specs.declared.attachment.Attachment.{Attachment as AttachmentOf}
 use Rattle.rtps_reader.specs.declared.attachment.Attachment.TheVariants as standing
 use Rattle.rtps_reader.specs.Reader.{Proxies, Tracks, count_of, how_at}
@@ -197,18 +198,18 @@ names_few peers r names writers matched told many =
 pub rows_fit : (peers : List PeerConfig) (r : ReaderConfig) (names : List WriterName) (writers : List MatchedWriter)
     (reader : Proxies) (store : StoreKept) → names ≡ of_matched_writers writer_name r.topic 1 peers
     → writers ≡ of_matched_writers matched_writer r.topic 1 peers → count_of reader ≡ length names
-    → qos_of store.cache ≡ qos_with r writers → length writers ≤ 256 → (reliable : Bool)
+    → qos_of store.cache ≡ qos_with r writers → writer_count store.leases ≡ length writers → length writers ≤ 256
+    → (reliable : Bool)
     → reliable ≡ is_reliable_reader r → FitsWriters names reader store reliable
-rows_fit peers r names writers reader store matched told count qos many reliable is =
+rows_fit peers r names writers reader store matched told count qos counted many reliable is =
     let same = as_many writer_name matched_writer r.topic 1 peers in
     let a : length names ≡ length (of_matched_writers writer_name r.topic 1 peers) =
     ap (λ (ns : List WriterName). length ns) matched in
-    let b : length (qos_of store.cache).writers ≡ length (of_matched_writers matched_writer r.topic 1 peers) =
-    ap (λ (q : ReaderQos). length q.writers) qos ∙ ap (λ (ws : List MatchedWriter). length ws) told in
-    let c : length (qos_of store.cache).writers ≡ length writers = ap (λ (q : ReaderQos). length q.writers) qos in
+    let b : length writers ≡ length (of_matched_writers matched_writer r.topic 1 peers) =
+    ap (λ (ws : List MatchedWriter). length ws) told in
     record {
       policy = ap (λ (q : ReaderQos). is_reliable q.reliability) qos ∙ sym is;
       count = count;
-      fits = omega (arith, same, a, b);
-      many = omega (arith, c, many);
+      fits = omega (arith, same, a, b, counted);
+      many = omega (arith, counted, many);
     }

@@ -13,6 +13,7 @@ use Rattle.dds_base.specs.Bounds.{max_readers}
 use Rattle.dds_base.specs.Checked.{check_refusal}
 use Rattle.dds_base.specs.Matched.{is_reliable, is_reliable_reader}
 use Rattle.dds_cache.specs.Standing.{qos_of}
+use Rattle.dds_lease.specs.Standing.{writer_count}
 use Rattle.rtps_reader.specs.Reader.{Proxies, count_of}
 use Rattle.dds_core.specs.Stored.{StoreKept}
 use Rattle.dds_protocol.specs.Claims.{IsNumbered}
@@ -30,13 +31,13 @@ use Rattle.dds_core.specs.Kept.{WriterKept, ReaderKept, PeerKept}
 abbrev pub reliable_in : StoreKept → Bool
 reliable_in store = is_reliable (qos_of store.cache).reliability
 
--- each matched writer is known, and is among those of the policies, of which there are 256 at most; by these the reader is
--- a reliable one or not
+-- each matched writer is known, and is among those that the store counts, of which there are 256 at most; by the policies
+-- the reader is a reliable one or not
 pub record FitsWriters (names : List WriterName) (reader : Proxies) (store : StoreKept) (reliable : Bool) : Type 0 where
   pub policy : reliable_in store ≡ reliable
   pub count : count_of reader ≡ length names
-  pub fits : length names ≤ length (qos_of store.cache).writers
-  pub many : length (qos_of store.cache).writers ≤ max_readers
+  pub fits : length names ≤ writer_count store.leases
+  pub many : writer_count store.leases ≤ max_readers
 
 -- what stays of a writer while nobody comes or goes: its name, whether an unregister disposes too, how long its values
 -- may be, and the readers of its topic, which never change; and whom it is matched with, to which peers it sends, the

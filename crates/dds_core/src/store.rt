@@ -20,6 +20,7 @@ ghost use Rattle.dds_core.specs.Parting.{parting_entries};
 ghost use Rattle.dds_core.specs.Stored.{StoreKept};
 ghost use Rattle.dds_core.specs.Storing.{Holds, Loses};
 ghost use Rattle.dds_core.specs.Twins.{Twins};
+ghost use Rattle.rtps_reader.specs.Entering.{IsAmong};
 
 use crate::twin::Twin;
 use dds_base::{
@@ -46,16 +47,14 @@ pub struct Store {
 }
 
 impl Model for Store {
-    ghost use Rattle.std.specs.Prelude.{◌≡◌, ◌<◌, ◌^◌, length};
-    ghost use Rattle.dds_cache.specs.Standing.{qos_of};
-    ghost use Rattle.dds_lease.specs.Standing.{writer_count};
+    ghost use Rattle.std.specs.Prelude.{◌<◌, ◌^◌};
     ghost use Rattle.dds_core.specs.Stored.{StoreKept};
 
     ghost Value = { StoreKept };
 
     ghost view = { λ s. record { lost = s.lost; passed = s.passed; turned = s.turned; leases = s.leases; cache = s.cache } };
 
-    ghost invariant = { λ s. (s.lost < 2 ^ 64) × (writer_count s.leases ≡ length (qos_of s.cache).writers) };
+    ghost invariant = { λ s. s.lost < 2 ^ 64 };
 }
 
 /// How many entries a parting makes of a writer that is alive, or is not: the death of one that is comes first.
@@ -67,9 +66,9 @@ fn parting_entries(alive: bool) -> usize
 
 /// A writer that leaves dies first, if it is alive. The entries of its parting can be counted.
 fn die_first(cache: &mut ReaderCache, writer: Handle, now: Moment, alive: bool)
-    requires matched { IsMatched (qos_of cache.old) writer }
     requires counted { parting_entries alive ≤ deaths_of cache.old }
     ensures died { (h : List Happening) → CacheStandsFor cache.old h
+        → IsMatched (qos_of cache.old) h writer
         → CacheStandsFor cache.new (if alive then Died writer now ∷ h else h) }
     ensures counted { 1 ≤ deaths_of cache.new }
     ensures qos { qos_of cache.new ≡ qos_of cache.old }
@@ -84,6 +83,7 @@ impl Store {
     pub fn open(alloc: Global, qos: ReaderQos) -> Result<Store, Code>
         ensures opening { IfOk result (λ store. Holds store []) }
         ensures qos { IfOk result (λ store. qos_of store.cache ≡ qos) }
+        ensures writers { IfOk result (λ store. writer_count store.leases ≡ length qos.writers) }
         ensures memory { IfErr result (λ code. code ≡ Memory) }
     {
         let leases = Leases::open(alloc, &qos)?;
@@ -184,7 +184,6 @@ impl Store {
     /// Which matched writers are alive.
     pub fn leases(&self) -> &Leases
         ensures leases { result.now ≡ self.now.leases }
-        ensures writers { writer_count result.now ≡ length (qos_of self.now.cache).writers }
     {
         &self.leases
     }
@@ -206,6 +205,7 @@ impl Store {
         ensures died { (h : List Happening) → Holds self.old h
             → Holds self.new (after_deaths (qos_of self.old.cache) now h) }
         ensures qos { qos_of self.new.cache ≡ qos_of self.old.cache }
+        ensures writers { writer_count self.new.leases ≡ writer_count self.old.leases }
     {
         let mut after = Handle::NIL;
         while let Some(writer) = self.leases.expire(after, now) {
@@ -224,7 +224,7 @@ impl Store {
     ///
     /// RTPS 2.5, 8.4.10.3 (matched_writer_remove); DDS 1.4, 2.2.4.1 (LivelinessChangedStatus: not_alive_count).
     pub fn leave(&mut self, writer: Handle, now: Moment) -> Result<(), Code>
-        requires matched { IsMatched (qos_of self.old.cache) writer }
+        requires matched { IsAmong (writer_count self.old.leases) writer }
         ensures left { OnOk result ((h : List Happening) → Holds self.old h
             → Holds self.new (after_parting writer now h)) }
         ensures past { OnErr result ((h : List Happening) → Holds self.old h
@@ -232,6 +232,7 @@ impl Store {
         ensures err { OnErr result (self.new ≡ self.old) }
         ensures memory { IfErr result (λ code. code ≡ Memory) }
         ensures qos { qos_of self.new.cache ≡ qos_of self.old.cache }
+        ensures writers { writer_count self.new.leases ≡ writer_count self.old.leases }
     {
         let alive = self.leases.is_alive(writer);
         if !self.cache.counts_deaths(parting_entries(alive)) {
@@ -304,11 +305,14 @@ impl Store {
 
 impl Sink for Store {
     ghost use Rattle.dds_cache.specs.Standing.{qos_of, room_of};
+    ghost use Rattle.dds_lease.specs.Standing.{writer_count};
     ghost use Rattle.dds_core.specs.Storing.{Holds};
 
     ghost stands = { λ s h. Holds s h };
 
     ghost qos = { λ s. qos_of s.cache };
+
+    ghost writers = { λ s. writer_count s.leases };
 
     ghost spare = { λ s. room_of s.cache };
 

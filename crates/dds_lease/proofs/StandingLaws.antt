@@ -31,6 +31,11 @@ within kept seen w n same matched number =
     let count = ap (λ (k : Kept). length k.tracks) same in omega (arith, count, matched.0, matched.1, number)
 
 -- so it is matched
+pub counted-matched : (kept : Kept) (q : ReaderQos) (h : List Happening) (w : ℕ) → StandsFor kept q h
+    → (0 < w) × (w ≤ length kept.tracks) → IsMatched q h w
+counted-matched kept q h w given counted =
+    let count = matched-count kept q h given in (counted.0, omega (arith, count, counted.1))
+
 is-matched : (kept : Kept) (q : ReaderQos) (h : List Happening) (w at : ℕ) → StandsFor kept q h → 1 + at ≡ w
     → at < length kept.tracks → IsMatched q h w
 is-matched kept q h w at given here within =

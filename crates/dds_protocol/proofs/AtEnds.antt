@@ -5,7 +5,7 @@ use Rattle.std.proofs.lemmas.Bool.Decides.{nat_tests}
 use Rattle.dds_base.specs.declared.entity.Entity.{Entity}
 use Rattle.dds_base.specs.declared.entity.Entity.TheVariants as entity
 use Rattle.dds_base.specs.declared.happening.Happening.{Happening}
-use Rattle.dds_base.specs.declared.happening.Happening.TheVariants.{Came, Died, Heard, Left, Looked, Passed, Read, Took}
+use Rattle.dds_base.specs.declared.happening.Happening.TheVariants.{Came, Died, Heard, Joined, Left, Looked, Passed, Read, Took}
 use Rattle.dds_base.specs.declared.qos.ReaderQos.{ReaderQos}
 use Rattle.dds_base.proofs.OwnerLaws.{eqb-refl}
 use Rattle.dds_base.specs.Liveliness.{liveliness_changed_status, turns_alive}
@@ -164,6 +164,8 @@ data_within q (Died w moment ∷ h) =
     none_after (brings_sample q (Died w moment ∷ h)) (data_available_at q h) (length h) (data_within q h)
 data_within q (Left w moment ∷ h) =
     none_after (brings_sample q (Left w moment ∷ h)) (data_available_at q h) (length h) (data_within q h)
+data_within q (Joined m ∷ h) =
+    none_after (brings_sample q (Joined m ∷ h)) (data_available_at q h) (length h) (data_within q h)
 data_within q (Looked status ∷ h) =
     none_after (brings_sample q (Looked status ∷ h)) (data_available_at q h) (length h) (data_within q h)
 
@@ -174,6 +176,7 @@ passed_within (Came a ∷ h) = none_after false (passed_at h) (length h) (passed
 passed_within (Heard w moment ∷ h) = none_after false (passed_at h) (length h) (passed_within h)
 passed_within (Died w moment ∷ h) = none_after false (passed_at h) (length h) (passed_within h)
 passed_within (Left w moment ∷ h) = none_after false (passed_at h) (length h) (passed_within h)
+passed_within (Joined m ∷ h) = none_after false (passed_at h) (length h) (passed_within h)
 passed_within (Read samples ∷ h) = none_after false (passed_at h) (length h) (passed_within h)
 passed_within (Took samples ∷ h) = none_after false (passed_at h) (length h) (passed_within h)
 passed_within (Looked status ∷ h) = none_after false (passed_at h) (length h) (passed_within h)

@@ -20,7 +20,9 @@ use Rattle.dds_base.specs.declared.qos.MatchedWriter.{MatchedWriter}
 use Rattle.dds_base.specs.Checked.{unknown_prefix, same_prefix, same_entity, has_kind, prefix_count, entity_count, is_bad_writer, is_bad_reader, is_bad_peer, has_bad_parameter, has_inconsistent_policy, check_refusal}
 use Rattle.dds_base.specs.Matched.{same_topic, of_matched_writers}
 use Rattle.dds_base.specs.MatchedAt.{of_writers_in}
-use Rattle.dds_base.specs.Ownership.{HaveOwnGuids}
+use Rattle.dds_base.specs.Ownership.{HaveOwnGuids, joined_in, writer_of}
+use Rattle.dds_base.specs.declared.happening.Happening.{Happening}
+use Rattle.dds_base.proofs.JoinLaws.{nobody-joined, still-of-opening}
 use Rattle.dds_base.specs.declared.endpoint.Endpoint.{Endpoint}
 use Rattle.dds_base.specs.declared.config.Config.{Config}
 use Rattle.dds_protocol.specs.Claims.{Receiver, Names, IsNumbered, IsWriter, IsReader, IsToReader, every_reader, every_peer, participant_entity}
@@ -265,10 +267,15 @@ guid_once peers good topic g =
     (λ a b. (prefix-Decides a b).0) good.prefixes g.prefix in
     omega arith
 
-own_guids : (peers : List PeerConfig) (r : ReaderConfig) → IsChecked peers → HaveOwnGuids (reader_qos peers r)
-own_guids peers r good zero w a b at_v at_w same = absurd cc
-own_guids peers r good (suc i) zero a b at_v at_w same = absurd cc
-own_guids peers r good (suc i) (suc j) a b at_v at_w same =
+-- no two of these writers have one GUID
+abbrev OwnGuids : List MatchedWriter → Type 0
+OwnGuids ws = (v w : ℕ) (a b : MatchedWriter) → writer_of ws v ≡ Some a → writer_of ws w ≡ Some b → a.guid ≡ b.guid
+    → v ≡ w
+
+opening_guids : (peers : List PeerConfig) (r : ReaderConfig) → IsChecked peers → OwnGuids (reader_qos peers r).writers
+opening_guids peers r good zero w a b at_v at_w same = absurd cc
+opening_guids peers r good (suc i) zero a b at_v at_w same = absurd cc
+opening_guids peers r good (suc i) (suc j) a b at_v at_w same =
     let once = guid_once peers good r.topic a.guid in
     let this = is_of-itself a a refl in
     let that = is_of-itself a b same in
@@ -279,6 +286,12 @@ own_guids peers r good (suc i) (suc j) a b at_v at_w same =
     λ before. let two = two_at_least (is_of a.guid)
     (writer_qos r.topic peers) j i b a before at_w at_v that this in omega arith in
     omega arith
+
+own_guids : (peers : List PeerConfig) (r : ReaderConfig) → IsChecked peers → (h : List Happening) → joined_in h ≡ []
+    → HaveOwnGuids (reader_qos peers r) h
+own_guids peers r good h none =
+    subst (λ (ws : List MatchedWriter). OwnGuids ws) (sym (nobody-joined (reader_qos peers r) h none))
+    (opening_guids peers r good)
 
 -- the rows of the opening and the QoS name the same writers, in one order
 
@@ -325,10 +338,12 @@ tell_apart config peer reader fits at_peer at_reader =
     (λ i p n w. told p w) reader.topic 1 config.peers in
     record {
       own_guids = own_guids config.peers reader good;
-      each_handle = λ handle low high. (omega arith, omega arith);
+      each_handle = λ h handle low high. still-of-opening (reader_qos config.peers reader) h handle
+          (omega arith) (omega arith);
       each_writer =
-          λ writer handle named. let within = publication-within 1 handle
-          (matched_writers reader.topic 1 config.peers) writer named in (omega arith, omega arith);
+          λ h writer handle named. let within = publication-within 1 handle
+          (matched_writers reader.topic 1 config.peers) writer named in
+          still-of-opening (reader_qos config.peers reader) h handle (omega arith) (omega arith);
     }
 
 -- ---- a name of the configuration is that of one writer

@@ -12,7 +12,7 @@ use Rattle.dds_base.specs.declared.happening.PassedRun.{PassedRun}
 use Rattle.dds_base.specs.declared.key.Key.{Key}
 use Rattle.dds_base.specs.declared.qos.HistoryQos.TheVariants.{KeepAll}
 use Rattle.dds_base.specs.Checked.{check_refusal}
-use Rattle.dds_base.specs.Ownership.{IsMatched, HaveOwnGuids, registered_writers, owner_of}
+use Rattle.dds_base.specs.Ownership.{IsMatched, HaveOwnGuids, joined_in, registered_writers, owner_of}
 use Rattle.dds_protocol.specs.Noticing.{world_ended}
 use Rattle.dds_machine.specs.declared.call.Call.TheVariants.{AssertLiveliness}
 use Rattle.dds_base.specs.declared.endpoint.Endpoint.{Endpoint}
@@ -123,15 +123,16 @@ KeepAllIsKept = (tests : AllTests) (writer reader : Endpoint) (m after : Machine
     → Run tests sent m events replies last after
     → LosesNoneFrom (owed_from (writer_at after writer) reader) writer reader events replies
 
--- A reader of these peers tells its matched writers apart: no two have one GUID, and each publication handle, from 1
--- on, is that of one.
+-- A reader of these peers tells the writers apart that it is matched with from the opening on: no two have one GUID, and
+-- each publication handle, from 1 on, is that of one, whatever has happened.
 pub record TellsWritersApart (peers : List PeerConfig) (reader : ReaderConfig) : Type 0 where
-  pub own_guids : HaveOwnGuids (reader_qos peers reader)
-  pub each_handle : (handle : ℕ) → 1 ≤ handle → handle ≤ length (matched_writers reader.topic 1 peers)
-      → IsMatched (reader_qos peers reader) handle
-  pub each_writer : (writer : Endpoint) (handle : ℕ)
+  pub own_guids : (h : List Happening) → joined_in h ≡ [] → HaveOwnGuids (reader_qos peers reader) h
+  pub each_handle : (h : List Happening) (handle : ℕ) → 1 ≤ handle
+      → handle ≤ length (matched_writers reader.topic 1 peers)
+      → IsMatched (reader_qos peers reader) h handle
+  pub each_writer : (h : List Happening) (writer : Endpoint) (handle : ℕ)
       → publication_among (matched_writers reader.topic 1 peers) writer ≡ Some handle
-      → IsMatched (reader_qos peers reader) handle
+      → IsMatched (reader_qos peers reader) h handle
 
 -- so does each reader of a configuration that is not refused
 abbrev pub ReadersTellWritersApart : Type 0
@@ -140,10 +141,11 @@ ReadersTellWritersApart =
     → Contains config.peers peer → Contains peer.readers reader
     → TellsWritersApart config.peers reader
 
--- at each of its readers an instance has an owner wherever a writer is registered for it
+-- at each of its readers an instance has an owner wherever a writer is registered for it, if nobody joined that the
+-- configuration does not list
 abbrev pub OwnersExist : Type 0
 OwnersExist = (config : Config) (peer : PeerConfig) (reader : ReaderConfig) (i : Key) (h : List Happening)
-    → check_refusal config.peers ≡ None → Contains config.peers peer
+    → check_refusal config.peers ≡ None → Contains config.peers peer → joined_in h ≡ []
     → Contains peer.readers reader → registered_writers (reader_qos config.peers reader) i h ≢ []
     → IsSome (owner_of (reader_qos config.peers reader) h (registered_writers (reader_qos config.peers reader) i h))
 

@@ -1,8 +1,5 @@
 //! A reader's cache.
 
-ghost use Rattle.std.specs.Prelude.{◌≡◌, ◌≤◌, length, IfOk};
-ghost use Rattle.dds_cache.specs.Standing.{qos_of};
-
 use dds_base::{
     Arrival, Change, ChangeKind, EntityId, Guid, GuidPrefix, Handle, HistoryQos, Key,
     MatchedWriter, Moment, Octets, OwnershipQos, ReaderConfig, ReaderQos, ReliabilityQos, Sequence,
@@ -22,9 +19,7 @@ fn writer() -> MatchedWriter {
     }
 }
 
-fn qos(alloc: Global) -> Result<ReaderQos, AllocError>
-    ensures { IfOk result (λ qos. 1 ≤ length qos.writers) }
-{
+fn qos(alloc: Global) -> Result<ReaderQos, AllocError> {
     let writers = [writer()].to_vec(alloc)?;
     Ok(ReaderQos {
         ownership: OwnershipQos::Shared,
@@ -37,9 +32,7 @@ fn qos(alloc: Global) -> Result<ReaderQos, AllocError>
     })
 }
 
-fn arrival(alloc: Global) -> Arrival
-    ensures { result.writer ≡ 1 }
-{
+fn arrival(alloc: Global) -> Arrival {
     Arrival {
         writer: Handle::new(1),
         number: Sn::new(1),
@@ -55,18 +48,12 @@ fn arrival(alloc: Global) -> Arrival
 }
 
 /// Tries to have a change come; whether it did.
-fn comes(alloc: Global, cache: &mut ReaderCache) -> bool
-    requires matched { 1 ≤ length (qos_of cache.old).writers }
-    ensures qos { qos_of cache.new ≡ qos_of cache.old }
-{
+fn comes(alloc: Global, cache: &mut ReaderCache) -> bool {
     cache.reserve(1).is_ok() && cache.come(arrival(alloc)).is_ok()
 }
 
 /// A change comes; whether it was refused at first.
-fn come(alloc: Global, cache: &mut ReaderCache) -> bool
-    requires matched { 1 ≤ length (qos_of cache.old).writers }
-    ensures qos { qos_of cache.new ≡ qos_of cache.old }
-{
+fn come(alloc: Global, cache: &mut ReaderCache) -> bool {
     if comes(alloc, cache) {
         return false;
     }
@@ -75,10 +62,7 @@ fn come(alloc: Global, cache: &mut ReaderCache) -> bool
 }
 
 /// How many of so many changes were refused at first.
-fn come_all(alloc: Global, cache: &mut ReaderCache, count: u32) -> u32
-    requires matched { 1 ≤ length (qos_of cache.old).writers }
-    ensures qos { qos_of cache.new ≡ qos_of cache.old }
-{
+fn come_all(alloc: Global, cache: &mut ReaderCache, count: u32) -> u32 {
     let mut refused = 0u32;
     for _ in 0..count {
         if come(alloc, cache) {
@@ -99,9 +83,7 @@ pub fn refused(alloc: Global) -> (u32, u32) {
     }
 }
 
-fn of_a_cache(alloc: Global, qos: ReaderQos) -> (u32, u32)
-    requires { 1 ≤ length qos.writers }
-{
+fn of_a_cache(alloc: Global, qos: ReaderQos) -> (u32, u32) {
     let mut cache = ReaderCache::open(alloc, qos);
     let first = come_all(alloc, &mut cache, 10);
     (first, come_all(alloc, &mut cache, 1000))

@@ -369,12 +369,12 @@ how_kept o new (Ok step) same = tt
 how_kept o new (Err e) same = all_stand o new same
 
 -- what the proxy of a writer leaves alone, the reader does, and so for its refusals
-pub keeps_all : {S : Type 0} {Stands : S → List Happening → Type 0} {policies : S → ReaderQos} {spare : S → ℕ}
+pub keeps_all : {S : Type 0} {Stands : S → List Happening → Type 0} {policies : S → ReaderQos} {matched spare : S → ℕ}
     {reader : Proxies} {items : List KnownWriter} {writer : ℕ} {proxy new : KnownWriter} {before after : S}
     {answer : Result Step Code}
     → Opened reader items writer proxy → KeepsHow proxy.how new.how answer
-    → ProxyKeepsRest Stands policies spare proxy.proxy new.proxy before after answer
-    → KeepsRest Stands policies spare writer reader
+    → ProxyKeepsRest Stands policies matched spare proxy.proxy new.proxy before after answer
+    → KeepsRest Stands policies matched spare writer reader
     (record { writers = slice_set items writer new }) before after answer
 keeps_all {reader = reader} {items} {writer} {new = new} {answer = answer} o hows keeps = record {
   sayable = keeps.sayable;
@@ -384,6 +384,7 @@ keeps_all {reader = reader} {items} {writer} {new = new} {answer = answer} o how
   err_how = how_kept o new answer hows.err;
   count = same_count o new;
   qos = keeps.qos;
+  writers = keeps.writers;
   err = stays_all o new answer keeps.err;
   err_sink = keeps.err_sink;
   memory = keeps.memory;

@@ -9,18 +9,24 @@ use Rattle.dds_base.specs.declared.key.Key.{Key}
 use Rattle.dds_base.specs.declared.qos.ReaderQos.{ReaderQos}
 use Rattle.dds_base.specs.Happening.{is_taken}
 
+-- this is the publication handle of one of so many matched writers
+abbrev pub IsAmong : ℕ → ℕ → Type 0
+IsAmong writers publication = (0 < publication) × (publication ≤ writers)
+
 -- no access returned what had not happened
 abbrev pub NoneTakenAhead : List Happening → Type 0
 NoneTakenAhead h = (i : Key) (j : ℕ) → length h < j → is_taken (record { key = i; position = j }) h ≡ false
 
 -- what an entry more leaves alone, and how it may be refused: of a sink, which is seen by what it stands for, its
--- policies, and how many more entries can't fail
-pub record SinkKeepsRest {S : Type 0} (Stands : S → List Happening → Type 0) (policies : S → ReaderQos) (spare : S → ℕ)
-    (before after : S) (answer : Result (Unit {0}) Code) : Type 0 where
+-- policies, how many writers are matched, and how many more entries can't fail
+pub record SinkKeepsRest {S : Type 0} (Stands : S → List Happening → Type 0) (policies : S → ReaderQos)
+    (matched spare : S → ℕ) (before after : S) (answer : Result (Unit {0}) Code) : Type 0 where
   -- a refusal leaves what happened as it was
   pub err : OnErr answer ((h : List Happening) → Stands before h → Stands after h)
   -- the policies stay
   pub qos : policies after ≡ policies before
+  -- as many writers are matched
+  pub writers : matched after ≡ matched before
   -- it takes the memory of one entry at most
   pub room : spare before ≤ spare after + 1
   -- where there is memory for an entry it succeeds

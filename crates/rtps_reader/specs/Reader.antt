@@ -107,9 +107,9 @@ pub record TakesHeartbeat (match : Match) (t : Tracked) (h : List Happening) (he
   pub stands : Stands after
 
 -- what any submessage of a writer leaves alone, and how it may be refused: of the reader, and of its sink, which is
--- seen by what it stands for, its policies, and how many more entries can't fail
-pub record KeepsRest {S : Type 0} (Stands : S → List Happening → Type 0) (policies : S → ReaderQos) (spare : S → ℕ)
-    (writer : ℕ) (old new : Proxies) (before after : S) (answer : Result Step Code) : Type 0 where
+-- seen by what it stands for, its policies, how many writers are matched, and how many more entries can't fail
+pub record KeepsRest {S : Type 0} (Stands : S → List Happening → Type 0) (policies : S → ReaderQos)
+    (matched spare : S → ℕ) (writer : ℕ) (old new : Proxies) (before after : S) (answer : Result Step Code) : Type 0 where
   -- an ACKNACK that is due can be written
   pub sayable : IfOk answer (λ step. IfSome step.acknack IsSayable)
   -- nothing becomes known of other writers
@@ -122,6 +122,8 @@ pub record KeepsRest {S : Type 0} (Stands : S → List Happening → Type 0) (po
   pub count : count_of new ≡ count_of old
   -- the policies stay
   pub qos : policies after ≡ policies before
+  -- as many are matched
+  pub writers : matched after ≡ matched before
   -- a refusal leaves all that is known as it was
   pub err : OnErr answer (AllStay old new)
   -- and so how it stands to each

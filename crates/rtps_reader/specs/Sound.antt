@@ -52,11 +52,12 @@ pub record KeepsHow (old new : Attachment) (answer : Result Step Code) : Type 0 
 
 -- what any submessage leaves alone, and how it may be refused: at the proxy, and at the sink, as KeepsRest has it of a
 -- reader
-pub record ProxyKeepsRest {S : Type 0} (Stands : S → List Happening → Type 0) (policies : S → ReaderQos) (spare : S → ℕ)
-    (old new : WriterProxy) (before after : S) (answer : Result Step Code) : Type 0 where
+pub record ProxyKeepsRest {S : Type 0} (Stands : S → List Happening → Type 0) (policies : S → ReaderQos)
+    (matched spare : S → ℕ) (old new : WriterProxy) (before after : S) (answer : Result Step Code) : Type 0 where
   pub sound : IsSound new
   pub sayable : IfOk answer (λ step. IfSome step.acknack IsSayable)
   pub qos : policies after ≡ policies before
+  pub writers : matched after ≡ matched before
   pub err : OnErr answer (SameTracked (tracked old) (tracked new))
   pub err_sink : OnErr answer ((h : List Happening) → Stands before h → Stands after h)
   pub memory : IfErr answer (λ code. code ≡ Memory)

@@ -5,7 +5,7 @@
 ghost use Rattle.std.specs.Prelude.{◌≡◌, ℕ, ◌≤◌, max, List, length, true, false, None, OnOk, IsOk, IfOk};
 ghost use Rattle.dds_base.specs.Bounds.{max_sn};
 ghost use Rattle.dds_base.specs.declared.happening.Happening.{Happening};
-ghost use Rattle.dds_base.specs.Ownership.{IsMatched};
+ghost use Rattle.rtps_reader.specs.Entering.{IsAmong};
 ghost use Rattle.dds_base.specs.Counts.{is_later};
 ghost use Rattle.rtps_sets.specs.Window.{window_place};
 ghost use Rattle.rtps_reader.specs.Tracked.{SameTracked};
@@ -46,7 +46,7 @@ impl WriterProxy {
         heartbeat: &HeartbeatSeen,
     ) -> Result<Step, Code>
         requires sound { IsSound self.old }
-        requires matched { IsMatched (S.qos sink.old) source.now.publication }
+        requires matched { IsAmong (S.writers sink.old) source.now.publication }
         requires small { heartbeat.now.first ≤ max_sn }
         ensures meets { IfOk result (λ step. (h : List Happening) → S.stands sink.old h
             → is_later (tracked self.old).count heartbeat.now.count ≡ true
@@ -56,7 +56,7 @@ impl WriterProxy {
             → (self.new ≡ self.old) × (sink.new ≡ sink.old) × IsOk result
             × IfOk result (λ step. IsIdle (tracked self.old).place step) }
         ensures few { IfOk result (λ step. length step.passed ≤ 257) }
-        ensures keeps { ProxyKeepsRest S.stands S.qos S.spare
+        ensures keeps { ProxyKeepsRest S.stands S.qos S.writers S.spare
             self.old self.new sink.old sink.new result }
     {
         if !self.is_later(heartbeat.count) {
@@ -79,13 +79,13 @@ impl WriterProxy {
         change: Change,
     ) -> Result<Step, Code>
         requires sound { IsSound self.old }
-        requires matched { IsMatched (S.qos sink.old) source.now.publication }
+        requires matched { IsAmong (S.writers sink.old) source.now.publication }
         requires small { number ≤ max_sn }
         ensures meets { IfOk result (λ step. (h : List Happening) → S.stands sink.old h
             → MeetsChange Waiting (match_of (S.qos sink.old) source.now)
             (tracked self.old) h number change step (SameTracked (tracked self.new)) (S.stands sink.new)) }
         ensures few { IfOk result (λ step. length step.passed ≤ 1) }
-        ensures keeps { ProxyKeepsRest S.stands S.qos S.spare
+        ensures keeps { ProxyKeepsRest S.stands S.qos S.writers S.spare
             self.old self.new sink.old sink.new result }
     {
         self.reserve(sink)?;
@@ -110,7 +110,7 @@ impl WriterProxy {
         heartbeat: &HeartbeatSeen,
     ) -> Result<Step, Code>
         requires sound { IsSound self.old }
-        requires matched { IsMatched (S.qos sink.old) source.now.publication }
+        requires matched { IsAmong (S.writers sink.old) source.now.publication }
         ensures meets { IfOk result (λ step. (h : List Happening) → S.stands sink.old h
             → is_later (tracked self.old).count heartbeat.now.count ≡ true
             → MeetsBeat Waiting (match_of (S.qos sink.old) source.now)
@@ -120,7 +120,7 @@ impl WriterProxy {
             → (self.new ≡ self.old) × (sink.new ≡ sink.old) × IsOk result
             × IfOk result (λ step. IsIdle (tracked self.old).place step) }
         ensures few { IfOk result (λ step. length step.passed ≤ 257) }
-        ensures keeps { ProxyKeepsRest S.stands S.qos S.spare
+        ensures keeps { ProxyKeepsRest S.stands S.qos S.writers S.spare
             self.old self.new sink.old sink.new result }
     {
         if !self.is_later(heartbeat.count) {

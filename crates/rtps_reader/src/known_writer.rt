@@ -6,7 +6,7 @@ ghost use Rattle.std.specs.Prelude.{◌≡◌, ℕ, ◌≤◌, List, length, tru
 ghost use Rattle.dds_base.specs.Bounds.{max_sn};
 ghost use Rattle.dds_base.specs.declared.code.Code.TheVariants.{Memory};
 ghost use Rattle.dds_base.specs.declared.happening.Happening.{Happening};
-ghost use Rattle.dds_base.specs.Ownership.{IsMatched};
+ghost use Rattle.rtps_reader.specs.Entering.{IsAmong};
 ghost use Rattle.dds_base.specs.Counts.{is_later};
 ghost use Rattle.rtps_reader.specs.Tracked.{fresh, with_data, with_gap, SameTracked};
 ghost use Rattle.rtps_reader.specs.Answer.{IsIdle};
@@ -54,7 +54,7 @@ impl KnownWriter {
         change: Change,
     ) -> Result<Step, Code>
         requires sound { IsSound self.old.proxy }
-        requires matched { IsMatched (S.qos sink.old) source.now.publication }
+        requires matched { IsAmong (S.writers sink.old) source.now.publication }
         requires small { number ≤ max_sn }
         ensures meets { IfOk result (λ step. (h : List Happening) → S.stands sink.old h
             → MeetsNews self.old.how (match_of (S.qos sink.old) source.now)
@@ -62,7 +62,7 @@ impl KnownWriter {
             (SameTracked (tracked self.new.proxy)) (S.stands sink.new)) }
         ensures few { IfOk result (λ step. length step.passed ≤ 257) }
         ensures how { KeepsHow self.old.how self.new.how result }
-        ensures keeps { ProxyKeepsRest S.stands S.qos S.spare
+        ensures keeps { ProxyKeepsRest S.stands S.qos S.writers S.spare
             self.old.proxy self.new.proxy sink.old sink.new result }
     {
         match self.how {
@@ -81,7 +81,7 @@ impl KnownWriter {
         change: Change,
     ) -> Result<Step, Code>
         requires sound { IsSound self.old.proxy }
-        requires matched { IsMatched (S.qos sink.old) source.now.publication }
+        requires matched { IsAmong (S.writers sink.old) source.now.publication }
         requires small { number ≤ max_sn }
         ensures meets { IfOk result (λ step. (h : List Happening) → S.stands sink.old h
             → MeetsChange self.old.how (match_of (S.qos sink.old) source.now)
@@ -89,7 +89,7 @@ impl KnownWriter {
             (SameTracked (tracked self.new.proxy)) (S.stands sink.new)) }
         ensures few { IfOk result (λ step. length step.passed ≤ 1) }
         ensures how { KeepsHow self.old.how self.new.how result }
-        ensures keeps { ProxyKeepsRest S.stands S.qos S.spare
+        ensures keeps { ProxyKeepsRest S.stands S.qos S.writers S.spare
             self.old.proxy self.new.proxy sink.old sink.new result }
     {
         match self.how {
@@ -122,7 +122,7 @@ impl KnownWriter {
         list: &SnSet,
     ) -> Result<Step, Code>
         requires sound { IsSound self.old.proxy }
-        requires matched { IsMatched (S.qos sink.old) source.now.publication }
+        requires matched { IsAmong (S.writers sink.old) source.now.publication }
         requires small { list.now.base ≤ max_sn }
         ensures meets { IfOk result (λ step. (h : List Happening) → S.stands sink.old h
             → MeetsNews self.old.how (match_of (S.qos sink.old) source.now)
@@ -130,7 +130,7 @@ impl KnownWriter {
             (SameTracked (tracked self.new.proxy)) (S.stands sink.new)) }
         ensures few { IfOk result (λ step. length step.passed ≤ 257) }
         ensures how { KeepsHow self.old.how self.new.how result }
-        ensures keeps { ProxyKeepsRest S.stands S.qos S.spare
+        ensures keeps { ProxyKeepsRest S.stands S.qos S.writers S.spare
             self.old.proxy self.new.proxy sink.old sink.new result }
     {
         match self.how {
@@ -143,14 +143,14 @@ impl KnownWriter {
     /// The place is tried again: where it has not begun nothing is done.
     pub fn resume<S: Sink>(&mut self, sink: &mut S, source: &Source) -> Result<Step, Code>
         requires sound { IsSound self.old.proxy }
-        requires matched { IsMatched (S.qos sink.old) source.now.publication }
+        requires matched { IsAmong (S.writers sink.old) source.now.publication }
         ensures meets { IfOk result (λ step. (h : List Happening) → S.stands sink.old h
             → MeetsNews self.old.how (match_of (S.qos sink.old) source.now)
             no_news (tracked self.old.proxy) h step
             (SameTracked (tracked self.new.proxy)) (S.stands sink.new)) }
         ensures few { IfOk result (λ step. length step.passed ≤ 257) }
         ensures how { KeepsHow self.old.how self.new.how result }
-        ensures keeps { ProxyKeepsRest S.stands S.qos S.spare
+        ensures keeps { ProxyKeepsRest S.stands S.qos S.writers S.spare
             self.old.proxy self.new.proxy sink.old sink.new result }
     {
         match self.how {
@@ -180,7 +180,7 @@ impl KnownWriter {
         heartbeat: &HeartbeatSeen,
     ) -> Result<Step, Code>
         requires sound { IsSound self.old.proxy }
-        requires matched { IsMatched (S.qos sink.old) source.now.publication }
+        requires matched { IsAmong (S.writers sink.old) source.now.publication }
         requires small { heartbeat.now.first ≤ max_sn }
         ensures meets { IfOk result (λ step. (h : List Happening) → S.stands sink.old h
             → is_later (tracked self.old.proxy).count heartbeat.now.count ≡ true
@@ -192,7 +192,7 @@ impl KnownWriter {
             × IfOk result (λ step. IsIdle (tracked self.old.proxy).place step) }
         ensures few { IfOk result (λ step. length step.passed ≤ 257) }
         ensures how { KeepsHow self.old.how self.new.how result }
-        ensures keeps { ProxyKeepsRest S.stands S.qos S.spare
+        ensures keeps { ProxyKeepsRest S.stands S.qos S.writers S.spare
             self.old.proxy self.new.proxy sink.old sink.new result }
     {
         match self.how {
@@ -214,7 +214,7 @@ impl KnownWriter {
         heartbeat: &HeartbeatSeen,
     ) -> Result<Step, Code>
         requires sound { IsSound self.old.proxy }
-        requires matched { IsMatched (S.qos sink.old) source.now.publication }
+        requires matched { IsAmong (S.writers sink.old) source.now.publication }
         requires small { heartbeat.now.first ≤ max_sn }
         ensures meets { IfOk result (λ step. (h : List Happening) → S.stands sink.old h
             → is_later (tracked self.old.proxy).count heartbeat.now.count ≡ true
@@ -226,7 +226,7 @@ impl KnownWriter {
             × IfOk result (λ step. IsIdle (tracked self.old.proxy).place step) }
         ensures few { IfOk result (λ step. length step.passed ≤ 257) }
         ensures how { KeepsHow self.old.how self.new.how result }
-        ensures keeps { ProxyKeepsRest S.stands S.qos S.spare
+        ensures keeps { ProxyKeepsRest S.stands S.qos S.writers S.spare
             self.old.proxy self.new.proxy sink.old sink.new result }
     {
         match self.how {

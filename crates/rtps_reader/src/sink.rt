@@ -7,9 +7,8 @@ ghost use Rattle.dds_base.specs.declared.code.Code.TheVariants.{Memory};
 ghost use Rattle.dds_base.specs.declared.happening.Happening.{Happening};
 ghost use Rattle.dds_base.specs.declared.happening.Happening.TheVariants.{Came, Passed, Heard};
 ghost use Rattle.dds_base.specs.declared.qos.ReaderQos.{ReaderQos};
-ghost use Rattle.dds_base.specs.Ownership.{IsMatched};
 ghost use Rattle.dds_base.specs.Presence.{has_room};
-ghost use Rattle.rtps_reader.specs.Entering.{NoneTakenAhead, SinkKeepsRest};
+ghost use Rattle.rtps_reader.specs.Entering.{IsAmong, NoneTakenAhead, SinkKeepsRest};
 
 use dds_base::{Arrival, Code, Handle, Moment, Sn};
 
@@ -20,8 +19,11 @@ pub trait Sink {
     /// What it keeps stands for this list of what happened, the newest first.
     ghost stands: { Self → List Happening → Type 0 };
 
-    /// The reader's policies and its matched writers.
+    /// The reader's policies, and the writers that it is matched with from the opening on.
     ghost qos: { Self → ReaderQos };
+
+    /// How many writers it is matched with, of the opening or since.
+    ghost writers: { Self → ℕ };
 
     /// How many more entries can't fail.
     ghost spare: { Self → ℕ };
@@ -36,6 +38,8 @@ pub trait Sink {
         ensures stands { (h : List Happening) → stands self.old h → stands self.new h }
         // The policies stay.
         ensures qos { qos self.new ≡ qos self.old }
+        // As many writers are matched.
+        ensures writers { writers self.new ≡ writers self.old }
         // The next `n` entries can't fail.
         ensures ok { OnOk result (n ≤ spare self.new) }
         // It has no less memory than before.
@@ -64,13 +68,13 @@ pub trait Sink {
     /// `Memory` where a growth was refused; nothing has happened then.
     fn come(&mut self, arrival: Arrival) -> Result<(), Code>
         // The writer is a matched one.
-        requires matched { IsMatched (qos self.old) arrival.writer }
+        requires matched { IsAmong (writers self.old) arrival.writer }
         // The change came, and nothing else happened.
         ensures ok { OnOk result ((h : List Happening) → stands self.old h
             → stands self.new (Came arrival ∷ h)) }
-        // It is an entry as each is: the policies stay, it takes the memory of one entry at most, where there is that
+        // It is an entry as each is: the policies and the writers stay, it takes the memory of one entry at most, where there is that
         // it succeeds, and it is refused for want of memory alone, and then leaves what happened as it was.
-        ensures keeps { SinkKeepsRest stands qos spare self.old self.new result };
+        ensures keeps { SinkKeepsRest stands qos writers spare self.old self.new result };
 
     /// Enters that the changes from `first` to `last` of a writer were passed over.
     ///
@@ -79,13 +83,13 @@ pub trait Sink {
     /// `Memory` where a growth was refused; nothing has happened then.
     fn pass(&mut self, writer: Handle, first: Sn, last: Sn) -> Result<(), Code>
         // The writer is a matched one.
-        requires matched { IsMatched (qos self.old) writer }
+        requires matched { IsAmong (writers self.old) writer }
         // They were passed over, and nothing else happened.
         ensures ok { OnOk result ((h : List Happening) → stands self.old h
             → stands self.new (Passed writer first last ∷ h)) }
-        // It is an entry as each is: the policies stay, it takes the memory of one entry at most, where there is that
+        // It is an entry as each is: the policies and the writers stay, it takes the memory of one entry at most, where there is that
         // it succeeds, and it is refused for want of memory alone, and then leaves what happened as it was.
-        ensures keeps { SinkKeepsRest stands qos spare self.old self.new result };
+        ensures keeps { SinkKeepsRest stands qos writers spare self.old self.new result };
 
     /// Enters that a writer asserted its liveliness without a change, at a moment of the reader's peer.
     ///
@@ -94,11 +98,11 @@ pub trait Sink {
     /// `Memory` where a growth was refused; nothing has happened then.
     fn hear(&mut self, writer: Handle, moment: Moment) -> Result<(), Code>
         // The writer is a matched one.
-        requires matched { IsMatched (qos self.old) writer }
+        requires matched { IsAmong (writers self.old) writer }
         // It was heard, and nothing else happened.
         ensures ok { OnOk result ((h : List Happening) → stands self.old h
             → stands self.new (Heard writer moment ∷ h)) }
-        // It is an entry as each is: the policies stay, it takes the memory of one entry at most, where there is that
+        // It is an entry as each is: the policies and the writers stay, it takes the memory of one entry at most, where there is that
         // it succeeds, and it is refused for want of memory alone, and then leaves what happened as it was.
-        ensures keeps { SinkKeepsRest stands qos spare self.old self.new result };
+        ensures keeps { SinkKeepsRest stands qos writers spare self.old self.new result };
 }

@@ -189,6 +189,7 @@ impl StatefulReader {
         ensures stands { (h : List Happening) → S.stands sink.old h → S.stands sink.new h }
         // The policies stay.
         ensures qos { S.qos sink.new ≡ S.qos sink.old }
+        ensures writers { S.writers sink.new ≡ S.writers sink.old }
         // The next submessage can't fail.
         ensures ok { OnOk result (IsReady self.new (S.spare sink.new)) }
         // The sink has no less memory than before.
@@ -224,6 +225,7 @@ impl StatefulReader {
         ensures stands { (h : List Happening) → S.stands sink.old h → S.stands sink.new h }
         // The policies stay.
         ensures qos { S.qos sink.new ≡ S.qos sink.old }
+        ensures writers { S.writers sink.new ≡ S.writers sink.old }
         // The next submessage of the writer can't fail.
         ensures ok { OnOk result (IsReadyAt self.new writer (S.spare sink.new)) }
         // The sink has no less memory than before.
@@ -258,7 +260,7 @@ impl StatefulReader {
         // The writer is a known one.
         requires matched { writer < count_of self.old }
         // The sink knows the matched writers.
-        requires writers { count_of self.old ≤ length (S.qos sink.old).writers }
+        requires writers { count_of self.old ≤ S.writers sink.old }
         // The number is one that the wire has.
         requires number { number ≤ max_sn }
         // Where the place has begun it goes on from what is known with the change, else nothing is done.
@@ -269,7 +271,7 @@ impl StatefulReader {
         // It passes over 257 runs at most.
         ensures few { IfOk result (λ step. length step.passed ≤ 257) }
         // Nothing else changes; a refusal, for want of memory alone, changes nothing at all.
-        ensures keeps { KeepsRest S.stands S.qos S.spare writer
+        ensures keeps { KeepsRest S.stands S.qos S.writers S.spare writer
             self.old self.new sink.old sink.new result }
     {
         let known = &mut self.writers[writer];
@@ -300,7 +302,7 @@ impl StatefulReader {
         // The writer is a known one.
         requires matched { writer < count_of self.old }
         // The sink knows the matched writers.
-        requires writers { count_of self.old ≤ length (S.qos sink.old).writers }
+        requires writers { count_of self.old ≤ S.writers sink.old }
         // The number is one that the wire has.
         requires number { number ≤ max_sn }
         // The change comes, over all before it, or nothing happens; a place that waits begins at one that comes.
@@ -311,7 +313,7 @@ impl StatefulReader {
         // It passes over one run at most.
         ensures few { IfOk result (λ step. length step.passed ≤ 1) }
         // Nothing else changes; a refusal, for want of memory alone, changes nothing at all.
-        ensures keeps { KeepsRest S.stands S.qos S.spare writer
+        ensures keeps { KeepsRest S.stands S.qos S.writers S.spare writer
             self.old self.new sink.old sink.new result }
     {
         let known = &mut self.writers[writer];
@@ -342,7 +344,7 @@ impl StatefulReader {
         // The writer is a known one.
         requires matched { writer < count_of self.old }
         // The sink knows the matched writers.
-        requires writers { count_of self.old ≤ length (S.qos sink.old).writers }
+        requires writers { count_of self.old ≤ S.writers sink.old }
         // The base is one that the wire has.
         requires base { list.now.base ≤ max_sn }
         // Where the place has begun it goes on from what is known with the GAP, else nothing is done.
@@ -353,7 +355,7 @@ impl StatefulReader {
         // It passes over 257 runs at most.
         ensures few { IfOk result (λ step. length step.passed ≤ 257) }
         // Nothing else changes; a refusal, for want of memory alone, changes nothing at all.
-        ensures keeps { KeepsRest S.stands S.qos S.spare writer
+        ensures keeps { KeepsRest S.stands S.qos S.writers S.spare writer
             self.old self.new sink.old sink.new result }
     {
         let known = &mut self.writers[writer];
@@ -394,7 +396,7 @@ impl StatefulReader {
         // The writer is a known one.
         requires matched { writer < count_of self.old }
         // The sink knows the matched writers.
-        requires writers { count_of self.old ≤ length (S.qos sink.old).writers }
+        requires writers { count_of self.old ≤ S.writers sink.old }
         // Where the place has begun it goes on from what is known, else nothing is done.
         ensures meets { IfOk result (λ step. (t : Tracked) (h : List Happening)
             → Tracks self.old writer t → S.stands sink.old h
@@ -403,7 +405,7 @@ impl StatefulReader {
         // It passes over 257 runs at most.
         ensures few { IfOk result (λ step. length step.passed ≤ 257) }
         // Nothing else changes; a refusal, for want of memory alone, changes nothing at all.
-        ensures keeps { KeepsRest S.stands S.qos S.spare writer
+        ensures keeps { KeepsRest S.stands S.qos S.writers S.spare writer
             self.old self.new sink.old sink.new result }
     {
         let known = &mut self.writers[writer];
@@ -434,7 +436,7 @@ impl StatefulReader {
         // The writer is a known one.
         requires matched { writer < count_of self.old }
         // The sink knows the matched writers.
-        requires writers { count_of self.old ≤ length (S.qos sink.old).writers }
+        requires writers { count_of self.old ≤ S.writers sink.old }
         // firstSN is one that the wire has.
         requires first { heartbeat.now.first ≤ max_sn }
         // One of a greater count is heard, begins a place that waits, moves it, and is answered.
@@ -453,7 +455,7 @@ impl StatefulReader {
         // It passes over 257 runs at most.
         ensures few { IfOk result (λ step. length step.passed ≤ 257) }
         // Nothing else changes; a refusal, for want of memory alone, changes nothing at all.
-        ensures keeps { KeepsRest S.stands S.qos S.spare writer
+        ensures keeps { KeepsRest S.stands S.qos S.writers S.spare writer
             self.old self.new sink.old sink.new result }
     {
         let known = &mut self.writers[writer];
@@ -483,7 +485,7 @@ impl StatefulReader {
         // The writer is a known one.
         requires matched { writer < count_of self.old }
         // The sink knows the matched writers.
-        requires writers { count_of self.old ≤ length (S.qos sink.old).writers }
+        requires writers { count_of self.old ≤ S.writers sink.old }
         // firstSN is one that the wire has.
         requires first { heartbeat.now.first ≤ max_sn }
         // One of a greater count is heard, and a place that waits goes on waiting.
@@ -502,7 +504,7 @@ impl StatefulReader {
         // It passes over 257 runs at most.
         ensures few { IfOk result (λ step. length step.passed ≤ 257) }
         // Nothing else changes; a refusal, for want of memory alone, changes nothing at all.
-        ensures keeps { KeepsRest S.stands S.qos S.spare writer
+        ensures keeps { KeepsRest S.stands S.qos S.writers S.spare writer
             self.old self.new sink.old sink.new result }
     {
         let known = &mut self.writers[writer];

@@ -6,7 +6,7 @@ ghost use Rattle.std.specs.Prelude.{◌≡◌, ℕ, ◌+◌, ◌-◌, ◌*◌, �
 ghost use Rattle.dds_base.specs.Bounds.{max_sn, window_width};
 ghost use Rattle.dds_base.specs.declared.code.Code.TheVariants.{Memory};
 ghost use Rattle.dds_base.specs.declared.happening.Happening.{Happening};
-ghost use Rattle.dds_base.specs.Ownership.{IsMatched};
+ghost use Rattle.rtps_reader.specs.Entering.{IsAmong};
 ghost use Rattle.dds_base.specs.Counts.{is_later};
 ghost use Rattle.rtps_sets.specs.Window.{mark_of, window_place, can_mark};
 ghost use Rattle.rtps_sets.specs.declared.window.Mark.TheVariants as mark;
@@ -99,7 +99,7 @@ fn mark_named(window: &mut Window, start: Sn, list: &SnSet)
 
 /// Enters a run from one number to below another, if there is one.
 fn note_run<S: Sink>(sink: &mut S, source: &Source, from: u64, to: u64, runs: &mut Vec<PassedRun>)
-    requires matched { IsMatched (S.qos sink.old) source.now.publication }
+    requires matched { IsAmong (S.writers sink.old) source.now.publication }
     requires runs { vec_len runs.old < vec_capacity runs.old }
     requires spare { 1 ≤ S.spare sink.old }
     ensures runs_is { runs.new.items ≡ runs.old.items ++ run_of from to }
@@ -108,6 +108,7 @@ fn note_run<S: Sink>(sink: &mut S, source: &Source, from: u64, to: u64, runs: &m
     ensures runs { vec_len runs.new ≤ vec_len runs.old + 1 }
     ensures capacity { vec_capacity runs.old ≤ vec_capacity runs.new }
     ensures qos { S.qos sink.new ≡ S.qos sink.old }
+    ensures writers { S.writers sink.new ≡ S.writers sink.old }
     ensures spare { S.spare sink.old ≤ S.spare sink.new + 1 }
 {
     if to <= from {
@@ -132,11 +133,12 @@ fn passed_of(alloc: Global, runs: Vec<PassedRun>, room: &mut Vec<PassedRun>) -> 
 
 /// Enters that the writer's liveliness was asserted, if it was.
 pub fn hear_if<S: Sink>(sink: &mut S, source: &Source, liveliness: bool)
-    requires matched { IsMatched (S.qos sink.old) source.now.publication }
+    requires matched { IsAmong (S.writers sink.old) source.now.publication }
     requires spare { 1 ≤ S.spare sink.old }
     ensures entered { (h : List Happening) → S.stands sink.old h
         → S.stands sink.new (heard_after (match_of (S.qos sink.old) source.now) liveliness h) }
     ensures qos { S.qos sink.new ≡ S.qos sink.old }
+    ensures writers { S.writers sink.new ≡ S.writers sink.old }
     ensures spare { S.spare sink.old ≤ S.spare sink.new + 1 }
 {
     if liveliness {
@@ -241,6 +243,7 @@ impl WriterProxy {
         ensures sound { IsSound self.old → IsSound self.new }
         ensures stands { (h : List Happening) → S.stands sink.old h → S.stands sink.new h }
         ensures qos { S.qos sink.new ≡ S.qos sink.old }
+        ensures writers { S.writers sink.new ≡ S.writers sink.old }
         ensures ok { OnOk result (IsProxyReady self.new (S.spare sink.new)) }
         ensures spare { S.spare sink.old ≤ S.spare sink.new }
         ensures succeeds { IsProxyReady self.old (S.spare sink.old) → IsOk result }
@@ -284,7 +287,7 @@ impl WriterProxy {
     /// Goes over all numbers that can be passed over, and enters them as a run.
     fn pass_over<S: Sink>(&mut self, sink: &mut S, source: &Source, runs: &mut Vec<PassedRun>)
         requires sound { IsSound self.old }
-        requires matched { IsMatched (S.qos sink.old) source.now.publication }
+        requires matched { IsAmong (S.writers sink.old) source.now.publication }
         requires runs { vec_len runs.old < vec_capacity runs.old }
         requires spare { 1 ≤ S.spare sink.old }
         ensures sound { IsSound self.new }
@@ -296,6 +299,7 @@ impl WriterProxy {
         ensures runs { vec_len runs.new ≤ vec_len runs.old + 1 }
         ensures capacity { vec_capacity runs.old ≤ vec_capacity runs.new }
         ensures qos { S.qos sink.new ≡ S.qos sink.old }
+        ensures writers { S.writers sink.new ≡ S.writers sink.old }
         ensures spare { S.spare sink.old ≤ S.spare sink.new + 1 }
         ensures held { self.new.held ≡ self.old.held }
     {
@@ -308,7 +312,7 @@ impl WriterProxy {
     /// Hands on the change at the place, if one is held there and there is room for it.
     fn hand_on<S: Sink>(&mut self, sink: &mut S, source: &Source) -> bool
         requires sound { IsSound self.old }
-        requires matched { IsMatched (S.qos sink.old) source.now.publication }
+        requires matched { IsAmong (S.writers sink.old) source.now.publication }
         requires spare { 1 ≤ S.spare sink.old }
         ensures sound { IsSound self.new }
         ensures handed { result ≡ true
@@ -326,6 +330,7 @@ impl WriterProxy {
             → mark_of self.new.window n ≡ None }
         ensures fewer { result ≡ true → count_held self.new.held + 1 ≡ count_held self.old.held }
         ensures qos { S.qos sink.new ≡ S.qos sink.old }
+        ensures writers { S.writers sink.new ≡ S.writers sink.old }
         ensures spare { S.spare sink.old ≤ S.spare sink.new + 1 }
     {
         let place = self.window.place();
@@ -351,13 +356,14 @@ impl WriterProxy {
     /// Moves the place as far as it can, and notes the runs that are passed over.
     fn advance<S: Sink>(&mut self, sink: &mut S, source: &Source, runs: &mut Vec<PassedRun>)
         requires sound { IsSound self.old }
-        requires matched { IsMatched (S.qos sink.old) source.now.publication }
+        requires matched { IsAmong (S.writers sink.old) source.now.publication }
         requires none { runs.old.items ≡ [] }
         requires len { vec_len runs.old ≡ 0 }
         requires memory { CanMove (count_held self.old.held) (vec_capacity runs.old)
             (S.spare sink.old) }
         ensures sound { IsSound self.new }
         ensures qos { S.qos sink.new ≡ S.qos sink.old }
+        ensures writers { S.writers sink.new ≡ S.writers sink.old }
         ensures moves { Moves (match_of (S.qos sink.old) source.now) (S.stands sink.old)
             (S.stands sink.new)
             (tracked self.old) (window_place self.new.window) runs.new.items (tracked self.new) }
@@ -457,12 +463,13 @@ impl WriterProxy {
     #[inline(always)]
     fn moved<S: Sink>(&mut self, sink: &mut S, source: &Source) -> Step
         requires sound { IsSound self.old }
-        requires matched { IsMatched (S.qos sink.old) source.now.publication }
+        requires matched { IsAmong (S.writers sink.old) source.now.publication }
         requires memory { CanMove (count_held self.old.held) (vec_capacity self.old.runs)
             (S.spare sink.old) }
         ensures sound { IsSound self.new }
         ensures quiet { (result.heard ≡ false) × (result.acknack ≡ None) × (result.begun ≡ None) }
         ensures qos { S.qos sink.new ≡ S.qos sink.old }
+        ensures writers { S.writers sink.new ≡ S.writers sink.old }
         ensures moves { Moves (match_of (S.qos sink.old) source.now) (S.stands sink.old)
             (S.stands sink.new)
             (tracked self.old) result.to result.passed (tracked self.new) }
@@ -503,13 +510,14 @@ impl WriterProxy {
         change: Change,
     ) -> Step
         requires sound { IsSound self.old }
-        requires matched { IsMatched (S.qos sink.old) source.now.publication }
+        requires matched { IsAmong (S.writers sink.old) source.now.publication }
         requires next { IsNext (tracked self.old) number }
         requires small { number ≤ max_sn }
         requires spare { 1 ≤ S.spare sink.old }
         ensures sound { IsSound self.new }
         ensures quiet { (result.heard ≡ false) × (result.acknack ≡ None) × (result.begun ≡ None) }
         ensures qos { S.qos sink.new ≡ S.qos sink.old }
+        ensures writers { S.writers sink.new ≡ S.writers sink.old }
         ensures moves { Moves (match_of (S.qos sink.old) source.now) (S.stands sink.old)
             (S.stands sink.new)
             (with_data number change (tracked self.old)) result.to result.passed
@@ -535,7 +543,7 @@ impl WriterProxy {
         change: Change,
     ) -> Result<Step, Code>
         requires sound { IsSound self.old }
-        requires matched { IsMatched (S.qos sink.old) source.now.publication }
+        requires matched { IsAmong (S.writers sink.old) source.now.publication }
         requires small { number ≤ max_sn }
         ensures moves { IfOk result
             (λ step. Moves (match_of (S.qos sink.old) source.now) (S.stands sink.old)
@@ -544,7 +552,7 @@ impl WriterProxy {
         ensures quiet { IfOk result
             (λ step. (step.heard ≡ false) × (step.acknack ≡ None) × (step.begun ≡ None)) }
         ensures few { IfOk result (λ step. length step.passed ≤ 257) }
-        ensures keeps { ProxyKeepsRest S.stands S.qos S.spare
+        ensures keeps { ProxyKeepsRest S.stands S.qos S.writers S.spare
             self.old self.new sink.old sink.new result }
     {
         self.reserve(sink)?;
@@ -587,7 +595,7 @@ impl WriterProxy {
     /// A change comes over all numbers before its own, which are entered as a run.
     pub fn come_over<S: Sink>(&mut self, sink: &mut S, source: &Source, arrival: Arrival) -> Step
         requires sound { IsSound self.old }
-        requires matched { IsMatched (S.qos sink.old) source.now.publication }
+        requires matched { IsAmong (S.writers sink.old) source.now.publication }
         requires forward { window_place self.old.window ≤ arrival.number }
         requires small { arrival.number ≤ max_sn }
         requires writer { arrival.writer ≡ source.now.publication }
@@ -597,6 +605,7 @@ impl WriterProxy {
         ensures sound { IsSound self.new }
         ensures quiet { (result.heard ≡ false) × (result.acknack ≡ None) × (result.begun ≡ None) }
         ensures qos { S.qos sink.new ≡ S.qos sink.old }
+        ensures writers { S.writers sink.new ≡ S.writers sink.old }
         ensures moved { HasMoved (match_of (S.qos sink.old) source.now) (S.stands sink.old)
             (S.stands sink.new)
             (tracked self.old) arrival.number arrival.change result.to result.passed
@@ -629,7 +638,7 @@ impl WriterProxy {
         change: Change,
     ) -> Result<Step, Code>
         requires sound { IsSound self.old }
-        requires matched { IsMatched (S.qos sink.old) source.now.publication }
+        requires matched { IsAmong (S.writers sink.old) source.now.publication }
         requires small { number ≤ max_sn }
         ensures jumps { IfOk result
             (λ step. JumpMoves (match_of (S.qos sink.old) source.now) (S.stands sink.old)
@@ -638,7 +647,7 @@ impl WriterProxy {
         ensures quiet { IfOk result
             (λ step. (step.heard ≡ false) × (step.acknack ≡ None) × (step.begun ≡ None)) }
         ensures few { IfOk result (λ step. length step.passed ≤ 1) }
-        ensures keeps { ProxyKeepsRest S.stands S.qos S.spare
+        ensures keeps { ProxyKeepsRest S.stands S.qos S.writers S.spare
             self.old self.new sink.old sink.new result }
     {
         self.reserve(sink)?;
@@ -661,7 +670,7 @@ impl WriterProxy {
         list: &SnSet,
     ) -> Result<Step, Code>
         requires sound { IsSound self.old }
-        requires matched { IsMatched (S.qos sink.old) source.now.publication }
+        requires matched { IsAmong (S.writers sink.old) source.now.publication }
         requires small { list.now.base ≤ max_sn }
         ensures moves { IfOk result
             (λ step. Moves (match_of (S.qos sink.old) source.now) (S.stands sink.old)
@@ -670,7 +679,7 @@ impl WriterProxy {
         ensures quiet { IfOk result
             (λ step. (step.heard ≡ false) × (step.acknack ≡ None) × (step.begun ≡ None)) }
         ensures few { IfOk result (λ step. length step.passed ≤ 257) }
-        ensures keeps { ProxyKeepsRest S.stands S.qos S.spare
+        ensures keeps { ProxyKeepsRest S.stands S.qos S.writers S.spare
             self.old self.new sink.old sink.new result }
     {
         self.reserve(sink)?;
@@ -681,7 +690,7 @@ impl WriterProxy {
     /// The place is tried again.
     pub fn resume<S: Sink>(&mut self, sink: &mut S, source: &Source) -> Result<Step, Code>
         requires sound { IsSound self.old }
-        requires matched { IsMatched (S.qos sink.old) source.now.publication }
+        requires matched { IsAmong (S.writers sink.old) source.now.publication }
         ensures moves { IfOk result
             (λ step. Moves (match_of (S.qos sink.old) source.now) (S.stands sink.old)
             (S.stands sink.new)
@@ -689,7 +698,7 @@ impl WriterProxy {
         ensures quiet { IfOk result
             (λ step. (step.heard ≡ false) × (step.acknack ≡ None) × (step.begun ≡ None)) }
         ensures few { IfOk result (λ step. length step.passed ≤ 257) }
-        ensures keeps { ProxyKeepsRest S.stands S.qos S.spare
+        ensures keeps { ProxyKeepsRest S.stands S.qos S.writers S.spare
             self.old self.new sink.old sink.new result }
     {
         self.reserve(sink)?;
@@ -704,7 +713,7 @@ impl WriterProxy {
         heartbeat: &HeartbeatSeen,
     ) -> Result<Step, Code>
         requires sound { IsSound self.old }
-        requires matched { IsMatched (S.qos sink.old) source.now.publication }
+        requires matched { IsAmong (S.writers sink.old) source.now.publication }
         requires small { heartbeat.now.first ≤ max_sn }
         ensures moves { IfOk result
             (λ step. HeartbeatMoves (match_of (S.qos sink.old) source.now) (S.stands sink.old)
@@ -715,7 +724,7 @@ impl WriterProxy {
             × (sink.new ≡ sink.old) × IsOk result
             × IfOk result (λ step. IsIdle (tracked self.old).place step) }
         ensures few { IfOk result (λ step. length step.passed ≤ 257) }
-        ensures keeps { ProxyKeepsRest S.stands S.qos S.spare
+        ensures keeps { ProxyKeepsRest S.stands S.qos S.writers S.spare
             self.old self.new sink.old sink.new result }
     {
         if !is_later(self.count, heartbeat.count) {

@@ -1,8 +1,5 @@
 //! How long a take of many instances takes, which no clause says.
 
-ghost use Rattle.std.specs.Prelude.{◌≡◌, ◌≤◌, length, IfOk};
-ghost use Rattle.dds_cache.specs.Standing.{qos_of};
-
 use dds_base::{
     Arrival, Change, ChangeKind, EntityId, Guid, GuidPrefix, Handle, HistoryQos, Key, Masks,
     MatchedWriter, Moment, Octets, OwnershipQos, ReaderConfig, ReaderQos, ReliabilityQos,
@@ -22,9 +19,7 @@ const WRITER: MatchedWriter = MatchedWriter {
     lease: Some(42_949_672_960),
 };
 
-fn qos(alloc: Global) -> Result<ReaderQos, AllocError>
-    ensures { IfOk result (λ qos. 1 ≤ length qos.writers) }
-{
+fn qos(alloc: Global) -> Result<ReaderQos, AllocError> {
     let writers = [WRITER].to_vec(alloc)?;
     Ok(ReaderQos {
         ownership: OwnershipQos::Shared,
@@ -37,17 +32,8 @@ fn qos(alloc: Global) -> Result<ReaderQos, AllocError>
     })
 }
 
-/// A reader with a matched writer.
-#[derive(Drop)]
-struct Reader {
-    cache: ReaderCache,
-    ghost one_writer: { 1 ≤ length (qos_of cache).writers },
-}
-
 /// A write of a key of its own for each number.
-fn numbered(alloc: Global, number: u16) -> Arrival
-    ensures { result.writer ≡ 1 }
-{
+fn numbered(alloc: Global, number: u16) -> Arrival {
     let [high, low] = number.to_be_bytes();
     Arrival {
         writer: Handle::new(1),
@@ -63,9 +49,9 @@ fn numbered(alloc: Global, number: u16) -> Arrival
     }
 }
 
-fn come_numbered(alloc: Global, reader: &mut Reader, count: u16) {
+fn come_numbered(alloc: Global, cache: &mut ReaderCache, count: u16) {
     for number in 0..count {
-        let _ = reader.cache.come(numbered(alloc, number));
+        let _ = cache.come(numbered(alloc, number));
     }
 }
 
@@ -74,16 +60,11 @@ fn count_taken(alloc: Global, count: u16) -> usize {
     let Ok(qos) = qos(alloc) else {
         return 0;
     };
-    let mut reader = Reader {
-        cache: ReaderCache::open(alloc, qos),
-    };
-    come_numbered(alloc, &mut reader, count);
+    let mut cache = ReaderCache::open(alloc, qos);
+    come_numbered(alloc, &mut cache, count);
     let (max, masks) = (-1, Masks::ANY);
     let selection = Selection::Any { max, masks };
-    match reader
-        .cache
-        .access(AccessKind::Take, selection, &Everything)
-    {
+    match cache.access(AccessKind::Take, selection, &Everything) {
         Ok(samples) => samples.as_slice().len(),
         Err(_) => 0,
     }

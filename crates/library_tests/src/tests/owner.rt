@@ -11,7 +11,8 @@ use std::alloc::Global;
 
 /// `open` begins anew, with the strength of each matched writer, and after a dot the octet by which its GUID differs.
 /// `register`, `unregister` and `drop` have a writer: who owns then, 0 for nobody. `other` registers one for another
-/// instance, and says who owns that. `strength` has a writer and the strength that a change of it said: who owns the
+/// instance, and says who owns that. `join` has the strength and the octet of a writer that joins; so has `join_unseen`, of
+/// one for which the instance has no place. `strength` has a writer and the strength that a change of it said: who owns the
 /// one instance, and who the other. `registered` has a writer, `anybody` nothing, `accepts` and `leaves` a writer, a
 /// kind and perhaps a strength: whether its change would be accepted, and whether anybody would be registered then.
 const OWNERS: &str = "\
@@ -95,6 +96,23 @@ accepts 2 write -2 => false
 # The strength of a handle that names no matched writer is nobody's.
 strength 4 99 => 2 3
 strength 0 99 => 2 3
+
+# One that joins has the next handle, is as strong as it was announced, and owns once a change of it came.
+open 5.2 => 0
+register 1 => 1
+join 9.3 => 1
+registered 2 => false
+accepts 2 write => true
+register 2 => 2
+strength 2 4 => 1 0
+
+# Before the instance has a place for it, its change would register it all the same.
+open 5.2 => 0
+join_unseen 9.3 => 0
+leaves 2 write => true
+leaves 2 unregister => false
+leaves 3 write => false
+accepts 2 write => true
 ";
 
 /// Owners of one instance and of another one, at a reader of EXCLUSIVE ownership.
@@ -104,6 +122,8 @@ struct OwnedInstance {
     others: Owners,
     strengths: Strengths,
     qos: ReaderQos,
+    /// How many writers are matched, with those that joined.
+    writers: usize,
 }
 
 fn matched(alloc: Global, operands: &str) -> Vec<MatchedWriter> {
@@ -171,6 +191,7 @@ impl OwnedInstance {
             others,
             strengths,
             qos,
+            writers,
         })
     }
 
@@ -184,6 +205,18 @@ impl OwnedInstance {
 
     fn push_owner(&self, text: &mut String) {
         self.push_owner_of(text, &self.owners);
+    }
+
+    /// A writer joins: the owners get a place for it, if so.
+    fn join(&mut self, alloc: Global, operands: &str, is_widened: bool) -> Option<()> {
+        let joined = *matched(alloc, operands).first()?;
+        self.strengths.join(joined).ok()?;
+        self.writers = self.writers.checked_add(1)?;
+        self.strengths.reserve(self.writers).ok()?;
+        if is_widened {
+            self.owners.widen(Owners::open(alloc, self.writers).ok()?);
+        }
+        Some(())
     }
 
     fn set_strength(&mut self, text: &mut String, writer: Handle, strength: i32) {
@@ -209,7 +242,7 @@ impl OwnedInstance {
                 .owners
                 .accepted(&self.qos, &self.strengths, arrival)
                 .is_some(),
-            _ => self.owners.would_have_writers(arrival),
+            _ => self.owners.would_have_writers(arrival, self.writers),
         }
     }
 }
@@ -227,6 +260,10 @@ impl Subject for OwnedInstance {
             }
             "register" | "unregister" | "drop" => {
                 self.enter(name, writer);
+                self.push_owner(text);
+            }
+            "join" | "join_unseen" => {
+                let _ = self.join(alloc, operands, name == "join");
                 self.push_owner(text);
             }
             "other" => {

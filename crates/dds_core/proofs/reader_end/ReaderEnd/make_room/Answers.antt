@@ -4,7 +4,7 @@ use Rattle.dds_core.proofs.reader_end.ReaderEnd.make_room.Goals as goal
 
 pub invariant_of-self : goal.invariant_of-self
 invariant_of-self c =
-    fits_on c.self.invariant c.reserve_for.ensures.qos c.reserve_for.ensures.count
+    fits_on c.self.invariant c.reserve_for.ensures.qos c.reserve_for.ensures.writers c.reserve_for.ensures.count
 
 pub returns-clause-alike : goal.returns-clause-alike
 returns-clause-alike c =

@@ -4,6 +4,7 @@ use Rattle.std.specs.Prelude.{ℤ}
 use Rattle.std.specs.Int.{w32}
 use Rattle.std.proofs.lemmas.Int.{to_z-of_z}
 use Rattle.dds_base.specs.Checked.{limit_of}
+use Rattle.dds_base.specs.declared.qos.MatchedWriter.{MatchedWriter}
 use Rattle.dds_machine.specs.Part.{opened_with}
 use Rattle.dds_core.specs.declared.matching.WriterName.{WriterName}
 use Rattle.dds_core.specs.MatchCounts.{CountsFor}
@@ -45,8 +46,9 @@ invariant_of-result c =
     (c.in-Ok.ensures.count ∙ (c.len-here.ensures ∙ c.in_ok-names.field-0.names.ok.0))
     (c.in-Ok-open.ensures.qos
     ∙ qos_as c.args.config.now c.limit_of.result c.limit_of-2.result _ c.in_ok-names.field-0.qos.items (limits c).0
-    (limits c).1 c.from_vec.ensures.elements) c.in_ok-names.ensures.many
-    c.is_reliable.result c.is_reliable.ensures.reliable
+    (limits c).1 c.from_vec.ensures.elements)
+    (c.in-Ok-open.ensures.writers ∙ ap (λ (ws : List MatchedWriter). length ws) c.from_vec.ensures.elements)
+    c.in_ok-names.ensures.many c.is_reliable.result c.is_reliable.ensures.reliable
 
 pub returns : goal.returns
 returns c =

@@ -6,7 +6,7 @@ use Rattle.dds_core.proofs.Telling.{answer_told}
 use Rattle.dds_core.proofs.reader_end.ReaderEnd.take_change.Goals as goal
 
 pub invariant_of-self : goal.invariant_of-self
-invariant_of-self c = fits_on c.self.invariant c.on_data.ensures.keeps.qos c.on_data.ensures.keeps.count
+invariant_of-self c = fits_on c.self.invariant c.on_data.ensures.keeps.qos c.on_data.ensures.keeps.writers c.on_data.ensures.keeps.count
 
 pub returns-clause-told : goal.returns-clause-told
 returns-clause-told c =

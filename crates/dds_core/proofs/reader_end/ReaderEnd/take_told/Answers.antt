@@ -5,19 +5,19 @@ use Rattle.dds_core.proofs.Telling.{answer_told, beat_told, heartbeat_told, noth
 use Rattle.dds_core.proofs.reader_end.ReaderEnd.take_told.Goals as goal
 
 pub invariant_of-self : goal.invariant_of-self
-invariant_of-self c = fits_on c.self.invariant c.on_data.ensures.keeps.qos c.on_data.ensures.keeps.count
+invariant_of-self c = fits_on c.self.invariant c.on_data.ensures.keeps.qos c.on_data.ensures.keeps.writers c.on_data.ensures.keeps.count
 
 pub invariant_of-self-in-Jump : goal.invariant_of-self-in-Jump
-invariant_of-self-in-Jump c = fits_on c.self.invariant c.on_best_effort_data.ensures.keeps.qos c.on_best_effort_data.ensures.keeps.count
+invariant_of-self-in-Jump c = fits_on c.self.invariant c.on_best_effort_data.ensures.keeps.qos c.on_best_effort_data.ensures.keeps.writers c.on_best_effort_data.ensures.keeps.count
 
 pub invariant_of-self-in-Gap : goal.invariant_of-self-in-Gap
-invariant_of-self-in-Gap c = fits_on c.self.invariant c.on_gap.ensures.keeps.qos c.on_gap.ensures.keeps.count
+invariant_of-self-in-Gap c = fits_on c.self.invariant c.on_gap.ensures.keeps.qos c.on_gap.ensures.keeps.writers c.on_gap.ensures.keeps.count
 
 pub invariant_of-self-in-Heartbeat : goal.invariant_of-self-in-Heartbeat
-invariant_of-self-in-Heartbeat c = fits_on c.self.invariant c.on_heartbeat.ensures.keeps.qos c.on_heartbeat.ensures.keeps.count
+invariant_of-self-in-Heartbeat c = fits_on c.self.invariant c.on_heartbeat.ensures.keeps.qos c.on_heartbeat.ensures.keeps.writers c.on_heartbeat.ensures.keeps.count
 
 pub invariant_of-self-in-Beat : goal.invariant_of-self-in-Beat
-invariant_of-self-in-Beat c = fits_on c.self.invariant c.on_best_effort_heartbeat.ensures.keeps.qos c.on_best_effort_heartbeat.ensures.keeps.count
+invariant_of-self-in-Beat c = fits_on c.self.invariant c.on_best_effort_heartbeat.ensures.keeps.qos c.on_best_effort_heartbeat.ensures.keeps.writers c.on_best_effort_heartbeat.ensures.keeps.count
 
 pub returns-in-Change-clause-told : goal.returns-in-Change-clause-told
 returns-in-Change-clause-told c =
@@ -65,7 +65,7 @@ returns-in-Nothing-clause-told c =
     c.idle.ensures.begun
 
 pub invariant_of-self-in-Again : goal.invariant_of-self-in-Again
-invariant_of-self-in-Again c = fits_on c.self.invariant c.resume.ensures.keeps.qos c.resume.ensures.keeps.count
+invariant_of-self-in-Again c = fits_on c.self.invariant c.resume.ensures.keeps.qos c.resume.ensures.keeps.writers c.resume.ensures.keeps.count
 
 pub returns-in-Again-clause-told : goal.returns-in-Again-clause-told
 returns-in-Again-clause-told c =

@@ -1,6 +1,7 @@
-use Rattle.std.proofs.Common.{◌∷◌, Some, ap, refl, rules, sym, subst}
+use Rattle.std.proofs.Common.{◌∷◌, Some, ap, arith, refl, rules, sym, subst}
 use Rattle.dds_base.specs.declared.happening.Happening.TheVariants.{Died}
 use Rattle.dds_base.specs.declared.qos.ReaderQos.{ReaderQos}
+use Rattle.dds_lease.proofs.StandingLaws.{counted-matched}
 use Rattle.dds_cache.specs.Standing.{qos_of, StandsFor as CacheStandsFor}
 use Rattle.dds_lease.specs.Standing.{StandsFor as LeasesStandFor}
 use Rattle.dds_core.specs.Expiring.{HasRoomForDeaths}
@@ -21,7 +22,7 @@ loop-writer-init c =
     subst (λ (s : StoreKept). Dying (qos_of s.cache) c.args.now 0 s store) c.self.view_is
     (record {
       room = subst (λ (s : StoreKept). HasRoomForDeaths c.args.now s) (sym c.self.view_is) c.requires.room;
-      count = c.self.invariant.1;
+      count = refl;
       qos = refl;
       lost = refl;
       passed = refl;
@@ -45,6 +46,11 @@ loop-writer-preserved c =
           let leases =
           subst (λ (p : ReaderQos). LeasesStandFor c.loop-writer.self-inside.leases p l.happened) before.qos
           l.holds.leases in
+          let above = c.in-Some.ensures.above in
+          let writers = c.in-Some.ensures.writers in
+          let matched =
+          counted-matched c.loop-writer.self-inside.leases q l.happened w leases
+          (omega (arith, above.0), omega (arith, above.1, writers)) in
           let cache : CacheStandsFor c.died.new.self (Died w now ∷ l.happened) = search rules in
           next_died q now c.loop-writer.after w _ _ _ l (c.in-Some.ensures.died q l.happened leases)
           (c.in-Some.ensures.turn q l.happened leases) cache

@@ -16,6 +16,7 @@ loop-at-init g c =
       len = ap (λ (r : Proxies). count_of r) c.self.view_is;
       stands = λ h st. st;
       qos = refl;
+      writers = refl;
       spare = omega arith;
       ready = λ k p lt is. absurd (omega (arith, lt));
       later = λ k le. ap (λ (r : Proxies). slice_get r.writers k) c.self.view_is;
@@ -66,6 +67,7 @@ loop-at-preserved g c =
       len = length-set c.loop-at.self-inside.writers.items c.loop-at.at (record c.index_mut-known.result.now { proxy = c.reserve.new.self }) ∙ it.len;
       stands = λ h st. made.stands h (it.stands h st);
       qos = made.qos ∙ it.qos;
+      writers = made.writers ∙ it.writers;
       spare = omega (arith, it.spare, made.spare);
       ready = ready_step c.loop-at.self-inside.writers.items c.loop-at.at (record c.index_mut-known.result.now { proxy = c.reserve.new.self }) _ _ made.spare it.ready
           made.ok;

@@ -15,6 +15,7 @@ invariant-loop-at g l = record {
   len : length l.self-inside.writers.items ≡ count_of l.fn.self;
   stands : (h : List Happening) → g.S.Sink.stands l.fn.sink h → g.S.Sink.stands l.sink h;
   qos : g.S.Sink.qos l.sink ≡ g.S.Sink.qos l.fn.sink;
+  writers : g.S.Sink.writers l.sink ≡ g.S.Sink.writers l.fn.sink;
   spare : g.S.Sink.spare l.fn.sink ≤ g.S.Sink.spare l.sink;
   ready : (k : ℕ) (p : KnownWriter) → k < l.at → slice_get l.self-inside.writers.items k ≡ Some p
       → IsProxyReady p.proxy (g.S.Sink.spare l.sink);

@@ -18,6 +18,7 @@ moving-init g c =
     record {
       sound = c.requires.sound;
       qos = search rules;
+      writers = search rules;
       outside = λ n le. c.place-tells_the_window.ensures.window n (search rules);
       runs = omega (arith, runs, len);
       short = omega (arith, len);
@@ -59,6 +60,7 @@ moving-preserved g c =
     record {
       sound = c.hand_on.ensures.sound;
       qos = c.hand_on.ensures.qos ∙ qos;
+      writers = c.hand_on.ensures.writers ∙ (c.pass_over.ensures.writers ∙ it.writers);
       outside = λ n le. c.hand_on.ensures.outside n (outside n le);
       runs = omega (arith, runs, more_runs, capacity, lens, fewer, forward, next, within);
       short = (let short = it.short in omega (arith, short, more_runs, lens, fewer, forward, next, within));

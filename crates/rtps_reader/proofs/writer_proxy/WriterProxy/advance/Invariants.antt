@@ -13,6 +13,7 @@ abbrev pub invariant-moving : goal.invariant-moving
 invariant-moving g l = record {
   sound : IsSound l.self;
   qos : g.S.Sink.qos l.sink ≡ g.S.Sink.qos l.fn.sink;
+  writers : g.S.Sink.writers l.sink ≡ g.S.Sink.writers l.fn.sink;
   outside : (n : ℕ) → window_place l.fn.self.window + 256 ≤ n → mark_of l.self.window n ≡ None;
   runs : vec_len l.runs + min (count_held l.self.held)
       (window_place l.fn.self.window + 256 - window_place l.self.window) < vec_capacity l.runs;
