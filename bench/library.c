@@ -39,7 +39,8 @@ static void open_pair(cw_peer *writer, cw_peer *reader, uint32_t depth) {
 }
 
 static void write_one(cw_peer *writer, unsigned long number, size_t octets, size_t at) {
-    uint8_t key[16] = {0}, to = 0;
+    uint8_t key[16] = {0};
+    uint32_t to = 0;
     memcpy(key, &number, sizeof number);
     made(cw_write(writer, 1, key, value, octets));
     made(cw_packet(writer, 0, &to, packets[at], LONGEST, &packet_lens[at]));
@@ -58,7 +59,7 @@ static void take_all(cw_peer *reader) {
 
 static void carry(cw_peer *from, cw_peer *to) {
     static uint8_t packet[65536];
-    uint8_t whom = 0;
+    uint32_t whom = 0;
     size_t len = 0;
     for (size_t at = 0; cw_packet(from, at, &whom, packet, sizeof packet, &len) == CW_OK; at++)
         made(cw_deliver(to, packet, len));
