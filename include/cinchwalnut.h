@@ -97,7 +97,7 @@ typedef struct cw_peer_config {
 
 /* A writer of a configuration (DDS 1.4, 2.2.3). The writers of a peer are numbered from 1 in their order. */
 typedef struct cw_writer_config {
-    uint8_t peer;         /* the number of its peer */
+    uint32_t peer;        /* the number of its peer */
     uint8_t entity[4];    /* three octets of a key, and 0x02 */
     bool is_exclusive;    /* OWNERSHIP: EXCLUSIVE, else SHARED */
     bool keeps_last;      /* HISTORY: KEEP_LAST with depth, else KEEP_ALL */
@@ -114,7 +114,7 @@ typedef struct cw_writer_config {
 /* A reader of a configuration, likewise; its entity ends with 0x07, and it takes writers whose lease and whose max_value are
  * no greater. */
 typedef struct cw_reader_config {
-    uint8_t peer;
+    uint32_t peer;
     uint8_t entity[4];
     bool is_exclusive;
     bool keeps_last;
@@ -168,7 +168,7 @@ typedef struct cw_matched_status {
     uint64_t total_count_change;
     int64_t current_count;
     int64_t current_count_change;
-    uint8_t last_peer;   /* the peer of the reader or writer with which the last match was made or ended, 0 for none */
+    uint32_t last_peer;  /* the peer of the reader or writer with which the last match was made or ended, 0 for none */
     uint8_t last_number; /* its number there */
 } cw_matched_status;
 
@@ -201,9 +201,9 @@ typedef struct cw_notice_info {
 
 /* Opens a peer of a configuration, by its number; what was open before is closed. A refusal changes nothing. */
 uint8_t cw_open(cw_peer *peer, const cw_peer_config *peers, size_t peers_len, const cw_writer_config *writers,
-                size_t writers_len, const cw_reader_config *readers, size_t readers_len, uint8_t number);
+                size_t writers_len, const cw_reader_config *readers, size_t readers_len, uint32_t number);
 /* The same of a configuration in lines "peer ..", "writer ..", "reader .." of docs/PIPE.md. */
-uint8_t cw_open_text(cw_peer *peer, const uint8_t *text, size_t text_len, uint8_t number);
+uint8_t cw_open_text(cw_peer *peer, const uint8_t *text, size_t text_len, uint32_t number);
 /* Frees what the peer holds: none is open then. Where none was, or another call is under way, it does nothing. */
 void cw_close(cw_peer *peer);
 
@@ -270,7 +270,7 @@ typedef struct cw_observed {
 uint8_t cw_observe(cw_peer *peer, const uint8_t *datagram, size_t datagram_len, cw_observed *observed);
 /* The same, with the old DATA and HEARTBEATs of one writer alone, by its peer and its number there; what is to nobody is
  * counted as before. */
-uint8_t cw_observe_writer(cw_peer *peer, uint8_t writer_peer, uint8_t writer, const uint8_t *datagram, size_t datagram_len,
+uint8_t cw_observe_writer(cw_peer *peer, uint32_t writer_peer, uint8_t writer, const uint8_t *datagram, size_t datagram_len,
                           cw_observed *observed);
 
 /* Adds what one more datagram held: a count for each writer is such a sum. */
@@ -338,9 +338,9 @@ uint8_t cw_get_liveliness_lost_status(cw_peer *peer, uint8_t writer);
  * 2.5, 8.4.7.4). It waits for none that left, and sends a reader nothing that it wrote before their match. One that is
  * matched by cw_greet_reader is told no more than where it begins until it has answered: so a reader that takes the first
  * HEARTBEAT which it hears as its start, as those of other products do, misses nothing that is written after the match. */
-uint8_t cw_match_reader(cw_peer *peer, uint8_t writer, uint8_t reader_peer, uint8_t reader);
-uint8_t cw_greet_reader(cw_peer *peer, uint8_t writer, uint8_t reader_peer, uint8_t reader);
-uint8_t cw_unmatch_reader(cw_peer *peer, uint8_t writer, uint8_t reader_peer, uint8_t reader);
+uint8_t cw_match_reader(cw_peer *peer, uint8_t writer, uint32_t reader_peer, uint8_t reader);
+uint8_t cw_greet_reader(cw_peer *peer, uint8_t writer, uint32_t reader_peer, uint8_t reader);
+uint8_t cw_unmatch_reader(cw_peer *peer, uint8_t writer, uint32_t reader_peer, uint8_t reader);
 uint8_t cw_get_publication_matched_status(cw_peer *peer, uint8_t writer);
 
 /* Calls of a reader, by its number (DDS 1.4, 2.2.2.5). max is how many samples at most, -1 for all; the masks are sums of
@@ -369,8 +369,8 @@ uint8_t cw_get_sample_lost_status(cw_peer *peer, uint8_t reader);
 uint8_t cw_get_liveliness_changed_status(cw_peer *peer, uint8_t reader);
 /* The reader is told that it is matched with a writer from now on, or no longer (RTPS 2.5, 8.4.10.3). The instances of one that
  * is gone go to the next owner, or are without writers. */
-uint8_t cw_match_writer(cw_peer *peer, uint8_t reader, uint8_t writer_peer, uint8_t writer);
-uint8_t cw_unmatch_writer(cw_peer *peer, uint8_t reader, uint8_t writer_peer, uint8_t writer);
+uint8_t cw_match_writer(cw_peer *peer, uint8_t reader, uint32_t writer_peer, uint8_t writer);
+uint8_t cw_unmatch_writer(cw_peer *peer, uint8_t reader, uint32_t writer_peer, uint8_t writer);
 uint8_t cw_get_subscription_matched_status(cw_peer *peer, uint8_t reader);
 
 /* Any event, in a line of docs/PIPE.md without its line feed: "call ..", "tick M", "deliver HEX" or "resume R". */
@@ -396,7 +396,7 @@ enum {
 /* Fetches of the last answer, which change nothing. Packets and samples count from 0; each is copied to the start of the
  * buffer, and *needed is how many octets it has. Where they don't fit, nothing is copied, the code is CW_OUT_OF_RESOURCES,
  * and *needed says how long the buffer has to be. With another code than these two and CW_OK nothing is written. */
-uint8_t cw_packet(cw_peer *peer, size_t at, uint8_t *to, uint8_t *buffer, size_t buffer_len, size_t *needed);
+uint8_t cw_packet(cw_peer *peer, size_t at, uint32_t *to, uint8_t *buffer, size_t buffer_len, size_t *needed);
 uint8_t cw_sample(cw_peer *peer, size_t at, cw_sample_info *info, uint8_t *buffer, size_t buffer_len, size_t *needed);
 uint8_t cw_key(cw_peer *peer, uint8_t key[16]);                 /* of cw_get_key_value */
 uint8_t cw_handle(cw_peer *peer, uint64_t *handle);             /* of cw_lookup_instance; 0 where it is not known; of cw_match_writer that of the publication */
@@ -450,11 +450,11 @@ static inline void *cw_array(const void *start) {
 CW_MARKED_IF(cw_is_array(peers, peers_len) && cw_is_array(writers, writers_len) && cw_is_array(readers, readers_len),
              open, CW_NONNULL(1),
              (cw_peer *peer, const cw_peer_config *peers, size_t peers_len, const cw_writer_config *writers,
-              size_t writers_len, const cw_reader_config *readers, size_t readers_len, uint8_t number),
+              size_t writers_len, const cw_reader_config *readers, size_t readers_len, uint32_t number),
              (peer, (const cw_peer_config *)cw_array(peers), peers_len, (const cw_writer_config *)cw_array(writers),
               writers_len, (const cw_reader_config *)cw_array(readers), readers_len, number))
 CW_MARKED_IF(cw_is_array(text, text_len), open_text, CW_NONNULL(1),
-             (cw_peer *peer, const uint8_t *text, size_t text_len, uint8_t number),
+             (cw_peer *peer, const uint8_t *text, size_t text_len, uint32_t number),
              (peer, (const uint8_t *)cw_array(text), text_len, number))
 CW_CHECKED(cw_is_array(peers, peers_len) && cw_is_array(writers, writers_len) && cw_is_array(readers, readers_len) &&
                cw_is_array(buffer, buffer_len),
@@ -498,7 +498,7 @@ CW_MARKED_IF(cw_is_array(datagram, datagram_len), observe, CW_NONNULL(1, 4),
              (cw_peer *peer, const uint8_t *datagram, size_t datagram_len, cw_observed *observed),
              (peer, (const uint8_t *)cw_array(datagram), datagram_len, observed))
 CW_MARKED_IF(cw_is_array(datagram, datagram_len), observe_writer, CW_NONNULL(1, 6),
-             (cw_peer *peer, uint8_t writer_peer, uint8_t writer, const uint8_t *datagram, size_t datagram_len,
+             (cw_peer *peer, uint32_t writer_peer, uint8_t writer, const uint8_t *datagram, size_t datagram_len,
               cw_observed *observed),
              (peer, writer_peer, writer, (const uint8_t *)cw_array(datagram), datagram_len, observed))
 CW_MARKED(tick, (cw_peer *peer, uint64_t now), (peer, now))
@@ -512,11 +512,11 @@ CW_MARKED(unregister, (cw_peer *peer, uint8_t writer, const uint8_t key[16]), (p
 CW_MARKED(assert_liveliness, (cw_peer *peer, uint8_t writer), (peer, writer))
 CW_MARKED(set_strength, (cw_peer *peer, uint8_t writer, int32_t strength), (peer, writer, strength))
 CW_MARKED(get_liveliness_lost_status, (cw_peer *peer, uint8_t writer), (peer, writer))
-CW_MARKED(match_reader, (cw_peer *peer, uint8_t writer, uint8_t reader_peer, uint8_t reader),
+CW_MARKED(match_reader, (cw_peer *peer, uint8_t writer, uint32_t reader_peer, uint8_t reader),
           (peer, writer, reader_peer, reader))
-CW_MARKED(greet_reader, (cw_peer *peer, uint8_t writer, uint8_t reader_peer, uint8_t reader),
+CW_MARKED(greet_reader, (cw_peer *peer, uint8_t writer, uint32_t reader_peer, uint8_t reader),
           (peer, writer, reader_peer, reader))
-CW_MARKED(unmatch_reader, (cw_peer *peer, uint8_t writer, uint8_t reader_peer, uint8_t reader),
+CW_MARKED(unmatch_reader, (cw_peer *peer, uint8_t writer, uint32_t reader_peer, uint8_t reader),
           (peer, writer, reader_peer, reader))
 CW_MARKED(get_publication_matched_status, (cw_peer *peer, uint8_t writer), (peer, writer))
 CW_MARKED(read, (cw_peer *peer, uint8_t reader, int32_t max, uint32_t samples, uint32_t views, uint32_t instances),
@@ -551,9 +551,9 @@ CW_MARKED(get_key_value, (cw_peer *peer, uint8_t reader, uint64_t handle), (peer
 CW_MARKED(lookup_instance, (cw_peer *peer, uint8_t reader, const uint8_t key[16]), (peer, reader, key))
 CW_MARKED(get_sample_lost_status, (cw_peer *peer, uint8_t reader), (peer, reader))
 CW_MARKED(get_liveliness_changed_status, (cw_peer *peer, uint8_t reader), (peer, reader))
-CW_MARKED(match_writer, (cw_peer *peer, uint8_t reader, uint8_t writer_peer, uint8_t writer),
+CW_MARKED(match_writer, (cw_peer *peer, uint8_t reader, uint32_t writer_peer, uint8_t writer),
           (peer, reader, writer_peer, writer))
-CW_MARKED(unmatch_writer, (cw_peer *peer, uint8_t reader, uint8_t writer_peer, uint8_t writer),
+CW_MARKED(unmatch_writer, (cw_peer *peer, uint8_t reader, uint32_t writer_peer, uint8_t writer),
           (peer, reader, writer_peer, writer))
 CW_MARKED(get_subscription_matched_status, (cw_peer *peer, uint8_t reader), (peer, reader))
 CW_MARKED_IF(cw_is_array(line, line_len), line, CW_NONNULL(1),
@@ -567,7 +567,7 @@ CW_MARKED(set_recorder, (cw_peer *peer, uint8_t kind, uint8_t number, uint32_t m
 CW_MARKED(clear_recorder, (cw_peer *peer, uint8_t kind, uint8_t number), (peer, kind, number))
 CW_MARKED(notice, (cw_peer *peer, size_t at, cw_notice_info *notice), (peer, at, notice))
 CW_MARKED_IF(cw_is_array(buffer, buffer_len), packet, CW_NONNULL(1, 3, 6),
-             (cw_peer *peer, size_t at, uint8_t *to, uint8_t *buffer, size_t buffer_len, size_t *needed),
+             (cw_peer *peer, size_t at, uint32_t *to, uint8_t *buffer, size_t buffer_len, size_t *needed),
              (peer, at, to, (uint8_t *)cw_array(buffer), buffer_len, needed))
 CW_MARKED_IF(cw_is_array(buffer, buffer_len), sample, CW_NONNULL(1, 3, 6),
              (cw_peer *peer, size_t at, cw_sample_info *info, uint8_t *buffer, size_t buffer_len, size_t *needed),

@@ -18,7 +18,7 @@ using Key = std::array<std::uint8_t, 16>;
 
 /// Octets that are to be sent, and the number of the peer that they are for.
 struct Packet {
-    std::uint8_t to;
+    std::uint32_t to;
     Octets octets;
 };
 
@@ -66,7 +66,7 @@ public:
     ~Peer() { cw_close(&peer_); }
 
     /// Each of these answers a code, CW_OK where it was done.
-    std::uint8_t open(const Config &config, std::uint8_t number) {
+    std::uint8_t open(const Config &config, std::uint32_t number) {
         return cw_open(&peer_, config.peers.data(), config.peers.size(), config.writers.data(), config.writers.size(),
                        config.readers.data(), config.readers.size(), number);
     }
@@ -97,7 +97,7 @@ public:
     /// Hands each packet of the last answer to f(to, octets, len), without a copy: the octets stand there until f returns, and
     /// f makes no call of this peer.
     template <class F> void for_each_packet(F &&f) {
-        std::uint8_t to = 0;
+        std::uint32_t to = 0;
         each([&](std::size_t at, std::size_t &needed) {
             return cw_packet(&peer_, at, &to, buffer_.data(), buffer_.size(), &needed);
         }, [&](std::size_t len) { f(to, static_cast<const std::uint8_t *>(buffer_.data()), len); });
@@ -116,7 +116,7 @@ public:
     /// The packets of the last answer, copied.
     std::vector<Packet> packets() {
         std::vector<Packet> got;
-        for_each_packet([&](std::uint8_t to, const std::uint8_t *octets, std::size_t len) {
+        for_each_packet([&](std::uint32_t to, const std::uint8_t *octets, std::size_t len) {
             got.push_back({to, Octets(octets, octets + len)});
         });
         return got;

@@ -63,7 +63,7 @@ static inline void cw_recorded_text(cw_recording *run) {
 
 /* What answers an event: a line for each packet, and the reply. */
 static inline uint8_t cw_recorded_answer(cw_recording *run, uint8_t code) {
-    uint8_t to = 0;
+    uint32_t to = 0;
     size_t len = 0;
     for (size_t at = 0; cw_packet(&run->peer, at, &to, run->buffer, sizeof run->buffer, &len) == CW_OK; at++) {
         fprintf(run->to, "packet %u ", (unsigned)to);
@@ -121,7 +121,7 @@ static inline void cw_recorded_reader(cw_recording *run, const cw_reader_config 
     fputs(it->is_best_effort ? " besteffort\n" : "\n", run->to);
 }
 
-static inline void cw_recorded_opened(cw_recording *run, uint8_t number) {
+static inline void cw_recorded_opened(cw_recording *run, uint32_t number) {
     for (size_t kind = 0; kind < 3; kind++)
         for (size_t at = 0; at < 256; at++)
             run->has_listener[kind][at] = false;
@@ -130,7 +130,7 @@ static inline void cw_recorded_opened(cw_recording *run, uint8_t number) {
 
 static inline uint8_t cw_recorded_open(cw_recording *run, FILE *to, const cw_peer_config *peers, size_t peers_len,
                                        const cw_writer_config *writers, size_t writers_len,
-                                       const cw_reader_config *readers, size_t readers_len, uint8_t number) {
+                                       const cw_reader_config *readers, size_t readers_len, uint32_t number) {
     uint8_t code = cw_open(&run->peer, peers, peers_len, writers, writers_len, readers, readers_len, number);
     if (code != CW_OK)
         return code;
@@ -149,7 +149,7 @@ static inline uint8_t cw_recorded_open(cw_recording *run, FILE *to, const cw_pee
     return code;
 }
 
-static inline uint8_t cw_recorded_open_text(cw_recording *run, FILE *to, const uint8_t *text, size_t text_len, uint8_t number) {
+static inline uint8_t cw_recorded_open_text(cw_recording *run, FILE *to, const uint8_t *text, size_t text_len, uint32_t number) {
     uint8_t code = cw_open_text(&run->peer, text, text_len, number);
     if (code != CW_OK)
         return code;
@@ -295,7 +295,7 @@ static inline uint8_t cw_recorded_get_subscription_matched_status(cw_recording *
 }
 
 /* A match or a parting, with an end of the other kind. */
-static inline uint8_t cw_recorded_told(cw_recording *run, uint8_t code, const char *word, char kind, uint8_t number, uint8_t other_peer,
+static inline uint8_t cw_recorded_told(cw_recording *run, uint8_t code, const char *word, char kind, uint8_t number, uint32_t other_peer,
                                        uint8_t other) {
     if (!cw_recorded_call(run, code, word, kind, number))
         return code;
@@ -303,7 +303,7 @@ static inline uint8_t cw_recorded_told(cw_recording *run, uint8_t code, const ch
     return cw_recorded_end(run, code);
 }
 
-static inline uint8_t cw_recorded_greet_reader(cw_recording *run, uint8_t writer, uint8_t reader_peer, uint8_t reader) {
+static inline uint8_t cw_recorded_greet_reader(cw_recording *run, uint8_t writer, uint32_t reader_peer, uint8_t reader) {
     uint8_t code = cw_greet_reader(&run->peer, writer, reader_peer, reader);
     if (!cw_recorded_call(run, code, "match", 'w', writer))
         return code;
@@ -311,19 +311,19 @@ static inline uint8_t cw_recorded_greet_reader(cw_recording *run, uint8_t writer
     return cw_recorded_end(run, code);
 }
 
-static inline uint8_t cw_recorded_match_reader(cw_recording *run, uint8_t writer, uint8_t reader_peer, uint8_t reader) {
+static inline uint8_t cw_recorded_match_reader(cw_recording *run, uint8_t writer, uint32_t reader_peer, uint8_t reader) {
     return cw_recorded_told(run, cw_match_reader(&run->peer, writer, reader_peer, reader), "match", 'w', writer, reader_peer, reader);
 }
 
-static inline uint8_t cw_recorded_unmatch_reader(cw_recording *run, uint8_t writer, uint8_t reader_peer, uint8_t reader) {
+static inline uint8_t cw_recorded_unmatch_reader(cw_recording *run, uint8_t writer, uint32_t reader_peer, uint8_t reader) {
     return cw_recorded_told(run, cw_unmatch_reader(&run->peer, writer, reader_peer, reader), "part", 'w', writer, reader_peer, reader);
 }
 
-static inline uint8_t cw_recorded_match_writer(cw_recording *run, uint8_t reader, uint8_t writer_peer, uint8_t writer) {
+static inline uint8_t cw_recorded_match_writer(cw_recording *run, uint8_t reader, uint32_t writer_peer, uint8_t writer) {
     return cw_recorded_told(run, cw_match_writer(&run->peer, reader, writer_peer, writer), "match", 'r', reader, writer_peer, writer);
 }
 
-static inline uint8_t cw_recorded_unmatch_writer(cw_recording *run, uint8_t reader, uint8_t writer_peer, uint8_t writer) {
+static inline uint8_t cw_recorded_unmatch_writer(cw_recording *run, uint8_t reader, uint32_t writer_peer, uint8_t writer) {
     return cw_recorded_told(run, cw_unmatch_writer(&run->peer, reader, writer_peer, writer), "part", 'r', reader, writer_peer, writer);
 }
 

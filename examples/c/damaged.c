@@ -28,7 +28,7 @@ static size_t damage(uint8_t *octets, size_t len) {
 /* What the peer gave back is fetched; its packets are for nobody. */
 static bool fetch_all(cw_peer *peer) {
     static uint8_t buffer[65536];
-    uint8_t to = 0;
+    uint32_t to = 0;
     size_t len = 0;
     if (cw_text(peer, buffer, sizeof buffer, &len) != CW_OK)
         return false;
@@ -52,7 +52,8 @@ int main(int count_of_words, char **words) {
     long count = count_of_words > 1 ? atol(words[1]) : 10000;
     static uint8_t packet[65536], damaged[65536];
     cw_peer writer = CW_PEER_NONE, reader = CW_PEER_NONE;
-    uint8_t key[16] = {0}, to = 0;
+    uint8_t key[16] = {0};
+    uint32_t to = 0;
     size_t len = 0;
     if (cw_open(&writer, peers, 2, writers, 1, readers, 1, 1) || cw_open(&reader, peers, 2, writers, 1, readers, 1, 2))
         return 1;

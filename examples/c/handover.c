@@ -18,7 +18,7 @@ static const cw_reader_config readers[] = {
 static void set(cw_peer *plant, cw_peer *valve, uint8_t writer, const char *value) {
     static uint8_t packet[65536];
     const uint8_t key[16] = {7};
-    uint8_t whom = 0;
+    uint32_t whom = 0;
     size_t len = 0;
     CHECK(cw_write(plant, writer, key, (const uint8_t *)value, strlen(value)) == CW_OK);
     CHECK(cw_packet(plant, 0, &whom, packet, sizeof packet, &len) == CW_OK);

@@ -49,7 +49,8 @@ static bool is_lost(struct side *it) {
 
 /* Sends what the last event gave, and says how many packets that were. */
 static size_t send_all(struct side *it) {
-    uint8_t packet[65536], to = 0;
+    uint8_t packet[65536];
+    uint32_t to = 0;
     size_t at = 0, len = 0;
     for (; cw_packet(&it->peer, at, &to, packet, sizeof packet, &len) == CW_OK; at++)
         if (!is_lost(it))

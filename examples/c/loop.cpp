@@ -63,7 +63,7 @@ struct Side {
     // Sends what the last event gave, and says how many packets that were.
     std::size_t send_all() {
         std::size_t packets = 0;
-        peer.for_each_packet([&](std::uint8_t, const std::uint8_t *octets, std::size_t len) {
+        peer.for_each_packet([&](std::uint32_t, const std::uint8_t *octets, std::size_t len) {
             packets++;
             if (chance() % 5 != 0) // one of five is lost
                 sendto(socket, octets, len, 0, reinterpret_cast<sockaddr *>(&other), sizeof other);

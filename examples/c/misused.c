@@ -49,7 +49,7 @@ static uint64_t sum_of(size_t readers_len) {
 /* What tells a writer, and what tells a reader, that it is matched, and that it is no longer. */
 static const struct {
     const char *whom;
-    uint8_t (*match)(cw_peer *, uint8_t, uint8_t, uint8_t), (*part)(cw_peer *, uint8_t, uint8_t, uint8_t);
+    uint8_t (*match)(cw_peer *, uint8_t, uint32_t, uint8_t), (*part)(cw_peer *, uint8_t, uint32_t, uint8_t);
 } tellings[] = {{"a writer", cw_match_reader, cw_unmatch_reader}, {"a reader", cw_match_writer, cw_unmatch_writer}};
 
 static void say_matches(cw_peer *peer) {
@@ -71,7 +71,8 @@ static void say_matches(cw_peer *peer) {
 int main(void) {
     cw_peer peer = CW_PEER_NONE;
     const uint8_t key[16] = {1}, value[1025] = {0};
-    uint8_t buffer[8] = {0}, to = 0;
+    uint8_t buffer[8] = {0};
+    uint32_t to = 0;
     uint64_t handle = 0;
     size_t needed = 0;
     cw_observed seen = {0};

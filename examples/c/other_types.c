@@ -29,7 +29,7 @@ static void reading(uint8_t payload[PAYLOAD], uint8_t sensor, const uint8_t valu
 
 /* The packet of the last answer, as the network carries it. */
 static size_t sent(uint8_t packet[65535], uint8_t wire[65535]) {
-    uint8_t whom = 0;
+    uint32_t whom = 0;
     size_t packet_len = 0, len = 0;
     CHECK(cw_packet(&writer, 0, &whom, packet, 65535, &packet_len) == CW_OK);
     CHECK(cw_outward(kinds, 1, fields, 1, packet, packet_len, wire, 65535, &len) == CW_OK);

@@ -20,7 +20,7 @@ static uint8_t write_text(const char *text) {
 /* Carries the packets of the last answer of one peer to the other one, and says how many there were. */
 static size_t carry(cw_peer *from, cw_peer *to) {
     static uint8_t packet[65536];
-    uint8_t whom = 0;
+    uint32_t whom = 0;
     size_t len = 0, at = 0;
     for (; cw_packet(from, at, &whom, packet, sizeof packet, &len) == CW_OK; at++)
         CHECK(cw_deliver(to, packet, len) == CW_OK);

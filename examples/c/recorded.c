@@ -22,7 +22,7 @@ static void open_recorded(cw_recording *run, uint8_t number) {
 /* Carries the packets of the last answer of one peer to the other. */
 static void carry(cw_recording *from, cw_recording *to) {
     static uint8_t packet[65536];
-    uint8_t whom = 0;
+    uint32_t whom = 0;
     size_t len = 0;
     for (size_t at = 0; cw_packet(&from->peer, at, &whom, packet, sizeof packet, &len) == CW_OK; at++)
         CHECK(cw_recorded_deliver(to, packet, len) == CW_OK);

@@ -55,7 +55,7 @@ static int again;
 
 static bool repair(cw_peer *writer, cw_peer *reader, uint64_t now) {
     static uint8_t packet[1024];
-    uint8_t to = 0;
+    uint32_t to = 0;
     size_t len = 0;
     AGAIN(cw_tick(writer, now));
     if (cw_packet(writer, 0, &to, packet, sizeof packet, &len) != CW_OK)
@@ -71,7 +71,8 @@ static bool repair(cw_peer *writer, cw_peer *reader, uint64_t now) {
 
 static bool session(cw_peer *writer, cw_peer *reader) {
     static uint8_t packet[1024];
-    uint8_t key[16] = {1}, to = 0;
+    uint8_t key[16] = {1};
+    uint32_t to = 0;
     size_t len = 0;
     AGAIN(cw_open_text(writer, (const uint8_t *)config, strlen(config), 1));
     AGAIN(cw_open_text(reader, (const uint8_t *)config, strlen(config), 2));

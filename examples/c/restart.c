@@ -25,7 +25,7 @@ static void open_in(cw_peer *peer, uint8_t session, uint8_t number) {
 
 static void carry(cw_peer *from, cw_peer *to) {
     static uint8_t packet[65536];
-    uint8_t whom = 0;
+    uint32_t whom = 0;
     size_t len = 0;
     for (size_t at = 0; cw_packet(from, at, &whom, packet, sizeof packet, &len) == CW_OK; at++) {
         cw_observed seen = {0};

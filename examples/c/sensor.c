@@ -15,7 +15,7 @@ static const cw_reader_config readers[] = {
 /* Carries the packets of the sensor's last answer to the reader's peer, or loses them, and says how many there were. */
 static size_t carry(cw_peer *sensor, cw_peer *reader, bool is_lost) {
     static uint8_t packet[65536];
-    uint8_t whom = 0;
+    uint32_t whom = 0;
     size_t len = 0, at = 0;
     for (; cw_packet(sensor, at, &whom, packet, sizeof packet, &len) == CW_OK; at++)
         if (!is_lost)

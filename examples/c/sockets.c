@@ -36,7 +36,8 @@ static void open_side(struct side *it, uint8_t number) {
 
 /* Sends the packets that the last event gave. One that the system does not take is lost, and repaired as any other. */
 static void send_all(struct side *it) {
-    uint8_t packet[CW_LONGEST_PACKET], to = 0;
+    uint8_t packet[CW_LONGEST_PACKET];
+    uint32_t to = 0;
     size_t len = 0;
     for (size_t at = 0; cw_packet(&it->peer, at, &to, packet, sizeof packet, &len) == CW_OK; at++)
         sendto(it->fd, packet, len, 0, (struct sockaddr *)&it->other, sizeof it->other);

@@ -20,7 +20,7 @@ static void open_peer(cw_peer *peer, uint8_t number) {
 /* Carries the packets of the last answer of one peer to the other; or loses them. */
 static void carry(cw_peer *from, cw_peer *to, bool is_lost) {
     static uint8_t packet[65536];
-    uint8_t whom = 0;
+    uint32_t whom = 0;
     size_t len = 0;
     for (size_t at = 0; cw_packet(from, at, &whom, packet, sizeof packet, &len) == CW_OK; at++) {
         printf("a packet for peer %u, %zu octets%s\n", whom, len, is_lost ? ": lost" : "");

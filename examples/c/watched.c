@@ -13,7 +13,7 @@ static const cw_reader_config readers[] = {{.peer = 2, .entity = {0, 0, 1, 7}, .
 static void write_and_carry(cw_peer *writer, cw_peer *reader, const char *value) {
     static uint8_t packet[2048];
     const uint8_t key[16] = {0};
-    uint8_t to = 0;
+    uint32_t to = 0;
     size_t len = 0;
     CHECK(cw_write(writer, 1, key, (const uint8_t *)value, strlen(value)) == CW_OK);
     CHECK(cw_packet(writer, 0, &to, packet, sizeof packet, &len) == CW_OK && to == 2);

@@ -18,7 +18,7 @@ def _truth(value: Any, name: str) -> bool:
 
 
 _CHECKS: dict[str, Callable[[Any, str], Any]] = {
-    **dict.fromkeys(("peer",), u8),
+    **dict.fromkeys(("peer",), u32),
     **dict.fromkeys(("entity",), _entity),
     **dict.fromkeys(("topic", "depth", "max_value"), u32),
     **dict.fromkeys(("max_samples", "max_instances", "strength"), i32),

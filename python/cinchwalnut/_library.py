@@ -21,7 +21,7 @@ class CPeerConfig(c.Structure):
 
 class CWriterConfig(c.Structure):
     _fields_ = [
-        *[("peer", c.c_uint8), ("entity", c.c_uint8 * 4)],
+        *[("peer", c.c_uint32), ("entity", c.c_uint8 * 4)],
         *[(name, c.c_bool) for name in ("is_exclusive", "keeps_last", "has_lease", "autodispose")],
         *[("topic", c.c_uint32), ("depth", c.c_uint32), ("max_samples", c.c_int32), ("strength", c.c_int32)],
         *[("max_value", c.c_uint32), ("lease", c.c_uint64)],
@@ -30,7 +30,7 @@ class CWriterConfig(c.Structure):
 
 class CReaderConfig(c.Structure):
     _fields_ = [
-        *[("peer", c.c_uint8), ("entity", c.c_uint8 * 4)],
+        *[("peer", c.c_uint32), ("entity", c.c_uint8 * 4)],
         *[(name, c.c_bool) for name in ("is_exclusive", "keeps_last", "has_lease", "is_best_effort", "has_max_arrivals")],
         *[("topic", c.c_uint32), ("depth", c.c_uint32), ("max_samples", c.c_int32), ("max_instances", c.c_int32)],
         *[("max_value", c.c_uint32), ("lease", c.c_uint64), ("max_arrivals", c.c_uint64)],
@@ -67,15 +67,15 @@ _ARRAYS = [it for kind in (CPeerConfig, CWriterConfig, CReaderConfig) for it in 
 _MASKS = [_U32, _U32, _U32]
 # Each has the peer before these.
 _ARGUMENTS: Dict[str, List[Any]] = {
-    **{"open": [*_ARRAYS, _U8], "open_text": [_OCTETS, _SIZE, _U8], "close": []},
+    **{"open": [*_ARRAYS, _U32], "open_text": [_OCTETS, _SIZE, _U32], "close": []},
     **{"deliver": [_OCTETS, _SIZE], "observe": [_OCTETS, _SIZE, _INTO], "tick": [_U64], "line": [_OCTETS, _SIZE]},
-    **{"observe_writer": [_U8, _U8, _OCTETS, _SIZE, _INTO], "resume": [_U8]},
+    **{"observe_writer": [_U32, _U8, _OCTETS, _SIZE, _INTO], "resume": [_U8]},
     **{it: [_U8, _OCTETS] for it in ("register", "dispose", "unregister", "lookup_instance")},
     **{"write": [_U8, _OCTETS, _OCTETS, _SIZE], "set_strength": [_U8, _I32], "get_key_value": [_U8, _U64]},
     **{it: [_U8] for it in ("assert_liveliness", "get_liveliness_lost_status", "get_sample_lost_status")},
     **{it: [_U8] for it in ("get_liveliness_changed_status", "read_next_sample", "take_next_sample")},
     **{it: [_U8] for it in ("get_publication_matched_status", "get_subscription_matched_status")},
-    **{it: [_U8, _U8, _U8] for it in ("match_reader", "greet_reader", "unmatch_reader", "match_writer", "unmatch_writer")},
+    **{it: [_U8, _U32, _U8] for it in ("match_reader", "greet_reader", "unmatch_reader", "match_writer", "unmatch_writer")},
     **{f"{it}": [_U8, _I32, *_MASKS] for it in ("read", "take")},
     **{f"{it}_instance": [_U8, _I32, _U64, *_MASKS] for it in ("read", "take", "read_next", "take_next")},
     **{f"{it}_w_condition": [_U8, _I32, _U32] for it in ("read", "take")},

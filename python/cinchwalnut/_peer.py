@@ -103,8 +103,8 @@ Packet = Tuple[int, bytes]  # the number of the peer that it is for, and its oct
 Sample = Tuple[SampleInfo, bytes]
 
 # As the structs of the header lie in memory.
-_INFO, _NOTICE = struct.Struct("=16s8Q3I?3x"), struct.Struct("=BB2xI2Q4iQ2Q2q2B6x")
-_TOTAL, _CHANGED, _MATCHED = struct.Struct("=2Q"), struct.Struct("=4iQ"), struct.Struct("=2Q2q2B6x")
+_INFO, _NOTICE = struct.Struct("=16s8Q3I?3x"), struct.Struct("=BB2xI2Q4iQ2Q2qIB3x")
+_TOTAL, _CHANGED, _MATCHED = struct.Struct("=2Q"), struct.Struct("=4iQ"), struct.Struct("=2Q2qIB3x")
 _OBSERVED = struct.Struct("=3Q")
 _NUMBER, _HANDLE, _KEY = struct.Struct("=I"), struct.Struct("=Q"), struct.Struct("=16s")
 _SAMPLE_STATES = {int(it): it for it in SampleState}
@@ -124,7 +124,7 @@ class Peer:
     def __init__(self, prefixes: Sequence[Octets], writers: Sequence[WriterConfig], readers: Sequence[ReaderConfig], number: int):
         self._begin()
         configuration, self._own = arrays(prefixes, writers, readers), own_of(writers, readers, number)
-        if code := _LIBRARY.cw_open(self._at, *configuration, u8(number, "number")):
+        if code := _LIBRARY.cw_open(self._at, *configuration, u32(number, "number")):
             fault = fault_in(configuration) if code != Code.MEMORY else None
             raise refused(code, fault.sentence if fault else f"there is no peer {number}" if code == Code.BAD_PARAMETER else "")
 
@@ -134,7 +134,7 @@ class Peer:
         self = cls.__new__(cls)
         self._begin()
         said = text.encode()
-        if code := _LIBRARY.cw_open_text(self._at, said, len(said), u8(number, "number")):
+        if code := _LIBRARY.cw_open_text(self._at, said, len(said), u32(number, "number")):
             raise refused(code, (text_fault(text) or f"there is no peer {number}") if code != Code.MEMORY else "")
         self._own = own_of_text(text, number)
         return self
@@ -143,7 +143,7 @@ class Peer:
         self._lock, self._peer = threading.RLock(), _library.CPeer(False, None)
         self._at = c.byref(self._peer)
         self._make_buffer(_BUFFER)
-        self._needed, self._to, self._value = c.c_size_t(0), c.c_uint8(0), c.create_string_buffer(_INFO.size)
+        self._needed, self._to, self._value = c.c_size_t(0), c.c_uint32(0), c.create_string_buffer(_INFO.size)
         self._value_at, self._to_at, self._needed_at = c.addressof(self._value), c.addressof(self._to), c.addressof(self._needed)
 
     def close(self) -> None:
@@ -552,7 +552,7 @@ class Peer:
 def _named(end: End, kind: str) -> End:
     if not isinstance(end, tuple) or len(end) != 2:
         raise TypeError(f"{kind} is {end!r}, and no pair of the number of its peer and its number there")
-    return u8(end[0], f"the {kind}'s peer"), u8(end[1], f"the {kind}")
+    return u32(end[0], f"the {kind}'s peer"), u8(end[1], f"the {kind}")
 
 
 def _matched(values: Sequence[int]) -> MatchedStatus:

@@ -9,7 +9,7 @@
 #[derive(Clone, Copy, Debug, PartialEq, Eq)]
 pub struct Endpoint {
     /// The number of its peer, from 1.
-    pub peer: u8,
+    pub peer: u32,
     /// Its number among the writers, or among the readers, of that peer, from 1.
     pub number: u8,
 }

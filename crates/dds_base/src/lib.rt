@@ -90,7 +90,7 @@ pub use key::Key;
 pub use lease::is_over;
 pub use mask::{InstanceStateMask, Masks, SampleStateMask, ViewStateMask};
 pub use moment::{MOMENT_END, Moment};
-pub use number::index_of;
+pub use number::{index_of, index_of_peer};
 pub use octets::Octets;
 pub use offers::unfit_policies;
 pub use policies::{

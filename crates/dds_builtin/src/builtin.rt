@@ -188,7 +188,7 @@ fn is_before(prefix: &GuidPrefix, other: &GuidPrefix) -> bool
 }
 
 /// Which of the two peers of a network we are: the one with the smaller prefix comes first.
-pub fn number_of(own: &GuidPrefix, far: &Participant) -> u8
+pub fn number_of(own: &GuidPrefix, far: &Participant) -> u32
     ensures { result ≡ number_of own.now far.now }
 {
     if is_before(own, &far.prefix) { 1 } else { 2 }

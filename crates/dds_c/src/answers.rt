@@ -22,7 +22,7 @@ const NOTHING: Code = Code::NoData;
 fn packet_out(
     packets: &[Packet],
     at: usize,
-    to: &mut u8,
+    to: &mut u32,
     buffer: &mut [u8],
     needed: &mut usize,
 ) -> u8
@@ -50,7 +50,7 @@ pub extern "C" fn cw_packet(
     alloc: Global,
     peer: &mut Peer,
     at: usize,
-    to: &mut u8,
+    to: &mut u32,
     buffer: &mut [u8],
     needed: &mut usize,
 ) -> u8

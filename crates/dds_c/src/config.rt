@@ -9,7 +9,7 @@ ghost use Rattle.dds_c.specs.Opening.{config_of, history_of, lease_of, max_arriv
 
 use dds_base::{
     Config, EntityId, GuidPrefix, HistoryQos, OwnershipQos, PeerConfig, ReaderConfig,
-    ReliabilityQos, Sequence, USUAL_VALUE, WriterConfig, index_of,
+    ReliabilityQos, Sequence, USUAL_VALUE, WriterConfig, index_of_peer,
 };
 use std::alloc::{AllocError, Global};
 
@@ -30,7 +30,7 @@ pub struct FlatPeer {
 #[derive(Clone, Copy)]
 pub struct FlatWriter {
     /// The number of its peer, from 1.
-    pub peer: u8,
+    pub peer: u32,
     /// Three octets of a key, and 0x02.
     pub entity: [u8; 4],
     /// Whether its ownership is exclusive; else it is shared.
@@ -62,7 +62,7 @@ pub struct FlatWriter {
 #[derive(Clone, Copy)]
 pub struct FlatReader {
     /// The number of its peer, from 1.
-    pub peer: u8,
+    pub peer: u32,
     /// Three octets of a key, and 0x07.
     pub entity: [u8; 4],
     /// Whether its ownership is exclusive; else it is shared.
@@ -187,7 +187,7 @@ fn writer_configs(
 {
     let mut found = Vec::new(alloc);
     for writer in writers {
-        if usize::from(writer.peer) == peer {
+        if writer.peer as usize == peer {
             found.push(writer_config(writer))?;
         }
     }
@@ -204,7 +204,7 @@ fn reader_configs(
 {
     let mut found = Vec::new(alloc);
     for reader in readers {
-        if usize::from(reader.peer) == peer {
+        if reader.peer as usize == peer {
             found.push(reader_config(reader))?;
         }
     }
@@ -249,10 +249,10 @@ pub fn config(
 }
 
 /// Whether there is no peer of this number among so many.
-fn is_stranger(peer: u8, count: usize) -> bool
+fn is_stranger(peer: u32, count: usize) -> bool
     ensures { result ≡ not (is_number peer count) }
 {
-    index_of(peer, count).is_none()
+    index_of_peer(peer, count).is_none()
 }
 
 fn writers_name_no_peer(count: usize, writers: &[FlatWriter]) -> bool

@@ -104,7 +104,7 @@ pub extern "C" fn cw_observe(
 pub extern "C" fn cw_observe_writer(
     alloc: Global,
     peer: &mut Peer,
-    writer_peer: u8,
+    writer_peer: u32,
     writer: u8,
     datagram: &[u8],
     observed: &mut FlatObserved,

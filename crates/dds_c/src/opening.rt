@@ -17,7 +17,7 @@ use dds_base::{Code, Config};
 use std::alloc::Global;
 
 /// A peer of a configuration, in a box.
-fn opened(alloc: Global, config: &Config, number: u8) -> Result<Box<Session>, Code>
+fn opened(alloc: Global, config: &Config, number: u32) -> Result<Box<Session>, Code>
     ensures opening { IfOk result (λ session. IsOpening config.now number session.value) }
     ensures refused { IfErr result (Refuses (core_refusal config.now.peers number)) }
 {
@@ -31,7 +31,7 @@ fn opened_of(
     peers: &[FlatPeer],
     writers: &[FlatWriter],
     readers: &[FlatReader],
-    number: u8,
+    number: u32,
 ) -> Result<Box<Session>, Code>
     ensures opening { IfOk result (λ session.
         IsOpening (config_of peers.now writers.now readers.now) number session.value) }
@@ -49,7 +49,7 @@ fn opened_of(
 }
 
 /// A peer of a configuration in lines, in a box.
-fn opened_of_text(alloc: Global, text: &[u8], number: u8) -> Result<Box<Session>, Code>
+fn opened_of_text(alloc: Global, text: &[u8], number: u32) -> Result<Box<Session>, Code>
     ensures opening { IfOk result (λ session. IsSomeOpening number session.value) }
     ensures refused { IfErr result (λ code. RefusesText number (refusing_number code)) }
 {
@@ -81,7 +81,7 @@ pub extern "C" fn cw_open(
     peers: &[FlatPeer],
     writers: &[FlatWriter],
     readers: &[FlatReader],
-    number: u8,
+    number: u32,
 ) -> u8
     // What is open then is that peer of the configuration, at its opening.
     ensures open { result ≡ 0 → IsSomeAnd peer.new.held.session
@@ -110,7 +110,7 @@ pub extern "C" fn cw_open(
 ///
 /// BAD_PARAMETER for a line that is none of these, or a writer or a reader before any peer; else as `cw_open` has them.
 #[unsafe(no_mangle)]
-pub extern "C" fn cw_open_text(alloc: Global, peer: &mut Peer, text: &[u8], number: u8) -> u8
+pub extern "C" fn cw_open_text(alloc: Global, peer: &mut Peer, text: &[u8], number: u32) -> u8
     // What is open then is the peer of this number of some configuration, at its opening.
     ensures open { result ≡ 0 → IsSomeAnd peer.new.held.session (IsSomeOpening number) }
     // A refusal is BAD_PARAMETER, as the text is none of a configuration, or it is by the first cause that there is

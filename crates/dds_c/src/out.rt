@@ -72,7 +72,7 @@ pub struct FlatMatched {
     pub current_count: i64,
     pub current_count_change: i64,
     /// The peer of the reader or writer with which the last match was made or ended, 0 for none.
-    pub last_peer: u8,
+    pub last_peer: u32,
     /// The number of that reader or writer there, 0 for none.
     pub last_number: u8,
 }
@@ -140,7 +140,7 @@ pub fn changed_of(status: LivelinessChangedStatus) -> FlatChanged
     }
 }
 
-fn last_peer(last: Option<Endpoint>) -> u8
+fn last_peer(last: Option<Endpoint>) -> u32
     ensures { result ≡ last_peer last }
 {
     match last {

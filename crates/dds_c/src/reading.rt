@@ -425,7 +425,7 @@ pub extern "C" fn cw_match_writer(
     alloc: Global,
     peer: &mut Peer,
     reader: u8,
-    writer_peer: u8,
+    writer_peer: u32,
     writer: u8,
 ) -> u8
     // It is one step of the peer.
@@ -447,7 +447,7 @@ pub extern "C" fn cw_unmatch_writer(
     alloc: Global,
     peer: &mut Peer,
     reader: u8,
-    writer_peer: u8,
+    writer_peer: u32,
     writer: u8,
 ) -> u8
     // It is one step of the peer.

@@ -82,7 +82,7 @@ impl Session {
     /// # Errors
     ///
     /// As `Core::open` has them.
-    pub fn open(alloc: Global, config: &Config, peer: u8) -> Result<Session, Code>
+    pub fn open(alloc: Global, config: &Config, peer: u32) -> Result<Session, Code>
         ensures opening { IfOk result (IsOpening config.now peer) }
         ensures refused { IfErr result (Refuses (core_refusal config.now.peers peer)) }
     {

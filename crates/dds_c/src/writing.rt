@@ -116,7 +116,7 @@ pub extern "C" fn cw_match_reader(
     alloc: Global,
     peer: &mut Peer,
     writer: u8,
-    reader_peer: u8,
+    reader_peer: u32,
     reader: u8,
 ) -> u8
     // It is one step of the peer.
@@ -142,7 +142,7 @@ pub extern "C" fn cw_greet_reader(
     alloc: Global,
     peer: &mut Peer,
     writer: u8,
-    reader_peer: u8,
+    reader_peer: u32,
     reader: u8,
 ) -> u8
     // It is one step of the peer.
@@ -168,7 +168,7 @@ pub extern "C" fn cw_unmatch_reader(
     alloc: Global,
     peer: &mut Peer,
     writer: u8,
-    reader_peer: u8,
+    reader_peer: u32,
     reader: u8,
 ) -> u8
     // It is one step of the peer.

@@ -63,7 +63,7 @@ impl<F: Filter, L: Listener> Core<F, L> {
     ///
     /// The first of these: what `Config::check` answers; `BadParameter` where the configuration has no peer of this
     /// number; `Memory` where a growth was refused.
-    pub fn open(alloc: Global, config: &Config, peer: u8) -> Result<Core<F, L>, Code>
+    pub fn open(alloc: Global, config: &Config, peer: u32) -> Result<Core<F, L>, Code>
         // The peer stands for its opening in the configuration.
         ensures opening { IfOk result
             (λ core. StandsFor L.notices L.capacity L.becomes

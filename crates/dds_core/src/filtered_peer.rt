@@ -61,7 +61,7 @@ impl<F: Filter> FilteredPeer<F> {
     ///
     /// The first of these: what `Config::check` answers; `BadParameter` where the configuration has no peer of this
     /// number; `Memory` where a growth was refused.
-    pub fn open(alloc: Global, config: &Config, peer: u8) -> Result<FilteredPeer<F>, Code>
+    pub fn open(alloc: Global, config: &Config, peer: u32) -> Result<FilteredPeer<F>, Code>
         // The peer stands for its opening in the configuration.
         ensures opening { IfOk result
             (λ core. StandsFor core config.now (opening_peer config.now peer)) }

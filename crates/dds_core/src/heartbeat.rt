@@ -121,7 +121,7 @@ fn push_told(
     beat: &Beat,
     writer: &StatefulWriter,
     readers: &[ReaderName],
-    peer: u8,
+    peer: u32,
 ) -> Result<(), AllocError>
     requires due { IsDueOf writer.now beat.now.due }
     requires count { reader_count writer.now ≡ length readers.now }
@@ -147,7 +147,7 @@ fn push_matched(
     writer: &StatefulWriter,
     readers: &[ReaderName],
     matched: &[ReaderName],
-    peer: u8,
+    peer: u32,
 ) -> Result<(), AllocError>
     requires due { IsDueOf writer.now beat.now.due }
     requires count { reader_count writer.now ≡ length readers.now }
@@ -165,7 +165,7 @@ fn push_matched(
 
 /// Whether one HEARTBEAT, from this first kept number on, is for all readers at a peer: each of a writer's reliable ones
 /// there is owed all that is kept, and none is silent.
-fn is_one_for_all(writer: &StatefulWriter, readers: &[ReaderName], first: Sn, peer: u8) -> bool
+fn is_one_for_all(writer: &StatefulWriter, readers: &[ReaderName], first: Sn, peer: u32) -> bool
     requires count { reader_count writer.now ≡ length readers.now }
     ensures { ForEach first writer.now readers.now (λ w answered. result ≡ is_one_for_all answered w peer) }
 {
@@ -246,7 +246,7 @@ fn message_to_matched(
 /// Whether some reader of this peer, among the first so many of these readers of a writer, is told.
 ///
 /// RTPS 2.5, 8.4.7 (ReaderProxy, unacked_changes), 8.3.8 (AckNack: FinalFlag).
-fn is_peer_told(writer: &StatefulWriter, readers: &[ReaderName], to: usize, peer: u8) -> bool
+fn is_peer_told(writer: &StatefulWriter, readers: &[ReaderName], to: usize, peer: u32) -> bool
     requires count { reader_count writer.now ≡ length readers.now }
     requires to { to ≤ length readers.now }
     ensures { (w : Writer) (answered : EndpointOf → Contact)

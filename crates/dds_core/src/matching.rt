@@ -19,7 +19,7 @@ use std::alloc::{AllocError, Global};
 /// A peer with a reader that a writer is matched with, by its number and by its name.
 #[derive(Clone, Copy)]
 pub struct Destination {
-    pub peer: u8,
+    pub peer: u32,
     pub prefix: GuidPrefix,
 }
 
@@ -85,7 +85,7 @@ pub fn destinations(
     for (index, peer) in peers.iter().enumerate() {
         if has_reader(peer, topic) {
             all.push(Destination {
-                peer: (index + 1) as u8,
+                peer: (index + 1) as u32,
                 prefix: peer.prefix,
             })?;
         }
@@ -96,7 +96,7 @@ pub fn destinations(
 /// Adds the readers of the topic among those of a peer, reliable or not.
 fn push_topic_names(
     all: &mut Vec<TopicName>,
-    number: u8,
+    number: u32,
     peer: &PeerConfig,
     topic: u32,
 ) -> Result<(), AllocError>
@@ -139,7 +139,7 @@ pub fn topic_names(
 {
     let mut all = Vec::new(alloc);
     for (index, peer) in peers.iter().enumerate() {
-        push_topic_names(&mut all, (index + 1) as u8, peer, topic)?;
+        push_topic_names(&mut all, (index + 1) as u32, peer, topic)?;
     }
     Ok(all)
 }
@@ -172,7 +172,7 @@ pub fn first_counts(alloc: Global, readers: &[ReaderName]) -> Result<Vec<LastCou
 /// Adds the reliable readers of the topic among those of a peer.
 fn push_readers(
     all: &mut Vec<ReaderName>,
-    number: u8,
+    number: u32,
     peer: &PeerConfig,
     topic: u32,
 ) -> Result<(), AllocError>
@@ -211,7 +211,7 @@ pub fn reliable_readers(
 {
     let mut all = Vec::new(alloc);
     for (index, peer) in peers.iter().enumerate() {
-        push_readers(&mut all, (index + 1) as u8, peer, topic)?;
+        push_readers(&mut all, (index + 1) as u32, peer, topic)?;
     }
     Ok(all)
 }
@@ -226,7 +226,7 @@ pub struct MatchedWriters {
 /// Adds the writers of the topic among those of a peer.
 fn push_writers(
     all: &mut MatchedWriters,
-    number: u8,
+    number: u32,
     peer: &PeerConfig,
     topic: u32,
 ) -> Result<(), AllocError>
@@ -281,7 +281,7 @@ pub fn matched_writers(
         qos: Vec::new(alloc),
     };
     for (index, peer) in peers.iter().enumerate() {
-        push_writers(&mut all, (index + 1) as u8, peer, topic)?;
+        push_writers(&mut all, (index + 1) as u32, peer, topic)?;
     }
     Ok(all)
 }

@@ -14,7 +14,7 @@ use crate::peer::Peer;
 use crate::reader_end::ReaderEnd;
 use crate::spare_lists::SpareLists;
 use crate::writer_end::WriterEnd;
-use dds_base::{Code, Config, Moment, PeerConfig, index_of};
+use dds_base::{Code, Config, Moment, PeerConfig, index_of_peer};
 use dds_conditions::Watch;
 use std::alloc::{AllocError, Global};
 
@@ -71,7 +71,7 @@ impl Peer {
     ///
     /// The first of these: what `Config::check` answers; `BadParameter` where the configuration has no peer of this
     /// number; `Memory` where a growth was refused.
-    pub fn open(alloc: Global, config: &Config, peer: u8) -> Result<Peer, Code>
+    pub fn open(alloc: Global, config: &Config, peer: u32) -> Result<Peer, Code>
         // The peer stands for its opening in the configuration.
         ensures opening { IfOk result
             (λ core. StandsFor core config.now (opening_peer config.now peer)) }
@@ -82,7 +82,7 @@ impl Peer {
     {
         config.check()?;
         let peers = config.peers.as_slice();
-        let Some(index) = index_of(peer, peers.len()) else {
+        let Some(index) = index_of_peer(peer, peers.len()) else {
             return Err(Code::BadParameter);
         };
         Ok(open(alloc, peers, index)?)

@@ -35,7 +35,7 @@ pub struct Announced {
 }
 
 /// Adds the packet of these bytes to a peer, if there is memory for it.
-fn push_bytes(packets: &mut Vec<Packet>, bytes: Vec<u8>, to: u8)
+fn push_bytes(packets: &mut Vec<Packet>, bytes: Vec<u8>, to: u32)
     ensures { AddsOctets packets.old.items bytes.items to packets.new.items }
 {
     let bytes = Octets::from_vec(bytes);
@@ -43,7 +43,7 @@ fn push_bytes(packets: &mut Vec<Packet>, bytes: Vec<u8>, to: u8)
 }
 
 /// Adds the packet of a message to a peer, if there is memory for it.
-pub fn push_packet(alloc: Global, packets: &mut Vec<Packet>, message: &Message, to: u8)
+pub fn push_packet(alloc: Global, packets: &mut Vec<Packet>, message: &Message, to: u32)
     requires { IsWritable message.now }
     ensures { AddsPacket packets.old.items message.now to packets.new.items }
 {
@@ -53,7 +53,7 @@ pub fn push_packet(alloc: Global, packets: &mut Vec<Packet>, message: &Message, 
 }
 
 /// Sends a message that is due to a peer, or counts it where it finds no memory.
-pub fn send(alloc: Global, sent: &mut Announced, message: &Message, to: u8)
+pub fn send(alloc: Global, sent: &mut Announced, message: &Message, to: u32)
     requires writable { IsWritable message.now }
     requires some { 1 ≤ length message.now.submessages }
     requires room { sent.old.unsent < max_unsent }
@@ -73,7 +73,7 @@ pub fn send_made(
     alloc: Global,
     sent: &mut Announced,
     message: Result<Message<'_>, AllocError>,
-    to: u8,
+    to: u32,
 )
     requires writable { ForOk message IsWritable }
     requires some { ForOk message (λ m. 1 ≤ length m.submessages) }

@@ -1,7 +1,7 @@
 //! Why a line of a script is no command.
 
 use dds_script::{
-    Form, Operand, call_cause, decimal, decimal_u8, form_cause, peer_form, reader_options_cause,
+    Form, Operand, call_cause, decimal, decimal_u32, form_cause, peer_form, reader_options_cause,
     unknown_cause, words_or_cause, writer_options_cause,
 };
 use std::alloc::{AllocError, Global};
@@ -46,10 +46,10 @@ fn words_cause(alloc: Global, words: &[&str]) -> Result<String, AllocError> {
     let [first, operands @ ..] = words else {
         return String::from_str(alloc, "a command is wanted");
     };
-    if decimal_u8(first).is_some() {
+    if decimal_u32(first).is_some() {
         operation_cause(alloc, operands)
     } else if decimal(first).is_some() {
-        String::from_str(alloc, "the number of a peer is at most 255")
+        String::from_str(alloc, "the number of a peer is at most 4294967295")
     } else {
         command_cause(alloc, first, operands)
     }

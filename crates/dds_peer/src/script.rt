@@ -4,7 +4,7 @@ use crate::setup::SetupPart;
 use dds_base::{Endpoint, Moment, Octets};
 use dds_machine::WorldEvent;
 use dds_script::{
-    ListenerLine, call_of, decimal, decimal_u8, listener_line, reader_end, reader_number,
+    ListenerLine, call_of, decimal, decimal_u32, listener_line, reader_end, reader_number,
     reader_options, units, value, words_of, writer_end, writer_options,
 };
 use std::alloc::{AllocError, Global};
@@ -18,16 +18,16 @@ pub enum Line {
     /// Something happens to the network.
     Event(WorldEvent),
     /// A peer has a filter more, by the octets with which a value begins.
-    Filter { peer: u8, octets: Octets },
+    Filter { peer: u32, octets: Octets },
     /// An entity of a peer has another listener, or none.
-    Listener { peer: u8, asked: ListenerLine },
+    Listener { peer: u32, asked: ListenerLine },
     /// A round of repair for a writer and a reader.
     Round { writer: Endpoint, reader: Endpoint },
     /// The bytes of a packet are asked for.
     Packet(u64),
 }
 
-fn tick(peer: u8, words: &[&str]) -> Option<Line> {
+fn tick(peer: u32, words: &[&str]) -> Option<Line> {
     let [now] = words else {
         return None;
     };
@@ -35,7 +35,7 @@ fn tick(peer: u8, words: &[&str]) -> Option<Line> {
     Some(Line::Event(WorldEvent::Tick { peer, now }))
 }
 
-fn resumption(peer: u8, words: &[&str]) -> Option<Line> {
+fn resumption(peer: u32, words: &[&str]) -> Option<Line> {
     let [reader] = words else {
         return None;
     };
@@ -47,7 +47,7 @@ fn delivery(words: &[&str]) -> Option<Line> {
     let [peer, packet] = words else {
         return None;
     };
-    let peer = decimal_u8(peer)?;
+    let peer = decimal_u32(peer)?;
     let packet = decimal(packet)?;
     Some(Line::Event(WorldEvent::Deliver { peer, packet }))
 }
@@ -81,7 +81,7 @@ fn command(first: &str, words: &[&str]) -> Option<Line> {
     }
 }
 
-fn filter(alloc: Global, peer: u8, words: &[&str]) -> Result<Option<Line>, AllocError> {
+fn filter(alloc: Global, peer: u32, words: &[&str]) -> Result<Option<Line>, AllocError> {
     let [octets] = words else {
         return Ok(None);
     };
@@ -91,12 +91,12 @@ fn filter(alloc: Global, peer: u8, words: &[&str]) -> Result<Option<Line>, Alloc
     }
 }
 
-fn listener(peer: u8, words: &[&str]) -> Option<Line> {
+fn listener(peer: u32, words: &[&str]) -> Option<Line> {
     let asked = listener_line(words)?;
     Some(Line::Listener { peer, asked })
 }
 
-fn call(alloc: Global, peer: u8, words: &[&str]) -> Result<Option<Line>, AllocError> {
+fn call(alloc: Global, peer: u32, words: &[&str]) -> Result<Option<Line>, AllocError> {
     match call_of(alloc, words)? {
         Some(call) => Ok(Some(Line::Event(WorldEvent::Call { peer, call }))),
         None => Ok(None),
@@ -104,7 +104,7 @@ fn call(alloc: Global, peer: u8, words: &[&str]) -> Result<Option<Line>, AllocEr
 }
 
 /// What a peer is told to do.
-fn operation(alloc: Global, peer: u8, words: &[&str]) -> Result<Option<Line>, AllocError> {
+fn operation(alloc: Global, peer: u32, words: &[&str]) -> Result<Option<Line>, AllocError> {
     match words {
         ["tick", operands @ ..] => Ok(tick(peer, operands)),
         ["resume", operands @ ..] => Ok(resumption(peer, operands)),
@@ -118,7 +118,7 @@ fn line_of_words(alloc: Global, words: &[&str]) -> Result<Option<Line>, AllocErr
     let [first, operands @ ..] = words else {
         return Ok(None);
     };
-    match decimal_u8(first) {
+    match decimal_u32(first) {
         Some(peer) => operation(alloc, peer, operands),
         None => Ok(command(first, operands)),
     }

@@ -91,7 +91,7 @@ fn push_round(text: &mut TranscriptLine, world: &mut World, writer: Endpoint, re
     }
 }
 
-fn push_filter(text: &mut TranscriptLine, world: &mut World, peer: u8, octets: Octets) {
+fn push_filter(text: &mut TranscriptLine, world: &mut World, peer: u32, octets: Octets) {
     match world.add_filter(peer, Prefix::new(octets)) {
         Ok(number) => text.push_created(number),
         Err((code, _)) => text.push_code(code),
@@ -102,7 +102,7 @@ fn push_filter(text: &mut TranscriptLine, world: &mut World, peer: u8, octets: O
 fn set_listener(
     alloc: Global,
     world: &mut World,
-    peer: u8,
+    peer: u32,
     asked: ListenerLine,
 ) -> Result<Option<Recorder>, Code> {
     let listener = asked.recorder(alloc)?;

@@ -4,7 +4,7 @@ use crate::kinds::{KindLine, guid, kind_line};
 use dds_base::{Guid, Moment, Octets};
 use dds_protocol::Event;
 use dds_script::{
-    ListenerLine, SetupLine, call_of, decimal_u8, entity_id, guid_prefix, listener_line,
+    ListenerLine, SetupLine, call_of, decimal_u32, entity_id, guid_prefix, listener_line,
     reader_number, reader_options, units, value, words_of, writer_options,
 };
 use std::alloc::{AllocError, Global};
@@ -21,7 +21,7 @@ pub enum Line {
     /// A datagram is looked at for fragments.
     Hear(Octets),
     /// The peer opens as the one of this number.
-    Open(u8),
+    Open(u32),
     /// The peer has a filter more, by the octets with which a value begins.
     Filter(Octets),
     /// An entity of the peer has another listener, or none.
@@ -59,7 +59,7 @@ fn open(words: &[&str]) -> Option<Line> {
     let [number] = words else {
         return None;
     };
-    Some(Line::Open(decimal_u8(number)?))
+    Some(Line::Open(decimal_u32(number)?))
 }
 
 fn fragments(words: &[&str]) -> Option<Line> {

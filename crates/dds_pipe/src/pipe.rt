@@ -42,7 +42,7 @@ struct Session {
     fragments: Fragments,
 }
 
-fn packet_line(alloc: Global, to: u8, bytes: &[u8]) -> Result<String, AllocError> {
+fn packet_line(alloc: Global, to: u32, bytes: &[u8]) -> Result<String, AllocError> {
     let mut text = TranscriptLine::new(alloc);
     text.push_packet(u64::from(to), Some(bytes));
     text.finish()
@@ -202,7 +202,7 @@ impl Session {
     }
 
     /// Opens the peer of a number, once.
-    fn open(&mut self, peer: u8, line: u64) -> Result<Reply, Fault> {
+    fn open(&mut self, peer: u32, line: u64) -> Result<Reply, Fault> {
         let Stage::Naming(setup) = &mut self.stage else {
             return Err(self.too_late(line));
         };

@@ -12,7 +12,7 @@ use std::alloc::AllocError;
 #[derive(Debug, Drop, PartialEq, Eq)]
 pub struct Packet {
     /// The number of the peer that it is sent to, from 1.
-    pub to: u8,
+    pub to: u32,
     /// A message of RTPS, as `dds_core` writes it.
     pub bytes: Octets,
 }

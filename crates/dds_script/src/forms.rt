@@ -3,7 +3,7 @@
 //! What a line says is read elsewhere. Forms serve to tell what is wrong with one that says nothing.
 
 use crate::number::{
-    decimal, decimal_i32, decimal_u8, entity_id, guid_prefix, is_value, key, units,
+    decimal, decimal_i32, decimal_u32, entity_id, guid_prefix, is_value, key, units,
 };
 use crate::operand::{
     condition, entity, handle, mask, reader_end, reader_number, writer_end, writer_number,
@@ -72,7 +72,7 @@ impl Operand {
     /// Whether a word is one.
     pub fn fits(self, word: &str) -> bool {
         match self {
-            Operand::Peer => decimal_u8(word).is_some(),
+            Operand::Peer => decimal_u32(word).is_some(),
             Operand::Writer => writer_number(word).is_some(),
             Operand::Reader => reader_number(word).is_some(),
             Operand::WriterOfPeer => writer_end(word).is_some(),
@@ -139,7 +139,7 @@ impl Operand {
     /// What such a word is.
     fn meaning(self) -> &'static str {
         match self {
-            Operand::Peer => "the number of a peer, up to 255",
+            Operand::Peer => "the number of a peer, up to 4294967295",
             Operand::Writer => "`w` and the number of a writer, up to 255",
             Operand::Reader => "`r` and the number of a reader, up to 255",
             Operand::WriterOfPeer => "a writer with its peer, as 1.w2",

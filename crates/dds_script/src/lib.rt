@@ -32,7 +32,7 @@ pub use forms::{Form, Operand, peer_form};
 pub use lines::Lines;
 pub use listening::{ListenerLine, listener_line};
 pub use matching::Side;
-pub use number::{decimal, decimal_u8, entity_id, guid_prefix, units, value};
+pub use number::{decimal, decimal_u32, entity_id, guid_prefix, units, value};
 pub use operand::{reader_end, reader_number, writer_end};
 pub use options::{Options, reader_options, writer_options};
 pub use prefix::Prefix;

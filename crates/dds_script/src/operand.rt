@@ -22,7 +22,7 @@ pub fn reader_number(word: &str) -> Option<u8> {
 pub fn writer_end(word: &str) -> Option<Endpoint> {
     let (peer, number) = word.split_once('.')?;
     Some(Endpoint {
-        peer: decimal_u8(peer)?,
+        peer: decimal_u32(peer)?,
         number: writer_number(number)?,
     })
 }
@@ -31,7 +31,7 @@ pub fn writer_end(word: &str) -> Option<Endpoint> {
 pub fn reader_end(word: &str) -> Option<Endpoint> {
     let (peer, number) = word.split_once('.')?;
     Some(Endpoint {
-        peer: decimal_u8(peer)?,
+        peer: decimal_u32(peer)?,
         number: reader_number(number)?,
     })
 }

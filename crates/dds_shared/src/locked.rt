@@ -39,7 +39,7 @@ pub const SEATS: u64 = 4294967295;
 #[derive(Drop)]
 pub struct Locked<N: Named<F, L>, F: Filter, L: Listener, T: Keeping> {
     pub(crate) core: Mindful<F, L>,
-    pub(crate) peer: u8,
+    pub(crate) peer: u32,
     pub(crate) trace: T,
     pub(crate) tally: Tally<N>,
     rest: Share<N>,
@@ -71,7 +71,7 @@ pub struct Did<A: Drop> {
 #[derive(Drop)]
 pub struct Left<F: Filter, L: Listener, T: Keeping> {
     pub core: Core<F, L>,
-    pub peer: u8,
+    pub peer: u32,
     pub trace: T,
 }
 
@@ -80,7 +80,7 @@ impl<N: Named<F, L>, F: Filter, L: Listener, T: Keeping> Locked<N, F, L, T> {
     pub fn open<P: Handing>(
         alloc: Global,
         core: Mindful<F, L>,
-        peer: u8,
+        peer: u32,
         tally: Tally<N>,
         all: Share<N>,
         word: &Word<N, Entry>,

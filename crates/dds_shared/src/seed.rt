@@ -27,7 +27,7 @@ pub struct Seed<F: Filter, L: Listener> {
     pub(crate) blank: Blank,
     pub(crate) word: NewWord<Entry>,
     pub(crate) config: Snapshot<Config>,
-    pub(crate) peer: u8,
+    pub(crate) peer: u32,
     pub(crate) alloc: Global,
 }
 
@@ -61,7 +61,7 @@ impl<F: Filter, L: Listener> Seed<F, L> {
     ///
     /// The first of these: what `Config::check` answers; `BadParameter` where the configuration has no peer of this
     /// number; `Memory` where a growth was refused.
-    pub fn new(alloc: Global, config: &Config, peer: u8) -> Result<Seed<F, L>, Code>
+    pub fn new(alloc: Global, config: &Config, peer: u32) -> Result<Seed<F, L>, Code>
         // It is that peer.
         ensures of { IfOk result (λ seed. (seed.config ≡ config.now) × (seed.peer ≡ peer)) }
         // Against what is opened there is no cause.

@@ -42,7 +42,7 @@ impl Seated for Entry {
 /// room.
 #[derive(Debug, Drop)]
 pub struct Trace {
-    peer: u8,
+    peer: u32,
     entries: Vec<Entry>,
 }
 
@@ -61,7 +61,7 @@ impl Model for Trace {
 
 impl Trace {
     /// The trace of the peer of this number, in which nothing happened. It takes no memory.
-    pub fn open(alloc: Global, peer: u8) -> Trace
+    pub fn open(alloc: Global, peer: u32) -> Trace
         ensures peer { result.peer ≡ peer }
         ensures entries { result.entries ≡ [] }
     {
@@ -72,7 +72,7 @@ impl Trace {
     }
 
     /// The trace of the peer of this number, which did this. It takes no memory.
-    pub fn from_entries(peer: u8, entries: Vec<Entry>) -> Trace
+    pub fn from_entries(peer: u32, entries: Vec<Entry>) -> Trace
         ensures peer { result.peer ≡ peer }
         ensures entries { result.entries ≡ entries.items }
     {

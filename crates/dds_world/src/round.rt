@@ -10,7 +10,7 @@ ghost use Rattle.dds_world.specs.Holding.{MachineStandsFor, filters_of, kept_of,
 ghost use Rattle.dds_world.specs.Repairing.{Acknowledging, AddsIn, Answering, Beating, IsKnown, IsStepIn, NotMatched};
 
 use crate::world::World;
-use dds_base::{Code, Endpoint, Moment, Sequence, Sn, index_of};
+use dds_base::{Code, Endpoint, Moment, Sequence, Sn, index_of_peer};
 use dds_conditions::Filter;
 use dds_core::Pair;
 use dds_machine::{Reply, WorldEvent};
@@ -90,7 +90,7 @@ const MAX_ANSWERS: u64 = 256;
 const MAX_REPLIES: usize = 259;
 
 /// Whether the packet is sent to this peer, and has such a submessage.
-fn is_to(packet: &Packet, peer: u8, wanted: &Sought) -> bool
+fn is_to(packet: &Packet, peer: u32, wanted: &Sought) -> bool
     ensures { IsTrue result ↔ IsTo peer wanted.now packet.now }
 {
     packet.to == peer && has_submessage(packet.bytes.as_slice(), wanted)
@@ -174,7 +174,7 @@ impl<F: Filter, L: Listener> World<F, L> {
             (NotMatched (kept_of L.notices L.capacity L.becomes given self.now) writer reader)
             (IsKnown (kept_of L.notices L.capacity L.becomes given self.now)) }
     {
-        let Some(index) = index_of(writer.peer, self.count()) else {
+        let Some(index) = index_of_peer(writer.peer, self.count()) else {
             return None;
         };
         let core = &self.peers[index];
@@ -190,7 +190,7 @@ impl<F: Filter, L: Listener> World<F, L> {
     }
 
     /// The number of the first packet to this peer with such a submessage, among those after so many.
-    fn find(&self, from: u64, peer: u8, wanted: &Sought) -> Option<u64>
+    fn find(&self, from: u64, peer: u32, wanted: &Sought) -> Option<u64>
         ensures { MatchOption result
             (HasNone (IsTo peer wanted.now) self.now.sent from (length self.now.sent))
             (IsFirst (IsTo peer wanted.now) self.now.sent from (length self.now.sent)) }
@@ -266,7 +266,7 @@ impl<F: Filter, L: Listener> World<F, L> {
     }
 
     /// Delivers the packets after so many at this peer, up to 256.
-    fn deliver_answers(&mut self, peer: u8, from: u64, replies: &mut Vec<RoundReply>)
+    fn deliver_answers(&mut self, peer: u32, from: u64, replies: &mut Vec<RoundReply>)
         requires room { vec_len replies.old + 256 ≤ vec_capacity replies.old }
         ensures adds { AddsIn L.notices L.capacity L.becomes
             (λ hearing. Answering (tests_in F.meaning self.old) peer from)

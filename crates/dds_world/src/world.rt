@@ -25,7 +25,7 @@ ghost use Rattle.dds_world.specs.Acting.{Counts, IsQuiet, OpensFirst};
 ghost use Rattle.dds_world.specs.Holding.{Adds, RefusesFilter, RefusesListener, Sets, MachineStandsFor, filters_of, kept_of, none_given, tests_by, tests_in};
 ghost use Rattle.dds_world.specs.HeldSteps.{ActsIn, IsOfPeer, StepsIn};
 
-use dds_base::{Code, Config, Endpoint, Entity, Sequence, Sn, index_of};
+use dds_base::{Code, Config, Endpoint, Entity, Sequence, Sn, index_of_peer};
 use dds_conditions::Filter;
 use dds_core::Core;
 use dds_machine::{Reply, WorldEvent};
@@ -99,7 +99,7 @@ fn open_peer<F: Filter, L: Listener>(
     ensures taken { IfOk result (λ core. check_refusal config.now.peers ≡ None) }
     ensures refused { IfErr result (Refuses (check_refusal config.now.peers)) }
 {
-    Core::open(alloc, config, (index + 1) as u8)
+    Core::open(alloc, config, (index + 1) as u32)
 }
 
 /// The peers of a checked configuration, at their opening.
@@ -240,7 +240,7 @@ impl<F: Filter, L: Listener> World<F, L> {
     /// `Memory` where a growth was refused. The filter comes back, and nothing changes.
     ///
     /// DDS 1.4, 2.2.2.5 (QueryCondition).
-    pub fn add_filter(&mut self, peer: u8, filter: F) -> Result<u32, (Code, F)>
+    pub fn add_filter(&mut self, peer: u32, filter: F) -> Result<u32, (Code, F)>
         // It is the last one there, by the next number, and nothing else changes.
         ensures ok { IfOk result
             (λ number. Adds L.notices L.capacity L.becomes self.old peer filter number self.new) }
@@ -251,7 +251,7 @@ impl<F: Filter, L: Listener> World<F, L> {
         // A refusal changes nothing.
         ensures err { OnErr result (self.new ≡ self.old) }
     {
-        match index_of(peer, self.count()) {
+        match index_of_peer(peer, self.count()) {
             Some(index) => self.peers[index].add_filter(filter),
             None => Err((Code::BadParameter, filter)),
         }
@@ -268,7 +268,7 @@ impl<F: Filter, L: Listener> World<F, L> {
     /// DDS 1.4, 2.2.2.1 (Entity, set_listener), 2.2.4.3 (access through listeners).
     pub fn set_listener(
         &mut self,
-        peer: u8,
+        peer: u32,
         entity: Entity,
         mask: StatusMask,
         listener: Option<L>,
@@ -286,7 +286,7 @@ impl<F: Filter, L: Listener> World<F, L> {
         // A refusal changes nothing.
         ensures err { OnErr result (self.new ≡ self.old) }
     {
-        match index_of(peer, self.count()) {
+        match index_of_peer(peer, self.count()) {
             Some(index) => self.peers[index].set_listener(entity, mask, listener),
             None => Err((Code::BadParameter, listener)),
         }
@@ -311,17 +311,17 @@ impl<F: Filter, L: Listener> World<F, L> {
     }
 
     /// An event of the peer of this number that is no delivery.
-    fn happen_to(&mut self, peer: u8, event: Event) -> Reply
+    fn happen_to(&mut self, peer: u32, event: Event) -> Reply
         ensures { (whole : WorldEvent) → IsOfPeer whole peer event
             → StepsIn F.meaning L.notices L.capacity L.becomes self.old whole result self.new }
     {
-        match index_of(peer, self.count()) {
+        match index_of_peer(peer, self.count()) {
             Some(index) => self.happen_at(index, event),
             None => Reply::Refused(Code::BadParameter),
         }
     }
 
-    fn deliver(&mut self, peer: u8, packet: u64) -> Reply
+    fn deliver(&mut self, peer: u32, packet: u64) -> Reply
         ensures { StepsIn F.meaning L.notices L.capacity L.becomes self.old
             (event.Deliver peer packet) result self.new }
     {
@@ -332,12 +332,12 @@ impl<F: Filter, L: Listener> World<F, L> {
     }
 
     /// Delivers the packet of this index.
-    fn deliver_sent(&mut self, peer: u8, sent: usize) -> Reply
+    fn deliver_sent(&mut self, peer: u32, sent: usize) -> Reply
         requires sent { sent < length self.old.sent }
         ensures { StepsIn F.meaning L.notices L.capacity L.becomes self.old
             (event.Deliver peer (sent + 1)) result self.new }
     {
-        match index_of(peer, self.count()) {
+        match index_of_peer(peer, self.count()) {
             Some(index) => self.deliver_at(index, sent),
             None => Reply::Refused(Code::BadParameter),
         }
@@ -421,7 +421,7 @@ impl<F: Filter, L: Listener> World<F, L> {
             → MachineStandsFor L.notices L.capacity L.becomes given self.now config m
             → result ≡ place_at m reader writer }
     {
-        let Some(index) = index_of(reader.peer, self.count()) else {
+        let Some(index) = index_of_peer(reader.peer, self.count()) else {
             return None;
         };
         self.peers[index].place(reader.number, writer)
@@ -437,7 +437,7 @@ impl<F: Filter, L: Listener> World<F, L> {
             → result
             ≡ is_attached (how_of (own_proxies (part_at m reader.peer) reader.number) writer) }
     {
-        let Some(index) = index_of(reader.peer, self.count()) else {
+        let Some(index) = index_of_peer(reader.peer, self.count()) else {
             return false;
         };
         self.peers[index].is_matched(reader.number, writer)

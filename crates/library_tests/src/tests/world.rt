@@ -67,7 +67,7 @@ fn event_of(alloc: Global, first: &str, operands: &str) -> Option<WorldEvent> {
 fn push_filter<F: Filter, L: Listener>(
     text: &mut String,
     world: &mut WorldOf<F, L>,
-    peer: u8,
+    peer: u32,
     filter: F,
 ) {
     let added = match world.add_filter(peer, filter) {
