@@ -18,7 +18,7 @@ use Rattle.dds_base.specs.declared.config_fault.ConfigPlace.{ConfigPlace}
 use Rattle.dds_base.specs.declared.config_fault.ConfigPlace.TheVariants.{Whole, Peer, Writer, Reader}
 use Rattle.dds_base.specs.declared.config_fault.ConfigFault.{ConfigFault}
 use Rattle.dds_base.specs.Matched.{matched_writers_of}
-use Rattle.dds_base.specs.Checked.{same_prefix, unknown_prefix, has_kind, prefix_count, entity_count, has_no_depth, is_maximum, is_bad_life, is_bad_lease, is_bad_value, is_bad_writer, is_bad_reader, is_bad_peer, has_bad_parameter, exceeds_limit, differ, is_longer, are_incompatible, is_inconsistent_peer, has_inconsistent_policy, check_refusal}
+use Rattle.dds_base.specs.Checked.{same_prefix, unknown_prefix, has_kind, prefix_count, entity_count, has_no_depth, is_maximum, is_bad_life, is_bad_lease, is_bad_value, is_bad_writer, is_bad_reader, is_bad_peer, has_bad_parameter, exceeds_limit, differ, asks_for_more, is_longer, are_incompatible, is_inconsistent_peer, has_inconsistent_policy, check_refusal}
 use Rattle.dds_base.specs.Faults.{code_of_rule, breaks_as_peer, breaks_as_writer, breaks_as_reader, passes_at, breaks_at, Breaks}
 use Rattle.dds_base.specs.FaultAt.{first_broken, writer_rules, reader_rules, peer_rules, whole_rules, fault_at, first_at, writer_fault, reader_fault, writers_fault, readers_fault, peer_fault, pass_fault, config_fault}
 use Rattle.dds_base.specs.Life.{or_else}
@@ -115,15 +115,19 @@ unfit_reader : (peers : List PeerConfig) (p : PeerConfig) (peer n : ℕ) (r : Re
     ≡ (exceeds_limit r.history r.max_samples || list_any (are_incompatible r) (matched_writers_of peers r))
 unfit_reader peers p peer n r =
     let other : WriterConfig → Bool = λ w. differ w.ownership r.ownership in
+    let more : WriterConfig → Bool = λ w. asks_for_more r.reliability w.reliability in
     let longer : WriterConfig → Bool = λ w. is_longer w.lease r.lease in
     let greater : WriterConfig → Bool = λ w. nat_lt r.max_value w.max_value in
     let matched : List WriterConfig = matched_writers_of peers r in
     some_reader Policies peers p peer n r
     ∙ ap (λ (b : Bool). exceeds_limit r.history r.max_samples || b)
-    (ap (λ (b : Bool). list_any other matched || (list_any longer matched || b)) (or_false (list_any greater matched))
-    ∙ (ap (λ (b : Bool). list_any other matched || b) (sym (any_or longer greater matched))
-    ∙ (sym (any_or other (λ w. longer w || greater w) matched)
-    ∙ sym (any_same (are_incompatible r) (λ w. other w || (longer w || greater w)) matched (λ w. incompatible-is w r)))))
+    (ap (λ (b : Bool). list_any other matched || (list_any more matched || (list_any longer matched || b)))
+    (or_false (list_any greater matched))
+    ∙ (ap (λ (b : Bool). list_any other matched || (list_any more matched || b)) (sym (any_or longer greater matched))
+    ∙ (ap (λ (b : Bool). list_any other matched || b) (sym (any_or more (λ w. longer w || greater w) matched))
+    ∙ (sym (any_or other (λ w. more w || (longer w || greater w)) matched)
+    ∙ sym (any_same (are_incompatible r) (λ w. other w || (more w || (longer w || greater w))) matched
+    (λ w. incompatible-is w r))))))
 
 some_peer : (pass : Pass) (peers : List PeerConfig) (n : ℕ) (p : PeerConfig)
     → is_some (peer_fault pass peers n p) ≡
@@ -286,7 +290,8 @@ reader_each Q Parameters peers p r h = (
     (λ e. h _ e refl, (λ e. h _ e refl, (λ e. h _ e refl, (λ e. h _ e refl, (λ e. h _ e refl, (λ e. h _ e refl, tt)))))),
   ),
 )
-reader_each Q Policies peers p r h = (λ e. h _ e refl, (λ e. h _ e refl, (λ e. h _ e refl, (λ e. h _ e refl, tt))))
+reader_each Q Policies peers p r h =
+    (λ e. h _ e refl, (λ e. h _ e refl, (λ e. h _ e refl, (λ e. h _ e refl, (λ e. h _ e refl, tt)))))
 
 peer_each : (Q : ConfigRule → Type 0) (pass : Pass) (peers : List PeerConfig) (p : PeerConfig)
     → ((rule : ConfigRule) → breaks_as_peer peers rule p ≡ true → code_of_rule rule ≡ pass_code pass → Q rule)

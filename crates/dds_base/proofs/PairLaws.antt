@@ -1,11 +1,12 @@
--- What a configured writer offers fits what a configured reader asks for, but for OWNERSHIP and the lease of
--- LIVELINESS.
+-- What a configured writer offers fits what a configured reader asks for, but for OWNERSHIP, RELIABILITY and the lease
+-- of LIVELINESS.
 use Rattle.std.proofs.Common.{◌≡◌, ℕ, ◌+◌, ◌*◌, ◌/◌, ◌%◌, ◌^◌, ◌<◌, ◌==◌, Bool, true, false, not, ◌&&◌, ◌||◌, Option, Some, None, refl, ap, sym, ◌∙◌, arith}
 use Rattle.std.specs.Prelude.{if◌then◌else◌, nat_le, nat_lt}
 use Rattle.std.proofs.Math.Bool.{or_self}
 use Rattle.std.proofs.lemmas.Bool.Decides.{nat_tests}
 use Rattle.dds_base.specs.Access.{has_bit}
-use Rattle.dds_base.specs.Checked.{are_incompatible, differ, is_longer}
+use Rattle.dds_base.specs.Checked.{are_incompatible, asks_for_more, differ, is_longer}
+use Rattle.dds_base.specs.Matched.{is_reliable_reader}
 use Rattle.dds_base.specs.Offered.{offered, requested}
 use Rattle.dds_base.specs.Offers.{is_empty, is_within, unfit_policies}
 use Rattle.dds_base.specs.Policies.{infinite, lasting, ownership_code, reliability_code, units_of}
@@ -87,41 +88,46 @@ own_is Shared Exclusive = refl
 own_is Exclusive Shared = refl
 own_is Exclusive Exclusive = refl
 
-takes_reliable : (k : ReliabilityQos) → nat_le (reliability_code k) (reliability_code Reliable) ≡ true
-takes_reliable BestEffort = refl
-takes_reliable Reliable = refl
+more_is : (r w : ReliabilityQos) → nat_le (reliability_code r) (reliability_code w) ≡ not (asks_for_more r w)
+more_is BestEffort BestEffort = refl
+more_is BestEffort Reliable = refl
+more_is Reliable BestEffort = refl
+more_is Reliable Reliable = refl
 
--- a pair fits where its ownership is the same and its lease is offered
+-- a pair fits where its ownership is the same, and its lease and its reliability are offered
 abbrev fit_parts : WriterConfig → ReaderConfig → Bool
 fit_parts w r =
     (ownership_code w.ownership == ownership_code r.ownership)
     && is_within (units_of (lasting w.lease)) (units_of (lasting r.lease))
-    && nat_le (reliability_code r.reliability) (reliability_code Reliable)
+    && nat_le (reliability_code r.reliability) (reliability_code w.reliability)
     && true
 
 fit-is : (w : WriterConfig) (r : ReaderConfig) → is_empty (unfit_policies (offered w) (requested r)) ≡ fit_parts w r
 fit-is w r = unfit-empty (offered w) (requested r)
 
-by_parts : (within differs longer greater : Bool) → (not within || longer) ≡ longer
-    → (not (not differs && within && true && true) || (longer || greater)) ≡ (differs || (longer || greater))
-by_parts true true longer greater h = refl
-by_parts true false longer greater h = refl
-by_parts false true longer greater h = refl
-by_parts false false true greater h = refl
-by_parts false false false greater h = absurd (cc)
+by_parts : (within differs more longer greater : Bool) → (not within || longer) ≡ longer
+    → (not (not differs && within && not more && true) || (longer || greater))
+    ≡ (differs || (more || (longer || greater)))
+by_parts within true more longer greater h = refl
+by_parts true false true longer greater h = refl
+by_parts true false false longer greater h = refl
+by_parts false false more true greater h = sym (or_true more)
+by_parts false false more false greater h = absurd (cc)
 
 pub incompatible-is : (w : WriterConfig) (r : ReaderConfig) → are_incompatible r w ≡
-    (differ w.ownership r.ownership || (is_longer w.lease r.lease || nat_lt r.max_value w.max_value))
+    (differ w.ownership r.ownership || (asks_for_more r.reliability w.reliability
+    || (is_longer w.lease r.lease || nat_lt r.max_value w.max_value)))
 incompatible-is w r =
     let rest : Bool = is_longer w.lease r.lease || nat_lt r.max_value w.max_value in
     let within : Bool = is_within (units_of (lasting w.lease)) (units_of (lasting r.lease)) in
     ap (λ (fit : Bool). not fit || rest) (fit-is w r)
-    ∙ (ap (λ (own : Bool). not (own && within && nat_le (reliability_code r.reliability) 2 && true) || rest)
+    ∙ (ap (λ (own : Bool). not (own && within
+    && nat_le (reliability_code r.reliability) (reliability_code w.reliability) && true) || rest)
     (own_is w.ownership r.ownership)
     ∙ (ap (λ (reliable : Bool). not (not (differ w.ownership r.ownership) && within && reliable && true) || rest)
-    (takes_reliable r.reliability)
-    ∙ by_parts within (differ w.ownership r.ownership) (is_longer w.lease r.lease) (nat_lt r.max_value w.max_value)
-    (within_or w.lease r.lease)))
+    (more_is r.reliability w.reliability)
+    ∙ by_parts within (differ w.ownership r.ownership) (asks_for_more r.reliability w.reliability)
+    (is_longer w.lease r.lease) (nat_lt r.max_value w.max_value) (within_or w.lease r.lease)))
 
 decided_by : (own within reliable longer greater : Bool) → not within ≡ longer
     → (not (own && within && reliable && true) || (longer || greater))
@@ -140,7 +146,7 @@ policies-decide w r said asked =
     ap (λ (fit : Bool). not fit || rest) (fit-is w r)
     ∙ (decided_by (ownership_code w.ownership == ownership_code r.ownership)
     (is_within (units_of (lasting w.lease)) (units_of (lasting r.lease)))
-    (nat_le (reliability_code r.reliability) (reliability_code Reliable)) (is_longer w.lease r.lease)
+    (nat_le (reliability_code r.reliability) (reliability_code w.reliability)) (is_longer w.lease r.lease)
     (nat_lt r.max_value w.max_value) (within_is w.lease r.lease said asked)
     ∙ ap (λ (fit : Bool). not fit || nat_lt r.max_value w.max_value) (sym (fit-is w r)))
 
@@ -153,3 +159,19 @@ pub unfit-owner : (w : WriterConfig) (r : ReaderConfig)
 unfit-owner w r =
     (tells_each (offered w) (requested r)).ownership
     ∙ (ap not (own_is w.ownership r.ownership) ∙ not_not (differ w.ownership r.ownership))
+
+pub unfit-reliability : (w : WriterConfig) (r : ReaderConfig)
+    → has_bit (unfit_policies (offered w) (requested r)).0 2048 ≡ asks_for_more r.reliability w.reliability
+unfit-reliability w r =
+    (tells_each (offered w) (requested r)).reliability
+    ∙ (ap not (more_is r.reliability w.reliability) ∙ not_not (asks_for_more r.reliability w.reliability))
+
+-- a reliable reader does not fit a best-effort writer
+pub reliable-unfit : (w : WriterConfig) (r : ReaderConfig) → w.reliability ≡ BestEffort
+    → is_reliable_reader r ≡ true → are_incompatible r w ≡ true
+reliable-unfit w r best reliable =
+    let more : asks_for_more r.reliability w.reliability ≡ true =
+    ap (λ (k : ReliabilityQos). asks_for_more r.reliability k) best ∙ ap (λ (b : Bool). b && true) reliable in
+    incompatible-is w r
+    ∙ (ap (λ (b : Bool). differ w.ownership r.ownership || (b || (is_longer w.lease r.lease
+    || nat_lt r.max_value w.max_value))) more ∙ or_true (differ w.ownership r.ownership))

@@ -1,6 +1,6 @@
 -- Why a configuration is refused (DDS 1.4, 2.2.1.1: BAD_PARAMETER, INCONSISTENT_POLICY). The counts, that a
 -- lease is below 2^63, how many changes a reader takes, and how long values are, are limits of this project.
-use Rattle.std.specs.Prelude.{ℕ, zero, suc, ◌+◌, ◌==◌, ◌||◌, Bool, true, false, not, List, length, count_by, replicate, slice_index, nat_eq, nat_lt, nat_le, Option, Some, None, ℤ, pos, negsuc, if◌then◌else◌}
+use Rattle.std.specs.Prelude.{ℕ, zero, suc, ◌+◌, ◌==◌, ◌&&◌, ◌||◌, Bool, true, false, not, List, length, count_by, replicate, slice_index, nat_eq, nat_lt, nat_le, Option, Some, None, ℤ, pos, negsuc, if◌then◌else◌}
 use Rattle.std.specs.List.{list_any}
 use Rattle.std.specs.Cmp.Lexicographic.{pointwise}
 use Rattle.dds_base.specs.declared.code.Code.{Code}
@@ -11,11 +11,12 @@ use Rattle.dds_base.specs.declared.qos.HistoryQos.{HistoryQos}
 use Rattle.dds_base.specs.declared.qos.HistoryQos.TheVariants.{KeepAll, KeepLast}
 use Rattle.dds_base.specs.declared.qos.OwnershipQos.{OwnershipQos}
 use Rattle.dds_base.specs.declared.qos.OwnershipQos.TheVariants.{Shared, Exclusive}
+use Rattle.dds_base.specs.declared.qos.ReliabilityQos.{ReliabilityQos}
 use Rattle.dds_base.specs.declared.config.PeerConfig.{PeerConfig}
 use Rattle.dds_base.specs.declared.config.WriterConfig.{WriterConfig}
 use Rattle.dds_base.specs.declared.config.ReaderConfig.{ReaderConfig}
 use Rattle.dds_base.specs.Bounds.{end_of_moments, greatest_value, max_ends, max_peers, most_arrivals}
-use Rattle.dds_base.specs.Matched.{matched_writers_of}
+use Rattle.dds_base.specs.Matched.{is_reliable, matched_writers_of}
 use Rattle.dds_base.specs.Offered.{offered, requested}
 use Rattle.dds_base.specs.Offers.{is_empty, unfit_policies}
 
@@ -115,6 +116,10 @@ abbrev pub differ : OwnershipQos → OwnershipQos → Bool
 differ Shared Exclusive = true
 differ Exclusive Shared = true
 differ _ _ = false
+
+-- a reliable reader, and a writer that is not (DDS 1.4, 2.2.3, RELIABILITY: offered is at least requested)
+abbrev pub asks_for_more : ReliabilityQos → ReliabilityQos → Bool
+asks_for_more reader writer = is_reliable reader && not (is_reliable writer)
 
 -- a lease is longer than another; None never ends
 abbrev pub is_longer : Option ℕ → Option ℕ → Bool

@@ -12,14 +12,14 @@ use Rattle.dds_base.specs.declared.config_rules.PairPolicy.TheVariants as policy
 use Rattle.dds_base.specs.declared.config_rules.Pass.{Pass}
 use Rattle.dds_base.specs.declared.config_rules.Pass.TheVariants.{Parameters, Policies}
 use Rattle.dds_base.specs.declared.config_fault.ConfigRule.{ConfigRule}
-use Rattle.dds_base.specs.declared.config_fault.ConfigRule.TheVariants.{PeerCount, WriterCount, ReaderCount, KnownPrefix, OwnPrefix, OwnEntity, EntityKind, Depth, MaxSamples, MaxInstances, MaxArrivals, Lease, MaxValue, DepthWithinMaximum, SameOwnership, OfferedLease, OfferedValue}
+use Rattle.dds_base.specs.declared.config_fault.ConfigRule.TheVariants.{PeerCount, WriterCount, ReaderCount, KnownPrefix, OwnPrefix, OwnEntity, EntityKind, Depth, MaxSamples, MaxInstances, MaxArrivals, Lease, MaxValue, DepthWithinMaximum, SameOwnership, OfferedReliability, OfferedLease, OfferedValue}
 use Rattle.dds_base.specs.declared.config_fault.ConfigPlace.{ConfigPlace}
 use Rattle.dds_base.specs.declared.config_fault.ConfigPlace.TheVariants.{Whole, Peer, Writer, Reader}
 use Rattle.dds_base.specs.declared.config_fault.ConfigFault.{ConfigFault}
 use Rattle.dds_base.specs.Bounds.{max_ends, max_peers}
 use Rattle.dds_base.specs.Life.{or_else}
 use Rattle.dds_base.specs.Matched.{matched_writers_of}
-use Rattle.dds_base.specs.Checked.{same_prefix, unknown_prefix, has_kind, prefix_count, entity_count, has_no_depth, is_maximum, is_bad_life, is_bad_lease, is_bad_value, exceeds_limit, differ, is_longer}
+use Rattle.dds_base.specs.Checked.{same_prefix, unknown_prefix, has_kind, prefix_count, entity_count, has_no_depth, is_maximum, is_bad_life, is_bad_lease, is_bad_value, exceeds_limit, differ, asks_for_more, is_longer}
 
 -- the first of these rules that is broken
 abbrev pub first_broken : List (ConfigRule × Bool) → Option ConfigRule
@@ -38,6 +38,7 @@ writer_rules Policies p w = (DepthWithinMaximum, exceeds_limit w.history w.max_s
 -- a writer does not fit a reader that it is matched with, in this policy
 abbrev pub is_unfit : PairPolicy → WriterConfig → ReaderConfig → Bool
 is_unfit policy.Ownership w r = differ w.ownership r.ownership
+is_unfit policy.Reliability w r = asks_for_more r.reliability w.reliability
 is_unfit policy.Lease w r = is_longer w.lease r.lease
 is_unfit policy.Value w r = nat_lt r.max_value w.max_value
 
@@ -52,6 +53,11 @@ reader_rules Parameters peers p r =
 reader_rules Policies peers p r =
     (DepthWithinMaximum, exceeds_limit r.history r.max_samples)
     ∷ (SameOwnership, list_any (λ (w : WriterConfig). differ w.ownership r.ownership) (matched_writers_of peers r))
+    ∷ (
+      OfferedReliability,
+      list_any (λ (w : WriterConfig). asks_for_more r.reliability w.reliability)
+          (matched_writers_of peers r),
+    )
     ∷ (OfferedLease, list_any (λ (w : WriterConfig). is_longer w.lease r.lease) (matched_writers_of peers r))
     ∷ (OfferedValue, list_any (λ (w : WriterConfig). nat_lt r.max_value w.max_value) (matched_writers_of peers r)) ∷ []
 

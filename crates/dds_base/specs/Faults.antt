@@ -8,18 +8,19 @@ use Rattle.dds_base.specs.declared.config.PeerConfig.{PeerConfig}
 use Rattle.dds_base.specs.declared.config.WriterConfig.{WriterConfig}
 use Rattle.dds_base.specs.declared.config.ReaderConfig.{ReaderConfig}
 use Rattle.dds_base.specs.declared.config_fault.ConfigRule.{ConfigRule}
-use Rattle.dds_base.specs.declared.config_fault.ConfigRule.TheVariants.{PeerCount, WriterCount, ReaderCount, KnownPrefix, OwnPrefix, OwnEntity, EntityKind, Depth, MaxSamples, MaxInstances, MaxArrivals, Lease, MaxValue, DepthWithinMaximum, SameOwnership, OfferedLease, OfferedValue}
+use Rattle.dds_base.specs.declared.config_fault.ConfigRule.TheVariants.{PeerCount, WriterCount, ReaderCount, KnownPrefix, OwnPrefix, OwnEntity, EntityKind, Depth, MaxSamples, MaxInstances, MaxArrivals, Lease, MaxValue, DepthWithinMaximum, SameOwnership, OfferedReliability, OfferedLease, OfferedValue}
 use Rattle.dds_base.specs.declared.config_fault.ConfigPlace.{ConfigPlace}
 use Rattle.dds_base.specs.declared.config_fault.ConfigPlace.TheVariants.{Whole, Peer, Writer, Reader}
 use Rattle.dds_base.specs.declared.config_fault.ConfigFault.{ConfigFault}
 use Rattle.dds_base.specs.Bounds.{max_ends, max_peers}
 use Rattle.dds_base.specs.Matched.{matched_writers_of}
-use Rattle.dds_base.specs.Checked.{same_prefix, unknown_prefix, has_kind, prefix_count, entity_count, has_no_depth, is_maximum, is_bad_life, is_bad_lease, is_bad_value, exceeds_limit, differ, is_longer}
+use Rattle.dds_base.specs.Checked.{same_prefix, unknown_prefix, has_kind, prefix_count, entity_count, has_no_depth, is_maximum, is_bad_life, is_bad_lease, is_bad_value, exceeds_limit, differ, asks_for_more, is_longer}
 
 -- the code of a rule
 abbrev pub code_of_rule : ConfigRule → Code
 code_of_rule DepthWithinMaximum = InconsistentPolicy
 code_of_rule SameOwnership = InconsistentPolicy
+code_of_rule OfferedReliability = InconsistentPolicy
 code_of_rule OfferedLease = InconsistentPolicy
 code_of_rule OfferedValue = InconsistentPolicy
 code_of_rule _ = BadParameter
@@ -61,6 +62,8 @@ breaks_as_reader peers p MaxValue r = is_bad_value r.max_value
 breaks_as_reader peers p DepthWithinMaximum r = exceeds_limit r.history r.max_samples
 breaks_as_reader peers p SameOwnership r =
     list_any (λ (w : WriterConfig). differ w.ownership r.ownership) (matched_writers_of peers r)
+breaks_as_reader peers p OfferedReliability r =
+    list_any (λ (w : WriterConfig). asks_for_more r.reliability w.reliability) (matched_writers_of peers r)
 breaks_as_reader peers p OfferedLease r =
     list_any (λ (w : WriterConfig). is_longer w.lease r.lease) (matched_writers_of peers r)
 breaks_as_reader peers p OfferedValue r =

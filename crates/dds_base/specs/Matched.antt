@@ -31,7 +31,7 @@ of_matched_ends ends is_wanted topic_of tell topic peer (p ∷ ps) =
     of_ends_in is_wanted topic_of (tell peer p) topic 1 (ends p)
     ++ of_matched_ends ends is_wanted topic_of tell topic (peer + 1) ps
 
--- each writer is matched
+-- each writer is matched: one that does not fit a reader of its topic is in no configuration that is taken (`Checked`)
 abbrev pub any_writer : WriterConfig → Bool
 any_writer w = true
 
@@ -42,7 +42,8 @@ abbrev pub of_matched_writers : {X : Type 0} → (ℕ → PeerConfig → ℕ →
     → List X
 of_matched_writers = of_matched_ends (λ (p : PeerConfig). p.writers) any_writer (λ (w : WriterConfig). w.topic)
 
--- a reader of this policy is reliable: it asks for what it misses, and acknowledges what came (2.2.3, RELIABILITY)
+-- a reader of this policy is reliable: it asks for what it misses, and acknowledges what came; a writer of this policy
+-- offers that (2.2.3, RELIABILITY)
 abbrev pub is_reliable : ReliabilityQos → Bool
 is_reliable BestEffort = false
 is_reliable Reliable = true
@@ -51,8 +52,8 @@ is_reliable Reliable = true
 abbrev pub is_reliable_reader : ReaderConfig → Bool
 is_reliable_reader r = is_reliable r.reliability
 
--- each reader is matched: a writer is reliable, so it takes readers of either policy (2.2.3, RELIABILITY: offered >=
--- requested)
+-- each reader is matched: a configuration in which a writer offers less than a reader of its topic asks for is refused
+-- (`Checked`)
 abbrev pub any_reader : ReaderConfig → Bool
 any_reader r = true
 

@@ -8,12 +8,11 @@ use Rattle.dds_base.specs.declared.policies.DestinationOrderQos.TheVariants.{ByR
 use Rattle.dds_base.specs.declared.policies.DurabilityQos.TheVariants.{Volatile}
 use Rattle.dds_base.specs.declared.policies.LivelinessKind.TheVariants.{Automatic, ManualByTopic}
 use Rattle.dds_base.specs.declared.policies.Policies.{Policies}
-use Rattle.dds_base.specs.declared.qos.ReliabilityQos.TheVariants.{Reliable}
 
--- A writer is reliable, keeps nothing for readers that come later, and asserts itself.
+-- A writer offers its RELIABILITY, keeps nothing for readers that come later, and asserts itself.
 abbrev pub offered : WriterConfig → Policies
 offered w = record {
-  reliability = Reliable;
+  reliability = w.reliability;
   durability = Volatile;
   liveliness = record { kind = ManualByTopic; lease = lasting w.lease };
   ownership = w.ownership;

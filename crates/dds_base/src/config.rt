@@ -29,6 +29,9 @@ pub struct WriterConfig {
     pub topic: u32,
     /// The same as that of each matched reader (DDS 1.4, 2.2.3, OWNERSHIP).
     pub ownership: OwnershipQos,
+    /// A best-effort one is matched with best-effort readers alone: it keeps nothing for them, and waits for none (DDS
+    /// 1.4, 2.2.3, RELIABILITY).
+    pub reliability: ReliabilityQos,
     /// A depth is at least 1, and at most `max_samples` where that is a limit.
     pub history: HistoryQos,
     /// How many changes it may keep until they are acknowledged: positive, or -1 for no limit (DDS 1.4, 2.2.3,
@@ -58,7 +61,7 @@ pub struct ReaderConfig {
     pub topic: u32,
     /// The same as that of each matched writer (DDS 1.4, 2.2.3, OWNERSHIP).
     pub ownership: OwnershipQos,
-    /// Each writer is reliable, so it takes every reader (DDS 1.4, 2.2.3, RELIABILITY).
+    /// A reliable one is matched with reliable writers alone (DDS 1.4, 2.2.3, RELIABILITY).
     pub reliability: ReliabilityQos,
     /// A depth is at least 1, and at most `max_samples` where that is a limit.
     pub history: HistoryQos,
@@ -81,8 +84,8 @@ pub struct ReaderConfig {
 pub const USUAL_VALUE: u32 = 1024;
 
 impl WriterConfig {
-    /// A shared writer that keeps all its changes, without a limit or a lease, of strength 0, which disposes what it
-    /// unregisters, and whose values have at most `USUAL_VALUE` octets: the standard's defaults but for HISTORY.
+    /// A shared, reliable writer that keeps all its changes, without a limit or a lease, of strength 0, which disposes
+    /// what it unregisters, and whose values have at most `USUAL_VALUE` octets: the standard's defaults but for HISTORY.
     ///
     /// DDS 1.4, 2.2.3 (supported QoS).
     pub fn new(entity: EntityId, topic: u32) -> WriterConfig
@@ -90,6 +93,7 @@ impl WriterConfig {
           entity = entity;
           topic = topic;
           ownership = Shared;
+          reliability = Reliable;
           history = KeepAll;
           max_samples = negsuc 0;
           strength = pos 0;
@@ -102,6 +106,7 @@ impl WriterConfig {
             entity,
             topic,
             ownership: OwnershipQos::Shared,
+            reliability: ReliabilityQos::Reliable,
             history: HistoryQos::KeepAll,
             max_samples: -1,
             strength: 0,
@@ -125,17 +130,18 @@ impl WriterConfig {
         }
     }
 
-    /// What it offers the readers of its topic: it is RELIABLE, VOLATILE and MANUAL_BY_TOPIC, within an instance, by
-    /// reception, without a DEADLINE and with a LATENCY_BUDGET of 0. A lease of 2^31 - 1 seconds or more is offered as
-    /// one that never ends.
+    /// What it offers the readers of its topic: its RELIABILITY, its OWNERSHIP and its lease; it is VOLATILE and
+    /// MANUAL_BY_TOPIC, within an instance, by reception, without a DEADLINE and with a LATENCY_BUDGET of 0. A lease of
+    /// 2^31 - 1 seconds or more is offered as one that never ends.
     ///
     /// DDS 1.4, 2.2.3 (supported QoS).
     pub fn offered(&self) -> Policies
         // It is what the definition says.
         ensures offered { result ≡ offered self.now }
     {
+        let reliability = self.reliability;
         Policies {
-            reliability: ReliabilityQos::Reliable,
+            reliability,
             durability: DurabilityQos::Volatile,
             liveliness: LivelinessQos {
                 kind: LivelinessKind::ManualByTopic,

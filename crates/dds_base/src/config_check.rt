@@ -21,8 +21,9 @@ impl Config {
     /// one; a prefix of twelve zeros; two equal prefixes, or two equal entities of one peer; an entity kind other than
     /// 0x02 at a writer and 0x07 at a reader; a depth of 0; a maximum that is neither -1 nor positive; a `max_arrivals`
     /// of 0 or above 2^63; a lease of 0 or of 2^63 and more; a `max_value` of 0 or above `MAX_VALUE`.
-    /// `InconsistentPolicy`: a depth above a limited `max_samples`; a matched pair whose ownership differs, or whose writer
-    /// has a longer lease than the reader asks for, or a greater `max_value` than the reader takes.
+    /// `InconsistentPolicy`: a depth above a limited `max_samples`; a matched pair whose ownership differs; whose writer
+    /// is best-effort and whose reader is reliable; or whose writer has a longer lease than the reader asks for, or a
+    /// greater `max_value` than the reader takes.
     ///
     /// DDS 1.4, 2.2.1.1 (return codes), 2.2.3 (consistent and compatible policies).
     pub fn check(&self) -> Result<(), Code>

@@ -44,6 +44,8 @@ pub enum ConfigRule {
     DepthWithinMaximum,
     /// Each matched writer has the reader's kind of ownership (OWNERSHIP).
     SameOwnership,
+    /// No matched writer of a reliable reader is best-effort (RELIABILITY).
+    OfferedReliability,
     /// No matched writer has a longer lease than the reader asks for (LIVELINESS).
     OfferedLease,
     /// No matched writer has a greater `max_value` than the reader takes.
@@ -51,7 +53,7 @@ pub enum ConfigRule {
 }
 
 impl ConfigRule {
-    /// The code with which a configuration that breaks the rule is refused: `InconsistentPolicy` for the last four
+    /// The code with which a configuration that breaks the rule is refused: `InconsistentPolicy` for the last five
     /// rules, `BadParameter` for all others.
     pub fn code(self) -> Code
         ensures code { result ≡ code_of_rule self }
@@ -59,6 +61,7 @@ impl ConfigRule {
         match self {
             ConfigRule::DepthWithinMaximum
             | ConfigRule::SameOwnership
+            | ConfigRule::OfferedReliability
             | ConfigRule::OfferedLease
             | ConfigRule::OfferedValue => Code::InconsistentPolicy,
             _ => Code::BadParameter,
@@ -83,6 +86,7 @@ impl ConfigRule {
             ConfigRule::MaxValue => "its max_value is 0 or above 65000",
             ConfigRule::DepthWithinMaximum => "its depth is above its maximum of samples",
             ConfigRule::SameOwnership => "a matched writer has another ownership",
+            ConfigRule::OfferedReliability => "it is reliable, and a matched writer is best-effort",
             ConfigRule::OfferedLease => "a matched writer has a longer lease than it asks for",
             ConfigRule::OfferedValue => "a matched writer has a greater max_value than it takes",
         }

@@ -1,11 +1,15 @@
 //! Which rule a peer, a writer or a reader of a configuration breaks.
 //!
-//! DDS 1.4, 2.2.3 (HISTORY, RESOURCE_LIMITS, LIVELINESS, OWNERSHIP); RTPS 2.5, 9.3 (entity kinds, GUIDPREFIX_UNKNOWN).
+//! DDS 1.4, 2.2.3 (HISTORY, RESOURCE_LIMITS, LIVELINESS, OWNERSHIP, RELIABILITY); RTPS 2.5, 9.3 (entity kinds,
+//! GUIDPREFIX_UNKNOWN).
 
 ghost use Rattle.std.specs.Prelude.{◌≡◌, ◌&&◌, List};
 ghost use Rattle.std.specs.List.{list_any};
 ghost use Rattle.dds_base.specs.declared.config.PeerConfig.{PeerConfig};
+ghost use Rattle.dds_base.specs.Access.{has_bit};
 ghost use Rattle.dds_base.specs.Matched.{same_topic, matched_writers_of};
+ghost use Rattle.dds_base.specs.Offered.{offered, requested};
+ghost use Rattle.dds_base.specs.Offers.{unfit_policies};
 ghost use Rattle.dds_base.specs.Checked.{prefix_count, entity_count, has_no_depth, is_maximum, is_bad_life, is_bad_lease, is_bad_value, exceeds_limit, is_longer};
 ghost use Rattle.dds_base.specs.FaultAt.{first_broken, is_unfit, whole_rules, peer_rules, writer_rules, reader_rules};
 
@@ -46,6 +50,8 @@ pub enum Pass {
 enum PairPolicy {
     /// The same ownership.
     Ownership,
+    /// Reliability, where the reader asks for it.
+    Reliability,
     /// A lease that is no longer than the one that the reader asks for.
     Lease,
     /// A `max_value` that is no greater than the one that the reader takes.
@@ -205,6 +211,9 @@ fn reader_policy(peers: &[PeerConfig], reader: &ReaderConfig) -> Option<ConfigRu
     if has_unfit_writer(PairPolicy::Ownership, peers, reader) {
         return Some(ConfigRule::SameOwnership);
     }
+    if has_unfit_writer(PairPolicy::Reliability, peers, reader) {
+        return Some(ConfigRule::OfferedReliability);
+    }
     if has_unfit_writer(PairPolicy::Lease, peers, reader) {
         return Some(ConfigRule::OfferedLease);
     }
@@ -214,16 +223,22 @@ fn reader_policy(peers: &[PeerConfig], reader: &ReaderConfig) -> Option<ConfigRu
     None
 }
 
-/// Whether the writer does not fit the reader in this policy: it has another ownership, a longer lease than it asks for,
-/// or a greater `max_value` than it takes.
+/// Whether the writer offers less of this policy than the reader asks for.
+fn is_not_offered(policy: UnfitPolicies, writer: &WriterConfig, reader: &ReaderConfig) -> bool
+    ensures { result
+        ≡ has_bit (unfit_policies (offered writer.now) (requested reader.now)).0 policy.0 }
+{
+    unfit_policies(&writer.offered(), &reader.requested()).contains(policy)
+}
+
+/// Whether the writer does not fit the reader in this policy: it has another ownership, is best-effort where the reader
+/// is reliable, has a longer lease than it asks for, or a greater `max_value` than it takes.
 fn is_unfit(policy: PairPolicy, writer: &WriterConfig, reader: &ReaderConfig) -> bool
     ensures { result ≡ is_unfit policy writer.now reader.now }
 {
     match policy {
-        PairPolicy::Ownership => {
-            let unfit = unfit_policies(&writer.offered(), &reader.requested());
-            unfit.contains(UnfitPolicies::OWNERSHIP)
-        }
+        PairPolicy::Ownership => is_not_offered(UnfitPolicies::OWNERSHIP, writer, reader),
+        PairPolicy::Reliability => is_not_offered(UnfitPolicies::RELIABILITY, writer, reader),
         PairPolicy::Lease => is_longer(writer.lease, reader.lease),
         PairPolicy::Value => reader.max_value < writer.max_value,
     }

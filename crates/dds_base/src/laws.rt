@@ -3,18 +3,20 @@
 //! DDS 1.4, 2.2.2.5 (masks, handles), 2.2.3 (OWNERSHIP, policies that are requested and offered); RTPS 2.5, 9.3 (entity
 //! kinds), clause 10 (SerializedPayload).
 
-ghost use Rattle.std.specs.Prelude.{◌≡◌, ◌≢◌, ◌↔◌, ◌≤◌, ◌<◌, ◌+◌, ◌-◌, ◌*◌, ◌^◌, ◌∷◌, ◌&&◌, ◌||◌, ℕ, List, [], IsTrue, IsSome, Some, None, filter, length, map, nat_lt, not, replicate, true, false};
+ghost use Rattle.std.specs.Prelude.{◌≡◌, ◌≢◌, ◌↔◌, ◌≤◌, ◌<◌, ◌+◌, ◌-◌, ◌*◌, ◌^◌, ◌∷◌, ◌&&◌, ◌||◌, ℕ, List, [], IsTrue, IsSome, Some, None, filter, length, map, nat_lt, not, replicate, slice_get, true, false};
 ghost use Rattle.dds_base.specs.Access.{has_bit, sample_state_bit, view_state_bit, instance_state_bit, meets, handle_of, instance_of, lives_begun, not_read};
-ghost use Rattle.dds_base.specs.Checked.{are_incompatible, differ, is_longer, unknown_prefix};
+ghost use Rattle.dds_base.specs.Checked.{are_incompatible, asks_for_more, check_refusal, differ, is_longer, unknown_prefix};
 ghost use Rattle.dds_base.specs.DatumText.{ReadsDatum, ReadsKey, IsDatum, spelling_of_datum, spelling_of_key};
 ghost use Rattle.dds_base.specs.Happening.{arrivals};
 ghost use Rattle.dds_base.specs.Instance.{disposed_generations, instance_state_of, introduces, is_known, known_instances, no_writers_generations};
 ghost use Rattle.dds_base.specs.Life.{ends_life, is_life_over, last_marker};
+ghost use Rattle.dds_base.specs.Matched.{of_reliable_readers};
 ghost use Rattle.dds_base.specs.Offered.{offered, requested};
 ghost use Rattle.dds_base.specs.Offers.{compared, ids_of, is_empty, offers_deadline, offers_destination_order, offers_durability, offers_latency_budget, offers_liveliness, offers_ownership, offers_presentation, offers_reliability, unfit_policies};
 ghost use Rattle.dds_base.specs.Presence.{has_room, is_accepted, is_present, is_within, present_writes};
 ghost use Rattle.dds_base.specs.Policies.{lasting, units_of};
 ghost use Rattle.dds_base.specs.declared.config.ReaderConfig.{ReaderConfig as ReaderConfigOf};
+ghost use Rattle.dds_base.specs.declared.config.PeerConfig.{PeerConfig};
 ghost use Rattle.dds_base.specs.declared.config.WriterConfig.{WriterConfig};
 ghost use Rattle.dds_base.specs.Liveliness.{alive_count, not_alive_count};
 ghost use Rattle.dds_base.specs.Ownership.{AreOfMatched, IsMatched, IsOwner, HaveOwnGuids, joined_in, owner_of, outranks_all, precedence_of, registered_writers, writer_of, writers_of};
@@ -28,6 +30,7 @@ ghost use Rattle.dds_base.specs.declared.key.Key.{Key};
 ghost use Rattle.dds_base.specs.declared.policies.Policies.{Policies};
 ghost use Rattle.dds_base.specs.declared.qos.MatchedWriter.{MatchedWriter};
 ghost use Rattle.dds_base.specs.declared.qos.ReaderQos.{ReaderQos};
+ghost use Rattle.dds_base.specs.declared.qos.ReliabilityQos.TheVariants.{BestEffort};
 ghost use Rattle.dds_base.specs.declared.sample.InstanceState.TheVariants.{Alive, NotAliveDisposed, NotAliveNoWriters};
 ghost use Rattle.dds_base.specs.declared.sample.SampleState.TheVariants.{Read as HasBeenRead, NotRead};
 ghost use Rattle.dds_base.specs.declared.sample.ViewState.TheVariants.{New, NotNew};
@@ -217,13 +220,26 @@ pub fn unfit_policies_are_those_not_offered()
         ≡ map (λ c. c.id) (filter (λ c. not c.is_offered) (compared w r)) }
 {}
 
-/// What a configured writer offers fits what a configured reader asks for, but for OWNERSHIP and for the lease of
-/// LIVELINESS.
-pub fn ends_fit_but_for_ownership_and_leases()
-    // A matched pair does not fit exactly where its ownership differs, or its lease or its values may be longer.
+/// A configuration that is taken matches a best-effort writer with best-effort readers alone. So at the opening it keeps
+/// nothing, and waits for nobody.
+///
+/// DDS 1.4, 2.2.3 (RELIABILITY); RTPS 2.5, 8.4.8 (best-effort StatefulWriter).
+pub fn a_best_effort_writer_has_no_reliable_reader()
+    // Its topic has no reliable reader.
+    ensures none { (peers : List PeerConfig) (i k : ℕ) (p : PeerConfig) (w : WriterConfig)
+        → check_refusal peers ≡ None → slice_get peers i ≡ Some p → slice_get p.writers k ≡ Some w
+        → w.reliability ≡ BestEffort
+        → of_reliable_readers (λ peer q number r. r) w.topic 1 peers ≡ [] }
+{}
+
+/// What a configured writer offers fits what a configured reader asks for, but for OWNERSHIP, for RELIABILITY and for
+/// the lease of LIVELINESS.
+pub fn ends_fit_but_for_ownership_reliability_and_leases()
+    // A matched pair does not fit exactly where its ownership differs, the reader is reliable and the writer is not, or
+    // its lease or its values may be longer.
     ensures pair { (w : WriterConfig) (r : ReaderConfigOf) → are_incompatible r w
-        ≡ (differ w.ownership r.ownership
-        || (is_longer w.lease r.lease || nat_lt r.max_value w.max_value)) }
+        ≡ (differ w.ownership r.ownership || (asks_for_more r.reliability w.reliability
+        || (is_longer w.lease r.lease || nat_lt r.max_value w.max_value))) }
     // A lease below 2^31 - 1 seconds is offered and asked for as it stands.
     ensures lease { (units : ℕ) → units < 0x7fffffff * 2 ^ 32
         → units_of (lasting (Some units)) ≡ Some units }

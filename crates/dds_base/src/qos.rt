@@ -30,15 +30,15 @@ pub enum HistoryQos {
     KeepLast(u32),
 }
 
-/// Whether a reader gets each change that its writer keeps, or may miss some.
+/// Whether a reader gets each change that its writer keeps, or may miss some: a writer offers it, a reader asks for it.
 ///
 /// DDS 1.4, 2.2.3 (RELIABILITY).
 #[derive(Clone, Copy, Debug, PartialEq, Eq)]
 pub enum ReliabilityQos {
-    /// What comes, in the order of its writer: it asks for nothing, no writer waits for it, and what it misses is
+    /// What comes, in the order of its writer: a reader asks for nothing, no writer waits for it, and what it misses is
     /// counted as lost.
     BestEffort,
-    /// Each change that its writer keeps: what it misses it asks for, and what came it acknowledges.
+    /// Each change that its writer keeps: what a reader misses it asks for, and what came it acknowledges.
     Reliable,
 }
 

@@ -56,6 +56,7 @@ builtin_writer way topic = record {
   entity = record { 0 = key_of_topic topic ++ 2 ∷ [] };
   topic = number_of_topic topic + way;
   ownership = Shared;
+  reliability = Reliable;
   history = KeepLast 1;
   max_samples = negsuc 0;
   strength = pos 0;

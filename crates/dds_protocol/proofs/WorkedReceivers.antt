@@ -42,6 +42,7 @@ writer history =
       entity = w1_id;
       topic = 0;
       ownership = Shared;
+      reliability = Reliable;
       history = history;
       max_samples = negsuc 0;
       strength = pos 0;

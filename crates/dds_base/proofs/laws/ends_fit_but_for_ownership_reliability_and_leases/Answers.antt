@@ -1,5 +1,5 @@
 use Rattle.dds_base.proofs.PairLaws.{incompatible-is, policies-decide, units-short}
-use Rattle.dds_base.proofs.laws.ends_fit_but_for_ownership_and_leases.Goals as goal
+use Rattle.dds_base.proofs.laws.ends_fit_but_for_ownership_reliability_and_leases.Goals as goal
 
 pub returns-clause-pair : goal.returns-clause-pair
 returns-clause-pair c = λ w r. incompatible-is w r
