@@ -10,7 +10,7 @@ use dds_base::{
 pub struct Options {
     /// `shared` or `exclusive`.
     pub ownership: OwnershipQos,
-    /// `besteffort`, of a reader; without it a reader is reliable.
+    /// `besteffort`; without it a writer or a reader is reliable.
     pub reliability: ReliabilityQos,
     /// `all`, or `last` with a depth.
     pub history: HistoryQos,
@@ -55,6 +55,7 @@ impl Options {
         match word {
             "shared" => self.ownership = OwnershipQos::Shared,
             "exclusive" => self.ownership = OwnershipQos::Exclusive,
+            "besteffort" => self.reliability = ReliabilityQos::BestEffort,
             "all" => self.history = HistoryQos::KeepAll,
             _ => self.take_number(word)?,
         }
@@ -89,9 +90,7 @@ impl Options {
 
     /// Takes up an option of a reader, if it is one.
     fn take_reader(&mut self, word: &str) -> Option<()> {
-        if word == "besteffort" {
-            self.reliability = ReliabilityQos::BestEffort;
-        } else if let Some(max) = word.strip_prefix("instances=") {
+        if let Some(max) = word.strip_prefix("instances=") {
             self.max_instances = decimal_i32(max)?;
         } else if let Some(max) = word.strip_prefix("arrivals=") {
             self.max_arrivals = decimal(max)?;
@@ -122,7 +121,7 @@ pub fn reader_options(words: &[&str]) -> Option<Options> {
 
 /// The options of a writer, as forms name them.
 pub const WRITER_OPTIONS: &str =
-    "shared, exclusive, all, last=N, max=N, topic=N, lease=UNITS, values=N, strength=N, noauto";
+    "shared, exclusive, all, last=N, max=N, topic=N, lease=UNITS, values=N, strength=N, noauto, besteffort";
 
 /// The options of a reader, as forms name them.
 pub const READER_OPTIONS: &str =
@@ -144,6 +143,7 @@ pub fn writer_config(entity: EntityId, options: Options) -> WriterConfig {
         entity,
         topic: options.topic,
         ownership: options.ownership,
+        reliability: options.reliability,
         history: options.history,
         max_samples: options.max_samples,
         strength: options.strength,

@@ -66,6 +66,9 @@ fault peer 1 | writer 1 2 all values=0 | peer 2 | reader 1 7 all => writer 1 of 
 fault peer 1 | writer 1 2 all | peer 2 | reader 1 7 all values=65001 => reader 1 of peer 2: its max_value is 0 or above 65000, BAD_PARAMETER
 fault peer 1 | writer 1 2 last=3 max=2 | peer 2 | reader 1 7 all => writer 1 of peer 1: its depth is above its maximum of samples, INCONSISTENT_POLICY
 fault peer 1 | writer 1 2 all exclusive | peer 2 | reader 1 7 all => reader 1 of peer 2: a matched writer has another ownership, INCONSISTENT_POLICY
+fault peer 1 | writer 1 2 all besteffort | peer 2 | reader 1 7 all => reader 1 of peer 2: it is reliable, and a matched writer is best-effort, INCONSISTENT_POLICY
+fault peer 1 | writer 1 2 all besteffort lease=20 | peer 2 | reader 1 7 all besteffort | reader 2 7 all lease=10 => reader 2 of peer 2: it is reliable, and a matched writer is best-effort, INCONSISTENT_POLICY
+fault peer 1 | writer 1 2 all besteffort | peer 2 | reader 1 7 all besteffort => none
 fault peer 1 | writer 1 2 all lease=20 | peer 2 | reader 1 7 all lease=10 => reader 1 of peer 2: a matched writer has a longer lease than it asks for, INCONSISTENT_POLICY
 fault peer 1 | writer 1 2 all values=1025 | peer 2 | reader 1 7 all => reader 1 of peer 2: a matched writer has a greater max_value than it takes, INCONSISTENT_POLICY
 ";
@@ -153,6 +156,12 @@ check peer 1 | writer 1 2 all lease=20 | peer 2 | reader 1 7 all lease=10 => Err
 check peer 1 | writer 1 2 all lease=20 | writer 1 2 all lease=20 | peer 2 | reader 1 7 all lease=10 => Err(BadParameter)
 check peer 1 | writer 1 2 all | peer 2 | reader 1 7 all lease=10 => Err(InconsistentPolicy)
 check peer 1 | writer 1 2 all | writer 1 2 all | peer 2 | reader 1 7 all lease=10 => Err(BadParameter)
+# A reliable reader does not fit a best-effort writer; a best-effort one does, and it fits a reliable one too.
+check peer 1 | writer 1 2 all besteffort | peer 2 | reader 1 7 all => Err(InconsistentPolicy)
+check peer 1 | writer 1 2 all besteffort | peer 2 | reader 1 7 all besteffort | reader 2 7 all => Err(InconsistentPolicy)
+check peer 1 | writer 1 2 all besteffort | peer 2 | reader 1 7 all besteffort => Ok(())
+check peer 1 | writer 1 2 all | peer 2 | reader 1 7 all besteffort => Ok(())
+check peer 1 | writer 1 2 all besteffort topic=1 | peer 2 | reader 1 7 all => Ok(())
 # Ends of different topics need not fit; a depth as great as the maximum, or without one, and a lease as long as the reader's do.
 check peer 1 | writer 1 2 all exclusive topic=1 | peer 2 | reader 1 7 all => Ok(())
 check peer 1 | writer 1 2 last=3 max=3 | peer 2 | reader 1 7 all => Ok(())
