@@ -103,6 +103,7 @@ typedef struct cw_writer_config {
     bool keeps_last;      /* HISTORY: KEEP_LAST with depth, else KEEP_ALL */
     bool has_lease;       /* LIVELINESS: lease, else without end */
     bool autodispose;     /* WRITER_DATA_LIFECYCLE */
+    bool is_best_effort;  /* RELIABILITY: BEST_EFFORT, else RELIABLE */
     uint32_t topic;       /* writers and readers of equal numbers match */
     uint32_t depth;       /* from 1, where keeps_last */
     int32_t max_samples;  /* RESOURCE_LIMITS: positive, or -1 for no limit */
@@ -112,7 +113,7 @@ typedef struct cw_writer_config {
 } cw_writer_config;
 
 /* A reader of a configuration, likewise; its entity ends with 0x07, and it takes writers whose lease and whose max_value are
- * no greater. */
+ * no greater, and reliable ones alone where it is reliable. */
 typedef struct cw_reader_config {
     uint32_t peer;
     uint8_t entity[4];
@@ -241,7 +242,8 @@ enum {
     CW_RULE_SAME_OWNERSHIP = 14,       /* each matched writer has the reader's ownership */
     CW_RULE_OFFERED_LEASE = 15,        /* no matched writer has a longer lease than the reader asks for */
     CW_RULE_MAX_VALUE = 16,            /* max_value is at most 65,000 */
-    CW_RULE_OFFERED_VALUE = 17         /* no matched writer has a greater max_value than the reader */
+    CW_RULE_OFFERED_VALUE = 17,        /* no matched writer has a greater max_value than the reader */
+    CW_RULE_OFFERED_RELIABILITY = 18   /* no matched writer of a reliable reader is best-effort */
 };
 
 /* Which rule a configuration breaks first, and where, and a sentence that says it, such as "reader 1 of peer 2: its depth is

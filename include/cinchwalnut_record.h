@@ -104,7 +104,8 @@ static inline void cw_recorded_writer(cw_recording *run, const cw_writer_config 
         fprintf(run->to, " lease=%" PRIu64, it->lease);
     if (it->max_value)
         fprintf(run->to, " values=%" PRIu32, it->max_value);
-    fputs(it->autodispose ? "\n" : " noauto\n", run->to);
+    fputs(it->autodispose ? "" : " noauto", run->to);
+    fputs(it->is_best_effort ? " besteffort\n" : "\n", run->to);
 }
 
 static inline void cw_recorded_reader(cw_recording *run, const cw_reader_config *it) {

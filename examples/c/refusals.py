@@ -5,6 +5,7 @@ from cinchwalnut import ANY, EntityKind, Peer, Refused, Status, config_fault, co
 
 PREFIXES, KEY = [bytes([1] * 12), bytes([2] * 12)], bytes([7] * 16)
 WRITERS, READERS = [writer(peer=1, key=1)], [reader(peer=2, key=1)]
+BEST_EFFORT = [writer(peer=1, key=1, is_best_effort=True)]
 
 
 def said(what: str, call: Callable[[], Any]) -> None:
@@ -41,9 +42,12 @@ said("a policy that is no truth", lambda: named(writer(1, 1), is_exclusive=2))
 said("a depth of 0", lambda: opened(readers=[reader(peer=2, key=1, keeps_last=True)]))
 said("its fault", lambda: config_fault(PREFIXES, WRITERS, [reader(peer=2, key=1, keeps_last=True)]))
 said("a writer of a peer that there isn't", lambda: config_fault(PREFIXES, [writer(peer=3, key=1)], []))
+said("a reliable reader of a best-effort writer", lambda: config_fault(PREFIXES, BEST_EFFORT, READERS))
+said("a best-effort reader of it", lambda: config_fault(PREFIXES, BEST_EFFORT, [reader(peer=2, key=1, is_best_effort=True)]))
 said("a configuration without a fault", lambda: config_fault(PREFIXES, WRITERS, READERS))
 said("equal ones have equal sums", lambda: config_sum(PREFIXES, WRITERS, READERS) == config_sum(PREFIXES, list(WRITERS), [reader(2, 1)]))
 said("others have other ones", lambda: config_sum(PREFIXES, WRITERS, READERS) != config_sum(PREFIXES, WRITERS, [reader(2, 1, topic=1)]))
+said("a best-effort writer has another one", lambda: config_sum(PREFIXES, WRITERS, READERS) != config_sum(PREFIXES, BEST_EFFORT, READERS))
 said("the fault of a text", lambda: text_fault("peer 010101010101010101010101\nwriter 00000102 al"))
 said("that of a line", lambda: line_fault("call take r1 1 2"))
 said("a text that is none", lambda: Peer.from_text("nonsense", 1))

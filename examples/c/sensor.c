@@ -1,5 +1,5 @@
-/* A sensor at the first peer, and a best-effort reader of it at the second. Of three values the second is lost on its
- * way: the reader goes on with the third, and counts what it missed; nothing is asked for, and nothing is kept for it. */
+/* A best-effort writer of a sensor at the first peer, and a best-effort reader of it at the second. Of three values the
+ * second is lost on its way: the reader goes on with the third, and counts what it missed; nothing is asked for or kept. */
 #include "cinchwalnut.h"
 #include <stdio.h>
 #include <stdlib.h>
@@ -8,7 +8,8 @@
 #define CHECK(c) do { if (!(c)) { printf("line %d: not %s\n", __LINE__, #c); exit(1); } } while (0)
 
 static const cw_peer_config peers[] = {{{1, 1, 1, 1, 1, 1, 1, 1, 1, 1, 1, 1}}, {{2, 2, 2, 2, 2, 2, 2, 2, 2, 2, 2, 2}}};
-static const cw_writer_config writers[] = {{.peer = 1, .entity = {0, 0, 1, 2}, .max_samples = 1}};
+static const cw_writer_config writers[] = {
+    {.peer = 1, .entity = {0, 0, 1, 2}, .is_best_effort = true, .max_samples = 1}};
 static const cw_reader_config readers[] = {
     {.peer = 2, .entity = {0, 0, 1, 7}, .is_best_effort = true, .max_samples = -1, .max_instances = -1}};
 
@@ -34,7 +35,7 @@ int main(void) {
     CHECK(cw_open(&sensor, peers, 2, writers, 1, readers, 1, 1) == CW_OK);
     CHECK(cw_open(&reader, peers, 2, writers, 1, readers, 1, 2) == CW_OK);
     for (int i = 0; i < 3; i++) {
-        /* The writer has room for one sample, and never waits: it keeps none for such a reader. */
+        /* The writer has room for one sample, and never waits: it keeps none. */
         CHECK(cw_write(&sensor, 1, key, (const uint8_t *)values[i], strlen(values[i])) == CW_OK);
         CHECK(carry(&sensor, &reader, i == 1) == 1);
     }

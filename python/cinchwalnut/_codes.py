@@ -79,6 +79,7 @@ class Rule(enum.IntEnum):
     OFFERED_LEASE = 15
     MAX_VALUE = 16
     OFFERED_VALUE = 17
+    OFFERED_RELIABILITY = 18
 
 
 class Refused(Exception):

@@ -43,6 +43,7 @@ class WriterConfig(_Checked):
     keeps_last: bool = False
     has_lease: bool = False
     autodispose: bool = True
+    is_best_effort: bool = False
     topic: int = 0
     depth: int = 0
     max_samples: int = -1

@@ -22,7 +22,7 @@ class CPeerConfig(c.Structure):
 class CWriterConfig(c.Structure):
     _fields_ = [
         *[("peer", c.c_uint32), ("entity", c.c_uint8 * 4)],
-        *[(name, c.c_bool) for name in ("is_exclusive", "keeps_last", "has_lease", "autodispose")],
+        *[(name, c.c_bool) for name in ("is_exclusive", "keeps_last", "has_lease", "autodispose", "is_best_effort")],
         *[("topic", c.c_uint32), ("depth", c.c_uint32), ("max_samples", c.c_int32), ("strength", c.c_int32)],
         *[("max_value", c.c_uint32), ("lease", c.c_uint64)],
     ]

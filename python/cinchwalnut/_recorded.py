@@ -114,6 +114,7 @@ def _options(end: _End) -> str:
     words += [f"lease={end.lease}"] if end.has_lease else []
     words += [f"values={end.max_value}"] if end.max_value != 1024 else []
     if isinstance(end, WriterConfig):
-        return " ".join([*words, *["noauto"] * (not end.autodispose)])
-    words += [f"arrivals={end.max_arrivals}"] if end.has_max_arrivals else []
+        words += ["noauto"] * (not end.autodispose)
+    else:
+        words += [f"arrivals={end.max_arrivals}"] * end.has_max_arrivals
     return " ".join([*words, *["besteffort"] * end.is_best_effort])

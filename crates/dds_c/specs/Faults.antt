@@ -9,7 +9,7 @@ use Rattle.dds_base.specs.declared.config_fault.ConfigFault.{ConfigFault}
 use Rattle.dds_base.specs.declared.config_fault.ConfigPlace.{ConfigPlace}
 use Rattle.dds_base.specs.declared.config_fault.ConfigPlace.TheVariants.{Whole, Peer, Writer, Reader}
 use Rattle.dds_base.specs.declared.config_fault.ConfigRule.{ConfigRule}
-use Rattle.dds_base.specs.declared.config_fault.ConfigRule.TheVariants.{PeerCount, WriterCount, ReaderCount, KnownPrefix, OwnPrefix, OwnEntity, EntityKind, Depth, MaxSamples, MaxInstances, MaxArrivals, Lease, DepthWithinMaximum, SameOwnership, OfferedLease, MaxValue, OfferedValue}
+use Rattle.dds_base.specs.declared.config_fault.ConfigRule.TheVariants.{PeerCount, WriterCount, ReaderCount, KnownPrefix, OwnPrefix, OwnEntity, EntityKind, Depth, MaxSamples, MaxInstances, MaxArrivals, Lease, DepthWithinMaximum, SameOwnership, OfferedLease, MaxValue, OfferedValue, OfferedReliability}
 use Rattle.dds_c.specs.Fetching.{Copies, CopiesNothing, WritesNothing}
 use Rattle.dds_c.specs.Opening.{config_of, names_no_peer}
 use Rattle.dds_c.specs.declared.config.FlatPeer.{FlatPeer}
@@ -36,6 +36,7 @@ number_of_rule SameOwnership = 14
 number_of_rule OfferedLease = 15
 number_of_rule MaxValue = 16
 number_of_rule OfferedValue = 17
+number_of_rule OfferedReliability = 18
 
 -- what breaks a rule: 0 all of the configuration, 1 a peer, 2 a writer of a peer, 3 a reader of a peer
 abbrev pub number_of_place : ConfigPlace → ℕ

@@ -65,6 +65,7 @@ writer_of w = record {
   entity = record { 0 = w.entity };
   topic = w.topic;
   ownership = ownership_of w.is_exclusive;
+  reliability = reliability_of w.is_best_effort;
   history = history_of w.keeps_last w.depth;
   max_samples = w.max_samples;
   strength = w.strength;

@@ -46,11 +46,17 @@ mixed_lease sum (Some lease) = mixed (mixed sum 1) lease
 unfoldable pub mixed_value : ℕ → ℕ → ℕ
 mixed_value sum most = if most == usual_value then sum else mixed sum most
 
+-- that a writer is best-effort, where it is: no value may be so long
+abbrev pub mixed_best_effort : ℕ → ReliabilityQos → ℕ
+mixed_best_effort sum Reliable = sum
+mixed_best_effort sum BestEffort = mixed sum 4294967296
+
 -- with a writer, a reader, a peer more
 abbrev pub with_writer : ℕ → WriterConfig → ℕ
-with_writer sum w = mixed_value (mixed_lease (mixed (mixed (mixed (mixed (mixed (mixed (fold mixed sum w.entity.0) w.topic)
+with_writer sum w = mixed_best_effort (mixed_value (mixed_lease (mixed (mixed (mixed (mixed (mixed (mixed
+    (fold mixed sum w.entity.0) w.topic)
     (number_of_ownership w.ownership)) (number_of_history w.history)) (cast_unsigned w32 w.max_samples))
-    (cast_unsigned w32 w.strength)) (bit w.autodispose)) w.lease) w.max_value
+    (cast_unsigned w32 w.strength)) (bit w.autodispose)) w.lease) w.max_value) w.reliability
 
 abbrev pub with_reader : ℕ → ReaderConfig → ℕ
 with_reader sum r = mixed_value (mixed_lease (mixed (mixed (mixed (mixed (mixed (mixed (mixed (fold mixed sum r.entity.0) r.topic)

@@ -41,6 +41,8 @@ pub struct FlatWriter {
     pub has_lease: bool,
     /// Whether an unregister disposes too.
     pub autodispose: bool,
+    /// Whether it is best-effort; else it is reliable.
+    pub is_best_effort: bool,
     /// Writers and readers of equal numbers match.
     pub topic: u32,
     /// From 1; it counts only where `keeps_last` is true.
@@ -151,6 +153,7 @@ fn writer_config(writer: &FlatWriter) -> WriterConfig
         entity: EntityId(writer.entity),
         topic: writer.topic,
         ownership: ownership(writer.is_exclusive),
+        reliability: reliability(writer.is_best_effort),
         history: history(writer.keeps_last, writer.depth),
         max_samples: writer.max_samples,
         strength: writer.strength,

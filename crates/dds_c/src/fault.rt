@@ -52,6 +52,7 @@ fn number_of_rule(rule: ConfigRule) -> u8
         ConfigRule::OfferedLease => 15,
         ConfigRule::MaxValue => 16,
         ConfigRule::OfferedValue => 17,
+        ConfigRule::OfferedReliability => 18,
     }
 }
 

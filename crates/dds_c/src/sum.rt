@@ -5,7 +5,7 @@
 ghost use Rattle.std.specs.Prelude.{◌≡◌, ◌≢◌, ◌⊎◌, true, false, length};
 ghost use Rattle.std.specs.List.{fold};
 ghost use Rattle.dds_c.specs.Opening.{config_of, names_no_peer};
-ghost use Rattle.dds_c.specs.Sums.{bit, mixed, mixed_lease, mixed_value, number_of_history, number_of_ownership, number_of_reliability, sum_of, with_peer, with_reader, with_writer};
+ghost use Rattle.dds_c.specs.Sums.{bit, mixed, mixed_best_effort, mixed_lease, mixed_value, number_of_history, number_of_ownership, number_of_reliability, sum_of, with_peer, with_reader, with_writer};
 
 use crate::config::{FlatPeer, FlatReader, FlatWriter, config, name_no_peer};
 use dds_base::{
@@ -16,6 +16,9 @@ use std::alloc::{AllocError, Global};
 
 /// What a sum is multiplied with before a number is added, in 64 bits: the prime of FNV-1a.
 const FACTOR: u64 = 1_099_511_628_211;
+
+/// What a best-effort writer adds to a sum: no `max_value` is that great.
+const BEST_EFFORT: u64 = 1 << 32;
 
 fn mix(sum: u64, number: u64) -> u64
     ensures { result ≡ mixed sum number }
@@ -80,6 +83,17 @@ fn mix_value(sum: u64, max_value: u32) -> u64
     }
 }
 
+/// That a writer is best-effort, where it is: so a configuration of reliable writers has the sum that it had before there
+/// were others.
+fn mix_best_effort(sum: u64, reliability: ReliabilityQos) -> u64
+    ensures { result ≡ mixed_best_effort sum reliability }
+{
+    match reliability {
+        ReliabilityQos::Reliable => sum,
+        ReliabilityQos::BestEffort => mix(sum, BEST_EFFORT),
+    }
+}
+
 fn with_writer(sum: u64, writer: &WriterConfig) -> u64
     ensures { result ≡ with_writer sum writer.now }
 {
@@ -91,7 +105,8 @@ fn with_writer(sum: u64, writer: &WriterConfig) -> u64
     let sum = mix(sum, u64::from(writer.strength.cast_unsigned()));
     let sum = mix(sum, u64::from(writer.autodispose));
     let sum = mix_lease(sum, writer.lease);
-    mix_value(sum, writer.max_value)
+    let sum = mix_value(sum, writer.max_value);
+    mix_best_effort(sum, writer.reliability)
 }
 
 fn with_reader(sum: u64, reader: &ReaderConfig) -> u64
