@@ -54,7 +54,7 @@ abbrev pub ownership_of : Bool → OwnershipQos
 ownership_of true = Exclusive
 ownership_of false = Shared
 
--- whether a reader goes on over what it misses, or asks for it
+-- whether a writer keeps what its readers miss, and a reader asks for it, or neither does
 abbrev pub reliability_of : Bool → ReliabilityQos
 reliability_of true = BestEffort
 reliability_of false = Reliable
