@@ -17,7 +17,7 @@ from .scripts import Ask, plain
 PACKET = re.compile(r"packet (\d+) ((?:[0-9a-fA-F]{2})+)")
 COUNTS = r"(?:lost|livelost) \d+ \d+|changed \d+ \d+ -?\d+ -?\d+ \d+|matched \d+ \d+ \d+ -?\d+ (?:-|\d+\.[wr]\d+)"
 SAMPLE = r"\[[0-9a-f]{1,32} (?:-|!|(?:[0-9a-f]{2})+) [NR] [NO] [ADW](?: \d+){8}\]"
-MOVE = r"\[(?:place \d+\.w\d+ r\d+ \d+(?: lost \d+-\d+)*|acked w\d+ \d+\.r\d+ \d+|heard \d+\.w\d+ r\d+|begun \d+\.w\d+ r\d+ \d+ \d+)\]"
+MOVE = r"\[(?:place \d+\.w\d+ r\d+ \d+(?: lost \d+-\d+)*|acked w\d+ \d+\.r\d+ \d+|heard \d+\.w\d+ r\d+|begun \d+\.w\d+ r\d+ \d+ \d+|strange w\d+ \d+\.r\d+)\]"
 CONDITION = r"(?:\d+|s:(?:p|[wr]\d+))"
 REPLY = re.compile(
     rf"(?:ok(?: old(?: \[[rw]\d+ (?:data|{COUNTS})\])*)?|code \d+|samples \d+(?: {SAMPLE})+|key [0-9a-f]{{1,32}}|handle \d+|{COUNTS}"

@@ -16,7 +16,7 @@ from .proxies import Proxy, shown, text_of_runs
 
 CODES = {3: "BAD_PARAMETER", 4: "PRECONDITION_NOT_MET", 5: "OUT_OF_RESOURCES", 8: "INCONSISTENT_POLICY", 10: "TIMEOUT",
          11: "NO_DATA", 100: "out of memory"}
-MOVE = re.compile(r"\[(place|acked|heard|begun) ([^\]]*)\]")
+MOVE = re.compile(r"\[(place|acked|heard|begun|strange) ([^\]]*)\]")
 BRACKETED = re.compile(r"\[([^\]]*)\]")
 RUN = re.compile(r"(\d+)-(\d+)")
 MOST_SAMPLES, LONGEST = 12, 14  # samples that are shown of a reply; letters of a word
@@ -231,7 +231,7 @@ class Follower:
         while moves:
             kind, text = moves[0]
             words = text.split(" ")
-            if kind == "acked" or words[:2] != [writer.path, reader.name]:
+            if kind in ("acked", "strange") or words[:2] != [writer.path, reader.name]:
                 return
             if kind == "place" and not self.proxies[pair].place < int(words[2]) <= self.proxies[pair].reach():
                 return
@@ -245,6 +245,9 @@ class Follower:
         if kind == "acked":
             told.add("acked", f"{words[1]} has all below {words[2]}", f"{words[0]}: what it has acknowledged")
             told.states[f"{peer}.{words[0]} to {words[1]}"] = f"acknowledged below {words[2]}"
+            return
+        if kind == "strange":
+            told.add("lost", f"{words[1]} is strange", f"{words[0]}: it acknowledges what was never made")
             return
         reader, writer = f"{peer}.{words[1]}", words[0]
         instances = self.instances[reader]

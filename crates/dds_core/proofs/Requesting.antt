@@ -1,6 +1,6 @@
 -- The writer that an ACKNACK names answers its matched readers, one after the other, and the peer's other writers do
 -- nothing.
-use Rattle.std.proofs.Common.{◌≡◌, ℕ, zero, suc, ◌+◌, ◌<◌, List, [], ◌∷◌, ◌++◌, Option, Some, None, map, take, drop, set, length, get_or, slice_get, refl, ap, sym, ◌∙◌, subst, arith, inr, append_assoc, append-nil, length-set}
+use Rattle.std.proofs.Common.{◌≡◌, ℕ, zero, suc, ◌+◌, ◌<◌, Bool, List, [], ◌∷◌, ◌++◌, Option, Some, None, map, take, drop, set, length, get_or, slice_get, refl, ap, sym, ◌∙◌, subst, arith, inl, inr, append_assoc, append-nil, length-set}
 use Rattle.std.proofs.lemmas.List.{take_more, take_all}
 use Rattle.std.proofs.lemmas.Option.{get_or_from_slice_get}
 use Rattle.dds_base.specs.declared.config.Config.{Config}
@@ -21,7 +21,9 @@ use Rattle.dds_core.specs.declared.answering.Room.{Room}
 use Rattle.dds_core.specs.declared.matching.ReaderName.{ReaderName}
 use Rattle.dds_core.specs.declared.effects.Effects.{Effects}
 use Rattle.dds_core.specs.declared.sending.Announced.{Announced}
-use Rattle.dds_core.specs.Answering.{AsksNone, IsRoom, AreRooms, TakesAckNack, HaveRoom, RowTook, RowsTook, TakesAllRows, TakesRow, TakesRows, acknowledged_moves}
+use Rattle.rtps_writer.specs.Standing.{StandsFor as RtpsStandsFor}
+use Rattle.rtps_writer.specs.WriterState.{WriterState}
+use Rattle.dds_core.specs.Answering.{AsksNone, IsRoom, AreRooms, TakesAckNack, HaveRoom, RowTook, RowsTook, TakesAllRows, TakesRow, TakesRows, acknack_moves, is_beyond}
 use Rattle.dds_core.specs.Kept.{WriterKept, PeerKept}
 use Rattle.dds_core.specs.Identity.{WriterIdentity, writer_identity}
 use Rattle.dds_core.specs.Moved.{MovesKept}
@@ -216,7 +218,7 @@ rows_more old now new index a k rooms i room effects mid after h lt is took =
     let r = at_row k h.there i h.same lt in
     let t : RowTook now index i a h.there r.name mid.moves.items mid.sent new after.moves.items after.sent =
     took h.there r.name h.at r.at in
-    let made : List Move = acknowledged_moves (index + 1) r.name.reader t.acknowledged in
+    let made : List Move = acknack_moves (index + 1) r.name.reader t.acknowledged t.strange in
     record {
       made = h.made ++ made;
       after_is =
@@ -249,7 +251,7 @@ idle_writer : (config : Config) (peer : Peer) (own : GuidPrefix) (at : Receiver)
     → InTurn (λ (p : ReaderProxy). WriterTakes config own peer.number at a writer p.reader) rows s [] [] s
 idle_writer config peer own at a writer rows s not =
     turn_idle (λ (p : ReaderProxy). WriterTakes config own peer.number at a writer p.reader) rows s
-    (λ k p there. inr ((λ to. absurd (not p.reader to)), (refl, refl, refl)))
+    (λ k p there. inr ((λ to. absurd (not p.reader to)), (inr ((λ r. not p.reader r.is), refl), refl, refl)))
 
 -- the writer of this index took it up, once room was made for the moves, and no other one has to
 pub writer_takes : (old new : PeerKept) (index : ℕ) (a : AckNackBody) (k : WriterKept) (rooms : List (Option Room))
@@ -369,20 +371,25 @@ nobody_takes old a at effects none = record {
 
 pub row_took : (old : PeerKept) (index row : ℕ) (a : AckNackBody) (k now k' : WriterKept) (name : ReaderName)
     (moves : List Move) (sent : Announced) (new : PeerKept) (after : List Move) (gone : Announced) (own : GuidPrefix)
-    (acknowledged : Option ℕ) (reader : Endpoint) → now ≡ k
+    (acknowledged : Option ℕ) (strange : Bool) (reader : Endpoint) → now ≡ k
     → slice_get k.readers row ≡ Some name → writer_identity k' ≡ writer_identity now → k'.matches ≡ now.matches
     → own ≡ old.prefix
     → TakesAckNack now own row a sent k' acknowledged gone
+    → ((s : WriterState) → RtpsStandsFor now.writer s → strange ≡ is_beyond s a.reader_sn_state.base)
     → ((n : ReaderName) → slice_get now.readers row ≡ Some n → reader ≡ n.reader)
     → new ≡ record old { writers = set old.writers index k' }
-    → after ≡ moves ++ acknowledged_moves (index + 1) reader acknowledged
+    → after ≡ moves ++ acknack_moves (index + 1) reader acknowledged strange
     → RowTook old index row a k name moves sent new after gone
-row_took old index row a k now k' name moves sent new after gone own acknowledged reader is at_name same matches prefix
-    takes named new_is after_is =
+row_took old index row a k now k' name moves sent new after gone own acknowledged strange reader is at_name same matches
+    prefix takes strange_is named new_is after_is =
     let at_now : slice_get now.readers row ≡ Some name =
     ap (λ (x : WriterKept). slice_get x.readers row) is ∙ at_name in
     record {
       acknowledged = acknowledged;
+      strange = strange;
+      strange_is =
+          subst (λ (x : WriterKept). (s : WriterState) → RtpsStandsFor x.writer s
+          → strange ≡ is_beyond s a.reader_sn_state.base) is strange_is;
       writer = k';
       same = same ∙ ap writer_identity is;
       matches = matches ∙ ap (λ (x : WriterKept). x.matches) is;
@@ -391,7 +398,7 @@ row_took old index row a k now k' name moves sent new after gone own acknowledge
           (subst (λ (p : GuidPrefix). TakesAckNack now p row a sent k' acknowledged gone) prefix takes);
       new_is = new_is;
       after_is =
-          after_is ∙ ap (λ (e : Endpoint). moves ++ acknowledged_moves (index + 1) e acknowledged) (named name at_now);
+          after_is ∙ ap (λ (e : Endpoint). moves ++ acknack_moves (index + 1) e acknowledged strange) (named name at_now);
     }
 
 -- the room of each row, where the ACKNACK is from its reader

@@ -1,5 +1,5 @@
 -- A writer of the peer takes an ACKNACK of one of its matched readers, by the rules of the protocol.
-use Rattle.std.proofs.Common.{◌≡◌, ℕ, suc, ◌+◌, ◌≤◌, ◌==◌, Bool, true, false, cond, ◌&&◌, List, [], ◌∷◌, ◌++◌, Option, Some, None, map, max, take, length, get_or, slice_get, refl, ap, sym, ◌∙◌, subst, arith, inl, inr, length-append, nat_lt, eq-eqb, eqb-true}
+use Rattle.std.proofs.Common.{◌≡◌, ◌⊎◌, ℕ, suc, ◌+◌, ◌<◌, ◌≤◌, ◌==◌, Bool, true, false, cond, ◌&&◌, ◌||◌, List, [], ◌∷◌, ◌++◌, Option, Some, None, map, max, take, length, get_or, slice_get, refl, ap, sym, ◌∙◌, subst, arith, inl, inr, ⊎_elim, length-append, nat_lt, eq-eqb, eqb-true}
 use Rattle.std.specs.Prelude.{if◌then◌else◌, nat_le}
 use Rattle.std.proofs.lemmas.Bool.Decides.{nat_tests}
 use Rattle.dds_base.specs.declared.config.Config.{Config}
@@ -16,23 +16,23 @@ use Rattle.rtps_writer.specs.declared.answer.Answer.{Answer}
 use Rattle.rtps_writer.specs.Acknack.{acknack_answers, after_acknack, answers_after, applied, is_applied, newly_acknowledged}
 use Rattle.rtps_writer.specs.Answers.{answered_from as rtps_answered_from, answers_to, requested}
 use Rattle.rtps_writer.specs.Standing.{StandsFor as RtpsStandsFor}
-use Rattle.rtps_writer.specs.WriterState.{WriterState, acknowledged_by}
+use Rattle.rtps_writer.specs.WriterState.{WriterState, acknowledged_by, last_of}
 use Rattle.dds_base.specs.declared.endpoint.Endpoint.{Endpoint}
 use Rattle.dds_machine.specs.declared.reply.Move.{Move}
-use Rattle.dds_machine.specs.declared.reply.Move.TheVariants.{Acknowledged}
+use Rattle.dds_machine.specs.declared.reply.Move.TheVariants.{Acknowledged, Strange}
 use Rattle.dds_protocol.specs.Claims.{Receiver, IsWriter, IsToWriter, Names}
 use Rattle.dds_machine.specs.Part.{Part, ReaderProxy, Writer, no_writer, same_endpoint, history_of, at_writer, owed_from, writer_changes}
 use Rattle.dds_protocol.specs.Peer.{Peer, state_of as network_of}
 use Rattle.dds_protocol.specs.DueMessages.{Due, answer_message}
 use Rattle.dds_protocol.specs.Contact.{Contact}
-use Rattle.dds_protocol.specs.Protocol.{State, Known, WriterTakes, AreGrouped, answers_per, TakesAckNack as TakesByRules, acknowledging, answered_from, asks_for_heartbeat, contact_after, has_for, is_taken_up, with_answered}
+use Rattle.dds_protocol.specs.Protocol.{State, Known, IsStranger, SaysStranger, WriterTakes, AreGrouped, answers_per, TakesAckNack as TakesByRules, acknowledging, answered_from, asks_for_heartbeat, contact_after, has_for, is_taken_up, with_answered}
 use Rattle.dds_protocol.proofs.Framing.{with_same}
 use Rattle.dds_protocol.proofs.InOrder.{same_self}
 use Rattle.dds_core.specs.declared.answering.Answering.{Answering}
 use Rattle.dds_core.specs.declared.matching.ReaderName.{ReaderName}
 use Rattle.dds_core.specs.declared.match_counts.MatchCounts.{MatchCounts}
 use Rattle.dds_core.specs.declared.sending.Announced.{Announced}
-use Rattle.dds_core.specs.Answering.{IsFrom, IsAskedWriter, IsUnaskedAt, RowTook, SendsAnswers, TookAckNack, acknowledged_moves, after_hearing, answer_due, heard_if}
+use Rattle.dds_core.specs.Answering.{IsFrom, IsAskedWriter, IsUnaskedAt, RowTook, SendsAnswers, TookAckNack, acknack_moves, acknowledged_moves, after_hearing, answer_due, heard_if, is_beyond}
 use Rattle.dds_core.specs.Beating.{AddsTo, due_to}
 use Rattle.dds_core.specs.Kept.{WriterKept, PeerKept}
 use Rattle.dds_core.specs.Identity.{WriterIdentity}
@@ -258,11 +258,14 @@ abbrev sends : (turn : Turn) → SendsAnswers (answering_of turn) (changes_of (w
     (acknack_answers (before turn) turn.c.row (base_of turn) turn.a.reader_sn_state turn.a.count) turn.sent turn.gone
 sends turn = (took turn).sends turn.c.name turn.c.at_name
 
+suc_of : (n : ℕ) → n + 1 ≡ suc n
+suc_of n = omega arith
+
 -- the peer goes on as this one, by the rules
 abbrev GoesOn : Turn → PeerKept → Type 0
 GoesOn turn new =
     RowAnswered turn.c.config turn.c.kept.prefix turn.at turn.a (suc turn.c.i) turn.c.name.reader turn.c.peer
-    (acknowledged_moves (turn.c.i + 1) turn.c.name.reader turn.t.acknowledged) turn.sent new turn.gone
+    (acknack_moves (turn.c.i + 1) turn.c.name.reader turn.t.acknowledged turn.t.strange) turn.sent new turn.gone
 
 abbrev with_next : Turn → PeerKept
 with_next turn = with_writer turn.c.kept turn.c.i turn.t.writer
@@ -276,6 +279,25 @@ rows_again turn =
 matches_again : (turn : Turn) → CountsFor turn.t.writer.matches (writer_of turn.c).matches
 matches_again turn =
     subst (λ (x : MatchCounts). CountsFor x (writer_of turn.c).matches) (sym turn.t.matches) (stood turn.c).matches
+
+-- one that is taken acknowledges no more than was made
+within_if_taken : (later : Bool) (base next : ℕ) → (later && nat_le base next) ≡ true → nat_lt next base ≡ false
+within_if_taken true base next is =
+    let low : base ≤ next = grind (arith, nat_tests) in
+    grind (arith, nat_tests)
+within_if_taken false base next is = cc
+
+-- it acknowledges more, or it does not
+beyond_by : (b : Bool) (next base : ℕ) → b ≡ nat_lt next base → b ≡ true → next < base
+beyond_by b next base is holds =
+    let less : nat_lt next base ≡ true = sym is ∙ holds in
+    grind (arith, nat_tests)
+
+within_by : (b : Bool) (next base : ℕ) → b ≡ nat_lt next base → b ≡ false → next < base → ⊥
+within_by b next base is fails less =
+    let more : nat_lt next base ≡ false = sym is ∙ fails in
+    let low : base ≤ next = grind (arith, nat_tests) in
+    omega (arith, low, less)
 
 -- an ACKNACK that is taken
 row_applied : (turn : Turn) → IsFrom turn.c.kept.prefix turn.c.k.entity turn.at turn.a turn.c.name
@@ -295,6 +317,11 @@ row_applied turn from is = record {
         (own_end turn.c.peer turn.c.i) turn.c.name.reader
     to = to_writer turn.c.config turn.c.peer turn.c.kept turn.c.i turn.c.k turn.own turn.at turn.a turn.c.name
         (turn.own.named turn.c.row turn.c.name turn.c.at_name) from
+
+    not_strange : turn.t.strange ≡ false
+    not_strange =
+        turn.t.strange_is (before turn) (stood turn.c).writer
+        ∙ within_if_taken _ (base_of turn) (last_of (before turn) + 1) is
 
     there : Writer
     there = acknowledging (writer_of turn.c) turn.c.name.reader (max (row_of turn).proxy.acknowledged (base_of turn))
@@ -438,20 +465,21 @@ row_applied turn from is = record {
 
     takes : TakesByRules turn.c.kept.prefix turn.at (network_of turn.c.peer)
         (suc turn.c.i) turn.c.name.reader turn.c.name.guid.entity turn.a
-        (acknowledged_moves (turn.c.i + 1) turn.c.name.reader turn.t.acknowledged) dues state
+        (acknack_moves (turn.c.i + 1) turn.c.name.reader turn.t.acknowledged turn.t.strange) dues state
     takes = record {
       acknowledged = (row_of turn).proxy.acknowledged;
       matched =
           acknowledged_is (writer_of turn.c).readers turn.c.name.reader turn.c.row (row_of turn).proxy
           (row_of turn).only;
       moves_are =
-          ap (λ (o : Option ℕ). acknowledged_moves (turn.c.i + 1) turn.c.name.reader o)
+          ap (λ (b : Bool). acknack_moves (turn.c.i + 1) turn.c.name.reader turn.t.acknowledged b) not_strange
+          ∙ ap (λ (o : Option ℕ). acknowledged_moves (turn.c.i + 1) turn.c.name.reader o)
           ((took turn).acknowledged_is
           ∙ ap (λ (x : WriterState). newly_acknowledged (before turn) x turn.c.row) applied_then)
           ∙ (moves_then (writer_of turn.c) (answered_of turn.c) turn.c.name.reader turn.c.row (row_of turn).proxy
           (base_of turn) turn.a.count (turn.c.i + 1) (row_of turn).only
           ∙ ap (λ (n : ℕ). if nat_lt (row_of turn).proxy.acknowledged
-          (base_of turn) then Acknowledged n turn.c.name.reader (base_of turn) ∷ [] else []) (next turn.c.i));
+          (base_of turn) then Acknowledged n turn.c.name.reader (base_of turn) ∷ [] else []) (suc_of turn.c.i));
       there = there;
       there_is = refl;
       groups = (sends turn).groups;
@@ -465,20 +493,18 @@ row_applied turn from is = record {
       dues_are = refl;
       after = refl;
     }
-      where
-        next : (n : ℕ) → n + 1 ≡ suc n
-        next n = omega arith
 
 -- one that is not
-row_ignored : (turn : Turn) → is_taken turn ≡ false → GoesOn turn (with_next turn)
-row_ignored turn is = record {
+row_ignored : (turn : Turn) → IsFrom turn.c.kept.prefix turn.c.k.entity turn.at turn.a turn.c.name
+    → is_taken turn ≡ false → GoesOn turn (with_next turn)
+row_ignored turn from is = record {
   state = network_of turn.c.peer;
   dues = [];
   takes =
       inr (
         (λ to. sym (applied_is (writer_of turn.c) (answered_of turn.c) turn.c.name.reader turn.c.row
             (row_of turn).proxy (base_of turn) turn.a.count (row_of turn).only) ∙ is),
-        (no_move, refl, refl),
+        (says turn.t.strange refl, refl, refl),
       );
   stands =
       subst (λ (p : Part). StandsFor (with_writer turn.c.kept turn.c.i turn.t.writer) turn.c.config
@@ -492,6 +518,9 @@ row_ignored turn is = record {
       (no_groups (sends turn).groups grouped)) (sends turn).adds;
 }
   where
+    strange_is : turn.t.strange ≡ is_beyond (before turn) (base_of turn)
+    strange_is = turn.t.strange_is (before turn) (stood turn.c).writer
+
     grouped : AreGrouped (answers_per turn.c.k.max_value) [] (sends turn).groups
     grouped =
         subst (λ (xs : List Answer). AreGrouped (answers_per turn.c.k.max_value) xs (sends turn).groups)
@@ -531,6 +560,27 @@ row_ignored turn is = record {
             let less : nat_lt n n
             ≡ false = grind (arith, nat_tests) in ap (λ (b : Bool). if b then Some n else None) less
 
+    says : (b : Bool) → turn.t.strange ≡ b
+        → SaysStranger turn.c.config turn.c.kept.prefix turn.c.peer.number turn.at turn.a (suc turn.c.i)
+        turn.c.name.reader (network_of turn.c.peer)
+        (acknack_moves (turn.c.i + 1) turn.c.name.reader turn.t.acknowledged turn.t.strange)
+    says true holds = inl (
+      record {
+        is = to_writer turn.c.config turn.c.peer turn.c.kept turn.c.i turn.c.k turn.own turn.at turn.a turn.c.name
+            (turn.own.named turn.c.row turn.c.name turn.c.at_name) from;
+        acknowledged = (row_of turn).proxy.acknowledged;
+        matched = acknowledged_is (writer_of turn.c).readers turn.c.name.reader turn.c.row (row_of turn).proxy
+            (row_of turn).only;
+        beyond = beyond_by turn.t.strange (last_of (before turn) + 1) (base_of turn) strange_is holds;
+      },
+      ap (λ (b : Bool). acknack_moves (turn.c.i + 1) turn.c.name.reader turn.t.acknowledged b) holds
+          ∙ ap (λ (n : ℕ). Strange n turn.c.name.reader ∷ []) (suc_of turn.c.i),
+    )
+    says false fails = inr (
+      λ s. within_by turn.t.strange (last_of (before turn) + 1) (base_of turn) strange_is fails s.beyond,
+      ap (λ (b : Bool). acknack_moves (turn.c.i + 1) turn.c.name.reader turn.t.acknowledged b) fails ∙ no_move,
+    )
+
     stands : WriterStands turn.t.writer (writer_of turn.c) (turn.c.peer.known.answered (suc turn.c.i))
     stands = record {
       autodispose = (stood turn.c).autodispose ∙ ap (λ (x : WriterIdentity). x.autodispose) (sym turn.t.same);
@@ -559,7 +609,7 @@ pub row_answered : (c : Row) (at : Receiver) (a : AckNackBody)
     → (moves : List Move) (sent : Announced) (new : PeerKept) (after : List Move) (gone : Announced)
     → (t : RowTook c.kept c.i c.row a c.k c.name moves sent new after gone)
     → RowAnswered c.config c.kept.prefix at a (suc c.i) c.name.reader c.peer
-    (acknowledged_moves (c.i + 1) c.name.reader t.acknowledged) sent new gone
+    (acknack_moves (c.i + 1) c.name.reader t.acknowledged t.strange) sent new gone
 row_answered c at a from moves sent new after gone t = subst (GoesOn turn) (sym t.new_is) (by (is_taken turn) refl)
   where
     turn : Turn
@@ -580,25 +630,40 @@ row_answered c at a from moves sent new after gone t = subst (GoesOn turn) (sym 
 
     by : (b : Bool) → is_taken turn ≡ b → GoesOn turn (with_next turn)
     by true is = row_applied turn from is
-    by false is = row_ignored turn is
+    by false is = row_ignored turn from is
 
--- a reader that the ACKNACK is not from, or for which it is not applied, has nothing to be answered
+-- neither of two
+neither : (a b : Bool) → (a || b) ≡ false → (a ≡ false) × (b ≡ false)
+neither true b h = cc
+neither false b h = (refl, h)
+
+-- a reader that the ACKNACK is not from, or for which it is not heeded, has nothing to be answered
 pub row_unasked : (c : Row) (at : Receiver) (a : AckNackBody) → IsUnaskedAt c.kept.prefix at a c.k c.row
     → WriterTakes c.config c.kept.prefix c.peer.number at a (suc c.i) c.name.reader (network_of c.peer) [] []
     (network_of c.peer)
 row_unasked c at a unasked =
     let o : IsOwn c.config c.kept c.peer.number c.i c.k = own_of c in
     let row : IsRow c = row_is c o in
+    let state : WriterState = state_of (writer_of c) (answered_of c) in
+    let base : ℕ = a.reader_sn_state.base in
+    let not : (to : IsToWriter c.config c.kept.prefix at a.reader_id a.writer_id (own_end c.peer c.i) c.name.reader)
+    → (is_applied state c.row base a.count ≡ false) × (is_beyond state base ≡ false) =
+    λ to. neither (is_applied state c.row base a.count) (is_beyond state base)
+    (unasked c.name c.at_name
+    (from_reader c.config c.peer c.kept c.i c.k o at a c.name (o.named c.row c.name c.at_name) to) state
+    (stood c).writer) in
     inr (
-      λ to. sym (applied_is (writer_of c) (answered_of c) c.name.reader c.row row.proxy a.reader_sn_state.base a.count
-          row.only)
-          ∙ unasked c.name c.at_name
-          (from_reader c.config c.peer c.kept c.i c.k o at a c.name (o.named c.row c.name c.at_name) to)
-          (state_of (writer_of c) (answered_of c)) (stood c).writer,
-      (refl, refl, refl),
+      λ to. sym (applied_is (writer_of c) (answered_of c) c.name.reader c.row row.proxy base a.count row.only)
+          ∙ (not to).0,
+      (inr ((λ s. within_by (is_beyond state base) (last_of state + 1) base refl (not s.is).1 s.beyond), refl), refl, refl),
     )
 
--- one that it is from, and for which it is applied, makes it one that may need memory
+-- one of two
+either : (a b : Bool) → (a || b) ≡ true → (a ≡ true) ⊎ (b ≡ true)
+either true b h = inl refl
+either false b h = inr h
+
+-- one that it is from, and for which it is heeded, makes it one that may need memory
 pub asked_needs : (old : PeerKept) (at : Receiver) (a : AckNackBody) (index : ℕ)
     → IsAskedWriter old.prefix at a old.writers index → NeedsMemory old at (AckNack a)
 asked_needs old at a index is config peer stands =
@@ -617,14 +682,24 @@ asked_needs old at a index is config peer stands =
       at_name = is.asked.there;
     } in
     let o : IsOwn config old peer.number index k = own_of c in
-    let row : IsRow c = row_is c o in (
+    let row : IsRow c = row_is c o in
+    let state : WriterState = state_of (writer_of c) (answered_of c) in
+    let base : ℕ = a.reader_sn_state.base in
+    let to = to_writer config peer old index k o at a is.asked.name
+    (o.named is.row is.asked.name is.asked.there) is.asked.from in (
       suc index,
       is.asked.name.reader,
-      to_writer config peer old index k o at a is.asked.name (o.named is.row is.asked.name is.asked.there)
-          is.asked.from,
-      sym (applied_is (writer_of c) (answered_of c) is.asked.name.reader is.row row.proxy a.reader_sn_state.base a.count
-          row.only)
-          ∙ is.asked.applied (state_of (writer_of c) (answered_of c)) (stood c).writer,
+      to,
+      ⊎_elim
+          (λ applied. inl (sym (applied_is (writer_of c) (answered_of c) is.asked.name.reader is.row row.proxy base
+          a.count row.only) ∙ applied))
+          (λ beyond. inr (record {
+            is = to;
+            acknowledged = row.proxy.acknowledged;
+            matched = acknowledged_is (writer_of c).readers is.asked.name.reader is.row row.proxy row.only;
+            beyond = beyond_by (is_beyond state base) (last_of state + 1) base refl beyond;
+          }))
+          (either (is_applied state is.row base a.count) (is_beyond state base) (is.asked.heeded state (stood c).writer)),
     )
 
 -- a reader that the ACKNACK is not from has nothing to be answered
@@ -640,7 +715,15 @@ row_idle c at a sent not =
           inr (
             (λ to. absurd (not (from_reader c.config c.peer c.kept c.i c.k o at a c.name
                 (o.named c.row c.name c.at_name) to))),
-            (refl, refl, refl),
+            (
+              inr (
+                (λ s. not (from_reader c.config c.peer c.kept c.i c.k o at a c.name
+                    (o.named c.row c.name c.at_name) s.is)),
+                refl,
+              ),
+              refl,
+              refl,
+            ),
           );
       stands = c.stands;
       adds = adds_none sent.packets.items sent.unsent;

@@ -2,7 +2,7 @@
 -- be believed.
 --
 -- RTPS 2.5, 8.4.7 (ReaderProxy: requested_changes), 8.4.9 (reliable StatefulWriter), 8.3.8 (AckNack, Data, Gap).
-use Rattle.std.specs.Prelude.{◌≡◌, ℕ, suc, ◌+◌, ◌<◌, ◌≤◌, ◌&&◌, Bool, true, false, not, if◌then◌else◌, List, [], ◌∷◌, ◌++◌, length, map, take, set, slice_get, slice_set, vec_capacity, Option, Some, None}
+use Rattle.std.specs.Prelude.{◌≡◌, ℕ, ℤ, suc, ◌+◌, ◌<◌, ◌≤◌, ◌&&◌, Bool, true, false, not, if◌then◌else◌, List, [], ◌∷◌, ◌++◌, length, map, take, set, slice_get, slice_set, vec_capacity, Option, Some, None, ◌||◌, nat_lt}
 use Rattle.std.specs.List.{All, AllByRecursion}
 use Rattle.dds_base.specs.declared.change.Change.{Change}
 use Rattle.dds_base.specs.declared.config.Config.{Config}
@@ -19,10 +19,10 @@ use Rattle.rtps_writer.specs.declared.answer.Answer.{Answer}
 use Rattle.rtps_writer.specs.declared.answer.Answer.TheVariants.{Data, Gap}
 use Rattle.rtps_writer.specs.Acknack.{acknack_answers, after_acknack, is_applied, newly_acknowledged}
 use Rattle.rtps_writer.specs.Standing.{Kept, StandsFor as RtpsStandsFor}
-use Rattle.rtps_writer.specs.WriterState.{WriterState, history_of}
+use Rattle.rtps_writer.specs.WriterState.{WriterState, history_of, last_of}
 use Rattle.dds_base.specs.declared.endpoint.Endpoint.{Endpoint}
 use Rattle.dds_machine.specs.declared.reply.Move.{Move}
-use Rattle.dds_machine.specs.declared.reply.Move.TheVariants.{Acknowledged}
+use Rattle.dds_machine.specs.declared.reply.Move.TheVariants.{Acknowledged, Strange}
 use Rattle.dds_protocol.specs.Claims.{Receiver, is_for, Names}
 use Rattle.dds_protocol.specs.Peer.{Peer, state_of}
 use Rattle.rtps_wire.specs.declared.message.Message.{Message}
@@ -49,25 +49,33 @@ pub record IsFrom (own : GuidPrefix) (entity : EntityId) (at : Receiver) (a : Ac
   pub writer : a.writer_id ≡ entity
   pub source : name.guid.prefix ≡ at.source_guid_prefix
 
--- the ACKNACK is from the writer's reader of this row, and is applied
+-- an ACKNACK of this base acknowledges changes that the writer has not made
+abbrev pub is_beyond : WriterState → ℕ → Bool
+is_beyond s base = nat_lt (last_of s + 1) base
+
+-- an ACKNACK of the writer's reader of this row is heeded: it is applied, or acknowledges what was never made
+abbrev pub is_heeded : WriterState → ℕ → ℕ → ℤ → Bool
+is_heeded s row base count = is_applied s row base count || is_beyond s base
+
+-- the ACKNACK is from the writer's reader of this row, and is heeded
 pub record IsAskedAt (own : GuidPrefix) (at : Receiver) (a : AckNackBody) (k : WriterKept) (row : ℕ) : Type 0 where
   pub name : ReaderName
   pub there : slice_get k.readers row ≡ Some name
   pub from : IsFrom own k.entity at a name
-  pub applied : (s : WriterState) → RtpsStandsFor k.writer s
-      → is_applied s row a.reader_sn_state.base a.count ≡ true
+  pub heeded : (s : WriterState) → RtpsStandsFor k.writer s
+      → is_heeded s row a.reader_sn_state.base a.count ≡ true
 
--- it is not from that reader, or is not applied
+-- it is not from that reader, or is not heeded
 abbrev pub IsUnaskedAt : GuidPrefix → Receiver → AckNackBody → WriterKept → ℕ → Type 0
 IsUnaskedAt own at a k row =
     (name : ReaderName) → slice_get k.readers row ≡ Some name → IsFrom own k.entity at a name
-    → (s : WriterState) → RtpsStandsFor k.writer s → is_applied s row a.reader_sn_state.base a.count ≡ false
+    → (s : WriterState) → RtpsStandsFor k.writer s → is_heeded s row a.reader_sn_state.base a.count ≡ false
 
--- it is from no reader of the writer, or is not applied
+-- it is from no reader of the writer, or is not heeded
 abbrev pub IsUnasked : GuidPrefix → Receiver → AckNackBody → WriterKept → Type 0
 IsUnasked own at a k = (row : ℕ) → IsUnaskedAt own at a k row
 
--- it is from a reader of the writer of this index, and is applied
+-- it is from a reader of the writer of this index, and is heeded
 pub record IsAskedWriter (own : GuidPrefix) (at : Receiver) (a : AckNackBody) (writers : List WriterKept)
     (index : ℕ) : Type 0 where
   pub writer : WriterKept
@@ -185,16 +193,28 @@ abbrev pub acknowledged_moves : ℕ → Endpoint → Option ℕ → List Move
 acknowledged_moves writer reader None = []
 acknowledged_moves writer reader (Some to) = Acknowledged writer reader to ∷ []
 
+-- the move of an ACKNACK that acknowledged so, or what was never made
+abbrev pub acknack_moves : ℕ → Endpoint → Option ℕ → Bool → List Move
+acknack_moves writer reader acknowledged false = acknowledged_moves writer reader acknowledged
+acknack_moves writer reader acknowledged true = Strange writer reader ∷ []
+
+-- the move, where there is one
+abbrev pub listed : Option Move → List Move
+listed None = []
+listed (Some m) = m ∷ []
+
 -- the writer of this index, which keeps this, took the ACKNACK of its reader of this row
 pub record RowTook (old : PeerKept) (index row : ℕ) (a : AckNackBody) (k : WriterKept) (name : ReaderName)
     (moves : List Move) (sent : Announced) (new : PeerKept) (after : List Move) (gone : Announced) : Type 0 where
   pub acknowledged : Option ℕ
+  pub strange : Bool
+  pub strange_is : (s : WriterState) → RtpsStandsFor k.writer s → strange ≡ is_beyond s a.reader_sn_state.base
   pub writer : WriterKept
   pub same : writer_identity writer ≡ writer_identity k
   pub matches : writer.matches ≡ k.matches
   pub answers : TakesAckNack k old.prefix row a sent writer acknowledged gone
   pub new_is : new ≡ record old { writers = set old.writers index writer }
-  pub after_is : after ≡ moves ++ acknowledged_moves (index + 1) name.reader acknowledged
+  pub after_is : after ≡ moves ++ acknack_moves (index + 1) name.reader acknowledged strange
 
 -- the writer of this index took the ACKNACK of its reader of this row, if there are both
 abbrev pub TakesRow : PeerKept → ℕ → ℕ → AckNackBody → Effects → PeerKept → Effects → Type 0

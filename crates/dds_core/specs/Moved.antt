@@ -1,7 +1,7 @@
 -- Moves that are kept twice. Inner functions alone cite this: nothing here has to be believed.
 use Rattle.std.specs.Prelude.{◌≡◌, ℕ, ◌≤◌, Bool, List, length, Option, None, Some}
 use Rattle.dds_machine.specs.declared.reply.Move.{Move}
-use Rattle.dds_machine.specs.declared.reply.Move.TheVariants.{Place, Heard, Begun, Acknowledged}
+use Rattle.dds_machine.specs.declared.reply.Move.TheVariants.{Place, Heard, Begun, Acknowledged, Strange}
 
 -- the moves once more, and for how many more there is room
 pub record CopiesKept : Type 0 where
@@ -25,3 +25,4 @@ IsFew (Place writer reader to passed) = length passed ≤ 257
 IsFew (Heard writer reader) = Unit {0}
 IsFew (Begun writer reader from to) = Unit {0}
 IsFew (Acknowledged writer reader to) = Unit {0}
+IsFew (Strange writer reader) = Unit {0}

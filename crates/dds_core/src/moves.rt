@@ -137,6 +137,10 @@ fn copied(spare: &mut Vec<Runs>, made: &Move) -> Move
             reader: *reader,
             to: *to,
         },
+        Move::Strange { writer, reader } => Move::Strange {
+            writer: *writer,
+            reader: *reader,
+        },
     }
 }
 

@@ -5,8 +5,9 @@
 ghost use Rattle.std.specs.Prelude.{◌≡◌, ◌+◌, ◌^◌, ◌<◌, ◌≤◌, Some, length, slice_get, IfSome, IfNone, OnOk, OnErr};
 ghost use Rattle.dds_base.specs.Bounds.{max_readers, window_width};
 ghost use Rattle.rtps_wire.specs.declared.submessage.Submessage.TheVariants as submessage;
-ghost use Rattle.dds_core.specs.Answering.{HasRoom, HaveRoom, AsksNone, IsAskedWriter, TakesRow, TakesAllRows};
+ghost use Rattle.dds_core.specs.Answering.{HasRoom, HaveRoom, AsksNone, IsAskedWriter, TakesRow, TakesAllRows, acknack_moves, listed};
 ghost use Rattle.dds_core.specs.Kept.{WriterKept};
+ghost use Rattle.dds_core.specs.Moved.{IsFew};
 ghost use Rattle.dds_core.specs.Readiness.{receiver_at};
 ghost use Rattle.dds_core.specs.Receiving.{GoOn, TakesOneMore, KeepsPeer, NeedsMemory};
 
@@ -15,12 +16,12 @@ use crate::effects::Effects;
 use crate::peer::Peer;
 use crate::receiver::MessageReceiver;
 use crate::writer_end::WriterEnd;
-use dds_base::{Code, GuidPrefix};
+use dds_base::{Code, Endpoint, GuidPrefix, Sn};
 use dds_machine::Move;
 use rtps_wire::AckNack;
 
 /// The first of the writers of the peer of this prefix that an ACKNACK is for, of those where it is from a matched reader
-/// and is applied.
+/// and is heeded.
 fn asked_writer(
     writers: &[WriterEnd],
     own: &GuidPrefix,
@@ -40,8 +41,20 @@ fn asked_writer(
     None
 }
 
+/// What is reported of an ACKNACK of this reader: that it acknowledged what was never made, or how far it has all.
+fn heard(writer: u8, reader: Endpoint, acknowledged: Option<Sn>, is_strange: bool) -> Option<Move>
+    ensures few { IfSome result IsFew }
+    ensures said { listed result ≡ acknack_moves writer reader acknowledged is_strange }
+{
+    if is_strange {
+        return Some(Move::Strange { writer, reader });
+    }
+    let to = acknowledged?;
+    Some(Move::Acknowledged { writer, reader, to })
+}
+
 impl Peer {
-    /// The first of the peer's writers that an ACKNACK is for, of those where it is from a matched reader and is applied.
+    /// The first of the peer's writers that an ACKNACK is for, of those where it is from a matched reader and is heeded.
     fn asked(&self, receiver: &MessageReceiver, body: &AckNack) -> Option<usize>
         ensures asked { IfSome result
             (IsAskedWriter self.now.prefix (receiver_at receiver.now) body.now self.now.writers) }
@@ -74,12 +87,10 @@ impl Peer {
         let (alloc, prefix) = (self.alloc, self.prefix);
         let writer = &mut self.writers[index];
         let reader = writer.reader(row);
-        if let Some(to) = writer.take_acknack(alloc, prefix, row, body, room, &mut effects.sent) {
-            effects.moves.push_reserved(Move::Acknowledged {
-                writer: (index + 1) as u8,
-                reader,
-                to,
-            });
+        let is_strange = writer.is_beyond(body);
+        let acknowledged = writer.take_acknack(alloc, prefix, row, body, room, &mut effects.sent);
+        if let Some(step) = heard((index + 1) as u8, reader, acknowledged, is_strange) {
+            effects.moves.push_reserved(step);
         }
     }
 
@@ -112,7 +123,7 @@ impl Peer {
     }
 
     /// Takes up an ACKNACK: the writer that it names answers each of its readers that it is from. Adds what moved. One
-    /// that is applied by nobody needs no memory.
+    /// that is heeded by nobody needs no memory.
     pub(crate) fn take_acknack(
         &mut self,
         effects: &mut Effects,

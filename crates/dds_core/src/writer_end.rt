@@ -10,6 +10,8 @@ ghost use Rattle.dds_base.specs.Kept.{append_refusal};
 ghost use Rattle.dds_base.specs.Refusal.{Refuses};
 ghost use Rattle.dds_base.specs.Written.{Asserted, Registered, Changed, LookedAt, StrengthSet, is_key_registered, liveliness_lost_status};
 ghost use Rattle.rtps_wire.specs.Content.{content_of};
+ghost use Rattle.rtps_writer.specs.Standing.{StandsFor as RtpsStandsFor};
+ghost use Rattle.rtps_writer.specs.WriterState.{WriterState};
 ghost use Rattle.dds_base.specs.declared.endpoint.Endpoint.{Endpoint as EndpointOf};
 ghost use Rattle.dds_machine.specs.Matching.{publication_matched};
 ghost use Rattle.dds_machine.specs.Noticing.{loss_raised, publication_raised};
@@ -18,7 +20,7 @@ ghost use Rattle.dds_machine.specs.Refusals.{strength_of, unregister_kind};
 ghost use Rattle.dds_machine.specs.Part.{ReaderProxy, Writer, history_of, writer_changes};
 ghost use Rattle.dds_protocol.specs.Contact.{Contact};
 ghost use Rattle.dds_core.specs.declared.matching.ReaderName.{ReaderName as NameOf};
-ghost use Rattle.dds_core.specs.Answering.{HasRoom, AreRooms, IsAskedAt, IsUnaskedAt, IsUnasked, TakesAckNack};
+ghost use Rattle.dds_core.specs.Answering.{HasRoom, AreRooms, IsAskedAt, IsUnaskedAt, IsUnasked, TakesAckNack, is_beyond, is_heeded};
 ghost use Rattle.dds_core.specs.Beating.{BeatsOf, BeatsOfAll, HasNoCount, TellsOf};
 ghost use Rattle.dds_core.specs.Coming.{ForgetsRow, Joins, Leaves, LooksAtMatches, RefusesSo, joining_refusal, leaving_refusal};
 ghost use Rattle.dds_core.specs.MatchedEnds.{is_named, known_as};
@@ -485,7 +487,29 @@ impl WriterEnd {
         self.readers[row].reader
     }
 
-    /// Whether an ACKNACK is from its reader of this row, and is applied.
+    /// Whether an ACKNACK acknowledges changes that the writer has not made.
+    ///
+    /// RTPS 2.5, 8.3.8 (AckNack: readerSNState).
+    pub fn is_beyond(&self, body: &AckNack) -> bool
+        ensures { (s : WriterState) → RtpsStandsFor self.now.writer s
+            → result ≡ is_beyond s body.now.reader_sn_state.base }
+    {
+        let next = self.writer.last().number().saturating_add(1);
+        next < body.reader_sn_state.base().number()
+    }
+
+    /// Whether an ACKNACK of its reader of this row is applied, or acknowledges changes that the writer has not made.
+    fn heeds(&self, row: usize, body: &AckNack) -> bool
+        requires row { row < length self.now.readers }
+        ensures { (s : WriterState) → RtpsStandsFor self.now.writer s
+            → result ≡ is_heeded s row body.now.reader_sn_state.base body.now.count }
+    {
+        self.writer
+            .applies(row, body.reader_sn_state.base(), body.count)
+            || self.is_beyond(body)
+    }
+
+    /// Whether an ACKNACK is from its reader of this row, and is heeded.
     fn is_asked(
         &self,
         own: &GuidPrefix,
@@ -502,11 +526,10 @@ impl WriterEnd {
         if !is_from(own, receiver, body, self.entity, &self.readers[row]) {
             return false;
         }
-        self.writer
-            .applies(row, body.reader_sn_state.base(), body.count)
+        self.heeds(row, body)
     }
 
-    /// The first of its readers that an ACKNACK is from, of those for which it is applied.
+    /// The first of its readers that an ACKNACK is from, of those for which it is heeded.
     pub fn asked_row(
         &self,
         own: &GuidPrefix,

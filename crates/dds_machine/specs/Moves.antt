@@ -1,7 +1,8 @@
 -- What a delivery may do at a peer: a reader's place begins, and goes on over changes that come and changes that are
--- passed over, a reader acknowledges changes, and a writer is heard to assert its liveliness (RTPS 2.5, 8.4: reliable
--- StatefulWriter and StatefulReader; 8.7.2.2, LIVELINESS). A reader's places go on so too where they are tried again.
-use Rattle.std.specs.Prelude.{◌≡◌, ℕ, ◌<◌, ◌≤◌, true, List, [], ◌∷◌, Option, Some, None, ℤ, ◌<ℤ◌}
+-- passed over, a reader acknowledges changes, or some that were never made, and a writer is heard to assert its
+-- liveliness (RTPS 2.5, 8.4: reliable StatefulWriter and StatefulReader; 8.7.2.2, LIVELINESS). A reader's places go on so
+-- too where they are tried again.
+use Rattle.std.specs.Prelude.{◌≡◌, ℕ, ◌+◌, ◌<◌, ◌≤◌, true, List, [], ◌∷◌, length, Option, Some, None, ℤ, ◌<ℤ◌}
 use Rattle.dds_base.specs.declared.change.Change.{Change}
 use Rattle.dds_base.specs.declared.code.Code.TheVariants.{BadParameter}
 use Rattle.dds_base.specs.declared.happening.Happening.TheVariants.{Heard as WasHeard}
@@ -9,11 +10,11 @@ use Rattle.dds_base.specs.declared.happening.PassedRun.{PassedRun}
 use Rattle.dds_base.specs.Places.{WriterGrounds, Match, PlaceWith, GoesTo, MayPassOver}
 use Rattle.dds_base.specs.declared.endpoint.Endpoint.{Endpoint}
 use Rattle.dds_machine.specs.declared.reply.Move.{Move}
-use Rattle.dds_machine.specs.declared.reply.Move.TheVariants.{Place, Acknowledged, Heard, Begun as HasBegun}
+use Rattle.dds_machine.specs.declared.reply.Move.TheVariants.{Place, Acknowledged, Heard, Begun as HasBegun, Strange}
 use Rattle.dds_machine.specs.declared.reply.Reply.{Reply}
 use Rattle.dds_machine.specs.declared.reply.Reply.TheVariants.{Refused, Reported}
 use Rattle.dds_machine.specs.Numbered.{HasNumber}
-use Rattle.dds_machine.specs.Part.{is_attached, Waiting, Begun, how_of, with_begun, Part, own_writer, own_proxies, own_reader, acknowledged_of, with_acknowledged, place_of, with_place, heard_of, with_heard, publication_among, at_reader, at_writer}
+use Rattle.dds_machine.specs.Part.{is_attached, Waiting, Begun, how_of, with_begun, Part, own_writer, own_proxies, own_reader, acknowledged_of, with_acknowledged, place_of, with_place, heard_of, with_heard, publication_among, at_reader, at_writer, writer_changes}
 
 -- What moves at one peer may rest on. A far end is an endpoint, an own one a number.
 pub record Grounds : Type 1 where
@@ -79,6 +80,16 @@ pub record Acknowledges (grounds : Grounds) (old : Part) (writer : ℕ) (reader 
   pub after : new ≡ at_writer old writer
       (record (own_writer old writer) { readers = with_acknowledged (own_writer old writer).readers reader to })
 
+-- a matched reader of the peer's writer has acknowledged changes that the writer has not made: it knows another one of
+-- that name, and nothing changes
+pub record IsStrange (grounds : Grounds) (old : Part) (writer : ℕ) (reader : Endpoint) (new : Part) : Type 0 where
+  pub acknowledged : ℕ
+  pub matched : acknowledged_of (own_writer old writer).readers reader ≡ Some acknowledged
+  pub base : ℕ
+  pub has_place : grounds.has_place writer reader base
+  pub beyond : length (writer_changes (own_writer old writer)) + 1 < base
+  pub after : new ≡ old
+
 -- a count is above the one by which a writer was heard last; the first is so always
 abbrev pub IsLater : Option ℤ → ℤ → Type 0
 IsLater None count = Unit {0}
@@ -103,6 +114,7 @@ IsMove grounds old (Place writer reader to passed) new = Places grounds old writ
 IsMove grounds old (Acknowledged writer reader to) new = Acknowledges grounds old writer reader to new
 IsMove grounds old (Heard writer reader) new = Hears grounds old writer reader new
 IsMove grounds old (HasBegun writer reader from to) new = Begins grounds old writer reader from to new
+IsMove grounds old (Strange writer reader) new = IsStrange grounds old writer reader new
 
 -- moves taken in turn
 abbrev pub AreMoves : Grounds → Part → List Move → Part → Type 0

@@ -41,6 +41,13 @@ pub enum Move {
         reader: Endpoint,
         to: Sn,
     },
+    /// A reader has acknowledged changes that the peer's writer has not made, and nothing else was done with that. It
+    /// knows the writer from an earlier life: the peer began anew under its old name, and the reader takes the changes
+    /// of now for repeats, as many as it acknowledged then.
+    Strange {
+        writer: u8,
+        reader: Endpoint,
+    },
 }
 
 /// What a delivery did: its moves in the order in which they were made, and the index, from 0, of the submessage that

@@ -4,7 +4,7 @@ use Rattle.std.specs.Prelude.{Bool}
 use Rattle.std.specs.Option.{option_map, option_map_or}
 use Rattle.dds_base.specs.declared.endpoint.Endpoint.{Endpoint}
 use Rattle.dds_machine.specs.declared.reply.Move.{Move}
-use Rattle.dds_machine.specs.declared.reply.Move.TheVariants.{Place, Acknowledged, Heard, Begun as HasBegun}
+use Rattle.dds_machine.specs.declared.reply.Move.TheVariants.{Place, Acknowledged, Heard, Begun as HasBegun, Strange}
 use Rattle.dds_machine.specs.Moves.{Grounds, IsMove, AreMoves}
 use Rattle.dds_machine.specs.Numbered.{numbered, with_numbered}
 use Rattle.dds_machine.specs.Part.{Attachment, Away, Begun, WriterProxy, Part, how_of, is_attached, own_proxies, place_of, row_of, with_begun, with_heard, with_place, with_row}
@@ -95,6 +95,7 @@ move_met g old (HasBegun v k from to) new h r w =
     ∙ met_set old.rtps.readers k (with_begun (own_proxies old k) v to)
     (begun_met (own_proxies old k) v from to h.at (ap (λ (a : Attachment). is_attached a) h.waits)) r w
 move_met g old (Acknowledged v k to) new h r w = ap (λ (q : Part). is_met q.rtps.readers r w) h.after
+move_met g old (Strange v k) new h r w = ap (λ (q : Part). is_met q.rtps.readers r w) h.after
 
 pub moves_met : (g : Grounds) (old : Part) (ms : List Move) (new : Part) → AreMoves g old ms new
     → SameMet old.rtps.readers new.rtps.readers

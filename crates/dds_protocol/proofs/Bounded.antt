@@ -17,7 +17,7 @@ use Rattle.dds_base.specs.declared.endpoint.Endpoint.{Endpoint}
 use Rattle.dds_machine.specs.declared.event.WorldEvent.{WorldEvent}
 use Rattle.dds_machine.specs.declared.event.WorldEvent.TheVariants as world
 use Rattle.dds_machine.specs.declared.reply.Move.{Move}
-use Rattle.dds_machine.specs.declared.reply.Move.TheVariants.{Place, Acknowledged, Heard, Begun as HasBegun}
+use Rattle.dds_machine.specs.declared.reply.Move.TheVariants.{Place, Acknowledged, Heard, Begun as HasBegun, Strange}
 use Rattle.dds_machine.specs.declared.reply.Reply.{Reply}
 use Rattle.dds_machine.specs.declared.reply.Reply.TheVariants.{Reported}
 use Rattle.dds_machine.specs.Part.{WriterProxy, Part, no_part, own_proxies, own_reader, place_of, with_place, with_begun, with_heard, writer_changes}
@@ -153,6 +153,7 @@ move_within m i old (Heard w r) new h low =
     (set_within m old r (with_heard (own_proxies old r) w h.count) low
     (λ v p e. low r v p (sym (place-heard (own_proxies old r) w h.count v) ∙ e)))
 move_within m i old (Acknowledged w r to) new h low = subst (λ (q : Part). Within m q) (sym h.after) low
+move_within m i old (Strange w r) new h low = subst (λ (q : Part). Within m q) (sym h.after) low
 move_within m i old (HasBegun w r from to) new h low =
     let last = length (writer_changes (writer_at m w)) in
     let start = low r w from h.at in

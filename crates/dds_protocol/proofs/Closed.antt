@@ -13,7 +13,7 @@ use Rattle.dds_base.specs.declared.endpoint.Endpoint.{Endpoint}
 use Rattle.dds_machine.specs.declared.event.WorldEvent.{WorldEvent}
 use Rattle.dds_machine.specs.declared.event.WorldEvent.TheVariants as world
 use Rattle.dds_machine.specs.declared.reply.Move.{Move}
-use Rattle.dds_machine.specs.declared.reply.Move.TheVariants.{Place, Acknowledged, Heard, Begun as HasBegun}
+use Rattle.dds_machine.specs.declared.reply.Move.TheVariants.{Place, Acknowledged, Heard, Begun as HasBegun, Strange}
 use Rattle.dds_machine.specs.declared.reply.Reply.{Reply}
 use Rattle.dds_machine.specs.declared.reply.Reply.TheVariants.{Refused, Reported}
 use Rattle.dds_machine.specs.Machine.{Machine, AllTests, part_at, place_at, writer_at, grounds_of, Step}
@@ -142,6 +142,7 @@ move_closed g old (Heard w r) new c h =
       owed = λ k. c.owed k;
     })
 move_closed g old (HasBegun w r from to) new c h = absurd (none_begins g old w r from to new c h)
+move_closed g old (Strange w r) new c h = subst (λ (q : Part). PartClosed q) (sym h.after) c
 move_closed g old (Acknowledged w r to) new c h =
     let after : Writer = record (own_writer old w) { readers = with_acknowledged (own_writer old w).readers r to } in
     subst (λ (q : Part). PartClosed q) (sym h.after) (record {
@@ -166,6 +167,8 @@ moves_begin_none g old (Place w r to passed ∷ ms) new c h =
     moves_begin_none g h.0 ms new (move_closed g old (Place w r to passed) h.0 c h.1) h.2
 moves_begin_none g old (Heard w r ∷ ms) new c h =
     moves_begin_none g h.0 ms new (move_closed g old (Heard w r) h.0 c h.1) h.2
+moves_begin_none g old (Strange w r ∷ ms) new c h =
+    moves_begin_none g h.0 ms new (move_closed g old (Strange w r) h.0 c h.1) h.2
 moves_begin_none g old (Acknowledged w r to ∷ ms) new c h =
     moves_begin_none g h.0 ms new (move_closed g old (Acknowledged w r to) h.0 c h.1) h.2
 

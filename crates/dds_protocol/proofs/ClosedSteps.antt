@@ -12,7 +12,7 @@ use Rattle.dds_base.specs.declared.endpoint.Endpoint.{Endpoint}
 use Rattle.dds_machine.specs.declared.event.WorldEvent.{WorldEvent}
 use Rattle.dds_machine.specs.declared.event.WorldEvent.TheVariants as world
 use Rattle.dds_machine.specs.declared.reply.Move.{Move}
-use Rattle.dds_machine.specs.declared.reply.Move.TheVariants.{Place, Acknowledged, Heard, Begun as HasBegun}
+use Rattle.dds_machine.specs.declared.reply.Move.TheVariants.{Place, Acknowledged, Heard, Begun as HasBegun, Strange}
 use Rattle.dds_machine.specs.declared.reply.Reply.{Reply}
 use Rattle.dds_machine.specs.declared.reply.Reply.TheVariants.{Refused, Reported}
 use Rattle.dds_machine.specs.Machine.{Machine, AllTests, Step, grounds_of, part_at, place_at, writer_at}
@@ -106,6 +106,14 @@ move_with g k old (Acknowledged w r to) new s h = record {
   matched = h.matched;
   forward = h.forward;
   has_place = s.place w r to h.has_place;
+  after = h.after;
+}
+move_with g k old (Strange w r) new s h = record {
+  acknowledged = h.acknowledged;
+  matched = h.matched;
+  base = h.base;
+  has_place = s.place w r h.base h.has_place;
+  beyond = h.beyond;
   after = h.after;
 }
 move_with g k old (Heard w r) new s h = record {

@@ -22,7 +22,7 @@ use Rattle.dds_protocol.specs.declared.event.Packet.{Packet}
 use Rattle.dds_machine.specs.declared.event.WorldEvent.{WorldEvent}
 use Rattle.dds_machine.specs.declared.event.WorldEvent.TheVariants as world
 use Rattle.dds_machine.specs.declared.reply.Move.{Move}
-use Rattle.dds_machine.specs.declared.reply.Move.TheVariants.{Place, Acknowledged, Heard, Begun as HasBegun}
+use Rattle.dds_machine.specs.declared.reply.Move.TheVariants.{Place, Acknowledged, Heard, Begun as HasBegun, Strange}
 use Rattle.dds_base.specs.declared.guid.GuidPrefix.{GuidPrefix}
 use Rattle.rtps_wire.specs.declared.submessage.Submessage.{Submessage}
 use Rattle.rtps_wire.specs.declared.submessage.Submessage.TheVariants.{Heartbeat, Gap}
@@ -186,6 +186,14 @@ sound_move m i g t old (Acknowledged w r to) new low h = record {
   has_place = t.place w r to h.has_place;
   after = h.after;
 }
+sound_move m i g t old (Strange w r) new low h = record {
+  acknowledged = h.acknowledged;
+  matched = h.matched;
+  base = h.base;
+  has_place = t.place w r h.base h.has_place;
+  beyond = h.beyond;
+  after = h.after;
+}
 sound_move m i g t old (HasBegun w r from to) new low h =
     let least : NoLess (place_at m (at i r) w) (Some from) =
     subst (λ (o : Option ℕ). NoLess (place_at m (at i r) w) o) h.at (low r w) in
@@ -294,6 +302,7 @@ acked_move : (m : Machine) (i : ℕ) (old : Part) (mv : Move) (new : Part) → I
 acked_move m i old (Place w r to passed) new h le = subst (λ (q : Part). AckedBelow m i q) (sym h.after) le
 acked_move m i old (HasBegun w r from to) new h le = subst (λ (q : Part). AckedBelow m i q) (sym h.after) le
 acked_move m i old (Heard w r) new h le = subst (λ (q : Part). AckedBelow m i q) (sym h.after) le
+acked_move m i old (Strange w r) new h le = subst (λ (q : Part). AckedBelow m i q) (sym h.after) le
 acked_move m i old (Acknowledged w r to) new h le =
     let before = own_writer old w in
     let after : Writer = record before { readers = with_acknowledged before.readers r to } in

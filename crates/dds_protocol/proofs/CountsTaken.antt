@@ -366,7 +366,8 @@ writer_counts : (c : Counting) (at : Receiver) (a : AckNackBody) → IsUsed c at
     → WriterTakes c.config c.own c.peer at a writer reader old moves dues new → Counts c old dues new
 writer_counts c at a used writer reader old moves dues new (inl h) =
     acknack_counts c at a used writer reader old h.0 moves dues new h.2
-writer_counts c at a used writer reader old moves dues new (inr h) = counts_idle c old moves dues new h.1
+writer_counts c at a used writer reader old moves dues new (inr h) =
+    counts_idle c old [] dues new (refl, h.1.1, h.1.2)
 
 -- ---- a submessage, and those of a message
 

@@ -7,7 +7,7 @@ use Rattle.dds_base.specs.Kept.{change_at}
 use Rattle.dds_base.specs.Written.{Written, changes_of}
 use Rattle.dds_base.specs.declared.endpoint.Endpoint.{Endpoint}
 use Rattle.dds_machine.specs.declared.reply.Move.{Move}
-use Rattle.dds_machine.specs.declared.reply.Move.TheVariants.{Place, Acknowledged, Heard, Begun as HasBegun}
+use Rattle.dds_machine.specs.declared.reply.Move.TheVariants.{Place, Acknowledged, Heard, Begun as HasBegun, Strange}
 use Rattle.dds_machine.specs.Numbered.{numbered, with_numbered}
 use Rattle.dds_machine.specs.Part.{Part, ReaderProxy, Writer, no_writer, own_writer, own_proxies, acknowledged_of, with_acknowledged, place_of, writer_changes, at_writer, NoLess}
 use Rattle.dds_machine.specs.Moves.{Grounds, IsMove, AreMoves}
@@ -156,6 +156,7 @@ IsMove-gains g old (Heard w r) new h =
     gains_there old new (IsMove-grows g old (Heard w r) new h) (ap (λ (p : Part). p.rtps.writers) h.after)
 IsMove-gains g old (HasBegun w r from to) new h =
     gains_there old new (IsMove-grows g old (HasBegun w r from to) new h) (ap (λ (p : Part). p.rtps.writers) h.after)
+IsMove-gains g old (Strange w r) new h = subst (λ (p : Part). Gains old p) (sym h.after) (gains_same old)
 IsMove-gains g old (Acknowledged w r to) new h =
     gains_here old w r h.acknowledged to new h.matched h.forward
     (IsMove-grows g old (Acknowledged w r to) new h) h.after

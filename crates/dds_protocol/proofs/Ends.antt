@@ -8,7 +8,7 @@ use Rattle.dds_base.specs.declared.endpoint.Endpoint.{Endpoint}
 use Rattle.dds_machine.specs.declared.event.WorldEvent.{WorldEvent}
 use Rattle.dds_machine.specs.declared.event.WorldEvent.TheVariants as world
 use Rattle.dds_machine.specs.declared.reply.Move.{Move}
-use Rattle.dds_machine.specs.declared.reply.Move.TheVariants.{Place, Acknowledged, Heard, Begun as HasBegun}
+use Rattle.dds_machine.specs.declared.reply.Move.TheVariants.{Place, Acknowledged, Heard, Begun as HasBegun, Strange}
 use Rattle.dds_machine.specs.declared.reply.Reply.{Reply}
 use Rattle.dds_machine.specs.declared.reply.Reply.TheVariants.{Done, LivelinessLost, Matched, Reported}
 use Rattle.dds_machine.specs.Calls.{effect_of, CallStep}
@@ -143,6 +143,7 @@ move_ends g old (HasBegun w r from to) new h = record {
   rows = λ k v. ap (λ (q : Part). is_some (acknowledged_of (own_writer q k).readers v)) h.after;
   qos = λ j. move_qos g old (HasBegun w r from to) new j h;
 }
+move_ends g old (Strange w r) new h = subst (λ (q : Part). SameEnds old q) (sym h.after) (ends_same old)
 move_ends g old (Acknowledged w r to) new h =
     let before : Writer = own_writer old w in
     let after : Writer = record before { readers = with_acknowledged before.readers r to } in

@@ -13,7 +13,7 @@ use Rattle.dds_protocol.specs.declared.event.Event.{Event}
 use Rattle.dds_protocol.specs.declared.event.Event.TheVariants as event
 use Rattle.dds_protocol.specs.declared.event.Output.{Output}
 use Rattle.dds_machine.specs.declared.reply.Move.{Move}
-use Rattle.dds_machine.specs.declared.reply.Move.TheVariants.{Place, Acknowledged, Heard, Begun as HasBegun}
+use Rattle.dds_machine.specs.declared.reply.Move.TheVariants.{Place, Acknowledged, Heard, Begun as HasBegun, Strange}
 use Rattle.dds_machine.specs.declared.reply.Reply.{Reply}
 use Rattle.dds_machine.specs.declared.reply.Reply.TheVariants.{Done, Reported, Refused}
 use Rattle.dds_machine.specs.Part.{Part, Dds}
@@ -61,6 +61,7 @@ move_keeps : (g : Grounds) (old : Part) (m : Move) (new : Part) → IsMove g old
 move_keeps g old (Place w r to passed) new h = ap (λ (p : Part). handed p.dds) h.after
 move_keeps g old (Acknowledged w r to) new h = ap (λ (p : Part). handed p.dds) h.after
 move_keeps g old (Heard w r) new h = ap (λ (p : Part). handed p.dds) h.after
+move_keeps g old (Strange w r) new h = ap (λ (p : Part). handed p.dds) h.after
 move_keeps g old (HasBegun w r from to) new h = ap (λ (p : Part). handed p.dds) h.after
 
 moves_keep : (g : Grounds) (old : Part) (ms : List Move) (new : Part) → AreMoves g old ms new

@@ -12,7 +12,7 @@ use Rattle.dds_base.specs.Liveliness.{dead_at, is_alive, with_deaths}
 use Rattle.dds_base.specs.Places.{WriterGrounds, Match, PlaceWith, AllCome, GoesTo, coming}
 use Rattle.rtps_wire.specs.declared.submessage.Submessage.{Submessage}
 use Rattle.dds_machine.specs.declared.reply.Move.{Move}
-use Rattle.dds_machine.specs.declared.reply.Move.TheVariants.{Place, Acknowledged, Heard, Begun as HasBegun}
+use Rattle.dds_machine.specs.declared.reply.Move.TheVariants.{Place, Acknowledged, Heard, Begun as HasBegun, Strange}
 use Rattle.dds_machine.specs.declared.reply.Reply.{Reply}
 use Rattle.dds_machine.specs.declared.reply.Reply.TheVariants.{Done, Refused, Reported}
 use Rattle.dds_machine.specs.declared.reply.Report.{Report}
@@ -222,6 +222,10 @@ by_moves g old (Place w k to passed ∷ ms) new h =
     h.1.goes)))
     (by_moves g h.0 ms new h.2)
 by_moves g old (Acknowledged w k to ∷ ms) new h =
+    all_on old.dds.readers h.0.dds.readers new.dds.readers
+    (subst (λ (p : Part). AllGoOn old.dds.readers p.dds.readers) (sym h.1.after) (all_same old.dds.readers))
+    (by_moves g h.0 ms new h.2)
+by_moves g old (Strange w k ∷ ms) new h =
     all_on old.dds.readers h.0.dds.readers new.dds.readers
     (subst (λ (p : Part). AllGoOn old.dds.readers p.dds.readers) (sym h.1.after) (all_same old.dds.readers))
     (by_moves g h.0 ms new h.2)

@@ -15,7 +15,7 @@ use Rattle.dds_base.specs.Kept.{change_at, is_dropped, is_dropped_by, later_chan
 use Rattle.dds_machine.specs.declared.call.Call.{Call}
 use Rattle.dds_base.specs.declared.endpoint.Endpoint.{Endpoint}
 use Rattle.dds_machine.specs.declared.reply.Move.{Move}
-use Rattle.dds_machine.specs.declared.reply.Move.TheVariants.{Place, Acknowledged, Heard, Begun as HasBegun}
+use Rattle.dds_machine.specs.declared.reply.Move.TheVariants.{Place, Acknowledged, Heard, Begun as HasBegun, Strange}
 use Rattle.dds_machine.specs.declared.reply.Reply.{Reply}
 use Rattle.dds_machine.specs.declared.reply.Reply.TheVariants.{Done, Refused, Reported}
 use Rattle.dds_machine.specs.Numbered.{numbered, with_numbered}
@@ -164,6 +164,7 @@ IsMove-grows g old (Acknowledged w r to) new h =
       written = refl;
       owed = λ v. owed_acknowledged before r to v;
     }))
+IsMove-grows g old (Strange w r) new h = subst (λ (q : Part). Grows old.rtps q.rtps) (sym h.after) (grows_same old.rtps)
 IsMove-grows g old (Heard w r) new h =
     subst (λ (q : Part). Grows old.rtps q.rtps) (sym h.after)
     (set_reader-grows old.rtps r (with_heard (own_proxies old r) w h.count)

@@ -10,7 +10,7 @@ use Rattle.dds_base.specs.declared.endpoint.Endpoint.{Endpoint}
 use Rattle.dds_machine.specs.declared.event.WorldEvent.{WorldEvent}
 use Rattle.dds_machine.specs.declared.event.WorldEvent.TheVariants as world
 use Rattle.dds_machine.specs.declared.reply.Move.{Move}
-use Rattle.dds_machine.specs.declared.reply.Move.TheVariants.{Place, Acknowledged, Heard, Begun as HasBegun}
+use Rattle.dds_machine.specs.declared.reply.Move.TheVariants.{Place, Acknowledged, Heard, Begun as HasBegun, Strange}
 use Rattle.dds_machine.specs.declared.reply.Reply.{Reply}
 use Rattle.dds_machine.specs.declared.reply.Reply.TheVariants.{Refused, Reported}
 use Rattle.dds_machine.specs.Part.{Part, own_reader, owed_from}
@@ -82,6 +82,8 @@ owed_passes g bound w k old (Acknowledged v r to ∷ ms) new f reliable h =
     owed_passes g bound w k h.0 ms new f (still_reliable g old (Acknowledged v r to) h.0 k h.1 reliable) h.2
 owed_passes g bound w k old (Heard v r ∷ ms) new f reliable h =
     owed_passes g bound w k h.0 ms new f (still_reliable g old (Heard v r) h.0 k h.1 reliable) h.2
+owed_passes g bound w k old (Strange v r ∷ ms) new f reliable h =
+    owed_passes g bound w k h.0 ms new f (still_reliable g old (Strange v r) h.0 k h.1 reliable) h.2
 owed_passes g bound w k old (HasBegun v r from to ∷ ms) new f reliable h = (
   begins_below g bound w k old v r from to h.0 f reliable h.1,
   owed_passes g bound w k h.0 ms new f (still_reliable g old (HasBegun v r from to) h.0 k h.1 reliable) h.2,
@@ -203,6 +205,8 @@ no_passes m i w k old (Acknowledged v r to ∷ ms) new all reliable h =
     no_passes m i w k h.0 ms new all (still_reliable (closed_grounds_of m i) old (Acknowledged v r to) h.0 k h.1 reliable) h.2
 no_passes m i w k old (Heard v r ∷ ms) new all reliable h =
     no_passes m i w k h.0 ms new all (still_reliable (closed_grounds_of m i) old (Heard v r) h.0 k h.1 reliable) h.2
+no_passes m i w k old (Strange v r ∷ ms) new all reliable h =
+    no_passes m i w k h.0 ms new all (still_reliable (closed_grounds_of m i) old (Strange v r) h.0 k h.1 reliable) h.2
 no_passes m i w k old (HasBegun v r from to ∷ ms) new all reliable h =
     no_passes m i w k h.0 ms new all (still_reliable (closed_grounds_of m i) old (HasBegun v r from to) h.0 k h.1 reliable)
     h.2

@@ -11,7 +11,7 @@ use Rattle.dds_base.specs.Places.{MayPassOver}
 use Rattle.dds_machine.specs.declared.call.Call.{Call}
 use Rattle.dds_base.specs.declared.endpoint.Endpoint.{Endpoint}
 use Rattle.dds_machine.specs.declared.reply.Move.{Move}
-use Rattle.dds_machine.specs.declared.reply.Move.TheVariants.{Place, Acknowledged, Heard, Begun as HasBegun}
+use Rattle.dds_machine.specs.declared.reply.Move.TheVariants.{Place, Acknowledged, Heard, Begun as HasBegun, Strange}
 use Rattle.dds_base.specs.declared.happening.PassedRun.{PassedRun}
 use Rattle.dds_machine.specs.declared.reply.Reply.{Reply}
 use Rattle.dds_machine.specs.declared.reply.Reply.TheVariants.{Done, Reported, Refused}
@@ -261,6 +261,9 @@ lane_moves changes g old w r (Acknowledged v k to ∷ ms) new f reliable l h =
 lane_moves changes g old w r (HasBegun v k from to ∷ ms) new f reliable l h =
     lane_moves changes g h.0 w r ms new f (still_reliable g old (HasBegun v k from to) h.0 r h.1 reliable)
     (lane_begun changes g old w v r k from to h.0 (k == r) refl f reliable l h.1) h.2
+lane_moves changes g old w r (Strange v k ∷ ms) new f reliable l h =
+    lane_moves changes g h.0 w r ms new f (still_reliable g old (Strange v k) h.0 r h.1 reliable)
+    (subst (λ (x : Part). Lane changes x w r) (sym h.1.after) l) h.2
 lane_moves changes g old w r (Heard v k ∷ ms) new f reliable l h =
     lane_moves changes g h.0 w r ms new f (still_reliable g old (Heard v k) h.0 r h.1 reliable)
     (lane_heard changes g old w v r k h.0 (k == r) refl l h.1) h.2

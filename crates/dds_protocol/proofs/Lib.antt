@@ -14,6 +14,7 @@ pub mod ResumedRows
 pub mod Opened
 pub mod OpenedPeers
 pub mod Bounded
+pub mod Strangers
 pub mod Contacts
 mod WorkedReceivers
 mod WorkedExamples

@@ -9,7 +9,7 @@ use Rattle.dds_base.specs.declared.endpoint.Endpoint.{Endpoint}
 use Rattle.dds_machine.specs.declared.event.WorldEvent.{WorldEvent}
 use Rattle.dds_machine.specs.declared.event.WorldEvent.TheVariants as world
 use Rattle.dds_machine.specs.declared.reply.Move.{Move}
-use Rattle.dds_machine.specs.declared.reply.Move.TheVariants.{Place, Acknowledged, Heard, Begun as HasBegun}
+use Rattle.dds_machine.specs.declared.reply.Move.TheVariants.{Place, Acknowledged, Heard, Begun as HasBegun, Strange}
 use Rattle.dds_machine.specs.declared.reply.Reply.{Reply}
 use Rattle.dds_machine.specs.declared.reply.Reply.TheVariants.{Done, Refused, Reported}
 use Rattle.dds_machine.specs.Calls.{CallStep}
@@ -41,6 +41,7 @@ pub move_qos : (g : Grounds) (old : Part) (m : Move) (new : Part) (r : ℕ) → 
 move_qos g old (Place v k to passed) new r h =
     ap (λ (x : Part). (own_reader x r).qos) h.after ∙ at_reader-qos old k (with_place (own_proxies old k) v to) h.end.happened r
 move_qos g old (Acknowledged v k to) new r h = ap (λ (x : Part). (own_reader x r).qos) h.after
+move_qos g old (Strange v k) new r h = ap (λ (x : Part). (own_reader x r).qos) h.after
 move_qos g old (Heard v k) new r h = ap (λ (x : Part). (own_reader x r).qos) h.after ∙ at_reader-qos old k (with_heard (own_proxies old k) v h.count)
     (WasHeard h.publication old.dds.moment ∷ (own_reader old k).happened) r
 move_qos g old (HasBegun v k from to) new r h =

@@ -1,7 +1,7 @@
 -- Places that are tried again make moves, as a delivery does, or none.
 use Rattle.std.proofs.Common.{ℕ, List, [], ◌∷◌, ◌++◌, None}
 use Rattle.dds_machine.specs.declared.reply.Move.{Move}
-use Rattle.dds_machine.specs.declared.reply.Move.TheVariants.{Place, Acknowledged, Heard, Begun as HasBegun}
+use Rattle.dds_machine.specs.declared.reply.Move.TheVariants.{Place, Acknowledged, Heard, Begun as HasBegun, Strange}
 use Rattle.dds_machine.specs.declared.reply.Reply.{Reply}
 use Rattle.dds_machine.specs.declared.reply.Reply.TheVariants.{Refused, Reported}
 use Rattle.dds_machine.specs.Part.{Part}
@@ -25,6 +25,7 @@ places_begin_none k [] h = tt
 places_begin_none k (Place w r to passed ∷ ms) h = places_begin_none k ms h.1
 places_begin_none k (Acknowledged w r to ∷ ms) h = absurd h
 places_begin_none k (Heard w r ∷ ms) h = absurd h
+places_begin_none k (Strange w r ∷ ms) h = absurd h
 places_begin_none k (HasBegun w r from to ∷ ms) h = absurd h
 
 -- moves of a reader's places, and then others
@@ -33,4 +34,5 @@ places_on k [] ys h i = i
 places_on k (Place w r to passed ∷ xs) ys h i = (h.0, places_on k xs ys h.1 i)
 places_on k (Acknowledged w r to ∷ xs) ys h i = absurd h
 places_on k (Heard w r ∷ xs) ys h i = absurd h
+places_on k (Strange w r ∷ xs) ys h i = absurd h
 places_on k (HasBegun w r from to ∷ xs) ys h i = absurd h

@@ -10,7 +10,7 @@ use Rattle.rtps_wire.specs.declared.submessage.Submessage.{Submessage}
 use Rattle.rtps_wire.specs.declared.submessage.Submessage.TheVariants.{Pad, InfoDst, InfoTs, Data, Heartbeat, AckNack, Gap, Other}
 use Rattle.dds_base.specs.declared.endpoint.Endpoint.{Endpoint}
 use Rattle.dds_machine.specs.declared.reply.Move.{Move}
-use Rattle.dds_machine.specs.declared.reply.Move.TheVariants.{Place, Acknowledged, Heard, Begun as HasBegun}
+use Rattle.dds_machine.specs.declared.reply.Move.TheVariants.{Place, Acknowledged, Heard, Begun as HasBegun, Strange}
 use Rattle.dds_machine.specs.Part.{how_of, Reader, WriterProxy, own_proxies, own_reader, place_of, publication_among}
 use Rattle.dds_machine.specs.Moves.{AreMoves}
 use Rattle.dds_protocol.specs.Receipt.{GoesOver}
@@ -26,6 +26,7 @@ pub goes_first : (w : Endpoint) (r n : ℕ) (xs ys : List Move) → GoesOver w r
 goes_first w r n [] ys h = absurd h
 goes_first w r n (Place v s to passed ∷ xs) ys h = ⊎_elim (λ f. inl f) (λ g. inr (goes_first w r n xs ys g)) h
 goes_first w r n (Heard v s ∷ xs) ys h = goes_first w r n xs ys h
+goes_first w r n (Strange v s ∷ xs) ys h = goes_first w r n xs ys h
 goes_first w r n (Acknowledged v s to ∷ xs) ys h = goes_first w r n xs ys h
 goes_first w r n (HasBegun v s from to ∷ xs) ys h = goes_first w r n xs ys h
 
@@ -33,6 +34,7 @@ pub goes_last : (w : Endpoint) (r n : ℕ) (xs ys : List Move) → GoesOver w r 
 goes_last w r n [] ys h = h
 goes_last w r n (Place v s to passed ∷ xs) ys h = inr (goes_last w r n xs ys h)
 goes_last w r n (Heard v s ∷ xs) ys h = goes_last w r n xs ys h
+goes_last w r n (Strange v s ∷ xs) ys h = goes_last w r n xs ys h
 goes_last w r n (Acknowledged v s to ∷ xs) ys h = goes_last w r n xs ys h
 goes_last w r n (HasBegun v s from to ∷ xs) ys h = goes_last w r n xs ys h
 

@@ -1,5 +1,5 @@
 -- What the peer's writers do with an ACKNACK rests on what its packet claims.
-use Rattle.std.proofs.Common.{◌≡◌, ℕ, ◌<◌, ◌≤◌, max, Bool, true, false, List, [], ◌∷◌, ◌++◌, refl, subst, ap, sym, ◌∙◌, inl, inr, arith, length, nat_lt}
+use Rattle.std.proofs.Common.{◌≡◌, ℕ, ◌<◌, ◌≤◌, max, Bool, true, false, List, [], ◌∷◌, ◌++◌, refl, subst, ap, sym, ◌∙◌, inl, inr, ⊎_elim, arith, length, nat_lt}
 use Rattle.std.specs.Prelude.{if◌then◌else◌}
 use Rattle.std.proofs.lemmas.Bool.Decides.{nat_tests}
 use Rattle.rtps_wire.specs.declared.acknack.AckNack.{AckNack as AckNackBody}
@@ -7,12 +7,12 @@ use Rattle.rtps_wire.specs.declared.submessage.Submessage.{Submessage}
 use Rattle.rtps_wire.specs.declared.submessage.Submessage.TheVariants.{AckNack}
 use Rattle.dds_base.specs.declared.endpoint.Endpoint.{Endpoint}
 use Rattle.dds_machine.specs.declared.reply.Move.{Move}
-use Rattle.dds_machine.specs.declared.reply.Move.TheVariants.{Acknowledged}
+use Rattle.dds_machine.specs.declared.reply.Move.TheVariants.{Acknowledged, Strange}
 use Rattle.dds_machine.specs.Part.{ReaderProxy, Writer, own_writer, at_writer}
 use Rattle.dds_machine.specs.Moves.{IsMove, AreMoves}
 use Rattle.dds_protocol.specs.Claims.{IsToWriter, PlaceReached, Says}
 use Rattle.dds_protocol.specs.DueMessages.{Due}
-use Rattle.dds_protocol.specs.Protocol.{State, InTurn, TakesAckNack, WriterTakes, acknowledging}
+use Rattle.dds_protocol.specs.Protocol.{State, InTurn, IsStranger, TakesAckNack, WriterTakes, acknowledging}
 use Rattle.dds_protocol.proofs.Composed.{moves_on}
 use Rattle.dds_protocol.proofs.Framing.{at_writer_same}
 use Rattle.dds_protocol.proofs.RuledReaders.{Coming, grounds, Backs}
@@ -94,12 +94,36 @@ acknack_takes c a this writer reader old made dues new b is h = record {
         (part ∙ (ap (λ (n : ℕ). at_writer old.part writer (acknowledging w reader n)) most
         ∙ at_writer_same old.part writer reader h.acknowledged h.matched))
 
+-- one that acknowledges what was never made claims that place
+stranger_said : (c : Coming) (a : AckNackBody) → c.submessage ≡ AckNack a
+    → (writer : ℕ) (reader : Endpoint) (old : State) (made : List Move) (new : State) → Backs c old
+    → IsStranger c.config c.own c.peer c.at a writer reader old → made ≡ Strange writer reader ∷ [] → new ≡ old
+    → IsTaken c old made new
+stranger_said c a this writer reader old made new b s m n =
+    let claim = PlaceReached (record { peer = c.peer; number = writer }) reader a.reader_sn_state.base in
+    let legal : IsMove (grounds c) old.part (Strange writer reader) old.part = record {
+      acknowledged = s.acknowledged;
+      matched = s.matched;
+      base = a.reader_sn_state.base;
+      has_place = c.says claim (subst (λ (x : Submessage). Says c.config c.own c.at x claim) (sym this) (s.is, refl));
+      beyond = s.beyond;
+      after = refl;
+    } in
+    record {
+      moves = subst (λ (ms : List Move). AreMoves (grounds c) old.part ms new.part) (sym m)
+          (old.part, legal, ap (λ (x : State). x.part) n);
+      backed = subst (λ (x : State). Backs c x) (sym n) b;
+      readers = ap (λ (x : State). length x.part.rtps.readers) n;
+    }
+
 pub writer_taken : (c : Coming) (a : AckNackBody) → c.submessage ≡ AckNack a
     → (writer : ℕ) (reader : Endpoint) (old : State) (made : List Move) (dues : List Due) (new : State) → Backs c old
     → WriterTakes c.config c.own c.peer c.at a writer reader old made dues new → IsTaken c old made new
 writer_taken c a this writer reader old made dues new b (inl h) =
     acknack_takes c a this writer reader old made dues new b h.0 h.2
-writer_taken c a this writer reader old made dues new b (inr h) = taken_none c old made new b h.1.0 h.1.2
+writer_taken c a this writer reader old made dues new b (inr h) =
+    ⊎_elim (λ s. stranger_said c a this writer reader old made new b s.0 s.1 h.1.2)
+    (λ n. taken_none c old made new b n.1 h.1.2) h.1.0
 
 rows_taken : (c : Coming) (a : AckNackBody) → c.submessage ≡ AckNack a
     → (writer : ℕ) (rows : List ReaderProxy) (old : State) (made : List Move) (dues : List Due) (new : State)

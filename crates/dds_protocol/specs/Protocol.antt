@@ -1,7 +1,7 @@
 -- The reliable protocol of one peer: what it does with each submessage of a packet, and which messages are then due.
 --
 -- RTPS 2.5, 8.4.9 (reliable StatefulWriter), 8.4.12 (reliable StatefulReader).
-use Rattle.std.specs.Prelude.{◌≡◌, ◌≢◌, ◌⊎◌, ℕ, ◌+◌, ◌≤◌, ◌==◌, ◌&&◌, ◌||◌, Bool, true, false, not, if◌then◌else◌, nat_lt, nat_le, max, List, [], ◌∷◌, ◌++◌, length, map, Option, Some, None, ℤ}
+use Rattle.std.specs.Prelude.{◌<◌, ◌≡◌, ◌≢◌, ◌⊎◌, ℕ, ◌+◌, ◌≤◌, ◌==◌, ◌&&◌, ◌||◌, Bool, true, false, not, if◌then◌else◌, nat_lt, nat_le, max, List, [], ◌∷◌, ◌++◌, length, map, Option, Some, None, ℤ}
 use Rattle.dds_base.specs.declared.change.Change.{Change}
 use Rattle.dds_base.specs.declared.config.Config.{Config}
 use Rattle.dds_base.specs.declared.guid.EntityId.{EntityId}
@@ -33,7 +33,7 @@ use Rattle.rtps_writer.specs.Answers.{answers_to, requested}
 use Rattle.dds_base.specs.declared.endpoint.Endpoint.{Endpoint}
 use Rattle.dds_machine.specs.declared.reply.Report.{Report}
 use Rattle.dds_machine.specs.declared.reply.Move.{Move}
-use Rattle.dds_machine.specs.declared.reply.Move.TheVariants.{Place, Acknowledged, Heard, Begun as HasBegun}
+use Rattle.dds_machine.specs.declared.reply.Move.TheVariants.{Place, Acknowledged, Heard, Begun as HasBegun, Strange}
 use Rattle.dds_machine.specs.Part.{Attachment, Away, Waiting, Begun, is_attached, how_of, Part, ReaderProxy, Writer, same_endpoint, own_writer, own_proxies, own_reader, acknowledged_of, with_acknowledged, place_of, with_place, with_begun, with_heard, publication_among, at_reader, at_writer, writer_changes, history_of, owed_from}
 use Rattle.dds_machine.specs.Moves.{IsMatchedAt, match_of}
 use Rattle.dds_protocol.specs.Claims.{Receiver, receiver_of, after_submessage, IsToReader, IsToWriter}
@@ -352,6 +352,27 @@ is_taken_up old writer reader a =
     is_later (old.known.answered writer reader).count a.count
     && nat_le a.reader_sn_state.base (length (writer_changes (own_writer old.part writer)) + 1)
 
+-- The ACKNACK is from this reader of the peer's writer, which is matched with it, and its base is past the next number:
+-- it acknowledges changes that the writer has not made.
+pub record IsStranger (config : Config) (own : GuidPrefix) (peer : ℕ) (at : Receiver) (a : AckNackBody) (writer : ℕ)
+    (reader : Endpoint) (old : State) : Type 0 where
+  pub is : IsToWriter config own at a.reader_id a.writer_id (record { peer = peer; number = writer }) reader
+  pub acknowledged : ℕ
+  pub matched : acknowledged_of (own_writer old.part writer).readers reader ≡ Some acknowledged
+  pub beyond : length (writer_changes (own_writer old.part writer)) + 1 < a.reader_sn_state.base
+
+-- what is reported of an ACKNACK that is not taken: who is so strange
+abbrev pub SaysStranger : Config → GuidPrefix → ℕ → Receiver → AckNackBody → ℕ → Endpoint → State → List Move → Type 0
+SaysStranger config own peer at a writer reader old moves =
+    (IsStranger config own peer at a writer reader old × (moves ≡ Strange writer reader ∷ []))
+    ⊎ ((IsStranger config own peer at a writer reader old → ⊥) × (moves ≡ []))
+
+-- an ACKNACK that is not taken changes nothing
+abbrev pub PassesAckNack : Config → GuidPrefix → ℕ → Receiver → AckNackBody → ℕ → Endpoint → State → List Move → List Due
+    → State → Type 0
+PassesAckNack config own peer at a writer reader old moves dues new =
+    SaysStranger config own peer at a writer reader old moves × (dues ≡ []) × (new ≡ old)
+
 -- what the peer's writer of this number does with an ACKNACK as to one of its matched readers, which may have sent it
 abbrev pub WriterTakes : Config → GuidPrefix → ℕ → Receiver → AckNackBody → ℕ → Endpoint → State → List Move → List Due
     → State → Type 0
@@ -359,7 +380,7 @@ WriterTakes config own peer at a writer reader old moves dues new =
     ((is : IsToWriter config own at a.reader_id a.writer_id (record { peer = peer; number = writer }) reader)
     × (is_taken_up old writer reader a ≡ true) × TakesAckNack own at old writer reader is.entity a moves dues new)
     ⊎ ((IsToWriter config own at a.reader_id a.writer_id (record { peer = peer; number = writer }) reader
-    → is_taken_up old writer reader a ≡ false) × Idles old moves dues new)
+    → is_taken_up old writer reader a ≡ false) × PassesAckNack config own peer at a writer reader old moves dues new)
 
 -- a submessage is taken up: an ACKNACK by each of the peer's writers, as to each of its matched readers; any other one
 -- by each of its readers
@@ -394,7 +415,7 @@ abbrev pub MayNeedMemory : Config → GuidPrefix → ℕ → Receiver → Submes
 MayNeedMemory config own peer at (AckNack a) old =
     (writer : ℕ) × (reader : Endpoint)
     × IsToWriter config own at a.reader_id a.writer_id (record { peer = peer; number = writer }) reader
-    × (is_taken_up old writer reader a ≡ true)
+    × ((is_taken_up old writer reader a ≡ true) ⊎ IsStranger config own peer at a writer reader old)
 MayNeedMemory config own peer at (Data d) old = MayDoAt config own peer at d.reader_id d.writer_id (Data d) old
 MayNeedMemory config own peer at (Gap g) old = MayDoAt config own peer at g.reader_id g.writer_id (Gap g) old
 MayNeedMemory config own peer at (Heartbeat h) old =

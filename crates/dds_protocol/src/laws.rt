@@ -5,7 +5,7 @@
 
 ghost use Rattle.std.specs.Prelude.{◌≡◌, ◌↔◌, ◌⊎◌, ◌+◌, ◌<◌, ◌≤◌, ◌∷◌, [], IsTrue, List, length, ℕ};
 ghost use Rattle.dds_protocol.specs.Backed.{CallsBacked};
-ghost use Rattle.dds_protocol.specs.Bounds.{OpensBounded, RunsBounded, StepsBounded};
+ghost use Rattle.dds_protocol.specs.Bounds.{NobodyIsStrange, OpensBounded, RunsBounded, StepsBounded};
 ghost use Rattle.dds_protocol.specs.CatchUp.{WindowCatchesUp};
 ghost use Rattle.dds_protocol.specs.Closed.{BestEffortAsDropped, ClosedAcknowledges, ClosedBeginsNone, ClosedClaims, ClosedInOrder, ClosedLosesNone, ClosedOwesAll, OpensClosed, RunsAlike, RunsClosed, StaysClosed};
 ghost use Rattle.dds_protocol.specs.DueMessages.{AreSent, Due, packet_of};
@@ -98,7 +98,8 @@ pub fn changes_come_in_order()
     ensures order { ChangesComeInOrder }
 {}
 
-/// After every run, a reader's place in the list of a matched writer is at most one past the number of the last change.
+/// After every run, a reader's place in the list of a matched writer is at most one past the number of the last change:
+/// who acknowledges more speaks of another writer, of the same name.
 ///
 /// RTPS 2.5, 8.4.10.
 pub fn places_are_bounded()
@@ -108,6 +109,8 @@ pub fn places_are_bounded()
     ensures step { StepsBounded }
     // So it is after every run.
     ensures run { RunsBounded }
+    // So in no run does a reader acknowledge changes that were never made.
+    ensures strange { NobodyIsStrange }
 {}
 
 /// `==` says of two events whether they are equal.

@@ -201,6 +201,11 @@ impl TranscriptLine {
         self.push(format_args!(" [acked w{writer} {peer}.r{number} {to}]"));
     }
 
+    fn push_strange(&mut self, writer: u8, reader: Endpoint) {
+        let (peer, number) = (reader.peer, reader.number);
+        self.push(format_args!(" [strange w{writer} {peer}.r{number}]"));
+    }
+
     fn push_move(&mut self, step: &Move) {
         match step {
             Move::Place {
@@ -219,6 +224,7 @@ impl TranscriptLine {
             Move::Acknowledged { writer, reader, to } => {
                 self.push_acknowledged(*writer, *reader, to.number());
             }
+            Move::Strange { writer, reader } => self.push_strange(*writer, *reader),
         }
     }
 

@@ -110,6 +110,7 @@ moves = of_variants enum_of_moves _
     ⨾ more endpoints (last Decides-eqb)  -- Heard
     ⨾ more endpoints (more Decides-eqb (more Decides-eqb (last Decides-eqb)))  -- Begun
     ⨾ more Decides-eqb (more endpoints (last Decides-eqb))  -- Acknowledged
+    ⨾ more Decides-eqb (last endpoints)  -- Strange
     ⨾ tt)
 
 reports : (a b : Report) → Decides (of_reports.ghosts.eq a b) (a ≡ b)
