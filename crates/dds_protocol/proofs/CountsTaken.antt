@@ -8,7 +8,6 @@ use Rattle.dds_base.specs.declared.change.Change.{Change}
 use Rattle.dds_base.specs.declared.config.Config.{Config}
 use Rattle.dds_base.specs.declared.guid.EntityId.{EntityId}
 use Rattle.dds_base.specs.declared.guid.GuidPrefix.{GuidPrefix}
-use Rattle.dds_base.specs.Checked.{check_refusal}
 use Rattle.dds_base.specs.Kept.{numbers_from}
 use Rattle.rtps_reader.specs.declared.step.AckNackDue.{AckNackDue}
 use Rattle.dds_base.specs.Matched.{is_reliable_reader}
@@ -33,6 +32,7 @@ use Rattle.dds_protocol.specs.Protocol.{BeginsWith, HearsAlone, Known, State, st
 use Rattle.dds_protocol.specs.Resuming.{GoesAgain, GoAgain}
 use Rattle.dds_protocol.specs.Backed.{reader_at}
 use Rattle.dds_protocol.specs.Fresh.{HasHeartbeat, HasAckNack}
+use Rattle.dds_protocol.specs.Roster.{IsRoster}
 use Rattle.dds_protocol.proofs.Composed.{is_alone}
 use Rattle.dds_protocol.proofs.Contacts.{with_one}
 use Rattle.dds_protocol.proofs.CountsWritten.{plain_beats, plain_asks, plain_answers, one_ask, one_ask_beats, each_of}
@@ -45,7 +45,7 @@ use Rattle.dds_protocol.proofs.Turns.{in_turn}
 -- a peer of a configuration, and how many counts each writer has used, and each reader for each writer
 pub record Counting : Type 0 where
   pub config : Config
-  pub checked : check_refusal config.peers ≡ None
+  pub checked : IsRoster config.peers
   pub peer : ℕ
   pub own : GuidPrefix
   pub beats : Endpoint → ℕ

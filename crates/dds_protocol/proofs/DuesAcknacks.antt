@@ -4,7 +4,7 @@ use Rattle.std.proofs.lemmas.List.Elements.{All-cons, All-nil}
 use Rattle.dds_base.specs.declared.config.Config.{Config}
 use Rattle.dds_base.specs.declared.guid.EntityId.{EntityId}
 use Rattle.dds_base.specs.declared.guid.GuidPrefix.{GuidPrefix}
-use Rattle.dds_base.specs.Checked.{same_prefix, check_refusal}
+use Rattle.dds_base.specs.Checked.{same_prefix}
 use Rattle.rtps_reader.specs.declared.step.AckNackDue.{AckNackDue}
 use Rattle.rtps_reader.specs.Answer.{AnswersHeartbeat}
 use Rattle.rtps_reader.specs.Tracked.{Tracked}
@@ -24,6 +24,7 @@ use Rattle.dds_base.specs.Matched.{is_reliable_reader}
 use Rattle.dds_protocol.proofs.Ways.{Went, goes_went, met_heartbeat}
 use Rattle.dds_protocol.specs.Backed.{reader_at}
 use Rattle.dds_protocol.specs.Dues.{IsTruthful, AreTruthful}
+use Rattle.dds_protocol.specs.Roster.{IsRoster}
 use Rattle.dds_protocol.proofs.Dues.{addressed, told_alone}
 use Rattle.dds_protocol.proofs.Framing.{has_reader, tracked_here}
 use Rattle.dds_protocol.proofs.OwnGuids.{first_of, prefix-Decides, one_writer, one_reader, not_every_reader, not_every_peer}
@@ -44,7 +45,7 @@ ask_body reader writer x =
 -- an ACKNACK that is due to a submessage of a writer, whose base is the reader's place in the writer's list
 pub record Asking : Type 0 where
   pub config : Config
-  pub checked : check_refusal config.peers ≡ None
+  pub checked : IsRoster config.peers
   pub own : GuidPrefix
   pub from : Receiver
   pub reader_id : EntityId
@@ -61,7 +62,7 @@ abbrev acknack : Asking → AckNackBody
 acknack x = ask_body x.is.entity x.writer_id x.due
 
 -- an ACKNACK names the writer and the reader that the submessage named which it answers, and no others
-pub answer_names : (config : Config) → check_refusal config.peers ≡ None → (own : GuidPrefix) (from : Receiver)
+pub answer_names : (config : Config) → IsRoster config.peers → (own : GuidPrefix) (from : Receiver)
     (reader_id writer_id : EntityId) (writer reader : Endpoint)
     (is : IsToReader config own from reader_id writer_id writer reader) (far : GuidPrefix) (w r : Endpoint)
     → IsToWriter config far (addressed own from.source_guid_prefix) is.entity writer_id w r

@@ -10,7 +10,6 @@ use Rattle.dds_base.specs.declared.change.Change.{Change}
 use Rattle.dds_base.specs.declared.config.Config.{Config}
 use Rattle.dds_base.specs.declared.guid.EntityId.{EntityId}
 use Rattle.dds_base.specs.declared.guid.GuidPrefix.{GuidPrefix}
-use Rattle.dds_base.specs.Checked.{check_refusal}
 use Rattle.dds_base.specs.Kept.{WriterHistory, change_at, is_kept, numbers_from}
 use Rattle.rtps_sets.specs.NumberSet.{NumberSet, has_number, empty_from}
 use Rattle.rtps_sets.proofs.MemberLaws.{empty_has_none}
@@ -32,6 +31,7 @@ use Rattle.dds_protocol.specs.Peer.{IsTrueAt}
 use Rattle.dds_protocol.specs.DueMessages.{Due, answer_message, data_of, submessages_of}
 use Rattle.dds_protocol.specs.Protocol.{State, TakesAckNack, WriterTakes, AreGrouped, answered_from, has_for}
 use Rattle.dds_protocol.specs.Dues.{IsTellable, AreTellable, IsTruthful, AreTruthful}
+use Rattle.dds_protocol.specs.Roster.{IsRoster}
 use Rattle.dds_protocol.proofs.Dues.{addressed, told_to, ts_says}
 use Rattle.dds_protocol.proofs.DuesAcknacks.{none_due}
 use Rattle.dds_protocol.proofs.DuesUnkept.{Passes, unkept_dropped}
@@ -42,7 +42,7 @@ use Rattle.dds_machine.proofs.Tables.{numbered-same, acknowledged-hits}
 -- a writer that answers, which the configuration has, and whose changes can be told
 pub record Answering : Type 0 where
   pub config : Config
-  pub checked : check_refusal config.peers ≡ None
+  pub checked : IsRoster config.peers
   pub peer : ℕ
   pub number : ℕ
   pub part : Part

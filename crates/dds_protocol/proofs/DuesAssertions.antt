@@ -9,7 +9,6 @@ use Rattle.dds_base.specs.declared.code.Code.{Code}
 use Rattle.dds_base.specs.declared.code.Code.TheVariants.{BadParameter, OutOfResources}
 use Rattle.dds_base.specs.declared.config.Config.{Config}
 use Rattle.dds_base.specs.declared.guid.GuidPrefix.{GuidPrefix}
-use Rattle.dds_base.specs.Checked.{check_refusal}
 use Rattle.dds_base.specs.Written.{Asserted, counts_of}
 use Rattle.rtps_wire.specs.declared.heartbeat.Heartbeat.{Heartbeat as HeartbeatBody}
 use Rattle.dds_machine.specs.declared.call.Call.TheVariants.{AssertLiveliness}
@@ -25,6 +24,7 @@ use Rattle.dds_protocol.specs.Peer.{IsTrueAt}
 use Rattle.dds_protocol.specs.Contact.{Contact}
 use Rattle.dds_protocol.specs.DueMessages.{Due, heartbeats_due_to, assertions_due}
 use Rattle.dds_protocol.specs.Dues.{IsPartOf, IsTruthful, AreTruthful, IsSized, HasSmallChanges, HasFewMatches, CanBeWritten}
+use Rattle.dds_protocol.specs.Roster.{IsRoster}
 use Rattle.dds_protocol.proofs.DuesFew.{matched_few}
 use Rattle.dds_protocol.proofs.DuesGrowth.{true_on}
 use Rattle.dds_protocol.proofs.DuesHeartbeats.{Beating, IsBeatOf, SaysAt, all_of, due_says, due_writable, first_says, names_writer}
@@ -130,7 +130,7 @@ told_says b tests new t to h is far (Asserts v r k) says =
     )
 
 pub assertions_true : (config : Config) (tests : Tests) (contacts : Endpoint → Contact) (peer writer : ℕ)
-    (old new : Part) → check_refusal config.peers ≡ None → IsPartOf config peer old
+    (old new : Part) → IsRoster config.peers → IsPartOf config peer old
     → CallStep tests old (AssertLiveliness writer) Done new
     → AreTruthful config peer new
     (assertions_due config contacts (record { peer = peer; number = writer }) (own_writer old writer))

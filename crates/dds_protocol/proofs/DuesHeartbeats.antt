@@ -8,7 +8,7 @@ use Rattle.std.proofs.lemmas.List.Elements.{All-append, All-contains_itself, All
 use Rattle.dds_base.specs.declared.config.Config.{Config}
 use Rattle.dds_base.specs.declared.guid.EntityId.{EntityId}
 use Rattle.dds_base.specs.declared.guid.GuidPrefix.{GuidPrefix}
-use Rattle.dds_base.specs.Checked.{check_refusal, unknown_prefix}
+use Rattle.dds_base.specs.Checked.{unknown_prefix}
 use Rattle.dds_base.specs.declared.config.PeerConfig.{PeerConfig}
 use Rattle.rtps_wire.specs.declared.heartbeat.Heartbeat.{Heartbeat as HeartbeatBody}
 use Rattle.rtps_wire.specs.declared.submessage.Submessage.TheVariants.{Heartbeat}
@@ -23,6 +23,7 @@ use Rattle.dds_protocol.specs.Peer.{IsTrueAt}
 use Rattle.dds_protocol.specs.Contact.{Contact, awaits_heartbeat}
 use Rattle.dds_protocol.specs.DueMessages.{Due, reader_entity, writer_entity, readers_told, begins_at, heartbeats_to, heartbeats_due_to, heartbeats_of, heartbeats_from, heartbeats_due}
 use Rattle.dds_protocol.specs.Dues.{IsPartOf, IsTruthful, AreTruthful, IsSized, HasSmallChanges, AreFew, HasFewMatches, CanBeWritten}
+use Rattle.dds_protocol.specs.Roster.{IsRoster}
 use Rattle.dds_protocol.proofs.BeatsTo.{BeatSays, IsBeatTo, IsToSome, are_beats, beat_says}
 use Rattle.dds_protocol.proofs.Dues.{addressed}
 use Rattle.dds_protocol.proofs.DuesFew.{told_few}
@@ -35,7 +36,7 @@ use Rattle.dds_protocol.proofs.OwnGuids.{none_named, one_named, one_writer}
 -- a writer of the peer, which the configuration has, and what it knows of its readers
 pub record Beating : Type 0 where
   pub config : Config
-  pub checked : check_refusal config.peers ≡ None
+  pub checked : IsRoster config.peers
   pub peer : ℕ
   pub part : Part
   pub number : ℕ
@@ -64,7 +65,7 @@ names_writer b final liveliness to h is v from =
 
 -- whoever is named by the entity id of a reader at a peer is that reader
 pub named_one : (config : Config) (to : ℕ) (far from : GuidPrefix) (named writer_id : EntityId) (v r one : Endpoint)
-    → check_refusal config.peers ≡ None → one.peer ≡ to → named ≡ reader_entity config one.peer one.number
+    → IsRoster config.peers → one.peer ≡ to → named ≡ reader_entity config one.peer one.number
     → IsToReader config far (addressed from (prefix_of config to)) named writer_id v r → r ≡ one
 named_one config to far from named writer_id v r one checked there is is_to =
     ⊎_elim
@@ -255,7 +256,7 @@ of_all config contacts peer part P each =
 
 -- All that is due at a tick is true of the part that it finds.
 pub heartbeats_truthful : (config : Config) (contacts : ℕ → Endpoint → Contact) (peer : ℕ) (part : Part)
-    → check_refusal config.peers ≡ None → IsPartOf config peer part
+    → IsRoster config.peers → IsPartOf config peer part
     → AreTruthful config peer part (heartbeats_due config contacts peer part)
 heartbeats_truthful config contacts peer part checked of =
     of_all config contacts peer part (IsTruthful config peer part)

@@ -4,7 +4,6 @@ use Rattle.std.specs.List.{All, AllByRecursion}
 use Rattle.std.proofs.lemmas.List.Elements.{All-append, All-contains, All-nil}
 use Rattle.dds_base.specs.declared.config.Config.{Config}
 use Rattle.dds_base.specs.declared.endpoint.Endpoint.{Endpoint}
-use Rattle.dds_base.specs.Checked.{check_refusal}
 use Rattle.rtps_wire.specs.declared.message.Message.{Message}
 use Rattle.rtps_wire.specs.declared.submessage.Submessage.{Submessage}
 use Rattle.rtps_wire.specs.declared.submessage.Submessage.TheVariants.{Pad, InfoDst, InfoTs, Data, Heartbeat, AckNack, Gap, Other}
@@ -24,6 +23,7 @@ use Rattle.dds_protocol.specs.DueMessages.{Due, AreSent, heartbeats_due}
 use Rattle.dds_protocol.specs.Protocol.{State, FollowsMessage, TakesMessage, TakesPacket}
 use Rattle.dds_protocol.specs.Backed.{IsBacked}
 use Rattle.dds_protocol.specs.Dues.{AreTellable, IsPartOf, IsTruthful, AreTruthful, IsSized, HasSmallChanges, HasPlaces, CanBeWritten}
+use Rattle.dds_protocol.specs.Roster.{IsRoster}
 use Rattle.dds_protocol.proofs.Attached.{SameMet}
 use Rattle.dds_protocol.proofs.Composed.{front_or_rest, later_in}
 use Rattle.dds_protocol.proofs.DuesGrowth.{Gains, gains_same, gains_on, small_gained, truthful_gained, truthful_on}
@@ -59,7 +59,7 @@ bases_read bytes (s ∷ ss) left h = (base_read h.1.0 h.1.1 h.1.2 s h.1.4, bases
 
 -- a message that comes to a peer
 abbrev arrival : (config : Config) (peer : ℕ) (before : List Delivery) (bytes : List ℕ) (rows : List (List WriterProxy))
-    → check_refusal config.peers ≡ None
+    → IsRoster config.peers
     → (message : Message) (offset : ℕ) → ReadsMessage bytes message offset → Arrival
 arrival config peer before bytes rows checked message offset is_read = record {
   config = config;
@@ -121,7 +121,7 @@ followed p index at (s ∷ ss) rest bases old moves refused dues new b met t (in
 
 -- a message that was taken up
 message_followed : (config : Config) (peer : ℕ) (before : List Delivery) (bytes : List ℕ) (old : State)
-    (report : Report) (dues : List Due) (new : State) (checked : check_refusal config.peers ≡ None)
+    (report : Report) (dues : List Due) (new : State) (checked : IsRoster config.peers)
     → IsBacked config peer (packets_of before) before old → AreTellable old.part
     → (h : TakesMessage config peer bytes old report dues new)
     → Followed (arrival config peer before bytes old.part.rtps.readers checked h.message h.offset h.is_read) old dues new
@@ -139,7 +139,7 @@ message_followed config peer before bytes old report dues new checked b t h =
 -- What is due once a peer took a packet up is true: each message, once written, claims only what is so of the peer's
 -- own lists and places.
 pub packet_truthful : (config : Config) (peer : ℕ) (before : List Delivery) (bytes : List ℕ) (old : State)
-    (report : Report) (dues : List Due) (new : State) → check_refusal config.peers ≡ None
+    (report : Report) (dues : List Due) (new : State) → IsRoster config.peers
     → IsBacked config peer (packets_of before) before old → AreTellable old.part
     → TakesPacket config peer bytes old report dues new → AreTruthful config peer new.part dues
 packet_truthful config peer before bytes old report dues new checked b t (inl h) =
@@ -149,7 +149,7 @@ packet_truthful config peer before bytes old report dues new checked b t (inr h)
 
 -- It can be written.
 pub packet_writable : (config : Config) (peer : ℕ) (before : List Delivery) (bytes : List ℕ) (old : State)
-    (report : Report) (dues : List Due) (new : State) → check_refusal config.peers ≡ None
+    (report : Report) (dues : List Due) (new : State) → IsRoster config.peers
     → IsBacked config peer (packets_of before) before old → AreTellable old.part
     → TakesPacket config peer bytes old report dues new → IsSized config → HasSmallChanges old.part
     → All CanBeWritten dues
@@ -159,7 +159,7 @@ packet_writable config peer before bytes old report dues new checked b t (inr h)
 
 -- A packet moves places and acknowledgements on, and writes nothing: so what its dues rest on is so after it.
 pub packet_gains : (config : Config) (peer : ℕ) (before : List Delivery) (bytes : List ℕ) (old : State)
-    (report : Report) (dues : List Due) (new : State) → check_refusal config.peers ≡ None
+    (report : Report) (dues : List Due) (new : State) → IsRoster config.peers
     → IsBacked config peer (packets_of before) before old → AreTellable old.part
     → TakesPacket config peer bytes old report dues new → Gains old.part new.part
 packet_gains config peer before bytes old report dues new checked b t (inl h) =
@@ -171,7 +171,7 @@ packet_gains config peer before bytes old report dues new checked b t (inr h) =
 
 -- What is due at a tick is true after it too.
 pub tick_truthful : (config : Config) (contacts : ℕ → Endpoint → Contact) (peer : ℕ) (old : Part) (now : ℕ)
-    (reply : Reply) (new : Part) → check_refusal config.peers ≡ None → IsPartOf config peer old
+    (reply : Reply) (new : Part) → IsRoster config.peers → IsPartOf config peer old
     → TickStep old now reply new → AreTruthful config peer new (heartbeats_due config contacts peer old)
 tick_truthful config contacts peer old now reply new checked of step =
     truthful_on config peer old new (TickStep-grows old now reply new step)

@@ -8,7 +8,6 @@ use Rattle.dds_base.specs.declared.change.Change.{Change}
 use Rattle.dds_base.specs.declared.config.Config.{Config}
 use Rattle.dds_base.specs.declared.guid.EntityId.{EntityId}
 use Rattle.dds_base.specs.declared.guid.GuidPrefix.{GuidPrefix}
-use Rattle.dds_base.specs.Checked.{check_refusal}
 use Rattle.dds_base.specs.Written.{Written, Registered, Changed, Asserted, LookedAt, StrengthSet, Ticked, counts_of}
 use Rattle.rtps_reader.specs.Tracked.{Tracked}
 use Rattle.rtps_wire.specs.declared.heartbeat.Heartbeat.{Heartbeat as HeartbeatBody}
@@ -43,6 +42,7 @@ use Rattle.dds_protocol.specs.Resuming.{Resumes}
 use Rattle.dds_protocol.specs.World.{WorldState, WorldStep, PeerSteps, peer_at, machine_of}
 use Rattle.dds_protocol.specs.Rules.{announcements_due, AreDue, RuledStep}
 use Rattle.dds_protocol.specs.Fresh.{HasHeartbeat, HasAckNack, heartbeats_used_at, tracked_at, acknacks_used_at, HasUsedCounts}
+use Rattle.dds_protocol.specs.Roster.{IsRoster}
 use Rattle.dds_protocol.proofs.BeatsTo.{AreBeats, IsBeatTo, are_beats, beat_read, no_ask_read}
 use Rattle.dds_protocol.proofs.Composed.{parts_at, machine_after, world_after, contains_at}
 use Rattle.dds_protocol.proofs.Contacts.{KnowsAlike, call_knows, knows_same, tick_knows}
@@ -384,7 +384,7 @@ silent_beat config peer after due h = record {
 -- the next HEARTBEATs of the peer's writer are such ones where one count more is used afterwards
 next_beat : (config : Config) (peer : ℕ) (part after : Part) (number to : ℕ) (final liveliness : Bool)
     (contacts : Endpoint → Contact) (readers : List Endpoint)
-    → check_refusal config.peers ≡ None → IsPartOf config peer part → HasNumber part.rtps.writers number
+    → IsRoster config.peers → IsPartOf config peer part → HasNumber part.rtps.writers number
     → heartbeats_used (own_writer after number) ≡ heartbeats_used (own_writer part number) + 1
     → IsBeat config peer after
     (heartbeats_due_to config final liveliness peer number contacts (own_writer part number) readers to)
@@ -479,7 +479,7 @@ used_after_tick contacts part now number told =
     (numbered-writers_ticked now (was_asked contacts part) part.rtps.writers number)
 
 beats_are : (config : Config) (contacts : ℕ → Endpoint → Contact) (peer : ℕ) (part : Part) (now : ℕ)
-    → check_refusal config.peers ≡ None → IsPartOf config peer part
+    → IsRoster config.peers → IsPartOf config peer part
     → All (IsBeat config peer (after_tick (was_asked contacts part) part now))
     (heartbeats_due config contacts peer part)
 beats_are config contacts peer part now checked of =
@@ -489,7 +489,7 @@ beats_are config contacts peer part now checked of =
     (used_after_tick contacts part now number (some_told (contacts number) (own_writer part number) to among)))
 
 uses_tick : (config : Config) (tests : Tests) (old : WorldState) (peer now : ℕ) (dues : List Due)
-    (packets : List Packet) (new : WorldState) → check_refusal config.peers ≡ None → HasUsedCounts config old
+    (packets : List Packet) (new : WorldState) → IsRoster config.peers → HasUsedCounts config old
     → PeerSteps config tests old peer (event.Tick now) Done new
     → dues ≡ heartbeats_due config (peer_at old peer).known.answered peer (peer_at old peer).part
     → ((p : Packet) → Contains packets p → IsWrittenOf dues p) → Uses config old packets new
@@ -524,7 +524,7 @@ used_asserted : (w : Writer) (moment : ℕ)
 used_asserted w moment = length-append (counts_of w.written) (true ∷ [])
 
 uses_call : (config : Config) (tests : Tests) (old : WorldState) (peer : ℕ) (call : Call) (reply : Reply)
-    (dues : List Due) (packets : List Packet) (new : WorldState) → check_refusal config.peers ≡ None
+    (dues : List Due) (packets : List Packet) (new : WorldState) → IsRoster config.peers
     → HasUsedCounts config old
     → PeerSteps config tests old peer (event.Call call) reply new
     → dues ≡ announcements_due config peer (state_of (peer_at old peer)) (effect_of (peer_at old peer).part call reply)
@@ -582,7 +582,7 @@ uses_no_call config old peer e dues packets new h never same are written =
 -- ---- a delivery
 
 -- the counts that a peer of the network has used
-abbrev counting : (config : Config) → check_refusal config.peers ≡ None → WorldState → ℕ → Counting
+abbrev counting : (config : Config) → IsRoster config.peers → WorldState → ℕ → Counting
 counting config checked old peer = record {
   config = config;
   checked = checked;
@@ -594,7 +594,7 @@ counting config checked old peer = record {
 
 -- an event at which one peer counts so
 uses_counts : (config : Config) (old : WorldState) (peer : ℕ) (dues : List Due) (packets : List Packet)
-    (new : WorldState) (checked : check_refusal config.peers ≡ None) → HasUsedCounts config old
+    (new : WorldState) (checked : IsRoster config.peers) → HasUsedCounts config old
     → Stays config old peer new
     → Counts (counting config checked old peer) (state_of (peer_at old peer)) dues (state_of (peer_at new peer))
     → ((p : Packet) → Contains packets p → IsWrittenOf dues p) → Uses config old packets new
@@ -654,7 +654,7 @@ uses_counts config old peer dues packets new checked h s counts written = record
         endpoint_of peer number = record { peer = peer; number = number }
 
 uses_delivery : (config : Config) (old : WorldState) (peer : ℕ) (packet : Packet) (report : Report) (dues : List Due)
-    (packets : List Packet) (new : WorldState) → check_refusal config.peers ≡ None → HasUsedCounts config old
+    (packets : List Packet) (new : WorldState) → IsRoster config.peers → HasUsedCounts config old
     → Stays config old peer new → Contains old.sent packet
     → TakesPacket config peer packet.bytes (state_of (peer_at old peer)) report dues (state_of (peer_at new peer))
     → ((p : Packet) → Contains packets p → IsWrittenOf dues p) → Uses config old packets new
@@ -667,7 +667,7 @@ uses_delivery config old peer packet report dues packets new checked h s among t
 
 -- places that are tried again
 uses_resume : (config : Config) (old : WorldState) (peer k : ℕ) (report : Report) (dues : List Due)
-    (packets : List Packet) (new : WorldState) → check_refusal config.peers ≡ None → HasUsedCounts config old
+    (packets : List Packet) (new : WorldState) → IsRoster config.peers → HasUsedCounts config old
     → Stays config old peer new → dues ≡ []
     → Resumes k (state_of (peer_at old peer)) report (state_of (peer_at new peer))
     → ((p : Packet) → Contains packets p → IsWrittenOf dues p) → Uses config old packets new
@@ -746,7 +746,7 @@ uses_no_resume config tests old peer k reply dues packets new used s same writte
     (λ p. knows_same (peer_at old p).known (peer_at new p).known (stays.1 p)) written none
 
 uses_step : (config : Config) (tests : AllTests) (old : WorldState) (ev : WorldEvent) (reply : Reply) (dues : List Due)
-    (packets : List Packet) (new : WorldState) → check_refusal config.peers ≡ None → HasUsedCounts config old
+    (packets : List Packet) (new : WorldState) → IsRoster config.peers → HasUsedCounts config old
     → ((p : Packet) → Contains packets p → IsWrittenOf dues p) → WorldStep config tests old ev reply new
     → AreDue config old ev reply new dues → Uses config old packets new
 uses_step config tests old (world.Call peer call) reply dues packets new checked used written (inl s) are =
@@ -781,7 +781,7 @@ uses_step config tests old (world.Resume peer k) reply dues packets new checked 
     uses_no_resume config tests old peer k reply dues packets new used s (λ p q h. h) written are
 
 pub steps_used : (config : Config) (tests : AllTests) (old : WorldState) (ev : WorldEvent) (reply : Reply) (lost : ℕ)
-    (new : WorldState) → check_refusal config.peers ≡ None → HasUsedCounts config old
+    (new : WorldState) → IsRoster config.peers → HasUsedCounts config old
     → RuledStep config tests old ev reply lost new → HasUsedCounts config new
 steps_used config tests old ev reply lost new checked used h =
     uses_used config old h.packets new h.sent used

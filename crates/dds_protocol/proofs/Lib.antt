@@ -90,3 +90,4 @@ pub mod ClosedSteps
 pub mod Tellings
 pub mod GoesOn
 pub mod Answered
+pub mod Rosters

@@ -17,7 +17,7 @@ use Rattle.dds_base.specs.declared.guid.Guid.{Guid}
 use Rattle.dds_base.specs.declared.guid.GuidPrefix.{GuidPrefix}
 use Rattle.dds_base.specs.declared.guid.EntityId.{EntityId}
 use Rattle.dds_base.specs.declared.qos.MatchedWriter.{MatchedWriter}
-use Rattle.dds_base.specs.Checked.{unknown_prefix, same_prefix, same_entity, has_kind, prefix_count, entity_count, is_bad_writer, is_bad_reader, is_bad_peer, has_bad_parameter, has_inconsistent_policy, check_refusal}
+use Rattle.dds_base.specs.Checked.{unknown_prefix, same_prefix, same_entity, has_kind, prefix_count, entity_count, is_bad_writer, is_bad_reader, is_bad_peer}
 use Rattle.dds_base.specs.Matched.{same_topic, of_matched_writers}
 use Rattle.dds_base.specs.MatchedAt.{of_writers_in}
 use Rattle.dds_base.specs.Ownership.{HaveOwnGuids, joined_in, writer_of}
@@ -30,6 +30,7 @@ use Rattle.std.proofs.lemmas.Option.{same_Some}
 use Rattle.dds_machine.specs.Part.{Begun, WriterProxy, same_endpoint, publication_from}
 use Rattle.dds_machine.specs.Opening.{matched_writers, writer_qos, reader_qos}
 use Rattle.dds_protocol.specs.Laws.{ReadersTellWritersApart}
+use Rattle.dds_protocol.specs.Roster.{IsRoster, has_bad_prefix}
 
 -- ---- the tests of names
 
@@ -175,12 +176,7 @@ in_peers g topic n (p ∷ ps) each =
     let prefixes = count-cons (λ (q : PeerConfig). same_prefix q.prefix g.prefix) p ps in
     omega arith
 
--- ---- a configuration that is not refused
-
-not_bad : (bad inconsistent : Bool) (cause other : Code)
-    → (if bad then Some cause else (if inconsistent then Some other else None)) ≡ None → bad ≡ false
-not_bad true inconsistent cause other h = absurd cc
-not_bad false inconsistent cause other h = refl
+-- ---- a roster
 
 -- what is asked of the prefixes, and of each peer's writers
 record IsChecked (peers : List PeerConfig) : Type 0 where
@@ -220,33 +216,27 @@ not_not : (b : Bool) → not b ≡ false → b ≡ true
 not_not true h = refl
 not_not false h = absurd cc
 
-checked : (peers : List PeerConfig) → check_refusal peers ≡ None → IsChecked peers
-checked peers fits =
-    let good = not_bad (has_bad_parameter peers) (has_inconsistent_policy peers) BadParameter InconsistentPolicy fits in
-    let bad_prefix : PeerConfig → Bool =
-    λ p. same_prefix p.prefix unknown_prefix || nat_lt 1 (prefix_count peers p.prefix) in
-    let parts =
-    or_parts (list_any bad_prefix peers) (list_any is_bad_peer peers)
-    (or_parts ((length peers == 0) || nat_lt 16 (length peers)) _ good).1 in
+checked : (peers : List PeerConfig) → IsRoster peers → IsChecked peers
+checked peers roster =
     record {
       prefixes = λ i p at.
-          let both = none-passes bad_prefix peers i p parts.0 at in
+          let both = none-passes (has_bad_prefix peers) peers i p roster.prefixes at in
           ltb-false 1 (prefix_count peers p.prefix)
           (or_parts (same_prefix p.prefix unknown_prefix) (nat_lt 1 (prefix_count peers p.prefix)) both).1;
       entities = λ i p at j w within.
-          let writers = good_writers p (none-passes is_bad_peer peers i p parts.1 at) in
+          let writers = good_writers p (none-passes is_bad_peer peers i p roster.each at) in
           ltb-false 1 (entity_count p w.entity)
           (none-passes (λ (v : WriterConfig). nat_lt 1 (entity_count p v.entity)) p.writers j w writers within);
       readers = λ i p at j r within.
-          let both = good_readers p (none-passes is_bad_peer peers i p parts.1 at) in
+          let both = good_readers p (none-passes is_bad_peer peers i p roster.each at) in
           ltb-false 1 (entity_count p r.entity)
           (none-passes (λ (v : ReaderConfig). nat_lt 1 (entity_count p v.entity)) p.readers j r both.0 within);
       kinds = λ i p at j r within.
-          let both = good_readers p (none-passes is_bad_peer peers i p parts.1 at) in
+          let both = good_readers p (none-passes is_bad_peer peers i p roster.each at) in
           not_not (has_kind 7 r.entity)
           (or_parts (not (has_kind 7 r.entity)) _ (none-passes is_bad_reader p.readers j r both.1 within)).0;
       known = λ i p at.
-          let both = none-passes bad_prefix peers i p parts.0 at in
+          let both = none-passes (has_bad_prefix peers) peers i p roster.prefixes at in
           (or_parts (same_prefix p.prefix unknown_prefix) (nat_lt 1 (prefix_count peers p.prefix)) both).0;
     }
 
@@ -403,7 +393,7 @@ one_end {E} entity_of ends_of peers good prefix entity a b p q x y once at_p at_
     same_endpoints a b peer.0 (number_of a.number b.number within.0 at_y.0 places)
 
 pub one_writer : (config : Config) (prefix : GuidPrefix) (entity : EntityId) (a b : Endpoint)
-    → check_refusal config.peers ≡ None → IsWriter config prefix entity a → IsWriter config prefix entity b → a ≡ b
+    → IsRoster config.peers → IsWriter config prefix entity a → IsWriter config prefix entity b → a ≡ b
 one_writer config prefix entity a b fits x y =
     let good = checked config.peers fits in
     one_end (λ (w : WriterConfig). w.entity) (λ p. p.writers) config.peers good prefix entity a b x.peer y.peer x.end
@@ -419,7 +409,7 @@ reader_once peers good i p at entity =
     (λ j r within. let all = good.readers i p at j r within in omega arith) entity
 
 pub one_reader : (config : Config) (prefix : GuidPrefix) (entity : EntityId) (a b : Endpoint)
-    → check_refusal config.peers ≡ None → IsReader config prefix entity a → IsReader config prefix entity b → a ≡ b
+    → IsRoster config.peers → IsReader config prefix entity a → IsReader config prefix entity b → a ≡ b
 one_reader config prefix entity a b fits x y =
     let good = checked config.peers fits in
     one_end (λ (r : ReaderConfig). r.entity) (λ p. p.readers) config.peers good prefix entity a b x.peer y.peer x.end
@@ -428,7 +418,7 @@ one_reader config prefix entity a b fits x y =
 
 -- no reader has the entity id that names all readers
 pub not_every_reader : (config : Config) (prefix : GuidPrefix) (entity : EntityId) (a : Endpoint)
-    → check_refusal config.peers ≡ None → IsReader config prefix entity a → entity ≡ every_reader → ⊥
+    → IsRoster config.peers → IsReader config prefix entity a → entity ≡ every_reader → ⊥
 not_every_reader config prefix entity a fits x every =
     let good = checked config.peers fits in
     let kind : has_kind 7 x.end.entity ≡ true =
@@ -438,7 +428,7 @@ not_every_reader config prefix entity a fits x every =
 
 -- no writer's prefix is the one that names every peer
 pub not_every_peer : (config : Config) (prefix : GuidPrefix) (entity : EntityId) (a : Endpoint)
-    → check_refusal config.peers ≡ None → IsWriter config prefix entity a → same_prefix prefix every_peer ≡ false
+    → IsRoster config.peers → IsWriter config prefix entity a → same_prefix prefix every_peer ≡ false
 not_every_peer config prefix entity a fits x =
     let good = checked config.peers fits in
     ap (λ (p : GuidPrefix). same_prefix p unknown_prefix) (sym x.same_prefix)
@@ -446,7 +436,7 @@ not_every_peer config prefix entity a fits x =
 
 -- nor is any reader's
 pub not_every_peer_of : (config : Config) (prefix : GuidPrefix) (entity : EntityId) (a : Endpoint)
-    → check_refusal config.peers ≡ None → IsReader config prefix entity a → same_prefix prefix every_peer ≡ false
+    → IsRoster config.peers → IsReader config prefix entity a → same_prefix prefix every_peer ≡ false
 not_every_peer_of config prefix entity a fits x =
     let good = checked config.peers fits in
     ap (λ (p : GuidPrefix). same_prefix p unknown_prefix) (sym x.same_prefix)
@@ -458,7 +448,7 @@ first_of false b h none = cc
 
 -- a submessage for the peer of a reader, which it names, is for that reader alone
 pub one_named : (config : Config) (prefix : GuidPrefix) (entity writer_id : EntityId) (far : GuidPrefix) (at : Receiver)
-    (w r reader : Endpoint) → check_refusal config.peers ≡ None → at.dest_guid_prefix ≡ prefix
+    (w r reader : Endpoint) → IsRoster config.peers → at.dest_guid_prefix ≡ prefix
     → IsReader config prefix entity reader → IsToReader config far at entity writer_id w r → r ≡ reader
 one_named config prefix entity writer_id far at w r reader fits dest is h = by h.entity h.named h.to
   where
@@ -480,7 +470,7 @@ one_named config prefix entity writer_id far at w r reader fits dest is h = by h
 
 -- one that names a participant is for no reader
 pub none_named : (config : Config) (writer_id : EntityId) (far : GuidPrefix) (at : Receiver) (w r : Endpoint)
-    → check_refusal config.peers ≡ None → IsToReader config far at participant_entity writer_id w r → ⊥
+    → IsRoster config.peers → IsToReader config far at participant_entity writer_id w r → ⊥
 none_named config writer_id far at w r fits h = by h.entity h.named h.to
   where
     by : (named : EntityId) → Names participant_entity named → IsReader config far named r → ⊥

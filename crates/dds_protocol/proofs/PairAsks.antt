@@ -1,7 +1,6 @@
 -- A HEARTBEAT that begins a round is answered by an ACKNACK.
 use Rattle.std.proofs.Common.{◌≡◌, ℕ, ◌^◌, ◌-◌, ◌<◌, ◌≤◌, false, List, [], ◌∷◌, Option, Some, None, Contains, length, refl, subst, ap, sym, inl, inr, arith}
 use Rattle.dds_base.specs.declared.config.Config.{Config}
-use Rattle.dds_base.specs.Checked.{check_refusal}
 use Rattle.rtps_reader.specs.declared.step.AckNackDue.{AckNackDue}
 use Rattle.rtps_reader.specs.Answer.{AnswersHeartbeat}
 use Rattle.rtps_wire.specs.declared.submessage.Submessage.TheVariants.{AckNack}
@@ -17,6 +16,7 @@ use Rattle.dds_protocol.specs.World.{WorldState, machine_of, Sound}
 use Rattle.dds_protocol.specs.Bounds.{IsBounded}
 use Rattle.dds_protocol.specs.Fresh.{HasAckNack, HasUsedCounts, acknacks_used_at}
 use Rattle.dds_protocol.specs.Repair.{BeginsRound, IsPair, StandsAt, HasAskOf}
+use Rattle.dds_protocol.specs.Roster.{IsRoster}
 use Rattle.dds_protocol.proofs.CountsWritten.{contains_map}
 use Rattle.dds_protocol.proofs.Dues.{message_to, stands_in}
 use Rattle.dds_protocol.proofs.DuesAcknacks.{ask_body}
@@ -111,7 +111,7 @@ asks_found {c} t few left none =
     (sent.packet, sent.among, sent.to, has)
 
 pub asks_are_sent : (config : Config) (tests : AllTests) (writer reader : Endpoint) (place acknowledged : ℕ)
-    (old heard : WorldState) → check_refusal config.peers ≡ None → Sound config old → HasUsedCounts config old
+    (old heard : WorldState) → IsRoster config.peers → Sound config old → HasUsedCounts config old
     → IsBounded (machine_of old) → IsPair config writer reader → StandsAt old writer reader place acknowledged
     → acknowledged ≤ length (writer_changes (writer_at (machine_of old) writer))
     → length (writer_changes (writer_at (machine_of old) writer)) < 2 ^ 62

@@ -4,7 +4,6 @@ use Rattle.std.specs.Prelude.{if◌then◌else◌}
 use Rattle.std.proofs.lemmas.Bool.Decides.{nat_tests}
 use Rattle.std.proofs.lemmas.List.Elements.{Contains-append_left, Contains-append_right}
 use Rattle.dds_base.specs.declared.config.Config.{Config}
-use Rattle.dds_base.specs.Checked.{check_refusal}
 use Rattle.rtps_wire.specs.declared.heartbeat.Heartbeat.{Heartbeat as HeartbeatBody}
 use Rattle.rtps_wire.specs.declared.submessage.Submessage.TheVariants.{Heartbeat}
 use Rattle.rtps_wire.specs.Messages.{IsWritable}
@@ -24,6 +23,7 @@ use Rattle.dds_protocol.specs.World.{WorldState, peer_at, machine_of}
 use Rattle.dds_protocol.specs.Fresh.{HasUsedCounts, heartbeats_used_at}
 use Rattle.dds_protocol.specs.Repair.{HasBeatTo}
 use Rattle.dds_protocol.specs.Rules.{RuledStep}
+use Rattle.dds_protocol.specs.Roster.{IsRoster}
 use Rattle.dds_protocol.proofs.BeatsTo.{AreBeats, IsBeatOf, NamedBeat, beat_among, beat_stands, beats_are, beats_to, named_beat, reader_told}
 use Rattle.dds_protocol.proofs.Composed.{parts_at}
 use Rattle.dds_protocol.proofs.CountsWritten.{contains_map}
@@ -89,7 +89,7 @@ among_dues config contacts peer part (suc i) d has h =
 -- ---- what is sent
 
 pub beats_are_sent : (config : Config) (tests : AllTests) (writer reader : Endpoint) (acknowledged now : ℕ)
-    (old new : WorldState) → check_refusal config.peers ≡ None → HasUsedCounts config old
+    (old new : WorldState) → IsRoster config.peers → HasUsedCounts config old
     → acknowledged_of (writer_at (machine_of old) writer).readers reader ≡ Some acknowledged
     → acknowledged ≤ length (writer_changes (writer_at (machine_of old) writer))
     → heartbeats_used_at old writer < 2 ^ 31 - 1

@@ -2,7 +2,6 @@
 use Rattle.std.proofs.Common.{◌≡◌, ℕ, pos, ◌+◌, ◌≤◌, ◌≤ℤ◌, true, List, [], Some, None, length, refl, subst, ap, sym, ◌∙◌, ◌⊎◌, inl, inr, ⊎_elim, arith}
 use Rattle.dds_base.specs.declared.change.Change.{Change}
 use Rattle.dds_base.specs.declared.config.Config.{Config}
-use Rattle.dds_base.specs.Checked.{check_refusal}
 use Rattle.dds_base.specs.Places.{Match}
 use Rattle.dds_base.specs.Counts.{is_later}
 use Rattle.rtps_reader.specs.Tracked.{Tracked, with_heartbeat}
@@ -24,6 +23,7 @@ use Rattle.dds_protocol.specs.Bounds.{IsBounded}
 use Rattle.dds_protocol.specs.CatchUp.{Standing, GoesOn}
 use Rattle.dds_protocol.specs.Fresh.{HasUsedCounts, tracked_at}
 use Rattle.dds_protocol.specs.Repair.{beat_in, ticked_in, BeginsRound, IsPair, StandsAt}
+use Rattle.dds_protocol.specs.Roster.{IsRoster}
 use Rattle.dds_protocol.proofs.CaughtUp.{on_forward}
 use Rattle.dds_protocol.proofs.Composed.{parts_at}
 use Rattle.dds_protocol.proofs.DuesMatched.{own_name}
@@ -49,7 +49,7 @@ pub record Begun : Type 0 where
   pub acknowledged : ℕ
   pub old : WorldState
   pub heard : WorldState
-  pub checked : check_refusal config.peers ≡ None
+  pub checked : IsRoster config.peers
   pub sound : Sound config old
   pub used : HasUsedCounts config old
   pub bounded : IsBounded (machine_of old)
@@ -59,7 +59,7 @@ pub record Begun : Type 0 where
 
 -- the beginning of a round, and what it rests on
 abbrev pub the_begun : (config : Config) (tests : AllTests) (writer reader : Endpoint) (place acknowledged : ℕ)
-    (old heard : WorldState) → check_refusal config.peers ≡ None → Sound config old → HasUsedCounts config old
+    (old heard : WorldState) → IsRoster config.peers → Sound config old → HasUsedCounts config old
     → IsBounded (machine_of old) → IsPair config writer reader → StandsAt old writer reader place acknowledged
     → BeginsRound config tests writer reader old heard → Begun
 the_begun config tests writer reader place acknowledged old heard checked sound used bounded pair stands begins =

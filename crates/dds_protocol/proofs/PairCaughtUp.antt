@@ -9,7 +9,6 @@ use Rattle.dds_base.specs.declared.change.Change.{Change}
 use Rattle.dds_base.specs.declared.config.Config.{Config}
 use Rattle.dds_base.specs.declared.guid.EntityId.{EntityId}
 use Rattle.dds_base.specs.declared.qos.ReaderQos.{ReaderQos}
-use Rattle.dds_base.specs.Checked.{check_refusal}
 use Rattle.dds_base.specs.Places.{coming}
 use Rattle.dds_base.specs.Presence.{has_room}
 use Rattle.rtps_reader.specs.declared.step.AckNackDue.{AckNackDue}
@@ -50,6 +49,7 @@ use Rattle.dds_protocol.proofs.PairTicked.{new_count}
 use Rattle.dds_machine.proofs.Tables.{acknowledged-hits}
 use Rattle.dds_machine.specs.declared.event.WorldEvent.{WorldEvent}
 use Rattle.dds_protocol.specs.Noticing.{world_ended}
+use Rattle.dds_protocol.specs.Roster.{IsRoster}
 use Rattle.dds_protocol.proofs.PairEnded.{rows_ended, seat_ended, standing_ended}
 use Rattle.dds_protocol.proofs.PairBegun.{rows_heard, the_writer, noted_beat, noted_tick, seat_noted, standing_noted, Begun, the_begun, Told, Missed, contacts_of, met, HasRow, writer_is, place_is, pairing, body, ticked_reader, match, started_at, started_on, heard_reader, hears, heard_of, the_last, goes, forward, acknacks, heard_writer, same_answered, writer_heard, row_heard, changes_heard, values_heard, place_heard, packet}
 
@@ -461,7 +461,7 @@ few_packets c =
 
 -- a round, but for its answers, with what it rests on
 the_asked : (config : Config) (tests : AllTests) (writer reader : Endpoint) (place acknowledged : ℕ)
-    (old after : WorldState) → check_refusal config.peers ≡ None → Sound config old → HasUsedCounts config old
+    (old after : WorldState) → IsRoster config.peers → Sound config old → HasUsedCounts config old
     → IsBounded (machine_of old) → IsPair config writer reader → StandsAt old writer reader place acknowledged
     → AsksInRound config tests writer reader old after → AskedRound
 the_asked config tests writer reader place acknowledged old after checked sound used bounded pair stands asks =
@@ -480,7 +480,7 @@ the_asked config tests writer reader place acknowledged old after checked sound 
     }
 
 pub pair_catches_up : (config : Config) (tests : AllTests) (writer reader : Endpoint) (place acknowledged : ℕ)
-    (old new : WorldState) → check_refusal config.peers ≡ None → Sound config old → HasUsedCounts config old
+    (old new : WorldState) → IsRoster config.peers → Sound config old → HasUsedCounts config old
     → IsBounded (machine_of old) → IsPair config writer reader → StandsAt old writer reader place acknowledged
     → ((peer_at old writer.peer).known.answered writer.number reader).silent ≡ false
     → IsRepairRound config tests writer reader old new
@@ -498,7 +498,7 @@ pair_catches_up config tests writer reader place acknowledged old new checked so
     })
 
 pub answers_are_few : (config : Config) (tests : AllTests) (writer reader : Endpoint) (place acknowledged : ℕ)
-    (old after : WorldState) → check_refusal config.peers ≡ None → Sound config old → HasUsedCounts config old
+    (old after : WorldState) → IsRoster config.peers → Sound config old → HasUsedCounts config old
     → IsBounded (machine_of old) → IsPair config writer reader → StandsAt old writer reader place acknowledged
     → (asks : AsksInRound config tests writer reader old after)
     → length asks.answers.step.packets ≤ packets_for (writer_at (machine_of old) writer).max_value

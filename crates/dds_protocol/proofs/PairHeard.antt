@@ -6,7 +6,7 @@ use Rattle.dds_base.specs.declared.config.Config.{Config}
 use Rattle.dds_base.specs.declared.config.WriterConfig.{WriterConfig}
 use Rattle.dds_base.specs.declared.guid.EntityId.{EntityId}
 use Rattle.dds_base.specs.declared.guid.GuidPrefix.{GuidPrefix}
-use Rattle.dds_base.specs.Checked.{check_refusal, same_prefix}
+use Rattle.dds_base.specs.Checked.{same_prefix}
 use Rattle.dds_base.specs.Places.{Match}
 use Rattle.dds_base.specs.Counts.{is_later}
 use Rattle.rtps_reader.specs.declared.step.AckNackDue.{AckNackDue}
@@ -37,6 +37,7 @@ use Rattle.dds_protocol.specs.Bounds.{IsBounded}
 use Rattle.dds_protocol.specs.Fresh.{HasAckNack}
 use Rattle.dds_protocol.specs.Repair.{Delivers, IsPair}
 use Rattle.dds_protocol.specs.Rules.{RuledStep}
+use Rattle.dds_protocol.specs.Roster.{IsRoster}
 use Rattle.dds_protocol.proofs.Bounded.{steps_bounded}
 use Rattle.dds_protocol.proofs.Composed.{composes, is_alone}
 use Rattle.dds_protocol.proofs.Dues.{addressed, message_to}
@@ -87,7 +88,7 @@ stays_sound config tests old ev reply lost new h sound bounded =
 
 pub record Pairing : Type 0 where
   pub config : Config
-  pub checked : check_refusal config.peers ≡ None
+  pub checked : IsRoster config.peers
   pub writer : Endpoint
   pub reader : Endpoint
   pub pair : IsPair config writer reader

@@ -4,7 +4,6 @@ use Rattle.std.specs.List.{All}
 use Rattle.std.proofs.lemmas.Int.{ints}
 use Rattle.std.proofs.lemmas.List.Elements.{All-contains}
 use Rattle.dds_base.specs.declared.config.Config.{Config}
-use Rattle.dds_base.specs.Checked.{check_refusal}
 use Rattle.dds_base.specs.Counts.{is_later}
 use Rattle.rtps_wire.specs.declared.heartbeat.Heartbeat.{Heartbeat as HeartbeatBody}
 use Rattle.rtps_wire.specs.declared.message.Message.{Message}
@@ -28,6 +27,7 @@ use Rattle.dds_machine.specs.Numbered.{HasNumber}
 use Rattle.dds_protocol.specs.World.{WorldState, WorldStep, PeerSteps, peer_at}
 use Rattle.dds_protocol.specs.Fresh.{HasHeartbeat}
 use Rattle.dds_protocol.specs.Rules.{RuledStep}
+use Rattle.dds_protocol.specs.Roster.{IsRoster}
 use Rattle.dds_protocol.proofs.BeatsTo.{IsBeatOf, beat_message, beat_read, beats_are, beats_to}
 use Rattle.dds_protocol.proofs.Contacts.{KnowsAlike, knows_same, tick_knows}
 use Rattle.dds_protocol.proofs.DuesHeartbeats.{of_all}
@@ -55,7 +55,7 @@ record HasBeatOf (config : Config) (contacts : ℕ → Endpoint → Contact) (pe
       → due.message ≡ beat_message config contacts peer part w.number due.to
 
 beats_of : (config : Config) (contacts : ℕ → Endpoint → Contact) (peer : ℕ) (part : Part)
-    → check_refusal config.peers ≡ None → IsPartOf config peer part
+    → IsRoster config.peers → IsPartOf config peer part
     → All (HasBeatOf config contacts peer part) (heartbeats_due config contacts peer part)
 beats_of config contacts peer part checked of =
     of_all config contacts peer part (HasBeatOf config contacts peer part)
@@ -83,7 +83,7 @@ pub record BeatPacket (config : Config) (contacts : ℕ → Endpoint → Contact
   pub bytes : packet.bytes ≡ spelling_of (beat_message config contacts writer.peer part writer.number packet.to)
 
 pub beat_packet : (config : Config) (tests : AllTests) (old : WorldState) (now lost : ℕ) (new : WorldState)
-    (writer : Endpoint) (packet : Packet) (count : ℤ) → check_refusal config.peers ≡ None
+    (writer : Endpoint) (packet : Packet) (count : ℤ) → IsRoster config.peers
     → IsPartOf config writer.peer (peer_at old writer.peer).part
     → (h : RuledStep config tests old (world.Tick writer.peer now) Done lost new)
     → Contains h.packets packet → HasHeartbeat config packet.bytes writer count

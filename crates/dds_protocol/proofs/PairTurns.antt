@@ -5,7 +5,6 @@ use Rattle.std.proofs.lemmas.List.Elements.{Contains-append_cases, Contains-appe
 use Rattle.dds_base.specs.declared.config.Config.{Config}
 use Rattle.dds_base.specs.declared.guid.EntityId.{EntityId}
 use Rattle.dds_base.specs.declared.guid.GuidPrefix.{GuidPrefix}
-use Rattle.dds_base.specs.Checked.{check_refusal}
 use Rattle.dds_base.specs.Kept.{numbers_from}
 use Rattle.rtps_reader.specs.declared.step.AckNackDue.{AckNackDue}
 use Rattle.dds_base.specs.declared.happening.Happening.{Happening}
@@ -30,6 +29,7 @@ use Rattle.dds_protocol.specs.DueMessages.{Due, acknack_message, acknacks_due}
 use Rattle.dds_protocol.specs.Protocol.{HearsAlone, Starts, StartsAt, State, stands_to, InTurn, GoesBy, heard_as, Asserting, TakesHeartbeat, Idles, ReaderTakes, with_tracked}
 use Rattle.dds_protocol.specs.Backed.{reader_at}
 use Rattle.dds_protocol.specs.Fresh.{HasAckNack}
+use Rattle.dds_protocol.specs.Roster.{IsRoster}
 use Rattle.dds_protocol.proofs.Composed.{is_alone}
 use Rattle.dds_protocol.proofs.CountsWritten.{one_ask, one_sought}
 use Rattle.dds_protocol.proofs.DuesAcknacks.{ask_body, answer_names}
@@ -44,7 +44,7 @@ use Rattle.dds_protocol.proofs.Turns.{in_turn}
 -- a peer of a configuration
 pub record Host : Type 0 where
   pub config : Config
-  pub checked : check_refusal config.peers ≡ None
+  pub checked : IsRoster config.peers
   pub peer : ℕ
   pub own : GuidPrefix
 

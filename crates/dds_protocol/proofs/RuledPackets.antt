@@ -6,7 +6,6 @@ use Rattle.dds_base.specs.declared.config.Config.{Config}
 use Rattle.dds_base.specs.declared.config.PeerConfig.{PeerConfig}
 use Rattle.dds_base.specs.declared.guid.EntityId.{EntityId}
 use Rattle.dds_base.specs.declared.guid.GuidPrefix.{GuidPrefix}
-use Rattle.dds_base.specs.Checked.{check_refusal}
 use Rattle.dds_base.specs.Kept.{numbers_from}
 use Rattle.dds_base.specs.Counts.{is_later}
 use Rattle.rtps_wire.specs.declared.acknack.AckNack.{AckNack as AckNackBody}
@@ -27,6 +26,7 @@ use Rattle.dds_protocol.specs.Peer.{Delivery, IsApplied, IsBefore, claimed, pack
 use Rattle.dds_protocol.specs.DueMessages.{Due}
 use Rattle.dds_protocol.specs.Protocol.{Known, State, InTurn, ReaderTakes, Takes, MayNeedMemory, FollowsMessage, TakesPacket}
 use Rattle.dds_protocol.specs.Backed.{reader_at, IsClaimed, IsBacked}
+use Rattle.dds_protocol.specs.Roster.{IsRoster}
 use Rattle.dds_protocol.proofs.Attached.{SameMet, is_met}
 use Rattle.dds_protocol.proofs.Knowing.{claimed_on}
 use Rattle.dds_protocol.proofs.Composed.{front_or_rest, later_in}
@@ -101,7 +101,7 @@ taken c s is old made dues new b met h =
 -- a packet that is a message, comes to a peer after these deliveries, and found these rows
 pub record Packet : Type 0 where
   pub config : Config
-  pub checked : check_refusal config.peers ≡ None
+  pub checked : IsRoster config.peers
   pub peer : ℕ
   pub before : List Delivery
   pub bytes : List ℕ
@@ -481,7 +481,7 @@ pub record IsTakenUp (config : Config) (peer : ℕ) (before : List Delivery) (by
 -- What a peer does with a packet by the rules rests on what this packet and earlier ones claim, and what it knows then
 -- is what they claim.
 pub takes_packet : (config : Config) (peer : ℕ) (before : List Delivery) (bytes : List ℕ) (old : State)
-    (report : Report) (dues : List Due) (new : State) → check_refusal config.peers ≡ None
+    (report : Report) (dues : List Due) (new : State) → IsRoster config.peers
     → IsBacked config peer (packets_of before) before old → TakesPacket config peer bytes old report dues new
     → IsTakenUp config peer before bytes old report new
 takes_packet config peer before bytes old report dues new checked b (inl h) =

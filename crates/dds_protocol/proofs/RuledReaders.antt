@@ -10,7 +10,6 @@ use Rattle.dds_base.specs.declared.guid.EntityId.{EntityId}
 use Rattle.dds_base.specs.declared.guid.GuidPrefix.{GuidPrefix}
 use Rattle.dds_base.specs.declared.happening.Happening.{Happening}
 use Rattle.dds_base.specs.declared.happening.Happening.TheVariants.{Passed}
-use Rattle.dds_base.specs.Checked.{check_refusal}
 use Rattle.dds_base.specs.Matched.{is_reliable, is_reliable_reader}
 use Rattle.dds_base.specs.declared.qos.ReaderQos.{ReaderQos}
 use Rattle.dds_base.specs.Places.{Match, MayPassOver, PlaceWith, coming, GoesTo}
@@ -39,6 +38,7 @@ use Rattle.dds_protocol.specs.Peer.{Delivery, claimed, packets_of, delivered_to}
 use Rattle.dds_protocol.specs.DueMessages.{Due}
 use Rattle.dds_protocol.specs.Protocol.{BeginsIf, BeginsWith, MeetsChange, MeetsGap, StartsAt, State, GoesBy, Goes, TakesChange, TakesGap, Idles, ReaderTakes, stands_to, with_tracked}
 use Rattle.dds_protocol.specs.Backed.{reader_at, IsClaimed, IsBacked}
+use Rattle.dds_protocol.specs.Roster.{IsRoster}
 use Rattle.dds_protocol.proofs.Attached.{SameMet, is_met}
 use Rattle.dds_protocol.proofs.Composed.{moves_on}
 use Rattle.dds_protocol.proofs.OwnGuids.{one_writer}
@@ -53,7 +53,7 @@ use Rattle.dds_machine.proofs.Tables.{begun-hits, numbered-same, row-hits}
 -- a submessage of a packet, which comes to a peer after these deliveries, and found these rows
 pub record Coming : Type 0 where
   pub config : Config
-  pub checked : check_refusal config.peers ≡ None
+  pub checked : IsRoster config.peers
   pub peer : ℕ
   pub before : List Delivery
   pub packet : List ℕ

@@ -5,7 +5,6 @@
 use Rattle.std.specs.Prelude.{◌≡◌, ℕ, List, None, Some, ℤ, pos, ◌≤ℤ◌, Contains}
 use Rattle.dds_base.specs.declared.config.Config.{Config}
 use Rattle.dds_base.specs.declared.guid.GuidPrefix.{GuidPrefix}
-use Rattle.dds_base.specs.Checked.{check_refusal}
 use Rattle.rtps_wire.specs.declared.acknack.AckNack.{AckNack as AckNackBody}
 use Rattle.rtps_wire.specs.declared.heartbeat.Heartbeat.{Heartbeat as HeartbeatBody}
 use Rattle.rtps_wire.specs.declared.submessage.Submessage.TheVariants.{Heartbeat, AckNack}
@@ -22,6 +21,7 @@ use Rattle.dds_machine.specs.Machine.{AllTests, writer_at}
 use Rattle.dds_protocol.specs.World.{WorldState, peer_at, machine_of}
 use Rattle.dds_protocol.specs.Opening.{opening_world}
 use Rattle.dds_protocol.specs.Rules.{RuledStep}
+use Rattle.dds_protocol.specs.Roster.{IsRoster}
 
 -- a HEARTBEAT of the writer with this count stands in the packet
 pub record HasHeartbeat (config : Config) (bytes : List ℕ) (writer : Endpoint) (count : ℤ) : Type 0 where
@@ -77,5 +77,5 @@ OpensUsed = (config : Config) → HasUsedCounts config (opening_world config)
 -- an event of a network by the rules leaves it so, in a configuration that is not refused
 abbrev pub StepsUsed : Type 0
 StepsUsed = (config : Config) (tests : AllTests) (old : WorldState) (event : WorldEvent) (reply : Reply) (lost : ℕ)
-    (new : WorldState) → check_refusal config.peers ≡ None → HasUsedCounts config old
+    (new : WorldState) → IsRoster config.peers → HasUsedCounts config old
     → RuledStep config tests old event reply lost new → HasUsedCounts config new

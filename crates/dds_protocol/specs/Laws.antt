@@ -11,7 +11,6 @@ use Rattle.dds_base.specs.declared.happening.Happening.{Happening}
 use Rattle.dds_base.specs.declared.happening.PassedRun.{PassedRun}
 use Rattle.dds_base.specs.declared.key.Key.{Key}
 use Rattle.dds_base.specs.declared.qos.HistoryQos.TheVariants.{KeepAll}
-use Rattle.dds_base.specs.Checked.{check_refusal}
 use Rattle.dds_base.specs.Ownership.{IsMatched, HaveOwnGuids, joined_in, registered_writers, owner_of}
 use Rattle.dds_protocol.specs.Noticing.{world_ended}
 use Rattle.dds_machine.specs.declared.call.Call.TheVariants.{AssertLiveliness}
@@ -44,6 +43,7 @@ use Rattle.dds_machine.specs.Runs.{Run}
 use Rattle.dds_machine.specs.Part.{Part, own_writer, own_reader, owed_from, publication_among}
 use Rattle.dds_machine.specs.Opening.{matched_writers, reader_qos}
 use Rattle.dds_protocol.specs.Opening.{opening_world}
+use Rattle.dds_protocol.specs.Roster.{IsRoster}
 
 -- a step of peers, on packets that were sent, is a step of the machine, which takes up what is delivered, and leaves
 -- all claims true
@@ -137,7 +137,7 @@ pub record TellsWritersApart (peers : List PeerConfig) (reader : ReaderConfig) :
 -- so does each reader of a configuration that is not refused
 abbrev pub ReadersTellWritersApart : Type 0
 ReadersTellWritersApart =
-    (config : Config) (peer : PeerConfig) (reader : ReaderConfig) → check_refusal config.peers ≡ None
+    (config : Config) (peer : PeerConfig) (reader : ReaderConfig) → IsRoster config.peers
     → Contains config.peers peer → Contains peer.readers reader
     → TellsWritersApart config.peers reader
 
@@ -145,7 +145,7 @@ ReadersTellWritersApart =
 -- configuration does not list
 abbrev pub OwnersExist : Type 0
 OwnersExist = (config : Config) (peer : PeerConfig) (reader : ReaderConfig) (i : Key) (h : List Happening)
-    → check_refusal config.peers ≡ None → Contains config.peers peer → joined_in h ≡ []
+    → IsRoster config.peers → Contains config.peers peer → joined_in h ≡ []
     → Contains peer.readers reader → registered_writers (reader_qos config.peers reader) i h ≢ []
     → IsSome (owner_of (reader_qos config.peers reader) h (registered_writers (reader_qos config.peers reader) i h))
 
@@ -153,7 +153,7 @@ OwnersExist = (config : Config) (peer : PeerConfig) (reader : ReaderConfig) (i :
 -- what it knows then is what they claim
 abbrev pub RulesRestOnClaims : Type 0
 RulesRestOnClaims = (config : Config) (peer : ℕ) (before : List Delivery) (bytes : List ℕ) (old : State)
-    (report : Report) (dues : List Due) (new : State) → check_refusal config.peers ≡ None
+    (report : Report) (dues : List Due) (new : State) → IsRoster config.peers
     → IsBacked config peer (packets_of before) before old → TakesPacket config peer bytes old report dues new
     → Receives config (claimed config before bytes old.part.rtps.readers peer) peer bytes old.part report new.part
     × IsBacked config peer (bytes ∷ packets_of before)
@@ -175,7 +175,7 @@ OpensBacked = (config : Config) (peer : ℕ)
 -- what is due once a peer took a packet up by the rules claims only what is true of the peer's own lists and places
 abbrev pub AnswersAreTrue : Type 0
 AnswersAreTrue = (config : Config) (peer : ℕ) (before : List Delivery) (bytes : List ℕ) (old : State) (report : Report)
-    (dues : List Due) (new : State) → check_refusal config.peers ≡ None
+    (dues : List Due) (new : State) → IsRoster config.peers
     → IsBacked config peer (packets_of before) before old → AreTellable old.part
     → TakesPacket config peer bytes old report dues new
     → AreTruthful config peer new.part dues
@@ -184,7 +184,7 @@ AnswersAreTrue = (config : Config) (peer : ℕ) (before : List Delivery) (bytes 
 -- and the sets of ACKNACKs have their places: so a peer that has memory sends it.
 abbrev pub AnswersCanBeWritten : Type 0
 AnswersCanBeWritten = (config : Config) (peer : ℕ) (before : List Delivery) (bytes : List ℕ) (old : State)
-    (report : Report) (dues : List Due) (new : State) → check_refusal config.peers ≡ None
+    (report : Report) (dues : List Due) (new : State) → IsRoster config.peers
     → IsBacked config peer (packets_of before) before old → AreTellable old.part
     → TakesPacket config peer bytes old report dues new → IsSized config → HasSmallChanges old.part
     → All CanBeWritten dues
@@ -192,7 +192,7 @@ AnswersCanBeWritten = (config : Config) (peer : ℕ) (before : List Delivery) (b
 -- so do the HEARTBEATs that are due at a tick, whichever readers ask for one, or are silent
 abbrev pub HeartbeatsAreTrue : Type 0
 HeartbeatsAreTrue = (config : Config) (contacts : ℕ → Endpoint → Contact) (peer : ℕ) (old : Part) (now : ℕ)
-    (reply : Reply) (new : Part) → check_refusal config.peers ≡ None → IsPartOf config peer old
+    (reply : Reply) (new : Part) → IsRoster config.peers → IsPartOf config peer old
     → TickStep old now reply new → AreTruthful config peer new (heartbeats_due config contacts peer old)
 
 -- each message with them can be written, in a configuration whose names have their octets, where the changes are small
@@ -205,7 +205,7 @@ HeartbeatsCanBeWritten = (config : Config) (contacts : ℕ → Endpoint → Cont
 -- and the HEARTBEATs that tell an assertion are true of the peer that has entered it
 abbrev pub AssertionsAreTrue : Type 0
 AssertionsAreTrue = (config : Config) (tests : Tests) (contacts : Endpoint → Contact) (peer writer : ℕ) (old new : Part)
-    → check_refusal config.peers ≡ None
+    → IsRoster config.peers
     → IsPartOf config peer old → CallStep tests old (AssertLiveliness writer) Done new
     → AreTruthful config peer new
     (assertions_due config contacts (record { peer = peer; number = writer }) (own_writer old writer))

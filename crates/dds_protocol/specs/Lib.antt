@@ -1,5 +1,6 @@
 pub mod Claims
 pub mod Closed
+pub mod Roster
 pub mod Receipt
 pub mod Peer
 pub mod World

@@ -7,7 +7,6 @@ use Rattle.dds_base.specs.declared.change.Change.{Change}
 use Rattle.dds_base.specs.declared.config.Config.{Config}
 use Rattle.dds_base.specs.declared.guid.EntityId.{EntityId}
 use Rattle.dds_base.specs.Bounds.{max_count, max_sn, usual_value, window_width}
-use Rattle.dds_base.specs.Checked.{check_refusal}
 use Rattle.dds_base.specs.Matched.{is_reliable_reader}
 use Rattle.dds_base.specs.Places.{coming}
 use Rattle.dds_base.specs.Presence.{has_room}
@@ -28,6 +27,7 @@ use Rattle.dds_protocol.specs.World.{WorldState, peer_at, machine_of, Sound}
 use Rattle.dds_protocol.specs.Bounds.{IsBounded}
 use Rattle.dds_protocol.specs.Fresh.{HasHeartbeat, HasAckNack, HasUsedCounts, heartbeats_used_at, acknacks_used_at, tracked_at}
 use Rattle.dds_protocol.specs.Rules.{RuledStep}
+use Rattle.dds_protocol.specs.Roster.{IsRoster}
 
 -- a packet that was sent is delivered at a peer, by the rules, and memory is found for all of it
 pub record Delivers (config : Config) (tests : AllTests) (old : WorldState) (peer : ℕ) (packet : Packet) (lost : ℕ)
@@ -140,7 +140,7 @@ pub record HasCaughtUp (world : WorldState) (writer reader : Endpoint) (before l
 -- places are within the lists
 abbrev pub PairCatchesUp : Type 0
 PairCatchesUp = (config : Config) (tests : AllTests) (writer reader : Endpoint) (place acknowledged : ℕ)
-    (old new : WorldState) → check_refusal config.peers ≡ None → Sound config old → HasUsedCounts config old
+    (old new : WorldState) → IsRoster config.peers → Sound config old → HasUsedCounts config old
     → IsBounded (machine_of old) → IsPair config writer reader → StandsAt old writer reader place acknowledged
     → ((peer_at old writer.peer).known.answered writer.number reader).silent ≡ false
     → IsRepairRound config tests writer reader old new
@@ -158,7 +158,7 @@ pub record HasBeatTo (config : Config) (writer : Endpoint) (peer : ℕ) (packets
 -- while there are counts left
 abbrev pub BeatsAreSent : Type 0
 BeatsAreSent = (config : Config) (tests : AllTests) (writer reader : Endpoint) (acknowledged now : ℕ)
-    (old new : WorldState) → check_refusal config.peers ≡ None → HasUsedCounts config old
+    (old new : WorldState) → IsRoster config.peers → HasUsedCounts config old
     → acknowledged_of (writer_at (machine_of old) writer).readers reader ≡ Some acknowledged
     → acknowledged ≤ length (writer_changes (writer_at (machine_of old) writer))
     → heartbeats_used_at old writer < max_count
@@ -177,7 +177,7 @@ pub record HasAskOf (config : Config) (writer reader : Endpoint) (packets : List
 -- sent where nothing is lost, while there are counts left, and numbers
 abbrev pub AsksAreSent : Type 0
 AsksAreSent = (config : Config) (tests : AllTests) (writer reader : Endpoint) (place acknowledged : ℕ)
-    (old heard : WorldState) → check_refusal config.peers ≡ None → Sound config old → HasUsedCounts config old
+    (old heard : WorldState) → IsRoster config.peers → Sound config old → HasUsedCounts config old
     → IsBounded (machine_of old) → IsPair config writer reader → StandsAt old writer reader place acknowledged
     → acknowledged ≤ length (writer_changes (writer_at (machine_of old) writer))
     → length (writer_changes (writer_at (machine_of old) writer)) < max_sn
@@ -193,7 +193,7 @@ packets_for most = if nat_le most usual_value then 32 else 256
 -- the answers of a round go in no more packets than are enough for the writer
 abbrev pub AnswersAreFew : Type 0
 AnswersAreFew = (config : Config) (tests : AllTests) (writer reader : Endpoint) (place acknowledged : ℕ)
-    (old asked : WorldState) → check_refusal config.peers ≡ None → Sound config old → HasUsedCounts config old
+    (old asked : WorldState) → IsRoster config.peers → Sound config old → HasUsedCounts config old
     → IsBounded (machine_of old) → IsPair config writer reader → StandsAt old writer reader place acknowledged
     → (asks : AsksInRound config tests writer reader old asked)
     → length asks.answers.step.packets ≤ packets_for (writer_at (machine_of old) writer).max_value
