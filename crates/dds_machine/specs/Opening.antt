@@ -1,9 +1,9 @@
 -- The opening of a configuration: writers and readers of equal topic are matched, nothing has happened, each place has
--- begun at 1, and nothing is acknowledged.
+-- begun at 1, and nothing is acknowledged. A peer that comes later begins likewise, matched with its own ends alone.
 --
 -- DDS 1.4, 2.2.2.3, 2.2.3 (policies of matched entities); RTPS 2.5, 8.4.7 (matched_readers), 8.4.10
 -- (matched_writers).
-use Rattle.std.specs.Prelude.{ℕ, List, [], length, map, None}
+use Rattle.std.specs.Prelude.{ℕ, ◌+◌, List, [], ◌∷◌, ◌++◌, length, map, None}
 use Rattle.dds_base.specs.declared.config.Config.{Config}
 use Rattle.dds_base.specs.declared.config.PeerConfig.{PeerConfig}
 use Rattle.dds_base.specs.declared.config.WriterConfig.{WriterConfig}
@@ -62,9 +62,10 @@ reader_qos peers r = record {
   writers = writer_qos r.topic peers;
 }
 
--- a writer that has done nothing, with its matched readers, each of which has acknowledged nothing
-abbrev pub opening_writer : List PeerConfig → WriterConfig → Writer
-opening_writer peers w =
+-- a writer that has done nothing, with its matched readers among these peers, the first of which has this number: each
+-- has acknowledged nothing
+abbrev pub writer_from : ℕ → List PeerConfig → WriterConfig → Writer
+writer_from first peers w =
     record {
       policy = w.history;
       max_samples = limit_of w.max_samples;
@@ -72,37 +73,57 @@ opening_writer peers w =
       strength = carried w.ownership w.strength;
       autodispose = w.autodispose;
       max_value = w.max_value;
-      known = topic_readers w.topic 1 peers;
+      known = topic_readers w.topic first peers;
       written = [];
-      matched = matched_readers w.topic 1 peers;
-      readers = reliable_readers w.topic 1 peers;
-      matches = opened_with (matched_readers w.topic 1 peers);
+      matched = matched_readers w.topic first peers;
+      readers = reliable_readers w.topic first peers;
+      matches = opened_with (matched_readers w.topic first peers);
     }
 
--- a reader at which nothing has happened
-abbrev pub opening_reader : List PeerConfig → ReaderConfig → Reader
-opening_reader peers r = record {
+-- a reader at which nothing has happened, likewise
+abbrev pub reader_from : ℕ → List PeerConfig → ReaderConfig → Reader
+reader_from first peers r = record {
   qos = reader_qos peers r;
   happened = [];
   seen = nothing_seen;
-  matches = opened_with (map (λ (p : WriterProxy). p.writer) (matched_writers r.topic 1 peers));
+  matches = opened_with (map (λ (p : WriterProxy). p.writer) (matched_writers r.topic first peers));
 }
 
--- the part of a peer to which nothing has happened: at moment 0, with nothing watched and no listener
-abbrev pub opening_part : List PeerConfig → PeerConfig → Part
-opening_part peers p = record {
+-- the part of a peer to which nothing has happened, likewise: at moment 0, with nothing watched and no listener
+abbrev pub part_from : ℕ → List PeerConfig → PeerConfig → Part
+part_from first peers p = record {
   rtps = record {
-    writers = map (opening_writer peers) p.writers;
-    readers = map (λ (r : ReaderConfig). matched_writers r.topic 1 peers) p.readers;
+    writers = map (writer_from first peers) p.writers;
+    readers = map (λ (r : ReaderConfig). matched_writers r.topic first peers) p.readers;
   };
   dds = record {
     moment = 0;
-    readers = map (opening_reader peers) p.readers;
+    readers = map (reader_from first peers) p.readers;
     watch = nothing_watched (length p.writers) (length p.readers);
     listeners = nobody (length p.writers) (length p.readers);
   };
 }
 
+-- a writer of the opening, by its configuration
+abbrev pub opening_writer : List PeerConfig → WriterConfig → Writer
+opening_writer peers = writer_from 1 peers
+
+-- a reader of the opening
+abbrev pub opening_reader : List PeerConfig → ReaderConfig → Reader
+opening_reader peers = reader_from 1 peers
+
+-- the part of a peer of the opening
+abbrev pub opening_part : List PeerConfig → PeerConfig → Part
+opening_part peers = part_from 1 peers
+
 -- the machine at its opening
 abbrev pub opening : Config → Machine
 opening config = record { parts = map (opening_part config.peers) config.peers }
+
+-- the part of a peer that comes later, with this number: its writers and readers are matched with its own alone
+abbrev pub coming_part : ℕ → PeerConfig → Part
+coming_part number p = part_from number (p ∷ []) p
+
+-- the machine, to which a peer comes: it has the next number
+abbrev pub machine_with_peer : Machine → PeerConfig → Machine
+machine_with_peer m p = record { parts = m.parts ++ coming_part (length m.parts + 1) p ∷ [] }

@@ -63,10 +63,10 @@ holds_claimed : (config : Config) (m : Machine) (packets : List (List ℕ)) → 
     → Claimed config packets c → Holds m c
 holds_claimed config m packets all c h = all h.packet c h.among h.claims
 
--- each reader is as reliable as the configuration says
+-- each reader of the peers that are there is as reliable as the configuration says
 abbrev pub KeepsPolicies : Config → Machine → Type 0
 KeepsPolicies config m =
-    (peer number : ℕ) (p : PeerConfig) (r : ReaderConfig) → IsNumbered config.peers peer p
+    (peer number : ℕ) (p : PeerConfig) (r : ReaderConfig) → HasNumber m.parts peer → IsNumbered config.peers peer p
     → IsNumbered p.readers number r → (own_reader (part_at m peer) number).qos.reliability ≡ r.reliability
 
 -- the reader, of which a packet says what it may pass over, is a reliable one, and is told of a change's number
@@ -74,25 +74,26 @@ abbrev IsTold : Machine → Endpoint → ℕ → Type 0
 IsTold m r n = (is_reliable (own_reader (part_at m r.peer) r.number).qos.reliability ≡ true) × (1 ≤ n)
 
 reliable_one : (config : Config) (m : Machine) → KeepsPolicies config m → (own : GuidPrefix) (receiver : Receiver)
-    (reader_id writer_id : EntityId) (w r : Endpoint)
+    (reader_id writer_id : EntityId) (w r : Endpoint) → HasNumber m.parts r.peer
     → IsToReliable config own receiver reader_id writer_id w r
     → is_reliable (own_reader (part_at m r.peer) r.number).qos.reliability ≡ true
-reliable_one config m keeps own receiver reader_id writer_id w r h =
+reliable_one config m keeps own receiver reader_id writer_id w r there h =
     let to = h.is_to.to in
-    ap (λ (k : ReliabilityQos). is_reliable k) (keeps r.peer r.number to.peer to.end to.at_peer to.at_reader) ∙ h.reliable
+    ap (λ (k : ReliabilityQos). is_reliable k) (keeps r.peer r.number to.peer to.end there to.at_peer to.at_reader) ∙ h.reliable
 
 is_told : (config : Config) (m : Machine) → KeepsPolicies config m → (own : GuidPrefix) (receiver : Receiver)
-    (s : Submessage) (w r : Endpoint) (n : ℕ) → Says config own receiver s (MayPass w r n) → IsTold m r n
-is_told config m keeps own receiver (Gap g) w r n h =
-    (reliable_one config m keeps own receiver g.reader_id g.writer_id w r h.0, h.1)
-is_told config m keeps own receiver (Heartbeat g) w r n h =
-    (reliable_one config m keeps own receiver g.reader_id g.writer_id w r h.0, h.1)
-is_told config m keeps own receiver s w r n h = absurd h
+    (s : Submessage) (w r : Endpoint) (n : ℕ) → HasNumber m.parts r.peer → Says config own receiver s (MayPass w r n)
+    → IsTold m r n
+is_told config m keeps own receiver (Gap g) w r n there h =
+    (reliable_one config m keeps own receiver g.reader_id g.writer_id w r there h.0, h.1)
+is_told config m keeps own receiver (Heartbeat g) w r n there h =
+    (reliable_one config m keeps own receiver g.reader_id g.writer_id w r there h.0, h.1)
+is_told config m keeps own receiver s w r n there h = absurd h
 
 told_claimed : (config : Config) (m : Machine) (packets : List (List ℕ)) → KeepsPolicies config m → (w r : Endpoint)
-    (n : ℕ) → Claimed config packets (MayPass w r n) → IsTold m r n
-told_claimed config m packets keeps w r n h =
-    is_told config m keeps h.claims.own h.claims.at h.claims.submessage w r n h.claims.says
+    (n : ℕ) → HasNumber m.parts r.peer → Claimed config packets (MayPass w r n) → IsTold m r n
+told_claimed config m packets keeps w r n there h =
+    is_told config m keeps h.claims.own h.claims.at h.claims.submessage w r n there h.claims.says
 
 -- what a delivery rests on at the peer of this number is true
 record AreTrue (m : Machine) (i : ℕ) (g : Grounds) : Type 0 where
@@ -104,23 +105,23 @@ record AreTrue (m : Machine) (i : ℕ) (g : Grounds) : Type 0 where
 
 claimed-true : (config : Config) (m : Machine) (i : ℕ) (before : List Delivery) (packet : List ℕ)
     (rows : List (List WriterProxy)) (index : ℕ)
-    → KeepsPolicies config m → AllHold config m (packet ∷ packets_of before)
+    → HasNumber m.parts i → KeepsPolicies config m → AllHold config m (packet ∷ packets_of before)
     → AreTrue m i (claimed config before packet rows i index)
-claimed-true config m i before packet rows index keeps all = record {
+claimed-true config m i before packet rows index there keeps all = record {
   change = λ w r n c h. holds_claimed config m (packet ∷ packets_of before) all (ChangeIs w (at i r) n c) h;
   pass = λ w r n h. holds_claimed config m (packet ∷ packets_of before) all (MayPass w (at i r) n) h;
-  told = λ w r n h. told_claimed config m (packet ∷ packets_of before) keeps w (at i r) n h;
+  told = λ w r n h. told_claimed config m (packet ∷ packets_of before) keeps w (at i r) n there h;
   place = λ w r base h. holds_claimed config m (packet ∷ packets_of before) all (PlaceReached (at i w) r base) h;
   hear = λ w r count h. holds_claimed config m (packet ∷ packets_of before) all (Asserts w (at i r) count) h.0;
 }
 
 -- so is what places that are tried again rest on
-claimed_by-true : (config : Config) (m : Machine) (i : ℕ) (packets : List (List ℕ)) → KeepsPolicies config m
-    → AllHold config m packets → AreTrue m i (claimed_by config packets i)
-claimed_by-true config m i packets keeps all = record {
+claimed_by-true : (config : Config) (m : Machine) (i : ℕ) (packets : List (List ℕ)) → HasNumber m.parts i
+    → KeepsPolicies config m → AllHold config m packets → AreTrue m i (claimed_by config packets i)
+claimed_by-true config m i packets there keeps all = record {
   change = λ w r n c h. holds_claimed config m packets all (ChangeIs w (at i r) n c) h;
   pass = λ w r n h. holds_claimed config m packets all (MayPass w (at i r) n) h;
-  told = λ w r n h. told_claimed config m packets keeps w (at i r) n h;
+  told = λ w r n h. told_claimed config m packets keeps w (at i r) n there h;
   place = λ w r base h. holds_claimed config m packets all (PlaceReached (at i w) r base) h;
   hear = λ w r count h. absurd h;
 }
@@ -476,13 +477,13 @@ above_self : (m : Machine) (i : ℕ) → IsAbove m i (part_at m i)
 above_self m i r w = no_less_same (place_at m (at i r) w)
 
 part_delivery : (config : Config) (m : Machine) (i : ℕ) (packet : List ℕ) (before : Peer) (report : Report) (new : Part)
-    → before.number ≡ i → part_at m i ≡ before.part → KeepsPolicies config m
+    → before.number ≡ i → part_at m i ≡ before.part → HasNumber m.parts i → KeepsPolicies config m
     → AllHold config m (packet ∷ packets_of before.delivered)
     → Receives config (claimed config before.delivered packet before.part.rtps.readers before.number) before.number
     packet before.part report new
     → Receives config (λ k. grounds_of m i) i packet (part_at m i) report new
     × AreMoves (grounds_of m i) (part_at m i) report.moves new
-part_delivery config m i packet before report new is at_i keeps hold h =
+part_delivery config m i packet before report new is at_i there keeps hold h =
     let rows : List (List WriterProxy) = before.part.rtps.readers in
     let here : Receives config (claimed config before.delivered packet rows i) i packet (part_at m i) report new =
     subst (λ (q : Part). Receives config (claimed config before.delivered packet rows i) i packet q report new)
@@ -490,7 +491,7 @@ part_delivery config m i packet before report new is at_i keeps hold h =
     (subst (λ (j : ℕ). Receives config (claimed config before.delivered packet rows j) j packet before.part report new)
     is h) in
     receives-sound config m i (claimed config before.delivered packet rows i)
-    (λ k. claimed-true config m i before.delivered packet rows k keeps hold) packet (part_at m i) report new
+    (λ k. claimed-true config m i before.delivered packet rows k there keeps hold) packet (part_at m i) report new
     (above_self m i) here
 
 abbrev EventSteps : Config → Tests → Machine → ℕ → Event → Reply → Peer → Type 0
@@ -499,40 +500,40 @@ EventSteps config tests m i ev reply after =
     × DeliveredHold config m after.delivered
 
 part_step : (config : Config) (tests : Tests) (m : Machine) (i : ℕ) (ev : Event) (before : Peer) (reply : Reply)
-    (after : Peer) → before.number ≡ i → part_at m i ≡ before.part → KeepsPolicies config m
+    (after : Peer) → before.number ≡ i → part_at m i ≡ before.part → HasNumber m.parts i → KeepsPolicies config m
     → EventHolds config m ev → DeliveredHold config m before.delivered → EventStep config tests before ev reply after
     → EventSteps config tests m i ev reply after
-part_step config tests m i (event.Call call) before reply after is at_i keeps sent all h = (
+part_step config tests m i (event.Call call) before reply after is at_i there keeps sent all h = (
   subst (λ (q : Part). CallStep tests q call reply after.part) (sym at_i) h.0,
   tt,
   subst
       (λ (ds : List Delivery). DeliveredHold config m ds) (sym h.1) all,
 )
-part_step config tests m i (event.Tick now) before reply after is at_i keeps sent all h = (
+part_step config tests m i (event.Tick now) before reply after is at_i there keeps sent all h = (
   subst (λ (q : Part). TickStep q now reply after.part) (sym at_i)
       (was_asked before.known.answered before.part, h.0),
   tt,
   subst
       (λ (ds : List Delivery). DeliveredHold config m ds) (sym h.1) all,
 )
-part_step config tests m i (event.Deliver packet) before (Reported report) after is at_i keeps sent all h =
+part_step config tests m i (event.Deliver packet) before (Reported report) after is at_i there keeps sent all h =
     let hold : AllHold config m (packet ∷ packets_of before.delivered) =
     with_packet config m packet (packets_of before.delivered) sent (packets_hold config m before.delivered all) in
-    let r = part_delivery config m i packet before report after.part is at_i keeps hold h.0 in (
+    let r = part_delivery config m i packet before report after.part is at_i there keeps hold h.0 in (
       r.1,
       (after.part, r.0),
       subst (λ (ds : List Delivery). DeliveredHold config m ds) (sym h.1)
           (with_delivery config m
           (record { packet = packet; rows = before.part.rtps.readers; report = report }) before.delivered sent all),
     )
-part_step config tests m i (event.Deliver packet) before reply after is at_i keeps sent all h = absurd h
-part_step config tests m i (event.Resume k) before reply after is at_i keeps sent all h =
+part_step config tests m i (event.Deliver packet) before reply after is at_i there keeps sent all h = absurd h
+part_step config tests m i (event.Resume k) before reply after is at_i there keeps sent all h =
     let hold : AllHold config m (packets_of before.delivered) = packets_hold config m before.delivered all in
     let claims : ℕ → Grounds = λ j. claimed_by config (packets_of before.delivered) j in
     let here : ResumeStep (claims i) (part_at m i) k reply after.part =
     subst (λ (q : Part). ResumeStep (claims i) q k reply after.part) (sym at_i)
     (subst (λ (j : ℕ). ResumeStep (claims j) before.part k reply after.part) is h.0) in (
-      sound_resume m i (claims i) (claimed_by-true config m i (packets_of before.delivered) keeps hold) (part_at m i) k
+      sound_resume m i (claims i) (claimed_by-true config m i (packets_of before.delivered) there keeps hold) (part_at m i) k
           reply after.part (above_self m i) here,
       tt,
       subst (λ (ds : List Delivery). DeliveredHold config m ds) (sym h.1) all,
@@ -560,6 +561,10 @@ pub peer_number : (ws : WorldState) (i : ℕ) → HasNumber (machine_of ws).part
 peer_number ws i h =
     let count = length-map ws.peers (λ (p : Peer). p.part) in let low = h.0 in let high = h.1 in
     (omega (arith, low), omega (arith, high, count))
+
+-- the readers of the machine's parts are those of the peers
+policies_of : (config : Config) (ws : WorldState) → Sound config ws → KeepsPolicies config (machine_of ws)
+policies_of config ws sound j k p r there at end = sound.policies j k p r (peer_number ws j there) at end
 
 -- the world in which one peer has another part, and has sent packets that are true of it, is sound where that part has
 -- grown, its writers have acknowledged no more than they may, and its readers keep their policies
@@ -614,15 +619,17 @@ sound_after config ws i after posted sound within own_number part_grows mine qos
           (subst (λ (j : ℕ). Covered (own_writer after.part w.number) r (place_at m' r (at j w.number))) (sym o.0)
           (mine' w.number r)))
           (numbered-cases m.parts i after.part w.peer no_part));
-      policies = subst (λ (x : Machine). KeepsPolicies config x) (sym is_m')
-          (λ j k p r here there.
-          ⊎_elim (λ e. ap (λ (q : Part). (own_reader q k).qos.reliability) e ∙ sound.policies j k p r here there)
+      policies = λ j k p r lt here there.
+          let low = lt.0 in
+          let high = lt.1 in
+          let old_one = sound.policies j k p r (omega (arith, low), omega (arith, high, same_length)) here there in
+          ap (λ (x : Machine). (own_reader (part_at x j) k).qos.reliability) is_m'
+          ∙ ⊎_elim (λ e. ap (λ (q : Part). (own_reader q k).qos.reliability) e ∙ old_one)
           (λ o.
           ap (λ (q : Part). (own_reader q k).qos.reliability) o.1
           ∙ (ap (λ (q : ReaderQos). q.reliability) (qos k)
-          ∙ (ap (λ (n : ℕ). (own_reader (part_at m n) k).qos.reliability) (sym o.0)
-          ∙ sound.policies j k p r here there)))
-          (numbered-cases m.parts i after.part j no_part));
+          ∙ (ap (λ (n : ℕ). (own_reader (part_at m n) k).qos.reliability) (sym o.0) ∙ old_one)))
+          (numbered-cases m.parts i after.part j no_part);
     }
 
 pub happens : (config : Config) (tests : Tests) (ws : WorldState) (i : ℕ) (ev : Event) (output : Output) (after : Peer)
@@ -635,7 +642,8 @@ happens config tests ws i ev output after posted sound within step is_sent of_pa
     let m : Machine = machine_of ws in
     let is_number : (peer_at ws i).number ≡ i = sound.number i within in
     let s : EventSteps config tests m i ev output.reply after =
-    part_step config tests m i ev (peer_at ws i) output.reply after is_number (parts_at ws i) sound.policies is_sent
+    part_step config tests m i ev (peer_at ws i) output.reply after is_number (parts_at ws i)
+    (part_number ws i within) (policies_of config ws sound) is_sent
     (λ d c o h. sound.delivered i d c o h) step.step in
     let own_number : after.number ≡ i = step.same_number ∙ is_number in (
       s.0,

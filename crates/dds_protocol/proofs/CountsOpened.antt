@@ -19,7 +19,11 @@ use Rattle.dds_protocol.specs.World.{peer_at}
 use Rattle.dds_machine.specs.Opening.{matched_readers, opening_writer, opening_part}
 use Rattle.dds_protocol.specs.Opening.{opening_peers, opening_world}
 use Rattle.dds_protocol.specs.Fresh.{HasUsedCounts}
+use Rattle.dds_protocol.specs.Coming.{OpensUsedFirst}
+use Rattle.dds_protocol.specs.Roster.{ComeFirst}
 use Rattle.dds_protocol.proofs.Bounded.{opened_is_fresh}
+use Rattle.dds_protocol.proofs.Opened.{all_first}
+use Rattle.dds_machine.proofs.Tables.{slice_get-append}
 
 -- what is told of matched ends, and then of that
 
@@ -94,24 +98,28 @@ matched_opened peers own (suc k) w at =
     let there : slice_get own.writers k ≡ Some w = subst (λ (n : ℕ). slice_get own.writers n ≡ Some w) index at.1 in
     ap (λ (x : Writer). x.matched) (writer_opened peers own.writers k w there)
 
-part_opened : (config : Config) (peer : ℕ) → HasNumber (opening_world config).peers peer
-    → IsPartOf config peer (peer_at (opening_world config) peer).part
-part_opened config zero has = let low = has.0 in absurd (omega (arith, low))
-part_opened config (suc i) has =
+part_opened : (config roster : Config) → ComeFirst config roster → (peer : ℕ)
+    → HasNumber (opening_world config).peers peer
+    → IsPartOf roster peer (peer_at (opening_world config) peer).part
+part_opened config roster first zero has = let low = has.0 in absurd (omega (arith, low))
+part_opened config roster first (suc i) has =
     let high = has.1 in
     let count = count_of config.peers 1 config.peers in
     let o = opened_part config.peers 1 config.peers i (omega (arith, high, count)) in
     let index : i ≡ suc i - 1 = omega arith in
-    subst (λ (p : Part). IsPartOf config (suc i) p) (sym o.is) (record {
+    let there : slice_get roster.peers i ≡ Some o.here =
+    subst (λ (ps : List PeerConfig). slice_get ps i ≡ Some o.here) (sym first.1)
+    (slice_get-append config.peers first.0 i o.here o.at) in
+    subst (λ (p : Part). IsPartOf roster (suc i) p) (sym o.is) (record {
       here = o.here;
-      at = (omega arith, subst (λ (n : ℕ). slice_get config.peers n ≡ Some o.here) index o.at);
+      at = (omega arith, subst (λ (n : ℕ). slice_get roster.peers n ≡ Some o.here) index there);
       writers = length-map o.here.writers (opening_writer config.peers);
     })
 
 -- at the opening no count was sent or taken
-pub opens_used : (config : Config) → HasUsedCounts config (opening_world config)
-opens_used config = record {
-  of_config = part_opened config;
+pub opens_used_first : OpensUsedFirst
+opens_used_first config roster first = record {
+  of_config = part_opened config roster first;
   heartbeat_sent = λ packet w count among has. let lt = among.1 in absurd (omega (arith, lt));
   acknack_sent = λ packet w r count among has. let lt = among.1 in absurd (omega (arith, lt));
   heartbeat_taken = λ w r count e.
@@ -121,3 +129,6 @@ opens_used config = record {
       let none =
       sym (ap (λ (k : Known). (k.answered w.number r).count) (opened_is_fresh config w.peer).known) ∙ e in absurd cc;
 }
+
+pub opens_used : (config : Config) → HasUsedCounts config (opening_world config)
+opens_used config = opens_used_first config config (all_first config)

@@ -91,3 +91,4 @@ pub mod Tellings
 pub mod GoesOn
 pub mod Answered
 pub mod Rosters
+pub mod Coming

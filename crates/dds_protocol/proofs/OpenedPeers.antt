@@ -66,7 +66,7 @@ fresh_row topic peer n (x ∷ ws) =
     fresh_or (x.topic == topic) (begun peer n)
     (writers_in topic peer (n + 1) ws) refl refl (fresh_row topic peer (n + 1) ws)
 
-fresh_rows : (topic peer : ℕ) (ps : List PeerConfig) → AreFresh (matched_writers topic peer ps)
+pub fresh_rows : (topic peer : ℕ) (ps : List PeerConfig) → AreFresh (matched_writers topic peer ps)
 fresh_rows topic peer [] = tt
 fresh_rows topic peer (p ∷ ps) =
     let here : AreFresh (writers_in topic peer 1 p.writers) = fresh_row topic peer 1 p.writers in

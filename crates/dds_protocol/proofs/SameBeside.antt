@@ -87,8 +87,9 @@ sound_beside config old new s sound =
           subst (λ (o : Option ℕ). Covered after r o) (sym (place_is old new s r w))
           (covered_same before after r (place_at (machine_of old) r w) (alike_readers before after alike)
           (alike.grows.owed r) (no_less_same (place_at (machine_of old) r w)) (sound.acknowledged w r));
-      policies = λ j k p r here there.
-          ap (λ (q : ReaderQos). q.reliability) ((parts_alike old new s j).qos k) ∙ sound.policies j k p r here there;
+      policies = λ j k p r lt here there.
+          ap (λ (q : ReaderQos). q.reliability) ((parts_alike old new s j).qos k)
+          ∙ sound.policies j k p r (has old new s j lt) here there;
     }
 
 pub bounded_beside : (old new : WorldState) → SameBeside old new → IsBounded (machine_of old)

@@ -24,3 +24,4 @@ pub mod Repair
 pub mod Filters
 pub mod Noticing
 pub mod Tellings
+pub mod Coming

@@ -3,7 +3,7 @@
 -- other or not.
 --
 -- RTPS 2.5, 8.2 (GUIDs of participants and endpoints), 9.3 (GUIDPREFIX_UNKNOWN).
-use Rattle.std.specs.Prelude.{◌≡◌, ◌||◌, Bool, false, List, None, nat_lt}
+use Rattle.std.specs.Prelude.{◌≡◌, ◌||◌, Bool, false, List, ◌++◌, None, nat_lt}
 use Rattle.std.specs.List.{list_any}
 use Rattle.dds_base.specs.declared.config.Config.{Config}
 use Rattle.dds_base.specs.declared.config.PeerConfig.{PeerConfig}
@@ -21,3 +21,7 @@ pub record IsRoster (peers : List PeerConfig) : Type 0 where
 -- so are those of a configuration that is not refused
 abbrev pub ConfigsAreRosters : Type 0
 ConfigsAreRosters = (config : Config) → check_refusal config.peers ≡ None → IsRoster config.peers
+
+-- the peers of the configuration come first in the roster
+abbrev pub ComeFirst : Config → Config → Type 0
+ComeFirst config roster = (later : List PeerConfig) × (roster.peers ≡ config.peers ++ later)

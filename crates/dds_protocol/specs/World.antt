@@ -80,7 +80,7 @@ Holds m (PlaceReached writer reader base) = IsAtMost base (place_at m reader wri
 Holds m (Asserts writer reader count) = is_assertion (writer_at m writer) count ≡ true
 
 -- all packets that were sent or delivered claim the truth, no reader has acknowledged more than it has or is not owed,
--- and each reader is as reliable as the configuration says
+-- and each reader of the peers that are there is as reliable as the configuration says
 pub record Sound (config : Config) (world : WorldState) : Type 0 where
   pub number : (peer : ℕ) → HasNumber world.peers peer → (peer_at world peer).number ≡ peer
   pub sent : (packet : Packet) (claim : Claim) → Contains world.sent packet → Claims config packet.bytes claim
@@ -90,6 +90,6 @@ pub record Sound (config : Config) (world : WorldState) : Type 0 where
   pub acknowledged : (writer reader : Endpoint)
       → IsCovered (acknowledged_of (writer_at (machine_of world) writer).readers reader)
       (owed_from (writer_at (machine_of world) writer) reader) (place_at (machine_of world) reader writer)
-  pub policies : (peer number : ℕ) (p : PeerConfig) (r : ReaderConfig) → IsNumbered config.peers peer p
-      → IsNumbered p.readers number r
+  pub policies : (peer number : ℕ) (p : PeerConfig) (r : ReaderConfig) → HasNumber world.peers peer
+      → IsNumbered config.peers peer p → IsNumbered p.readers number r
       → (own_reader (part_at (machine_of world) peer) number).qos.reliability ≡ r.reliability

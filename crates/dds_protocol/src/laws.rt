@@ -8,6 +8,7 @@ ghost use Rattle.dds_protocol.specs.Backed.{CallsBacked};
 ghost use Rattle.dds_protocol.specs.Bounds.{NobodyIsStrange, OpensBounded, RunsBounded, StepsBounded};
 ghost use Rattle.dds_protocol.specs.CatchUp.{WindowCatchesUp};
 ghost use Rattle.dds_protocol.specs.Closed.{BestEffortAsDropped, ClosedAcknowledges, ClosedBeginsNone, ClosedClaims, ClosedInOrder, ClosedLosesNone, ClosedOwesAll, OpensClosed, RunsAlike, RunsClosed, StaysClosed};
+ghost use Rattle.dds_protocol.specs.Coming.{ComesAsPart, ComesBounded, ComesSound, ComesUsed, OpensSoundFirst, OpensUsedFirst};
 ghost use Rattle.dds_protocol.specs.DueMessages.{AreSent, Due, packet_of};
 ghost use Rattle.dds_protocol.specs.Dues.{CallsStayDue};
 ghost use Rattle.dds_protocol.specs.Fresh.{OpensUsed, StepsUsed};
@@ -32,6 +33,25 @@ pub fn configurations_are_rosters()
 /// All that packets claim is true at the opening of every configuration.
 pub fn opens_sound()
     ensures opening { OpensSound }
+{}
+
+/// A network opens with the first peers of its roster, and each next one may come at any moment: its ends are matched
+/// with its own alone. What is true of those that are there stays so.
+///
+/// RTPS 2.5, 8.2.
+pub fn peers_may_come()
+    // All that packets claim is true at the opening, also by a roster that goes on behind its peers,
+    ensures opens { OpensSoundFirst }
+    // and no count has been used.
+    ensures unused { OpensUsedFirst }
+    // A peer that comes is one part of the machine more.
+    ensures part { ComesAsPart }
+    // All claims stay true,
+    ensures sound { ComesSound }
+    // the counts that were sent or taken are used,
+    ensures used { ComesUsed }
+    // and places stay within the lists.
+    ensures bounded { ComesBounded }
 {}
 
 /// A step of a network's peers, on packets that were sent, is a step of the machine, and leaves all claims true.
