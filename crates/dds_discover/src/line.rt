@@ -1,19 +1,13 @@
 //! The lines that discovery is given.
 
-use crate::announced::{duration, end_of};
-use dds_base::{Code, EntityId, GuidPrefix, Octets};
+use dds_base::{Code, EntityId, Guid, GuidPrefix, Octets};
 use dds_discovery::BUILTIN_ENDPOINTS;
 use dds_script::{decimal, entity_id, guid_prefix, units, value, words_of};
-use rtps_announcements::{Duration, EndpointKind, Locator, Locators, Participant, VendorId};
+use discovery_script::{USUAL_LEASE, address, duration, end_of, locator, one_locator};
+use rtps_announcements::{Duration, EndpointKind, Locator, Participant, VendorId};
 use rtps_discovery::Limits;
 use rtps_matching::End;
 use std::alloc::Global;
-
-/// How long our participant is taken to be there, where the line does not say it: 20 seconds.
-const USUAL_LEASE: Duration = Duration {
-    seconds: 20,
-    fraction: 0,
-};
 
 /// What a line says.
 #[derive(Drop)]
@@ -36,38 +30,10 @@ pub enum Line {
     Deliver(u64, [u8; 4], Octets),
     /// Which pairs of one topic do not fit, and why.
     Misfits,
+    /// Which participants are known, and which endpoints of them.
+    Who,
     /// Our participant leaves.
     Close,
-}
-
-/// The four numbers of an address, as `127.0.0.1`.
-fn address(word: &str) -> Option<[u8; 4]> {
-    let (first, rest) = word.split_once('.')?;
-    let (second, rest) = rest.split_once('.')?;
-    let (third, fourth) = rest.split_once('.')?;
-    Some([octet(first)?, octet(second)?, octet(third)?, octet(fourth)?])
-}
-
-fn octet(word: &str) -> Option<u8> {
-    u8::try_from(decimal(word)?).ok()
-}
-
-/// An address with its port, as `127.0.0.1:7410`.
-fn locator(word: &str) -> Option<Locator> {
-    let (numbers, port) = word.split_once(':')?;
-    let address = address(numbers)?;
-    let port = u16::try_from(decimal(port)?).ok()?;
-    if port == 0 {
-        return None;
-    }
-    Some(Locator { address, port })
-}
-
-/// One locator.
-fn one(locator: Locator) -> Locators {
-    let mut locators = Locators::new();
-    let _ = locators.push(locator);
-    locators
 }
 
 /// What options say of our participant: its domain, and its lease.
@@ -97,8 +63,8 @@ fn participant(words: &[&str]) -> Option<Line> {
         vendor: VendorId::UNKNOWN,
         builtin_endpoints: BUILTIN_ENDPOINTS,
         lease,
-        metatraffic: one(metatraffic),
-        default: one(default),
+        metatraffic: one_locator(metatraffic),
+        default: one_locator(default),
     };
     Some(Line::Participant(participant, domain))
 }
@@ -128,6 +94,7 @@ fn short_line(words: &[&str]) -> Option<Line> {
         ["remove", entity] => Some(Line::Remove(entity_id(entity)?)),
         ["tick", moment] => Some(Line::Tick(units(moment)?)),
         ["misfits"] => Some(Line::Misfits),
+        ["who"] => Some(Line::Who),
         ["close"] => Some(Line::Close),
         _ => None,
     }
@@ -152,7 +119,13 @@ fn add(
     kind: EndpointKind,
     words: &[&str],
 ) -> Result<Option<Line>, Code> {
-    match end_of(alloc, prefix, kind, words)? {
+    let [entity, announced @ ..] = words else {
+        return Ok(None);
+    };
+    let Some(entity) = entity_id(entity) else {
+        return Ok(None);
+    };
+    match end_of(alloc, kind, Guid { prefix, entity }, announced)? {
         Some(end) => Ok(Some(Line::Add(end))),
         None => Ok(None),
     }
@@ -195,7 +168,7 @@ pub fn cause_of(line: &[u8]) -> &'static str {
         "remove" => "its form is `remove ENTITY`",
         "tick" => "its form is `tick UNITS`",
         "deliver" => "its form is `deliver UNITS ADDRESS HEX`, where the address is as 127.0.0.1",
-        "open" | "close" | "misfits" => "it stands alone",
+        "open" | "close" | "misfits" | "who" => "it stands alone",
         _ =>
             "a line begins with participant, address, limits, open, writer, reader, remove, tick, deliver, misfits or close",
     }

@@ -5,10 +5,9 @@
 //! Not here: sockets, a clock, and what a match does to a peer.
 #![tactic(auto)]
 
-mod announced;
 mod line;
+mod reply;
 mod session;
-mod text;
 
 use session::answer_all;
 use std::process::ExitCode;

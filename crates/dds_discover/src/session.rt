@@ -1,10 +1,14 @@
 //! Discovery, asked line by line.
 
 use crate::line::{Line, cause_of, line_of};
-use crate::text::{print_misfit, print_packet, print_presence, print_reply, print_told};
+use crate::reply::print_reply;
 use dds_base::{Code, EntityId, Guid, GuidPrefix, Octets};
 use dds_discovery::{Discovery, Done, Step};
 use dds_script::{Fault, Lines, Status};
+use discovery_script::{
+    USUAL_ENDPOINTS, USUAL_LIMITS, print_far, print_misfit, print_packet, print_presence,
+    print_row, print_told,
+};
 use rtps_announcements::{Locator, Participant};
 use rtps_discovery::{Heard, Limits, Packet, Settings, Ticked};
 use rtps_matching::{End, Told};
@@ -13,12 +17,6 @@ use std::io::{Read, Write};
 
 /// How many octets a line has at most, with its line feed: those of a datagram of 65,535 octets, with its words.
 const MAX_LINE: u64 = 131_120;
-
-/// How many participants are known, in all and at one address, where no line says it.
-const USUAL_PARTICIPANTS: usize = 64;
-
-/// How many endpoints of a participant are known, where no line says it.
-const USUAL_ENDPOINTS: usize = 128;
 
 /// What lines say before discovery begins.
 #[derive(Drop)]
@@ -200,15 +198,28 @@ fn look(
     }
 }
 
+/// Prints which participants are known, and which endpoints of them.
+fn print_all(
+    alloc: Global,
+    discovery: &Discovery,
+    output: &mut impl Write,
+) -> Result<Result<(), Code>, Fault> {
+    for row in discovery.rows() {
+        print_row(alloc, row, output)?;
+    }
+    for far in discovery.far() {
+        let word = if far.is_awake { "" } else { "asleep " };
+        print_far(alloc, word, far, output)?;
+    }
+    Ok(Ok(()))
+}
+
 impl Beginning {
     fn new(alloc: Global) -> Self {
         Beginning {
             participant: None,
             addresses: Vec::new(alloc),
-            limits: Limits {
-                of_all: USUAL_PARTICIPANTS,
-                of_one_address: USUAL_PARTICIPANTS,
-            },
+            limits: USUAL_LIMITS,
             most: USUAL_ENDPOINTS,
         }
     }
@@ -323,6 +334,7 @@ impl Session {
                 output,
             ),
             Line::Misfits => look(alloc, discovery, output),
+            Line::Who => print_all(alloc, discovery, output),
             _ => close(alloc, discovery, output),
         }
     }

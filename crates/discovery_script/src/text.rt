@@ -1,6 +1,6 @@
-//! What is printed.
+//! How what discovery tells is printed.
 
-use dds_base::{Code, Guid, GuidPrefix};
+use dds_base::{Guid, GuidPrefix};
 use dds_policies::Misfit;
 use dds_script::{Fault, TranscriptLine, print};
 use rtps_announcements::Locator;
@@ -10,7 +10,7 @@ use std::alloc::Global;
 use std::io::Write;
 
 /// A GUID in hexadecimal digits.
-fn push_guid(text: &mut TranscriptLine, guid: &Guid) {
+pub(crate) fn push_guid(text: &mut TranscriptLine, guid: &Guid) {
     text.push_octets(guid.prefix.as_slice());
     text.push_octets(guid.entity.as_slice());
 }
@@ -23,13 +23,49 @@ fn push_pair(text: &mut TranscriptLine, word: &str, own: &Guid, far: &Guid) {
     push_guid(text, far);
 }
 
-/// An address with its port.
-fn push_locator(alloc: Global, text: &mut TranscriptLine, locator: &Locator) -> Result<(), Fault> {
-    let [first, second, third, fourth] = locator.address;
-    let port = locator.port;
-    let address = format!(in alloc; "{first}.{second}.{third}.{fourth}:{port}")?;
+/// An address.
+pub(crate) fn push_address(
+    alloc: Global,
+    text: &mut TranscriptLine,
+    address: &[u8; 4],
+) -> Result<(), Fault> {
+    let [first, second, third, fourth] = *address;
+    let address = format!(in alloc; "{first}.{second}.{third}.{fourth}")?;
     text.push_word(address.as_str());
     Ok(())
+}
+
+/// An address with its port.
+fn push_locator(alloc: Global, text: &mut TranscriptLine, locator: &Locator) -> Result<(), Fault> {
+    push_address(alloc, text, &locator.address)?;
+    let port = locator.port;
+    text.push_word(format!(in alloc; ":{port}")?.as_str());
+    Ok(())
+}
+
+/// Prints who we are, where, and in which domain.
+pub fn print_open(
+    alloc: Global,
+    prefix: &GuidPrefix,
+    locator: &Locator,
+    domain: u32,
+    output: &mut impl Write,
+) -> Result<(), Fault> {
+    let mut text = TranscriptLine::new(alloc);
+    text.push_word("open ");
+    text.push_octets(prefix.as_slice());
+    text.push_word(" ");
+    push_locator(alloc, &mut text, locator)?;
+    text.push_word(format!(in alloc; " domain={domain}")?.as_str());
+    print(output, text.finish()?.as_str())
+}
+
+/// Prints that an endpoint of another participant is no more.
+pub fn print_withdrawn(alloc: Global, guid: &Guid, output: &mut impl Write) -> Result<(), Fault> {
+    let mut text = TranscriptLine::new(alloc);
+    text.push_word("withdrawn ");
+    push_guid(&mut text, guid);
+    print(output, text.finish()?.as_str())
 }
 
 /// Prints who is there now, or is no more.
@@ -91,19 +127,4 @@ pub fn print_packet(alloc: Global, packet: &Packet, output: &mut impl Write) -> 
     text.push_word(" ");
     text.push_octets(packet.bytes.as_slice());
     print(output, text.finish()?.as_str())
-}
-
-/// Prints how a line was answered.
-pub fn print_reply(
-    alloc: Global,
-    answered: Result<(), Code>,
-    output: &mut impl Write,
-) -> Result<(), Fault> {
-    match answered {
-        Ok(()) => print(output, "reply ok\n"),
-        Err(code) => {
-            let number = code.number();
-            print(output, format!(in alloc; "reply code {number}\n")?.as_str())
-        }
-    }
 }

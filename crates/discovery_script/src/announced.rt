@@ -1,9 +1,9 @@
-//! What the words of a line announce of a writer or a reader of ours.
+//! What words announce of a writer or a reader of ours.
 //!
 //! DDS 1.4, 2.2.3 (supported QoS).
 
-use dds_base::{Code, Guid, GuidPrefix, OwnershipQos, ReliabilityQos};
-use dds_script::{decimal, entity_id, units};
+use dds_base::{Code, Guid, OwnershipQos, ReliabilityQos};
+use dds_script::{decimal, units};
 use rtps_announcements::{
     DestinationOrderQos, DurabilityQos, Duration, Endpoint, EndpointKind, LivelinessKind,
     LivelinessQos, Locators, Name, Partitions, Policies, PresentationQos, PresentationScope,
@@ -12,7 +12,7 @@ use rtps_announcements::{
 use rtps_matching::{End, Owned};
 use std::alloc::Global;
 
-/// The policies of a line without options.
+/// The policies where no options are said.
 const USUAL: Policies = Policies {
     reliability: ReliabilityQos::Reliable,
     durability: DurabilityQos::Volatile,
@@ -42,6 +42,8 @@ pub fn duration(word: &str) -> Option<Duration> {
 /// Takes up a policy that is a word, if it is one.
 fn take_word(policies: &mut Policies, word: &str) -> Option<()> {
     match word {
+        "reliable" => policies.reliability = ReliabilityQos::Reliable,
+        "volatile" => policies.durability = DurabilityQos::Volatile,
         "besteffort" => policies.reliability = ReliabilityQos::BestEffort,
         "transientlocal" => policies.durability = DurabilityQos::TransientLocal,
         "transient" => policies.durability = DurabilityQos::Transient,
@@ -71,7 +73,7 @@ fn take_number(policies: &mut Policies, name: &str, number: &str) -> Option<()> 
     Some(())
 }
 
-/// What the options of a line say, besides policies of one value.
+/// What options say, besides policies of one value.
 #[derive(Drop)]
 struct Named<'a> {
     partitions: Partitions<'a>,
@@ -120,22 +122,19 @@ fn options_of<'a>(words: &[&'a str]) -> Option<(Policies, Named<'a>)> {
     Some((policies, named))
 }
 
-/// The writer or the reader of the participant with this prefix that words name: by its entity id, the names of its topic
-/// and of its type, and its options; none where they say none.
+/// The writer or the reader of this name that words announce: the names of its topic and of its type, and its options;
+/// none where they say none.
 ///
 /// # Errors
 ///
 /// `Memory` where there is none.
 pub fn end_of(
     alloc: Global,
-    prefix: GuidPrefix,
     kind: EndpointKind,
+    guid: Guid,
     words: &[&str],
 ) -> Result<Option<End>, Code> {
-    let [entity, topic_name, type_name, options @ ..] = words else {
-        return Ok(None);
-    };
-    let Some(entity) = entity_id(entity) else {
+    let [topic_name, type_name, options @ ..] = words else {
         return Ok(None);
     };
     let Some((policies, named)) = options_of(options) else {
@@ -146,7 +145,7 @@ pub fn end_of(
         representations,
     } = named;
     let endpoint = Endpoint {
-        guid: Guid { prefix, entity },
+        guid,
         topic_name: Name::new(topic_name.as_bytes()),
         type_name: Name::new(type_name.as_bytes()),
         locators: Locators::new(),

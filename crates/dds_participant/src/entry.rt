@@ -1,0 +1,226 @@
+//! What the program does with its words.
+
+use crate::failure::Failure;
+use crate::moments::Moments;
+use crate::port::{Port, group_port, own_address, unicast_port};
+use crate::turns::{Live, give};
+use crate::watcher::{Answer, Watcher};
+use crate::words::{Request, Target, read_words};
+use dds_base::{Code, GuidPrefix};
+use dds_discovery::BUILTIN_ENDPOINTS;
+use discovery_script::{USUAL_LEASE, USUAL_LIMITS, one_locator, print_open};
+use rtps_announcements::{Locator, Participant, VendorId};
+use rtps_discovery::Settings;
+use rtps_matching::End;
+use std::alloc::{AllocError, Global};
+use std::io::{Input, Write};
+use std::net::{Ipv4Addr, Net};
+use std::random::RandomSource;
+use std::time::Clock;
+
+/// The group of all participants.
+///
+/// RTPS 2.5, 9.6.2 (the default multicast address).
+const GROUP: [u8; 4] = [239, 255, 0, 1];
+
+/// How many participants of a machine are told of us.
+const TOLD_INDICES: u32 = 10;
+
+/// Who is told of us where no word says it: the group, and who is on this machine.
+const USUAL: [Target; 2] = [
+    Target {
+        address: GROUP,
+        port: None,
+    },
+    Target {
+        address: [127, 0, 0, 1],
+        port: None,
+    },
+];
+
+/// A name that nobody has: two octets of zeros, as we have no vendor id, and ten of chance.
+///
+/// RTPS 2.5, 9.3 (GuidPrefix_t).
+fn new_prefix(chance: &impl RandomSource) -> Result<GuidPrefix, Failure> {
+    let mut prefix = [0u8; 12];
+    if chance.fill_bytes(&mut prefix[2..]).is_err() {
+        return Err(Failure::NoRandom);
+    }
+    Ok(GuidPrefix(prefix))
+}
+
+/// Appends the addresses of a target: its port, or those of the domain.
+fn put_target(
+    addresses: &mut Vec<Locator>,
+    target: &Target,
+    domain: u32,
+) -> Result<(), AllocError> {
+    let address = target.address;
+    if let Some(port) = target.port {
+        addresses.push(Locator { address, port })?;
+        return Ok(());
+    }
+    if Ipv4Addr::from(address).is_multicast() {
+        let port = group_port(domain);
+        addresses.push(Locator { address, port })?;
+        return Ok(());
+    }
+    put_machine(addresses, address, domain)
+}
+
+fn put_machine(
+    addresses: &mut Vec<Locator>,
+    address: [u8; 4],
+    domain: u32,
+) -> Result<(), AllocError> {
+    for index in 0..TOLD_INDICES {
+        let port = unicast_port(domain, index);
+        addresses.push(Locator { address, port })?;
+    }
+    Ok(())
+}
+
+/// Who is told of us.
+fn addresses_of(
+    alloc: Global,
+    targets: &[Target],
+    domain: u32,
+) -> Result<Vec<Locator>, AllocError> {
+    let targets = if targets.is_empty() {
+        USUAL.as_slice()
+    } else {
+        targets
+    };
+    let mut addresses = Vec::new(alloc);
+    for target in targets {
+        put_target(&mut addresses, target, domain)?;
+    }
+    Ok(addresses)
+}
+
+/// Our address: the one that was said, or from which the system sends to the first that is told of us.
+fn address_of<R: Net>(
+    rt: &R,
+    interface: Option<[u8; 4]>,
+    told: &[Locator],
+) -> Result<[u8; 4], Failure> {
+    match (interface, told.first()) {
+        (Some(address), _) => Ok(address),
+        (None, Some(to)) => own_address(rt, to),
+        (None, None) => Err(Failure::NoRoute(Ipv4Addr::from(GROUP))),
+    }
+}
+
+/// What we announce of ourselves.
+fn participant_at(prefix: GuidPrefix, locator: Locator) -> Participant {
+    Participant {
+        prefix,
+        vendor: VendorId::UNKNOWN,
+        builtin_endpoints: BUILTIN_ENDPOINTS,
+        lease: USUAL_LEASE,
+        metatraffic: one_locator(locator),
+        default: one_locator(locator),
+    }
+}
+
+/// Adds our endpoints, and prints them.
+fn add_all(watcher: &mut Watcher, ends: Vec<End>, answer: &mut Answer) -> Result<(), Failure> {
+    for end in ends {
+        watcher.add(end, answer)?;
+    }
+    Ok(())
+}
+
+/// Opens the socket, and begins.
+fn open<R: Net + Clock>(
+    rt: &R,
+    alloc: Global,
+    prefix: GuidPrefix,
+    request: &Request,
+) -> Result<Live, Failure> {
+    let domain = request.domain;
+    let addresses = addresses_of(alloc, &request.targets, domain)?;
+    let own = address_of(rt, request.interface, &addresses)?;
+    let port = Port::open(rt, alloc, own, domain)?;
+    let settings = Settings {
+        participant: participant_at(prefix, port.locator()),
+        domain,
+        addresses,
+        limits: USUAL_LIMITS,
+    };
+    begin(rt, alloc, settings, port)
+}
+
+/// Discovery begins, and time. No address can be announced that is a group, or nobody's.
+fn begin<R: Clock>(rt: &R, alloc: Global, settings: Settings, port: Port) -> Result<Live, Failure> {
+    let address = port.locator().address;
+    match Watcher::open(alloc, settings) {
+        Ok(watcher) => Ok(Live {
+            watcher,
+            port,
+            moments: Moments::begin(rt)?,
+        }),
+        Err(Code::BadParameter) => Err(Failure::NotOurs(Ipv4Addr::from(address))),
+        Err(_) => Err(Failure::Memory),
+    }
+}
+
+/// Prints who is there, until the end.
+fn who<R: Net + Clock + Input>(
+    rt: &R,
+    alloc: Global,
+    prefix: GuidPrefix,
+    request: Request,
+    output: &mut impl Write,
+) -> Result<(), Failure> {
+    let mut live = open(rt, alloc, prefix, &request)?;
+    let Request {
+        seconds,
+        ends,
+        domain,
+        ..
+    } = request;
+    let mut answer = Answer::new(alloc);
+    print_open(
+        alloc,
+        &prefix,
+        &live.port.locator(),
+        domain,
+        &mut answer.lines,
+    )?;
+    add_all(&mut live.watcher, ends, &mut answer)?;
+    give(&live.port, &answer, output)?;
+    let ended = live.turn_for(rt, alloc, seconds, &mut rt.reader(), output);
+    live.leave(alloc, output).and(ended)
+}
+
+fn run<R: Net + Clock + Input + RandomSource>(
+    rt: &R,
+    alloc: Global,
+    words: &[String],
+    output: &mut impl Write,
+) -> Result<(), Failure> {
+    let prefix = new_prefix(rt)?;
+    let request = read_words(alloc, prefix, words)?;
+    who(rt, alloc, prefix, request, output)
+}
+
+/// Does what the words ask for, prints a failure on `errors`, and answers the exit status: 0 where all went well, 2 for
+/// wrong words, else 1.
+pub fn program<R: Net + Clock + Input + RandomSource>(
+    rt: &R,
+    alloc: Global,
+    words: &[String],
+    output: &mut impl Write,
+    errors: &mut impl Write,
+) -> u8 {
+    match run(rt, alloc, words, output) {
+        Ok(()) => 0,
+        Err(failure) => {
+            let exit = failure.exit();
+            let _ = errors.writeln(failure);
+            let _ = errors.flush();
+            exit
+        }
+    }
+}

@@ -1,0 +1,68 @@
+//! What ends the program early.
+
+use dds_base::Code;
+use dds_script::Fault;
+use std::alloc::AllocError;
+use std::net::Ipv4Addr;
+use thiserror::Error;
+
+/// Wrong words, or what the system does not give.
+#[derive(Debug, Drop, Error)]
+pub enum Failure {
+    /// The words say nothing, for this cause.
+    #[error("{0}")]
+    Words(String),
+    /// Nothing goes to this address.
+    #[error("no network: there is no route to {0}; `--interface ADDRESS` says which address is ours")]
+    NoRoute(Ipv4Addr),
+    /// This address is not ours.
+    #[error("{0} is no address of this machine")]
+    NotOurs(Ipv4Addr),
+    /// All ports of the domain are taken.
+    #[error("each of the 120 ports of domain {0} is taken")]
+    NoPort(u32),
+    /// The socket does not work any more.
+    #[error("the socket failed")]
+    SocketFailed,
+    /// The system tells no time.
+    #[error("the clock failed")]
+    ClockFailed,
+    /// The system has no random octets for our name.
+    #[error("there are no random octets")]
+    NoRandom,
+    /// There is no memory.
+    #[error("memory")]
+    Memory,
+    /// What is printed can't be written.
+    #[error("output failed")]
+    OutputFailed,
+}
+
+impl From<AllocError> for Failure {
+    fn from(_e: AllocError) -> Failure {
+        Failure::Memory
+    }
+}
+
+impl From<Code> for Failure {
+    fn from(_e: Code) -> Failure {
+        Failure::Memory
+    }
+}
+
+// Lines are made in memory, and go out at the end of a turn.
+impl From<Fault> for Failure {
+    fn from(_e: Fault) -> Failure {
+        Failure::Memory
+    }
+}
+
+impl Failure {
+    /// The exit status: 2 for wrong words, else 1.
+    pub fn exit(&self) -> u8 {
+        match self {
+            Failure::Words(_) => 2,
+            _ => 1,
+        }
+    }
+}

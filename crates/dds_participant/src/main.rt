@@ -1,0 +1,26 @@
+//! The program: a participant on the network, over UDP. Its word `who` prints who is there: participants and the endpoints
+//! that they announce, which endpoints of ours are matched with them, and why one is not.
+//!
+//! Nothing is claimed by contracts here: what is printed is tested. What discovery does is proved in `dds_discovery`.
+//! Not here: samples. No endpoint of ours sends or takes any.
+#![tactic(auto)]
+
+mod entry;
+mod failure;
+mod moments;
+mod port;
+mod turns;
+mod watcher;
+mod words;
+
+use entry::program;
+use std::process::ExitCode;
+use std::{env, io};
+
+fn main(rt: HostRuntime) -> io::Result<ExitCode> {
+    let alloc = rt.alloc();
+    let words: Vec<String> = env::args(&rt)?.collect(alloc)?;
+    let mut output = io::writer(&rt);
+    let exit = program(&rt, alloc, &words, &mut output, &mut rt.stderr());
+    Ok(ExitCode::from(exit))
+}
